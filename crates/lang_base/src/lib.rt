@@ -1,0 +1,18 @@
+//! What every crate stands on: want of memory, text, bytes, lists, and notes of faults.
+//!
+//! Each type here is seen by contracts as the plain value that it stands for, a text as its bytes and a list as its
+//! elements, so that a copy is equal to what it was copied from.
+#![tactic(auto)]
+
+mod bytes;
+mod fault;
+mod memory;
+mod seq;
+mod text;
+mod values;
+
+pub use bytes::Bytes;
+pub use fault::FaultNote;
+pub use memory::{Copied, NoMemory, Same};
+pub use seq::Seq;
+pub use text::Text;

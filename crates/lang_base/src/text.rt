@@ -1,0 +1,93 @@
+// Text, which contracts see as its bytes.
+ghost use Rattle.std.specs.Prelude.{◌≡◌, ◌↔◌, IfOk, IsTrue, ◌++◌, length};
+ghost use Rattle.lang_base.specs.Texts.{same_text, text_order, begins_with};
+
+use crate::memory::{Copied, NoMemory, Same};
+use std::alloc::Global;
+use std::cmp::Ordering;
+use std::marker::Model;
+
+/// UTF-8 text, seen as its bytes.
+#[derive(Drop)]
+pub struct Text {
+    inner: String,
+}
+
+impl Model for Text {
+    ghost use Rattle.std.specs.Prelude.{ℕ, List};
+    ghost use Rattle.std.specs.String.{string_bytes};
+
+    ghost Value = { List ℕ };
+
+    ghost view = { λ text. string_bytes text.inner };
+}
+
+impl Text {
+    /// The text with these characters.
+    pub fn of(alloc: Global, characters: &str) -> Result<Text, NoMemory>
+        ensures { IfOk result (λ text. text ≡ characters.now) }
+    {
+        let inner = String::from_str(alloc, characters)?;
+        Ok(Text { inner })
+    }
+
+    /// The characters.
+    pub fn as_str(&self) -> &str
+        ensures { result.now ≡ self.now }
+    {
+        self.inner.as_str()
+    }
+
+    /// The bytes.
+    pub fn as_bytes(&self) -> &[u8]
+        ensures { result.now ≡ self.now }
+    {
+        self.inner.as_bytes()
+    }
+
+    /// How many bytes it has.
+    pub fn len(&self) -> u64
+        ensures { result ≡ length self.now }
+    {
+        self.inner.len() as u64
+    }
+
+    /// The order of the two texts by their bytes.
+    pub fn order(&self, other: &Text) -> Ordering
+        ensures { result ≡ text_order self.now other.now }
+    {
+        self.as_bytes().cmp(other.as_bytes())
+    }
+
+    /// Whether this text begins with the other.
+    pub fn begins_with(&self, prefix: &Text) -> bool
+        ensures { result ≡ begins_with prefix.now self.now }
+    {
+        self.as_bytes().starts_with(prefix.as_bytes())
+    }
+}
+
+impl From<String> for Text {
+    ghost use Rattle.std.specs.String.{string_bytes};
+
+    ghost from_gives = { λ s text. text ≡ string_bytes s };
+
+    fn from(inner: String) -> Text {
+        Text { inner }
+    }
+}
+
+impl Copied for Text {
+    fn copied(&self, alloc: Global) -> Result<Text, NoMemory> {
+        Text::of(alloc, self.as_str())
+    }
+}
+
+impl Same for Text {
+    fn is(&self, other: &Text) -> bool
+        ensures is { IsTrue result ↔ (self.now ≡ other.now) }
+        ensures test { result ≡ same_text self.now other.now }
+    {
+        self.as_bytes() == other.as_bytes()
+    }
+}

@@ -1,0 +1,29 @@
+//! The types that the whole program speaks of: names, requests, rows, traces, and the settings of services.
+//!
+//! What stands below, texts and lists and the syntax tree, is handed on, so that a crate above sees one crate.
+#![tactic(auto)]
+
+mod cells;
+mod ids;
+mod inputs;
+mod place;
+mod request;
+mod setting;
+mod trace;
+mod value;
+mod writes;
+
+pub use cells::{Cell, Cells, MOST_SCAN_BYTES, MOST_SCAN_CELLS, row_get, row_scan};
+pub use ids::{CallId, LONGEST_NAME, Name, Names, Origin, RequestId};
+pub use inputs::{Inputs, LAST_MOMENT};
+pub use lang_base::{Bytes, Copied, FaultNote, NoMemory, Same, Seq, Text};
+pub use lang_tree::{
+    Block, Boxed, Expr, Items, LONGEST_PATH, LONGEST_TEXT, LONGEST_WORD, MOST_DEPTH, MOST_SEGMENTS, Method, Op,
+    Program, Route, Routes, Stmt, is_literal, is_path, is_word,
+};
+pub use place::Placed;
+pub use request::{Answers, LONGEST_WHO, Request, Response, is_who};
+pub use setting::Setting;
+pub use trace::{CallMade, Calls, Read, Reads, Trace};
+pub use value::Value;
+pub use writes::{Write, Writes, apply_writes};

@@ -1,0 +1,84 @@
+// Requests and responses.
+ghost use Rattle.std.specs.Prelude.{◌≡◌};
+ghost use Rattle.std.specs.List.{list_all};
+ghost use Rattle.lang_tree.specs.Forms.{is_visible};
+ghost use Rattle.lang_core.specs.Names.{is_who};
+
+use crate::ids::Names;
+use lang_base::{Copied, NoMemory, Same, Seq, Text};
+use lang_tree::Method;
+use std::alloc::Global;
+
+/// The most bytes of a user's name or a token.
+pub const LONGEST_WHO: u64 = 64;
+
+fn all_visible(bytes: &[u8]) -> bool
+    ensures { result ≡ list_all is_visible bytes.now }
+{
+    bytes.iter().all(|b| (0x21..=0x7e).contains(b))
+}
+
+/// Whether a text may name a user or be a token: from 1 to 64 visible ASCII characters.
+pub fn is_who(text: &Text) -> bool
+    ensures { result ≡ is_who text.now }
+{
+    let bytes = text.as_bytes();
+    !bytes.is_empty() && text.len() <= LONGEST_WHO && all_visible(bytes)
+}
+
+/// A request, with the user that it came for and the services that called for it, outermost first.
+#[derive(Drop)]
+pub struct Request {
+    pub method: Method,
+    pub path: Text,
+    pub body: Text,
+    pub who: Text,
+    pub chain: Names,
+}
+
+impl Copied for Request {
+    fn copied(&self, alloc: Global) -> Result<Request, NoMemory> {
+        Ok(Request {
+            method: self.method,
+            path: self.path.copied(alloc)?,
+            body: self.body.copied(alloc)?,
+            who: self.who.copied(alloc)?,
+            chain: self.chain.copied(alloc)?,
+        })
+    }
+}
+
+impl Same for Request {
+    fn is(&self, other: &Request) -> bool {
+        self.method == other.method
+            && self.path.is(&other.path)
+            && self.body.is(&other.body)
+            && self.who.is(&other.who)
+            && self.chain.is(&other.chain)
+    }
+}
+
+/// A response: a status of HTTP and a body.
+#[derive(Drop)]
+pub struct Response {
+    pub status: u16,
+    pub body: Text,
+}
+
+impl Copied for Response {
+    fn copied(&self, alloc: Global) -> Result<Response, NoMemory> {
+        Ok(Response {
+            status: self.status,
+            body: self.body.copied(alloc)?,
+        })
+    }
+}
+
+impl Same for Response {
+    fn is(&self, other: &Response) -> bool {
+        self.status == other.status && self.body.is(&other.body)
+    }
+}
+
+/// The answers of a request's calls, in the order of the calls.
+pub type Answers = Seq<Response>;

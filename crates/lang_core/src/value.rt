@@ -1,0 +1,21 @@
+// Values of the handler language.
+use lang_base::{Copied, NoMemory, Text};
+use std::alloc::Global;
+
+/// A value of the handler language.
+#[derive(Drop)]
+pub enum Value {
+    Int(i64),
+    Str(Text),
+    Nothing,
+}
+
+impl Copied for Value {
+    fn copied(&self, alloc: Global) -> Result<Value, NoMemory> {
+        match self {
+            Value::Int(n) => Ok(Value::Int(*n)),
+            Value::Str(text) => Ok(Value::Str(text.copied(alloc)?)),
+            Value::Nothing => Ok(Value::Nothing),
+        }
+    }
+}

@@ -1,0 +1,54 @@
+-- The forms that texts of a program have.
+use Rattle.std.specs.Prelude.{ℕ, Bool, true, false, ◌&&◌, ◌||◌, not, List, [], ◌∷◌, nat_eq, nat_le, ◌==◌, length, codes}
+use Rattle.std.specs.List.{list_all, starts_with}
+use Rattle.std.specs.Cmp.Lexicographic.{pointwise}
+
+-- a visible ASCII character, the space not among them
+abbrev pub is_visible : ℕ → Bool
+is_visible b = nat_le 0x21 b && nat_le b 0x7e
+
+-- a path: 1 to 1,024 visible characters, the first a slash
+abbrev pub is_path : List ℕ → Bool
+is_path text = starts_with nat_eq text (codes "/") && nat_le (length text) 1024 && list_all is_visible text
+
+abbrev pub is_lower : ℕ → Bool
+is_lower b = nat_le 97 b && nat_le b 122
+
+abbrev pub is_upper : ℕ → Bool
+is_upper b = nat_le 65 b && nat_le b 90
+
+abbrev pub is_digit : ℕ → Bool
+is_digit b = nat_le 48 b && nat_le b 57
+
+abbrev pub is_word_byte : ℕ → Bool
+is_word_byte b = is_lower b || is_upper b || is_digit b || b == 95
+
+abbrev pub begins_with_digit : List ℕ → Bool
+begins_with_digit [] = false
+begins_with_digit (b ∷ bs) = is_digit b
+
+abbrev pub is_text : List ℕ → List ℕ → Bool
+is_text a b = pointwise nat_eq a b
+
+-- the words of the language itself
+abbrev pub is_reserved : List ℕ → Bool
+is_reserved w =
+    is_text w (codes "route") || is_text w (codes "let") || is_text w (codes "get") || is_text w (codes "put")
+    || is_text w (codes "drop") || is_text w (codes "each") || is_text w (codes "in") || is_text w (codes "if")
+    || is_text w (codes "else") || is_text w (codes "call") || is_text w (codes "now") || is_text w (codes "random")
+    || is_text w (codes "reply") || is_text w (codes "nothing") || is_text w (codes "body") || is_text w (codes "who")
+    || is_text w (codes "path") || is_text w (codes "part") || is_text w (codes "number") || is_text w (codes "text")
+    || is_text w (codes "GET") || is_text w (codes "PUT") || is_text w (codes "POST") || is_text w (codes "DELETE")
+
+-- the name of a variable or a table: 1 to 32 letters, digits and `_`, no digit first, no word of the language
+abbrev pub is_word : List ℕ → Bool
+is_word w =
+    not (nat_eq (length w) 0) && nat_le (length w) 32 && list_all is_word_byte w && not (begins_with_digit w) && not (is_reserved w)
+
+-- no control character but the line feed
+abbrev pub is_literal_byte : ℕ → Bool
+is_literal_byte b = b == 10 || (nat_le 0x20 b && not (b == 0x7f))
+
+-- a literal: at most 65,536 such bytes
+abbrev pub is_literal : List ℕ → Bool
+is_literal text = nat_le (length text) 65536 && list_all is_literal_byte text

@@ -1,0 +1,15 @@
+//! The syntax tree of the handler language, and the forms that its parts have.
+#![tactic(auto)]
+
+mod expr;
+mod forms;
+mod method;
+mod program;
+mod stmt;
+
+pub use expr::{Expr, Op};
+pub use forms::{LONGEST_PATH, LONGEST_TEXT, LONGEST_WORD, is_literal, is_path, is_word};
+pub use method::Method;
+pub use program::{MOST_DEPTH, MOST_SEGMENTS, Program, Route, Routes};
+pub use sqlite_items::{Boxed, Items};
+pub use stmt::{Block, Stmt};
