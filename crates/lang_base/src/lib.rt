@@ -14,5 +14,5 @@ mod values;
 pub use bytes::Bytes;
 pub use fault::FaultNote;
 pub use memory::{Copied, NoMemory, Same};
-pub use seq::Seq;
+pub use seq::{Seq, all_same, copied_items};
 pub use text::Text;

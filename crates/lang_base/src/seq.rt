@@ -68,11 +68,8 @@ impl<T: Drop> Seq<T> {
 
 impl<T: Copied + Drop> Copied for Seq<T> {
     fn copied(&self, alloc: Global) -> Result<Seq<T>, NoMemory> {
-        let mut copy = Seq::new(alloc);
-        for item in self.as_slice() {
-            copy.push(item.copied(alloc)?)?;
-        }
-        Ok(copy)
+        let items = copied_items(alloc, &self.items)?;
+        Ok(Seq { items })
     }
 }
 
@@ -82,7 +79,19 @@ impl<T: Same> Same for Seq<T> {
     }
 }
 
-fn all_same<T: Same>(left: &[T], right: &[T]) -> bool
+/// A list of equal items.
+pub fn copied_items<T: Copied + Drop>(alloc: Global, items: &[T]) -> Result<Vec<T>, NoMemory>
+    ensures { IfOk result (λ copies. copies.items ≡ items.now) }
+{
+    let mut copies = Vec::new(alloc);
+    for item in items {
+        copies.push(item.copied(alloc)?)?;
+    }
+    Ok(copies)
+}
+
+/// Whether the two lists are equal.
+pub fn all_same<T: Same>(left: &[T], right: &[T]) -> bool
     ensures { IsTrue result ↔ (left.now ≡ right.now) }
 {
     if left.len() != right.len() {

@@ -18,10 +18,10 @@ pub use ids::{CallId, LONGEST_NAME, Name, Names, Origin, RequestId};
 pub use inputs::{Inputs, LAST_MOMENT};
 pub use lang_base::{Bytes, Copied, FaultNote, NoMemory, Same, Seq, Text};
 pub use lang_tree::{
-    Block, Boxed, Expr, Items, LONGEST_PATH, LONGEST_TEXT, LONGEST_WORD, MOST_DEPTH, MOST_SEGMENTS, Method, Op,
-    Program, Route, Routes, Stmt, is_literal, is_path, is_word,
+    Block, Boxed, Expr, Items, LONGEST_PATH, LONGEST_TEXT, LONGEST_WORD, MOST_DEPTH, MOST_SEGMENTS,
+    Method, Op, Program, Route, Routes, Stmt, is_literal, is_path, is_word,
 };
-pub use place::Placed;
+pub use place::{ByPlace, Placed};
 pub use request::{Answers, LONGEST_WHO, Request, Response, is_who};
 pub use setting::Setting;
 pub use trace::{CallMade, Calls, Read, Reads, Trace};

@@ -1,0 +1,29 @@
+// The setting of a service.
+ghost use Rattle.std.specs.Prelude.{Contains};
+
+use crate::ids::{Name, Names};
+use lang_base::{Copied, NoMemory};
+use lang_tree::Program;
+use std::alloc::Global;
+
+/// A service's own name, the services that it may call, its program, and how heavy its journal may grow. Its own
+/// name isn't among its peers'.
+#[derive(Drop)]
+pub struct Setting {
+    pub me: Name,
+    pub peers: Names,
+    pub program: Program,
+    pub weight: u64,
+    ghost alone: { ¬ Contains peers me },
+}
+
+impl Copied for Setting {
+    fn copied(&self, alloc: Global) -> Result<Setting, NoMemory> {
+        Ok(Setting {
+            me: self.me.copied(alloc)?,
+            peers: self.peers.copied(alloc)?,
+            program: self.program.copied(alloc)?,
+            weight: self.weight,
+        })
+    }
+}

@@ -1,0 +1,123 @@
+// What a run read, called, wrote and answered.
+use crate::cells::Cells;
+use crate::ids::Name;
+use crate::request::{Answers, Request, Response};
+use crate::writes::Writes;
+use lang_base::{Copied, NoMemory, Same, Seq, Text};
+use std::alloc::Global;
+
+/// What a run read of its rows, and what it found.
+#[derive(Drop)]
+pub enum Read {
+    /// One key, and its text, if there was one.
+    Key {
+        table: Text,
+        key: Text,
+        found: Option<Text>,
+    },
+    /// The keys under a prefix, and the cells that a scan gave.
+    Scan {
+        table: Text,
+        prefix: Text,
+        found: Cells,
+    },
+}
+
+/// Reads, in the order in which they were made.
+pub type Reads = Seq<Read>;
+
+impl Copied for Read {
+    fn copied(&self, alloc: Global) -> Result<Read, NoMemory> {
+        match self {
+            Read::Key { table, key, found } => Ok(Read::Key {
+                table: table.copied(alloc)?,
+                key: key.copied(alloc)?,
+                found: Copied::copied(found, alloc)?,
+            }),
+            Read::Scan {
+                table,
+                prefix,
+                found,
+            } => Ok(Read::Scan {
+                table: table.copied(alloc)?,
+                prefix: prefix.copied(alloc)?,
+                found: found.copied(alloc)?,
+            }),
+        }
+    }
+}
+
+impl Same for Read {
+    fn is(&self, other: &Read) -> bool {
+        match (self, other) {
+            (
+                Read::Key { table, key, found },
+                Read::Key {
+                    table: other_table,
+                    key: other_key,
+                    found: other_found,
+                },
+            ) => table.is(other_table) && key.is(other_key) && found.is(other_found),
+            (
+                Read::Scan {
+                    table,
+                    prefix,
+                    found,
+                },
+                Read::Scan {
+                    table: other_table,
+                    prefix: other_prefix,
+                    found: other_found,
+                },
+            ) => table.is(other_table) && prefix.is(other_prefix) && found.is(other_found),
+            _ => false,
+        }
+    }
+}
+
+/// A call of a handler: the service that it goes to, and the request.
+#[derive(Drop)]
+pub struct CallMade {
+    pub dest: Name,
+    pub request: Request,
+}
+
+/// Calls, in the order in which they were made.
+pub type Calls = Seq<CallMade>;
+
+impl Copied for CallMade {
+    fn copied(&self, alloc: Global) -> Result<CallMade, NoMemory> {
+        Ok(CallMade {
+            dest: self.dest.copied(alloc)?,
+            request: self.request.copied(alloc)?,
+        })
+    }
+}
+
+impl Same for CallMade {
+    fn is(&self, other: &CallMade) -> bool {
+        self.dest.is(&other.dest) && self.request.is(&other.request)
+    }
+}
+
+/// What a run did: its reads, its calls with their answers, its writes, one for each key, and its response.
+#[derive(Drop)]
+pub struct Trace {
+    pub reads: Reads,
+    pub calls: Calls,
+    pub answers: Answers,
+    pub writes: Writes,
+    pub response: Response,
+}
+
+impl Copied for Trace {
+    fn copied(&self, alloc: Global) -> Result<Trace, NoMemory> {
+        Ok(Trace {
+            reads: self.reads.copied(alloc)?,
+            calls: self.calls.copied(alloc)?,
+            answers: self.answers.copied(alloc)?,
+            writes: self.writes.copied(alloc)?,
+            response: self.response.copied(alloc)?,
+        })
+    }
+}
