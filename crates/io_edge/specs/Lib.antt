@@ -1,0 +1,3 @@
+pub mod Edge
+pub mod Memory
+pub mod Told

@@ -1,0 +1,90 @@
+// Readers and writers of std as a source and a sink. They count their faults and tell no bytes.
+ghost use Rattle.std.specs.Prelude.{◌≡◌, None};
+
+use crate::{Failed, Sink, Source};
+use std::io;
+
+/// A reader of std as a source, which tells no bytes. An interrupted read counts as a failed one.
+#[derive(Drop)]
+pub struct Reading<R: io::Read + Drop> {
+    inner: R,
+    faults: u64,
+}
+
+impl<R: io::Read + Drop> Reading<R> {
+    /// A source over a reader, with no fault so far.
+    pub fn new(inner: R) -> Self
+        ensures faults { ⟦<Reading<R> as Source>⟧.faults result ≡ 0 }
+    {
+        Reading { inner, faults: 0 }
+    }
+
+    /// How many reads have failed, up to the greatest `u64`.
+    pub fn faults(&self) -> u64
+        ensures faults { result ≡ ⟦<Reading<R> as Source>⟧.faults self.now }
+    {
+        self.faults
+    }
+}
+
+impl<R: io::Read + Drop> Source for Reading<R> {
+    ghost left = { λ _. None };
+
+    ghost whole = { λ _. None };
+
+    ghost faults = { λ s. s.faults };
+
+    fn read(&mut self, into: &mut [u8]) -> Result<u64, Failed> {
+        match self.inner.read(into) {
+            Ok(n) => Ok(n as u64),
+            Err(_) => {
+                self.faults = self.faults.saturating_add(1);
+                Err(Failed)
+            }
+        }
+    }
+}
+
+/// A writer of std as a sink, which tells no bytes. It flushes nothing: hand it a writer without a buffer.
+#[derive(Drop)]
+pub struct Writing<W: io::Write + Drop> {
+    inner: W,
+    faults: u64,
+}
+
+impl<W: io::Write + Drop> Writing<W> {
+    /// A sink over a writer, with no fault so far.
+    pub fn new(inner: W) -> Self
+        ensures faults { ⟦<Writing<W> as Sink>⟧.faults result ≡ 0 }
+    {
+        Writing { inner, faults: 0 }
+    }
+
+    /// How many writes have failed, up to the greatest `u64`.
+    pub fn faults(&self) -> u64
+        ensures faults { result ≡ ⟦<Writing<W> as Sink>⟧.faults self.now }
+    {
+        self.faults
+    }
+}
+
+impl<W: io::Write + Drop> Sink for Writing<W> {
+    ghost written = { λ _. None };
+
+    ghost faults = { λ s. s.faults };
+
+    fn write(&mut self, bytes: &[u8]) -> Result<u64, Failed> {
+        match self.inner.write(bytes) {
+            // A writer that takes nothing of something is full: going on would never end.
+            Ok(0) if !bytes.is_empty() => {
+                self.faults = self.faults.saturating_add(1);
+                Ok(0)
+            }
+            Ok(n) => Ok(n as u64),
+            Err(_) => {
+                self.faults = self.faults.saturating_add(1);
+                Err(Failed)
+            }
+        }
+    }
+}
