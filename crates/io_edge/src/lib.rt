@@ -4,6 +4,8 @@
 mod both;
 mod memory;
 mod streams;
+#[cfg(test)]
+mod tests;
 mod told;
 mod traits;
 mod whole;

@@ -60,6 +60,13 @@ impl MemorySource {
         &self.bytes[self.at..]
     }
 
+    /// All the bytes that it ever had.
+    pub fn whole(&self) -> &[u8]
+        ensures whole { result.now ≡ source_whole self.now }
+    {
+        &self.bytes
+    }
+
     /// How many reads have failed, up to the greatest `u64`.
     pub fn faults(&self) -> u64
         ensures faults { result ≡ source_faults self.now }

@@ -1,5 +1,7 @@
 // Readers and writers of std as a source and a sink. They count their faults and tell no bytes.
-ghost use Rattle.std.specs.Prelude.{◌≡◌, None};
+ghost use Rattle.std.specs.Prelude.{◌≡◌, ◌≤◌, ◌<◌, None, length, IfOk, OnErr};
+ghost use Rattle.std.specs.Io.KnownBytes.{ReadConsumes, WriteAppends};
+ghost use Rattle.io_edge.specs.Edge.{Rose};
 
 use crate::{Failed, Sink, Source};
 use std::io;
@@ -28,13 +30,21 @@ impl<R: io::Read + Drop> Reading<R> {
 }
 
 impl<R: io::Read + Drop> Source for Reading<R> {
+    ghost use Rattle.io_edge.specs.Streams.{reader};
+
     ghost left = { λ _. None };
 
     ghost whole = { λ _. None };
 
     ghost faults = { λ s. s.faults };
 
-    fn read(&mut self, into: &mut [u8]) -> Result<u64, Failed> {
+    fn read(&mut self, into: &mut [u8]) -> Result<u64, Failed>
+        // What the reader gave, or nothing where it failed.
+        ensures passed { ReadConsumes (R.remaining (reader self.old)) (R.remaining (reader self.new)) result into.new }
+        ensures bound { IfOk result (λ n. n ≤ length into.new) }
+        ensures counted { self.old.faults ≤ self.new.faults }
+        ensures failed { OnErr result (Rose self.old.faults self.new.faults) }
+    {
         match self.inner.read(into) {
             Ok(n) => Ok(n as u64),
             Err(_) => {
@@ -69,11 +79,20 @@ impl<W: io::Write + Drop> Writing<W> {
 }
 
 impl<W: io::Write + Drop> Sink for Writing<W> {
+    ghost use Rattle.io_edge.specs.Streams.{writer};
+
     ghost written = { λ _. None };
 
     ghost faults = { λ s. s.faults };
 
-    fn write(&mut self, bytes: &[u8]) -> Result<u64, Failed> {
+    fn write(&mut self, bytes: &[u8]) -> Result<u64, Failed>
+        // What the writer took, or nothing where it failed.
+        ensures passed { WriteAppends (W.contents (writer self.old)) (W.contents (writer self.new)) result bytes.now }
+        ensures bound { IfOk result (λ n. n ≤ length bytes.now) }
+        ensures none { IfOk result (λ n. n ≡ 0 → 0 < length bytes.now → Rose self.old.faults self.new.faults) }
+        ensures counted { self.old.faults ≤ self.new.faults }
+        ensures failed { OnErr result (Rose self.old.faults self.new.faults) }
+    {
         match self.inner.write(bytes) {
             // A writer that takes nothing of something is full: going on would never end.
             Ok(0) if !bytes.is_empty() => {
