@@ -4,10 +4,13 @@ ghost use Rattle.std.proofs.Common.{refl};
 
 use crate::{Connection, Failed, MemorySink, MemorySource, Sink, Source};
 
-/// A connection in memory: what the peer sends, and what was sent to it.
+/// A connection in memory, which tells the bytes of both its halves. Each half fails at the calls that it
+/// is told to, and keeps a count of its own.
 #[derive(Drop)]
 pub struct MemoryConnection {
+    /// What the peer sends.
     pub source: MemorySource,
+    /// What was sent to the peer.
     pub sink: MemorySink,
 }
 

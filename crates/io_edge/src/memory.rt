@@ -76,14 +76,14 @@ impl MemorySource {
 }
 
 impl Source for MemorySource {
-    ghost use Rattle.io_edge.specs.Memory.{source_left, source_calls, read_count};
+    ghost use Rattle.io_edge.specs.Memory.{source_left, source_whole, source_faults, source_most, source_calls, read_count};
     ghost use Rattle.io_edge.specs.Told.{one_more, IsToldToFail};
 
-    ghost left = { λ s. Some (drop s.at s.bytes.items) };
+    ghost left = { λ s. Some (source_left s) };
 
-    ghost whole = { λ s. Some s.bytes.items };
+    ghost whole = { λ s. Some (source_whole s) };
 
-    ghost faults = { λ s. s.calls.faults };
+    ghost faults = { λ s. source_faults s };
 
     fn read(&mut self, into: &mut [u8]) -> Result<u64, Failed>
         // The trait's clauses.
@@ -91,16 +91,16 @@ impl Source for MemorySource {
         ensures took { IfOk result (λ n. Took (Some (source_left self.old)) (Some (source_left self.new)) (take n into.new)) }
         ensures end { IfOk result (λ n. n ≡ 0 → 0 < length into.new → IsAtEnd (Some (source_left self.new))) }
         ensures err { OnErr result (source_left self.new ≡ source_left self.old) }
-        ensures whole { self.new.bytes ≡ self.old.bytes }
-        ensures counted { self.old.calls.faults ≤ self.new.calls.faults }
-        ensures failed { OnErr result (Rose self.old.calls.faults self.new.calls.faults) }
+        ensures whole { source_whole self.new ≡ source_whole self.old }
+        ensures counted { source_faults self.old ≤ source_faults self.new }
+        ensures failed { OnErr result (Rose (source_faults self.old) (source_faults self.new)) }
 
         // It fails exactly where it is told to, and gives as much as it may.
         ensures told { IsErr result ↔ IsToldToFail (source_calls self.old) }
         ensures count { IfOk result (λ n. n ≡ read_count self.old (length into.new)) }
-        ensures most { self.new.most ≡ self.old.most }
-        ensures failing { self.new.calls.failing ≡ self.old.calls.failing }
-        ensures made { self.new.calls.made ≡ one_more self.old.calls.made }
+        ensures most { source_most self.new ≡ source_most self.old }
+        ensures failing { (source_calls self.new).failing ≡ (source_calls self.old).failing }
+        ensures made { (source_calls self.new).made ≡ one_more (source_calls self.old).made }
     {
         if self.calls.fails() {
             self.calls.fault();
@@ -171,28 +171,28 @@ impl MemorySink {
 }
 
 impl Sink for MemorySink {
-    ghost use Rattle.io_edge.specs.Memory.{sink_bytes, sink_calls};
+    ghost use Rattle.io_edge.specs.Memory.{sink_bytes, sink_faults, sink_most, sink_calls};
     ghost use Rattle.io_edge.specs.Told.{one_more, IsToldToFail};
 
-    ghost written = { λ s. Some s.bytes.items };
+    ghost written = { λ s. Some (sink_bytes s) };
 
-    ghost faults = { λ s. s.calls.faults };
+    ghost faults = { λ s. sink_faults s };
 
     fn write(&mut self, bytes: &[u8]) -> Result<u64, Failed>
         // The trait's clauses.
         ensures bound { IfOk result (λ n. n ≤ length bytes.now) }
         ensures wrote { IfOk result (λ n. Wrote (Some (sink_bytes self.old)) (Some (sink_bytes self.new)) (take n bytes.now)) }
-        ensures none { IfOk result (λ n. n ≡ 0 → 0 < length bytes.now → Rose self.old.calls.faults self.new.calls.faults) }
+        ensures none { IfOk result (λ n. n ≡ 0 → 0 < length bytes.now → Rose (sink_faults self.old) (sink_faults self.new)) }
         ensures err { OnErr result (sink_bytes self.new ≡ sink_bytes self.old) }
-        ensures counted { self.old.calls.faults ≤ self.new.calls.faults }
-        ensures failed { OnErr result (Rose self.old.calls.faults self.new.calls.faults) }
+        ensures counted { sink_faults self.old ≤ sink_faults self.new }
+        ensures failed { OnErr result (Rose (sink_faults self.old) (sink_faults self.new)) }
 
         // It fails where it is told to, or memory runs out, and takes as much as it may.
         ensures told { IsToldToFail (sink_calls self.old) → IsErr result }
-        ensures count { IfOk result (λ n. n ≡ min (length bytes.now) self.old.most) }
-        ensures most { self.new.most ≡ self.old.most }
-        ensures failing { self.new.calls.failing ≡ self.old.calls.failing }
-        ensures made { self.new.calls.made ≡ one_more self.old.calls.made }
+        ensures count { IfOk result (λ n. n ≡ min (length bytes.now) (sink_most self.old)) }
+        ensures most { sink_most self.new ≡ sink_most self.old }
+        ensures failing { (sink_calls self.new).failing ≡ (sink_calls self.old).failing }
+        ensures made { (sink_calls self.new).made ≡ one_more (sink_calls self.old).made }
     {
         if self.calls.fails() {
             self.calls.fault();

@@ -14,36 +14,38 @@ pub struct Reading<R: io::Read + Drop> {
 }
 
 impl<R: io::Read + Drop> Reading<R> {
+    ghost use Rattle.io_edge.specs.Streams.{read_faults};
+
     /// A source over a reader, with no fault so far.
     pub fn new(inner: R) -> Self
-        ensures faults { ⟦<Reading<R> as Source>⟧.faults result ≡ 0 }
+        ensures faults { read_faults result ≡ 0 }
     {
         Reading { inner, faults: 0 }
     }
 
     /// How many reads have failed, up to the greatest `u64`.
     pub fn faults(&self) -> u64
-        ensures faults { result ≡ ⟦<Reading<R> as Source>⟧.faults self.now }
+        ensures faults { result ≡ read_faults self.now }
     {
         self.faults
     }
 }
 
 impl<R: io::Read + Drop> Source for Reading<R> {
-    ghost use Rattle.io_edge.specs.Streams.{reader};
+    ghost use Rattle.io_edge.specs.Streams.{reader, read_faults};
 
     ghost left = { λ _. None };
 
     ghost whole = { λ _. None };
 
-    ghost faults = { λ s. s.faults };
+    ghost faults = { λ s. read_faults s };
 
     fn read(&mut self, into: &mut [u8]) -> Result<u64, Failed>
         // What the reader gave, or nothing where it failed.
         ensures passed { ReadConsumes (R.remaining (reader self.old)) (R.remaining (reader self.new)) result into.new }
         ensures bound { IfOk result (λ n. n ≤ length into.new) }
-        ensures counted { self.old.faults ≤ self.new.faults }
-        ensures failed { OnErr result (Rose self.old.faults self.new.faults) }
+        ensures counted { read_faults self.old ≤ read_faults self.new }
+        ensures failed { OnErr result (Rose (read_faults self.old) (read_faults self.new)) }
     {
         match self.inner.read(into) {
             Ok(n) => Ok(n as u64),
@@ -63,35 +65,37 @@ pub struct Writing<W: io::Write + Drop> {
 }
 
 impl<W: io::Write + Drop> Writing<W> {
+    ghost use Rattle.io_edge.specs.Streams.{write_faults};
+
     /// A sink over a writer, with no fault so far.
     pub fn new(inner: W) -> Self
-        ensures faults { ⟦<Writing<W> as Sink>⟧.faults result ≡ 0 }
+        ensures faults { write_faults result ≡ 0 }
     {
         Writing { inner, faults: 0 }
     }
 
     /// How many writes have failed, up to the greatest `u64`.
     pub fn faults(&self) -> u64
-        ensures faults { result ≡ ⟦<Writing<W> as Sink>⟧.faults self.now }
+        ensures faults { result ≡ write_faults self.now }
     {
         self.faults
     }
 }
 
 impl<W: io::Write + Drop> Sink for Writing<W> {
-    ghost use Rattle.io_edge.specs.Streams.{writer};
+    ghost use Rattle.io_edge.specs.Streams.{writer, write_faults};
 
     ghost written = { λ _. None };
 
-    ghost faults = { λ s. s.faults };
+    ghost faults = { λ s. write_faults s };
 
     fn write(&mut self, bytes: &[u8]) -> Result<u64, Failed>
         // What the writer took, or nothing where it failed.
         ensures passed { WriteAppends (W.contents (writer self.old)) (W.contents (writer self.new)) result bytes.now }
         ensures bound { IfOk result (λ n. n ≤ length bytes.now) }
-        ensures none { IfOk result (λ n. n ≡ 0 → 0 < length bytes.now → Rose self.old.faults self.new.faults) }
-        ensures counted { self.old.faults ≤ self.new.faults }
-        ensures failed { OnErr result (Rose self.old.faults self.new.faults) }
+        ensures none { IfOk result (λ n. n ≡ 0 → 0 < length bytes.now → Rose (write_faults self.old) (write_faults self.new)) }
+        ensures counted { write_faults self.old ≤ write_faults self.new }
+        ensures failed { OnErr result (Rose (write_faults self.old) (write_faults self.new)) }
     {
         match self.inner.write(bytes) {
             // A writer that takes nothing of something is full: going on would never end.

@@ -1,8 +1,13 @@
 // What no clause says: that calls succeed with memory at hand, and where faults fall in mid-stream.
+ghost use Rattle.std.specs.Prelude.{◌≡◌, ◌≤◌, OnOk};
+ghost use Rattle.std.specs.Option.{ForSome};
+ghost use Rattle.io_edge.specs.Edge.{Wrote};
+
 use crate::{
-    Failed, MemoryConnection, MemorySink, MemorySource, ReadRefused, Reading, Sink, Source,
-    Writing, read_all, write_all,
+    Connection, Failed, MemoryConnection, MemorySink, MemorySource, ReadRefused, Reading, Sink,
+    Source, Writing, read_all, write_all,
 };
+use std::alloc::Global;
 use std::collections::VecDeque;
 use std::io;
 use std::test::Fail;
@@ -37,9 +42,9 @@ fn reads_up_to_the_limit(rt: HostRuntime) -> Result<(), Fail> {
     Ok(())
 }
 
-// The second call fails in mid-stream, and the next one goes on behind what was done before.
+// The second read fails in mid-stream, and the next one goes on behind what was taken.
 #[test]
-fn goes_on_after_a_fault(rt: HostRuntime) -> Result<(), Fail> {
+fn reads_on_after_a_fault(rt: HostRuntime) -> Result<(), Fail> {
     let bytes = b"abcdef".to_vec(rt.alloc())?;
     let mut source = MemorySource::in_pieces(bytes, 2, vec![in rt.alloc(); 2]?);
     let got = read_all(rt.alloc(), &mut source, 6);
@@ -49,23 +54,45 @@ fn goes_on_after_a_fault(rt: HostRuntime) -> Result<(), Fail> {
         read_all(rt.alloc(), &mut source, 4)?.as_slice(),
         b"cdef".as_slice()
     );
+    Ok(())
+}
 
+// The second write fails in mid-stream, a front is there, and the next write goes on behind it.
+#[test]
+fn writes_on_after_a_fault(rt: HostRuntime) -> Result<(), Fail> {
     let mut sink = MemorySink::in_pieces(rt.alloc(), 2, vec![in rt.alloc(); 2]?);
     assert_eq!(rt; write_all(&mut sink, b"abcdef"), Err(Failed));
     assert_eq!(rt; sink.faults(), 1);
     assert_eq!(rt; sink.bytes(), b"ab".as_slice());
     write_all(&mut sink, b"cdef")?;
     assert_eq!(rt; sink.bytes(), b"abcdef".as_slice());
+    Ok(())
+}
 
+// What a peer sends, sent back to it: a read keeps what was written, and a write what there was to read.
+fn echo<C: Connection>(alloc: Global, connection: &mut C) -> Result<(), ReadRefused>
+    ensures echoed { OnOk result (ForSome (C.left connection.old) (λ bytes.
+        Wrote (C.written connection.old) (C.written connection.new) bytes)) }
+    ensures whole { C.whole connection.new ≡ C.whole connection.old }
+    ensures reads { C.Source.faults connection.old ≤ C.Source.faults connection.new }
+    ensures writes { C.Sink.faults connection.old ≤ C.Sink.faults connection.new }
+{
+    let bytes = read_all(alloc, connection, 100)?;
+    write_all(connection, &bytes)?;
+    Ok(())
+}
+
+// A connection echoes, and counts the faults of each half.
+#[test]
+fn echoes_a_connection(rt: HostRuntime) -> Result<(), Fail> {
     let asked = b"ask".to_vec(rt.alloc())?;
     let mut connection = MemoryConnection::new(
         MemorySource::in_pieces(asked, 1, Vec::new(rt.alloc())),
-        MemorySink::new(rt.alloc(), vec![in rt.alloc(); 1]?),
+        MemorySink::new(rt.alloc(), vec![in rt.alloc(); 2]?),
     );
-    let said = read_all(rt.alloc(), &mut connection, 100)?;
-    assert_eq!(rt; write_all(&mut connection, &said), Err(Failed));
-    write_all(&mut connection, &said)?;
+    echo(rt.alloc(), &mut connection)?;
     assert_eq!(rt; connection.sink.bytes(), b"ask".as_slice());
+    assert_eq!(rt; write_all(&mut connection, b"more"), Err(Failed));
     assert_eq!(rt;
         (connection.source.faults(), connection.sink.faults()),
         (0, 1)
@@ -93,7 +120,7 @@ impl io::Write for Broken {
     }
 }
 
-// The adapters pass bytes on, and count what fails and a writer that is full.
+// The adapters pass bytes on.
 #[test]
 fn adapts_readers_and_writers(rt: HostRuntime) -> Result<(), Fail> {
     let mut queue = VecDeque::new(rt.alloc());
@@ -107,7 +134,12 @@ fn adapts_readers_and_writers(rt: HostRuntime) -> Result<(), Fail> {
     let got = read_all(rt.alloc(), &mut source, 100)?;
     assert_eq!(rt; got.as_slice(), b"passed on".as_slice());
     assert_eq!(rt; source.faults(), 0);
+    Ok(())
+}
 
+// The adapters count what fails, and a writer that is full.
+#[test]
+fn counts_faults_of_readers_and_writers(rt: HostRuntime) -> Result<(), Fail> {
     let mut room = [0u8; 3];
     {
         let mut full = Writing::new(room.as_mut_slice());
