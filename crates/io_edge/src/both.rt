@@ -4,8 +4,8 @@ ghost use Rattle.std.proofs.Common.{refl};
 
 use crate::{Connection, Failed, MemorySink, MemorySource, Sink, Source};
 
-/// A connection in memory, which tells the bytes of both its halves. Each half fails at the calls that it
-/// is told to, and keeps a count of its own.
+/// A connection in memory, which tells the bytes of both its halves. Each half fails at the calls
+/// that it is told to, and keeps a count of its own.
 #[derive(Drop)]
 pub struct MemoryConnection {
     /// What the peer sends.
@@ -31,7 +31,10 @@ impl Source for MemoryConnection {
 
     ghost faults = { λ c. ⟦<MemorySource as Source>⟧.faults c.source };
 
-    ghost beside = { λ c. (⟦<MemorySink as Sink>⟧.written c.sink, ⟦<MemorySink as Sink>⟧.faults c.sink) };
+    ghost beside = { λ c. (
+      ⟦<MemorySink as Sink>⟧.written c.sink,
+      ⟦<MemorySink as Sink>⟧.faults c.sink,
+    ) };
 
     fn read(&mut self, into: &mut [u8]) -> Result<u64, Failed> {
         self.source.read(into)

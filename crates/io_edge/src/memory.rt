@@ -6,8 +6,8 @@ use crate::told::Told;
 use crate::{Failed, Sink, Source};
 use std::alloc::Global;
 
-/// A source in memory, which tells its bytes. It gives at most so many bytes a read, and fails at the reads
-/// that it is told to.
+/// A source in memory, which tells its bytes. It gives at most so many bytes a read, and fails at
+/// the reads that it is told to.
 #[derive(Drop)]
 pub struct MemorySource {
     bytes: Vec<u8>,
@@ -21,8 +21,8 @@ pub struct MemorySource {
 impl MemorySource {
     ghost use Rattle.io_edge.specs.Memory.{source_left, source_whole, source_faults, source_most, source_calls};
 
-    /// A source of these bytes, which gives as many as there is room for. The reads with the numbers in
-    /// `failing`, counted from 1, fail.
+    /// A source of these bytes, which gives as many as there is room for. The reads with the
+    /// numbers in `failing`, counted from 1, fail.
     pub fn new(bytes: Vec<u8>, failing: Vec<u64>) -> Self
         ensures left { source_left result ≡ bytes.items }
         ensures whole { source_whole result ≡ bytes.items }
@@ -34,8 +34,8 @@ impl MemorySource {
         MemorySource::in_pieces(bytes, usize::MAX, failing)
     }
 
-    /// A source of these bytes, which gives at most `most` of them a read. The reads with the numbers in
-    /// `failing`, counted from 1, fail.
+    /// A source of these bytes, which gives at most `most` of them a read. The reads with the
+    /// numbers in `failing`, counted from 1, fail.
     pub fn in_pieces(bytes: Vec<u8>, most: usize, failing: Vec<u64>) -> Self
         requires { 0 < most }
         ensures left { source_left result ≡ bytes.items }
@@ -88,8 +88,10 @@ impl Source for MemorySource {
     fn read(&mut self, into: &mut [u8]) -> Result<u64, Failed>
         // The trait's clauses.
         ensures bound { IfOk result (λ n. n ≤ length into.new) }
-        ensures took { IfOk result (λ n. Took (Some (source_left self.old)) (Some (source_left self.new)) (take n into.new)) }
-        ensures end { IfOk result (λ n. n ≡ 0 → 0 < length into.new → IsAtEnd (Some (source_left self.new))) }
+        ensures took { IfOk result (λ n.
+            Took (Some (source_left self.old)) (Some (source_left self.new)) (take n into.new)) }
+        ensures end { IfOk result (λ n. n ≡ 0 → 0 < length into.new
+            → IsAtEnd (Some (source_left self.new))) }
         ensures err { OnErr result (source_left self.new ≡ source_left self.old) }
         ensures whole { source_whole self.new ≡ source_whole self.old }
         ensures counted { source_faults self.old ≤ source_faults self.new }
@@ -113,8 +115,8 @@ impl Source for MemorySource {
     }
 }
 
-/// A sink in memory, which tells what was written. It takes at most so many bytes a write, and fails at the
-/// writes that it is told to. Want of memory for the bytes is a failed write too.
+/// A sink in memory, which tells what was written. It takes at most so many bytes a write, and
+/// fails at the writes that it is told to. Want of memory for the bytes is a failed write too.
 #[derive(Drop)]
 pub struct MemorySink {
     bytes: Vec<u8>,
@@ -126,8 +128,8 @@ pub struct MemorySink {
 impl MemorySink {
     ghost use Rattle.io_edge.specs.Memory.{sink_bytes, sink_faults, sink_most, sink_calls};
 
-    /// An empty sink, which takes all that it is given. The writes with the numbers in `failing`, counted
-    /// from 1, fail.
+    /// An empty sink, which takes all that it is given. The writes with the numbers in `failing`,
+    /// counted from 1, fail.
     pub fn new(alloc: Global, failing: Vec<u64>) -> Self
         ensures empty { sink_bytes result ≡ [] }
         ensures faults { sink_faults result ≡ 0 }
@@ -138,8 +140,8 @@ impl MemorySink {
         MemorySink::in_pieces(alloc, usize::MAX, failing)
     }
 
-    /// An empty sink, which takes at most `most` bytes a write. The writes with the numbers in `failing`,
-    /// counted from 1, fail.
+    /// An empty sink, which takes at most `most` bytes a write. The writes with the numbers in
+    /// `failing`, counted from 1, fail.
     pub fn in_pieces(alloc: Global, most: usize, failing: Vec<u64>) -> Self
         requires { 0 < most }
         ensures empty { sink_bytes result ≡ [] }
@@ -181,8 +183,10 @@ impl Sink for MemorySink {
     fn write(&mut self, bytes: &[u8]) -> Result<u64, Failed>
         // The trait's clauses.
         ensures bound { IfOk result (λ n. n ≤ length bytes.now) }
-        ensures wrote { IfOk result (λ n. Wrote (Some (sink_bytes self.old)) (Some (sink_bytes self.new)) (take n bytes.now)) }
-        ensures none { IfOk result (λ n. n ≡ 0 → 0 < length bytes.now → Rose (sink_faults self.old) (sink_faults self.new)) }
+        ensures wrote { IfOk result (λ n.
+            Wrote (Some (sink_bytes self.old)) (Some (sink_bytes self.new)) (take n bytes.now)) }
+        ensures none { IfOk result (λ n. n ≡ 0 → 0 < length bytes.now
+            → Rose (sink_faults self.old) (sink_faults self.new)) }
         ensures err { OnErr result (sink_bytes self.new ≡ sink_bytes self.old) }
         ensures counted { sink_faults self.old ≤ sink_faults self.new }
         ensures failed { OnErr result (Rose (sink_faults self.old) (sink_faults self.new)) }

@@ -42,7 +42,8 @@ impl<R: io::Read + Drop> Source for Reading<R> {
 
     fn read(&mut self, into: &mut [u8]) -> Result<u64, Failed>
         // What the reader gave, or nothing where it failed.
-        ensures passed { ReadConsumes (R.remaining (reader self.old)) (R.remaining (reader self.new)) result into.new }
+        ensures passed { ReadConsumes (R.remaining (reader self.old)) (R.remaining (reader self.new))
+            result into.new }
         ensures bound { IfOk result (λ n. n ≤ length into.new) }
         ensures counted { read_faults self.old ≤ read_faults self.new }
         ensures failed { OnErr result (Rose (read_faults self.old) (read_faults self.new)) }
@@ -57,7 +58,8 @@ impl<R: io::Read + Drop> Source for Reading<R> {
     }
 }
 
-/// A writer of std as a sink, which tells no bytes. It flushes nothing: hand it a writer without a buffer.
+/// A writer of std as a sink, which tells no bytes. It flushes nothing: hand it a writer without a
+/// buffer.
 #[derive(Drop)]
 pub struct Writing<W: io::Write + Drop> {
     inner: W,
@@ -91,9 +93,11 @@ impl<W: io::Write + Drop> Sink for Writing<W> {
 
     fn write(&mut self, bytes: &[u8]) -> Result<u64, Failed>
         // What the writer took, or nothing where it failed.
-        ensures passed { WriteAppends (W.contents (writer self.old)) (W.contents (writer self.new)) result bytes.now }
+        ensures passed { WriteAppends (W.contents (writer self.old)) (W.contents (writer self.new))
+            result bytes.now }
         ensures bound { IfOk result (λ n. n ≤ length bytes.now) }
-        ensures none { IfOk result (λ n. n ≡ 0 → 0 < length bytes.now → Rose (write_faults self.old) (write_faults self.new)) }
+        ensures none { IfOk result (λ n. n ≡ 0 → 0 < length bytes.now
+            → Rose (write_faults self.old) (write_faults self.new)) }
         ensures counted { write_faults self.old ≤ write_faults self.new }
         ensures failed { OnErr result (Rose (write_faults self.old) (write_faults self.new)) }
     {

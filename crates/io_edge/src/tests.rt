@@ -69,7 +69,8 @@ fn writes_on_after_a_fault(rt: HostRuntime) -> Result<(), Fail> {
     Ok(())
 }
 
-// What a peer sends, sent back to it: a read keeps what was written, and a write what there was to read.
+// What a peer sends, sent back to it: a read keeps what was written, and a write what there was to
+// read.
 fn echo<C: Connection>(alloc: Global, connection: &mut C) -> Result<(), ReadRefused>
     ensures echoed { OnOk result (ForSome (C.left connection.old) (λ bytes.
         Wrote (C.written connection.old) (C.written connection.new) bytes)) }

@@ -39,9 +39,9 @@ impl From<Failed> for ReadRefused {
 
 /// All bytes that are left in a source, where they are no more than `limit`.
 ///
-/// It takes at most `limit + 1` bytes, the last only to see that there is one. After an `Err` a front of
-/// what was left is gone. `TooLong` comes exactly where more than `limit` bytes are left, unless a read
-/// fails or memory runs out before that is seen.
+/// It takes at most `limit + 1` bytes, the last only to see that there is one. After an `Err` a
+/// front of what was left is gone. `TooLong` comes exactly where more than `limit` bytes are left,
+/// unless a read fails or memory runs out before that is seen.
 pub fn read_all<S: Source>(
     alloc: Global,
     source: &mut S,
@@ -51,13 +51,15 @@ pub fn read_all<S: Source>(
     ensures end { OnOk result (IsAtEnd (S.left source.new)) }
     ensures all { IfOk result (λ v. ForSome (S.left source.old) (λ all. v.items ≡ all)) }
     ensures within { IfOk result (λ v. length v.items ≤ limit) }
-    ensures too_long { IsErrOf result ReadRefused.TooLong → ForSome (S.left source.old) (λ all. limit < length all) }
+    ensures too_long { IsErrOf result ReadRefused.TooLong
+        → ForSome (S.left source.old) (λ all. limit < length all) }
     ensures err { OnErr result (TookUpTo (limit + 1) (S.left source.old) (S.left source.new)) }
     ensures whole { S.whole source.new ≡ S.whole source.old }
     ensures beside { S.beside source.new ≡ S.beside source.old }
 
     ensures counted { S.faults source.old ≤ S.faults source.new }
-    ensures fault { IsErrOf result ReadRefused.Fault → Rose (S.faults source.old) (S.faults source.new) }
+    ensures fault { IsErrOf result ReadRefused.Fault
+        → Rose (S.faults source.old) (S.faults source.new) }
 {
     let mut bytes = Vec::new(alloc);
     let mut piece = [0u8; PIECE];
