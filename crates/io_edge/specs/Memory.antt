@@ -1,0 +1,45 @@
+-- What a source and a sink in memory tell.
+use Rattle.std.specs.Prelude.{ℕ, List, drop, length, min}
+use Rattle.io_edge.specs.declared.told.Told.{Told}
+use Rattle.io_edge.specs.declared.memory.MemorySource.{MemorySource}
+use Rattle.io_edge.specs.declared.memory.MemorySink.{MemorySink}
+
+-- the bytes that a source in memory has left
+abbrev pub source_left : MemorySource → List ℕ
+source_left s = drop s.at s.bytes.items
+
+-- all the bytes that it ever had
+abbrev pub source_whole : MemorySource → List ℕ
+source_whole s = s.bytes.items
+
+-- how many of its reads have failed
+abbrev pub source_faults : MemorySource → ℕ
+source_faults s = s.calls.faults
+
+-- the reads that are to fail, and how many were made
+abbrev pub source_calls : MemorySource → Told
+source_calls s = s.calls
+
+-- the most bytes that a read gives
+abbrev pub source_most : MemorySource → ℕ
+source_most s = s.most
+
+-- how many bytes a read gives that finds room for so many
+abbrev pub read_count : MemorySource → ℕ → ℕ
+read_count s room = min (min room s.most) (length (source_left s))
+
+-- the bytes that were written to a sink in memory
+abbrev pub sink_bytes : MemorySink → List ℕ
+sink_bytes s = s.bytes.items
+
+-- how many of its writes have failed
+abbrev pub sink_faults : MemorySink → ℕ
+sink_faults s = s.calls.faults
+
+-- the writes that are to fail, and how many were made
+abbrev pub sink_calls : MemorySink → Told
+sink_calls s = s.calls
+
+-- the most bytes that a write takes
+abbrev pub sink_most : MemorySink → ℕ
+sink_most s = s.most

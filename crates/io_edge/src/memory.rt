@@ -1,0 +1,212 @@
+// A source and a sink in memory. Each tells its bytes, and fails at the calls that it is told to.
+ghost use Rattle.std.specs.Prelude.{◌≡◌, ◌+◌, ◌<◌, ◌≤◌, ◌↔◌, ℕ, List, Some, [], drop, length, take, min, IsErr, IfOk, OnErr};
+ghost use Rattle.io_edge.specs.Edge.{Took, IsAtEnd, Wrote, Rose};
+
+use crate::told::Told;
+use crate::{Failed, Sink, Source};
+use std::alloc::Global;
+
+/// A source in memory, which tells its bytes. It gives at most so many bytes a read, and fails at
+/// the reads that it is told to.
+#[derive(Drop)]
+pub struct MemorySource {
+    bytes: Vec<u8>,
+    at: usize,
+    most: usize,
+    calls: Told,
+    ghost in_bytes: { at ≤ length bytes.items },
+    ghost moves_on: { 0 < most },
+}
+
+impl MemorySource {
+    ghost use Rattle.io_edge.specs.Memory.{source_left, source_whole, source_faults, source_most, source_calls};
+
+    /// A source of these bytes, which gives as many as there is room for. The reads with the
+    /// numbers in `failing`, counted from 1, fail.
+    pub fn new(bytes: Vec<u8>, failing: Vec<u64>) -> Self
+        ensures left { source_left result ≡ bytes.items }
+        ensures whole { source_whole result ≡ bytes.items }
+        ensures faults { source_faults result ≡ 0 }
+        ensures most { source_most result ≡ usize.MAX }
+        ensures failing { (source_calls result).failing ≡ failing }
+        ensures made { (source_calls result).made ≡ 0 }
+    {
+        MemorySource::in_pieces(bytes, usize::MAX, failing)
+    }
+
+    /// A source of these bytes, which gives at most `most` of them a read. The reads with the
+    /// numbers in `failing`, counted from 1, fail.
+    pub fn in_pieces(bytes: Vec<u8>, most: usize, failing: Vec<u64>) -> Self
+        requires { 0 < most }
+        ensures left { source_left result ≡ bytes.items }
+        ensures whole { source_whole result ≡ bytes.items }
+        ensures faults { source_faults result ≡ 0 }
+        ensures most { source_most result ≡ most }
+        ensures failing { (source_calls result).failing ≡ failing }
+        ensures made { (source_calls result).made ≡ 0 }
+    {
+        MemorySource {
+            bytes,
+            at: 0,
+            most,
+            calls: Told::new(failing),
+        }
+    }
+
+    /// The bytes that are left.
+    pub fn left(&self) -> &[u8]
+        ensures left { result.now ≡ source_left self.now }
+    {
+        &self.bytes[self.at..]
+    }
+
+    /// All the bytes that it ever had.
+    pub fn whole(&self) -> &[u8]
+        ensures whole { result.now ≡ source_whole self.now }
+    {
+        &self.bytes
+    }
+
+    /// How many reads have failed, up to the greatest `u64`.
+    pub fn faults(&self) -> u64
+        ensures faults { result ≡ source_faults self.now }
+    {
+        self.calls.faults
+    }
+}
+
+impl Source for MemorySource {
+    ghost use Rattle.io_edge.specs.Memory.{source_left, source_whole, source_faults, source_most, source_calls, read_count};
+    ghost use Rattle.io_edge.specs.Told.{one_more, IsToldToFail};
+
+    ghost left = { λ s. Some (source_left s) };
+
+    ghost whole = { λ s. Some (source_whole s) };
+
+    ghost faults = { λ s. source_faults s };
+
+    fn read(&mut self, into: &mut [u8]) -> Result<u64, Failed>
+        // The trait's clauses.
+        ensures bound { IfOk result (λ n. n ≤ length into.new) }
+        ensures took { IfOk result (λ n.
+            Took (Some (source_left self.old)) (Some (source_left self.new)) (take n into.new)) }
+        ensures end { IfOk result (λ n. n ≡ 0 → 0 < length into.new
+            → IsAtEnd (Some (source_left self.new))) }
+        ensures err { OnErr result (source_left self.new ≡ source_left self.old) }
+        ensures whole { source_whole self.new ≡ source_whole self.old }
+        ensures counted { source_faults self.old ≤ source_faults self.new }
+        ensures failed { OnErr result (Rose (source_faults self.old) (source_faults self.new)) }
+
+        // It fails exactly where it is told to, and gives as much as it may.
+        ensures told { IsErr result ↔ IsToldToFail (source_calls self.old) }
+        ensures count { IfOk result (λ n. n ≡ read_count self.old (length into.new)) }
+        ensures most { source_most self.new ≡ source_most self.old }
+        ensures failing { (source_calls self.new).failing ≡ (source_calls self.old).failing }
+        ensures made { (source_calls self.new).made ≡ one_more (source_calls self.old).made }
+    {
+        if self.calls.fails() {
+            self.calls.fault();
+            return Err(Failed);
+        }
+        let n = into.len().min(self.most).min(self.bytes.len() - self.at);
+        into[..n].copy_from_slice(&self.bytes[self.at..self.at + n]);
+        self.at += n;
+        Ok(n as u64)
+    }
+}
+
+/// A sink in memory, which tells what was written. It takes at most so many bytes a write, and
+/// fails at the writes that it is told to. Want of memory for the bytes is a failed write too.
+#[derive(Drop)]
+pub struct MemorySink {
+    bytes: Vec<u8>,
+    most: usize,
+    calls: Told,
+    ghost moves_on: { 0 < most },
+}
+
+impl MemorySink {
+    ghost use Rattle.io_edge.specs.Memory.{sink_bytes, sink_faults, sink_most, sink_calls};
+
+    /// An empty sink, which takes all that it is given. The writes with the numbers in `failing`,
+    /// counted from 1, fail.
+    pub fn new(alloc: Global, failing: Vec<u64>) -> Self
+        ensures empty { sink_bytes result ≡ [] }
+        ensures faults { sink_faults result ≡ 0 }
+        ensures most { sink_most result ≡ usize.MAX }
+        ensures failing { (sink_calls result).failing ≡ failing }
+        ensures made { (sink_calls result).made ≡ 0 }
+    {
+        MemorySink::in_pieces(alloc, usize::MAX, failing)
+    }
+
+    /// An empty sink, which takes at most `most` bytes a write. The writes with the numbers in
+    /// `failing`, counted from 1, fail.
+    pub fn in_pieces(alloc: Global, most: usize, failing: Vec<u64>) -> Self
+        requires { 0 < most }
+        ensures empty { sink_bytes result ≡ [] }
+        ensures faults { sink_faults result ≡ 0 }
+        ensures most { sink_most result ≡ most }
+        ensures failing { (sink_calls result).failing ≡ failing }
+        ensures made { (sink_calls result).made ≡ 0 }
+    {
+        MemorySink {
+            bytes: Vec::new(alloc),
+            most,
+            calls: Told::new(failing),
+        }
+    }
+
+    /// What was written.
+    pub fn bytes(&self) -> &[u8]
+        ensures bytes { result.now ≡ sink_bytes self.now }
+    {
+        &self.bytes
+    }
+
+    /// How many writes have failed, up to the greatest `u64`.
+    pub fn faults(&self) -> u64
+        ensures faults { result ≡ sink_faults self.now }
+    {
+        self.calls.faults
+    }
+}
+
+impl Sink for MemorySink {
+    ghost use Rattle.io_edge.specs.Memory.{sink_bytes, sink_faults, sink_most, sink_calls};
+    ghost use Rattle.io_edge.specs.Told.{one_more, IsToldToFail};
+
+    ghost written = { λ s. Some (sink_bytes s) };
+
+    ghost faults = { λ s. sink_faults s };
+
+    fn write(&mut self, bytes: &[u8]) -> Result<u64, Failed>
+        // The trait's clauses.
+        ensures bound { IfOk result (λ n. n ≤ length bytes.now) }
+        ensures wrote { IfOk result (λ n.
+            Wrote (Some (sink_bytes self.old)) (Some (sink_bytes self.new)) (take n bytes.now)) }
+        ensures none { IfOk result (λ n. n ≡ 0 → 0 < length bytes.now
+            → Rose (sink_faults self.old) (sink_faults self.new)) }
+        ensures err { OnErr result (sink_bytes self.new ≡ sink_bytes self.old) }
+        ensures counted { sink_faults self.old ≤ sink_faults self.new }
+        ensures failed { OnErr result (Rose (sink_faults self.old) (sink_faults self.new)) }
+
+        // It fails where it is told to, or memory runs out, and takes as much as it may.
+        ensures told { IsToldToFail (sink_calls self.old) → IsErr result }
+        ensures count { IfOk result (λ n. n ≡ min (length bytes.now) (sink_most self.old)) }
+        ensures most { sink_most self.new ≡ sink_most self.old }
+        ensures failing { (sink_calls self.new).failing ≡ (sink_calls self.old).failing }
+        ensures made { (sink_calls self.new).made ≡ one_more (sink_calls self.old).made }
+    {
+        if self.calls.fails() {
+            self.calls.fault();
+            return Err(Failed);
+        }
+        let n = bytes.len().min(self.most);
+        if self.bytes.extend_from_slice(&bytes[..n]).is_err() {
+            self.calls.fault();
+            return Err(Failed);
+        }
+        Ok(n as u64)
+    }
+}
