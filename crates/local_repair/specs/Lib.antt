@@ -1,0 +1,4 @@
+pub mod Current
+pub mod Histories
+pub mod Steps
+pub mod Tests
