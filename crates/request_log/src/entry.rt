@@ -1,0 +1,97 @@
+// Entries of a log, and their records.
+ghost use Rattle.std.specs.Prelude.{◌≡◌, IfOk};
+ghost use Rattle.request_log.specs.Entries.{is_alive, dead_trace};
+
+use lang_core::{Copied, Inputs, NoMemory, Origin, Request, Response, Seq, Text, Trace, Writes};
+use std::alloc::Global;
+
+/// Numbers, in order.
+pub type Numbers = Seq<u64>;
+
+/// An entry's record: its last trace, and the aliveness, version and request for which it was made.
+#[derive(Drop)]
+pub struct Made {
+    pub alive: bool,
+    pub version: u64,
+    pub request: Request,
+    pub trace: Trace,
+}
+
+/// A request in a log.
+#[derive(Drop)]
+pub struct Entry {
+    /// Its number in the service, from 1.
+    pub id: u64,
+    /// Where the request comes from.
+    pub origin: Origin,
+    /// How often its origin has changed it, from 1; 0 where it comes from outside.
+    pub version: u64,
+    /// The request as it stands now.
+    pub request: Request,
+    /// Whether its origin wants it.
+    pub wanted: bool,
+    /// Whether an order has struck it.
+    pub struck: bool,
+    /// What its runs draw from outside the rows.
+    pub inputs: Inputs,
+    /// Its record; None where it never ran.
+    pub made: Option<Made>,
+    /// The registers of its calls, one for each call of its trace, in order.
+    pub slots: Numbers,
+    /// How many answers it has given, each counted where it differs from the one before; 0 before the first.
+    pub answer_version: u64,
+    /// How often it ran.
+    pub runs: u64,
+}
+
+impl Copied for Made {
+    fn copied(&self, alloc: Global) -> Result<Made, NoMemory> {
+        Ok(Made {
+            alive: self.alive,
+            version: self.version,
+            request: self.request.copied(alloc)?,
+            trace: self.trace.copied(alloc)?,
+        })
+    }
+}
+
+impl Copied for Entry {
+    fn copied(&self, alloc: Global) -> Result<Entry, NoMemory> {
+        Ok(Entry {
+            id: self.id,
+            origin: self.origin.copied(alloc)?,
+            version: self.version,
+            request: self.request.copied(alloc)?,
+            wanted: self.wanted,
+            struck: self.struck,
+            inputs: self.inputs,
+            made: Copied::copied(&self.made, alloc)?,
+            slots: self.slots.copied(alloc)?,
+            answer_version: self.answer_version,
+            runs: self.runs,
+        })
+    }
+}
+
+impl Entry {
+    /// Whether it is to have an effect: its origin wants it, and no order has struck it.
+    pub fn is_alive(&self) -> bool
+        ensures { result ≡ is_alive self.now }
+    {
+        self.wanted && !self.struck
+    }
+}
+
+/// The trace of an entry that isn't alive: it reads, calls and writes nothing, and answers 410 with an empty body.
+pub fn dead_trace(alloc: Global) -> Result<Trace, NoMemory>
+    ensures { IfOk result (λ trace. trace ≡ dead_trace) }
+{
+    let body = Text::of(alloc, "")?;
+    Ok(Trace {
+        reads: Seq::new(alloc),
+        calls: Seq::new(alloc),
+        answers: Seq::new(alloc),
+        writes: Writes::new(alloc),
+        response: Response { status: 410, body },
+    })
+}

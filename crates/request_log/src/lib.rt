@@ -1,0 +1,6 @@
+//! The log of a service: its entries, one for each request, in the order in which they count as run.
+#![tactic(auto)]
+
+mod entry;
+
+pub use entry::{Entry, Made, Numbers, dead_trace};
