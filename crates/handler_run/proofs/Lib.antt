@@ -1,0 +1,6 @@
+pub mod BlockLaws
+pub mod RunLists
+pub mod TwoBlocks
+pub mod TwoCalls
+pub mod TwoRuns
+pub mod TwoStmts
