@@ -1,4 +1,5 @@
 pub mod BlockLaws
+pub mod RunLaws
 pub mod RunLists
 pub mod TwoBlocks
 pub mod TwoCalls
