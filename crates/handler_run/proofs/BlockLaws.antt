@@ -1,5 +1,5 @@
 -- What the run of a block does with its rows and its answers.
-use Rattle.std.proofs.Common.{◌≡◌, ◌≤◌, ◌<◌, ℕ, suc, ◌+◌, List, [], ◌∷◌, ◌++◌, length, take, drop, Option, Some, None, refl, sym, ap, ◌∙◌, subst, arith, append-nil, length-append}
+use Rattle.std.proofs.Common.{◌≡◌, ◌≤◌, ◌<◌, List, [], ◌∷◌, ◌++◌, length, drop, refl, sym, ap, ◌∙◌, subst, arith, append-nil, length-append}
 use Rattle.std.specs.Prelude.{slice_get}
 use Rattle.std.proofs.lemmas.List.{length-take-le, take-append-drop, take_all}
 use Rattle.std.proofs.lemmas.List.Elements.{All-nil}
@@ -7,9 +7,8 @@ use Rattle.lang_tree.specs.declared.stmt.Block.{Block}
 use Rattle.lang_core.specs.declared.cells.Cell.{Cell}
 use Rattle.lang_core.specs.declared.request.Response.{Response}
 use Rattle.lang_core.specs.declared.trace.CallMade.{CallMade}
-use Rattle.lang_core.specs.declared.trace.Trace.{Trace}
 use Rattle.handler_run.specs.Reads.{Gives, GivesAll}
-use Rattle.handler_run.specs.Runs.{Ended, ended, block_of}
+use Rattle.handler_run.specs.Runs.{Ended, block_of}
 use Rattle.handler_run.specs.Handlers.{finish, finish_of, start, run_block}
 use Rattle.handler_run.specs.Laws.{IfDone, IfWants, IsDone, calls_of}
 use Rattle.handler_run.specs.declared.state.Flow.{Flow}
@@ -18,7 +17,7 @@ use Rattle.handler_run.specs.declared.state.Given.{Given}
 use Rattle.handler_run.specs.declared.state.Ran.TheVariants.{Done}
 use Rattle.handler_run.specs.declared.state.State.{State}
 use Rattle.handler_run.proofs.RunLists.{get_behind, no_rest}
-use Rattle.handler_run.proofs.TwoRuns.{Notes, notes_of, with_answers, Extends, Holds, Serves, LacksOne, Ends, Meets, Follows}
+use Rattle.handler_run.proofs.TwoRuns.{Notes, notes_of, with_answers, Extends, Holds, Serves, Ends, Meets, Follows}
 use Rattle.handler_run.proofs.TwoBlocks.{both}
 
 -- what holds of the notes at the end holds of the trace

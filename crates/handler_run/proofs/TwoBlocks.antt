@@ -1,14 +1,13 @@
 -- Two runs of a statement and of a block, by induction on the tree.
-use Rattle.std.proofs.Common.{◌≡◌, List, [], ◌∷◌, map, Option, Some, None, sym, subst}
+use Rattle.std.proofs.Common.{List, [], ◌∷◌, map, Some, None, sym, subst}
 use Rattle.lang_tree.specs.declared.stmt.Stmt.{Stmt, map-Stmt, roll-Stmt}
 use Rattle.lang_tree.specs.declared.stmt.Stmt.TheOpen.{Stmt-F, Block-F}
 use Rattle.lang_tree.specs.declared.stmt.Stmt.TheFolds.{ind-Block, fold-roll-Stmt, fold-roll-Block}
 use Rattle.lang_tree.specs.declared.stmt.Block.{Block, roll-Block}
 use Rattle.lang_core.specs.declared.cells.Cell.{Cell}
 use Rattle.lang_core.specs.declared.request.Response.{Response}
-use Rattle.handler_run.specs.Runs.{Effect, maybe, act, in_turn, block_step, stmt_of, block_of}
+use Rattle.handler_run.specs.Runs.{Effect, act, in_turn, block_step, stmt_of, block_of}
 use Rattle.handler_run.specs.declared.state.Given.{Given}
-use Rattle.handler_run.specs.declared.state.State.{State}
 use Rattle.handler_run.proofs.TwoRuns.{notes_of, with_answers, Same, stays, follow, steps}
 use Rattle.handler_run.proofs.TwoCalls.{calls}
 use Rattle.handler_run.proofs.TwoStmts.{lets, gets, puts, drops, eaches, ifs, nows, randoms, replied}

@@ -1,5 +1,5 @@
 -- Two runs of a call.
-use Rattle.std.proofs.Common.{◌≡◌, ◌≤◌, ◌<◌, ℕ, pos, suc, ◌+◌, Bool, true, false, cond, List, [], ◌∷◌, ◌++◌, length, take, Option, Some, None, nat_lt, refl, sym, ap, ◌∙◌, subst, arith, append_assoc, length-append}
+use Rattle.std.proofs.Common.{◌≡◌, ◌<◌, ℕ, suc, Bool, true, false, List, [], ◌∷◌, ◌++◌, length, take, Option, Some, None, nat_lt, refl, sym, ap, ◌∙◌, subst, arith, append_assoc, length-append}
 use Rattle.std.specs.Prelude.{slice_get}
 use Rattle.std.specs.List.{find}
 use Rattle.std.proofs.lemmas.List.{length-take-le}
@@ -13,11 +13,11 @@ use Rattle.lang_core.specs.declared.request.Response.{Response}
 use Rattle.lang_core.specs.declared.trace.CallMade.{CallMade}
 use Rattle.lang_core.specs.declared.value.Value.{Value}
 use Rattle.handler_run.specs.Values.{value_of}
-use Rattle.handler_run.specs.Runs.{Ended, ended, Effect, note_call, answered, take_answer, send, send_to, call_request, is_loop, call_to, call_path_fits, call_at, call_of, within}
+use Rattle.handler_run.specs.Runs.{note_call, answered, take_answer, send_to, call_request, is_loop, call_to, call_path_fits, call_at, call_of, within}
 use Rattle.handler_run.specs.declared.state.Given.{Given}
 use Rattle.handler_run.specs.declared.state.State.{State}
 use Rattle.handler_run.proofs.RunLists.{take_next, get_behind, get_none}
-use Rattle.handler_run.proofs.TwoRuns.{notes_of, with_answers, Extends, extends_none, Holds, Serves, LacksOne, Follows, Same, stays, fails, chosen, inside, values, texts, shorts}
+use Rattle.handler_run.proofs.TwoRuns.{notes_of, with_answers, Extends, extends_none, Holds, Follows, Same, stays, fails, chosen, inside, values, texts, shorts}
 
 -- where one of two runs has an answer for the call
 answer_grows : (o : Option Response) (x y : List ℕ) (c : CallMade) (s : State) → Extends s.calls (take_answer o x y c s).state.calls

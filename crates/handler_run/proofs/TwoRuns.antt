@@ -1,9 +1,7 @@
 -- A run, and a second run that is given other answers and other rows: what the first keeps, and where the second does the same.
-use Rattle.std.proofs.Common.{◌≡◌, ◌≤◌, ◌<◌, ℕ, zero, suc, ◌+◌, Bool, true, false, cond, List, [], ◌∷◌, ◌++◌, length, take, Option, Some, None, Result, Ok, Err, nat_lt, refl, sym, ap, ◌∙◌, subst, arith, append_assoc, add-one, length-append, append-nil}
-use Rattle.std.specs.List.{All}
+use Rattle.std.proofs.Common.{◌≡◌, ◌≤◌, ◌<◌, ℕ, ◌+◌, Bool, true, false, cond, List, [], ◌∷◌, ◌++◌, length, take, Some, None, Ok, Err, nat_lt, refl, sym, ap, ◌∙◌, subst, append_assoc, append-nil}
 use Rattle.std.specs.Prelude.{slice_get}
 use Rattle.std.proofs.lemmas.List.Elements.{All-push}
-use Rattle.std.proofs.lemmas.Option.{slice_get_within, slice_get-get_or}
 use Rattle.lang_core.specs.declared.cells.Cell.{Cell}
 use Rattle.lang_core.specs.declared.request.Response.{Response}
 use Rattle.lang_core.specs.declared.trace.CallMade.{CallMade}
@@ -12,13 +10,13 @@ use Rattle.lang_core.specs.declared.value.Value.{Value}
 use Rattle.lang_core.specs.declared.value.Value.TheVariants.{Int, Str, Nothing}
 use Rattle.handler_run.specs.Reads.{Gives, GivesAll}
 use Rattle.handler_run.specs.Values.{Outcome}
-use Rattle.handler_run.specs.Runs.{Ended, ended, Effect, goes_on, faulted, go_on, then_do, begun, begin, step, with_value, with_text, within, key_fits, text_fits, with_key, with_short, note_read, reads_fit, noted, turns, set_var, note_call, answered, take_answer, in_turn}
+use Rattle.handler_run.specs.Runs.{Ended, ended, Effect, goes_on, faulted, go_on, then_do, begin, step, with_value, with_text, within, key_fits, text_fits, with_key, with_short, note_read, reads_fit, noted}
 use Rattle.handler_run.specs.declared.state.Fault.{Fault}
 use Rattle.handler_run.specs.declared.state.Flow.{Flow}
 use Rattle.handler_run.specs.declared.state.Flow.TheVariants.{GoesOn, Replied, Wants, Faulted}
 use Rattle.handler_run.specs.declared.state.Given.{Given}
 use Rattle.handler_run.specs.declared.state.State.{State}
-use Rattle.handler_run.proofs.RunLists.{all_last, take_next, get_behind}
+use Rattle.handler_run.proofs.RunLists.{all_last}
 
 -- what a state has for the trace, beside its writes
 pub record Notes : Type 0 where

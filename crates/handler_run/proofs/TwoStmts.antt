@@ -1,31 +1,19 @@
 -- Two runs of each kind of statement, and of a block.
-use Rattle.std.proofs.Common.{◌≡◌, ◌≤◌, ◌<◌, ℕ, ℤ, pos, negsuc, zero, suc, ◌+◌, ◌/◌, Bool, true, false, cond, List, [], ◌∷◌, ◌++◌, length, take, map, Option, Some, None, nat_lt, nat_le, nat_eq, refl, sym, ap, ◌∙◌, subst, arith, append_assoc, add-one, length-append}
+use Rattle.std.proofs.Common.{ℕ, pos, negsuc, ◌+◌, ◌/◌, List, [], ◌∷◌, length, Option, Some, None, nat_le, nat_eq, refl}
 use Rattle.std.specs.Prelude.{slice_get}
-use Rattle.std.specs.List.{find}
-use Rattle.std.proofs.lemmas.Option.{slice_get_within, slice_get-get_or}
-use Rattle.lang_base.specs.Texts.{same_text}
-use Rattle.lang_tree.specs.declared.method.Method.{Method}
 use Rattle.lang_tree.specs.declared.expr.Expr.{Expr}
-use Rattle.lang_tree.specs.declared.stmt.Stmt.{Stmt, map-Stmt, roll-Stmt}
-use Rattle.lang_tree.specs.declared.stmt.Stmt.TheOpen.{Stmt-F, Block-F}
-use Rattle.lang_tree.specs.declared.stmt.Stmt.TheFolds.{ind-Block, fold-roll-Stmt, fold-roll-Block}
-use Rattle.lang_tree.specs.declared.stmt.Block.{Block, roll-Block}
 use Rattle.lang_core.specs.Rows.{get, scan}
 use Rattle.lang_core.specs.declared.cells.Cell.{Cell}
 use Rattle.lang_core.specs.declared.request.Response.{Response}
-use Rattle.lang_core.specs.declared.trace.CallMade.{CallMade}
-use Rattle.lang_core.specs.declared.trace.Read.{Read}
 use Rattle.lang_core.specs.declared.trace.Read.TheVariants.{Key, Scan}
 use Rattle.lang_core.specs.declared.value.Value.{Value}
 use Rattle.lang_core.specs.declared.value.Value.TheVariants.{Int, Str, Nothing}
-use Rattle.handler_run.specs.Values.{Outcome, value_of, text_or_nothing}
+use Rattle.handler_run.specs.Values.{value_of, text_or_nothing}
 use Rattle.handler_run.specs.Runs
 use Rattle.handler_run.specs.Runs.{Ended, ended, Effect, goes_on, faulted, then_do, step, set_var, noted, turns, scan_fits, laid_over, with_cells, act, in_turn, block_step, stmt_of, block_of}
-use Rattle.handler_run.specs.declared.state.Flow.TheVariants.{GoesOn, Replied, Wants, Faulted}
 use Rattle.handler_run.specs.declared.state.Given.{Given}
 use Rattle.handler_run.specs.declared.state.State.{State}
-use Rattle.handler_run.proofs.RunLists.{take_next, get_behind}
-use Rattle.handler_run.proofs.TwoRuns.{Notes, notes_of, with_answers, Extends, extends_none, Holds, Serves, LacksOne, Ends, Meets, Follows, Same, stays, fails, replies, chosen, inside, values, texts, keys, shorts, follow, steps, reads_same}
+use Rattle.handler_run.proofs.TwoRuns.{notes_of, with_answers, Follows, Same, stays, fails, replies, chosen, inside, values, texts, keys, shorts, follow, steps, reads_same}
 
 module _ {g : Given} {bs : List Response} {R Q : List Cell} where
   pub lets : (x : List ℕ) (e : Expr) → Same g bs R Q (Runs.let_of g x e) (Runs.let_of (with_answers g bs) x e)
