@@ -23,12 +23,12 @@ use Rattle.local_repair.specs.Tests.{first_stale, step_with}
 use Rattle.service_core.specs.declared.answers.Arrived.{Arrived}
 use Rattle.service_core.specs.declared.answers.Arrived.TheVariants.{Done as Committed}
 use Rattle.service_core.specs.declared.answers.ArriveRefused.{ArriveRefused}
-use Rattle.service_core.specs.declared.answers.ArriveRefused.TheVariants.{Full}
+use Rattle.service_core.specs.declared.answers.ArriveRefused.TheVariants.{Full, NoMemory}
 use Rattle.service_core.specs.declared.answers.Command.{Command}
 use Rattle.service_core.specs.declared.answers.Command.TheVariants.{Cancel}
 use Rattle.service_core.specs.declared.answers.Ordered.{Ordered}
 use Rattle.service_core.specs.declared.answers.OrderRefused.{OrderRefused}
-use Rattle.service_core.specs.declared.answers.OrderRefused.TheVariants.{NoSuchRequest}
+use Rattle.service_core.specs.declared.answers.OrderRefused.TheVariants.{NoSuchRequest, NoMemory as MemoryLacks}
 
 -- what a service keeps
 pub record Kept : Type 0 where
@@ -150,3 +150,15 @@ pub record Fits (setting : Setting) (entries : List Entry) : Type 0 where
 -- a service as a history
 abbrev pub history : Kept → History
 history s = history_of s.setting unanswered s.entries
+
+-- ---- what a call may answer, and what it leaves: that of the event, or nothing changed for want of memory
+
+abbrev pub IsArrival : Kept → Request → Inputs → Result Arrived ArriveRefused → Kept → Type 0
+IsArrival s request inputs (Err NoMemory) s' = s' ≡ s
+IsArrival s request inputs (Err (Full n)) s' = (Err (Full n) ≡ arrival_answer s) × (s' ≡ after_arrival s request inputs)
+IsArrival s request inputs (Ok a) s' = (Ok a ≡ arrival_answer s) × (s' ≡ after_arrival s request inputs)
+
+abbrev pub IsOrder : Kept → Command → Result Ordered OrderRefused → Kept → Type 0
+IsOrder s command (Err MemoryLacks) s' = s' ≡ s
+IsOrder s command (Err (NoSuchRequest id)) s' = (Err (NoSuchRequest id) ≡ order_answer s command) × (s' ≡ after_order s command)
+IsOrder s command (Ok o) s' = (Ok o ≡ order_answer s command) × (s' ≡ after_order s command)
