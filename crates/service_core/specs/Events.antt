@@ -1,6 +1,5 @@
 -- What a service keeps, and what each event makes of it.
-use Rattle.std.specs.Prelude.{ℕ, ◌+◌, ◌≡◌, ◌≤◌, Bool, true, false, List, [], ◌∷◌, ◌++◌, Option, Some, None, Result, Ok, Err, if◌then◌else◌, map, length, nat_le, find, All, option_map}
-use Rattle.std.specs.List.{list_any}
+use Rattle.std.specs.Prelude.{ℕ, ◌+◌, ◌≡◌, ◌≤◌, Bool, true, false, List, [], ◌∷◌, ◌++◌, Option, Some, None, Result, Ok, Err, if◌then◌else◌, map, length, nat_le, find, is_some, All, option_map}
 use Rattle.lang_core.specs.Traces.{dead_trace}
 use Rattle.lang_core.specs.declared.cells.Cell.{Cell}
 use Rattle.lang_core.specs.declared.ids.Origin.TheVariants.{Outside}
@@ -94,7 +93,7 @@ abbrev pub struck : ℕ → List Entry → List Entry
 struck id entries = map (λ (e : Entry). if has_id id e then record e { struck = true } else e) entries
 
 abbrev pub has_entry : ℕ → Kept → Bool
-has_entry id s = list_any (has_id id) s.entries
+has_entry id s = is_some (find (has_id id) s.entries)
 
 abbrev pub after_order : Kept → Command → Kept
 after_order s (Cancel id) = record s { entries = struck id s.entries }
