@@ -3,10 +3,12 @@ use Rattle.std.proofs.Common.{◌≡◌, ◌≤◌, ◌<◌, List, Some, [], ◌
 use Rattle.std.specs.Prelude.{slice_get}
 use Rattle.std.proofs.lemmas.List.{length-take-le, take-append-drop, take_all}
 use Rattle.std.proofs.lemmas.List.Elements.{All-nil}
+use Rattle.std.proofs.lemmas.Option.{slice_get_past}
 use Rattle.lang_tree.specs.declared.stmt.Block.{Block}
 use Rattle.lang_core.specs.declared.cells.Cell.{Cell}
 use Rattle.lang_core.specs.declared.request.Response.{Response}
 use Rattle.lang_core.specs.declared.trace.CallMade.{CallMade}
+use Rattle.lang_core.specs.declared.trace.Read.{Read}
 use Rattle.handler_run.specs.Reads.{Gives, GivesAll}
 use Rattle.handler_run.specs.Runs.{Ended, block_of}
 use Rattle.handler_run.specs.Handlers.{finish, finish_of, start, run_block}
@@ -107,6 +109,34 @@ block_same g R b =
     let bs = e.state.answers ++ later in
     ((runs g bs R Q b).meets (start_holds g bs R Q) (record { reads = gives; rest = later; answers = refl })).1)
 
+-- with the same answers the second ends as the first
+same_end : (f : Flow) (s : State) (g : Given) (R Q : List Cell) (e' : Ended) → Ends g g.answers R Q f (notes_of s) → Meets g g.answers R Q f s e' → finish_of e' ≡ finish f s
+same_end GoesOn s g R Q e' n m = ap finish_of m
+same_end (Replied r) s g R Q e' n m = ap finish_of m
+same_end (Wants c) s g R Q e' n m = let all = n.all in ap finish_of (m.stops (slice_get_past g.answers (length s.calls) (omega arith)))
+same_end (Faulted f) s g R Q e' n m = ap finish_of m
+
+-- of a run on some rows, whether it ends or wants an answer: it reads something, and on any rows that give that it comes to the same
+abbrev pub Agrees : (List Cell → Ran) → List Cell → Type 0
+Agrees run rows = (found : List Read) × GivesAll rows found × ((others : List Cell) → GivesAll others found → run others ≡ run rows)
+
+-- a run is the same on all rows that give what it read
+pub block_agrees : (g : Given) (R : List Cell) (b : Block) → Agrees (λ rows. run_block b g rows) R
+block_agrees g R b =
+    let e = block_of g R b start in
+    let h = end_holds g [] R R b in
+    let n = length e.state.calls in (
+      e.state.reads,
+      h.reads,
+      λ Q gives.
+          let serves : Serves g g.answers R Q (notes_of e.state) = record {
+            reads = gives;
+            rest = drop n g.answers;
+            answers = sym (take-append-drop n g.answers) ∙ ap (λ l. l ++ drop n g.answers) (sym h.answers);
+          } in
+          same_end e.flow e.state g R Q (block_of g Q b start) (end_is g g.answers R Q b) ((runs g g.answers R Q b).meets (start_holds g g.answers R Q) serves).1,
+    )
+
 -- the first run has no calls
 pub block_starts : (g : Given) (R : List Cell) (b : Block) → g.answers ≡ [] → calls_of (run_block b g R) ≡ []
 block_starts g R b none =
@@ -137,7 +167,7 @@ wants_past (Wants c) s g R e' h n covered meets = (
       let answers : s.answers ≡ g.answers = h.answers ∙ take_all (length s.calls) g.answers (omega arith) in
       let serves : Serves g (g.answers ++ x ∷ []) R R (notes_of s) = record { reads = h.reads; rest = x ∷ []; answers = ap (λ l. l ++ x ∷ []) (sym answers) } in
       let next : slice_get (g.answers ++ x ∷ []) (length s.calls) ≡ Some x = rw all (get_behind g.answers x []) in
-      let past = meets x serves x next in
+      let past = (meets x serves).past x next in
       let none : past.rest ≡ [] = no_rest (s.calls ++ c ∷ []) past.rest (one_more s.calls c g.answers x past all (covered x)) in
       calls_finish (e' x).flow (e' x).state ∙ past.is ∙ ap (λ l. (s.calls ++ c ∷ []) ++ l) none ∙ append-nil (s.calls ++ c ∷ []),
 )

@@ -9,6 +9,7 @@ use Rattle.lang_core.specs.declared.request.Request.{Request}
 use Rattle.lang_core.specs.declared.request.Response.{Response}
 use Rattle.lang_core.specs.declared.setting.Setting.{Setting}
 use Rattle.lang_core.specs.declared.trace.CallMade.{CallMade}
+use Rattle.lang_core.specs.declared.trace.Read.{Read}
 use Rattle.lang_core.specs.declared.trace.Trace.{Trace}
 use Rattle.handler_run.specs.Reads.{Gives, GivesAll}
 use Rattle.handler_run.specs.Paths.{route_of, segments_of}
@@ -18,7 +19,7 @@ use Rattle.handler_run.specs.declared.state.Given.{Given}
 use Rattle.handler_run.specs.declared.state.Ran.{Ran}
 use Rattle.handler_run.specs.declared.state.Ran.TheVariants.{Done, Wants}
 use Rattle.handler_run.proofs.TwoRuns.{with_answers}
-use Rattle.handler_run.proofs.BlockLaws.{OneMore, block_reads, block_same, block_counts, block_takes, block_starts, block_goes_on, block_few, block_alone}
+use Rattle.handler_run.proofs.BlockLaws.{OneMore, Agrees, block_agrees, block_reads, block_same, block_counts, block_takes, block_starts, block_goes_on, block_few, block_alone}
 
 -- the trace of a run that ended
 trace_of : (x : Ran) → IsDone x → (t : Trace) × (x ≡ Done t)
@@ -39,6 +40,10 @@ module _ (g : Given) (rows : List Cell) where
   route_same : (o : Option Route) → IfDone (run_route o g rows) (λ t. (others : List Cell) → GivesAll others t.reads → (later : List Response) → run_route o (with_answers g (t.answers ++ later)) others ≡ Done t)
   route_same None = λ others gives later. refl
   route_same (Some r) = block_same g rows r.block
+
+  route_agrees : (o : Option Route) → Agrees (λ r. run_route o g r) rows
+  route_agrees None = ([], All-nil (Gives rows), λ others gives. refl)
+  route_agrees (Some r) = block_agrees g rows r.block
 
   route_counts : (o : Option Route) → IfDone (run_route o g rows) (λ t. length t.answers ≡ length t.calls)
   route_counts None = refl
@@ -104,6 +109,10 @@ module _ (s : Setting) (q : Request) (i : Inputs) (answers : List Response) (row
   -- a run depends only on the answers that it took and on what it recorded
   pub same : IfDone (run_of s q i answers rows) (λ t. (others : List Cell) → GivesAll others t.reads → (later : List Response) → run_of s q i (t.answers ++ later) others ≡ Done t)
   same = route_same (given s q i answers) rows taken
+
+  -- a run, also one that wants an answer, is the same on all rows that give what it read
+  pub agrees : (found : List Read) × GivesAll rows found × ((others : List Cell) → GivesAll others found → run_of s q i answers others ≡ run_of s q i answers rows)
+  agrees = route_agrees (given s q i answers) rows taken
 
   -- a run took as many answers as it made calls
   pub counts : IfDone (run_of s q i answers rows) (λ t. length t.answers ≡ length t.calls)

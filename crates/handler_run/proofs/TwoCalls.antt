@@ -17,7 +17,7 @@ use Rattle.handler_run.specs.Runs.{note_call, answered, take_answer, send_to, ca
 use Rattle.handler_run.specs.declared.state.Given.{Given}
 use Rattle.handler_run.specs.declared.state.State.{State}
 use Rattle.handler_run.proofs.RunLists.{take_next, get_behind, get_none}
-use Rattle.handler_run.proofs.TwoRuns.{notes_of, with_answers, Extends, extends_none, Holds, Follows, Same, stays, fails, chosen, inside, values, texts, shorts}
+use Rattle.handler_run.proofs.TwoRuns.{notes_of, with_answers, Extends, extends_none, Holds, MeetsCall, Follows, Same, stays, fails, chosen, inside, values, texts, shorts}
 
 -- a call with its answer is noted, or none
 answer_grows : (o : Option Response) (x y : List ℕ) (c : CallMade) (s : State) → Extends s.calls (take_answer o x y c s).state.calls
@@ -57,7 +57,12 @@ module _ {g : Given} {bs : List Response} {R Q : List Cell} where
     keeps = λ h. h;
     ends = λ h. record { all = all_taken s e h; few = few; peers = peers };
     grows = answer_grows (slice_get bs (length s.calls)) x y c s;
-    meets = λ h v. (v, λ r is. answer_past (slice_get bs (length s.calls)) r x y c s is);
+    meets = λ h v.
+        let meets : MeetsCall g bs R Q c s (take_answer (slice_get bs (length s.calls)) x y c s) = record {
+          past = λ r is. answer_past (slice_get bs (length s.calls)) r x y c s is;
+          stops = λ none. ap (λ o. take_answer o x y c s) none;
+        } in
+        (v, meets);
   }
   takes (Some r) x y c s few peers e = record {
     keeps = note_holds c r s e;

@@ -79,11 +79,16 @@ module _ (g : Given) (bs : List Response) (R Q : List Cell) where
   Ends (Wants c) n = LacksOne n
   Ends (Faulted f) n = Unit {0}
 
-  -- how the second ends where the first ends so: as it does, or, with the answer that it wants, past the call
+  -- of a second run where the first wants the answer of a call: past the call with an answer, and without one it ends so too
+  pub record MeetsCall (c : CallMade) (s : State) (e : Ended) : Type 0 where
+    pub past : (x : Response) → slice_get bs (length s.calls) ≡ Some x → Extends (s.calls ++ c ∷ []) e.state.calls
+    pub stops : slice_get bs (length s.calls) ≡ None → e ≡ ended (Wants c) s
+
+  -- how the second ends where the first ends so
   abbrev pub Meets : Flow → State → Ended → Type 0
   Meets GoesOn s e = e ≡ ended GoesOn s
   Meets (Replied r) s e = e ≡ ended (Replied r) s
-  Meets (Wants c) s e = (x : Response) → slice_get bs (length s.calls) ≡ Some x → Extends (s.calls ++ c ∷ []) e.state.calls
+  Meets (Wants c) s e = MeetsCall c s e
   Meets (Faulted f) s e = e ≡ ended (Faulted f) s
 
   -- from these notes the first run ends so, and the second so: what held of the first still holds, the second's calls only
@@ -164,7 +169,13 @@ module _ {g : Given} {bs : List Response} {R Q : List Cell} where
     keeps = p.keeps;
     ends = p.ends;
     grows = then_grows m.calls e' n n' p.grows q;
-    meets = λ h v. let first = p.meets h v in (first.0, λ x is. then_grows (u.calls ++ c ∷ []) e' n n' (first.1 x is) q);
+    meets = λ h v.
+        let first = p.meets h v in
+        let meets : MeetsCall g bs R Q c u (then_do e' n') = record {
+          past = λ x is. then_grows (u.calls ++ c ∷ []) e' n n' (first.1.past x is) q;
+          stops = λ none. ap (λ x. then_do x n') (first.1.stops none);
+        } in
+        (first.0, meets);
   }
   on_follows (Faulted f) m u e' n n' p q = record {
     keeps = p.keeps;
