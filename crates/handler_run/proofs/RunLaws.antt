@@ -9,6 +9,7 @@ use Rattle.lang_core.specs.declared.request.Request.{Request}
 use Rattle.lang_core.specs.declared.request.Response.{Response}
 use Rattle.lang_core.specs.declared.setting.Setting.{Setting}
 use Rattle.lang_core.specs.declared.trace.CallMade.{CallMade}
+use Rattle.lang_core.specs.declared.trace.Read.{Read}
 use Rattle.lang_core.specs.declared.trace.Trace.{Trace}
 use Rattle.handler_run.specs.Reads.{Gives, GivesAll}
 use Rattle.handler_run.specs.Paths.{route_of, segments_of}
@@ -18,7 +19,7 @@ use Rattle.handler_run.specs.declared.state.Given.{Given}
 use Rattle.handler_run.specs.declared.state.Ran.{Ran}
 use Rattle.handler_run.specs.declared.state.Ran.TheVariants.{Done, Wants}
 use Rattle.handler_run.proofs.TwoRuns.{with_answers}
-use Rattle.handler_run.proofs.BlockLaws.{block_reads, block_same, block_counts, block_takes, block_starts, block_goes_on, block_few, block_alone}
+use Rattle.handler_run.proofs.BlockLaws.{OneMore, Agrees, block_agrees, block_reads, block_same, block_counts, block_takes, block_starts, block_goes_on, block_few, block_alone}
 
 -- the trace of a run that ended
 trace_of : (x : Ran) → IsDone x → (t : Trace) × (x ≡ Done t)
@@ -40,6 +41,10 @@ module _ (g : Given) (rows : List Cell) where
   route_same None = λ others gives later. refl
   route_same (Some r) = block_same g rows r.block
 
+  route_agrees : (o : Option Route) → Agrees (λ r. run_route o g r) rows
+  route_agrees None = ([], All-nil (Gives rows), λ others gives. refl)
+  route_agrees (Some r) = block_agrees g rows r.block
+
   route_counts : (o : Option Route) → IfDone (run_route o g rows) (λ t. length t.answers ≡ length t.calls)
   route_counts None = refl
   route_counts (Some r) = block_counts g rows r.block
@@ -52,9 +57,7 @@ module _ (g : Given) (rows : List Cell) where
   route_starts None none = refl
   route_starts (Some r) none = block_starts g rows r.block none
 
-  route_goes_on : (o : Option Route) → IfWants (run_route o g rows) (λ slot calls call.
-      (slot ≡ length g.answers) × (length calls ≡ length g.answers)
-      × ((x : Response) → calls_of (run_route o (with_answers g (g.answers ++ x ∷ [])) rows) ≡ calls ++ call ∷ []))
+  route_goes_on : (o : Option Route) → OneMore g.answers (λ x. run_route o (with_answers g (g.answers ++ x ∷ [])) rows) (run_route o g rows)
   route_goes_on None = tt
   route_goes_on (Some r) = block_goes_on g rows r.block
 
@@ -67,9 +70,37 @@ module _ (g : Given) (rows : List Cell) where
   route_alone (Some r) none = block_alone g rows r.block none
 
 module _ (s : Setting) (q : Request) (i : Inputs) (answers : List Response) (rows : List Cell) where
+  -- the run
+  abbrev run : Ran
+  run = run_of s q i answers rows
+
   -- the route that takes the request
   abbrev taken : Option Route
   taken = route_of s.program q.method (segments_of q.path)
+
+  -- the rows give what it recorded
+  abbrev ReadsLaw : Ran → Type 0
+  ReadsLaw r = IfDone r (λ t. GivesAll rows t.reads)
+
+  -- it comes to the same from the answers that it took, whatever stands behind them, on rows that give what it recorded
+  abbrev SameLaw : Ran → Type 0
+  SameLaw r = IfDone r (λ t. (others : List Cell) → GivesAll others t.reads → (later : List Response) → run_of s q i (t.answers ++ later) others ≡ Done t)
+
+  -- it took as many answers as it made calls
+  abbrev CountsLaw : Ran → Type 0
+  CountsLaw r = IfDone r (λ t. length t.answers ≡ length t.calls)
+
+  -- the answers that it took are the first of those that it was given
+  abbrev TakesLaw : Ran → Type 0
+  TakesLaw r = IfDone r (λ t. (rest : List Response) × (answers ≡ t.answers ++ rest))
+
+  -- where it wants an answer it took all that it was given, and with one answer more it has one call more
+  abbrev GoesOnLaw : Ran → Type 0
+  GoesOnLaw r = OneMore answers (λ x. run_of s q i (answers ++ x ∷ []) rows) r
+
+  -- it wants at most 16 answers: the slots are 0 to 15
+  abbrev FewLaw : Ran → Type 0
+  FewLaw r = IfWants r (λ slot calls call. slot < 16)
 
   -- what a run recorded is what its rows give
   pub reads : IfDone (run_of s q i answers rows) (λ t. GivesAll rows t.reads)
@@ -79,20 +110,24 @@ module _ (s : Setting) (q : Request) (i : Inputs) (answers : List Response) (row
   pub same : IfDone (run_of s q i answers rows) (λ t. (others : List Cell) → GivesAll others t.reads → (later : List Response) → run_of s q i (t.answers ++ later) others ≡ Done t)
   same = route_same (given s q i answers) rows taken
 
-  -- it took as many answers as it made calls
+  -- a run, also one that wants an answer, is the same on all rows that give what it read
+  pub agrees : (found : List Read) × GivesAll rows found × ((others : List Cell) → GivesAll others found → run_of s q i answers others ≡ run_of s q i answers rows)
+  agrees = route_agrees (given s q i answers) rows taken
+
+  -- a run took as many answers as it made calls
   pub counts : IfDone (run_of s q i answers rows) (λ t. length t.answers ≡ length t.calls)
   counts = route_counts (given s q i answers) rows taken
 
-  -- the answers that it took are the first of those that it was given
+  -- the answers that a run took are the first of those that it was given
   pub takes : IfDone (run_of s q i answers rows) (λ t. (rest : List Response) × (answers ≡ t.answers ++ rest))
   takes = route_takes (given s q i answers) rows taken
 
-  -- a run that wants an answer took all that it was given, and with one answer more it makes one call more
+  -- a run that wants an answer took all that it was given, and with one answer more it has one call more
   pub goes_on : IfWants (run_of s q i answers rows) (λ slot calls call.
       (slot ≡ length answers) × (length calls ≡ length answers) × ((x : Response) → calls_of (run_of s q i (answers ++ x ∷ []) rows) ≡ calls ++ call ∷ []))
   goes_on = route_goes_on (given s q i answers) rows taken
 
-  -- a run wants no more than 16 answers
+  -- a run wants at most 16 answers
   pub few : IfWants (run_of s q i answers rows) (λ slot calls call. slot < 16)
   few = route_few (given s q i answers) rows taken
 
@@ -100,63 +135,66 @@ module _ (s : Setting) (q : Request) (i : Inputs) (answers : List Response) (row
   pub alone : s.peers ≡ [] → IsDone (run_of s q i answers rows)
   alone none = route_alone (given s q i answers) rows taken none
 
--- a run with no answers has no calls that have one
+  -- with no answers a run has no calls that have one
+  pub starts_at : answers ≡ [] → calls_of (run_of s q i answers rows) ≡ []
+  starts_at none = route_starts (given s q i answers) rows taken none
+
+  -- the same of a run that comes to this trace
+
+  pub reads_done : (t : Trace) → run_of s q i answers rows ≡ Done t → GivesAll rows t.reads
+  reads_done t e = subst ReadsLaw e reads
+
+  pub same_done : (t : Trace) → run_of s q i answers rows ≡ Done t
+      → (others : List Cell) → GivesAll others t.reads → (later : List Response) → run_of s q i (t.answers ++ later) others ≡ Done t
+  same_done t e = subst SameLaw e same
+
+  pub counts_done : (t : Trace) → run_of s q i answers rows ≡ Done t → length t.answers ≡ length t.calls
+  counts_done t e = subst CountsLaw e counts
+
+  pub takes_done : (t : Trace) → run_of s q i answers rows ≡ Done t → (rest : List Response) × (answers ≡ t.answers ++ rest)
+  takes_done t e = subst TakesLaw e takes
+
+  pub alone_done : s.peers ≡ [] → (t : Trace) × (run_of s q i answers rows ≡ Done t)
+  alone_done none = trace_of run (alone none)
+
+  -- the same of a run that wants the answer of this call
+
+  pub goes_on_wants : (slot : ℕ) (calls : List CallMade) (call : CallMade) → run_of s q i answers rows ≡ Wants slot calls call
+      → (slot ≡ length answers) × (length calls ≡ length answers) × ((x : Response) → calls_of (run_of s q i (answers ++ x ∷ []) rows) ≡ calls ++ call ∷ [])
+  goes_on_wants slot calls call e = subst GoesOnLaw e goes_on
+
+  pub few_wants : (slot : ℕ) (calls : List CallMade) (call : CallMade) → run_of s q i answers rows ≡ Wants slot calls call → slot < 16
+  few_wants slot calls call e = subst FewLaw e few
+
+  -- the same of what a function answers for the run, where memory suffices
+  module _ (r : Result Ran NoMemory) where
+    pub reads_if_ok : IfOk r (λ r. r ≡ run_of s q i answers rows) → IfOk r (λ r. IfDone r (λ t. GivesAll rows t.reads))
+    reads_if_ok = answered_if_ok ReadsLaw run r reads
+
+    pub same_if_ok : IfOk r (λ r. r ≡ run_of s q i answers rows)
+        → IfOk r (λ r. IfDone r (λ t. (others : List Cell) → GivesAll others t.reads → (later : List Response) → run_of s q i (t.answers ++ later) others ≡ Done t))
+    same_if_ok = answered_if_ok SameLaw run r same
+
+    pub counts_if_ok : IfOk r (λ r. r ≡ run_of s q i answers rows) → IfOk r (λ r. IfDone r (λ t. length t.answers ≡ length t.calls))
+    counts_if_ok = answered_if_ok CountsLaw run r counts
+
+    pub takes_if_ok : IfOk r (λ r. r ≡ run_of s q i answers rows) → IfOk r (λ r. IfDone r (λ t. (rest : List Response) × (answers ≡ t.answers ++ rest)))
+    takes_if_ok = answered_if_ok TakesLaw run r takes
+
+    pub starts_if_ok : IfOk r (λ r. r ≡ run_of s q i answers rows) → answers ≡ [] → IfOk r (λ r. calls_of r ≡ [])
+    starts_if_ok e none = answered_if_ok (λ r. calls_of r ≡ []) run r (starts_at none) e
+
+    pub goes_on_if_ok : IfOk r (λ r. r ≡ run_of s q i answers rows)
+        → IfOk r (λ r. IfWants r (λ slot calls call.
+        (slot ≡ length answers) × (length calls ≡ length answers) × ((x : Response) → calls_of (run_of s q i (answers ++ x ∷ []) rows) ≡ calls ++ call ∷ [])))
+    goes_on_if_ok = answered_if_ok GoesOnLaw run r goes_on
+
+    pub few_if_ok : IfOk r (λ r. r ≡ run_of s q i answers rows) → IfOk r (λ r. IfWants r (λ slot calls call. slot < 16))
+    few_if_ok = answered_if_ok FewLaw run r few
+
+    pub alone_if_ok : IfOk r (λ r. r ≡ run_of s q i answers rows) → s.peers ≡ [] → IfOk r (λ r. IsDone r)
+    alone_if_ok e none = answered_if_ok (λ r. IsDone r) run r (alone none) e
+
+-- the first run has no calls
 pub starts : (s : Setting) (q : Request) (i : Inputs) (rows : List Cell) → calls_of (run_of s q i [] rows) ≡ []
-starts s q i rows = route_starts (given s q i []) rows (taken s q i [] rows) refl
-
--- the same laws of a run that comes to this
-module _ (s : Setting) (q : Request) (i : Inputs) (answers : List Response) (rows : List Cell) where
-  abbrev run : Ran
-  run = run_of s q i answers rows
-
-  pub reads_done : (t : Trace) → run ≡ Done t → GivesAll rows t.reads
-  reads_done t e = subst (λ x. IfDone x (λ t. GivesAll rows t.reads)) e (reads s q i answers rows)
-
-  pub same_done : (t : Trace) → run ≡ Done t → (others : List Cell) → GivesAll others t.reads → (later : List Response) → run_of s q i (t.answers ++ later) others ≡ Done t
-  same_done t e = subst (λ x. IfDone x (λ t. (others : List Cell) → GivesAll others t.reads → (later : List Response) → run_of s q i (t.answers ++ later) others ≡ Done t)) e (same s q i answers rows)
-
-  pub counts_done : (t : Trace) → run ≡ Done t → length t.answers ≡ length t.calls
-  counts_done t e = subst (λ x. IfDone x (λ t. length t.answers ≡ length t.calls)) e (counts s q i answers rows)
-
-  pub takes_done : (t : Trace) → run ≡ Done t → (rest : List Response) × (answers ≡ t.answers ++ rest)
-  takes_done t e = subst (λ x. IfDone x (λ t. (rest : List Response) × (answers ≡ t.answers ++ rest))) e (takes s q i answers rows)
-
-  pub goes_on_wants : (slot : ℕ) (calls : List CallMade) (call : CallMade) → run ≡ Wants slot calls call → (slot ≡ length answers) × (length calls ≡ length answers) × ((x : Response) → calls_of (run_of s q i (answers ++ x ∷ []) rows) ≡ calls ++ call ∷ [])
-  goes_on_wants slot calls call e = subst (λ x. IfWants x (λ slot calls call. (slot ≡ length answers) × (length calls ≡ length answers) × ((x : Response) → calls_of (run_of s q i (answers ++ x ∷ []) rows) ≡ calls ++ call ∷ []))) e (goes_on s q i answers rows)
-
-  pub few_wants : (slot : ℕ) (calls : List CallMade) (call : CallMade) → run ≡ Wants slot calls call → slot < 16
-  few_wants slot calls call e = subst (λ x. IfWants x (λ slot calls call. slot < 16)) e (few s q i answers rows)
-
-  pub alone_done : s.peers ≡ [] → (t : Trace) × (run ≡ Done t)
-  alone_done none = trace_of run (alone s q i answers rows none)
-
--- the same laws of what a function answers for the run, where memory suffices
-module _ (s : Setting) (q : Request) (i : Inputs) (answers : List Response) (rows : List Cell) (r : Result Ran NoMemory) where
-  abbrev Answers : Type 0
-  Answers = IfOk r (λ r. r ≡ run_of s q i answers rows)
-
-  pub reads_if_ok : Answers → IfOk r (λ r. IfDone r (λ t. GivesAll rows t.reads))
-  reads_if_ok = answered_if_ok (λ r. IfDone r (λ t. GivesAll rows t.reads)) (run_of s q i answers rows) r (reads s q i answers rows)
-
-  pub same_if_ok : Answers → IfOk r (λ r. IfDone r (λ t. (others : List Cell) → GivesAll others t.reads → (later : List Response) → run_of s q i (t.answers ++ later) others ≡ Done t))
-  same_if_ok = answered_if_ok (λ r. IfDone r (λ t. (others : List Cell) → GivesAll others t.reads → (later : List Response) → run_of s q i (t.answers ++ later) others ≡ Done t)) (run_of s q i answers rows) r (same s q i answers rows)
-
-  pub counts_if_ok : Answers → IfOk r (λ r. IfDone r (λ t. length t.answers ≡ length t.calls))
-  counts_if_ok = answered_if_ok (λ r. IfDone r (λ t. length t.answers ≡ length t.calls)) (run_of s q i answers rows) r (counts s q i answers rows)
-
-  pub takes_if_ok : Answers → IfOk r (λ r. IfDone r (λ t. (rest : List Response) × (answers ≡ t.answers ++ rest)))
-  takes_if_ok = answered_if_ok (λ r. IfDone r (λ t. (rest : List Response) × (answers ≡ t.answers ++ rest))) (run_of s q i answers rows) r (takes s q i answers rows)
-
-  pub starts_if_ok : Answers → answers ≡ [] → IfOk r (λ r. calls_of r ≡ [])
-  starts_if_ok e none =
-      answered_if_ok (λ r. calls_of r ≡ []) (run_of s q i answers rows) r
-      (subst (λ l. calls_of (run_of s q i l rows) ≡ []) (sym none) (starts s q i rows)) e
-
-  pub goes_on_if_ok : Answers → IfOk r (λ r. IfWants r (λ slot calls call. (slot ≡ length answers) × (length calls ≡ length answers) × ((x : Response) → calls_of (run_of s q i (answers ++ x ∷ []) rows) ≡ calls ++ call ∷ [])))
-  goes_on_if_ok = answered_if_ok (λ r. IfWants r (λ slot calls call. (slot ≡ length answers) × (length calls ≡ length answers) × ((x : Response) → calls_of (run_of s q i (answers ++ x ∷ []) rows) ≡ calls ++ call ∷ []))) (run_of s q i answers rows) r (goes_on s q i answers rows)
-
-  pub few_if_ok : Answers → IfOk r (λ r. IfWants r (λ slot calls call. slot < 16))
-  few_if_ok = answered_if_ok (λ r. IfWants r (λ slot calls call. slot < 16)) (run_of s q i answers rows) r (few s q i answers rows)
-
-  pub alone_if_ok : Answers → s.peers ≡ [] → IfOk r (λ r. IsDone r)
-  alone_if_ok e none = answered_if_ok (λ r. IsDone r) (run_of s q i answers rows) r (alone s q i answers rows none) e
+starts s q i rows = starts_at s q i [] rows refl

@@ -13,19 +13,23 @@ use Rattle.handler_run.proofs.TwoCalls.{calls}
 use Rattle.handler_run.proofs.TwoStmts.{lets, gets, puts, drops, eaches, ifs, nows, randoms, replied}
 
 module _ (g : Given) (bs : List Response) (R Q : List Cell) where
-  -- the second run's gifts
+  -- what the second run is given
   abbrev g' : Given
   g' = with_answers g bs
 
+  -- the law of a statement
   SameStmt : Stmt → Type 0
   SameStmt s = Same g bs R Q (stmt_of g R s) (stmt_of g' Q s)
 
+  -- the law of a block
   SameBlock : Block → Type 0
   SameBlock b = Same g bs R Q (block_of g R b) (block_of g' Q b)
 
+  -- a statement for which it holds
   abbrev S : Type 0
   S = (s : Stmt) × SameStmt s
 
+  -- a block for which it holds
   abbrev B : Type 0
   B = (b : Block) × SameBlock b
 
@@ -37,6 +41,7 @@ module _ (g : Given) (bs : List Response) (R Q : List Cell) where
   abbrev bare : Stmt-F S B → Stmt-F Stmt Block
   bare y = map-Stmt S B Stmt Block (λ e. e.0) (λ e. e.0) y
 
+  -- a statement whose blocks keep the law
   acts : (y : Stmt-F S B) → Same g bs R Q (act g R (seen g R (bare y))) (act g' Q (seen g' Q (bare y)))
   unfolding SameStmt SameBlock
   acts (Stmt-F.Let x e) = lets x e
@@ -52,6 +57,7 @@ module _ (g : Given) (bs : List Response) (R Q : List Cell) where
   acts (Stmt-F.Random x) = randoms x
   acts (Stmt-F.Reply status body) = replied status body
 
+  -- statements in turn
   in_turns : (z : List S) → Same g bs R Q (in_turn (map (stmt_of g R) (map (λ e. e.0) z))) (in_turn (map (stmt_of g' Q) (map (λ e. e.0) z)))
   unfolding SameStmt
   in_turns [] = record { at = λ s. stays s }
@@ -59,18 +65,21 @@ module _ (g : Given) (bs : List Response) (R Q : List Cell) where
     at = λ s. steps s _ _ (record { at = λ u. follow (notes_of u) _ _ _ _ (e.1.at u) (in_turns z) });
   }
 
+  -- from a statement's layer to the statement
   from_layer : (x : Stmt-F Stmt Block) → Same g bs R Q (act g R (seen g R x)) (act g' Q (seen g' Q x)) → SameStmt (roll-Stmt x)
   unfolding SameStmt
   from_layer x h =
       subst (λ e. Same g bs R Q e (stmt_of g' Q (roll-Stmt x))) (sym (fold-roll-Stmt Effect Effect (act g R) block_step x))
       (subst (λ e. Same g bs R Q (act g R (seen g R x)) e) (sym (fold-roll-Stmt Effect Effect (act g' Q) block_step x)) h)
 
+  -- from a block's statements to the block
   from_row : (x : Block-F Stmt Block) → Same g bs R Q (in_turn (map (stmt_of g R) x.stmts)) (in_turn (map (stmt_of g' Q) x.stmts)) → SameBlock (roll-Block x)
   unfolding SameBlock
   from_row x h =
       subst (λ e. Same g bs R Q e (block_of g' Q (roll-Block x))) (sym (fold-roll-Block Effect Effect (act g R) block_step x))
       (subst (λ e. Same g bs R Q (in_turn (map (stmt_of g R) x.stmts)) e) (sym (fold-roll-Block Effect Effect (act g' Q) block_step x)) h)
 
+  -- by induction
   all_blocks : (b : Block) → SameBlock b
   unfolding SameBlock
   all_blocks = ind-Block SameStmt SameBlock
