@@ -1,7 +1,9 @@
 //! The meaning of a handler: what a request's run reads, calls, writes and answers.
 #![tactic(auto)]
 
+mod blocks;
 mod calls;
+mod handler;
 mod numbers;
 mod parts;
 mod paths;
@@ -14,6 +16,7 @@ mod values;
 mod variables;
 mod view;
 
+pub use handler::run;
 pub use recorded::MOST_READ_BYTES;
 pub use state::{Fault, Ran};
 pub use view::{RowsView, View};

@@ -133,6 +133,7 @@ fn is_own_beneath(write: &Write, table: &Text, prefix: &Text) -> bool
 }
 
 // The own writes of a table under a prefix.
+#[tactic(auto, using(crate::proofs::OwnLemmas::own_ordered))]
 fn own_beneath(
     alloc: Global,
     writes: &[Write],
@@ -192,6 +193,25 @@ fn cells_over(
     Ok(Ok(laid))
 }
 
+// The cells under a prefix.
+fn cells_under<V: View>(
+    alloc: Global,
+    view: &V,
+    state: &mut State,
+    table: &Text,
+    prefix: &Text,
+) -> Result<Beneath, NoMemory>
+    ensures { IfOk result (λ beneath. MatchResult beneath
+        (λ laid. (k t : List ℕ) (body : Effect) → each_at (V.rows view.now) k t table.now (Value.Str prefix.now) body state.old ≡ turns k t body laid state.new)
+        (λ fault. (k t : List ℕ) (body : Effect) → each_at (V.rows view.now) k t table.now (Value.Str prefix.now) body state.old ≡ faulted fault state.new)) }
+{
+    if prefix.len() > LONGEST_PREFIX {
+        return Ok(Err(Fault::Limit));
+    }
+    let cells = view.scan(alloc, table, prefix)?;
+    cells_over(alloc, cells, table, prefix, state)
+}
+
 fn cells_at<V: View>(
     alloc: Global,
     view: &V,
@@ -206,11 +226,7 @@ fn cells_at<V: View>(
     let Value::Str(prefix) = prefix else {
         return Ok(Err(Fault::Kind));
     };
-    if prefix.len() > LONGEST_PREFIX {
-        return Ok(Err(Fault::Limit));
-    }
-    let cells = view.scan(alloc, table, prefix)?;
-    cells_over(alloc, cells, table, prefix, state)
+    cells_under(alloc, view, state, table, prefix)
 }
 
 /// The cells that an `each` goes over, before its first turn.

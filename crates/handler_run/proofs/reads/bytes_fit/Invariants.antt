@@ -1,4 +1,4 @@
-use Rattle.std.proofs.Common.{◌≡◌, ◌≤◌, ◌+◌, drop, take}
+use Rattle.std.proofs.Common.{◌≡◌, ◌+◌, take}
 use Rattle.std.specs.Prelude.{sum_by}
 use Rattle.lang_core.specs.Rows.{cell_size}
 use Rattle.handler_run.proofs.reads.bytes_fit.Given as goal

@@ -1,4 +1,4 @@
-use Rattle.std.proofs.Common.{◌≡◌, ◌++◌, take}
+use Rattle.std.proofs.Common.{◌≡◌, take}
 use Rattle.handler_run.specs.Runs.{own_beneath}
 use Rattle.handler_run.proofs.reads.own_beneath.Given as goal
 
