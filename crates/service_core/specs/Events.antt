@@ -9,7 +9,7 @@ use Rattle.lang_core.specs.declared.request.Response.{Response}
 use Rattle.lang_core.specs.declared.setting.Setting.{Setting}
 use Rattle.lang_core.specs.declared.trace.Trace.{Trace}
 use Rattle.handler_run.specs.Handlers.{run_of}
-use Rattle.handler_run.specs.declared.state.Ran.{Ran}
+use Rattle.handler_run.specs.declared.state.Ran.{Ran as Outcome}
 use Rattle.handler_run.specs.declared.state.Ran.TheVariants.{Done, Wants}
 use Rattle.request_log.specs.Entries.{is_alive, has_id}
 use Rattle.request_log.specs.declared.entry.Entry.{Entry}
@@ -19,6 +19,9 @@ use Rattle.local_repair.specs.Current.{Consumed, AllRuns, rows_of}
 use Rattle.local_repair.specs.Histories.{history_of}
 use Rattle.local_repair.specs.Steps.{remade, tentative}
 use Rattle.local_repair.specs.Tests.{first_stale, step_with}
+use Rattle.lang_base.specs.declared.memory.NoMemory.{NoMemory as LacksMemory}
+use Rattle.local_repair.specs.declared.stepped.Stepped.{Stepped}
+use Rattle.local_repair.specs.declared.stepped.Stepped.TheVariants.{Idle, Ran}
 use Rattle.service_core.specs.declared.answers.Arrived.{Arrived}
 use Rattle.service_core.specs.declared.answers.Arrived.TheVariants.{Done as Committed}
 use Rattle.service_core.specs.declared.answers.ArriveRefused.{ArriveRefused}
@@ -39,7 +42,7 @@ abbrev pub unanswered : Consumed
 unanswered n = tentative
 
 -- the trace of a run that ended
-abbrev pub trace_or_dead : Ran → Trace
+abbrev pub trace_or_dead : Outcome → Trace
 trace_or_dead (Done t) = t
 trace_or_dead (Wants slot calls call) = dead_trace
 
@@ -161,3 +164,8 @@ abbrev pub IsOrder : Kept → Command → Result Ordered OrderRefused → Kept �
 IsOrder s command (Err MemoryLacks) s' = s' ≡ s
 IsOrder s command (Err (NoSuchRequest id)) s' = (Err (NoSuchRequest id) ≡ order_answer s command) × (s' ≡ after_order s command)
 IsOrder s command (Ok o) s' = (Ok o ≡ order_answer s command) × (s' ≡ after_order s command)
+
+abbrev pub IsStep : Kept → Result Stepped LacksMemory → Kept → Type 0
+IsStep s (Err e) s' = s' ≡ s
+IsStep s (Ok Idle) s' = (None ≡ stale_id s) × (s' ≡ after_step s)
+IsStep s (Ok (Ran id answered)) s' = (Some id ≡ stale_id s) × (s' ≡ after_step s)
