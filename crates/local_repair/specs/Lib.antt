@@ -1,4 +1,5 @@
 pub mod Current
 pub mod Histories
+pub mod Settling
 pub mod Steps
 pub mod Tests
