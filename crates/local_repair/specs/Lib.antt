@@ -1,5 +1,6 @@
 pub mod Current
 pub mod Histories
+pub mod Parts
 pub mod Settling
 pub mod Steps
 pub mod Tests

@@ -1,8 +1,10 @@
 //! Local repair: which entries of a log are stale, and the step that runs the first of them again.
 #![tactic(auto)]
 
+mod current;
 mod slots;
 mod stepped;
 
+pub use current::{Stale, apply_entry, find_stale, is_current, rows_after};
 pub use slots::{NoSlots, Slots};
 pub use stepped::Stepped;

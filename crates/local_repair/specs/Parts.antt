@@ -1,0 +1,13 @@
+-- The parts of a record that is current.
+use Rattle.std.specs.Prelude.{◌≡◌, map}
+use Rattle.request_log.specs.Entries.{is_alive}
+use Rattle.request_log.specs.declared.entry.Entry.{Entry}
+use Rattle.request_log.specs.declared.entry.Made.{Made}
+use Rattle.local_repair.specs.Current.{Consumed}
+
+-- a record is of the entry as it is now, and consumed the answers of now
+pub record IsOf (consumed : Consumed) (e : Entry) (m : Made) : Type 0 where
+  pub alive : m.alive ≡ is_alive e
+  pub version : m.version ≡ e.version
+  pub request : m.request ≡ e.request
+  pub answers : m.trace.answers ≡ map consumed e.slots
