@@ -1,1 +1,3 @@
+pub mod CallsLemmas
 pub mod CurrentLemmas
+pub mod HandlerLemmas

@@ -1,5 +1,9 @@
--- The parts of a record that is current.
-use Rattle.std.specs.Prelude.{◌≡◌, map}
+-- The parts of a record that is current, and of a step.
+use Rattle.std.specs.Prelude.{◌≡◌, Bool, map}
+use Rattle.std.specs.Coded.{Coded}
+use Rattle.lang_base.specs.Equal.{equal}
+use Rattle.lang_core.specs.contracts.request.Response as response
+use Rattle.lang_core.specs.declared.request.Response.{Response}
 use Rattle.request_log.specs.Entries.{is_alive}
 use Rattle.request_log.specs.declared.entry.Entry.{Entry}
 use Rattle.request_log.specs.declared.entry.Made.{Made}
@@ -11,3 +15,6 @@ pub record IsOf (consumed : Consumed) (e : Entry) (m : Made) : Type 0 where
   pub version : m.version ≡ e.version
   pub request : m.request ≡ e.request
   pub answers : m.trace.answers ≡ map consumed e.slots
+
+abbrev pub same_response : Response → Response → Bool
+same_response a b = equal response.the_row.coded a b
