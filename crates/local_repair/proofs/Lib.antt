@@ -1,3 +1,6 @@
 pub mod CallsLemmas
 pub mod CurrentLemmas
 pub mod HandlerLemmas
+pub mod ReplayLemmas
+pub mod StepLemmas
+pub mod TestLemmas
