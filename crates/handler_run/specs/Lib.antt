@@ -1,4 +1,5 @@
 pub mod Handlers
+pub mod Laws
 pub mod Numbers
 pub mod Parts
 pub mod Paths

@@ -1,5 +1,5 @@
 -- Entries of a log: which are alive, and which has a number or comes from a call.
-use Rattle.std.specs.Prelude.{ℕ, ◌≡◌, ◌≤◌, Bool, true, false, ◌&&◌, not, List, [], ◌∷◌, Option, Some, None, nat_eq, length, find, slice_set, IsSomeAnd}
+use Rattle.std.specs.Prelude.{ℕ, ◌≡◌, ◌≤◌, Bool, false, ◌&&◌, not, List, [], ◌∷◌, Option, None, nat_eq, length, find, slice_set, IsSomeAnd}
 use Rattle.std.specs.List.{position_or_len}
 use Rattle.lang_base.specs.Texts.{same_text}
 use Rattle.lang_core.specs.declared.ids.Origin.{Origin}
@@ -22,3 +22,35 @@ is_call caller number (Call c n) = same_text c caller && nat_eq n number
 -- the entry comes from this call
 abbrev pub has_origin : List ℕ → ℕ → Entry → Bool
 has_origin caller number e = is_call caller number e.origin
+
+-- the entry that comes from the same call, if one does
+abbrev pub find_call : Origin → List Entry → Option Entry
+find_call Outside entries = None
+find_call (Call caller number) entries = find (has_origin caller number) entries
+
+-- no entry has this one's number, and none its origin where that is a call
+pub record IsNew (entry : Entry) (entries : List Entry) : Type 0 where
+  pub id : find (has_id entry.id) entries ≡ None
+  pub origin : find_call entry.origin entries ≡ None
+
+-- each is new to those after it: no number stands twice, and no call
+abbrev pub IsDistinct : List Entry → Type 0
+IsDistinct [] = Unit {0}
+IsDistinct (e ∷ es) = IsNew e es × IsDistinct es
+
+-- an entry of this number is there, and has the same origin
+abbrev pub IsKnown : Entry → List Entry → Type 0
+IsKnown entry entries = IsSomeAnd (find (has_id entry.id) entries) (λ old. old.origin ≡ entry.origin)
+
+-- with this in place of the entry of its number
+abbrev pub with_entry : Entry → List Entry → List Entry
+with_entry entry entries = slice_set entries (position_or_len (has_id entry.id) entries) entry
+
+-- a log: its entries in order
+pub record Kept : Type 0 where
+  pub entries : List Entry
+
+-- what each log keeps
+pub record IsLog (entries : List Entry) : Type 0 where
+  pub distinct : IsDistinct entries
+  pub few : length entries ≤ 100000

@@ -25,7 +25,7 @@ pub struct Entry {
     pub id: u64,
     /// Where the request comes from.
     pub origin: Origin,
-    /// How often its origin has changed it, from 1; 0 where it comes from outside.
+    /// The version of the call that it answers, from 1; 0 where it comes from outside.
     pub version: u64,
     /// The request as it stands now.
     pub request: Request,
@@ -39,7 +39,7 @@ pub struct Entry {
     pub made: Option<Made>,
     /// The registers of its calls, one for each call of its trace, in order.
     pub slots: Numbers,
-    /// How many answers it has given, each counted where it differs from the one before; 0 before the first.
+    /// The version of its last answer, from 1; 0 before the first.
     pub answer_version: u64,
     /// How often it ran.
     pub runs: u64,

@@ -2,5 +2,7 @@
 #![tactic(auto)]
 
 mod entry;
+mod log;
 
 pub use entry::{Entry, Made, Numbers, dead_trace};
+pub use log::{Log, LogFull, MOST_ENTRIES};

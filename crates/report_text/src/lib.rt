@@ -1,0 +1,2 @@
+//! Rows, logs and verdicts as texts.
+#![tactic(auto)]

@@ -1,0 +1,199 @@
+-- Changes of a log keep its numbers and calls apart.
+use Rattle.std.proofs.Common.{◌≡◌, ℕ, zero, suc, ◌≤◌, ◌≢◌, Bool, true, false, cond, ◌&&◌, List, [], ◌∷◌, ◌++◌, length, set, Option, Some, None, find, insert, nat_eq, slice_get, get_or, nat_lt, ◌<◌, subst, refl, sym, ap, ◌∙◌, IsSome, IsSomeAnd, position, arith}
+use Rattle.std.specs.List.{position_or_len}
+use Rattle.std.specs.Cmp.{nat_eq_equiv}
+use Rattle.std.specs.Cmp.Lexicographic.{nat_list_eq_equiv}
+use Rattle.std.proofs.lemmas.List.Edits.{insert_end, length-insert}
+use Rattle.std.proofs.lemmas.Bool.{eqb-true, lt-ltb}
+use Rattle.std.proofs.lemmas.List.Quantifiers.{position-Some}
+use Rattle.std.proofs.lemmas.List.Folds.{find_at}
+use Rattle.std.proofs.lemmas.Option.{slice_get-get_or}
+use Rattle.std.proofs.Math.ListN.{length-set}
+use Rattle.lang_base.specs.Texts.{same_text}
+use Rattle.lang_core.specs.declared.ids.Origin.{Origin}
+use Rattle.lang_core.specs.declared.ids.Origin.TheVariants.{Outside, Call}
+use Rattle.request_log.specs.declared.entry.Entry.{Entry}
+use Rattle.request_log.specs.Entries.{has_id, is_call, find_call, IsNew, IsDistinct, IsKnown, IsLog, Kept}
+
+-- a search that finds nothing finds nothing first, and nothing further on
+not_first : {X : Type 0} (b : Bool) (x : X) (o : Option X) → cond b (Some x) o ≡ None → (b ≡ false) × (o ≡ None)
+not_first true x o e = cc
+not_first false x o e = (refl, e)
+
+nowhere : {X : Type 0} (b : Bool) (x : X) (o : Option X) → b ≡ false → o ≡ None → cond b (Some x) o ≡ None
+nowhere true x o e n = cc
+nowhere false x o e n = n
+
+none-insert : {X : Type 0} (p : X → Bool) (xs : List X) (i : ℕ) (y : X) → p y ≡ false → find p xs ≡ None → find p (insert xs i y) ≡ None
+none-insert p [] zero y h n = nowhere (p y) y None h refl
+none-insert p [] (suc i) y h n = nowhere (p y) y None h refl
+none-insert p (x ∷ xs) zero y h n = nowhere (p y) y (find p (x ∷ xs)) h n
+none-insert p (x ∷ xs) (suc i) y h n =
+    let parts = not_first (p x) x (find p xs) n in
+    nowhere (p x) x (find p (insert xs i y)) parts.0 (none-insert p xs i y h parts.1)
+
+none-set : {X : Type 0} (p : X → Bool) (xs : List X) (i : ℕ) (y old : X) → slice_get xs i ≡ Some old → p y ≡ p old → find p xs ≡ None → find p (set xs i y) ≡ None
+none-set p [] i y old at same n = cc
+none-set p (x ∷ xs) zero y old at same n =
+    let parts = not_first (p x) x (find p xs) n in
+    let is : x ≡ old = cc at in
+    nowhere (p y) y (find p xs) (same ∙ sym (ap p is) ∙ parts.0) parts.1
+none-set p (x ∷ xs) (suc i) y old at same n =
+    let parts = not_first (p x) x (find p xs) n in
+    nowhere (p x) x (find p (set xs i y)) parts.0 (none-set p xs i y old at same parts.1)
+
+-- whether an entry comes from the same call
+from_call : Origin → Origin → Bool
+from_call Outside o = false
+from_call (Call caller number) o = is_call caller number o
+
+call_flips : (a b : Origin) → from_call a b ≡ from_call b a
+unfolding from_call
+call_flips Outside Outside = refl
+call_flips Outside (Call c n) = refl
+call_flips (Call c n) Outside = refl
+call_flips (Call c n) (Call d m) = ap (λ b. b && nat_eq m n) (nat_list_eq_equiv.symm d c) ∙ ap (λ b. same_text c d && b) (nat_eq_equiv.symm m n)
+
+find_call-is : (o : Origin) (es : List Entry) → find_call o es ≡ find (λ e. from_call o e.origin) es
+unfolding from_call
+find_call-is Outside [] = refl
+find_call-is Outside (e ∷ es) = find_call-is Outside es
+find_call-is (Call c n) es = refl
+
+-- what a new entry clashes with clashes with it
+new_apart : (x y : Entry) (es : List Entry) → IsNew y (x ∷ es) → (has_id x.id y ≡ false) × (from_call x.origin y.origin ≡ false)
+new_apart x y es new = (
+  nat_eq_equiv.symm y.id x.id ∙ (not_first (has_id y.id x) x (find (has_id y.id) es) new.id).0,
+  call_flips x.origin y.origin
+      ∙ (not_first (from_call y.origin x.origin) x (find (λ e. from_call y.origin e.origin) es) (sym (find_call-is y.origin (x ∷ es)) ∙ new.origin)).0,
+)
+
+new_rest : (x y : Entry) (es : List Entry) → IsNew y (x ∷ es) → IsNew y es
+new_rest x y es new = record {
+  id = (not_first (has_id y.id x) x (find (has_id y.id) es) new.id).1;
+  origin = find_call-is y.origin es
+      ∙ (not_first (from_call y.origin x.origin) x (find (λ e. from_call y.origin e.origin) es) (sym (find_call-is y.origin (x ∷ es)) ∙ new.origin)).1;
+}
+
+new-insert : (x y : Entry) (es : List Entry) (i : ℕ) → (has_id x.id y ≡ false) × (from_call x.origin y.origin ≡ false) → IsNew x es → IsNew x (insert es i y)
+new-insert x y es i apart new = record {
+  id = none-insert (has_id x.id) es i y apart.0 new.id;
+  origin = find_call-is x.origin (insert es i y)
+      ∙ none-insert (λ e. from_call x.origin e.origin) es i y apart.1 (sym (find_call-is x.origin es) ∙ new.origin);
+}
+
+pub distinct-insert : (es : List Entry) (i : ℕ) (y : Entry) → IsNew y es → IsDistinct es → IsDistinct (insert es i y)
+distinct-insert [] zero y new all = (new, tt)
+distinct-insert [] (suc i) y new all = (new, tt)
+distinct-insert (x ∷ es) zero y new all = (new, all)
+distinct-insert (x ∷ es) (suc i) y new all =
+    (new-insert x y es i (new_apart x y es new) all.0, distinct-insert es i y (new_rest x y es new) all.1)
+
+pub distinct-append : (es : List Entry) (y : Entry) → IsNew y es → IsDistinct es → IsDistinct (es ++ y ∷ [])
+distinct-append es y new all = rw (← insert_end es y) (distinct-insert es (length es) y new all)
+
+new-set : (x y old : Entry) (es : List Entry) (i : ℕ) → slice_get es i ≡ Some old → y.id ≡ old.id → y.origin ≡ old.origin → IsNew x es → IsNew x (set es i y)
+new-set x y old es i at id origin new = record {
+  id = none-set (has_id x.id) es i y old at (ap (λ n. nat_eq n x.id) id) new.id;
+  origin = find_call-is x.origin (set es i y)
+      ∙ none-set (λ e. from_call x.origin e.origin) es i y old at (ap (from_call x.origin) origin) (sym (find_call-is x.origin es) ∙ new.origin);
+}
+
+new_same : (y old : Entry) (es : List Entry) → y.id ≡ old.id → y.origin ≡ old.origin → IsNew old es → IsNew y es
+new_same y old es id origin new = record {
+  id = ap (λ n. find (has_id n) es) id ∙ new.id;
+  origin = ap (λ o. find_call o es) origin ∙ new.origin;
+}
+
+-- one entry in place of another of its number and origin
+pub distinct-set : (es : List Entry) (i : ℕ) (y old : Entry) → slice_get es i ≡ Some old → y.id ≡ old.id → y.origin ≡ old.origin → IsDistinct es → IsDistinct (set es i y)
+distinct-set [] i y old at id origin all = tt
+distinct-set (x ∷ es) zero y old at id origin all =
+    let is : x ≡ old = cc at in
+    (new_same y x es (id ∙ sym (ap (λ (e : Entry). e.id) is)) (origin ∙ sym (ap (λ (e : Entry). e.origin) is)) all.0, all.1)
+distinct-set (x ∷ es) (suc i) y old at id origin all =
+    (new-set x y old es i at id origin all.0, distinct-set es i y old at id origin all.1)
+
+-- a log with one entry more, where it was seen as that value
+pub log-insert : (es : List Entry) (k : Kept) (i : ℕ) (y : Entry) → (record { entries = es }) ≡ k → i ≤ length k.entries → length es ≢ 100000 → IsNew y k.entries → IsLog es → IsLog (insert es i y)
+log-insert es k i y is within room new log =
+    let seen : es ≡ k.entries = ap (λ (v : Kept). v.entries) is in
+    let inside : i ≤ length es = rw seen within in
+    record {
+      distinct = distinct-insert es i y (rw seen new) log.distinct;
+      few = omega (arith, length-insert es i y inside, log.few);
+    }
+
+pub log-append : (es : List Entry) (k : Kept) (y : Entry) → (record { entries = es }) ≡ k → length es ≢ 100000 → IsNew y k.entries → IsLog es → IsLog (es ++ y ∷ [])
+log-append es k y is room new log =
+    let seen : es ≡ k.entries = ap (λ (v : Kept). v.entries) is in
+    rw (← insert_end es y) (log-insert es k (length es) y is (rw seen (omega arith)) room new log)
+
+some_within : {X : Type 0} (xs : List X) (n : ℕ) → IsSome (slice_get xs n) → n < length xs
+some_within [] n h = cc
+some_within (x ∷ xs) zero h = omega arith
+some_within (x ∷ xs) (suc n) h = omega (arith, some_within xs n h)
+
+some_chosen : (b : Bool) (n : ℕ) → b ≡ true → IsSome (cond b (Some n) None)
+some_chosen true n h = refl
+some_chosen false n h = cc
+
+-- a number that is found has a place
+is_found : (id : ℕ) (es : List Entry) → IsSome (find (has_id id) es) → IsSome (position (has_id id) es)
+is_found id es found =
+    let n = position_or_len (has_id id) es in
+    let there : IsSome (slice_get es n) = rw find_at at found in
+    some_chosen (nat_lt n (length es)) n (lt-ltb n (length es) (some_within es n there))
+
+placed : (b : Bool) (n place : ℕ) → cond b (Some n) None ≡ Some place → n ≡ place
+placed true n place e = cc
+placed false n place e = cc
+
+some_and : (o : Option Entry) (P : Entry → Type 0) (old : Entry) → IsSomeAnd o P → o ≡ Some old → P old
+some_and None P old h e = absurd h
+some_and (Some x) P old h e = let is : x ≡ old = cc e in subst P is h
+
+some_known : (o : Option Entry) (P : Entry → Type 0) → IsSomeAnd o P → IsSome o
+some_known None P h = absurd h
+some_known (Some x) P h = refl
+
+-- what stands at the place of a number
+pub record IsAt (n : ℕ) (es : List Entry) (place : ℕ) (old : Entry) : Type 0 where
+  pub within : place < length es
+  pub there : slice_get es place ≡ Some old
+  pub found : find (has_id n) es ≡ Some old
+  pub id : old.id ≡ n
+
+pub at_place : (id : ℕ) (es : List Entry) (place : ℕ) (d : Entry) → position (has_id id) es ≡ Some place → IsAt id es place (get_or es place d)
+at_place id es place d is =
+    let first = position-Some (has_id id) es place d is in
+    let there : slice_get es place ≡ Some (get_or es place d) = slice_get-get_or es place d first.0 in
+    let n : position_or_len (has_id id) es ≡ place = placed (nat_lt (position_or_len (has_id id) es) (length es)) (position_or_len (has_id id) es) place is in
+    record {
+      within = first.0;
+      there = there;
+      found = find_at (has_id id) es ∙ ap (slice_get es) n ∙ there;
+      id = eqb-true _ _ first.1;
+    }
+
+pub known_place : (k : Kept) (entry : Entry) (es : List Entry) → (record { entries = es }) ≡ k → IsKnown entry k.entries → IsSome (position (has_id entry.id) es)
+known_place k entry es is known =
+    let seen : es ≡ k.entries = ap (λ (v : Kept). v.entries) is in
+    is_found entry.id es (some_known (find (has_id entry.id) es) (λ old. old.origin ≡ entry.origin) (rw seen known))
+
+-- a log with an entry in place of the one of its number
+pub log-put : (k : Kept) (entry : Entry) (es : List Entry) (place : ℕ) → (record { entries = es }) ≡ k → position (has_id entry.id) es ≡ Some place → IsKnown entry k.entries → IsLog es → IsLog (set es place entry)
+log-put k entry es place is at known log =
+    let seen : es ≡ k.entries = ap (λ (v : Kept). v.entries) is in
+    let old = at_place entry.id es place entry at in
+    let origin = some_and (find (has_id entry.id) es) (λ x. x.origin ≡ entry.origin) (get_or es place entry) (rw seen known) old.found in
+    record {
+      distinct = distinct-set es place entry (get_or es place entry) old.there (sym old.id) (sym origin) log.distinct;
+      few = rw (length-set es place entry) log.few;
+    }
+
+-- what is handed back is what was found
+pub put_old : (k : Kept) (id : ℕ) (es : List Entry) (place : ℕ) (old : Entry) → (record { entries = es }) ≡ k → position (has_id id) es ≡ Some place → old ≡ get_or es place old → find (has_id id) k.entries ≡ Some old
+put_old k id es place old is at read =
+    let seen : es ≡ k.entries = ap (λ (v : Kept). v.entries) is in
+    rw (← seen) ((at_place id es place old at).found ∙ ap Some (sym read))

@@ -1,0 +1,9 @@
+use Rattle.std.proofs.Common.{◌≢◌, length, arith}
+use Rattle.request_log.proofs.EntryLemmas.{log-insert}
+use Rattle.request_log.proofs.log.Log.insert.Goals as goal
+
+pub invariant_of-self-2 : goal.invariant_of-self-2
+invariant_of-self-2 c =
+    let room : length c.self.inside.items.items ≢ 100000 = λ full. grind (arith, full) in
+    rw c.in_ok-insert.ensures.items
+    (log-insert c.self.inside.items.items c.args.self.now c.args.at c.args.entry c.self.view_is c.requires.within room c.requires.is_new c.self.invariant)

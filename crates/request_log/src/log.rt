@@ -1,0 +1,178 @@
+// The log: entries in order.
+ghost use Rattle.std.specs.Prelude.{◌≡◌, ◌↔◌, ◌≤◌, [], ◌∷◌, ◌++◌, length, find, position, insert, slice_get, OnOk, OnErr, IfOk, IsSome};
+ghost use Rattle.std.specs.Option.{option_copied};
+ghost use Rattle.request_log.specs.Entries.{has_id, has_origin, IsNew, IsKnown, IsLog, with_entry};
+
+use crate::entry::Entry;
+use lang_base::copied_items;
+use lang_core::{Copied, Name, NoMemory, Origin, Same};
+use std::alloc::{AllocFailed, Global};
+use std::marker::Model;
+
+/// The most entries of a log.
+pub const MOST_ENTRIES: u64 = 100000;
+
+/// Why a log takes no entry.
+#[derive(Clone, Copy, PartialEq, Eq, Debug)]
+pub enum LogFull {
+    /// There was no memory for it.
+    NoMemory,
+    /// It has 100,000 entries.
+    Full,
+}
+
+impl From<NoMemory> for LogFull {
+    ghost use Rattle.request_log.specs.declared.log.LogFull.{LogFull};
+
+    ghost from_gives = { λ _ why. why ≡ LogFull.NoMemory };
+
+    fn from(_: NoMemory) -> LogFull {
+        LogFull::NoMemory
+    }
+}
+
+impl<T: Drop> From<AllocFailed<T>> for LogFull {
+    ghost use Rattle.request_log.specs.declared.log.LogFull.{LogFull};
+
+    ghost from_gives = { λ _ why. why ≡ LogFull.NoMemory };
+
+    fn from(_: AllocFailed<T>) -> LogFull {
+        LogFull::NoMemory
+    }
+}
+
+/// The entries of a service in logged order, of which no two have one number, and no two come from one call.
+#[derive(Drop)]
+pub struct Log {
+    items: Vec<Entry>,
+}
+
+impl Model for Log {
+    ghost use Rattle.request_log.specs.Entries.{Kept, IsLog};
+
+    ghost Value = { Kept };
+
+    ghost view = { λ log. record { entries = log.items.items } };
+
+    ghost invariant = { λ log. IsLog log.items.items };
+}
+
+fn has_origin(entry: &Entry, caller: &Name, number: u64) -> bool
+    ensures { result ≡ has_origin caller.now number entry.now }
+{
+    match &entry.origin {
+        Origin::Outside => false,
+        Origin::Call {
+            caller: own_caller,
+            number: own_number,
+        } => own_caller.text().is(caller.text()) && *own_number == number,
+    }
+}
+
+fn place_of(entries: &[Entry], id: u64) -> Option<usize>
+    ensures { result ≡ position (has_id id) entries.now }
+{
+    entries.iter().position(|entry| entry.id == id)
+}
+
+impl Log {
+    /// An empty log.
+    pub fn new(alloc: Global) -> Log
+        ensures { result.entries ≡ [] }
+    {
+        Log {
+            items: Vec::new(alloc),
+        }
+    }
+
+    /// The entries, in order.
+    pub fn as_slice(&self) -> &[Entry]
+        ensures entries { result.now ≡ self.now.entries }
+        ensures log { IsLog self.now.entries }
+    {
+        self.items.as_slice()
+    }
+
+    /// How many entries it has.
+    pub fn len(&self) -> u64
+        ensures { result ≡ length self.now.entries }
+    {
+        self.items.len() as u64
+    }
+
+    /// The entry at a place, counted from 0; None exactly past the end.
+    pub fn at(&self, place: u64) -> Option<&Entry>
+        ensures { option_copied result ≡ slice_get self.now.entries place }
+    {
+        self.items.get(place as usize)
+    }
+
+    /// The entry of a number; None exactly where there is none.
+    pub fn find(&self, id: u64) -> Option<&Entry>
+        ensures { option_copied result ≡ find (has_id id) self.now.entries }
+    {
+        self.items.iter().find(|entry| entry.id == id)
+    }
+
+    /// The entry that comes from a call; None exactly where there is none.
+    pub fn find_origin(&self, caller: &Name, number: u64) -> Option<&Entry>
+        ensures { option_copied result ≡ find (has_origin caller.now number) self.now.entries }
+    {
+        self.items
+            .iter()
+            .find(|entry| has_origin(entry, caller, number))
+    }
+
+    /// The place of the entry of a number, counted from 0; None exactly where there is none.
+    pub fn place_of(&self, id: u64) -> Option<u64>
+        ensures { result ≡ position (has_id id) self.now.entries }
+    {
+        place_of(&self.items, id).map(|place| place as u64)
+    }
+
+    /// Puts an entry last. Refused, it is dropped and the log stays.
+    pub fn append(&mut self, entry: Entry) -> Result<(), LogFull>
+        requires { IsNew entry self.old.entries }
+        ensures ok { OnOk result (self.new.entries ≡ self.old.entries ++ entry ∷ []) }
+        ensures full { (result ≡ Err LogFull.Full) ↔ (length self.old.entries ≡ MOST_ENTRIES) }
+        ensures err { OnErr result (self.new.entries ≡ self.old.entries) }
+    {
+        if self.len() == MOST_ENTRIES {
+            return Err(LogFull::Full);
+        }
+        self.items.push(entry)?;
+        Ok(())
+    }
+
+    /// Puts an entry at a place, counted from 0, before what stands there. Refused, it is dropped and the log stays.
+    pub fn insert(&mut self, at: u64, entry: Entry) -> Result<(), LogFull>
+        requires within { at ≤ length self.old.entries }
+        requires is_new { IsNew entry self.old.entries }
+        ensures ok { OnOk result (self.new.entries ≡ insert self.old.entries at entry) }
+        ensures full { (result ≡ Err LogFull.Full) ↔ (length self.old.entries ≡ MOST_ENTRIES) }
+        ensures err { OnErr result (self.new.entries ≡ self.old.entries) }
+    {
+        if self.len() == MOST_ENTRIES {
+            return Err(LogFull::Full);
+        }
+        self.items.insert(at as usize, entry)?;
+        Ok(())
+    }
+
+    /// Puts an entry in place of the one of its number, and hands the old one back.
+    pub fn put(&mut self, entry: Entry) -> Entry
+        requires { IsKnown entry self.old.entries }
+        ensures entries { self.new.entries ≡ with_entry entry self.old.entries }
+        ensures old { find (has_id entry.id) self.old.entries ≡ Some result }
+    {
+        let place = place_of(&self.items, entry.id).unwrap();
+        std::mem::replace(&mut self.items[place], entry)
+    }
+}
+
+impl Copied for Log {
+    fn copied(&self, alloc: Global) -> Result<Log, NoMemory> {
+        let items = copied_items(alloc, &self.items)?;
+        Ok(Log { items })
+    }
+}

@@ -1,0 +1,2 @@
+//! Names of services, and numbers, read from texts.
+#![tactic(auto)]

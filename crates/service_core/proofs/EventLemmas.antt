@@ -1,0 +1,118 @@
+-- What events do to the numbers and the records of entries.
+use Rattle.std.proofs.Common.{◌≡◌, ◌≤◌, ◌<◌, ℕ, ◌+◌, suc, Bool, true, false, cond, List, [], ◌∷◌, ◌++◌, length, map, Option, Some, None, IfSome, refl, sym, ap, ◌∙◌, subst, nat_eq, eqb-true, arith, get_or, set, length-append}
+use Rattle.std.proofs.lemmas.List.{length-map}
+use Rattle.std.specs.List.{All, find, position_or_len}
+use Rattle.std.proofs.lemmas.List.Elements.{All-push, All-map, All-cons}
+use Rattle.lang_core.specs.declared.cells.Cell.{Cell}
+use Rattle.lang_core.specs.declared.setting.Setting.{Setting}
+use Rattle.request_log.specs.Entries.{has_id, IsNew, IsDistinct, with_entry}
+use Rattle.request_log.specs.declared.entry.Entry.{Entry}
+use Rattle.local_repair.specs.Current.{Consumed, IsRun, AllRuns, after_entry}
+use Rattle.local_repair.specs.Tests.{is_current, step_with}
+use Rattle.service_core.specs.Events.{struck, IsNumbered, IsAlone, Fits}
+
+-- what holds of both choices holds of the chosen one
+either : {X : Type 0} (P : X → Type 0) (b : Bool) (x y : X) → P x → P y → P (cond b x y)
+either P true x y p q = p
+either P false x y p q = q
+
+-- ---- numbers
+
+at_most_one_more : (n : ℕ) (es : List Entry) → All (λ e. e.id ≤ n) es → All (λ (e : Entry). e.id ≤ n + 1) es
+at_most_one_more n es h = λ k d l. let b = h k d l in omega arith
+
+not_last : (n : ℕ) (e : Entry) → e.id ≤ n → has_id (n + 1) e ≡ false
+not_last n e h = grind arith
+
+-- a number above all isn't given yet
+pub find-above : (n : ℕ) (es : List Entry) → All (λ e. e.id ≤ n) es → find (has_id (n + 1)) es ≡ None
+find-above n [] h = refl
+find-above n (e ∷ es) h =
+    let here : e.id ≤ n = h 0 e (omega arith) in
+    rw (not_last n e here) (find-above n es (λ k d l. h (suc k) d (omega arith)))
+
+-- ---- an order
+
+struck_head : (b : Bool) (id : ℕ) (e : Entry) (es : List Entry) → has_id id e ≡ b → cond b (Some e) (find (has_id id) es) ≡ None
+    → (find (has_id id) es ≡ None → struck id es ≡ es) → struck id (e ∷ es) ≡ e ∷ es
+struck_head true id e es is h later = cc
+struck_head false id e es is h later = rw is (ap (λ l. e ∷ l) (later h))
+
+-- where no entry has the number, none is struck
+pub none_struck : (id : ℕ) (es : List Entry) → find (has_id id) es ≡ None → struck id es ≡ es
+none_struck id [] h = refl
+none_struck id (e ∷ es) h = struck_head (has_id id e) id e es refl h (none_struck id es)
+
+found_head : (b : Bool) (id : ℕ) (x : Entry) (found : Option Entry) (e : Entry) → has_id id x ≡ b → cond b (Some x) found ≡ Some e
+    → (found ≡ Some e → e.id ≡ id) → e.id ≡ id
+found_head true id x found e is h later = let same : x ≡ e = cc in ap (λ (v : Entry). v.id) (sym same) ∙ eqb-true x.id id is
+found_head false id x found e is h later = later h
+
+pub found_id : (id : ℕ) (es : List Entry) (e : Entry) → find (has_id id) es ≡ Some e → e.id ≡ id
+found_id id [] e h = cc
+found_id id (x ∷ xs) e h = found_head (has_id id x) id x (find (has_id id) xs) e refl h (found_id id xs e)
+
+-- the entry of the number in place of the old one
+put_head : (b : Bool) (id : ℕ) (x e : Entry) (xs : List Entry) → has_id id x ≡ b → cond b (Some x) (find (has_id id) xs) ≡ Some e
+    → find (has_id x.id) xs ≡ None
+    → (find (has_id id) xs ≡ Some e → set xs (position_or_len (has_id id) xs) (record e { struck = true }) ≡ struck id xs)
+    → set (x ∷ xs) (cond b 0 (suc (position_or_len (has_id id) xs))) (record e { struck = true }) ≡ struck id (x ∷ xs)
+put_head true id x e xs is h new later =
+    let same : x ≡ e = cc in
+    let same_id : x.id ≡ id = eqb-true x.id id is in
+    let rest : struck id xs ≡ xs = none_struck id xs (subst (λ n. find (has_id n) xs ≡ None) same_id new) in
+    rw (is, rest) (ap (λ (v : Entry). record v { struck = true } ∷ xs) (sym same))
+put_head false id x e xs is h new later = rw is (ap (λ l. x ∷ l) (later h))
+
+struck_at : (id : ℕ) (es : List Entry) (e : Entry) → IsDistinct es → find (has_id id) es ≡ Some e
+    → set es (position_or_len (has_id id) es) (record e { struck = true }) ≡ struck id es
+struck_at id [] e d h = cc
+struck_at id (x ∷ xs) e d h = put_head (has_id id x) id x e xs refl h d.0.id (struck_at id xs e d.1)
+
+-- the entry that was found, struck and put back
+pub struck_put : (id : ℕ) (es : List Entry) (e : Entry) → IsDistinct es → find (has_id id) es ≡ Some e → with_entry (record e { struck = true }) es ≡ struck id es
+struck_put id es e d h =
+    subst (λ n. set es (position_or_len (has_id n) es) (record e { struck = true }) ≡ struck id es) (sym (found_id id es e h)) (struck_at id es e d h)
+
+-- what doesn't speak of being struck holds as before
+struck_keeps : (P : Entry → Type 0) → ((e : Entry) → P e → P (record e { struck = true })) → (id : ℕ) (es : List Entry) → All P es → All P (struck id es)
+struck_keeps P keeps id es h =
+    All-map P (λ (e : Entry). cond (has_id id e) (record e { struck = true }) e) es
+    (λ k d l. either P (has_id id (get_or es k d)) (record (get_or es k d) { struck = true }) (get_or es k d) (keeps (get_or es k d) (h k d l)) (h k d l))
+
+length-struck : (id : ℕ) (es : List Entry) → length (struck id es) ≡ length es
+length-struck id es = grind (arith, length-map)
+
+pub fits_struck : (setting : Setting) (id : ℕ) (es : List Entry) → Fits setting es → Fits setting (struck id es)
+fits_struck setting id es f = record {
+  no_peers = f.no_peers;
+  runs = struck_keeps (λ e. IfSome e.made (IsRun setting e.inputs)) (λ e h. h) id es f.runs;
+  numbered = record { within = rw (length-struck id es) (struck_keeps (λ e. e.id ≤ length es) (λ e h. h) id es f.numbered.within) };
+  alone = struck_keeps IsAlone (λ e h. h) id es f.alone;
+}
+
+-- ---- an arrival
+
+pub fits_push : (setting : Setting) (es : List Entry) (e : Entry) → Fits setting es → e.id ≡ length es + 1 → IfSome e.made (IsRun setting e.inputs) → IsAlone e → Fits setting (es ++ e ∷ [])
+fits_push setting es e f id run alone = record {
+  no_peers = f.no_peers;
+  runs = All-push (λ e. IfSome e.made (IsRun setting e.inputs)) es e f.runs run;
+  numbered = record {
+    within =
+        let n : length (es ++ e ∷ []) ≡ length es + 1 = grind (arith, length-append) in
+        rw n (All-push (λ e. e.id ≤ length es + 1) es e (at_most_one_more (length es) es f.numbered.within) (omega (arith, id)));
+  };
+  alone = All-push IsAlone es e f.alone alone;
+}
+
+-- ---- a step
+
+step_keeps : (P : Entry → Type 0) (consumed : Consumed) (remake : List Cell → Entry → Entry) → ((rows : List Cell) (e : Entry) → P e → P (remake rows e))
+    → (rows : List Cell) (es : List Entry) → All P es → All P (step_with consumed remake rows es)
+step_keeps P consumed remake keeps rows [] h = h
+step_keeps P consumed remake keeps rows (e ∷ es) h =
+    let later : All P es = λ k d l. h (suc k) d (omega arith) in
+    let here : P e = h 0 e (omega arith) in
+    either (All P) (is_current consumed rows e) (e ∷ step_with consumed remake (after_entry rows e) es) (remake rows e ∷ es)
+    (All-cons P e (step_with consumed remake (after_entry rows e) es) here (step_keeps P consumed remake keeps (after_entry rows e) es later))
+    (All-cons P (remake rows e) es (keeps rows e here) later)

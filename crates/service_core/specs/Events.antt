@@ -1,0 +1,163 @@
+-- What a service keeps, and what each event makes of it.
+use Rattle.std.specs.Prelude.{ℕ, ◌+◌, ◌≡◌, ◌≤◌, Bool, true, false, List, [], ◌∷◌, ◌++◌, Option, Some, None, Result, Ok, Err, if◌then◌else◌, map, length, nat_le, find, is_some, All, option_map}
+use Rattle.lang_core.specs.Traces.{dead_trace}
+use Rattle.lang_core.specs.declared.cells.Cell.{Cell}
+use Rattle.lang_core.specs.declared.ids.Origin.TheVariants.{Outside}
+use Rattle.lang_core.specs.declared.inputs.Inputs.{Inputs}
+use Rattle.lang_core.specs.declared.request.Request.{Request}
+use Rattle.lang_core.specs.declared.request.Response.{Response}
+use Rattle.lang_core.specs.declared.setting.Setting.{Setting}
+use Rattle.lang_core.specs.declared.trace.Trace.{Trace}
+use Rattle.handler_run.specs.Handlers.{run_of}
+use Rattle.handler_run.specs.declared.state.Ran.{Ran}
+use Rattle.handler_run.specs.declared.state.Ran.TheVariants.{Done, Wants}
+use Rattle.request_log.specs.Entries.{is_alive, has_id}
+use Rattle.request_log.specs.declared.entry.Entry.{Entry}
+use Rattle.request_log.specs.declared.entry.Made.{Made}
+use Rattle.execution.specs.Executions.{History}
+use Rattle.local_repair.specs.Current.{Consumed, AllRuns, rows_of}
+use Rattle.local_repair.specs.Histories.{history_of}
+use Rattle.local_repair.specs.Steps.{remade, tentative}
+use Rattle.local_repair.specs.Tests.{first_stale, step_with}
+use Rattle.service_core.specs.declared.answers.Arrived.{Arrived}
+use Rattle.service_core.specs.declared.answers.Arrived.TheVariants.{Done as Committed}
+use Rattle.service_core.specs.declared.answers.ArriveRefused.{ArriveRefused}
+use Rattle.service_core.specs.declared.answers.ArriveRefused.TheVariants.{Full, NoMemory}
+use Rattle.service_core.specs.declared.answers.Command.{Command}
+use Rattle.service_core.specs.declared.answers.Command.TheVariants.{Cancel}
+use Rattle.service_core.specs.declared.answers.Ordered.{Ordered}
+use Rattle.service_core.specs.declared.answers.OrderRefused.{OrderRefused}
+use Rattle.service_core.specs.declared.answers.OrderRefused.TheVariants.{NoSuchRequest, NoMemory as MemoryLacks}
+
+-- what a service keeps
+pub record Kept : Type 0 where
+  pub setting : Setting
+  pub entries : List Entry
+
+-- a service without registers: each call would have the tentative answer
+abbrev pub unanswered : Consumed
+unanswered n = tentative
+
+-- the trace of a run that ended
+abbrev pub trace_or_dead : Ran → Trace
+trace_or_dead (Done t) = t
+trace_or_dead (Wants slot calls call) = dead_trace
+
+-- what a request does on these rows; the run of a service that calls nobody always ends
+abbrev pub trace_on : Setting → Request → Inputs → List Cell → Trace
+trace_on setting request inputs rows = trace_or_dead (run_of setting request inputs [] rows)
+
+-- ---- an arrival
+
+-- the entry of a request from outside that did this
+abbrev pub committed : ℕ → Request → Inputs → Trace → Entry
+committed id request inputs t =
+    record {
+      id = id;
+      origin = Outside;
+      version = 0;
+      request = request;
+      wanted = true;
+      struck = false;
+      inputs = inputs;
+      made = Some (record { alive = true; version = 0; request = request; trace = t });
+      slots = [];
+      answer_version = 1;
+      runs = 1;
+    }
+
+-- numbers count from 1 in the order in which entries are made
+abbrev pub next_id : Kept → ℕ
+next_id s = length s.entries + 1
+
+-- whether there is no place for one entry more
+abbrev pub is_full : Kept → Bool
+is_full s = nat_le 100000 (length s.entries)
+
+-- the entry that a request becomes: its run on the rows at the end of the log
+abbrev pub arrival : Kept → Request → Inputs → Entry
+arrival s request inputs =
+    committed (next_id s) request inputs (trace_on s.setting request inputs (rows_of s.entries))
+
+abbrev pub after_arrival : Kept → Request → Inputs → Kept
+after_arrival s request inputs =
+    if is_full s then s else record s { entries = s.entries ++ arrival s request inputs ∷ [] }
+
+abbrev pub arrival_answer : Kept → Result Arrived ArriveRefused
+arrival_answer s = if is_full s then Err (Full (length s.entries)) else Ok (Committed (next_id s))
+
+-- ---- an order
+
+-- the entries, where the one of this number is struck
+abbrev pub struck : ℕ → List Entry → List Entry
+struck id entries = map (λ (e : Entry). if has_id id e then record e { struck = true } else e) entries
+
+abbrev pub has_entry : ℕ → Kept → Bool
+has_entry id s = is_some (find (has_id id) s.entries)
+
+abbrev pub after_order : Kept → Command → Kept
+after_order s (Cancel id) = record s { entries = struck id s.entries }
+
+-- every order is allowed, by rule 1
+abbrev pub order_answer : Kept → Command → Result Ordered OrderRefused
+order_answer s (Cancel id) =
+    if has_entry id s then Ok (record { about = id; rule = 1 }) else Err (NoSuchRequest id)
+
+-- ---- a repair step
+
+-- the record of an entry on these rows
+abbrev pub made_on : Setting → List Cell → Entry → Made
+made_on setting rows e =
+    record {
+      alive = is_alive e;
+      version = e.version;
+      request = e.request;
+      trace = if is_alive e then trace_on setting e.request e.inputs rows else dead_trace;
+    }
+
+abbrev pub rerun_on : Setting → List Cell → Entry → Entry
+rerun_on setting rows e = remade e (made_on setting rows e) []
+
+-- the first stale entry, if there is one
+abbrev pub stale_entry : Kept → Option Entry
+stale_entry s = first_stale unanswered [] s.entries
+
+-- its number
+abbrev pub stale_id : Kept → Option ℕ
+stale_id s = option_map (λ (e : Entry). e.id) (stale_entry s)
+
+abbrev pub after_step : Kept → Kept
+after_step s = record s { entries = step_with unanswered (rerun_on s.setting) [] s.entries }
+
+-- ---- what always holds
+
+-- the numbers of entries are 1, 2, 3 and so on, up to how many there are
+pub record IsNumbered (entries : List Entry) : Type 0 where
+  pub within : All (λ e. e.id ≤ length entries) entries
+
+-- an entry of a service that calls nobody
+abbrev pub IsAlone : Entry → Type 0
+IsAlone e = (e.slots ≡ []) × (e.version ≡ 0) × (e.wanted ≡ true)
+
+-- a service's log fits its setting: it calls nobody, each record is what a run gave, and numbers are given in order
+pub record Fits (setting : Setting) (entries : List Entry) : Type 0 where
+  pub no_peers : setting.peers ≡ []
+  pub runs : AllRuns setting entries
+  pub numbered : IsNumbered entries
+  pub alone : All IsAlone entries
+
+-- a service as a history
+abbrev pub history : Kept → History
+history s = history_of s.setting unanswered s.entries
+
+-- ---- what a call may answer, and what it leaves: that of the event, or nothing changed for want of memory
+
+abbrev pub IsArrival : Kept → Request → Inputs → Result Arrived ArriveRefused → Kept → Type 0
+IsArrival s request inputs (Err NoMemory) s' = s' ≡ s
+IsArrival s request inputs (Err (Full n)) s' = (Err (Full n) ≡ arrival_answer s) × (s' ≡ after_arrival s request inputs)
+IsArrival s request inputs (Ok a) s' = (Ok a ≡ arrival_answer s) × (s' ≡ after_arrival s request inputs)
+
+abbrev pub IsOrder : Kept → Command → Result Ordered OrderRefused → Kept → Type 0
+IsOrder s command (Err MemoryLacks) s' = s' ≡ s
+IsOrder s command (Err (NoSuchRequest id)) s' = (Err (NoSuchRequest id) ≡ order_answer s command) × (s' ≡ after_order s command)
+IsOrder s command (Ok o) s' = (Ok o ≡ order_answer s command) × (s' ≡ after_order s command)

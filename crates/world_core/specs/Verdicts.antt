@@ -1,0 +1,19 @@
+-- The verdict over services.
+use Rattle.std.specs.Prelude.{ℕ, ◌+◌, List, [], ◌∷◌, Option, Some, None}
+use Rattle.journal_rows.specs.declared.verdict.Outstanding.TheVariants.{Stale}
+use Rattle.journal_rows.specs.declared.verdict.Verdict.{Verdict}
+use Rattle.journal_rows.specs.declared.verdict.Verdict.TheVariants.{Legal, Unsettled}
+use Rattle.service_core.specs.Events.{Kept, stale_id}
+
+-- an outstanding entry of the service at this position, or what the others come to
+abbrev pub unless_stale : Option ℕ → ℕ → Verdict → Verdict
+unless_stale None at others = others
+unless_stale (Some id) at others = Unsettled at (Stale id)
+
+-- the verdict over services that stand from this position on: the first stale entry, by service
+abbrev pub verdict_from : ℕ → List Kept → Verdict
+verdict_from at [] = Legal
+verdict_from at (s ∷ services) = unless_stale (stale_id s) at (verdict_from (at + 1) services)
+
+abbrev pub verdict : List Kept → Verdict
+verdict services = verdict_from 0 services

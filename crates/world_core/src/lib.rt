@@ -1,0 +1,2 @@
+//! The verdict over services.
+#![tactic(auto)]
