@@ -12,6 +12,7 @@ use Rattle.handler_run.specs.Laws.{calls_of}
 use Rattle.handler_run.specs.Reads.{GivesAll}
 use Rattle.handler_run.specs.declared.state.Ran.{Ran}
 use Rattle.handler_run.specs.declared.state.Ran.TheVariants.{Done, Wants}
+use Rattle.handler_run.proofs.RunLaws.{starts, goes_on_wants, few_wants, takes_done, counts_done, reads_done, same_done}
 
 -- a run takes its answers one by one, each for the call that wanted it
 pub record IsSteady (run : List Response → Ran) : Type 0 where
@@ -32,4 +33,14 @@ pub record IsHandler (setting : Setting) : Type 0 where
       → GivesAll other t.reads → run_of setting q i (t.answers ++ later) other ≡ Done t
 
 pub handler : (setting : Setting) → IsHandler setting
-handler setting = ?
+handler s = record {
+  steady = λ q i rows. record {
+    starts = starts s q i rows;
+    goes_on = λ xs slot calls call x e. (goes_on_wants s q i xs rows slot calls call e).2 x;
+    asks = λ xs slot calls call e. (let g = goes_on_wants s q i xs rows slot calls call e in (g.0, g.1, few_wants s q i xs rows slot calls call e));
+    takes = λ xs t e. takes_done s q i xs rows t e;
+    fits = λ xs t e. counts_done s q i xs rows t e;
+  };
+  reads = λ q i xs rows t e. reads_done s q i xs rows t e;
+  same = λ q i xs later rows other t e gives. same_done s q i xs rows t e other gives later;
+}

@@ -18,9 +18,13 @@ use Rattle.request_log.specs.declared.entry.Entry.{Entry}
 use Rattle.request_log.specs.declared.entry.Made.{Made}
 use Rattle.local_repair.specs.Current.{Consumed, after_entry, rows_after, rows_of, IsCurrentRecord, IsCurrent, AllCurrent, IsFirstStale, IsRun, AllRuns}
 use Rattle.local_repair.specs.Settling.{HasItsSlots, CanSettle, IsSettled, IsAgain, IsFirstAgain, Leaves}
-use Rattle.local_repair.specs.Steps.{answers_for, calls_of_made, remade, IsRerun, IsFreshOr, AreApart, RanFirst}
+use Rattle.local_repair.specs.Steps.{answers_for, calls_of_made, remade, IsRerun, IsRemade, IsFreshOr, AreApart, RanFirst, StepsTo}
+use Rattle.local_repair.specs.Tests.{step_with}
+use Rattle.local_repair.specs.declared.stepped.Stepped.{Stepped}
+use Rattle.local_repair.specs.declared.stepped.Stepped.TheVariants.{Idle, Ran}
 use Rattle.local_repair.proofs.CurrentLemmas.{AllCurrent-more}
 use Rattle.local_repair.proofs.HandlerLemmas.{IsHandler}
+use Rattle.local_repair.proofs.TestLemmas.{step_with_none, step_with_at}
 
 -- a new record is what a run gave
 rerun_is : (setting : Setting) → IsHandler setting → (consumed : Consumed) (rows : List Cell) (e : Entry) (m : Made) → IsRerun setting consumed rows e m → IsRun setting e.inputs m
@@ -169,3 +173,11 @@ steps_to setting h old new last last' entries after place entry answered id f ru
         current = there.current;
       },
     )
+
+-- a step is a function of the log where an entry made anew is a function of the rows and the entry
+pub step_is : (setting : Setting) (old new : Consumed) (remake : List Cell → Entry → Entry) → ((rows : List Cell) (e e' : Entry) → IsRemade setting old new rows e e' → e' ≡ remake rows e)
+    → (before after : List Entry) (stepped : Stepped) → StepsTo setting old new before stepped after → after ≡ step_with old remake [] before
+step_is setting old new remake is before after Idle s = s.1 ∙ sym (step_with_none old remake before [] s.0)
+step_is setting old new remake is before after (Ran id answered) s =
+    s.rest ∙ ap (λ e. set before s.place e) (is (rows_of (take s.place before)) s.was s.entry s.remade ∙ ap (λ e. remake (rows_of (take s.place before)) e) (sym (s.there s.was)))
+    ∙ sym (step_with_at old remake before s.place s.was s.first)
