@@ -1,5 +1,6 @@
 -- What a repair step leaves.
 use Rattle.std.proofs.Common.{◌≡◌, ◌≢◌, ℕ, zero, suc, ◌+◌, ◌<◌, ◌≤◌, Bool, List, [], ◌∷◌, ◌++◌, Option, Some, None, IfSome, IsSomeAnd, All, Contains, map, length, get_or, set, take, refl, sym, ap, ◌∙◌, subst, inl, inr, arith, append-nil, get_or-set_same, get_or-set_other}
+use Rattle.std.specs.List.{find, position_or_len}
 use Rattle.std.proofs.lemmas.Bool.{cases_Bool, cases_eq}
 use Rattle.std.proofs.lemmas.List.{take-set, get_or_default, get_or-take, length-take}
 use Rattle.std.proofs.lemmas.List.Elements.{All-nil, All-set, All-get_or}
@@ -13,10 +14,11 @@ use Rattle.lang_core.specs.declared.trace.Trace.{Trace}
 use Rattle.handler_run.specs.Handlers.{run_of}
 use Rattle.handler_run.specs.Reads.{Gives, GivesAll}
 use Rattle.handler_run.specs.declared.state.Ran.TheVariants.{Done}
-use Rattle.request_log.specs.Entries.{is_alive}
+use Rattle.request_log.specs.Entries.{is_alive, has_id, IsDistinct, IsKnown, with_entry}
 use Rattle.request_log.specs.declared.entry.Entry.{Entry}
 use Rattle.request_log.specs.declared.entry.Made.{Made}
 use Rattle.local_repair.specs.Current.{Consumed, after_entry, rows_after, rows_of, IsCurrentRecord, IsCurrent, AllCurrent, IsFirstStale, IsRun, AllRuns}
+use Rattle.local_repair.specs.Repairs.{IsStaleAgain}
 use Rattle.local_repair.specs.Settling.{HasItsSlots, CanSettle, IsSettled, IsAgain, IsFirstAgain, Leaves}
 use Rattle.local_repair.specs.Steps.{answers_for, calls_of_made, remade, IsRerun, IsRemade, IsFreshOr, AreApart, RanFirst, StepsTo}
 use Rattle.local_repair.specs.Tests.{step_with}
@@ -24,6 +26,7 @@ use Rattle.local_repair.specs.declared.stepped.Stepped.{Stepped}
 use Rattle.local_repair.specs.declared.stepped.Stepped.TheVariants.{Idle, Ran}
 use Rattle.local_repair.proofs.CurrentLemmas.{AllCurrent-more}
 use Rattle.local_repair.proofs.HandlerLemmas.{IsHandler}
+use Rattle.local_repair.proofs.LogLemmas.{place_of_id, found_at}
 use Rattle.local_repair.proofs.TestLemmas.{step_with_none, step_with_at}
 
 -- a new record is what a run gave
@@ -181,3 +184,46 @@ step_is setting old new remake is before after Idle s = s.1 ∙ sym (step_with_n
 step_is setting old new remake is before after (Ran id answered) s =
     s.rest ∙ ap (λ e. set before s.place e) (is (rows_of (take s.place before)) s.was s.entry s.remade ∙ ap (λ e. remake (rows_of (take s.place before)) e) (sym (s.there s.was)))
     ∙ sym (step_with_at old remake before s.place s.was s.first)
+
+-- the first stale entry made anew, from its place and the rows before it
+pub stale_again : (setting : Setting) (old new : Consumed) (last last' : ℕ) (entries : List Entry) (place : ℕ) (was entry : Entry) (rows : List Cell) (answered : Bool)
+    → IsFirstStale old entries place → rows ≡ rows_of (take place entries) → was ≡ get_or entries place was
+    → IsAgain setting old new last last' rows was entry answered → IsStaleAgain setting old new last last' entries entry answered
+stale_again setting old new last last' entries place was entry rows answered first before at again = (
+  place,
+  record {
+    first = first;
+    was = was;
+    there = λ d. sym (at ∙ get_or_default entries place was d first.within);
+    again = (let P : List Cell → Type 0 = λ r. IsAgain setting old new last last' r was entry answered in subst P before again);
+  },
+)
+
+-- its number and its origin are the old ones, so it is known
+pub stale_known : (setting : Setting) (old new : Consumed) (last last' : ℕ) (entries : List Entry) (entry : Entry) (answered : Bool)
+    → IsStaleAgain setting old new last last' entries entry answered → IsDistinct entries → IsKnown entry entries
+stale_known setting old new last last' entries entry answered s distinct =
+    let f = s.1 in
+    let found : find (has_id f.was.id) entries ≡ Some f.was =
+    (let P : Entry → Type 0 = λ e. find (has_id e.id) entries ≡ Some e in subst P (f.there f.was) (found_at entries s.0 f.was distinct f.first.within)) in
+    let P : Entry → Type 0 = λ e. IsKnown e entries in
+    subst P (sym f.again.is) (known_by (find (has_id f.was.id) entries) f.was found)
+  where
+    known_by : (o : Option Entry) (e : Entry) → o ≡ Some e → IsSomeAnd o (λ x. x.origin ≡ e.origin)
+    known_by None e h = cc
+    known_by (Some x) e h = let same : x ≡ e = cc in ap (λ (v : Entry). v.origin) same
+
+-- put in place of the old one it is what a step leaves
+pub stale_put : (setting : Setting) → IsHandler setting → (old new : Consumed) (last last' : ℕ) (entries after : List Entry) (entry : Entry) (answered : Bool)
+    → IsStaleAgain setting old new last last' entries entry answered → IsDistinct entries → AllRuns setting entries → AreApart last entries → All HasItsSlots entries
+    → after ≡ with_entry entry entries
+    → (AllRuns setting after × AreApart last' after × All HasItsSlots after) × RanFirst setting old new entries entry.id answered after
+stale_put setting h old new last last' entries after entry answered s distinct runs apart own put =
+    let f = s.1 in
+    let id : entry.id ≡ f.was.id = ap (λ (x : Entry). x.id) f.again.is in
+    let place : position_or_len (has_id entry.id) entries ≡ s.0 =
+    ap (λ n. position_or_len (has_id n) entries) id
+    ∙ (let P : Entry → Type 0 = λ e. position_or_len (has_id e.id) entries ≡ s.0 in subst P (f.there f.was) (place_of_id entries s.0 f.was distinct f.first.within)) in
+    let e : after ≡ set entries s.0 entry = put ∙ ap (λ k. set entries k entry) place in
+    let r = steps_to setting h old new last last' entries after s.0 entry answered entry.id f runs apart own e refl in
+    ((r.0.runs, r.0.apart, r.0.own), r.1)
