@@ -1,4 +1,10 @@
+pub mod BindLemmas
 pub mod BlockLaws
+pub mod BlockLemmas
+pub mod CutLemmas
+pub mod EachLemmas
+pub mod OwnLemmas
+pub mod PathLemmas
 pub mod RunLaws
 pub mod RunLists
 pub mod TwoBlocks

@@ -1,5 +1,5 @@
 -- What a service answers a request.
-use Rattle.std.specs.Prelude.{ℕ, ◌+◌, List, [], ◌∷◌, ◌++◌, Option, Some, None, length, codes, decimal}
+use Rattle.std.specs.Prelude.{ℕ, List, [], ◌++◌, Option, Some, None, length, codes, decimal}
 use Rattle.lang_tree.specs.declared.program.Route.{Route}
 use Rattle.lang_tree.specs.declared.stmt.Block.{Block}
 use Rattle.lang_core.specs.declared.cells.Cell.{Cell}

@@ -1,5 +1,5 @@
 -- Numbers as texts, and texts as numbers.
-use Rattle.std.specs.Prelude.{ℕ, ℤ, pos, negsuc, suc, zero, ◌+◌, ◌-◌, ◌*◌, ◌^◌, Bool, true, false, ◌&&◌, not, List, [], ◌∷◌, ◌++◌, Option, Some, None, if◌then◌else◌, nat_eq, nat_lt, nat_le, length, codes, decimal, fold}
+use Rattle.std.specs.Prelude.{ℕ, ℤ, pos, negsuc, suc, zero, ◌+◌, ◌-◌, ◌*◌, ◌^◌, Bool, ◌&&◌, not, List, [], ◌∷◌, ◌++◌, Option, Some, None, if◌then◌else◌, nat_eq, nat_lt, length, codes, decimal, fold}
 use Rattle.std.specs.List.{list_all}
 use Rattle.lang_tree.specs.Forms.{is_digit}
 

@@ -1,5 +1,5 @@
 -- The pieces of a text that is cut at each separator.
-use Rattle.std.specs.Prelude.{ℕ, zero, suc, Bool, List, [], ◌∷◌, Option, Some, None, nat_eq, if◌then◌else◌, length, drop}
+use Rattle.std.specs.Prelude.{ℕ, zero, suc, List, [], ◌∷◌, Option, Some, None, nat_eq, if◌then◌else◌, length, drop}
 use Rattle.std.specs.List.{starts_with}
 
 abbrev pub after_byte : ℕ → Option (List ℕ × List ℕ) → Option (List ℕ × List ℕ)

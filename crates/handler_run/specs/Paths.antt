@@ -1,14 +1,18 @@
 -- The segments of a path, and the route that a request takes.
-use Rattle.std.specs.Prelude.{ℕ, Bool, true, false, ◌&&◌, ◌||◌, List, [], ◌∷◌, Option, ◌==◌, nat_eq, drop, codes, if◌then◌else◌}
+use Rattle.std.specs.Prelude.{ℕ, Bool, true, false, ◌&&◌, ◌||◌, List, [], ◌∷◌, Option, ◌==◌, codes, if◌then◌else◌}
 use Rattle.std.specs.List.{find, slice_split}
 use Rattle.lang_base.specs.Texts.{same_text}
 use Rattle.lang_tree.specs.declared.method.Method.{Method}
 use Rattle.lang_tree.specs.declared.method.Method.TheVariants.{Get, Put, Post, Delete}
 use Rattle.lang_tree.specs.declared.program.Route.{Route}
 
+abbrev pub past_slash : List ℕ → List ℕ
+past_slash [] = []
+past_slash (b ∷ bs) = if b == 47 then bs else b ∷ bs
+
 -- a path without its first slash, cut at each slash
 abbrev pub segments_of : List ℕ → List (List ℕ)
-segments_of path = slice_split (λ b. b == 47) (drop 1 path)
+segments_of path = slice_split (λ b. b == 47) (past_slash path)
 
 abbrev pub same_method : Method → Method → Bool
 same_method Get Get = true

@@ -1,5 +1,5 @@
 -- What a statement does.
-use Rattle.std.specs.Prelude.{ℕ, ℤ, pos, negsuc, ◌+◌, ◌-◌, ◌/◌, ◌≡◌, Bool, true, false, ◌&&◌, ◌||◌, not, List, [], ◌∷◌, ◌++◌, Option, Some, None, Result, Ok, Err, if◌then◌else◌, nat_lt, nat_le, nat_eq, length, codes, slice_get, filter, sum_by}
+use Rattle.std.specs.Prelude.{ℕ, pos, negsuc, ◌+◌, ◌/◌, Bool, ◌&&◌, ◌||◌, not, List, [], ◌∷◌, ◌++◌, Option, Some, None, Ok, Err, if◌then◌else◌, nat_lt, nat_le, nat_eq, length, codes, slice_get, filter, sum_by}
 use Rattle.std.specs.Option.{option_map}
 use Rattle.std.specs.List.{find, list_any, starts_with}
 use Rattle.lang_base.specs.Texts.{same_text, begins_with}

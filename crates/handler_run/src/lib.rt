@@ -1,7 +1,22 @@
 //! The meaning of a handler: what a request's run reads, calls, writes and answers.
 #![tactic(auto)]
 
+mod blocks;
+mod calls;
+mod handler;
+mod numbers;
+mod parts;
+mod paths;
+mod reads;
 mod recorded;
 mod state;
+mod statements;
+mod steps;
+mod values;
+mod variables;
+mod view;
 
+pub use handler::run;
+pub use recorded::MOST_READ_BYTES;
 pub use state::{Fault, Ran};
+pub use view::{RowsView, View};

@@ -1,5 +1,6 @@
 // What a run is given, what it has so far, and what it comes to.
 use crate::recorded::Recorded;
+use crate::variables::Variables;
 use lang_core::{
     Answers, CallMade, Calls, Inputs, Name, Names, Request, Response, Seq, Text, Trace, Value,
     Writes,
@@ -43,7 +44,7 @@ pub struct Given {
 /// answers that they took, how many random words it drew, and how many steps it began.
 #[derive(Drop)]
 pub struct State {
-    pub vars: Seq<Binding>,
+    pub vars: Variables,
     pub own: Writes,
     pub reads: Recorded,
     pub calls: Calls,

@@ -1,5 +1,5 @@
 -- What events do to the numbers and the records of entries.
-use Rattle.std.proofs.Common.{◌≡◌, ◌≤◌, ◌<◌, ℕ, ◌+◌, suc, Bool, true, false, cond, List, [], ◌∷◌, ◌++◌, length, map, Option, Some, None, IfSome, refl, sym, ap, ◌∙◌, subst, nat_eq, eqb-true, arith, get_or, set, length-append}
+use Rattle.std.proofs.Common.{◌≡◌, ◌≤◌, ◌<◌, ℕ, ◌+◌, suc, Bool, true, false, cond, not, List, [], ◌∷◌, ◌++◌, length, map, Option, Some, None, IfSome, refl, sym, ap, ◌∙◌, subst, nat_eq, eqb-true, arith, get_or, set, length-append}
 use Rattle.std.proofs.lemmas.List.{length-map}
 use Rattle.std.specs.List.{All, find, position_or_len}
 use Rattle.std.proofs.lemmas.List.Elements.{All-push, All-map, All-cons}
@@ -64,10 +64,19 @@ put_head true id x e xs is h new later =
     rw (is, rest) (ap (λ (v : Entry). record v { struck = true } ∷ xs) (sym same))
 put_head false id x e xs is h new later = rw is (ap (λ l. x ∷ l) (later h))
 
+other_way : (b : Bool) (n : ℕ) → cond (not b) (1 + n) 0 ≡ cond b 0 (suc n)
+other_way true n = refl
+other_way false n = omega arith
+
+position-head : (id : ℕ) (x : Entry) (xs : List Entry) → position_or_len (has_id id) (x ∷ xs) ≡ cond (has_id id x) 0 (suc (position_or_len (has_id id) xs))
+position-head id x xs = other_way (has_id id x) (position_or_len (has_id id) xs)
+
 struck_at : (id : ℕ) (es : List Entry) (e : Entry) → IsDistinct es → find (has_id id) es ≡ Some e
     → set es (position_or_len (has_id id) es) (record e { struck = true }) ≡ struck id es
 struck_at id [] e d h = cc
-struck_at id (x ∷ xs) e d h = put_head (has_id id x) id x e xs refl h d.0.id (struck_at id xs e d.1)
+struck_at id (x ∷ xs) e d h =
+    let S : ℕ → Type 0 = λ n. set (x ∷ xs) n (record e { struck = true }) ≡ struck id (x ∷ xs) in
+    subst S (sym (position-head id x xs)) (put_head (has_id id x) id x e xs refl h d.0.id (struck_at id xs e d.1))
 
 -- the entry that was found, struck and put back
 pub struck_put : (id : ℕ) (es : List Entry) (e : Entry) → IsDistinct es → find (has_id id) es ≡ Some e → with_entry (record e { struck = true }) es ≡ struck id es
@@ -87,7 +96,11 @@ pub fits_struck : (setting : Setting) (id : ℕ) (es : List Entry) → Fits sett
 fits_struck setting id es f = record {
   no_peers = f.no_peers;
   runs = struck_keeps (λ e. IfSome e.made (IsRun setting e.inputs)) (λ e h. h) id es f.runs;
-  numbered = record { within = rw (length-struck id es) (struck_keeps (λ e. e.id ≤ length es) (λ e h. h) id es f.numbered.within) };
+  numbered = record {
+    within =
+        let W : ℕ → Type 0 = λ n. All (λ (e : Entry). e.id ≤ n) (struck id es) in
+        subst W (sym (length-struck id es)) (struck_keeps (λ e. e.id ≤ length es) (λ e h. h) id es f.numbered.within);
+  };
   alone = struck_keeps IsAlone (λ e h. h) id es f.alone;
 }
 
@@ -100,7 +113,8 @@ fits_push setting es e f id run alone = record {
   numbered = record {
     within =
         let n : length (es ++ e ∷ []) ≡ length es + 1 = grind (arith, length-append) in
-        rw n (All-push (λ e. e.id ≤ length es + 1) es e (at_most_one_more (length es) es f.numbered.within) (omega (arith, id)));
+        let W : ℕ → Type 0 = λ n. All (λ (e : Entry). e.id ≤ n) (es ++ e ∷ []) in
+        subst W (sym n) (All-push (λ e. e.id ≤ length es + 1) es e (at_most_one_more (length es) es f.numbered.within) (omega (arith, id)));
   };
   alone = All-push IsAlone es e f.alone alone;
 }

@@ -1,0 +1,232 @@
+// Calls of other services.
+ghost use Rattle.std.specs.Prelude.{◌≡◌, [], find, IfOk};
+ghost use Rattle.std.specs.List.{list_any};
+ghost use Rattle.std.specs.Option.{option_copied};
+ghost use Rattle.lang_base.specs.Texts.{same_text};
+ghost use Rattle.handler_run.specs.Runs.{ended, goes_on, answered, take_answer, send, call_request, send_to, is_loop, call_to, call_path_fits, call_at, call_of};
+
+use crate::state::{Fault, Flow, Given, State};
+use crate::steps::{text_fits, value_in};
+use lang_core::{
+    CallMade, Copied, Expr, Method, Name, NoMemory, Request, Response, Same, Text, Value, is_path,
+};
+use std::alloc::Global;
+
+const MOST_CALLS: u64 = 16;
+
+fn has_name(names: &[Name], text: &Text) -> bool
+    ensures { result ≡ list_any (λ name. same_text name text.now) names.now }
+{
+    for name in names {
+        if name.text().is(text) {
+            return true;
+        }
+    }
+    false
+}
+
+fn named<'a>(names: &'a [Name], text: &Text) -> Option<&'a Name>
+    ensures { option_copied result ≡ find (λ name. same_text name text.now) names.now }
+{
+    for name in names {
+        if name.text().is(text) {
+            return Some(name);
+        }
+    }
+    None
+}
+
+// Whether a call would go to the service itself or to one that called for this request.
+fn is_loop(given: &Given, dest: &Text) -> bool
+    ensures { result ≡ is_loop given.now dest.now }
+{
+    given.me.text().is(dest) || has_name(given.request.chain.as_slice(), dest)
+}
+
+// Whether a call may have the path.
+fn call_path_fits(path: &Text) -> bool
+    ensures { result ≡ call_path_fits path.now }
+{
+    is_path(path) && !path.as_bytes().starts_with(b"/aire/")
+}
+
+// An answer that no service gave.
+fn refuse(
+    alloc: Global,
+    state: &mut State,
+    x: &Text,
+    y: &Text,
+    status: u16,
+) -> Result<Flow, NoMemory>
+    ensures { IfOk result (λ flow. ended flow state.new ≡ goes_on (answered x.now y.now (record { status = status; body = [] }) state.old)) }
+{
+    let response = Response {
+        status,
+        body: Text::of(alloc, "")?,
+    };
+    state.answer(alloc, x, y, &response)?;
+    Ok(Flow::GoesOn)
+}
+
+fn take_answer(
+    alloc: Global,
+    answer: Option<&Response>,
+    state: &mut State,
+    x: &Text,
+    y: &Text,
+    call: CallMade,
+) -> Result<Flow, NoMemory>
+    ensures { IfOk result (λ flow. ended flow state.new ≡ take_answer (option_copied answer.entry) x.now y.now call state.old) }
+{
+    let Some(answer) = answer else {
+        return Ok(Flow::Wants(call));
+    };
+    state.note_call(call, answer.copied(alloc)?)?;
+    state.answer(alloc, x, y, answer)?;
+    Ok(Flow::GoesOn)
+}
+
+// Takes the next slot's answer.
+fn send(
+    alloc: Global,
+    given: &Given,
+    state: &mut State,
+    x: &Text,
+    y: &Text,
+    call: CallMade,
+) -> Result<Flow, NoMemory>
+    ensures { IfOk result (λ flow. ended flow state.new ≡ send given.now x.now y.now call state.old) }
+{
+    if state.calls.len() >= MOST_CALLS {
+        return Ok(Flow::Faulted(Fault::Limit));
+    }
+    let answer = given.answers.at(state.calls.len());
+    take_answer(alloc, answer, state, x, y, call)
+}
+
+// The request of a call, for which the service itself is the user.
+fn call_request(
+    alloc: Global,
+    given: &Given,
+    method: Method,
+    path: Text,
+    body: Text,
+) -> Result<Request, NoMemory>
+    ensures { IfOk result (λ request. request ≡ call_request given.now method path body) }
+{
+    let mut chain = given.request.chain.copied(alloc)?;
+    chain.push(given.me.copied(alloc)?)?;
+    Ok(Request {
+        method,
+        path,
+        body,
+        who: given.me.text().copied(alloc)?,
+        chain,
+    })
+}
+
+fn send_to(
+    alloc: Global,
+    given: &Given,
+    state: &mut State,
+    x: &Text,
+    y: &Text,
+    dest: Option<&Name>,
+    method: Method,
+    path: Text,
+    body: Text,
+) -> Result<Flow, NoMemory>
+    ensures { IfOk result (λ flow. ended flow state.new
+        ≡ send_to (option_copied dest.entry) given.now x.now y.now method path body state.old) }
+{
+    let Some(dest) = dest else {
+        return refuse(alloc, state, x, y, 502);
+    };
+    let call = CallMade {
+        dest: dest.copied(alloc)?,
+        request: call_request(alloc, given, method, path, body)?,
+    };
+    send(alloc, given, state, x, y, call)
+}
+
+fn call_to(
+    alloc: Global,
+    given: &Given,
+    state: &mut State,
+    x: &Text,
+    y: &Text,
+    dest: &Text,
+    method: Method,
+    path: Text,
+    body: Text,
+) -> Result<Flow, NoMemory>
+    ensures { IfOk result (λ flow. ended flow state.new
+        ≡ call_to given.now x.now y.now dest.now method path body state.old) }
+{
+    if is_loop(given, dest) {
+        return refuse(alloc, state, x, y, 508);
+    }
+    let peer = named(given.peers.as_slice(), dest);
+    send_to(alloc, given, state, x, y, peer, method, path, body)
+}
+
+fn call_at(
+    alloc: Global,
+    given: &Given,
+    state: &mut State,
+    x: &Text,
+    y: &Text,
+    dest: &Value,
+    method: Method,
+    path: Value,
+    body: Value,
+) -> Result<Flow, NoMemory>
+    ensures { IfOk result (λ flow. ended flow state.new
+        ≡ call_at given.now x.now y.now dest.now method path body state.old) }
+{
+    let Value::Str(dest) = dest else {
+        return Ok(Flow::Faulted(Fault::Kind));
+    };
+    let Value::Str(path) = path else {
+        return Ok(Flow::Faulted(Fault::Kind));
+    };
+    if !call_path_fits(&path) {
+        return Ok(Flow::Faulted(Fault::Limit));
+    }
+    let Value::Str(body) = body else {
+        return Ok(Flow::Faulted(Fault::Kind));
+    };
+    if !text_fits(&body) {
+        return Ok(Flow::Faulted(Fault::Limit));
+    }
+    call_to(alloc, given, state, x, y, dest, method, path, body)
+}
+
+/// Runs a `call`, whose answer's status and body go into the variables `x` and `y`.
+pub fn run_call(
+    alloc: Global,
+    given: &Given,
+    state: &mut State,
+    x: &Text,
+    y: &Text,
+    dest: &Expr,
+    method: Method,
+    path: &Expr,
+    body: &Expr,
+) -> Result<Flow, NoMemory>
+    ensures { IfOk result (λ flow. ended flow state.new
+        ≡ call_of given.now x.now y.now dest.now method path.now body.now state.old) }
+{
+    let dest = match value_in(alloc, given, state, dest)? {
+        Ok(dest) => dest,
+        Err(fault) => return Ok(Flow::Faulted(fault)),
+    };
+    let path = match value_in(alloc, given, state, path)? {
+        Ok(path) => path,
+        Err(fault) => return Ok(Flow::Faulted(fault)),
+    };
+    match value_in(alloc, given, state, body)? {
+        Ok(body) => call_at(alloc, given, state, x, y, &dest, method, path, body),
+        Err(fault) => Ok(Flow::Faulted(fault)),
+    }
+}

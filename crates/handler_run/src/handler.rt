@@ -1,0 +1,193 @@
+// What a service answers a request.
+ghost use Rattle.std.specs.Prelude.{◌≡◌, IfOk};
+ghost use Rattle.std.specs.Option.{option_copied};
+ghost use Rattle.handler_run.specs.Handlers.{fault_number, fault_text, replied, faulted_trace, finish, start, given, not_found, run_block, run_route, run_of};
+
+use crate::blocks::run_block;
+use crate::paths::{route_of, segments_of};
+use crate::recorded::Recorded;
+use crate::state::{Fault, Flow, Given, Ran, State};
+use crate::variables::Variables;
+use crate::view::View;
+use lang_core::{
+    Answers, Block, Calls, Copied, Inputs, NoMemory, Reads, Request, Response, Route, Setting,
+    Text, Trace, Writes,
+};
+use std::alloc::Global;
+
+fn fault_number(fault: Fault) -> u64
+    ensures { result ≡ fault_number fault }
+{
+    match fault {
+        Fault::Steps => 1,
+        Fault::Range => 2,
+        Fault::Kind => 3,
+        Fault::Limit => 4,
+        Fault::Words => 5,
+    }
+}
+
+fn fault_text(alloc: Global, fault: Fault) -> Result<Text, NoMemory>
+    ensures { IfOk result (λ text. text ≡ fault_text fault) }
+{
+    let number = fault_number(fault);
+    let text = format!(in alloc; "fault {number}")?;
+    Ok(Text::from(text))
+}
+
+fn replied(response: Response, state: State) -> Trace
+    ensures { result ≡ replied response state }
+{
+    Trace {
+        reads: state.reads.into_reads(),
+        calls: state.calls,
+        answers: state.answers,
+        writes: state.own,
+        response,
+    }
+}
+
+fn faulted_trace(alloc: Global, fault: Fault, state: State) -> Result<Trace, NoMemory>
+    ensures { IfOk result (λ trace. trace ≡ faulted_trace fault state) }
+{
+    Ok(Trace {
+        reads: state.reads.into_reads(),
+        calls: state.calls,
+        answers: state.answers,
+        writes: Writes::new(alloc),
+        response: Response {
+            status: 500,
+            body: fault_text(alloc, fault)?,
+        },
+    })
+}
+
+fn finish(alloc: Global, flow: Flow, state: State) -> Result<Ran, NoMemory>
+    ensures { IfOk result (λ ran. ran ≡ finish flow state) }
+{
+    match flow {
+        Flow::GoesOn => {
+            let response = Response {
+                status: 200,
+                body: Text::of(alloc, "")?,
+            };
+            Ok(Ran::Done(replied(response, state)))
+        }
+        Flow::Replied(response) => Ok(Ran::Done(replied(response, state))),
+        Flow::Wants(call) => Ok(Ran::Wants {
+            slot: state.calls.len(),
+            calls: state.calls,
+            call,
+        }),
+        Flow::Faulted(fault) => Ok(Ran::Done(faulted_trace(alloc, fault, state)?)),
+    }
+}
+
+fn start(alloc: Global) -> State
+    ensures { result ≡ start }
+{
+    State {
+        vars: Variables::new(alloc),
+        own: Writes::new(alloc),
+        reads: Recorded::new(alloc),
+        calls: Calls::new(alloc),
+        answers: Answers::new(alloc),
+        drawn: 0,
+        steps: 0,
+    }
+}
+
+fn given(
+    alloc: Global,
+    setting: &Setting,
+    request: &Request,
+    inputs: &Inputs,
+    answers: &Answers,
+) -> Result<Given, NoMemory>
+    ensures { IfOk result (λ g. g ≡ given setting.now request.now inputs.now answers.now) }
+{
+    Ok(Given {
+        me: setting.me.copied(alloc)?,
+        peers: setting.peers.copied(alloc)?,
+        request: request.copied(alloc)?,
+        segments: segments_of(alloc, &request.path)?,
+        inputs: *inputs,
+        answers: answers.copied(alloc)?,
+    })
+}
+
+fn not_found(alloc: Global) -> Result<Trace, NoMemory>
+    ensures { IfOk result (λ trace. trace ≡ not_found) }
+{
+    Ok(Trace {
+        reads: Reads::new(alloc),
+        calls: Calls::new(alloc),
+        answers: Answers::new(alloc),
+        writes: Writes::new(alloc),
+        response: Response {
+            status: 404,
+            body: Text::of(alloc, "")?,
+        },
+    })
+}
+
+fn run_from_start<V: View>(
+    alloc: Global,
+    given: &Given,
+    view: &V,
+    block: &Block,
+) -> Result<Ran, NoMemory>
+    ensures { IfOk result (λ ran. ran ≡ run_block block.now given.now (V.rows view.now)) }
+{
+    let mut state = start(alloc);
+    let flow = run_block(alloc, given, view, &mut state, block)?;
+    finish(alloc, flow, state)
+}
+
+fn run_route<V: View>(
+    alloc: Global,
+    given: &Given,
+    view: &V,
+    route: Option<&Route>,
+) -> Result<Ran, NoMemory>
+    ensures { IfOk result (λ ran. ran ≡ run_route (option_copied route.entry) given.now (V.rows view.now)) }
+{
+    match route {
+        None => Ok(Ran::Done(not_found(alloc)?)),
+        Some(route) => run_from_start(alloc, given, view, &route.block),
+    }
+}
+
+fn run_request<V: View>(
+    alloc: Global,
+    setting: &Setting,
+    request: &Request,
+    inputs: &Inputs,
+    answers: &Answers,
+    view: &V,
+) -> Result<Ran, NoMemory>
+    ensures { IfOk result (λ ran. ran ≡ run_of setting.now request.now inputs.now answers.now (V.rows view.now)) }
+{
+    let given = given(alloc, setting, request, inputs, answers)?;
+    let routes = setting.program.routes();
+    let route = route_of(alloc, routes, request.method, given.segments.as_slice())?;
+    run_route(alloc, &given, view, route)
+}
+
+/// Runs a request on the rows of a view, with the answers of its first calls: the first route that takes its method
+/// and its path runs, and without one the answer is 404.
+///
+/// A run that comes to a call for which there is no answer wants it; run again with that answer too, it goes on.
+/// The only error is want of memory.
+pub fn run<V: View>(
+    alloc: Global,
+    setting: &Setting,
+    request: &Request,
+    inputs: &Inputs,
+    answers: &Answers,
+    view: &V,
+) -> Result<Ran, NoMemory>
+    ensures meaning { IfOk result (λ ran. ran ≡ run_of setting.now request.now inputs.now answers.now (V.rows view.now)) }
+{
+    run_request(alloc, setting, request, inputs, answers, view)
+}
