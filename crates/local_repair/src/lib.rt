@@ -1,6 +1,16 @@
 //! Local repair: which entries of a log are stale, and the step that runs the first of them again.
 #![tactic(auto)]
 
+mod current;
+mod remaking;
+mod repairer;
+mod rerun;
+mod slots;
 mod stepped;
 
+pub use current::{Stale, apply_entry, find_stale, is_current, rows_after};
+pub use remaking::{Again, remake};
+pub use repairer::Repairer;
+pub use rerun::{is_new_answer, run_again, tentative};
+pub use slots::{NoSlots, Slots};
 pub use stepped::Stepped;

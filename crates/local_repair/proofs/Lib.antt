@@ -1,0 +1,7 @@
+pub mod CallsLemmas
+pub mod CurrentLemmas
+pub mod HandlerLemmas
+pub mod LogLemmas
+pub mod ReplayLemmas
+pub mod StepLemmas
+pub mod TestLemmas

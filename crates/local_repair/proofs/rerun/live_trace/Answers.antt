@@ -1,0 +1,40 @@
+use Rattle.std.proofs.Common.{◌≡◌, ◌∙◌, sym, subst, ap, List, [], ℕ}
+use Rattle.lang_core.specs.declared.request.Response.{Response}
+use Rattle.handler_run.specs.Handlers.{run_of}
+use Rattle.handler_run.specs.declared.state.Ran.{Ran}
+use Rattle.handler_run.specs.declared.state.Ran.TheVariants.{Done}
+use Rattle.local_repair.specs.Steps.{answer_at}
+use Rattle.local_repair.proofs.HandlerLemmas.{handler}
+use Rattle.local_repair.proofs.CallsLemmas.{IsTurn, first_turn, turn_more, done_runs, done_answers}
+use Rattle.local_repair.proofs.rerun.live_trace.Goals as goal
+
+pub loop-turn-init : goal.loop-turn-init
+loop-turn-init g c =
+    let run : List Response → Ran = λ xs. run_of c.args.setting.now c.args.entry.now.request c.args.entry.now.inputs xs c.args.rows.now in
+    let P : List Response → Type 0 = λ xs. IsTurn run (g.S.Slots.consumed_of c.args.slots.now) c.args.old.now c.args.entry.now.slots xs 0 in
+    subst P (sym c.new-answers.ensures)
+    (first_turn run ((handler c.args.setting.now).steady c.args.entry.now.request c.args.entry.now.inputs c.args.rows.now) (g.S.Slots.consumed_of c.args.slots.now) c.args.old.now c.args.entry.now.slots)
+
+pub loop-turn-preserved : goal.loop-turn-preserved
+loop-turn-preserved g c =
+    turn_more (λ xs. run_of c.args.setting.now c.args.entry.now.request c.args.entry.now.inputs xs c.args.rows.now)
+    ((handler c.args.setting.now).steady c.args.entry.now.request c.args.entry.now.inputs c.args.rows.now)
+    (g.S.Slots.consumed_of c.args.slots.now) c.args.old.now c.args.entry.now.slots c.loop-turn.answers c.push.new.self c.loop-turn.turn
+    c.in_ok-trace.field-0 c.in-Wants.slot c.in-Wants.calls c.in-Wants.call c.in_ok-answer-in-Wants.answer
+    c.in_ok-trace.ensures.meaning c.in-Wants.is
+    (rw c.as_slice.ensures at c.in_ok-answer-in-Wants.ensures ∙ ap (λ k. answer_at (g.S.Slots.consumed_of c.args.slots.now) c.args.old.now c.args.entry.now.slots k c.in-Wants.call) (sym c.loop-turn.invariant.count))
+    c.in_ok-push-in-Wants.ensures.ok c.loop-turn.invariant
+
+pub returns-in-Done-clause-run : goal.returns-in-Done-clause-run
+returns-in-Done-clause-run g c =
+    done_runs (λ xs. run_of c.args.setting.now c.args.entry.now.request c.args.entry.now.inputs xs c.args.rows.now)
+    ((handler c.args.setting.now).steady c.args.entry.now.request c.args.entry.now.inputs c.args.rows.now)
+    (g.S.Slots.consumed_of c.args.slots.now) c.args.old.now c.args.entry.now.slots c.loop-turn.answers c.loop-turn.turn c.in-Done.trace
+    c.loop-turn.invariant (sym c.in_ok-trace.ensures.meaning ∙ c.in-Done.is)
+
+pub returns-in-Done-clause-answers : goal.returns-in-Done-clause-answers
+returns-in-Done-clause-answers g c =
+    done_answers (λ xs. run_of c.args.setting.now c.args.entry.now.request c.args.entry.now.inputs xs c.args.rows.now)
+    ((handler c.args.setting.now).steady c.args.entry.now.request c.args.entry.now.inputs c.args.rows.now)
+    (g.S.Slots.consumed_of c.args.slots.now) c.args.old.now c.args.entry.now.slots c.loop-turn.answers c.loop-turn.turn c.in-Done.trace
+    c.loop-turn.invariant (sym c.in_ok-trace.ensures.meaning ∙ c.in-Done.is)
