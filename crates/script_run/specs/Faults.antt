@@ -1,0 +1,9 @@
+-- Why a line is refused, as numbers.
+use Rattle.std.specs.Prelude.{ℕ}
+use Rattle.script_run.specs.declared.line.LineFault.{LineFault}
+use Rattle.script_run.specs.declared.line.LineFault.TheVariants.{Text, Word, Shape}
+
+abbrev pub fault_number : LineFault → ℕ
+fault_number Text = 1
+fault_number Word = 2
+fault_number Shape = 3
