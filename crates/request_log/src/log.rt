@@ -1,5 +1,5 @@
 // The log: entries in order.
-ghost use Rattle.std.specs.Prelude.{◌≡◌, ◌↔◌, ◌≤◌, [], ◌∷◌, ◌++◌, length, find, position, insert, slice_get, OnOk, OnErr, IfOk, IsSome};
+ghost use Rattle.std.specs.Prelude.{◌≡◌, ◌↔◌, ◌≤◌, [], ◌∷◌, ◌++◌, length, find, position, insert, slice_get, OnOk, OnErr, IfOk, IsSome, IsTrue};
 ghost use Rattle.std.specs.Option.{option_copied};
 ghost use Rattle.request_log.specs.Entries.{has_id, has_origin, IsNew, IsKnown, IsLog, with_entry};
 
@@ -130,6 +130,12 @@ impl Log {
         place_of(&self.items, id).map(|place| place as u64)
     }
 
+    fn is_full(&self) -> bool
+        ensures { IsTrue result ↔ (length self.now.entries ≡ MOST_ENTRIES) }
+    {
+        self.len() == MOST_ENTRIES
+    }
+
     /// Puts an entry last. Refused, it is dropped and the log stays.
     pub fn append(&mut self, entry: Entry) -> Result<(), LogFull>
         requires { IsNew entry self.old.entries }
@@ -137,7 +143,7 @@ impl Log {
         ensures full { (result ≡ Err LogFull.Full) ↔ (length self.old.entries ≡ MOST_ENTRIES) }
         ensures err { OnErr result (self.new.entries ≡ self.old.entries) }
     {
-        if self.len() == MOST_ENTRIES {
+        if self.is_full() {
             return Err(LogFull::Full);
         }
         self.items.push(entry)?;
@@ -152,7 +158,7 @@ impl Log {
         ensures full { (result ≡ Err LogFull.Full) ↔ (length self.old.entries ≡ MOST_ENTRIES) }
         ensures err { OnErr result (self.new.entries ≡ self.old.entries) }
     {
-        if self.len() == MOST_ENTRIES {
+        if self.is_full() {
             return Err(LogFull::Full);
         }
         self.items.insert(at as usize, entry)?;
@@ -176,3 +182,6 @@ impl Copied for Log {
         Ok(Log { items })
     }
 }
+
+#[cfg(test)]
+mod tests;
