@@ -168,11 +168,4 @@ impl Service {
     {
         self.repairer.step(alloc, &self.setting, &mut NoSlots)
     }
-
-    /// The number of the first stale entry; None exactly where no entry is stale.
-    pub fn first_stale(&self, alloc: Global) -> Result<Option<u64>, NoMemory>
-        ensures { IfOk result (λ id. id ≡ stale_id self.now) }
-    {
-        self.repairer.first_stale(alloc, &NoSlots)
-    }
 }
