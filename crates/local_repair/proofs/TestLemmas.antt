@@ -1,6 +1,6 @@
 -- The tests say what the facts say: which entry is current, which is the first that is stale, and what a step makes of a log.
-use Rattle.std.proofs.Common.{◌≡◌, ℕ, zero, suc, ◌+◌, ◌<◌, Bool, true, false, ◌&&◌, List, [], ◌∷◌, Option, Some, None, IsSomeAnd, map, length, get_or, set, take, refl, sym, ap, ◌∙◌, inl, inr, arith, nat_eq, option_map, eqb-true, eq-eqb}
-use Rattle.std.specs.Coded.{Coded, coded_ℕ, coded_bool, coded_list, coded_option}
+use Rattle.std.proofs.Common.{◌≡◌, ℕ, zero, suc, ◌<◌, true, false, ◌&&◌, List, [], ◌∷◌, Option, Some, None, IsSomeAnd, map, length, get_or, set, take, refl, sym, ap, inl, inr, arith, nat_eq, option_map, eqb-true, eq-eqb}
+use Rattle.std.specs.Coded.{coded_ℕ, coded_bool, coded_list, coded_option}
 use Rattle.std.specs.List.{list_all}
 use Rattle.std.proofs.lemmas.Bool.{and_parts, and_from, cases_Bool}
 use Rattle.std.proofs.lemmas.List.{get_or_default}

@@ -1,7 +1,6 @@
 -- What a repairer keeps, and which changes of an entry an event may make.
 use Rattle.std.specs.Prelude.{ℕ, ◌≡◌, Bool, List, [], Option, find, IsSomeAnd, option_map}
 use Rattle.std.specs.List.{HoldsAt}
-use Rattle.lang_core.specs.declared.cells.Cell.{Cell}
 use Rattle.lang_core.specs.declared.setting.Setting.{Setting}
 use Rattle.request_log.specs.Entries.{has_id}
 use Rattle.request_log.specs.declared.entry.Entry.{Entry}

@@ -1,6 +1,6 @@
-use Rattle.std.proofs.Common.{◌≡◌, ◌∙◌, ap, subst, List, [], ℕ, Some, None, get_or}
+use Rattle.std.proofs.Common.{◌≡◌, ◌∙◌, ap, subst, List, [], Some, get_or}
 use Rattle.request_log.specs.declared.entry.Entry.{Entry}
-use Rattle.local_repair.specs.Current.{AllCurrent, IsFirstStale}
+use Rattle.local_repair.specs.Current.{AllCurrent}
 use Rattle.local_repair.specs.Repairs.{Kept, IsStaleId, stale_id}
 use Rattle.local_repair.proofs.TestLemmas.{stale_id_none, stale_id_at, is_stale_id}
 use Rattle.local_repair.proofs.repairer.Repairer.first_stale.Goals as goal
