@@ -1,3 +1,4 @@
+pub mod AloneLemmas
 pub mod CallsLemmas
 pub mod CurrentLemmas
 pub mod HandlerLemmas

@@ -1,10 +1,9 @@
 -- The place of an entry in a log, by its number.
-use Rattle.std.proofs.Common.{◌≡◌, ℕ, zero, suc, ◌+◌, ◌<◌, Bool, true, false, cond, not, List, [], ◌∷◌, Option, Some, None, IsSomeAnd, length, slice_get, get_or, set, refl, sym, ap, ◌∙◌, subst, arith, nat_eq, eq-eqb, ne_eqb}
+use Rattle.std.proofs.Common.{◌≡◌, ℕ, zero, suc, ◌+◌, ◌<◌, Bool, true, false, cond, List, [], ◌∷◌, Option, Some, None, length, slice_get, get_or, refl, sym, ap, ◌∙◌, arith, eq-eqb, ne_eqb}
 use Rattle.std.proofs.lemmas.Bool.{eqb-false}
 use Rattle.std.specs.List.{find, position_or_len}
-use Rattle.std.proofs.lemmas.List.{get_or_default}
 use Rattle.std.proofs.lemmas.List.Folds.{find_at}
-use Rattle.request_log.specs.Entries.{has_id, IsDistinct, IsKnown, with_entry}
+use Rattle.request_log.specs.Entries.{has_id, IsDistinct}
 use Rattle.request_log.specs.declared.entry.Entry.{Entry}
 
 none_head : (b : Bool) (x : Entry) (found : Option Entry) → cond b (Some x) found ≡ None → (b ≡ false) × (found ≡ None)

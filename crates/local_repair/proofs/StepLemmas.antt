@@ -1,5 +1,5 @@
 -- What a repair step leaves.
-use Rattle.std.proofs.Common.{◌≡◌, ◌≢◌, ℕ, zero, suc, ◌+◌, ◌<◌, ◌≤◌, Bool, List, [], ◌∷◌, ◌++◌, Option, Some, None, IfSome, IsSomeAnd, All, Contains, map, length, get_or, set, take, refl, sym, ap, ◌∙◌, subst, inl, inr, arith, append-nil, get_or-set_same, get_or-set_other}
+use Rattle.std.proofs.Common.{◌≡◌, ◌≢◌, ℕ, suc, ◌<◌, ◌≤◌, Bool, List, [], ◌∷◌, ◌++◌, Option, Some, None, IfSome, IsSomeAnd, All, Contains, map, length, get_or, set, take, refl, sym, ap, ◌∙◌, subst, inl, inr, arith, append-nil, get_or-set_same, get_or-set_other}
 use Rattle.std.specs.List.{find, position_or_len}
 use Rattle.std.proofs.lemmas.Bool.{cases_Bool, cases_eq}
 use Rattle.std.proofs.lemmas.List.{take-set, get_or_default, get_or-take, length-take}
@@ -17,7 +17,7 @@ use Rattle.handler_run.specs.declared.state.Ran.TheVariants.{Done}
 use Rattle.request_log.specs.Entries.{is_alive, has_id, IsDistinct, IsKnown, with_entry}
 use Rattle.request_log.specs.declared.entry.Entry.{Entry}
 use Rattle.request_log.specs.declared.entry.Made.{Made}
-use Rattle.local_repair.specs.Current.{Consumed, after_entry, rows_after, rows_of, IsCurrentRecord, IsCurrent, AllCurrent, IsFirstStale, IsRun, AllRuns}
+use Rattle.local_repair.specs.Current.{Consumed, after_entry, rows_of, IsCurrentRecord, IsCurrent, AllCurrent, IsFirstStale, IsRun, AllRuns}
 use Rattle.local_repair.specs.Repairs.{IsStaleAgain}
 use Rattle.local_repair.specs.Settling.{HasItsSlots, CanSettle, IsSettled, IsAgain, IsFirstAgain, Leaves}
 use Rattle.local_repair.specs.Steps.{answers_for, calls_of_made, remade, IsRerun, IsRemade, IsFreshOr, AreApart, RanFirst, StepsTo}

@@ -1,8 +1,9 @@
 -- The tests say what the facts say: which entry is current, which is the first that is stale, and what a step makes of a log.
-use Rattle.std.proofs.Common.{◌≡◌, ℕ, zero, suc, ◌+◌, ◌<◌, Bool, true, false, ◌&&◌, List, [], ◌∷◌, Option, Some, None, IsSomeAnd, map, length, get_or, set, take, refl, sym, ap, ◌∙◌, inl, inr, arith, nat_eq, eqb-true, eq-eqb}
-use Rattle.std.specs.Coded.{Coded, coded_ℕ, coded_bool, coded_list, coded_option}
+use Rattle.std.proofs.Common.{◌≡◌, ℕ, zero, suc, ◌<◌, true, false, ◌&&◌, List, [], ◌∷◌, Option, Some, None, IsSomeAnd, map, length, get_or, set, take, refl, sym, ap, inl, inr, arith, nat_eq, option_map, eqb-true, eq-eqb}
+use Rattle.std.specs.Coded.{coded_ℕ, coded_bool, coded_list, coded_option}
 use Rattle.std.specs.List.{list_all}
 use Rattle.std.proofs.lemmas.Bool.{and_parts, and_from, cases_Bool}
+use Rattle.std.proofs.lemmas.List.{get_or_default}
 use Rattle.std.proofs.lemmas.List.Sums.{AllPass-from_list_all, list_all-from_AllPass}
 use Rattle.std.proofs.lemmas.List.Elements.{All-weaker}
 use Rattle.lang_base.specs.Equal.{equal}
@@ -19,6 +20,7 @@ use Rattle.request_log.specs.Entries.{is_alive}
 use Rattle.request_log.specs.declared.entry.Entry.{Entry}
 use Rattle.request_log.specs.declared.entry.Made.{Made}
 use Rattle.local_repair.specs.Current.{Consumed, after_entry, rows_after, IsCurrentRecord, IsCurrent, AllCurrent, IsFirstStale}
+use Rattle.local_repair.specs.Repairs.{IsStaleId, stale_id}
 use Rattle.local_repair.specs.Tests.{gives, is_current_record, has_current, is_current, first_stale, step_with}
 
 pub gives-true : (rows : List Cell) (r : Read) → gives rows r ≡ true → Gives rows r
@@ -131,3 +133,18 @@ step_from consumed remake (e ∷ es) rows (suc place) d l before stale =
 pub step_with_at : (consumed : Consumed) (remake : List Cell → Entry → Entry) (entries : List Entry) (place : ℕ) (d : Entry) → IsFirstStale consumed entries place
     → step_with consumed remake [] entries ≡ set entries place (remake (rows_after [] (take place entries)) (get_or entries place d))
 step_with_at consumed remake entries place d first = step_from consumed remake entries [] place d first.within first.before (first.stale d)
+
+pub stale_id_none : (consumed : Consumed) (entries : List Entry) → AllCurrent consumed [] entries → None ≡ stale_id consumed entries
+stale_id_none consumed entries h = sym (ap (λ o. option_map (λ (e : Entry). e.id) o) (first_stale_none consumed entries [] h))
+
+pub stale_id_at : (consumed : Consumed) (entries : List Entry) (place : ℕ) (d : Entry) → IsFirstStale consumed entries place
+    → Some (get_or entries place d).id ≡ stale_id consumed entries
+stale_id_at consumed entries place d first = sym (ap (λ o. option_map (λ (e : Entry). e.id) o) (first_stale_at consumed entries place d first))
+
+-- its number, where the entry there has it
+pub is_stale_id : (consumed : Consumed) (entries : List Entry) (place : ℕ) (x : Entry) → IsFirstStale consumed entries place → IsStaleId consumed entries (get_or entries place x).id
+is_stale_id consumed entries place x first = record {
+  place = place;
+  first = first;
+  names = λ d. ap (λ (e : Entry). e.id) (get_or_default entries place d x first.within);
+}

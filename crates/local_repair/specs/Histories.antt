@@ -1,5 +1,5 @@
 -- A log as a history of requests.
-use Rattle.std.specs.Prelude.{ℕ, List, [], Option, Some, None, map}
+use Rattle.std.specs.Prelude.{List, Option, Some, None, map}
 use Rattle.lang_core.specs.Traces.{dead_trace}
 use Rattle.lang_core.specs.declared.setting.Setting.{Setting}
 use Rattle.lang_core.specs.declared.trace.Trace.{Trace}

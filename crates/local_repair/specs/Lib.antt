@@ -1,3 +1,4 @@
+pub mod Alone
 pub mod Current
 pub mod Histories
 pub mod Parts

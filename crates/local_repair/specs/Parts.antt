@@ -1,6 +1,5 @@
 -- The parts of a record that is current, and of a step.
 use Rattle.std.specs.Prelude.{◌≡◌, Bool, map}
-use Rattle.std.specs.Coded.{Coded}
 use Rattle.lang_base.specs.Equal.{equal}
 use Rattle.lang_core.specs.contracts.request.Response as response
 use Rattle.lang_core.specs.declared.request.Response.{Response}

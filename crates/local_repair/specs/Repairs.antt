@@ -1,11 +1,12 @@
 -- What a repairer keeps, and which changes of an entry an event may make.
-use Rattle.std.specs.Prelude.{ℕ, ◌≡◌, Bool, List, find, IsSomeAnd}
-use Rattle.lang_core.specs.declared.cells.Cell.{Cell}
+use Rattle.std.specs.Prelude.{ℕ, ◌≡◌, Bool, List, [], Option, find, IsSomeAnd, option_map}
+use Rattle.std.specs.List.{HoldsAt}
 use Rattle.lang_core.specs.declared.setting.Setting.{Setting}
 use Rattle.request_log.specs.Entries.{has_id}
 use Rattle.request_log.specs.declared.entry.Entry.{Entry}
-use Rattle.local_repair.specs.Current.{Consumed}
+use Rattle.local_repair.specs.Current.{Consumed, IsFirstStale}
 use Rattle.local_repair.specs.Settling.{IsFirstAgain}
+use Rattle.local_repair.specs.Tests.{first_stale}
 
 -- what a repairer keeps
 pub record Kept : Type 0 where
@@ -24,3 +25,13 @@ IsAmended entry entries = IsSomeAnd (find (has_id entry.id) entries) (λ old. Am
 abbrev pub IsStaleAgain : Setting → Consumed → Consumed → ℕ → ℕ → List Entry → Entry → Bool → Type 0
 IsStaleAgain setting old new last last' entries entry answered =
     (place : ℕ) × IsFirstAgain setting old new last last' entries place entry answered
+
+-- the first stale entry, wherever it stands, has this number
+pub record IsStaleId (consumed : Consumed) (entries : List Entry) (id : ℕ) : Type 0 where
+  pub place : ℕ
+  pub first : IsFirstStale consumed entries place
+  pub names : HoldsAt (λ e. e.id ≡ id) entries place
+
+-- the number of the first stale entry, by the test
+abbrev pub stale_id : Consumed → List Entry → Option ℕ
+stale_id consumed entries = option_map (λ (e : Entry). e.id) (first_stale consumed [] entries)

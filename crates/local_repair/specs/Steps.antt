@@ -1,6 +1,5 @@
 -- A repair step: what it may answer, and what it leaves.
-use Rattle.std.specs.Prelude.{ℕ, ◌≡◌, ◌+◌, ◌<◌, ◌≤◌, ◌⊎◌, Bool, true, false, not, ◌&&◌, List, [], ◌∷◌, Option, Some, None, if◌then◌else◌, map, take, length, min, nat_eq, slice_get, slice_set, slice_index_or, Contains, All, AllPairs}
-use Rattle.std.specs.Coded.{Coded}
+use Rattle.std.specs.Prelude.{ℕ, ◌≡◌, ◌+◌, ◌<◌, ◌≤◌, ◌⊎◌, Bool, true, false, not, ◌&&◌, List, [], ◌∷◌, Option, Some, None, if◌then◌else◌, map, take, min, nat_eq, slice_get, slice_set, slice_index_or, Contains, All, AllPairs}
 use Rattle.lang_base.specs.Equal.{equal}
 use Rattle.lang_core.specs.Traces.{dead_trace}
 use Rattle.lang_core.specs.contracts.request.Response as response

@@ -1,6 +1,6 @@
 -- Whether an entry is stale, as a test, and what a step makes of a log.
-use Rattle.std.specs.Prelude.{ℕ, Bool, true, false, ◌&&◌, List, [], ◌∷◌, Option, Some, None, if◌then◌else◌, map, nat_eq}
-use Rattle.std.specs.Coded.{Coded, coded_ℕ, coded_bool, coded_list, coded_option}
+use Rattle.std.specs.Prelude.{Bool, false, ◌&&◌, List, [], ◌∷◌, Option, Some, None, if◌then◌else◌, map, nat_eq}
+use Rattle.std.specs.Coded.{coded_ℕ, coded_bool, coded_list, coded_option}
 use Rattle.std.specs.List.{list_all}
 use Rattle.lang_base.specs.Equal.{equal}
 use Rattle.lang_core.specs.Rows.{get, scan}

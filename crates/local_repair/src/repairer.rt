@@ -2,7 +2,7 @@
 ghost use Rattle.std.specs.Prelude.{◌≡◌, ◌↔◌, ◌≤◌, [], ◌∷◌, ◌++◌, All, Err, Ok, IfOk, OnOk, OnErr, MatchOption, insert, length};
 ghost use Rattle.request_log.specs.Entries.{IsNew, IsKnown, with_entry};
 ghost use Rattle.local_repair.specs.Current.{AllCurrent, AllRuns, rows_of};
-ghost use Rattle.local_repair.specs.Repairs.{IsAmended, IsStaleAgain};
+ghost use Rattle.local_repair.specs.Repairs.{IsAmended, IsStaleAgain, IsStaleId, stale_id};
 ghost use Rattle.local_repair.specs.Settling.{HasItsSlots, CanSettle};
 ghost use Rattle.local_repair.specs.Steps.{AreApart, StepsTo};
 
@@ -113,6 +113,20 @@ impl Repairer {
         ensures { self.new.entries ≡ with_entry entry self.old.entries }
     {
         replace(&mut self.log, entry);
+    }
+
+    /// The number of the first stale entry; None exactly where no entry is stale.
+    pub fn first_stale<S: Slots>(&self, alloc: Global, slots: &S) -> Result<Option<u64>, NoMemory>
+        ensures first { IfOk result (λ found. MatchOption found
+            (AllCurrent (S.consumed_of slots.now) [] self.now.entries)
+            (λ id. IsStaleId (S.consumed_of slots.now) self.now.entries id)) }
+        ensures test { IfOk result (λ found. found ≡ stale_id (S.consumed_of slots.now) self.now.entries) }
+    {
+        let entries = self.log.as_slice();
+        match find_stale(alloc, entries, slots)? {
+            None => Ok(None),
+            Some(stale) => Ok(Some(entries[stale.place].id)),
+        }
     }
 
     /// Runs the first stale entry again on the rows before it, if there is one. Refused, nothing changes.

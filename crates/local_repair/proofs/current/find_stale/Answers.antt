@@ -1,4 +1,4 @@
-use Rattle.std.proofs.Common.{[], refl, subst, sym}
+use Rattle.std.proofs.Common.{[], subst}
 use Rattle.lang_core.specs.declared.cells.Cell.{Cell}
 use Rattle.std.proofs.Common.{List}
 use Rattle.local_repair.specs.Current.{IsCurrent}

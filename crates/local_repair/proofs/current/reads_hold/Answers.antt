@@ -1,4 +1,4 @@
-use Rattle.std.proofs.Common.{◌≡◌, refl, subst}
+use Rattle.std.proofs.Common.{subst}
 use Rattle.std.proofs.lemmas.List.Elements.{All-more}
 use Rattle.handler_run.specs.Reads.{Gives}
 use Rattle.local_repair.proofs.current.reads_hold.Goals as goal
