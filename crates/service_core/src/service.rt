@@ -1,15 +1,15 @@
 // A service: what it is set to do, and its log.
-ghost use Rattle.std.specs.Prelude.{◌≡◌, ◌≤◌, [], IfOk, IfErr, option_map};
-ghost use Rattle.execution.specs.Executions.{History};
-ghost use Rattle.local_repair.specs.Current.{AllCurrent, rows_of};
+ghost use Rattle.std.specs.Prelude.{◌≡◌, ◌≤◌, [], IfOk, find, option_map};
+ghost use Rattle.request_log.specs.Entries.{has_id, IsDistinct};
+ghost use Rattle.local_repair.specs.Current.{rows_of};
+ghost use Rattle.local_repair.specs.Alone.{trace_on};
 ghost use Rattle.local_repair.specs.Steps.{StepsTo};
-ghost use Rattle.service_core.specs.Events.{trace_on, committed, unanswered, stale_id, IsArrival, IsOrder, IsStep, arrival_answer, after_arrival};
+ghost use Rattle.service_core.specs.Events.{committed, strike, unanswered, stale_id, IsArrival, IsOrder, IsStep};
+ghost use Rattle.service_core.specs.declared.answers.Command.TheVariants.{Cancel};
 
 use crate::answers::{ArriveRefused, Arrived, Command, OrderRefused, Ordered};
 use handler_run::{Ran, RowsView, run};
-use lang_core::{
-    Answers, Cells, Copied, Inputs, NoMemory, Origin, Request, Seq, Setting, Trace,
-};
+use lang_core::{Answers, Cells, Copied, Inputs, NoMemory, Origin, Request, Seq, Setting, Trace};
 use local_repair::{NoSlots, Repairer, Stepped};
 use request_log::{Entry, Log, LogFull, MOST_ENTRIES, Made};
 use std::alloc::Global;
@@ -25,9 +25,11 @@ pub struct Service {
 }
 
 impl Model for Service {
-    ghost use Rattle.service_core.specs.Events.{Kept, Fits};
+    ghost use Rattle.service_core.specs.Events.{Kept, kept_code, Fits};
 
     ghost Value = { Kept };
+
+    ghost coded = { kept_code };
 
     ghost view = { λ s. record { setting = s.setting; entries = s.repairer.entries } };
 
@@ -46,7 +48,14 @@ fn trace_on(
     ensures { IfOk result (λ trace. trace ≡ trace_on setting.now request.now inputs.now rows.now) }
 {
     let answers = Answers::new(alloc);
-    match run(alloc, setting, request, inputs, &answers, &RowsView { cells: rows })? {
+    match run(
+        alloc,
+        setting,
+        request,
+        inputs,
+        &answers,
+        &RowsView { cells: rows },
+    )? {
         Ran::Done(trace) => Ok(trace),
         Ran::Wants {
             slot: _,
@@ -85,6 +94,23 @@ fn committed(
         answer_version: 1,
         runs: 1,
     })
+}
+
+// The entry of a number, struck; None where there is none.
+fn struck_entry(alloc: Global, log: &Log, id: u64) -> Result<Option<Entry>, NoMemory>
+    ensures entry { IfOk result (λ entry. entry ≡ option_map strike (find (has_id id) log.now.entries)) }
+    ensures distinct { IsDistinct log.now.entries }
+{
+    // The type of the log keeps that no number stands twice.
+    let _entries = log.as_slice();
+    match log.find(id) {
+        None => Ok(None),
+        Some(entry) => {
+            let mut entry = entry.copied(alloc)?;
+            entry.struck = true;
+            Ok(Some(entry))
+        }
+    }
 }
 
 impl Service {
@@ -150,14 +176,21 @@ impl Service {
     pub fn order(&mut self, alloc: Global, command: Command) -> Result<Ordered, OrderRefused>
         ensures { IsOrder self.old command result self.new }
     {
-        let Command::Cancel(id) = command;
-        let Some(entry) = self.repairer.log().find(id) else {
-            return Err(OrderRefused::NoSuchRequest(id));
-        };
-        let mut entry = entry.copied(alloc)?;
-        entry.struck = true;
-        self.repairer.amend(entry);
-        Ok(Ordered { about: id, rule: 1 })
+        match command {
+            Command::Cancel(id) => self.cancel(alloc, id),
+        }
+    }
+
+    fn cancel(&mut self, alloc: Global, id: u64) -> Result<Ordered, OrderRefused>
+        ensures { IsOrder self.old (Cancel id) result self.new }
+    {
+        match struck_entry(alloc, self.repairer.log(), id)? {
+            None => Err(OrderRefused::NoSuchRequest(id)),
+            Some(entry) => {
+                self.repairer.amend(entry);
+                Ok(Ordered { about: id, rule: 1 })
+            }
+        }
     }
 
     /// Runs the first stale entry again, if there is one.
@@ -167,5 +200,12 @@ impl Service {
             StepsTo self.old.setting unanswered unanswered self.old.entries stepped self.new.entries) }
     {
         self.repairer.step(alloc, &self.setting, &mut NoSlots)
+    }
+
+    /// The number of the first stale entry; None exactly where no entry is stale.
+    pub fn first_stale(&self, alloc: Global) -> Result<Option<u64>, NoMemory>
+        ensures { IfOk result (λ id. id ≡ stale_id self.now) }
+    {
+        self.repairer.first_stale(alloc, &NoSlots)
     }
 }
