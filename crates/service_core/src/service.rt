@@ -1,10 +1,12 @@
 // A service: what it is set to do, and its log.
-ghost use Rattle.std.specs.Prelude.{◌≡◌, ◌≤◌, [], IfOk, find, option_map};
+ghost use Rattle.std.specs.Prelude.{◌≡◌, [], ◌∷◌, IfOk, IfNone, MatchOption, find, option_map};
+ghost use Rattle.execution.specs.Executions.{IsLegal};
 ghost use Rattle.request_log.specs.Entries.{has_id, IsDistinct};
-ghost use Rattle.local_repair.specs.Current.{rows_of};
+ghost use Rattle.local_repair.specs.Current.{AllCurrent, rows_of};
+ghost use Rattle.local_repair.specs.Repairs.{IsStaleId};
 ghost use Rattle.local_repair.specs.Alone.{trace_on};
 ghost use Rattle.local_repair.specs.Steps.{StepsTo};
-ghost use Rattle.service_core.specs.Events.{committed, strike, unanswered, stale_id, IsArrival, IsOrder, IsStep};
+ghost use Rattle.service_core.specs.Events.{committed, history, strike, unanswered, stale_id, IsArrival, IsOrder, IsStep};
 ghost use Rattle.service_core.specs.declared.answers.Command.TheVariants.{Cancel};
 
 use crate::answers::{ArriveRefused, Arrived, Command, OrderRefused, Ordered};
@@ -202,9 +204,13 @@ impl Service {
         self.repairer.step(alloc, &self.setting, &mut NoSlots)
     }
 
-    /// The number of the first stale entry; None exactly where no entry is stale.
+    /// The number of the first stale entry; None exactly where no entry is stale. Then log and rows are one legal
+    /// execution of the requests that aren't struck.
     pub fn first_stale(&self, alloc: Global) -> Result<Option<u64>, NoMemory>
-        ensures { IfOk result (λ id. id ≡ stale_id self.now) }
+        ensures id { IfOk result (λ id. id ≡ stale_id self.now) }
+        ensures stale { IfOk result (λ id. MatchOption id (AllCurrent unanswered [] self.now.entries)
+            (λ id. IsStaleId unanswered self.now.entries id)) }
+        ensures legal { IfOk result (λ id. IfNone id (IsLegal (history self.now ∷ []))) }
     {
         self.repairer.first_stale(alloc, &NoSlots)
     }
