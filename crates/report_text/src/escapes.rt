@@ -31,8 +31,8 @@ fn push_key_char(text: &mut String, character: char) -> Result<(), NoMemory>
     push_body_char(text, character)
 }
 
-/// Puts a body last, with its escapes.
-pub fn push_body(text: &mut String, body: &str) -> Result<(), NoMemory>
+// Puts a body last, with its escapes.
+fn push_body(text: &mut String, body: &str) -> Result<(), NoMemory>
     ensures { OnOk result (string_bytes text.new ≡ string_bytes text.old ++ escaped_body body.now) }
 {
     for character in body.chars() {

@@ -10,3 +10,6 @@ mod verdicts;
 pub use entries::{answer_line, log_text};
 pub use rows::rows_text;
 pub use verdicts::verdict_text;
+
+#[cfg(test)]
+mod tests;
