@@ -73,7 +73,8 @@ fn apply_all(cells: &mut Vec<Cell>, writes: Vec<Write>)
 /// Applies the writes, each at its place: a text stands there afterwards, or nothing does. Refused, the rows stay.
 pub fn apply_writes(alloc: Global, cells: &mut Cells, writes: &Writes) -> Result<(), NoMemory>
     ensures ok { OnOk result (cells.new ≡ apply cells.old writes.now) }
-    ensures reads { OnOk result ((table key : List ℕ) → get cells.new table key ≡ written writes.now table key (get cells.old table key)) }
+    ensures reads { OnOk result ((table key : List ℕ) →
+        get cells.new table key ≡ written writes.now table key (get cells.old table key)) }
     ensures err { OnErr result (cells.new ≡ cells.old) }
 {
     let writes = copied_items(alloc, &writes.items)?;

@@ -136,7 +136,8 @@ impl Log {
         self.len() == MOST_ENTRIES
     }
 
-    /// Puts an entry last. Refused, it is dropped and the log stays.
+    /// Puts an entry last, whose number no entry has, nor its origin where that is a call. Refused, it is dropped and
+    /// the log stays.
     pub fn append(&mut self, entry: Entry) -> Result<(), LogFull>
         requires { IsNew entry self.old.entries }
         ensures ok { OnOk result (self.new.entries ≡ self.old.entries ++ entry ∷ []) }
@@ -150,7 +151,8 @@ impl Log {
         Ok(())
     }
 
-    /// Puts an entry at a place, counted from 0, before what stands there. Refused, it is dropped and the log stays.
+    /// Puts an entry, new as for `append`, at a place, counted from 0, before what stands there. Refused, it is
+    /// dropped and the log stays.
     pub fn insert(&mut self, at: u64, entry: Entry) -> Result<(), LogFull>
         requires within { at ≤ length self.old.entries }
         requires is_new { IsNew entry self.old.entries }
@@ -165,7 +167,7 @@ impl Log {
         Ok(())
     }
 
-    /// Puts an entry in place of the one of its number, and hands the old one back.
+    /// Puts an entry in place of the one of its number, which has the same origin, and hands the old one back.
     pub fn put(&mut self, entry: Entry) -> Entry
         requires { IsKnown entry self.old.entries }
         ensures entries { self.new.entries ≡ with_entry entry self.old.entries }
