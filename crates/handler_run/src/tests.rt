@@ -5,11 +5,11 @@ mod words;
 
 use crate::{Ran, RowsView, run};
 use lang_core::{
-    Answers, Cell, Cells, Inputs, Method, Name, Names, NoMemory, Program, Request, Response, Route,
-    Routes, Same, Setting, Text, Trace,
+    Answers, Cell, Cells, Inputs, Method, Name, Names, Program, Request, Response, Route, Routes,
+    Same, Setting, Text, Trace,
 };
 use std::alloc::{AllocError, Global};
-use words::{Misfit, block_of};
+use words::{Misfit, block_of, method_of, two_texts};
 
 fn name(alloc: Global, text: &str) -> Result<Name, Misfit> {
     match Name::new(Text::of(alloc, text)?) {
@@ -38,16 +38,6 @@ fn program(alloc: Global, routes: &str) -> Result<Program, Misfit> {
     }
 }
 
-fn method(word: &str) -> Result<Method, Misfit> {
-    match word {
-        "GET" => Ok(Method::Get),
-        "PUT" => Ok(Method::Put),
-        "POST" => Ok(Method::Post),
-        "DELETE" => Ok(Method::Delete),
-        _ => Err(Misfit::Word),
-    }
-}
-
 fn route(alloc: Global, line: &str) -> Result<Route, Misfit> {
     let Some((word, rest)) = line.split_once('\t') else {
         return Err(Misfit::Word);
@@ -55,10 +45,13 @@ fn route(alloc: Global, line: &str) -> Result<Route, Misfit> {
     let Some((pattern, words)) = rest.split_once('\t') else {
         return Err(Misfit::Word);
     };
+    let method = method_of(word)?;
+    let block = block_of(alloc, words)?;
+    let pattern = Text::of(alloc, pattern)?;
     Ok(Route {
-        method: method(word)?,
-        pattern: Text::of(alloc, pattern)?,
-        block: block_of(alloc, words)?,
+        method,
+        pattern,
+        block,
     })
 }
 
@@ -85,12 +78,15 @@ fn shop(alloc: Global, routes: &str) -> Result<Setting, Misfit> {
 
 // A request of ann's that came by a call of `web`.
 fn request(alloc: Global, method: Method, path: &str, body: &str) -> Result<Request, Misfit> {
+    let chain = names(alloc, "web")?;
+    let who = Text::of(alloc, "ann")?;
+    let (path, body) = two_texts(alloc, path, body)?;
     Ok(Request {
         method,
-        path: Text::of(alloc, path)?,
-        body: Text::of(alloc, body)?,
-        who: Text::of(alloc, "ann")?,
-        chain: names(alloc, "web")?,
+        path,
+        body,
+        who,
+        chain,
     })
 }
 
@@ -117,28 +113,25 @@ fn answers(alloc: Global, count: u16) -> Result<Answers, Misfit> {
     Ok(answers)
 }
 
-fn put_cell(
-    alloc: Global,
-    cells: &mut Cells,
-    table: &str,
-    key: &str,
-    text: &str,
-) -> Result<(), NoMemory> {
-    cells.set(Cell {
-        table: Text::of(alloc, table)?,
-        key: Text::of(alloc, key)?,
-        text: Text::of(alloc, text)?,
-    })
+// A cell for each line: its table, its key and its text, a space between them.
+fn cells(alloc: Global, lines: &str) -> Result<Cells, Misfit> {
+    let mut cells = Cells::new(alloc);
+    for line in lines.split('\n') {
+        cells.set(cell(alloc, line)?)?;
+    }
+    Ok(cells)
 }
 
-fn few_cells(alloc: Global) -> Result<Cells, NoMemory> {
-    let mut cells = Cells::new(alloc);
-    put_cell(alloc, &mut cells, "n", "a", "one")?;
-    put_cell(alloc, &mut cells, "n", "b1", "x")?;
-    put_cell(alloc, &mut cells, "n", "b2", "y")?;
-    put_cell(alloc, &mut cells, "n", "c", "7")?;
-    put_cell(alloc, &mut cells, "m", "b1", "other")?;
-    Ok(cells)
+fn cell(alloc: Global, line: &str) -> Result<Cell, Misfit> {
+    let Some((table, rest)) = line.split_once(' ') else {
+        return Err(Misfit::Word);
+    };
+    let Some((key, text)) = rest.split_once(' ') else {
+        return Err(Misfit::Word);
+    };
+    let (table, key) = two_texts(alloc, table, key)?;
+    let text = Text::of(alloc, text)?;
+    Ok(Cell { table, key, text })
 }
 
 fn trace_line(alloc: Global, trace: &Trace) -> Result<String, AllocError> {
@@ -187,19 +180,37 @@ fn line_of(alloc: Global, ran: &Ran) -> Result<String, AllocError> {
     }
 }
 
-// What a block does on these rows, as the one route that takes the request.
-fn outcome(
-    alloc: Global,
-    count: u16,
-    words: &str,
-    cells: &Cells,
-    body: &str,
-) -> Result<String, Misfit> {
-    let routes = format!(in alloc; "GET\t/n/*/*\t{words}")?;
-    let setting = shop(alloc, routes.as_str())?;
+// A service, a request to it, and the answers of the request's first calls.
+#[derive(Drop)]
+struct Case {
+    setting: Setting,
+    request: Request,
+    answers: Answers,
+}
+
+// The one route of these words, which takes the request.
+fn case_of(alloc: Global, words: &str, count: u16, body: &str) -> Result<Case, Misfit> {
     let request = request(alloc, Method::Get, "/n/x/y", body)?;
     let answers = answers(alloc, count)?;
+    let routes = format!(in alloc; "GET\t/n/*/*\t{words}")?;
+    let setting = shop(alloc, routes.as_str())?;
+    Ok(Case {
+        setting,
+        request,
+        answers,
+    })
+}
+
+// What a case comes to on these rows.
+fn outcome(alloc: Global, case: &Case, cells: &Cells) -> Result<String, Misfit> {
     let view = RowsView { cells };
-    let ran = run(alloc, &setting, &request, &INPUTS, &answers, &view)?;
+    let ran = run(
+        alloc,
+        &case.setting,
+        &case.request,
+        &INPUTS,
+        &case.answers,
+        &view,
+    )?;
     Ok(line_of(alloc, &ran)?)
 }

@@ -1,8 +1,7 @@
 // Small handlers, one in a row, and what each comes to.
-use super::words::Misfit;
-use super::{INPUTS, answers, few_cells, line_of, method, outcome, request, shop};
-use crate::{RowsView, run};
-use lang_core::{Cells, Text};
+use super::words::{Misfit, method_of};
+use super::{Case, answers, case_of, cells, outcome, request, shop};
+use lang_core::Cells;
 use std::alloc::Global;
 use std::process::Abort;
 use std::test::Fail;
@@ -163,6 +162,12 @@ GET /n/b/y => 404 [] r0 c0 a0 w0
 GET /n/b/z/ => 404 [] r0 c0 a0 w0
 DELETE /n/a => 404 [] r0 c0 a0 w0";
 
+const CELLS: &str = "n a one
+n b1 x
+n b2 y
+n c 7
+m b1 other";
+
 fn check_row(
     rt: &(impl Abort + AllocGlobal),
     cells: &Cells,
@@ -172,21 +177,21 @@ fn check_row(
     let Some((words, want)) = row.split_once(" => ") else {
         return Err(Misfit::Word);
     };
-    let line = outcome(rt.alloc(), count, words, cells, "hello")?;
+    let case = case_of(rt.alloc(), words, count, "hello")?;
+    let line = outcome(rt.alloc(), &case, cells)?;
     assert_eq!(rt; line.as_str(), want, "{words}");
     Ok(())
 }
 
 // Each row has words and what they come to.
 fn check_rows(rt: &(impl Abort + AllocGlobal), rows: &str) -> Result<(), Misfit> {
-    let cells = few_cells(rt.alloc())?;
+    let cells = cells(rt.alloc(), CELLS)?;
     for row in rows.split('\n') {
         check_row(rt, &cells, 0, row)?;
     }
     Ok(())
 }
 
-// Each row has a number of answers before its words.
 fn check_call(rt: &(impl Abort + AllocGlobal), cells: &Cells, row: &str) -> Result<(), Misfit> {
     let Some((count, rest)) = row.split_once(' ') else {
         return Err(Misfit::Word);
@@ -197,39 +202,44 @@ fn check_call(rt: &(impl Abort + AllocGlobal), cells: &Cells, row: &str) -> Resu
     }
 }
 
+// Each row has a number of answers before its words.
 fn check_calls(rt: &(impl Abort + AllocGlobal), rows: &str) -> Result<(), Misfit> {
-    let cells = few_cells(rt.alloc())?;
+    let cells = cells(rt.alloc(), CELLS)?;
     for row in rows.split('\n') {
         check_call(rt, &cells, row)?;
     }
     Ok(())
 }
 
-fn routed(alloc: Global, word: &str, path: &str) -> Result<String, Misfit> {
+fn routed(alloc: Global, word: &str, path: &str) -> Result<Case, Misfit> {
+    let request = request(alloc, method_of(word)?, path, "")?;
+    let answers = answers(alloc, 0)?;
     let setting = shop(alloc, ROUTES)?;
-    let request = request(alloc, method(word)?, path, "")?;
-    let cells = Cells::new(alloc);
-    let view = RowsView { cells: &cells };
-    let ran = run(
-        alloc,
-        &setting,
-        &request,
-        &INPUTS,
-        &answers(alloc, 0)?,
-        &view,
-    )?;
-    Ok(line_of(alloc, &ran)?)
+    Ok(Case {
+        setting,
+        request,
+        answers,
+    })
 }
 
-fn check_request(rt: &(impl Abort + AllocGlobal), row: &str) -> Result<(), Misfit> {
+fn check_request(rt: &(impl Abort + AllocGlobal), cells: &Cells, row: &str) -> Result<(), Misfit> {
     let Some((asked, want)) = row.split_once(" => ") else {
         return Err(Misfit::Word);
     };
     let Some((word, path)) = asked.split_once(' ') else {
         return Err(Misfit::Word);
     };
-    let line = routed(rt.alloc(), word, path)?;
+    let case = routed(rt.alloc(), word, path)?;
+    let line = outcome(rt.alloc(), &case, cells)?;
     assert_eq!(rt; line.as_str(), want, "{asked}");
+    Ok(())
+}
+
+fn check_requests(rt: &(impl Abort + AllocGlobal), rows: &str) -> Result<(), Misfit> {
+    let cells = cells(rt.alloc(), CELLS)?;
+    for row in rows.split('\n') {
+        check_request(rt, &cells, row)?;
+    }
     Ok(())
 }
 
@@ -253,8 +263,6 @@ fn calls(rt: HostRuntime) -> Result<(), Fail> {
 
 #[test]
 fn routes(rt: HostRuntime) -> Result<(), Fail> {
-    for row in REQUESTS.split('\n') {
-        check_request(&rt, row)?;
-    }
+    check_requests(&rt, REQUESTS)?;
     Ok(())
 }

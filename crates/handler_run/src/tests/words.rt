@@ -57,6 +57,14 @@ struct Opened {
     before: Items<Stmt>,
 }
 
+// Three expressions, in the order in which they were written.
+#[derive(Drop)]
+struct Operands {
+    first: Expr,
+    second: Expr,
+    third: Expr,
+}
+
 #[derive(Drop)]
 struct Assembler {
     exprs: Vec<Expr>,
@@ -71,7 +79,15 @@ fn pair_of(text: &str) -> Result<(&str, &str), Misfit> {
     }
 }
 
-fn method_of(word: &str) -> Result<Method, Misfit> {
+/// Two texts.
+pub fn two_texts(alloc: Global, first: &str, second: &str) -> Result<(Text, Text), Misfit> {
+    let first = Text::of(alloc, first)?;
+    let second = Text::of(alloc, second)?;
+    Ok((first, second))
+}
+
+/// The method that a word names.
+pub fn method_of(word: &str) -> Result<Method, Misfit> {
     match word {
         "GET" => Ok(Method::Get),
         "PUT" => Ok(Method::Put),
@@ -136,30 +152,43 @@ impl Assembler {
         self.state(Stmt::Reply { status, body })
     }
 
+    fn operands(&mut self) -> Result<Operands, Misfit> {
+        let third = self.pop()?;
+        let second = self.pop()?;
+        let first = self.pop()?;
+        Ok(Operands {
+            first,
+            second,
+            third,
+        })
+    }
+
     fn call(&mut self, alloc: Global, names: &str) -> Result<(), Misfit> {
         let (status, rest) = pair_of(names)?;
-        let (answer, method) = pair_of(rest)?;
-        let body = self.pop()?;
-        let path = self.pop()?;
-        let dest = self.pop()?;
+        let (answer, word) = pair_of(rest)?;
+        let method = method_of(word)?;
+        let (status, answer) = two_texts(alloc, status, answer)?;
+        let operands = self.operands()?;
+        let Operands {
+            first,
+            second,
+            third,
+        } = operands;
         self.state(Stmt::Call {
-            status: Text::of(alloc, status)?,
-            answer: Text::of(alloc, answer)?,
-            dest,
-            method: method_of(method)?,
-            path,
-            body,
+            status,
+            answer,
+            dest: first,
+            method,
+            path: second,
+            body: third,
         })
     }
 
     fn get(&mut self, alloc: Global, names: &str) -> Result<(), Misfit> {
         let (var, table) = pair_of(names)?;
+        let (var, table) = two_texts(alloc, var, table)?;
         let key = self.pop()?;
-        self.state(Stmt::Get {
-            var: Text::of(alloc, var)?,
-            table: Text::of(alloc, table)?,
-            key,
-        })
+        self.state(Stmt::Get { var, table, key })
     }
 
     fn put_row(&mut self, alloc: Global, table: &str) -> Result<(), Misfit> {
@@ -190,11 +219,13 @@ impl Assembler {
     fn open_each(&mut self, alloc: Global, names: &str) -> Result<(), Misfit> {
         let (key, rest) = pair_of(names)?;
         let (text, table) = pair_of(rest)?;
+        let (key, text) = two_texts(alloc, key, text)?;
+        let table = Text::of(alloc, table)?;
         let prefix = self.pop()?;
         let head = Head::Each {
-            key: Text::of(alloc, key)?,
-            text: Text::of(alloc, text)?,
-            table: Text::of(alloc, table)?,
+            key,
+            text,
+            table,
             prefix,
         };
         self.open(alloc, head)
