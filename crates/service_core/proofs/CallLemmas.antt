@@ -4,6 +4,7 @@ use Rattle.std.specs.List.{find, All}
 use Rattle.lang_base.specs.declared.memory.NoMemory.{NoMemory}
 use Rattle.lang_core.specs.declared.inputs.Inputs.{Inputs}
 use Rattle.lang_core.specs.declared.request.Request.{Request}
+use Rattle.lang_core.specs.declared.request.Response.{Response}
 use Rattle.lang_core.specs.declared.setting.Setting.{Setting}
 use Rattle.request_log.specs.Entries.{has_id, IsDistinct, with_entry}
 use Rattle.request_log.specs.declared.entry.Entry.{Entry}
@@ -70,11 +71,11 @@ order_refused s id none =
 pub not_full : (n count : ℕ) → count ≡ n → count < 100000 → nat_le 100000 n ≡ false
 not_full n count e h = let l : n < 100000 = omega arith in search (tests, rules)
 
-pub arrival_done : (s : Kept) (q : Request) (i : Inputs) (e : Entry) (es : List Entry) (count : ℕ) → count ≡ length s.entries → is_full s ≡ false
-    → e ≡ committed (next_id s) q i (trace_on s.setting q i (rows_of s.entries)) → es ≡ s.entries ++ e ∷ []
-    → (Ok (Done (count + 1)) ≡ arrival_answer s) × ((record { setting = s.setting; entries = es }) ≡ after_arrival s q i)
-arrival_done s q i e es count n room is pushed =
-    (rw (room, n) refl, rw room (ap (λ l. record { setting = s.setting; entries = l }) (pushed ∙ ap (λ x. s.entries ++ x ∷ []) is)))
+pub arrival_done : (s : Kept) (q : Request) (i : Inputs) (e : Entry) (es : List Entry) (count : ℕ) (r : Response) → count ≡ length s.entries → is_full s ≡ false
+    → e ≡ committed (next_id s) q i (trace_on s.setting q i (rows_of s.entries)) → r ≡ (trace_on s.setting q i (rows_of s.entries)).response → es ≡ s.entries ++ e ∷ []
+    → (Ok (Done (count + 1) r) ≡ arrival_answer s q i) × ((record { setting = s.setting; entries = es }) ≡ after_arrival s q i)
+arrival_done s q i e es count r n room is response pushed =
+    (rw (room, n, response) refl, rw room (ap (λ l. record { setting = s.setting; entries = l }) (pushed ∙ ap (λ x. s.entries ++ x ∷ []) is)))
 
 -- ---- a step
 

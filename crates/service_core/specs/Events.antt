@@ -83,8 +83,10 @@ abbrev pub after_arrival : Kept → Request → Inputs → Kept
 after_arrival s request inputs =
     if is_full s then s else record s { entries = s.entries ++ arrival s request inputs ∷ [] }
 
-abbrev pub arrival_answer : Kept → Result Arrived ArriveRefused
-arrival_answer s = if is_full s then Err (Full (length s.entries)) else Ok (Committed (next_id s))
+abbrev pub arrival_answer : Kept → Request → Inputs → Result Arrived ArriveRefused
+arrival_answer s request inputs =
+    if is_full s then Err (Full (length s.entries))
+    else Ok (Committed (next_id s) (trace_on s.setting request inputs (rows_of s.entries)).response)
 
 -- ---- an order
 
@@ -141,8 +143,8 @@ history s = history_of s.setting unanswered s.entries
 
 abbrev pub IsArrival : Kept → Request → Inputs → Result Arrived ArriveRefused → Kept → Type 0
 IsArrival s request inputs (Err NoMemory) s' = s' ≡ s
-IsArrival s request inputs (Err (Full n)) s' = (Err (Full n) ≡ arrival_answer s) × (s' ≡ after_arrival s request inputs)
-IsArrival s request inputs (Ok a) s' = (Ok a ≡ arrival_answer s) × (s' ≡ after_arrival s request inputs)
+IsArrival s request inputs (Err (Full n)) s' = (Err (Full n) ≡ arrival_answer s request inputs) × (s' ≡ after_arrival s request inputs)
+IsArrival s request inputs (Ok a) s' = (Ok a ≡ arrival_answer s request inputs) × (s' ≡ after_arrival s request inputs)
 
 abbrev pub IsOrder : Kept → Command → Result Ordered OrderRefused → Kept → Type 0
 IsOrder s command (Err MemoryLacks) s' = s' ≡ s

@@ -1,13 +1,13 @@
 // What the calls of a service answer.
 ghost use Rattle.std.specs.Prelude.{◌≡◌};
 
-use lang_core::NoMemory;
+use lang_core::{NoMemory, Response};
 
 /// What became of a request.
-#[derive(Clone, Copy, PartialEq, Eq)]
+#[derive(Drop)]
 pub enum Arrived {
-    /// It was answered, and logged as the entry of this number.
-    Done { id: u64 },
+    /// It was answered so, and logged as the entry of this number.
+    Done { id: u64, response: Response },
 }
 
 /// Why a request was refused. It changed nothing.

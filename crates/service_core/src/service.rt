@@ -165,10 +165,11 @@ impl Service {
         }
         let rows = self.repairer.rows(alloc)?;
         let trace = trace_on(alloc, &self.setting, &request, &inputs, &rows)?;
+        let response = trace.response.copied(alloc)?;
         let id = count + 1;
         let entry = committed(alloc, id, request, inputs, trace)?;
         match self.repairer.append(entry) {
-            Ok(()) => Ok(Arrived::Done { id }),
+            Ok(()) => Ok(Arrived::Done { id, response }),
             Err(LogFull::NoMemory) => Err(ArriveRefused::NoMemory),
             Err(LogFull::Full) => unreachable!(),
         }

@@ -1,4 +1,5 @@
 use Rattle.std.proofs.Common.{◌≡◌, ◌+◌, ap, ◌∙◌, sym, refl, subst, length, Ok, ◌++◌, ◌∷◌, []}
+use Rattle.lang_core.specs.declared.trace.Trace.{Trace}
 use Rattle.request_log.specs.declared.entry.Entry.{Entry}
 use Rattle.local_repair.specs.Alone.{trace_on}
 use Rattle.local_repair.specs.Current.{rows_of}
@@ -39,7 +40,7 @@ returns-in-Ok c =
     let made : c.in_ok-entry.entry ≡ committed (length es + 1) c.args.request c.args.inputs (trace_on setting c.args.request c.args.inputs (rows_of es)) =
     c.in_ok-entry.ensures ∙ ap (λ t. committed (c.len-count.result + 1) c.args.request c.args.inputs t) traced ∙ ap (λ n. committed (n + 1) c.args.request c.args.inputs (trace_on setting c.args.request c.args.inputs (rows_of es))) count in
     let s : Kept = record { setting = setting; entries = es } in
-    let P : Kept → Type 0 = λ k. (Ok (Done (c.len-count.result + 1)) ≡ arrival_answer k) × ((record { setting = setting; entries = c.append.new.self.entries }) ≡ after_arrival k c.args.request c.args.inputs) in
+    let P : Kept → Type 0 = λ k. (Ok (Done (c.len-count.result + 1) c.in_ok-response.response) ≡ arrival_answer k c.args.request c.args.inputs) × ((record { setting = setting; entries = c.append.new.self.entries }) ≡ after_arrival k c.args.request c.args.inputs) in
     subst P c.self.view_is
-    (arrival_done s c.args.request c.args.inputs c.in_ok-entry.entry c.append.new.self.entries c.len-count.result count
-    (not_full (length es) c.len-count.result count c.if-count-ge-MOST_ENTRIES.false) made c.in-Ok.ensures.ok)
+    (arrival_done s c.args.request c.args.inputs c.in_ok-entry.entry c.append.new.self.entries c.len-count.result c.in_ok-response.response count
+    (not_full (length es) c.len-count.result count c.if-count-ge-MOST_ENTRIES.false) made (c.in_ok-response.ensures ∙ ap (λ (t : Trace). t.response) traced) c.in-Ok.ensures.ok)
