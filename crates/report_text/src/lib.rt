@@ -8,6 +8,7 @@ mod rows;
 mod verdicts;
 
 pub use entries::{answer_line, log_text};
+pub use ids::push_id;
 pub use rows::rows_text;
 pub use verdicts::verdict_text;
 

@@ -1,5 +1,5 @@
 // The audit: whether services are settled.
-ghost use Rattle.std.specs.Prelude.{◌≡◌, ◌+◌, ◌<◌, ◌^◌, ◌≤◌, length, map, IfOk};
+ghost use Rattle.std.specs.Prelude.{◌≡◌, ◌+◌, ◌<◌, ◌^◌, ◌≤◌, length, map, [], ◌∷◌, IfOk};
 ghost use Rattle.execution.specs.Executions.{IsLegal};
 ghost use Rattle.service_core.specs.Events.{history};
 ghost use Rattle.world_core.specs.Verdicts.{verdict, IsLegalIf};
@@ -24,4 +24,18 @@ pub fn audit_services(alloc: Global, services: &[Service]) -> Result<Verdict, No
         }
     }
     Ok(Verdict::Legal)
+}
+
+/// The verdict over one service alone.
+pub fn audit_service(alloc: Global, service: &Service) -> Result<Verdict, NoMemory>
+    ensures verdict { IfOk result (λ v. v ≡ verdict (service.now ∷ [])) }
+    ensures legal { IfOk result (λ v. IsLegalIf v (history service.now ∷ [])) }
+{
+    match service.first_stale(alloc)? {
+        Some(id) => Ok(Verdict::Unsettled {
+            at: 0,
+            what: Outstanding::Stale(id),
+        }),
+        None => Ok(Verdict::Legal),
+    }
 }

@@ -3,5 +3,5 @@
 
 mod audit;
 
-pub use audit::audit_services;
+pub use audit::{audit_service, audit_services};
 pub use journal_rows::{Outstanding, Verdict};
