@@ -54,17 +54,17 @@ fn call_path_fits(path: &Text) -> bool
 fn refuse(
     alloc: Global,
     state: &mut State,
-    x: &Text,
-    y: &Text,
+    status_var: &Text,
+    body_var: &Text,
     status: u16,
 ) -> Result<Flow, NoMemory>
-    ensures { IfOk result (λ flow. ended flow state.new ≡ goes_on (answered x.now y.now (record { status = status; body = [] }) state.old)) }
+    ensures { IfOk result (λ flow. ended flow state.new ≡ goes_on (answered status_var.now body_var.now (record { status = status; body = [] }) state.old)) }
 {
     let response = Response {
         status,
         body: Text::of(alloc, "")?,
     };
-    state.answer(alloc, x, y, &response)?;
+    state.answer(alloc, status_var, body_var, &response)?;
     Ok(Flow::GoesOn)
 }
 
@@ -72,17 +72,17 @@ fn take_answer(
     alloc: Global,
     answer: Option<&Response>,
     state: &mut State,
-    x: &Text,
-    y: &Text,
+    status_var: &Text,
+    body_var: &Text,
     call: CallMade,
 ) -> Result<Flow, NoMemory>
-    ensures { IfOk result (λ flow. ended flow state.new ≡ take_answer (option_copied answer.entry) x.now y.now call state.old) }
+    ensures { IfOk result (λ flow. ended flow state.new ≡ take_answer (option_copied answer.entry) status_var.now body_var.now call state.old) }
 {
     let Some(answer) = answer else {
         return Ok(Flow::Wants(call));
     };
     state.note_call(call, answer.copied(alloc)?)?;
-    state.answer(alloc, x, y, answer)?;
+    state.answer(alloc, status_var, body_var, answer)?;
     Ok(Flow::GoesOn)
 }
 
@@ -91,17 +91,17 @@ fn send(
     alloc: Global,
     given: &Given,
     state: &mut State,
-    x: &Text,
-    y: &Text,
+    status_var: &Text,
+    body_var: &Text,
     call: CallMade,
 ) -> Result<Flow, NoMemory>
-    ensures { IfOk result (λ flow. ended flow state.new ≡ send given.now x.now y.now call state.old) }
+    ensures { IfOk result (λ flow. ended flow state.new ≡ send given.now status_var.now body_var.now call state.old) }
 {
     if state.calls.len() >= MOST_CALLS {
         return Ok(Flow::Faulted(Fault::Limit));
     }
     let answer = given.answers.at(state.calls.len());
-    take_answer(alloc, answer, state, x, y, call)
+    take_answer(alloc, answer, state, status_var, body_var, call)
 }
 
 // The request of a call, for which the service itself is the user.
@@ -129,60 +129,62 @@ fn send_to(
     alloc: Global,
     given: &Given,
     state: &mut State,
-    x: &Text,
-    y: &Text,
+    status_var: &Text,
+    body_var: &Text,
     dest: Option<&Name>,
     method: Method,
     path: Text,
     body: Text,
 ) -> Result<Flow, NoMemory>
     ensures { IfOk result (λ flow. ended flow state.new
-        ≡ send_to (option_copied dest.entry) given.now x.now y.now method path body state.old) }
+        ≡ send_to (option_copied dest.entry) given.now status_var.now body_var.now method path body state.old) }
 {
     let Some(dest) = dest else {
-        return refuse(alloc, state, x, y, 502);
+        return refuse(alloc, state, status_var, body_var, 502);
     };
     let call = CallMade {
         dest: dest.copied(alloc)?,
         request: call_request(alloc, given, method, path, body)?,
     };
-    send(alloc, given, state, x, y, call)
+    send(alloc, given, state, status_var, body_var, call)
 }
 
 fn call_to(
     alloc: Global,
     given: &Given,
     state: &mut State,
-    x: &Text,
-    y: &Text,
+    status_var: &Text,
+    body_var: &Text,
     dest: &Text,
     method: Method,
     path: Text,
     body: Text,
 ) -> Result<Flow, NoMemory>
     ensures { IfOk result (λ flow. ended flow state.new
-        ≡ call_to given.now x.now y.now dest.now method path body state.old) }
+        ≡ call_to given.now status_var.now body_var.now dest.now method path body state.old) }
 {
     if is_loop(given, dest) {
-        return refuse(alloc, state, x, y, 508);
+        return refuse(alloc, state, status_var, body_var, 508);
     }
     let peer = named(given.peers.as_slice(), dest);
-    send_to(alloc, given, state, x, y, peer, method, path, body)
+    send_to(
+        alloc, given, state, status_var, body_var, peer, method, path, body,
+    )
 }
 
 fn call_at(
     alloc: Global,
     given: &Given,
     state: &mut State,
-    x: &Text,
-    y: &Text,
+    status_var: &Text,
+    body_var: &Text,
     dest: &Value,
     method: Method,
     path: Value,
     body: Value,
 ) -> Result<Flow, NoMemory>
     ensures { IfOk result (λ flow. ended flow state.new
-        ≡ call_at given.now x.now y.now dest.now method path body state.old) }
+        ≡ call_at given.now status_var.now body_var.now dest.now method path body state.old) }
 {
     let Value::Str(dest) = dest else {
         return Ok(Flow::Faulted(Fault::Kind));
@@ -199,23 +201,25 @@ fn call_at(
     if !text_fits(&body) {
         return Ok(Flow::Faulted(Fault::Limit));
     }
-    call_to(alloc, given, state, x, y, dest, method, path, body)
+    call_to(
+        alloc, given, state, status_var, body_var, dest, method, path, body,
+    )
 }
 
-/// Runs a `call`, whose answer's status and body go into the variables `x` and `y`.
+/// Runs a `call`, whose answer's status and body go into these variables.
 pub fn run_call(
     alloc: Global,
     given: &Given,
     state: &mut State,
-    x: &Text,
-    y: &Text,
+    status_var: &Text,
+    body_var: &Text,
     dest: &Expr,
     method: Method,
     path: &Expr,
     body: &Expr,
 ) -> Result<Flow, NoMemory>
     ensures { IfOk result (λ flow. ended flow state.new
-        ≡ call_of given.now x.now y.now dest.now method path.now body.now state.old) }
+        ≡ call_of given.now status_var.now body_var.now dest.now method path.now body.now state.old) }
 {
     let dest = match value_in(alloc, given, state, dest)? {
         Ok(dest) => dest,
@@ -226,7 +230,9 @@ pub fn run_call(
         Err(fault) => return Ok(Flow::Faulted(fault)),
     };
     match value_in(alloc, given, state, body)? {
-        Ok(body) => call_at(alloc, given, state, x, y, &dest, method, path, body),
+        Ok(body) => call_at(
+            alloc, given, state, status_var, body_var, &dest, method, path, body,
+        ),
         Err(fault) => Ok(Flow::Faulted(fault)),
     }
 }

@@ -1,7 +1,12 @@
 // What a service answers a request.
-ghost use Rattle.std.specs.Prelude.{◌≡◌, IfOk};
+ghost use Rattle.std.specs.Prelude.{◌≡◌, ◌<◌, List, [], ◌∷◌, ◌++◌, IfOk, length};
 ghost use Rattle.std.specs.Option.{option_copied};
+ghost use Rattle.lang_core.specs.declared.cells.Cell.{Cell};
+ghost use Rattle.lang_core.specs.declared.request.Response.{Response};
 ghost use Rattle.handler_run.specs.Handlers.{fault_number, fault_text, replied, faulted_trace, finish, start, given, not_found, run_block, run_route, run_of};
+ghost use Rattle.handler_run.specs.Laws.{IfDone, IfWants, IsDone, calls_of};
+ghost use Rattle.handler_run.specs.Reads.{GivesAll};
+ghost use Rattle.handler_run.specs.declared.state.Ran.TheVariants.{Done};
 
 use crate::blocks::run_block;
 use crate::paths::{route_of, segments_of};
@@ -188,6 +193,26 @@ pub fn run<V: View>(
     view: &V,
 ) -> Result<Ran, NoMemory>
     ensures meaning { IfOk result (λ ran. ran ≡ run_of setting.now request.now inputs.now answers.now (V.rows view.now)) }
+
+    // What it recorded is what the rows give, and on any rows that give it the run is the same, whatever answers stand
+    // behind those that it took.
+    ensures reads { IfOk result (λ ran. IfDone ran (λ t. GivesAll (V.rows view.now) t.reads)) }
+    ensures same { IfOk result (λ ran. IfDone ran (λ t.
+        (others : List Cell) → GivesAll others t.reads → (later : List Response)
+        → run_of setting.now request.now inputs.now (t.answers ++ later) others ≡ Done t)) }
+
+    // It took the first of the answers, one for each call.
+    ensures takes { IfOk result (λ ran. IfDone ran (λ t. (rest : List Response) × (answers.now ≡ t.answers ++ rest))) }
+    ensures counts { IfOk result (λ ran. IfDone ran (λ t. length t.answers ≡ length t.calls)) }
+
+    // Without answers no call has one. A run that wants an answer took all that it was given, and goes on with one
+    // more; it wants at most 16. A service without peers wants none.
+    ensures starts { answers.now ≡ [] → IfOk result (λ ran. calls_of ran ≡ []) }
+    ensures goes_on { IfOk result (λ ran. IfWants ran (λ slot calls call.
+        (slot ≡ length answers.now) × (length calls ≡ length answers.now)
+        × ((x : Response) → calls_of (run_of setting.now request.now inputs.now (answers.now ++ x ∷ []) (V.rows view.now)) ≡ calls ++ call ∷ []))) }
+    ensures few { IfOk result (λ ran. IfWants ran (λ slot calls call. slot < 16)) }
+    ensures alone { setting.now.peers ≡ [] → IfOk result (λ ran. IsDone ran) }
 {
     run_request(alloc, setting, request, inputs, answers, view)
 }

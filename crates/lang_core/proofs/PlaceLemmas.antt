@@ -1,5 +1,5 @@
 -- What a change at a place does to a list in order.
-use Rattle.std.proofs.Common.{◌≡◌, ◌≤◌, ◌<◌, ℕ, zero, suc, ◌+◌, Bool, true, false, cond, List, [], ◌∷◌, ◌++◌, length, take, drop, refl, sym, ap, ◌∙◌, arith}
+use Rattle.std.proofs.Common.{◌≡◌, ℕ, suc, Bool, true, false, List, [], ◌∷◌, ◌++◌, take, drop, refl, sym, ap, ◌∙◌}
 use Rattle.std.specs.declared.cmp.Ordering.{Ordering}
 use Rattle.std.specs.declared.cmp.Ordering.TheVariants.{Less, Equal, Greater}
 use Rattle.std.specs.Ordering.{ordering_reverse}
@@ -15,12 +15,12 @@ turned p q h = total.antisymm q p ∙ ap ordering_reverse h
 
 module _ {X : Type 0} (place : X → Place) where
   -- what holds of each choice holds of the chosen one
-  chosen : (P : List X → Type 0) (o : Ordering) (a b c : List X) → (o ≡ Less → P a) → (o ≡ Equal → P b) → (o ≡ Greater → P c) → P (by_order o a b c)
+  pub chosen : (P : List X → Type 0) (o : Ordering) (a b c : List X) → (o ≡ Less → P a) → (o ≡ Equal → P b) → (o ≡ Greater → P c) → P (by_order o a b c)
   chosen P Less a b c p q r = p refl
   chosen P Equal a b c p q r = q refl
   chosen P Greater a b c p q r = r refl
 
-  below_before : (p q : Place) (xs : List X) → place_order p q ≡ Less → IsBelowAll place q xs → IsBelowAll place p xs
+  pub below_before : (p q : Place) (xs : List X) → place_order p q ≡ Less → IsBelowAll place q xs → IsBelowAll place p xs
   below_before p q [] h all = tt
   below_before p q (x ∷ xs) h all = (total.trans p q (place x) h all.0, below_before p q xs h all.1)
 

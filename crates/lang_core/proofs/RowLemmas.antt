@@ -1,10 +1,10 @@
 -- Scans and writes keep rows in order.
 use Rattle.std.proofs.Common.{ℕ, ◌+◌, Bool, true, false, cond, List, [], ◌∷◌, Option, Some, None}
-use Rattle.std.specs.List.{filter, fold}
+use Rattle.std.specs.List.{filter}
 use Rattle.lang_core.specs.declared.cells.Cell.{Cell}
 use Rattle.lang_core.specs.declared.writes.Write.{Write}
 use Rattle.lang_core.specs.Places.{Place, place_of, IsBelowAll, IsOrdered}
-use Rattle.lang_core.specs.Rows.{cell_place, cell_size, is_over, kept_from, is_beneath, with_text, after_write, apply}
+use Rattle.lang_core.specs.Rows.{cell_place, cell_size, is_over, kept_from, with_text, after_write, apply}
 use Rattle.lang_core.proofs.PlaceLemmas.{ordered-set, ordered-unset}
 
 -- what holds of both choices holds of the chosen one
@@ -41,7 +41,7 @@ ordered-kept n bytes (c ∷ cs) o = (
       tt (ordered-kept (n + 1) (bytes + cell_size c) cs o.1),
 )
 
-ordered-text : (t k : List ℕ) (o : Option (List ℕ)) (cs : List Cell) → IsOrdered cell_place cs → IsOrdered cell_place (with_text t k o cs)
+pub ordered-text : (t k : List ℕ) (o : Option (List ℕ)) (cs : List Cell) → IsOrdered cell_place cs → IsOrdered cell_place (with_text t k o cs)
 ordered-text t k None cs o = ordered-unset cell_place (place_of t k) cs o
 ordered-text t k (Some x) cs o = ordered-set cell_place (record { table = t; key = k; text = x }) cs o
 

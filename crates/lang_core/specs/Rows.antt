@@ -1,6 +1,6 @@
 -- Rows: what they hold at a key and under a prefix, and what writes make of them.
-use Rattle.std.specs.Prelude.{ℕ, ◌+◌, ◌≡◌, Bool, true, false, ◌&&◌, ◌||◌, List, [], ◌∷◌, Option, Some, None, if◌then◌else◌, nat_lt, length, filter, fold}
-use Rattle.std.specs.Option.{option_map}
+use Rattle.std.specs.Prelude.{ℕ, ◌+◌, Bool, ◌&&◌, ◌||◌, List, [], ◌∷◌, Option, Some, None, if◌then◌else◌, nat_lt, length, filter, fold}
+use Rattle.std.specs.Option.{option_map, option_map_or}
 use Rattle.std.specs.List.{find}
 use Rattle.lang_base.specs.Texts.{same_text, begins_with}
 use Rattle.lang_core.specs.Places.{Place, place_of, same_place, set_in, unset_in}
@@ -50,3 +50,9 @@ after_write cells w = with_text w.table w.key w.text cells
 -- the rows after writes
 abbrev pub apply : List Cell → List Write → List Cell
 apply cells writes = fold after_write cells writes
+
+-- what stands at a key after writes, where this stood there before: the text of the write at that place, or nothing
+-- where that write has none
+abbrev pub written : List Write → List ℕ → List ℕ → Option (List ℕ) → Option (List ℕ)
+written writes t k before =
+    option_map_or (λ (w : Write). w.text) (find (λ w. same_place (write_place w) (place_of t k)) writes) before

@@ -122,10 +122,12 @@ impl Copied for CallId {
     }
 }
 
-/// Where a request comes from: a user, or a call of another service by its name for that call.
+/// Where a request comes from.
 #[derive(Drop)]
 pub enum Origin {
+    /// A user.
     Outside,
+    /// A call, by the service that made it and its number there, from 1.
     Call { caller: Name, number: u64 },
 }
 

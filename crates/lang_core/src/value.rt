@@ -5,8 +5,11 @@ use std::alloc::Global;
 /// A value of the handler language.
 #[derive(Drop)]
 pub enum Value {
+    /// A number.
     Int(i64),
+    /// A text.
     Str(Text),
+    /// What a key has that isn't in its table.
     Nothing,
 }
 

@@ -1,7 +1,7 @@
 // Writes, in the order of table and key, and rows with writes applied.
-ghost use Rattle.std.specs.Prelude.{◌≡◌, ◌+◌, ◌≤◌, ◌<◌, OnOk, OnErr, vec_len, vec_capacity};
+ghost use Rattle.std.specs.Prelude.{ℕ, List, ◌≡◌, ◌+◌, ◌≤◌, ◌<◌, OnOk, OnErr, vec_len, vec_capacity};
 ghost use Rattle.lang_core.specs.Places.{place_of};
-ghost use Rattle.lang_core.specs.Rows.{after_write, apply};
+ghost use Rattle.lang_core.specs.Rows.{after_write, apply, get, written};
 
 use crate::cells::{Cell, Cells};
 use crate::place::{ByPlace, Placed, set_in_room, unset_items};
@@ -73,6 +73,8 @@ fn apply_all(cells: &mut Vec<Cell>, writes: Vec<Write>)
 /// Applies the writes, each at its place: a text stands there afterwards, or nothing does. Refused, the rows stay.
 pub fn apply_writes(alloc: Global, cells: &mut Cells, writes: &Writes) -> Result<(), NoMemory>
     ensures ok { OnOk result (cells.new ≡ apply cells.old writes.now) }
+    ensures reads { OnOk result ((table key : List ℕ) →
+        get cells.new table key ≡ written writes.now table key (get cells.old table key)) }
     ensures err { OnErr result (cells.new ≡ cells.old) }
 {
     let writes = copied_items(alloc, &writes.items)?;

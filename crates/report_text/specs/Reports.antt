@@ -1,5 +1,5 @@
 -- Rows, logs, answers and verdicts as texts.
-use Rattle.std.specs.Prelude.{ℕ, ◌++◌, Bool, true, false, List, [], ◌∷◌, Option, Some, None, if◌then◌else◌, nat_eq, codes, decimal, slice_index_or}
+use Rattle.std.specs.Prelude.{ℕ, ◌<◌, ◌++◌, Bool, true, false, List, [], ◌∷◌, Option, Some, None, if◌then◌else◌, nat_eq, codes, decimal, slice_index_or}
 use Rattle.std.specs.List.{flat_map}
 use Rattle.lang_tree.specs.declared.method.Method.{Method}
 use Rattle.lang_tree.specs.declared.method.Method.TheVariants.{Get, Put, Post, Delete}
@@ -115,3 +115,9 @@ abbrev pub verdict_text : List (List ℕ) → Verdict → List ℕ
 verdict_text names Legal = codes "legal\n"
 verdict_text names (Forged at index) = codes "forged " ++ (id_text (name_at names at) index ++ codes "\n")
 verdict_text names (Unsettled at what) = codes "unsettled " ++ (outstanding_text (name_at names at) what ++ codes "\n")
+
+-- a verdict over so many services: the position of which it speaks, if it does, is that of one of them
+abbrev pub IsVerdictOver : ℕ → Verdict → Type 0
+IsVerdictOver n Legal = Unit {0}
+IsVerdictOver n (Forged at index) = at < n
+IsVerdictOver n (Unsettled at what) = at < n

@@ -1,2 +1,15 @@
-//! Rows, logs and verdicts as texts.
+//! Rows, logs, answers and verdicts as texts.
 #![tactic(auto)]
+
+mod entries;
+mod escapes;
+mod ids;
+mod rows;
+mod verdicts;
+
+pub use entries::{answer_line, log_text};
+pub use rows::rows_text;
+pub use verdicts::verdict_text;
+
+#[cfg(test)]
+mod tests;

@@ -1,5 +1,5 @@
 // The log: entries in order.
-ghost use Rattle.std.specs.Prelude.{◌≡◌, ◌↔◌, ◌≤◌, [], ◌∷◌, ◌++◌, length, find, position, insert, slice_get, OnOk, OnErr, IfOk, IsSome};
+ghost use Rattle.std.specs.Prelude.{◌≡◌, ◌↔◌, ◌≤◌, [], ◌∷◌, ◌++◌, length, find, position, insert, slice_get, OnOk, OnErr, IfOk, IsSome, IsTrue};
 ghost use Rattle.std.specs.Option.{option_copied};
 ghost use Rattle.request_log.specs.Entries.{has_id, has_origin, IsNew, IsKnown, IsLog, with_entry};
 
@@ -130,21 +130,29 @@ impl Log {
         place_of(&self.items, id).map(|place| place as u64)
     }
 
-    /// Puts an entry last. Refused, it is dropped and the log stays.
+    fn is_full(&self) -> bool
+        ensures { IsTrue result ↔ (length self.now.entries ≡ MOST_ENTRIES) }
+    {
+        self.len() == MOST_ENTRIES
+    }
+
+    /// Puts an entry last, whose number no entry has, nor its origin where that is a call. Refused, it is dropped and
+    /// the log stays.
     pub fn append(&mut self, entry: Entry) -> Result<(), LogFull>
         requires { IsNew entry self.old.entries }
         ensures ok { OnOk result (self.new.entries ≡ self.old.entries ++ entry ∷ []) }
         ensures full { (result ≡ Err LogFull.Full) ↔ (length self.old.entries ≡ MOST_ENTRIES) }
         ensures err { OnErr result (self.new.entries ≡ self.old.entries) }
     {
-        if self.len() == MOST_ENTRIES {
+        if self.is_full() {
             return Err(LogFull::Full);
         }
         self.items.push(entry)?;
         Ok(())
     }
 
-    /// Puts an entry at a place, counted from 0, before what stands there. Refused, it is dropped and the log stays.
+    /// Puts an entry, new as for `append`, at a place, counted from 0, before what stands there. Refused, it is
+    /// dropped and the log stays.
     pub fn insert(&mut self, at: u64, entry: Entry) -> Result<(), LogFull>
         requires within { at ≤ length self.old.entries }
         requires is_new { IsNew entry self.old.entries }
@@ -152,14 +160,14 @@ impl Log {
         ensures full { (result ≡ Err LogFull.Full) ↔ (length self.old.entries ≡ MOST_ENTRIES) }
         ensures err { OnErr result (self.new.entries ≡ self.old.entries) }
     {
-        if self.len() == MOST_ENTRIES {
+        if self.is_full() {
             return Err(LogFull::Full);
         }
         self.items.insert(at as usize, entry)?;
         Ok(())
     }
 
-    /// Puts an entry in place of the one of its number, and hands the old one back.
+    /// Puts an entry in place of the one of its number, which has the same origin, and hands the old one back.
     pub fn put(&mut self, entry: Entry) -> Entry
         requires { IsKnown entry self.old.entries }
         ensures entries { self.new.entries ≡ with_entry entry self.old.entries }
@@ -176,3 +184,6 @@ impl Copied for Log {
         Ok(Log { items })
     }
 }
+
+#[cfg(test)]
+mod tests;

@@ -1,4 +1,4 @@
--- The numbers of a line's faults.
+-- Why a line is refused, as numbers.
 use Rattle.std.specs.Prelude.{ℕ}
 use Rattle.script_run.specs.declared.line.LineFault.{LineFault}
 use Rattle.script_run.specs.declared.line.LineFault.TheVariants.{Text, Word, Shape}

@@ -1,5 +1,5 @@
 -- What a line of a script says.
-use Rattle.std.specs.Prelude.{ℕ, Bool, true, false, ◌&&◌, not, List, [], ◌∷◌, length, Option, Some, None, Result, Ok, Err, if◌then◌else◌, nat_eq, nat_lt, nat_le, ◌==◌, codes}
+use Rattle.std.specs.Prelude.{ℕ, Bool, true, ◌&&◌, not, List, [], ◌∷◌, length, Option, Some, None, Result, Ok, Err, if◌then◌else◌, nat_eq, nat_lt, nat_le, ◌==◌, codes}
 use Rattle.std.specs.List.{position_or_len, before_first, after_first, list_any, starts_with}
 use Rattle.std.specs.Str.{is_utf8}
 use Rattle.lang_base.specs.Texts.{same_text}
@@ -37,14 +37,19 @@ abbrev pub at_end : Option (List ℕ) → Read → Read
 at_end None next = next
 at_end (Some rest) next = Err Shape
 
+-- the method of this name
+abbrev pub method_of : List ℕ → Option Method
+method_of word =
+    if same_text word (codes "GET") then Some Get
+    else (if same_text word (codes "PUT") then Some Put
+    else (if same_text word (codes "POST") then Some Post
+    else (if same_text word (codes "DELETE") then Some Delete
+    else None)))
+
 -- goes on with a method
-abbrev pub with_method : List ℕ → (Method → Read) → Read
-with_method word next =
-    if same_text word (codes "GET") then next Get
-    else (if same_text word (codes "PUT") then next Put
-    else (if same_text word (codes "POST") then next Post
-    else (if same_text word (codes "DELETE") then next Delete
-    else Err Shape)))
+abbrev pub with_method : Option Method → (Method → Read) → Read
+with_method None next = Err Shape
+with_method (Some method) next = next method
 
 -- goes on with a number
 abbrev pub with_number : Option ℕ → (ℕ → Read) → Read
@@ -62,7 +67,7 @@ with_id word next =
     (λ rest. with_number (number_of rest) (next (cut_at 47 word).0)))
 
 -- a path that a script may ask: not one of the program's own
-abbrev pub is_asked_path : List ℕ → Bool
+unfoldable pub is_asked_path : List ℕ → Bool
 is_asked_path path = is_path path && not (starts_with nat_eq path (codes "/aire/"))
 
 -- the rest of the line, which may lack
@@ -71,33 +76,44 @@ rest_or_empty None = []
 rest_or_empty (Some rest) = rest
 
 -- a body of at most 65,536 bytes; a backslash stands for nothing yet
-abbrev pub is_body : List ℕ → Bool
+unfoldable pub is_body : List ℕ → Bool
 is_body body = nat_le (length body) 65536 && not (list_any (λ b. b == 92) body)
 
 abbrev pub ask_with : List ℕ → List ℕ → Method → List ℕ → List ℕ → Read
 ask_with service who method path body =
     Ok (Ask service (record { method = method; path = path; body = body; who = who; chain = [] }))
 
--- `S WHO METHOD PATH BODY`
-abbrev pub ask_at : Option (List ℕ) → Read
-ask_at rest = with_word rest (λ service rest. where_good (is_name service)
-    (with_word rest (λ who rest. where_good (is_who who)
-    (with_word rest (λ word rest. with_method word (λ method.
+-- `METHOD PATH BODY`, behind a service and a user
+unfoldable pub request_at : List ℕ → List ℕ → Option (List ℕ) → Read
+request_at service who rest = with_word rest (λ word rest. with_method (method_of word) (λ method.
     with_word rest (λ path rest. where_good (is_asked_path path && is_body (rest_or_empty rest))
-    (ask_with service who method path (rest_or_empty rest)))))))))
+    (ask_with service who method path (rest_or_empty rest)))))
+
+-- `S WHO METHOD PATH BODY`
+unfoldable pub ask_at : Option (List ℕ) → Read
+ask_at rest = with_word rest (λ service rest. where_good (is_name service)
+    (with_word rest (λ who rest. where_good (is_who who) (request_at service who rest))))
+
+-- `TOKEN WHO`, behind a request's name
+abbrev pub order_at : List ℕ → ℕ → Option (List ℕ) → Read
+order_at service id rest = with_word rest (λ token rest. where_good (is_who token)
+    (with_word rest (λ who rest. where_good (is_who who) (at_end rest (Ok (Cancel service id token who))))))
 
 -- `S/N TOKEN WHO`
-abbrev pub cancel_at : Option (List ℕ) → Read
-cancel_at rest = with_word rest (λ word rest. with_id word (λ service id.
-    with_word rest (λ token rest. where_good (is_who token)
-    (with_word rest (λ who rest. where_good (is_who who) (at_end rest (Ok (Cancel service id token who))))))))
+unfoldable pub cancel_at : Option (List ℕ) → Read
+cancel_at rest = with_word rest (λ word rest. with_id word (λ service id. order_at service id rest))
+
+-- goes on with a name, if there is one
+abbrev pub with_name : Option (List ℕ) → (List ℕ → Line) → Read
+with_name None line = Err Shape
+with_name (Some name) line = Ok (line name)
 
 -- `S` alone
-abbrev pub service_at : (List ℕ → Line) → Option (List ℕ) → Read
+unfoldable pub service_at : (List ℕ → Line) → Option (List ℕ) → Read
 service_at line rest = with_word rest (λ service rest. where_good (is_name service) (at_end rest (Ok (line service))))
 
 -- what stands behind the first word
-abbrev pub words_at : List ℕ → Option (List ℕ) → Read
+unfoldable pub words_at : List ℕ → Option (List ℕ) → Read
 words_at word rest =
     if same_text word (codes "ask") then ask_at rest
     else (if same_text word (codes "cancel") then cancel_at rest
@@ -113,7 +129,7 @@ is_passed_over [] = true
 is_passed_over (b ∷ bytes) = b == 35
 
 -- what a line says; its text is tested first, then its first word, then its shape
-abbrev pub line_at : List ℕ → Read
+unfoldable pub line_at : List ℕ → Read
 line_at bytes =
     if is_passed_over bytes then Ok Blank
     else (if not (is_utf8 bytes) then Err Text

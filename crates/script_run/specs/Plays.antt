@@ -6,7 +6,7 @@ use Rattle.lang_base.specs.Texts.{same_text}
 use Rattle.lang_core.specs.declared.inputs.Inputs.{Inputs}
 use Rattle.lang_core.specs.declared.request.Request.{Request}
 use Rattle.report_text.specs.Reports.{answer_line, id_text, log_text, rows_text, verdict_text}
-use Rattle.service_core.specs.Events.{Kept, arrival, arrival_answer, after_arrival, order_answer, after_order, stale_id, after_step}
+use Rattle.service_core.specs.Events.{Kept, arrival_answer, after_arrival, order_answer, after_order, stale_id, after_step}
 use Rattle.service_core.specs.declared.answers.Arrived.{Arrived}
 use Rattle.service_core.specs.declared.answers.Arrived.TheVariants.{Done}
 use Rattle.service_core.specs.declared.answers.ArriveRefused.{ArriveRefused}
@@ -16,7 +16,6 @@ use Rattle.service_core.specs.declared.answers.Ordered.{Ordered}
 use Rattle.service_core.specs.declared.answers.OrderRefused.{OrderRefused}
 use Rattle.service_core.specs.declared.answers.OrderRefused.TheVariants.{NoSuchRequest, NoMemory as MemoryLacks}
 use Rattle.local_repair.specs.Current.{rows_of}
-use Rattle.local_repair.specs.Histories.{trace_of}
 use Rattle.world_core.specs.Verdicts.{verdict}
 use Rattle.script_run.specs.Faults.{fault_number}
 use Rattle.script_run.specs.Lines.{Read, line_at}
@@ -64,11 +63,10 @@ abbrev pub refused_text : List ℕ → List ℕ → ℕ → List ℕ
 refused_text me word n = me ++ (codes " refused " ++ (word ++ (codes " " ++ (decimal n ++ codes "\n"))))
 
 -- the answer of a request, or its refusal
-abbrev pub arrived_text : Kept → Request → Result Arrived ArriveRefused → List ℕ
-arrived_text s request (Ok (Done id)) =
-    answer_line s.setting.me id (trace_of (arrival s request no_inputs).made).response
-arrived_text s request (Err (Full n)) = refused_text s.setting.me (codes "full") n
-arrived_text s request (Err NoMemory) = []
+abbrev pub arrived_text : List ℕ → Result Arrived ArriveRefused → List ℕ
+arrived_text me (Ok (Done id response)) = answer_line me id response
+arrived_text me (Err (Full n)) = refused_text me (codes "full") n
+arrived_text me (Err NoMemory) = []
 
 -- `S ordered TOKEN S/N rule R`, or the refusal
 abbrev pub ordered_text : List ℕ → List ℕ → Result Ordered OrderRefused → List ℕ
@@ -85,7 +83,7 @@ stepped_text me (Some id) = me ++ (codes " ran " ++ (id_text me id ++ codes "\n"
 -- the lines that a line prints
 abbrev pub printed : Kept → Line → List ℕ
 printed s Blank = []
-printed s (Ask service request) = arrived_text s request (arrival_answer s)
+printed s (Ask service request) = arrived_text s.setting.me (arrival_answer s request no_inputs)
 printed s (Cancel service id token who) = ordered_text s.setting.me token (order_answer s (Strike id))
 printed s (Step service) = stepped_text s.setting.me (stale_id s)
 printed s (Rows service) = rows_text (rows_of s.entries)

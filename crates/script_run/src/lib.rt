@@ -2,5 +2,8 @@
 #![tactic(auto)]
 
 mod line;
+mod parts;
+mod read;
 
 pub use line::{Line, LineFault};
+pub use read::read_line;

@@ -1,4 +1,7 @@
-// A line of a script.
+// Lines of a script.
+ghost use Rattle.script_run.specs.Faults.{fault_number};
+ghost use Rattle.std.specs.Prelude.{◌≡◌};
+
 use lang_core::{Name, Request, Text};
 
 /// Why a line is refused. Tests come in this order.
@@ -10,6 +13,19 @@ pub enum LineFault {
     Word,
     /// A part isn't of its form, is over its limit, is missing or is too much, or names no service of the world.
     Shape,
+}
+
+impl LineFault {
+    /// The number by which it is reported: 1 Text, 2 Word, 3 Shape.
+    pub fn number(self) -> u64
+        ensures { result ≡ fault_number self }
+    {
+        match self {
+            LineFault::Text => 1,
+            LineFault::Word => 2,
+            LineFault::Shape => 3,
+        }
+    }
 }
 
 /// What a line says.

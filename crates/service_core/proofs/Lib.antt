@@ -1,2 +1,4 @@
+pub mod CallLemmas
 pub mod EventLemmas
+pub mod LegalLemmas
 pub mod RerunLemmas

@@ -1,6 +1,8 @@
 -- What a service keeps, and what each event makes of it.
-use Rattle.std.specs.Prelude.{ℕ, ◌+◌, ◌≡◌, ◌≤◌, Bool, true, false, List, [], ◌∷◌, ◌++◌, Option, Some, None, Result, Ok, Err, if◌then◌else◌, map, length, nat_le, find, is_some, All, option_map}
-use Rattle.lang_core.specs.Traces.{dead_trace}
+use Rattle.std.specs.Prelude.{ℕ, ◌+◌, ◌≡◌, ◌≤◌, Bool, true, false, List, [], ◌∷◌, ◌++◌, Option, Some, None, Result, Ok, Err, if◌then◌else◌, map, length, nat_le, find, is_some, All, option_map, refl}
+use Rattle.std.specs.Coded.{Coded, code_by, coded×, coded_list}
+use Rattle.lang_core.specs.contracts.setting.Setting as setting
+use Rattle.request_log.specs.contracts.entry.Entry as entry
 use Rattle.lang_core.specs.declared.cells.Cell.{Cell}
 use Rattle.lang_core.specs.declared.ids.Origin.TheVariants.{Outside}
 use Rattle.lang_core.specs.declared.inputs.Inputs.{Inputs}
@@ -8,17 +10,18 @@ use Rattle.lang_core.specs.declared.request.Request.{Request}
 use Rattle.lang_core.specs.declared.request.Response.{Response}
 use Rattle.lang_core.specs.declared.setting.Setting.{Setting}
 use Rattle.lang_core.specs.declared.trace.Trace.{Trace}
-use Rattle.handler_run.specs.Handlers.{run_of}
-use Rattle.handler_run.specs.declared.state.Ran.{Ran}
-use Rattle.handler_run.specs.declared.state.Ran.TheVariants.{Done, Wants}
-use Rattle.request_log.specs.Entries.{is_alive, has_id}
+use Rattle.request_log.specs.Entries.{has_id}
 use Rattle.request_log.specs.declared.entry.Entry.{Entry}
-use Rattle.request_log.specs.declared.entry.Made.{Made}
 use Rattle.execution.specs.Executions.{History}
 use Rattle.local_repair.specs.Current.{Consumed, AllRuns, rows_of}
 use Rattle.local_repair.specs.Histories.{history_of}
-use Rattle.local_repair.specs.Steps.{remade, tentative}
-use Rattle.local_repair.specs.Tests.{first_stale, step_with}
+use Rattle.local_repair.specs.Alone.{remade_on, trace_on}
+use Rattle.local_repair.specs.Repairs.{stale_id as first_stale_id}
+use Rattle.local_repair.specs.Steps.{calls_of_made, tentative}
+use Rattle.local_repair.specs.Tests.{step_with}
+use Rattle.lang_base.specs.declared.memory.NoMemory.{NoMemory as LacksMemory}
+use Rattle.local_repair.specs.declared.stepped.Stepped.{Stepped}
+use Rattle.local_repair.specs.declared.stepped.Stepped.TheVariants.{Idle, Ran}
 use Rattle.service_core.specs.declared.answers.Arrived.{Arrived}
 use Rattle.service_core.specs.declared.answers.Arrived.TheVariants.{Done as Committed}
 use Rattle.service_core.specs.declared.answers.ArriveRefused.{ArriveRefused}
@@ -34,18 +37,15 @@ pub record Kept : Type 0 where
   pub setting : Setting
   pub entries : List Entry
 
+-- by which a proof tells two of them apart
+abbrev pub kept_code : Coded Kept
+kept_code =
+    code_by (Setting × List Entry) (coded× setting.the_row.coded (coded_list entry.the_row.coded)) (λ s. (s.setting, s.entries))
+    (λ p. record { setting = p.0; entries = p.1 }) (λ _. refl)
+
 -- a service without registers: each call would have the tentative answer
 abbrev pub unanswered : Consumed
 unanswered n = tentative
-
--- the trace of a run that ended
-abbrev pub trace_or_dead : Ran → Trace
-trace_or_dead (Done t) = t
-trace_or_dead (Wants slot calls call) = dead_trace
-
--- what a request does on these rows; the run of a service that calls nobody always ends
-abbrev pub trace_on : Setting → Request → Inputs → List Cell → Trace
-trace_on setting request inputs rows = trace_or_dead (run_of setting request inputs [] rows)
 
 -- ---- an arrival
 
@@ -83,14 +83,19 @@ abbrev pub after_arrival : Kept → Request → Inputs → Kept
 after_arrival s request inputs =
     if is_full s then s else record s { entries = s.entries ++ arrival s request inputs ∷ [] }
 
-abbrev pub arrival_answer : Kept → Result Arrived ArriveRefused
-arrival_answer s = if is_full s then Err (Full (length s.entries)) else Ok (Committed (next_id s))
+abbrev pub arrival_answer : Kept → Request → Inputs → Result Arrived ArriveRefused
+arrival_answer s request inputs =
+    if is_full s then Err (Full (length s.entries))
+    else Ok (Committed (next_id s) (trace_on s.setting request inputs (rows_of s.entries)).response)
 
 -- ---- an order
 
+abbrev pub strike : Entry → Entry
+strike e = record e { struck = true }
+
 -- the entries, where the one of this number is struck
 abbrev pub struck : ℕ → List Entry → List Entry
-struck id entries = map (λ (e : Entry). if has_id id e then record e { struck = true } else e) entries
+struck id entries = map (λ e. if has_id id e then strike e else e) entries
 
 abbrev pub has_entry : ℕ → Kept → Bool
 has_entry id s = is_some (find (has_id id) s.entries)
@@ -105,29 +110,12 @@ order_answer s (Cancel id) =
 
 -- ---- a repair step
 
--- the record of an entry on these rows
-abbrev pub made_on : Setting → List Cell → Entry → Made
-made_on setting rows e =
-    record {
-      alive = is_alive e;
-      version = e.version;
-      request = e.request;
-      trace = if is_alive e then trace_on setting e.request e.inputs rows else dead_trace;
-    }
-
-abbrev pub rerun_on : Setting → List Cell → Entry → Entry
-rerun_on setting rows e = remade e (made_on setting rows e) []
-
--- the first stale entry, if there is one
-abbrev pub stale_entry : Kept → Option Entry
-stale_entry s = first_stale unanswered [] s.entries
-
--- its number
+-- the number of the first stale entry, if there is one
 abbrev pub stale_id : Kept → Option ℕ
-stale_id s = option_map (λ (e : Entry). e.id) (stale_entry s)
+stale_id s = first_stale_id unanswered s.entries
 
 abbrev pub after_step : Kept → Kept
-after_step s = record s { entries = step_with unanswered (rerun_on s.setting) [] s.entries }
+after_step s = record s { entries = step_with unanswered (remade_on s.setting) [] s.entries }
 
 -- ---- what always holds
 
@@ -136,8 +124,9 @@ pub record IsNumbered (entries : List Entry) : Type 0 where
   pub within : All (λ e. e.id ≤ length entries) entries
 
 -- an entry of a service that calls nobody
-abbrev pub IsAlone : Entry → Type 0
-IsAlone e = (e.slots ≡ []) × (e.version ≡ 0) × (e.wanted ≡ true)
+pub record IsAlone (e : Entry) : Type 0 where
+  pub slots : e.slots ≡ []
+  pub calls : calls_of_made e.made ≡ []
 
 -- a service's log fits its setting: it calls nobody, each record is what a run gave, and numbers are given in order
 pub record Fits (setting : Setting) (entries : List Entry) : Type 0 where
@@ -154,10 +143,15 @@ history s = history_of s.setting unanswered s.entries
 
 abbrev pub IsArrival : Kept → Request → Inputs → Result Arrived ArriveRefused → Kept → Type 0
 IsArrival s request inputs (Err NoMemory) s' = s' ≡ s
-IsArrival s request inputs (Err (Full n)) s' = (Err (Full n) ≡ arrival_answer s) × (s' ≡ after_arrival s request inputs)
-IsArrival s request inputs (Ok a) s' = (Ok a ≡ arrival_answer s) × (s' ≡ after_arrival s request inputs)
+IsArrival s request inputs (Err (Full n)) s' = (Err (Full n) ≡ arrival_answer s request inputs) × (s' ≡ after_arrival s request inputs)
+IsArrival s request inputs (Ok a) s' = (Ok a ≡ arrival_answer s request inputs) × (s' ≡ after_arrival s request inputs)
 
 abbrev pub IsOrder : Kept → Command → Result Ordered OrderRefused → Kept → Type 0
 IsOrder s command (Err MemoryLacks) s' = s' ≡ s
 IsOrder s command (Err (NoSuchRequest id)) s' = (Err (NoSuchRequest id) ≡ order_answer s command) × (s' ≡ after_order s command)
 IsOrder s command (Ok o) s' = (Ok o ≡ order_answer s command) × (s' ≡ after_order s command)
+
+abbrev pub IsStep : Kept → Result Stepped LacksMemory → Kept → Type 0
+IsStep s (Err e) s' = s' ≡ s
+IsStep s (Ok Idle) s' = (None ≡ stale_id s) × (s' ≡ after_step s)
+IsStep s (Ok (Ran id answered)) s' = (Some id ≡ stale_id s) × (s' ≡ after_step s)

@@ -1,10 +1,13 @@
 // What the calls of a service answer.
+ghost use Rattle.std.specs.Prelude.{◌≡◌};
+
+use lang_core::{NoMemory, Response};
 
 /// What became of a request.
-#[derive(Clone, Copy, PartialEq, Eq)]
+#[derive(Drop)]
 pub enum Arrived {
-    /// It was answered, and logged as the entry of this number.
-    Done { id: u64 },
+    /// It was answered so, and logged as the entry of this number.
+    Done { id: u64, response: Response },
 }
 
 /// Why a request was refused. It changed nothing.
@@ -14,6 +17,16 @@ pub enum ArriveRefused {
     NoMemory,
     /// The log has as many entries as it may have, which is this number.
     Full(u64),
+}
+
+impl From<NoMemory> for ArriveRefused {
+    ghost use Rattle.service_core.specs.declared.answers.ArriveRefused.{ArriveRefused};
+
+    ghost from_gives = { λ _ why. why ≡ ArriveRefused.NoMemory };
+
+    fn from(_: NoMemory) -> ArriveRefused {
+        ArriveRefused::NoMemory
+    }
 }
 
 /// An order of an operator.
@@ -37,4 +50,14 @@ pub enum OrderRefused {
     NoMemory,
     /// There is no request of this number.
     NoSuchRequest(u64),
+}
+
+impl From<NoMemory> for OrderRefused {
+    ghost use Rattle.service_core.specs.declared.answers.OrderRefused.{OrderRefused};
+
+    ghost from_gives = { λ _ why. why ≡ OrderRefused.NoMemory };
+
+    fn from(_: NoMemory) -> OrderRefused {
+        OrderRefused::NoMemory
+    }
 }

@@ -2,5 +2,8 @@
 #![tactic(auto)]
 
 mod answers;
+mod service;
 
 pub use answers::{ArriveRefused, Arrived, Command, OrderRefused, Ordered};
+pub use local_repair::Stepped;
+pub use service::Service;

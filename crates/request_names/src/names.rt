@@ -1,0 +1,72 @@
+// Names of services.
+ghost use Rattle.std.specs.Prelude.{◌≡◌, None, OnErr, IfOk, IfSome};
+ghost use Rattle.std.specs.List.{position};
+ghost use Rattle.lang_core.specs.Names.{is_name_byte};
+ghost use Rattle.request_names.specs.Names.{bad_byte, refusal};
+
+use lang_core::{LONGEST_NAME, Name, NoMemory, Text};
+use std::alloc::Global;
+
+/// Why a text is read as no name. Tests come in this order.
+#[derive(Clone, Copy, PartialEq, Eq, Debug)]
+pub enum NameRefused {
+    /// There was no memory for a name.
+    NoMemory,
+    /// The text is empty.
+    Empty,
+    /// It has more than 32 bytes.
+    TooLong,
+    /// The byte at this place, counted from 0, is none of a-z, 0-9 and `_`; those before it are.
+    BadByte(u64),
+}
+
+impl From<NoMemory> for NameRefused {
+    ghost use Rattle.request_names.specs.declared.names.NameRefused.{NameRefused};
+
+    ghost from_gives = { λ _ why. why ≡ NameRefused.NoMemory };
+
+    fn from(_: NoMemory) -> NameRefused {
+        NameRefused::NoMemory
+    }
+}
+
+fn is_name_byte(byte: u8) -> bool
+    ensures { result ≡ is_name_byte byte }
+{
+    byte.is_ascii_lowercase() || byte.is_ascii_digit() || byte == b'_'
+}
+
+fn bad_byte(bytes: &[u8]) -> Option<usize>
+    ensures { result ≡ bad_byte bytes.now }
+{
+    bytes.iter().position(|b| !is_name_byte(*b))
+}
+
+fn refusal(text: &str) -> Option<NameRefused>
+    ensures { result ≡ refusal text.now }
+{
+    if text.is_empty() {
+        return Some(NameRefused::Empty);
+    }
+    if text.len() as u64 > LONGEST_NAME {
+        return Some(NameRefused::TooLong);
+    }
+    bad_byte(text.as_bytes()).map(|at| NameRefused::BadByte(at as u64))
+}
+
+/// The name with this text, or why it is none.
+#[tactic(auto, using(crate::proofs::Named::named))]
+pub fn read_name(alloc: Global, text: &str) -> Result<Name, NameRefused>
+    ensures name { IfOk result (λ name. name ≡ text.now) }
+    ensures refused { IfSome (refusal text.now) (λ why. result ≡ Err why) }
+    ensures memory { refusal text.now ≡ None → OnErr result (result ≡ Err NameRefused.NoMemory) }
+{
+    if let Some(why) = refusal(text) {
+        return Err(why);
+    }
+    let text = Text::of(alloc, text)?;
+    let Ok(name) = Name::new(text) else {
+        unreachable!()
+    };
+    Ok(name)
+}

@@ -1,0 +1,98 @@
+// The parts of a line.
+ghost use Rattle.std.specs.Prelude.{◌≡◌, ◌==◌, IfOk, Some, None, if◌then◌else◌};
+ghost use Rattle.std.specs.List.{list_any};
+ghost use Rattle.std.specs.Option.{option_map};
+ghost use Rattle.lang_core.specs.Names.{is_name, is_who};
+ghost use Rattle.script_run.specs.Lines.{cut_at, is_asked_path, is_body, method_of, rest_or_empty};
+
+use lang_core::{LONGEST_TEXT, Method, Name, NoMemory, Text, is_path, is_who};
+use std::alloc::Global;
+
+/// The first word, and what stands behind one space, if there is one.
+pub fn cut_word(text: &str) -> (&str, Option<&str>)
+    ensures { (result.0.now, option_map (λ x. x.now) result.1) ≡ cut_at 32 text.now }
+{
+    match text.split_once(' ') {
+        Some((word, rest)) => (word, Some(rest)),
+        None => (text, None),
+    }
+}
+
+/// What stands before the first slash, and what stands behind it, if there is one.
+pub fn cut_slash(text: &str) -> (&str, Option<&str>)
+    ensures { (result.0.now, option_map (λ x. x.now) result.1) ≡ cut_at 47 text.now }
+{
+    match text.split_once('/') {
+        Some((word, rest)) => (word, Some(rest)),
+        None => (text, None),
+    }
+}
+
+/// A service's name, if the word is one.
+pub fn name_part(alloc: Global, word: &str) -> Result<Option<Name>, NoMemory>
+    ensures { IfOk result (λ name. name ≡ (if is_name word.now then Some word.now else None)) }
+{
+    let text = Text::of(alloc, word)?;
+    Ok(Name::new(text).ok())
+}
+
+/// A user or a token, if the word is one.
+pub fn who_part(alloc: Global, word: &str) -> Result<Option<Text>, NoMemory>
+    ensures { IfOk result (λ who. who ≡ (if is_who word.now then Some word.now else None)) }
+{
+    let who = Text::of(alloc, word)?;
+    if !is_who(&who) {
+        return Ok(None);
+    }
+    Ok(Some(who))
+}
+
+/// The method of this name, if there is one.
+pub fn method_part(word: &str) -> Option<Method>
+    ensures { result ≡ method_of word.now }
+{
+    match word {
+        "GET" => Some(Method::Get),
+        "PUT" => Some(Method::Put),
+        "POST" => Some(Method::Post),
+        "DELETE" => Some(Method::Delete),
+        _ => None,
+    }
+}
+
+/// A path that a script may ask, if the word is one.
+#[tactic(auto, unfolding(crate::specs::Lines::is_asked_path))]
+pub fn path_part(alloc: Global, word: &str) -> Result<Option<Text>, NoMemory>
+    ensures { IfOk result (λ path. path ≡ (if is_asked_path word.now then Some word.now else None)) }
+{
+    let path = Text::of(alloc, word)?;
+    if !is_path(&path) || path.as_bytes().starts_with(b"/aire/") {
+        return Ok(None);
+    }
+    Ok(Some(path))
+}
+
+fn has_backslash(body: &[u8]) -> bool
+    ensures { result ≡ list_any (λ b. b == 92) body.now }
+{
+    body.iter().any(|b| *b == b'\\')
+}
+
+#[tactic(auto, unfolding(crate::specs::Lines::is_body))]
+fn is_body(body: &str) -> bool
+    ensures { result ≡ is_body body.now }
+{
+    body.len() as u64 <= LONGEST_TEXT && !has_backslash(body.as_bytes())
+}
+
+/// A body, if the rest of the line is one; where there is none, the body is empty.
+pub fn body_part(alloc: Global, rest: Option<&str>) -> Result<Option<Text>, NoMemory>
+    ensures { let body = rest_or_empty (option_map (λ x. x.now) rest.entry) in
+        IfOk result (λ text. text ≡ (if is_body body then Some body else None)) }
+{
+    let body = rest.unwrap_or("");
+    if !is_body(body) {
+        return Ok(None);
+    }
+    Ok(Some(Text::of(alloc, body)?))
+}

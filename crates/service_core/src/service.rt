@@ -1,0 +1,218 @@
+// A service: what it is set to do, and its log.
+ghost use Rattle.std.specs.Prelude.{◌≡◌, [], ◌∷◌, IfOk, IfNone, MatchOption, find, option_map};
+ghost use Rattle.execution.specs.Executions.{IsLegal};
+ghost use Rattle.request_log.specs.Entries.{has_id, IsDistinct};
+ghost use Rattle.local_repair.specs.Current.{AllCurrent, rows_of};
+ghost use Rattle.local_repair.specs.Repairs.{IsStaleId};
+ghost use Rattle.local_repair.specs.Alone.{trace_on};
+ghost use Rattle.local_repair.specs.Steps.{StepsTo};
+ghost use Rattle.service_core.specs.Events.{committed, history, strike, unanswered, stale_id, IsArrival, IsOrder, IsStep};
+ghost use Rattle.service_core.specs.declared.answers.Command.TheVariants.{Cancel};
+
+use crate::answers::{ArriveRefused, Arrived, Command, OrderRefused, Ordered};
+use handler_run::{Ran, RowsView, run};
+use lang_core::{Answers, Cells, Copied, Inputs, NoMemory, Origin, Request, Seq, Setting, Trace};
+use local_repair::{NoSlots, Repairer, Stepped};
+use request_log::{Entry, Log, LogFull, MOST_ENTRIES, Made};
+use std::alloc::Global;
+use std::marker::Model;
+
+/// A service without peers: its setting, and its log under repair. Its type keeps that the log fits the setting: each
+/// record is what a run of its request gives, and the numbers of entries count from 1 in the order in which they were
+/// made.
+#[derive(Drop)]
+pub struct Service {
+    setting: Setting,
+    repairer: Repairer,
+}
+
+impl Model for Service {
+    ghost use Rattle.service_core.specs.Events.{Kept, kept_code, Fits};
+
+    ghost Value = { Kept };
+
+    ghost coded = { kept_code };
+
+    ghost view = { λ s. record { setting = s.setting; entries = s.repairer.entries } };
+
+    ghost invariant = { λ s. Fits s.setting s.repairer.entries };
+}
+
+// What a request does on these rows.
+fn trace_on(
+    alloc: Global,
+    setting: &Setting,
+    request: &Request,
+    inputs: &Inputs,
+    rows: &Cells,
+) -> Result<Trace, NoMemory>
+    requires { setting.now.peers ≡ [] }
+    ensures { IfOk result (λ trace. trace ≡ trace_on setting.now request.now inputs.now rows.now) }
+{
+    let answers = Answers::new(alloc);
+    match run(
+        alloc,
+        setting,
+        request,
+        inputs,
+        &answers,
+        &RowsView { cells: rows },
+    )? {
+        Ran::Done(trace) => Ok(trace),
+        Ran::Wants {
+            slot: _,
+            calls: _,
+            call: _,
+        } => unreachable!(),
+    }
+}
+
+// The entry of a request from outside that did this.
+fn committed(
+    alloc: Global,
+    id: u64,
+    request: Request,
+    inputs: Inputs,
+    trace: Trace,
+) -> Result<Entry, NoMemory>
+    ensures { IfOk result (λ e. e ≡ committed id request inputs trace) }
+{
+    let made = Made {
+        alive: true,
+        version: 0,
+        request: request.copied(alloc)?,
+        trace,
+    };
+    Ok(Entry {
+        id,
+        origin: Origin::Outside,
+        version: 0,
+        request,
+        wanted: true,
+        struck: false,
+        inputs,
+        made: Some(made),
+        slots: Seq::new(alloc),
+        answer_version: 1,
+        runs: 1,
+    })
+}
+
+// The entry of a number, struck; None where there is none.
+fn struck_entry(alloc: Global, log: &Log, id: u64) -> Result<Option<Entry>, NoMemory>
+    ensures entry { IfOk result (λ entry. entry ≡ option_map strike (find (has_id id) log.now.entries)) }
+    ensures distinct { IsDistinct log.now.entries }
+{
+    // The type of the log keeps that no number stands twice.
+    let _entries = log.as_slice();
+    match log.find(id) {
+        None => Ok(None),
+        Some(entry) => {
+            let mut entry = entry.copied(alloc)?;
+            entry.struck = true;
+            Ok(Some(entry))
+        }
+    }
+}
+
+impl Service {
+    /// A service that has answered nothing yet.
+    pub fn new(alloc: Global, setting: Setting) -> Service
+        requires { setting.peers ≡ [] }
+        ensures setting { result.setting ≡ setting }
+        ensures entries { result.entries ≡ [] }
+    {
+        Service {
+            setting,
+            repairer: Repairer::new(alloc),
+        }
+    }
+
+    /// What it is set to do.
+    pub fn setting(&self) -> &Setting
+        ensures { result.now ≡ self.now.setting }
+    {
+        &self.setting
+    }
+
+    /// Its log.
+    pub fn entries(&self) -> &Log
+        ensures { result.now.entries ≡ self.now.entries }
+    {
+        self.repairer.log()
+    }
+
+    /// The rows at the end of the log.
+    pub fn rows(&self, alloc: Global) -> Result<Cells, NoMemory>
+        ensures { IfOk result (λ rows. rows ≡ rows_of self.now.entries) }
+    {
+        self.repairer.rows(alloc)
+    }
+
+    /// Answers a request from outside, and logs it as the last entry. It is refused where the log has 100,000
+    /// entries.
+    pub fn arrive(
+        &mut self,
+        alloc: Global,
+        request: Request,
+        inputs: Inputs,
+    ) -> Result<Arrived, ArriveRefused>
+        ensures { IsArrival self.old request inputs result self.new }
+    {
+        let count = self.repairer.log().len();
+        if count >= MOST_ENTRIES {
+            return Err(ArriveRefused::Full(count));
+        }
+        let rows = self.repairer.rows(alloc)?;
+        let trace = trace_on(alloc, &self.setting, &request, &inputs, &rows)?;
+        let response = trace.response.copied(alloc)?;
+        let id = count + 1;
+        let entry = committed(alloc, id, request, inputs, trace)?;
+        match self.repairer.append(entry) {
+            Ok(()) => Ok(Arrived::Done { id, response }),
+            Err(LogFull::NoMemory) => Err(ArriveRefused::NoMemory),
+            Err(LogFull::Full) => unreachable!(),
+        }
+    }
+
+    /// Carries out an order. It is refused where it names an entry that isn't there.
+    pub fn order(&mut self, alloc: Global, command: Command) -> Result<Ordered, OrderRefused>
+        ensures { IsOrder self.old command result self.new }
+    {
+        match command {
+            Command::Cancel(id) => self.cancel(alloc, id),
+        }
+    }
+
+    fn cancel(&mut self, alloc: Global, id: u64) -> Result<Ordered, OrderRefused>
+        ensures { IsOrder self.old (Cancel id) result self.new }
+    {
+        match struck_entry(alloc, self.repairer.log(), id)? {
+            None => Err(OrderRefused::NoSuchRequest(id)),
+            Some(entry) => {
+                self.repairer.amend(entry);
+                Ok(Ordered { about: id, rule: 1 })
+            }
+        }
+    }
+
+    /// Runs the first stale entry again, if there is one.
+    pub fn repair_step(&mut self, alloc: Global) -> Result<Stepped, NoMemory>
+        ensures step { IsStep self.old result self.new }
+        ensures first { IfOk result (λ stepped.
+            StepsTo self.old.setting unanswered unanswered self.old.entries stepped self.new.entries) }
+    {
+        self.repairer.step(alloc, &self.setting, &mut NoSlots)
+    }
+
+    /// The number of the first stale entry; None exactly where no entry is stale. Then log and rows are one legal
+    /// execution of the requests that aren't struck.
+    pub fn first_stale(&self, alloc: Global) -> Result<Option<u64>, NoMemory>
+        ensures id { IfOk result (λ id. id ≡ stale_id self.now) }
+        ensures stale { IfOk result (λ id. MatchOption id (AllCurrent unanswered [] self.now.entries)
+            (λ id. IsStaleId unanswered self.now.entries id)) }
+        ensures legal { IfOk result (λ id. IfNone id (IsLegal (history self.now ∷ []))) }
+    {
+        self.repairer.first_stale(alloc, &NoSlots)
+    }
+}
