@@ -1,8 +1,13 @@
 pub mod AloneLemmas
 pub mod CallsLemmas
 pub mod CurrentLemmas
+pub mod EarlierLemmas
+pub mod FindLemmas
 pub mod HandlerLemmas
+pub mod KeyLemmas
 pub mod LogLemmas
+pub mod MemberLemmas
 pub mod ReplayLemmas
+pub mod ScanLemmas
 pub mod StepLemmas
 pub mod TestLemmas

@@ -40,7 +40,7 @@ pub fn rows_after(alloc: Global, entries: &[Entry]) -> Result<Cells, NoMemory>
     Ok(rows)
 }
 
-fn is_text(now: Option<&Text>, found: &Option<Text>) -> bool
+pub(crate) fn is_text(now: Option<&Text>, found: &Option<Text>) -> bool
     ensures { IsTrue result ↔ (option_copied now.entry ≡ found.now) }
 {
     match (now, found) {
@@ -109,7 +109,7 @@ fn answers_hold<S: Slots>(slots: &S, numbers: &[u64], answers: &[Response]) -> b
 }
 
 // Whether a record is of the entry as it is now, with the answers of now.
-fn is_of<S: Slots>(entry: &Entry, made: &Made, slots: &S) -> bool
+pub(crate) fn is_of<S: Slots>(entry: &Entry, made: &Made, slots: &S) -> bool
     ensures { IsTrue result ↔ IsOf (S.consumed_of slots.now) entry.now made.now }
 {
     made.alive == entry.is_alive()

@@ -2,15 +2,21 @@
 #![tactic(auto)]
 
 mod current;
+mod earlier;
+mod fit;
 mod remaking;
 mod repairer;
 mod rerun;
 mod slots;
+mod stale;
 mod stepped;
 
 pub use current::{Stale, apply_entry, find_stale, is_current, rows_after};
+pub use earlier::{scan_finds, text_in};
+pub use fit::Fit;
 pub use remaking::{Again, remake};
 pub use repairer::Repairer;
 pub use rerun::{is_new_answer, run_again, tentative};
 pub use slots::{NoSlots, Slots};
+pub use stale::place_of_stale;
 pub use stepped::Stepped;

@@ -9,6 +9,7 @@ ghost use Rattle.local_repair.specs.Steps.{AreApart, StepsTo};
 use crate::current::{find_stale, rows_after};
 use crate::remaking::{Again, remake};
 use crate::slots::Slots;
+use crate::stale::place_of_stale;
 use crate::stepped::Stepped;
 use lang_core::{Cells, NoMemory, Setting};
 use request_log::{Entry, Log, LogFull};
@@ -116,16 +117,16 @@ impl Repairer {
     }
 
     /// The number of the first stale entry; None exactly where no entry is stale.
-    pub fn first_stale<S: Slots>(&self, alloc: Global, slots: &S) -> Result<Option<u64>, NoMemory>
-        ensures first { IfOk result (λ found. MatchOption found
+    pub fn first_stale<S: Slots>(&self, slots: &S) -> Option<u64>
+        ensures first { MatchOption result
             (AllCurrent (S.consumed_of slots.now) [] self.now.entries)
-            (λ id. IsStaleId (S.consumed_of slots.now) self.now.entries id)) }
-        ensures test { IfOk result (λ found. found ≡ stale_id (S.consumed_of slots.now) self.now.entries) }
+            (λ id. IsStaleId (S.consumed_of slots.now) self.now.entries id) }
+        ensures test { result ≡ stale_id (S.consumed_of slots.now) self.now.entries }
     {
         let entries = self.log.as_slice();
-        match find_stale(alloc, entries, slots)? {
-            None => Ok(None),
-            Some(stale) => Ok(Some(entries[stale.place].id)),
+        match place_of_stale(entries, slots) {
+            None => None,
+            Some(place) => Some(entries[place].id),
         }
     }
 

@@ -10,20 +10,18 @@ returns-in-None-clause-test g c =
     let consumed = g.S.Slots.consumed_of c.args.slots.now in
     let seen : c.as_slice-entries.result.now ≡ c.args.self.now.entries = c.as_slice-entries.ensures.entries ∙ ap (λ (k : Kept). k.entries) c.self.view_is in
     let P : List Entry → Type 0 = λ entries. AllCurrent consumed [] entries in
-    stale_id_none consumed c.args.self.now.entries (subst P seen (rw c.in-None.is at c.in_ok-find_stale.ensures))
+    stale_id_none consumed c.args.self.now.entries (subst P seen c.in-None.ensures)
 
 pub returns-in-Some-clause-test : goal.returns-in-Some-clause-test
 returns-in-Some-clause-test g c =
     let consumed = g.S.Slots.consumed_of c.args.slots.now in
     let seen : c.as_slice-entries.result.now ≡ c.args.self.now.entries = c.as_slice-entries.ensures.entries ∙ ap (λ (k : Kept). k.entries) c.self.view_is in
-    let found = rw c.in-Some.is at c.in_ok-find_stale.ensures in
-    let P : List Entry → Type 0 = λ entries. Some (get_or c.as_slice-entries.result.now c.in-Some.stale.place c.index-entries-stale.result).id ≡ stale_id consumed entries in
-    subst P seen (stale_id_at consumed c.as_slice-entries.result.now c.in-Some.stale.place c.index-entries-stale.result found.0)
+    let P : List Entry → Type 0 = λ entries. Some (get_or c.as_slice-entries.result.now c.in-Some.place c.index-entries-place.result).id ≡ stale_id consumed entries in
+    subst P seen (stale_id_at consumed c.as_slice-entries.result.now c.in-Some.place c.index-entries-place.result c.in-Some.ensures)
 
 pub returns-in-Some-clause-first : goal.returns-in-Some-clause-first
 returns-in-Some-clause-first g c =
     let consumed = g.S.Slots.consumed_of c.args.slots.now in
     let seen : c.as_slice-entries.result.now ≡ c.args.self.now.entries = c.as_slice-entries.ensures.entries ∙ ap (λ (k : Kept). k.entries) c.self.view_is in
-    let found = rw c.in-Some.is at c.in_ok-find_stale.ensures in
-    let P : List Entry → Type 0 = λ entries. IsStaleId consumed entries (get_or c.as_slice-entries.result.now c.in-Some.stale.place c.index-entries-stale.result).id in
-    subst P seen (is_stale_id consumed c.as_slice-entries.result.now c.in-Some.stale.place c.index-entries-stale.result found.0)
+    let P : List Entry → Type 0 = λ entries. IsStaleId consumed entries (get_or c.as_slice-entries.result.now c.in-Some.place c.index-entries-place.result).id in
+    subst P seen (is_stale_id consumed c.as_slice-entries.result.now c.in-Some.place c.index-entries-place.result c.in-Some.ensures)
