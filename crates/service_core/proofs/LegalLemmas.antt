@@ -1,8 +1,7 @@
 -- A service with no stale entry is a legal execution.
-use Rattle.std.proofs.Common.{◌≡◌, ℕ, List, [], ◌∷◌, Bool, true, false, map, ap, refl, Option, Some, None, Result, Ok, Err, IfOk, IfNone, MatchOption, subst}
+use Rattle.std.proofs.Common.{◌≡◌, ℕ, List, [], ◌∷◌, Bool, true, false, map, ap, refl, Option, Some, None, IfNone, MatchOption}
 use Rattle.std.specs.List.{All}
 use Rattle.std.proofs.lemmas.List.Elements.{All-cons, All-nil}
-use Rattle.lang_base.specs.declared.memory.NoMemory.{NoMemory}
 use Rattle.lang_core.specs.Rows.{apply}
 use Rattle.lang_core.specs.declared.cells.Cell.{Cell}
 use Rattle.lang_core.specs.declared.setting.Setting.{Setting}
@@ -30,12 +29,7 @@ legal_one h r = record {
 legal_alone : (s : Kept) → Fits s.setting s.entries → AllCurrent unanswered [] s.entries → IsLegal (history s ∷ [])
 legal_alone s f h = legal_one (history s) (replays s.setting unanswered s.entries [] f.runs h)
 
-none_stale : (s : Kept) → Fits s.setting s.entries → (id : Option ℕ) → MatchOption id (AllCurrent unanswered [] s.entries) (λ id. IsStaleId unanswered s.entries id) → IfNone id (IsLegal (history s ∷ []))
+-- told by the first stale entry
+pub none_stale : (s : Kept) → Fits s.setting s.entries → (id : Option ℕ) → MatchOption id (AllCurrent unanswered [] s.entries) (λ id. IsStaleId unanswered s.entries id) → IfNone id (IsLegal (history s ∷ []))
 none_stale s f None h = legal_alone s f h
 none_stale s f (Some id) h = tt
-
-pub legal_if_none : (s : Kept) → Fits s.setting s.entries → (r : Result (Option ℕ) NoMemory)
-    → IfOk r (λ id. MatchOption id (AllCurrent unanswered [] s.entries) (λ id. IsStaleId unanswered s.entries id))
-    → IfOk r (λ id. IfNone id (IsLegal (history s ∷ [])))
-legal_if_none s f (Ok id) h = none_stale s f id h
-legal_if_none s f (Err e) h = tt

@@ -207,12 +207,12 @@ impl Service {
 
     /// The number of the first stale entry; None exactly where no entry is stale. Then log and rows are one legal
     /// execution of the requests that aren't struck.
-    pub fn first_stale(&self, alloc: Global) -> Result<Option<u64>, NoMemory>
-        ensures id { IfOk result (λ id. id ≡ stale_id self.now) }
-        ensures stale { IfOk result (λ id. MatchOption id (AllCurrent unanswered [] self.now.entries)
-            (λ id. IsStaleId unanswered self.now.entries id)) }
-        ensures legal { IfOk result (λ id. IfNone id (IsLegal (history self.now ∷ []))) }
+    pub fn first_stale(&self) -> Option<u64>
+        ensures id { result ≡ stale_id self.now }
+        ensures stale { MatchOption result (AllCurrent unanswered [] self.now.entries)
+            (λ id. IsStaleId unanswered self.now.entries id) }
+        ensures legal { IfNone result (IsLegal (history self.now ∷ [])) }
     {
-        self.repairer.first_stale(alloc, &NoSlots)
+        self.repairer.first_stale(&NoSlots)
     }
 }
