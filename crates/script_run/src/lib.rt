@@ -7,3 +7,6 @@ mod read;
 
 pub use line::{Line, LineFault};
 pub use read::read_line;
+
+#[cfg(test)]
+mod tests;
