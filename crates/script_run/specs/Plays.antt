@@ -68,17 +68,27 @@ arrived_text me (Ok (Done id response)) = answer_line me id response
 arrived_text me (Err (Full n)) = refused_text me (codes "full") n
 arrived_text me (Err NoMemory) = []
 
--- `S ordered TOKEN S/N rule R`, or the refusal
+-- `S ordered TOKEN S/N rule R`
+abbrev pub ordered_line : List ℕ → List ℕ → ℕ → ℕ → List ℕ
+ordered_line me token about rule =
+    me ++ (codes " ordered " ++ (token ++ (codes " " ++ (id_text me about ++ (codes " rule " ++ (decimal rule ++ codes "\n"))))))
+
+-- what an accepted order prints, or its refusal
 abbrev pub ordered_text : List ℕ → List ℕ → Result Ordered OrderRefused → List ℕ
-ordered_text me token (Ok o) =
-    me ++ (codes " ordered " ++ (token ++ (codes " " ++ (id_text me o.about ++ (codes " rule " ++ (decimal o.rule ++ codes "\n"))))))
+ordered_text me token (Ok o) = ordered_line me token o.about o.rule
 ordered_text me token (Err (NoSuchRequest id)) = refused_text me (codes "nosuchrequest") id
 ordered_text me token (Err MemoryLacks) = []
 
+abbrev pub idle_line : List ℕ → List ℕ
+idle_line me = me ++ codes " idle\n"
+
+abbrev pub ran_line : List ℕ → ℕ → List ℕ
+ran_line me id = me ++ (codes " ran " ++ (id_text me id ++ codes "\n"))
+
 -- `S ran S/N`, or `S idle`
 abbrev pub stepped_text : List ℕ → Option ℕ → List ℕ
-stepped_text me None = me ++ codes " idle\n"
-stepped_text me (Some id) = me ++ (codes " ran " ++ (id_text me id ++ codes "\n"))
+stepped_text me None = idle_line me
+stepped_text me (Some id) = ran_line me id
 
 -- the lines that a line prints
 abbrev pub printed : Kept → Line → List ℕ
