@@ -1,5 +1,5 @@
 -- What follows for a whole run.
-use Rattle.std.proofs.Common.{◌≡◌, ℕ, ◌<◌, ◌≤◌, ◌⊎◌, inl, inr, List, [], ◌∷◌, ◌++◌, Option, Some, None, length, nat_lt, refl, ap, sym, subst, ◌∙◌, arith, rules, tests, true, false}
+use Rattle.std.proofs.Common.{◌≡◌, ℕ, ◌<◌, ◌≤◌, inl, inr, List, [], ◌∷◌, ◌++◌, Option, Some, length, nat_lt, refl, ap, sym, subst, ◌∙◌, arith, rules, tests, true, false}
 use Rattle.execution.specs.Executions.{History, IsLegal}
 use Rattle.io_edge.specs.Edge.{Wrote, Rose}
 use Rattle.io_edge.proofs.Pieces.{front_more, wrote_more}

@@ -98,16 +98,34 @@ fn worked_examples(rt: HostRuntime) -> Result<(), Fail> {
     let alloc = rt.alloc();
     assert!(rt; tells(alloc, &[], (0, 0), 0, &[])?);
     let undone: &[&str] = &[COPIED, UNDONE];
-    assert!(rt; tells(alloc, undone, (0, 0), 0, &[COPIED_TOLD, UNDONE_TOLD, "none\n", LOG_TOLD, "legal\n"])?);
+    assert!(rt;
+        tells(
+            alloc,
+            undone,
+            (0, 0),
+            0,
+            &[COPIED_TOLD, UNDONE_TOLD, "none\n", LOG_TOLD, "legal\n"]
+        )?
+    );
     let beside: &[&str] = &[COPIED, "ask notes ann PUT /n/c x\n", UNDONE];
     let kept = "notes/4 v0 alive r1 out:ann PUT /n/c = 200\n";
-    assert!(rt; tells(
-        alloc,
-        beside,
-        (0, 0),
-        0,
-        &[COPIED_TOLD, "notes/4 = 200\n", UNDONE_TOLD, "notes c x\n", LOG_TOLD, kept, "legal\n"],
-    )?);
+    assert!(rt;
+        tells(
+            alloc,
+            beside,
+            (0, 0),
+            0,
+            &[
+                COPIED_TOLD,
+                "notes/4 = 200\n",
+                UNDONE_TOLD,
+                "notes c x\n",
+                LOG_TOLD,
+                kept,
+                "legal\n"
+            ],
+        )?
+    );
     assert!(rt; tells(alloc, &[SAME_AGAIN], (0, 0), 0, &[SAME_AGAIN_TOLD])?);
     Ok(())
 }
@@ -121,9 +139,25 @@ fn each_status(rt: HostRuntime) -> Result<(), Fail> {
     assert!(rt; tells(alloc, two, (0, 1), 5, &[])?);
     assert!(rt; tells(alloc, two, (0, 2), 5, &["notes/1 = 200\n"])?);
     let bad: &[&str] = &["ask notes ann PUT /n/a hi\n", "# nothing\n", "audit now"];
-    assert!(rt; tells(alloc, bad, (0, 0), 3, &["notes/1 = 200\n", "script refused line 3 number 3\n"])?);
+    assert!(rt;
+        tells(
+            alloc,
+            bad,
+            (0, 0),
+            3,
+            &["notes/1 = 200\n", "script refused line 3 number 3\n"]
+        )?
+    );
     let other: &[&str] = &["step mail\n"];
-    assert!(rt; tells(alloc, other, (0, 0), 3, &["script refused line 1 number 3\n"])?);
+    assert!(rt;
+        tells(
+            alloc,
+            other,
+            (0, 0),
+            3,
+            &["script refused line 1 number 3\n"]
+        )?
+    );
     let (status, out) = ran(alloc, &["run", "@notes"], &[], 0, 0)?;
     assert_eq!(rt; status, 2);
     assert_eq!(rt; out.bytes(), b"usage: word 2\n".as_slice());

@@ -93,13 +93,7 @@ fn closed<K: Sink>(alloc: Global, status: u8, service: Service, out: &mut K) -> 
 }
 
 // The end of a run at a line that is refused.
-fn refusal<K: Sink>(
-    alloc: Global,
-    service: Service,
-    out: &mut K,
-    line: u64,
-    number: u64,
-) -> Ended
+fn refusal<K: Sink>(alloc: Global, service: Service, out: &mut K, line: u64, number: u64) -> Ended
     ensures status { (result.status ≡ 3) ⊎ (result.status ≡ 6) }
     ensures services { result.status ≡ 3 → result.services.items ≡ service ∷ [] }
     ensures verdict { result.status ≡ 3 → HasVerdict result.services.items result.verdict }
@@ -116,12 +110,7 @@ fn refusal<K: Sink>(
     }
 }
 
-fn run<S: Source, K: Sink>(
-    alloc: Global,
-    service: Service,
-    input: &mut S,
-    out: &mut K,
-) -> Ended
+fn run<S: Source, K: Sink>(alloc: Global, service: Service, input: &mut S, out: &mut K) -> Ended
     requires { service ≡ fresh }
     ensures statuses { IsStatus result.status }
     ensures fits { result.status ≢ 2 }

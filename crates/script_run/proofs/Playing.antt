@@ -1,5 +1,5 @@
 -- The lines of a script, one after another.
-use Rattle.std.proofs.Common.{Bor, option_map, ◌≡◌, ℕ, ◌+◌, ◌<◌, ◌≤◌, Bool, true, false, cond, List, [], ◌∷◌, ◌++◌, Option, Some, None, Result, Ok, Err, length, take, drop, ltb, suc, ◌==◌, ◌⊎◌, inl, inr, add-zero, length-drop, refl, ap, sym, ◌∙◌, subst, append_assoc, arith}
+use Rattle.std.proofs.Common.{Bor, option_map, ◌≡◌, ℕ, ◌+◌, ◌<◌, ◌≤◌, Bool, true, false, cond, List, [], ◌∷◌, ◌++◌, Option, Some, None, Ok, Err, length, take, drop, ltb, suc, ◌==◌, ◌⊎◌, inl, inr, add-zero, length-drop, refl, ap, sym, ◌∙◌, subst, append_assoc, arith}
 use Rattle.std.specs.List.{position, position_or_len}
 use Rattle.std.proofs.lemmas.List.Splits.{slice_split_first, slice_split_none}
 use Rattle.std.proofs.lemmas.Bool.Decides.{nat_tests}
@@ -46,10 +46,10 @@ behind_behind a b p = rw append_assoc refl
 -- a line and those behind it, with what the others are known to do
 one_line : (n : ℕ) (s : Kept) (r : Read) (xs ys : List (List ℕ))
     (more : (next : Kept) → (played_from (n + 1) next xs).refused ≡ None
-        → played_from (n + 1) next (xs ++ ys) ≡ behind (played_from (n + 1) next xs).out (played_from (n + 1 + length xs) (played_from (n + 1) next xs).service ys))
+    → played_from (n + 1) next (xs ++ ys) ≡ behind (played_from (n + 1) next xs).out (played_from (n + 1 + length xs) (played_from (n + 1) next xs).service ys))
     → (with_line n s r (λ next. played_from (n + 1) next xs)).refused ≡ None
     → with_line n s r (λ next. played_from (n + 1) next (xs ++ ys))
-        ≡ behind (with_line n s r (λ next. played_from (n + 1) next xs)).out (played_from (n + 1 + length xs) (with_line n s r (λ next. played_from (n + 1) next xs)).service ys)
+    ≡ behind (with_line n s r (λ next. played_from (n + 1) next xs)).out (played_from (n + 1 + length xs) (with_line n s r (λ next. played_from (n + 1) next xs)).service ys)
 one_line n s (Ok line) xs ys more e =
     let next = after s line in
     let p = played_from (n + 1) next xs in

@@ -1,10 +1,9 @@
 -- What a script does, and what it writes.
-use Rattle.std.specs.Prelude.{ℕ, ◌+◌, ◌≡◌, Bool, true, false, List, [], ◌∷◌, ◌++◌, Option, Some, None, Result, Ok, Err, ◌==◌, codes, length, decimal, if◌then◌else◌, nat_lt, take}
+use Rattle.std.specs.Prelude.{ℕ, ◌+◌, Bool, true, List, [], ◌∷◌, ◌++◌, Option, Some, None, Result, Ok, Err, ◌==◌, codes, length, decimal, if◌then◌else◌, nat_lt, take}
 use Rattle.std.specs.List.{slice_split}
 use Rattle.std.proofs.Common.{lit≤}
 use Rattle.lang_base.specs.Texts.{same_text}
 use Rattle.lang_core.specs.declared.inputs.Inputs.{Inputs}
-use Rattle.lang_core.specs.declared.request.Request.{Request}
 use Rattle.report_text.specs.Reports.{answer_line, id_text, log_text, rows_text, verdict_text}
 use Rattle.service_core.specs.Events.{Kept, arrival_answer, after_arrival, order_answer, after_order, stale_id, after_step}
 use Rattle.service_core.specs.declared.answers.Arrived.{Arrived}
@@ -21,7 +20,6 @@ use Rattle.script_run.specs.Faults.{fault_number}
 use Rattle.script_run.specs.Lines.{Read, line_at}
 use Rattle.script_run.specs.declared.line.Line.{Line}
 use Rattle.script_run.specs.declared.line.Line.TheVariants.{Blank, Ask, Cancel, Step, Rows, Log, Audit}
-use Rattle.script_run.specs.declared.line.LineFault.{LineFault}
 use Rattle.script_run.specs.declared.line.LineFault.TheVariants.{Shape}
 
 -- ---- a line in a world of one service

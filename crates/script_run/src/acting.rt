@@ -79,8 +79,18 @@ fn ask(alloc: Global, service: &mut Service, request: Request) -> Result<Text, N
     ensures early { OnErr result ((service.new ≡ service.old) ⊎ (service.new ≡ after_arrival service.old request no_inputs)) }
 {
     match service.arrive(alloc, request, no_inputs()) {
-        Ok(Arrived::Done { id, response }) => answer_line(alloc, &service.setting().me, id, &response),
-        Err(ArriveRefused::Full(count)) => refused_text(alloc, &service.setting().me, "full", count),
+        Ok(Arrived::Done { id, response }) => answer_line(
+            alloc,
+            &service.setting().me,
+            id,
+            &response,
+        ),
+        Err(ArriveRefused::Full(count)) => refused_text(
+            alloc,
+            &service.setting().me,
+            "full",
+            count,
+        ),
         Err(ArriveRefused::NoMemory) => Err(NoMemory),
     }
 }
@@ -91,7 +101,13 @@ fn cancel(alloc: Global, service: &mut Service, id: u64, token: &Text) -> Result
     ensures early { OnErr result ((service.new ≡ service.old) ⊎ (service.new ≡ after_order service.old (Strike id))) }
 {
     match service.order(alloc, Command::Cancel(id)) {
-        Ok(ordered) => ordered_line(alloc, &service.setting().me, token, ordered.about, ordered.rule),
+        Ok(ordered) => ordered_line(
+            alloc,
+            &service.setting().me,
+            token,
+            ordered.about,
+            ordered.rule,
+        ),
         Err(OrderRefused::NoSuchRequest(id)) => {
             refused_text(alloc, &service.setting().me, "nosuchrequest", id)
         }
@@ -127,7 +143,10 @@ pub fn act(alloc: Global, service: &mut Service, line: Line) -> Result<Text, NoM
 {
     match line {
         Line::Blank => Text::of(alloc, ""),
-        Line::Ask { service: _, request } => ask(alloc, service, request),
+        Line::Ask {
+            service: _,
+            request,
+        } => ask(alloc, service, request),
         Line::Cancel {
             service: _,
             id,

@@ -47,14 +47,19 @@ fn is_about(me: &Name, line: &Line) -> bool
 {
     match line {
         Line::Blank | Line::Audit => true,
-        Line::Ask { service, request: _ } => service.text().is(me.text()),
+        Line::Ask {
+            service,
+            request: _,
+        } => service.text().is(me.text()),
         Line::Cancel {
             service,
             id: _,
             token: _,
             who: _,
         } => service.text().is(me.text()),
-        Line::Step { service } | Line::Rows { service } | Line::Log { service } => service.text().is(me.text()),
+        Line::Step { service } | Line::Rows { service } | Line::Log { service } => service
+            .text()
+            .is(me.text()),
     }
 }
 

@@ -1,5 +1,5 @@
 -- The setting of `@notes` is a setting, and two with the same fields are the same.
-use Rattle.std.proofs.Common.{◌≡◌, ℕ, pos, Bool, true, false, ◌&&◌, List, [], ◌∷◌, Option, Some, None, Result, Ok, Err, cond, map, nat_eq, refl, ap, ◌∙◌, codes}
+use Rattle.std.proofs.Common.{◌≡◌, ℕ, pos, Bool, true, false, ◌&&◌, List, [], ◌∷◌, None, Result, Ok, Err, cond, map, nat_eq, refl, ap, ◌∙◌, codes}
 use Rattle.lang_tree.specs.Depths.{Fits, stmt_parts_fit, block_parts_fit, expr_parts_fit, all_fit, nested, stmt_fits, block_fits, expr_within, routes_fit}
 use Rattle.lang_tree.specs.Forms.{is_word}
 use Rattle.lang_tree.specs.declared.expr.Op.TheVariants.{Add, Equal}
@@ -74,7 +74,7 @@ missing_ok : stmt_fits missing 31 ≡ true
 missing_ok =
     stmt_ok (Stmt-F.If is_missing not_found None) 31
     (both (expr_within is_missing 32 && block_fits not_found 31) true
-      (both (expr_within is_missing 32) (block_fits not_found 31) is_missing_ok not_found_ok) refl)
+    (both (expr_within is_missing 32) (block_fits not_found 31) is_missing_ok not_found_ok) refl)
 
 put_ok : (k e : Expr) → expr_within k 32 ≡ true → expr_within e 32 ≡ true → stmt_fits (roll-Stmt (Stmt-F.Put (codes "notes") k e)) 31 ≡ true
 put_ok k e g h = stmt_ok (Stmt-F.Put (codes "notes") k e) 31 (both (expr_within k 32) (expr_within e 32) g h)
@@ -87,14 +87,14 @@ put_route_ok =
     let done = reply 200 (string []) in
     block_ok (put ∷ done ∷ []) 32
     (both (stmt_fits put 31) (stmt_fits done 31 && true) (put_ok (segment 2) request_body segment_ok (expr_ok Expr-F.Body 32 refl))
-      (both (stmt_fits done 31) true (reply_ok 200 31 (string []) empty_ok) refl))
+    (both (stmt_fits done 31) true (reply_ok 200 31 (string []) empty_ok) refl))
 
 get_route_ok : block_fits get_route.block 32 ≡ true
 get_route_ok =
     block_ok (got ∷ missing ∷ reply_note ∷ []) 32
     (both (stmt_fits got 31) (stmt_fits missing 31 && (stmt_fits reply_note 31 && true)) got_ok
-      (both (stmt_fits missing 31) (stmt_fits reply_note 31 && true) missing_ok
-        (both (stmt_fits reply_note 31) true (reply_ok 200 31 (variable (codes "v")) note_ok) refl)))
+    (both (stmt_fits missing 31) (stmt_fits reply_note 31 && true) missing_ok
+    (both (stmt_fits reply_note 31) true (reply_ok 200 31 (variable (codes "v")) note_ok) refl)))
 
 drop_route_ok : block_fits drop_route.block 32 ≡ true
 drop_route_ok =
@@ -102,29 +102,29 @@ drop_route_ok =
     let done = reply 200 (string []) in
     block_ok (drop ∷ done ∷ []) 32
     (both (stmt_fits drop 31) (stmt_fits done 31 && true) (stmt_ok (Stmt-F.Drop (codes "notes") (segment 2)) 31 segment_ok)
-      (both (stmt_fits done 31) true (reply_ok 200 31 (string []) empty_ok) refl))
+    (both (stmt_fits done 31) true (reply_ok 200 31 (string []) empty_ok) refl))
 
 copy_route_ok : block_fits copy_route.block 32 ≡ true
 copy_route_ok =
     let put = roll-Stmt (Stmt-F.Put (codes "notes") (segment 3) (variable (codes "v"))) in
     block_ok (got ∷ missing ∷ put ∷ reply_note ∷ []) 32
     (both (stmt_fits got 31) (stmt_fits missing 31 && (stmt_fits put 31 && (stmt_fits reply_note 31 && true))) got_ok
-      (both (stmt_fits missing 31) (stmt_fits put 31 && (stmt_fits reply_note 31 && true)) missing_ok
-        (both (stmt_fits put 31) (stmt_fits reply_note 31 && true) (put_ok (segment 3) (variable (codes "v")) (expr_ok (Expr-F.Path 3) 32 refl) note_ok)
-          (both (stmt_fits reply_note 31) true (reply_ok 200 31 (variable (codes "v")) note_ok) refl))))
+    (both (stmt_fits missing 31) (stmt_fits put 31 && (stmt_fits reply_note 31 && true)) missing_ok
+    (both (stmt_fits put 31) (stmt_fits reply_note 31 && true) (put_ok (segment 3) (variable (codes "v")) (expr_ok (Expr-F.Path 3) 32 refl) note_ok)
+    (both (stmt_fits reply_note 31) true (reply_ok 200 31 (variable (codes "v")) note_ok) refl))))
 
 more_ok : stmt_fits (roll-Stmt (Stmt-F.Let (codes "n") (pair (variable (codes "n")) Add (integer 1)))) 30 ≡ true
 more_ok =
     stmt_ok (Stmt-F.Let (codes "n") (pair (variable (codes "n")) Add (integer 1))) 30
     (expr_ok (Expr-F.Pair (variable (codes "n")) Add (integer 1)) 32
-      (both (expr_within (variable (codes "n")) 31) (expr_within (integer 1) 31) (variable_ok 31 refl (codes "n") refl) (expr_ok (Expr-F.Integer (pos 1)) 31 refl)))
+    (both (expr_within (variable (codes "n")) 31) (expr_within (integer 1) 31) (variable_ok 31 refl (codes "n") refl) (expr_ok (Expr-F.Integer (pos 1)) 31 refl)))
 
 counted_ok : stmt_fits counted 31 ≡ true
 counted_ok =
     let more = roll-Stmt (Stmt-F.Let (codes "n") (pair (variable (codes "n")) Add (integer 1))) in
     stmt_ok (Stmt-F.Each (codes "k") (codes "t") (codes "notes") (segment 2) (block (more ∷ []))) 31
     (both (expr_within (segment 2) 32) (block_fits (block (more ∷ [])) 31) segment_ok
-      (block_ok (more ∷ []) 31 (both (stmt_fits more 30) true more_ok refl)))
+    (block_ok (more ∷ []) 31 (both (stmt_fits more 30) true more_ok refl)))
 
 count_route_ok : block_fits count_route.block 32 ≡ true
 count_route_ok =
@@ -132,18 +132,18 @@ count_route_ok =
     let count = reply 200 (as_text (variable (codes "n"))) in
     block_ok (begin ∷ counted ∷ count ∷ []) 32
     (both (stmt_fits begin 31) (stmt_fits counted 31 && (stmt_fits count 31 && true))
-      (stmt_ok (Stmt-F.Let (codes "n") (integer 0)) 31 (expr_ok (Expr-F.Integer (pos 0)) 32 refl))
-      (both (stmt_fits counted 31) (stmt_fits count 31 && true) counted_ok
-        (both (stmt_fits count 31) true
-          (reply_ok 200 31 (as_text (variable (codes "n"))) (expr_ok (Expr-F.AsText (variable (codes "n"))) 32 (variable_ok 31 refl (codes "n") refl))) refl)))
+    (stmt_ok (Stmt-F.Let (codes "n") (integer 0)) 31 (expr_ok (Expr-F.Integer (pos 0)) 32 refl))
+    (both (stmt_fits counted 31) (stmt_fits count 31 && true) counted_ok
+    (both (stmt_fits count 31) true
+    (reply_ok 200 31 (as_text (variable (codes "n"))) (expr_ok (Expr-F.AsText (variable (codes "n"))) 32 (variable_ok 31 refl (codes "n") refl))) refl)))
 
 pub notes_fit : routes_fit notes_routes ≡ true
 notes_fit =
     both (block_fits put_route.block 32) _ put_route_ok
     (both (block_fits get_route.block 32) _ get_route_ok
-      (both (block_fits drop_route.block 32) _ drop_route_ok
-        (both (block_fits copy_route.block 32) _ copy_route_ok
-          (both (block_fits count_route.block 32) true count_route_ok refl))))
+    (both (block_fits drop_route.block 32) _ drop_route_ok
+    (both (block_fits copy_route.block 32) _ copy_route_ok
+    (both (block_fits count_route.block 32) true count_route_ok refl))))
 
 -- what is made where a test passes
 pub made_is : {X E : Type 0} (b : Bool) (x made : X) (e : E) (r : Result X E) → r ≡ cond b (Ok x) (Err e) → r ≡ Ok made → b ≡ true → made ≡ x

@@ -1,5 +1,5 @@
 -- The world `@notes`: one service that keeps a note under each name, copies and counts them.
-use Rattle.std.specs.Prelude.{ℕ, List, [], ◌∷◌, Option, Some, None, codes}
+use Rattle.std.specs.Prelude.{List, [], ◌∷◌, None, codes}
 use Rattle.std.proofs.Common.{below_none}
 use Rattle.lang_tree.specs.declared.expr.Op.TheVariants.{Add, Equal}
 use Rattle.lang_tree.specs.declared.expr.Expr.{Expr}

@@ -1,10 +1,10 @@
 -- Pieces of programs.
-use Rattle.std.specs.Prelude.{ℕ, ℤ, pos, List, [], ◌∷◌, Option, Some, None, codes}
+use Rattle.std.specs.Prelude.{ℕ, pos, List}
 use Rattle.lang_tree.specs.declared.expr.Expr.{Expr, roll-Expr}
 use Rattle.lang_tree.specs.declared.expr.Expr.TheOpen.{Expr-F}
 use Rattle.lang_tree.specs.declared.expr.Op.{Op}
 use Rattle.lang_tree.specs.declared.stmt.Stmt.{Stmt, roll-Stmt}
-use Rattle.lang_tree.specs.declared.stmt.Stmt.TheOpen.{Stmt-F, Block-F}
+use Rattle.lang_tree.specs.declared.stmt.Stmt.TheOpen.{Stmt-F}
 use Rattle.lang_tree.specs.declared.stmt.Block.{Block, roll-Block}
 
 abbrev pub string : List ℕ → Expr

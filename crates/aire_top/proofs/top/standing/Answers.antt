@@ -1,4 +1,3 @@
-use Rattle.std.proofs.Common.{◌≡◌, sym}
 use Rattle.aire_top.proofs.Runs.{legal_told}
 use Rattle.aire_top.proofs.top.standing.Goals as goal
 
