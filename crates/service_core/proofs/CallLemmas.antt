@@ -1,6 +1,6 @@
 -- What each call of a service answers and leaves.
-use Rattle.std.proofs.Common.{◌≡◌, ◌<◌, ℕ, ◌+◌, Bool, true, false, List, [], ◌∷◌, ◌++◌, length, Option, Some, None, Result, Ok, Err, IfOk, OnErr, IsSomeAnd, refl, sym, ap, ◌∙◌, subst, nat_le, arith, rules, tests, option_map, is_some, get_or}
-use Rattle.std.specs.List.{find, All}
+use Rattle.std.proofs.Common.{◌≡◌, ◌<◌, ℕ, ◌+◌, true, false, List, [], ◌∷◌, ◌++◌, length, Option, Some, None, Result, Ok, Err, IfOk, OnErr, IsSomeAnd, refl, sym, ap, ◌∙◌, subst, nat_le, arith, rules, tests, option_map, is_some}
+use Rattle.std.specs.List.{find}
 use Rattle.lang_base.specs.declared.memory.NoMemory.{NoMemory}
 use Rattle.lang_core.specs.declared.inputs.Inputs.{Inputs}
 use Rattle.lang_core.specs.declared.request.Request.{Request}

@@ -1,5 +1,5 @@
 -- What events do to the numbers and the records of entries.
-use Rattle.std.proofs.Common.{◌≡◌, ◌≤◌, ◌<◌, ℕ, ◌+◌, suc, Bool, true, false, cond, not, List, [], ◌∷◌, ◌++◌, length, map, Option, Some, None, IfSome, refl, sym, ap, ◌∙◌, subst, nat_eq, eqb-true, arith, get_or, set, length-append}
+use Rattle.std.proofs.Common.{◌≡◌, ◌≤◌, ℕ, ◌+◌, suc, Bool, true, false, cond, not, List, [], ◌∷◌, ◌++◌, length, Option, Some, None, IfSome, refl, sym, ap, ◌∙◌, subst, eqb-true, arith, get_or, set, length-append}
 use Rattle.std.proofs.lemmas.List.{length-map}
 use Rattle.std.specs.List.{All, Contains, find, position_or_len}
 use Rattle.std.proofs.lemmas.List.Elements.{All-push, All-map, All-cons}
@@ -16,9 +16,9 @@ use Rattle.local_repair.specs.Current.{Consumed, IsRun, AllRuns, after_entry}
 use Rattle.local_repair.specs.Tests.{is_current, step_with}
 use Rattle.local_repair.specs.Alone.{remade_on, trace_on, trace_or_dead}
 use Rattle.local_repair.specs.Settling.{HasItsSlots, CanSettle, CallsNone}
-use Rattle.local_repair.specs.Steps.{AreApart, calls_of_made}
+use Rattle.local_repair.specs.Steps.{AreApart}
 use Rattle.local_repair.proofs.AloneLemmas.{alone_settles, ends_alone}
-use Rattle.service_core.specs.Events.{struck, strike, unanswered, IsNumbered, IsAlone, Fits}
+use Rattle.service_core.specs.Events.{struck, unanswered, IsNumbered, IsAlone, Fits}
 
 -- what holds of both choices holds of the chosen one
 either : {X : Type 0} (P : X → Type 0) (b : Bool) (x y : X) → P x → P y → P (cond b x y)

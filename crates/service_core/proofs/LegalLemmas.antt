@@ -1,5 +1,5 @@
 -- A service with no stale entry is a legal execution.
-use Rattle.std.proofs.Common.{◌≡◌, ℕ, List, [], ◌∷◌, Bool, true, false, map, ap, refl, Option, Some, None, IfNone, MatchOption}
+use Rattle.std.proofs.Common.{ℕ, List, [], ◌∷◌, ap, Option, Some, None, IfNone, MatchOption}
 use Rattle.std.specs.List.{All}
 use Rattle.std.proofs.lemmas.List.Elements.{All-cons, All-nil}
 use Rattle.lang_core.specs.Rows.{apply}

@@ -1,17 +1,18 @@
 -- The record that an arrival makes is what its run gives.
-use Rattle.std.proofs.Common.{◌≡◌, ℕ, List, [], ◌++◌, IfSome, sym, ap, ◌∙◌}
+use Rattle.std.proofs.Common.{◌≡◌, ℕ, List, [], ◌∷◌, ◌++◌, IfSome, refl, sym, ap, ◌∙◌}
 use Rattle.std.proofs.lemmas.List.{append-nil}
 use Rattle.lang_core.specs.declared.cells.Cell.{Cell}
 use Rattle.lang_core.specs.declared.inputs.Inputs.{Inputs}
 use Rattle.lang_core.specs.declared.request.Request.{Request}
+use Rattle.lang_core.specs.declared.request.Response.{Response}
 use Rattle.lang_core.specs.declared.setting.Setting.{Setting}
 use Rattle.handler_run.specs.Handlers.{run_of}
 use Rattle.handler_run.specs.declared.state.Ran.TheVariants.{Done}
-use Rattle.handler_run.proofs.RunLaws.{same_done}
+use Rattle.handler_run.proofs.RunLaws.{reads_done, same_done, takes_done}
 use Rattle.local_repair.specs.Alone.{trace_on, trace_or_dead}
-use Rattle.local_repair.specs.Current.{IsRun}
+use Rattle.local_repair.specs.Current.{IsCurrent, IsRun}
 use Rattle.local_repair.proofs.AloneLemmas.{ends_alone}
-use Rattle.service_core.specs.Events.{committed}
+use Rattle.service_core.specs.Events.{committed, unanswered}
 
 -- a service that calls nobody ends each run with this trace
 pub trace_on_is : (s : Setting) → s.peers ≡ [] → (q : Request) (i : Inputs) (rows : List Cell) → run_of s q i [] rows ≡ Done (trace_on s q i rows)
@@ -26,3 +27,15 @@ committed_runs s none id q i rows = record {
       ap (λ taken. run_of s q i taken others) (sym (append-nil t.answers)) ∙ same_done s q i [] rows t (trace_on_is s none q i rows) others given [];
   dead = λ h. cc;
 }
+
+none_taken : (xs rest : List Response) → [] ≡ xs ++ rest → xs ≡ []
+none_taken [] rest e = refl
+none_taken (x ∷ xs) rest e = cc
+
+-- and it isn't stale
+pub committed_current : (s : Setting) → s.peers ≡ [] → (id : ℕ) (q : Request) (i : Inputs) (rows : List Cell) → IsCurrent unanswered rows (committed id q i (trace_on s q i rows))
+committed_current s none id q i rows =
+    let t = trace_on s q i rows in
+    let done = trace_on_is s none q i rows in
+    let taken = takes_done s q i [] rows t done in
+    record { alive = refl; version = refl; request = refl; reads = reads_done s q i [] rows t done; answers = none_taken t.answers taken.0 taken.1 }

@@ -1,20 +1,18 @@
 -- What a service keeps, and what each event makes of it.
-use Rattle.std.specs.Prelude.{ℕ, ◌+◌, ◌≡◌, ◌≤◌, Bool, true, false, List, [], ◌∷◌, ◌++◌, Option, Some, None, Result, Ok, Err, if◌then◌else◌, map, length, nat_le, find, is_some, All, option_map, refl}
+use Rattle.std.specs.Prelude.{ℕ, ◌+◌, ◌≡◌, ◌≤◌, Bool, true, false, List, [], ◌∷◌, ◌++◌, Option, Some, None, Result, Ok, Err, if◌then◌else◌, map, length, take, nat_le, find, is_some, All, refl}
 use Rattle.std.specs.Coded.{Coded, code_by, coded×, coded_list}
 use Rattle.lang_core.specs.contracts.setting.Setting as setting
 use Rattle.request_log.specs.contracts.entry.Entry as entry
-use Rattle.lang_core.specs.declared.cells.Cell.{Cell}
 use Rattle.lang_core.specs.declared.ids.Origin.TheVariants.{Outside}
 use Rattle.lang_core.specs.declared.inputs.Inputs.{Inputs}
 use Rattle.lang_core.specs.declared.request.Request.{Request}
-use Rattle.lang_core.specs.declared.request.Response.{Response}
 use Rattle.lang_core.specs.declared.setting.Setting.{Setting}
 use Rattle.lang_core.specs.declared.trace.Trace.{Trace}
 use Rattle.request_log.specs.Entries.{has_id}
 use Rattle.request_log.specs.declared.entry.Entry.{Entry}
-use Rattle.execution.specs.Executions.{History}
+use Rattle.execution.specs.Executions.{History, Replays}
 use Rattle.local_repair.specs.Current.{Consumed, AllRuns, rows_of}
-use Rattle.local_repair.specs.Histories.{history_of}
+use Rattle.local_repair.specs.Histories.{act_of, history_of}
 use Rattle.local_repair.specs.Alone.{remade_on, trace_on}
 use Rattle.local_repair.specs.Repairs.{stale_id as first_stale_id}
 use Rattle.local_repair.specs.Steps.{calls_of_made, tentative}
@@ -138,6 +136,11 @@ pub record Fits (setting : Setting) (entries : List Entry) : Type 0 where
 -- a service as a history
 abbrev pub history : Kept → History
 history s = history_of s.setting unanswered s.entries
+
+-- the entries before this place are the replay of their requests, from empty rows on
+abbrev pub ReplaysBefore : Kept → ℕ → Type 0
+ReplaysBefore s place =
+    Replays s.setting [] (map (act_of unanswered) (take place s.entries)) (rows_of (take place s.entries))
 
 -- ---- what a call may answer, and what it leaves: that of the event, or nothing changed for want of memory
 

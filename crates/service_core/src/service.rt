@@ -1,12 +1,12 @@
 // A service: what it is set to do, and its log.
-ghost use Rattle.std.specs.Prelude.{◌≡◌, [], ◌∷◌, IfOk, IfNone, MatchOption, find, option_map};
+ghost use Rattle.std.specs.Prelude.{◌≡◌, ℕ, [], ◌∷◌, IfOk, IfNone, OnOk, MatchOption, find, option_map};
 ghost use Rattle.execution.specs.Executions.{IsLegal};
 ghost use Rattle.request_log.specs.Entries.{has_id, IsDistinct};
-ghost use Rattle.local_repair.specs.Current.{AllCurrent, rows_of};
+ghost use Rattle.local_repair.specs.Current.{AllCurrent, IsCurrent, IsFirstStale, rows_of};
 ghost use Rattle.local_repair.specs.Repairs.{IsStaleId};
 ghost use Rattle.local_repair.specs.Alone.{trace_on};
 ghost use Rattle.local_repair.specs.Steps.{StepsTo};
-ghost use Rattle.service_core.specs.Events.{committed, history, strike, unanswered, stale_id, IsArrival, IsOrder, IsStep};
+ghost use Rattle.service_core.specs.Events.{arrival, committed, history, strike, unanswered, stale_id, IsArrival, IsOrder, IsStep, ReplaysBefore};
 ghost use Rattle.service_core.specs.declared.answers.Command.TheVariants.{Cancel};
 
 use crate::answers::{ArriveRefused, Arrived, Command, OrderRefused, Ordered};
@@ -149,15 +149,16 @@ impl Service {
         self.repairer.rows(alloc)
     }
 
-    /// Answers a request from outside, and logs it as the last entry. It is refused where the log has 100,000
-    /// entries.
+    /// Answers a request from outside, and logs it as the last entry, which isn't stale. It is refused where the log
+    /// has 100,000 entries.
     pub fn arrive(
         &mut self,
         alloc: Global,
         request: Request,
         inputs: Inputs,
     ) -> Result<Arrived, ArriveRefused>
-        ensures { IsArrival self.old request inputs result self.new }
+        ensures arrives { IsArrival self.old request inputs result self.new }
+        ensures current { OnOk result (IsCurrent unanswered (rows_of self.old.entries) (arrival self.old request inputs)) }
     {
         let count = self.repairer.log().len();
         if count >= MOST_ENTRIES {
@@ -206,12 +207,14 @@ impl Service {
     }
 
     /// The number of the first stale entry; None exactly where no entry is stale. Then log and rows are one legal
-    /// execution of the requests that aren't struck.
+    /// execution of the requests that aren't struck. The entries before a first stale one are always the replay of
+    /// their requests.
     pub fn first_stale(&self) -> Option<u64>
         ensures id { result ≡ stale_id self.now }
         ensures stale { MatchOption result (AllCurrent unanswered [] self.now.entries)
             (λ id. IsStaleId unanswered self.now.entries id) }
         ensures legal { IfNone result (IsLegal (history self.now ∷ [])) }
+        ensures before { (place : ℕ) → IsFirstStale unanswered self.now.entries place → ReplaysBefore self.now place }
     {
         self.repairer.first_stale(&NoSlots)
     }

@@ -1,13 +1,13 @@
-use Rattle.std.proofs.Common.{◌≡◌, ◌+◌, ap, ◌∙◌, sym, refl, subst, length, Ok, ◌++◌, ◌∷◌, []}
+use Rattle.std.proofs.Common.{◌≡◌, ◌+◌, ap, ◌∙◌, refl, subst, length, Ok}
 use Rattle.lang_core.specs.declared.trace.Trace.{Trace}
 use Rattle.request_log.specs.declared.entry.Entry.{Entry}
 use Rattle.local_repair.specs.Alone.{trace_on}
-use Rattle.local_repair.specs.Current.{rows_of}
-use Rattle.service_core.specs.Events.{Kept, committed, arrival_answer, after_arrival}
+use Rattle.local_repair.specs.Current.{IsCurrent, rows_of}
+use Rattle.service_core.specs.Events.{Kept, arrival, committed, arrival_answer, after_arrival, unanswered}
 use Rattle.service_core.specs.declared.answers.Arrived.TheVariants.{Done}
 use Rattle.service_core.proofs.CallLemmas.{not_full, arrival_done}
 use Rattle.service_core.proofs.EventLemmas.{fits_push, new_last, trace_on_alone}
-use Rattle.service_core.proofs.RerunLemmas.{committed_runs}
+use Rattle.service_core.proofs.RerunLemmas.{committed_current, committed_runs}
 use Rattle.service_core.proofs.service.Service.arrive.Goals as goal
 
 pub append-requires : goal.append-requires
@@ -31,8 +31,8 @@ invariant_of-self c =
     (committed_runs setting none (length es + 1) c.args.request c.args.inputs (rows_of es))
     (record { slots = refl; calls = trace_on_alone setting none c.args.request c.args.inputs (rows_of es) }))
 
-pub returns-in-Ok : goal.returns-in-Ok
-returns-in-Ok c =
+pub returns-in-Ok-clause-arrives : goal.returns-in-Ok-clause-arrives
+returns-in-Ok-clause-arrives c =
     let es = c.self.inside.repairer.entries in
     let setting = c.self.inside.setting in
     let count = c.len-count.ensures ∙ ap length c.log.ensures in
@@ -44,3 +44,9 @@ returns-in-Ok c =
     subst P c.self.view_is
     (arrival_done s c.args.request c.args.inputs c.in_ok-entry.entry c.append.new.self.entries c.len-count.result c.in_ok-response.response count
     (not_full (length es) c.len-count.result count c.if-count-ge-MOST_ENTRIES.false) made (c.in_ok-response.ensures ∙ ap (λ (t : Trace). t.response) traced) c.in-Ok.ensures.ok)
+
+pub returns-in-Ok-clause-current : goal.returns-in-Ok-clause-current
+returns-in-Ok-clause-current c =
+    let s : Kept = record { setting = c.self.inside.setting; entries = c.self.inside.repairer.entries } in
+    let P : Kept → Type 0 = λ k. IsCurrent unanswered (rows_of k.entries) (arrival k c.args.request c.args.inputs) in
+    subst P c.self.view_is (committed_current s.setting c.self.invariant.no_peers (length s.entries + 1) c.args.request c.args.inputs (rows_of s.entries))
