@@ -1,5 +1,5 @@
 // What a line does, and what it prints.
-ghost use Rattle.std.specs.Prelude.{◌≡◌, ◌⊎◌, ◌∷◌, [], IfOk, OnOk, OnErr};
+ghost use Rattle.std.specs.Prelude.{◌≡◌, ◌≢◌, ◌⊎◌, ◌∷◌, [], Err, IfOk, OnOk, OnErr};
 ghost use Rattle.service_core.specs.Events.{arrival_answer, stale_id};
 ghost use Rattle.service_core.specs.Orders.{order_answer};
 ghost use Rattle.world_core.specs.Verdicts.{verdict};
@@ -79,7 +79,8 @@ fn ordered_text(
     token: &Text,
     answer: Result<Ordered, OrderRefused>,
 ) -> Result<Text, NoMemory>
-    ensures { IfOk result (λ text. text ≡ ordered_text me.now token.now answer) }
+    ensures text { IfOk result (λ text. text ≡ ordered_text me.now token.now answer) }
+    ensures told { OnOk result (answer ≢ Err OrderRefused.NoMemory) }
 {
     match answer {
         Ok(ordered) => ordered_line(alloc, me, token, ordered.about, ordered.rule),

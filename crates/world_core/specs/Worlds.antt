@@ -1,9 +1,10 @@
 -- A world, and what each event makes of it.
-use Rattle.std.specs.Prelude.{ℕ, ◌≡◌, ◌%◌, List, Result, Ok, Err, min}
+use Rattle.std.specs.Prelude.{ℕ, ◌≡◌, ◌%◌, List, Result, Ok, Err, min, refl}
+use Rattle.std.specs.Coded.{Coded, code_by, coded×, coded_ℕ}
 use Rattle.lang_core.specs.declared.inputs.Inputs.{Inputs}
 use Rattle.lang_core.specs.declared.request.Request.{Request}
 use Rattle.recorded_inputs.specs.Drawing.{drawn, word_after}
-use Rattle.service_core.specs.Events.{Kept, after_arrival, after_step, arrival_answer}
+use Rattle.service_core.specs.Events.{Kept, kept_code, after_arrival, after_step, arrival_answer}
 use Rattle.service_core.specs.Orders.{after_order, order_answer}
 use Rattle.service_core.specs.declared.answers.Arrived.{Arrived}
 use Rattle.service_core.specs.declared.answers.ArriveRefused.{ArriveRefused}
@@ -18,6 +19,12 @@ pub record World : Type 0 where
   pub service : Kept
   pub moment : ℕ
   pub x : ℕ
+
+-- by which a proof tells two of them apart
+abbrev pub world_code : Coded World
+world_code =
+    code_by (Kept × (ℕ × ℕ)) (coded× kept_code (coded× coded_ℕ coded_ℕ)) (λ w. (w.service, (w.moment, w.x)))
+    (λ p. record { service = p.0; moment = p.1.0; x = p.1.1 }) (λ _. refl)
 
 -- at first the clock tells 0, and the word before the first is 1
 abbrev pub fresh_world : Kept → World

@@ -18,9 +18,11 @@ pub struct World {
 }
 
 impl Model for World {
-    ghost use Rattle.world_core.specs.Worlds.{World};
+    ghost use Rattle.world_core.specs.Worlds.{World, world_code};
 
     ghost Value = { World };
+
+    ghost coded = { world_code };
 
     ghost view = { λ w. record { service = w.service; moment = w.clock.moment; x = w.words.x } };
 }
