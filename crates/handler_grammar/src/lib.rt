@@ -9,7 +9,7 @@ mod stmts;
 mod text;
 
 pub use program::tokens_of;
-pub use text::print_program;
+pub use text::print_routes;
 
 #[cfg(test)]
 mod tests;

@@ -1,4 +1,4 @@
-use crate::print_program;
+use crate::print_routes;
 use lang_base::{NoMemory, Text};
 use lang_tree::{Block, Boxed, Expr, Items, Method, Op, Program, Route, Routes, Stmt};
 use std::alloc::Global;
@@ -6,7 +6,7 @@ use std::alloc::Global;
 // Whether such a program is printed so.
 fn prints(alloc: Global, routes: Routes, want: &str) -> Result<bool, NoMemory> {
     match Program::new(routes) {
-        Ok(program) => Ok(print_program(alloc, &program)?.as_str() == want),
+        Ok(program) => Ok(print_routes(alloc, program.routes())?.as_str() == want),
         Err(_) => Ok(false),
     }
 }
