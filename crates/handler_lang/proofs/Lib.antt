@@ -1,1 +1,5 @@
+pub mod AgainExprs
+pub mod AgainStmts
+pub mod Spelled
+pub mod SpelledLemmas
 pub mod Texts

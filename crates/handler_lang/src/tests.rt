@@ -1,4 +1,5 @@
 // Texts with the program that each spells, or its refusal and the byte where it stands.
+mod printed;
 mod told;
 
 use crate::{ProgramRefused, read_program};
