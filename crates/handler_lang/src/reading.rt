@@ -1,9 +1,13 @@
 // Texts, read as programs.
-ghost use Rattle.std.specs.Prelude.{◌≡◌, ◌≤◌, IfOk, IsTrue, length};
+ghost use Rattle.std.specs.Prelude.{◌≡◌, ◌≤◌, ℕ, List, Ok, Err, IfOk, IsTrue, length};
 ghost use Rattle.lang_tree.specs.Depths.{routes_fit};
+ghost use Rattle.lang_tree.specs.declared.program.Route.{Route};
 ghost use Rattle.handler_tokens.specs.Lexing.{lex, places, tokens};
+ghost use Rattle.handler_reader.specs.declared.stop.Cause.{Cause};
 ghost use Rattle.handler_reader.specs.Readers.{program_of};
+ghost use Rattle.handler_lang.specs.Misfits.{StandsFirst};
 ghost use Rattle.handler_lang.specs.Reading.{Answers, place_left, placed, read_of, refusal_at};
+ghost use Rattle.handler_lang.specs.Spelled.{Spells};
 
 use crate::refused::ProgramRefused;
 use handler_reader::{Cause, ReadFailed, routes};
@@ -50,10 +54,8 @@ fn read_routes(alloc: Global, text: &str) -> Result<Routes, ProgramRefused>
     }
 }
 
-/// The program that a text of at most 65,536 bytes spells. Another text is refused at the first byte of the token with
-/// which no program goes on, or at its end; of two refusals the one at the lesser byte is answered.
-pub fn read_program(alloc: Global, text: &str) -> Result<Program, ProgramRefused>
-    ensures exact { Answers result (read_of text.now) }
+fn read(alloc: Global, text: &str) -> Result<Program, ProgramRefused>
+    ensures { Answers result (read_of text.now) }
 {
     if text.len() as u64 > LONGEST_TEXT {
         return Err(ProgramRefused::TooLong(LONGEST_TEXT));
@@ -63,4 +65,21 @@ pub fn read_program(alloc: Global, text: &str) -> Result<Program, ProgramRefused
         Ok(program) => Ok(program),
         Err(_) => unreachable!(),
     }
+}
+
+/// The program that a text of at most 65,536 bytes spells: the one whose tokens are the text's. Another text is refused
+/// at the first byte of the token with which no program goes on, or at its end; of two refusals the one at the lesser
+/// byte is answered.
+#[tactic(auto, using(crate::proofs::Found::read_spells, crate::proofs::Found::only_answer, crate::proofs::MisfitLemmas::first_misfit))]
+pub fn read_program(alloc: Global, text: &str) -> Result<Program, ProgramRefused>
+    // Which program it is, or which refusal and where.
+    ensures exact { Answers result (read_of text.now) }
+    // What is read is spelled so.
+    ensures found { IfOk result (λ program. Spells text.now program) }
+    // What is spelled so is read, unless memory runs out.
+    ensures only { (routes : List Route) → IsTrue (routes_fit routes) → Spells text.now routes → length text.now ≤ 65536 → Answers result (Ok routes) }
+    // A refusal stands at the first misfit: whatever stands behind it, it is refused there, and so.
+    ensures first { (why : Cause) (at : ℕ) → result ≡ Err (refusal_at why at) → StandsFirst text.now why at }
+{
+    read(alloc, text)
 }

@@ -21,7 +21,13 @@ fn refusal_name(refused: ProgramRefused) -> (&'static str, u64) {
 
 fn answer(alloc: Global, text: &str) -> Result<String, NoMemory> {
     match read_program(alloc, text) {
-        Ok(program) => told(alloc, &program),
+        Ok(program) => {
+            let teller = told(alloc, &program);
+            if teller.failed {
+                return Err(NoMemory);
+            }
+            Ok(teller.text)
+        }
         Err(refused) => {
             let (name, at) = refusal_name(refused);
             Ok(format!(in alloc; "{name}({at})")?)
@@ -40,7 +46,7 @@ fn answers(alloc: Global, text: &str, want: &str) -> bool {
 fn stmts_answer(alloc: Global, stmts: &str, want: &str) -> Result<bool, NoMemory> {
     let text = format!(in alloc; "route GET \"/\" {{ {stmts} }}")?;
     let found = answer(alloc, &text)?;
-    match found.as_str().strip_prefix(" GET/{") {
+    match found.as_str().strip_prefix(" GET /{") {
         None => Ok(found.as_str() == want),
         Some(read) => match read.strip_suffix("}") {
             None => Ok(false),
@@ -62,17 +68,17 @@ fn texts_are_read(rt: HostRuntime) {
         ("", ""),
         (" # nothing\n\t\r", ""),
         ("# ends without a line feed", ""),
-        ("route GET \"/a\" { }", " GET/a{}"),
+        ("route GET \"/a\" { }", " GET /a{}"),
         (
             "route GET \"/a\"{}route PUT \"/a/*\"{}route POST \"/*\"{}route DELETE \"/\"{}",
-            " GET/a{} PUT/a/*{} POST/*{} DELETE/{}",
+            " GET /a{} PUT /a/*{} POST /*{} DELETE /{}",
         ),
-        ("route GET \"/a\" { } # the end", " GET/a{}"),
+        ("route GET \"/a\" { } # the end", " GET /a{}"),
         (
             "route # a {\nGET#b\n\"/#\" { reply # c ;\n200 body; }",
-            " GET/#{reply 200 body;}",
+            " GET /#{reply 200 body;}",
         ),
-        ("route GET \"/aire/x~!\" {}", " GET/aire/x~!{}"),
+        ("route GET \"/aire/x~!\" {}", " GET /aire/x~!{}"),
         ("x", "Unexpected(0)"),
         ("{", "Unexpected(0)"),
         ("GET \"/\" {}", "Unexpected(0)"),
@@ -109,7 +115,7 @@ fn texts_are_read(rt: HostRuntime) {
         (" \u{b}", "Unexpected(1)"),
         (
             "route PUT \"/n/*\" { put notes path(2) = body; reply 200 \"\"; }\nroute GET \"/n/*\" { get v = notes path(2); if (v = nothing) { reply 404 \"\"; } reply 200 v; }\nroute DELETE \"/n/*\" { drop notes path(2); reply 200 \"\"; }\nroute POST \"/copy/*/*\" { get v = notes path(2); if (v = nothing) { reply 404 \"\"; } put notes path(3) = v; reply 200 v; }\nroute GET \"/count/*\" { let n = 0; each k, t in notes path(2) { let n = (n + 1); } reply 200 text(n); }\n",
-            " PUT/n/*{put notes@path.2:=body;reply 200 [];} GET/n/*{get v:=notes@path.2;if equal<v|nothing>{reply 404 [];};reply 200 v;} DELETE/n/*{drop notes@path.2;reply 200 [];} POST/copy/*/*{get v:=notes@path.2;if equal<v|nothing>{reply 404 [];};put notes@path.3:=v;reply 200 v;} GET/count/*{let n:=0;each k,t:notes@path.2{let n:=add<n|1>;};reply 200 text<n>;}",
+            " PUT /n/*{put notes@path.2:=body;reply 200 [];} GET /n/*{get v:=notes@path.2;if equal<v|nothing>{reply 404 [];};reply 200 v;} DELETE /n/*{drop notes@path.2;reply 200 [];} POST /copy/*/*{get v:=notes@path.2;if equal<v|nothing>{reply 404 [];};put notes@path.3:=v;reply 200 v;} GET /count/*{let n:=0;each k,t:notes@path.2{let n:=add<n|1>;};reply 200 text<n>;}",
         ),
     ] {
         assert!(rt; answers(rt.alloc(), text, want), "at {text}");
@@ -310,7 +316,7 @@ fn nests(
     let text = format!(in alloc; "{front}{inner}")?;
     let found = answer(alloc, &text)?;
     if want.is_empty() {
-        return Ok(found.as_str().starts_with(" GET/"));
+        return Ok(found.as_str().starts_with(" GET /"));
     }
     Ok(found.as_str() == want)
 }
@@ -369,7 +375,7 @@ fn with_pattern(alloc: Global, bytes: u64, want: &str) -> Result<bool, NoMemory>
     let text = format!(in alloc; "route GET \"/{pattern}\" {{ }}")?;
     let found = answer(alloc, &text)?;
     if want.is_empty() {
-        return Ok(found.as_str().starts_with(" GET/aa"));
+        return Ok(found.as_str().starts_with(" GET /aa"));
     }
     Ok(found.as_str() == want)
 }
@@ -388,7 +394,7 @@ fn limits_are_kept(rt: HostRuntime) {
     assert!(rt; is_true(with_pattern(alloc, 1024, "")));
     assert!(rt; is_true(with_pattern(alloc, 1025, "BadPattern(10)")));
     for (front, bytes, want) in [
-        ("route GET \"/\" {}", 65536, " GET/{}"),
+        ("route GET \"/\" {}", 65536, " GET /{}"),
         ("route GET \"/\" {}", 65537, "TooLong(65536)"),
         ("x", 65536, "Unexpected(0)"),
         ("x", 65537, "TooLong(65536)"),

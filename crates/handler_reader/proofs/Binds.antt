@@ -1,5 +1,5 @@
 -- Steps that did not stop.
-use Rattle.std.proofs.Common.{◌≡◌, List, Result, Ok, Err, Bool, true, false, refl}
+use Rattle.std.proofs.Common.{◌≡◌, Result, Ok, Err, Bool, true, false, refl}
 use Rattle.std.specs.Prelude.{◌&&◌}
 use Rattle.handler_reader.specs.declared.stop.Stop.{Stop}
 use Rattle.handler_reader.specs.Readers.{◌>>=◌}

@@ -1,5 +1,5 @@
 -- An expression that is read fits.
-use Rattle.std.proofs.Common.{◌≡◌, ℕ, suc, zero, ◌-◌, true, false, List, [], ◌∷◌, Result, Ok, Err, refl, sym, ap, ◌∙◌, arith}
+use Rattle.std.proofs.Common.{◌≡◌, ℕ, suc, zero, ◌-◌, true, false, List, ◌∷◌, Ok, refl, sym, ap, ◌∙◌, arith}
 use Rattle.std.specs.Prelude.{◌&&◌, nat_eq}
 use Rattle.std.proofs.lemmas.Bool.Decides.{nat_tests}
 use Rattle.handler_tokens.specs.declared.token.Token.{Token}
@@ -11,7 +11,7 @@ use Rattle.lang_tree.specs.declared.expr.Expr.TheVariants as expr
 use Rattle.lang_tree.specs.declared.expr.Expr.TheVariants.{rolls-Integer, rolls-Str, rolls-Nothing, rolls-Body, rolls-Who, rolls-Var, rolls-Path, rolls-Part, rolls-Number, rolls-AsText, rolls-Pair}
 use Rattle.lang_tree.specs.declared.expr.Expr.TheOpen.{Expr-F}
 use Rattle.lang_tree.specs.declared.expr.Expr.TheFolds.{fold-roll-Expr}
-use Rattle.handler_reader.specs.Readers.{Read, comma_at, expr_at, expr_in, left_at, number_in, op_at, pair_in, part_in, path_in, right_at, segment_at, text_in}
+use Rattle.handler_reader.specs.Readers.{comma_at, expr_at, expr_in, left_at, number_in, op_at, pair_in, part_in, path_in, right_at, segment_at, text_in}
 use Rattle.handler_reader.proofs.Binds.{and_true}
 use Rattle.handler_reader.proofs.Fitting.{IsFit, behind_mark, behind_read, bound, comma_mark, given, gives, left_mark, marked, op_fit, right_mark, segment_fit, took_this}
 

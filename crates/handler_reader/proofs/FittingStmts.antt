@@ -1,5 +1,5 @@
 -- Statements, blocks and routes that are read fit.
-use Rattle.std.proofs.Common.{◌≡◌, ℕ, zero, suc, Bool, true, false, List, [], ◌∷◌, map, Option, Some, None, Result, Ok, Err, refl, sym, ap, subst, ◌∙◌, inl, inr, ◌⊎◌}
+use Rattle.std.proofs.Common.{◌≡◌, ℕ, zero, suc, true, List, [], ◌∷◌, map, Option, Some, None, Ok, refl, sym, ap, subst, ◌∙◌, inl, inr, ◌⊎◌}
 use Rattle.std.specs.Prelude.{◌&&◌}
 use Rattle.handler_tokens.specs.declared.token.Token.{Token}
 use Rattle.handler_tokens.specs.declared.token.Token.TheVariants as token
@@ -11,11 +11,10 @@ use Rattle.lang_tree.specs.declared.expr.Expr.{Expr}
 use Rattle.lang_tree.specs.declared.stmt.Stmt.{Stmt, roll-Stmt, map-Stmt}
 use Rattle.lang_tree.specs.declared.stmt.Stmt.TheVariants as stmt
 use Rattle.lang_tree.specs.declared.stmt.Stmt.TheVariants.{rolls-Let, rolls-Get, rolls-Put, rolls-Drop, rolls-Each, rolls-If, rolls-Call, rolls-Now, rolls-Random, rolls-Reply}
-use Rattle.lang_tree.specs.declared.stmt.Stmt.TheOpen.{Stmt-F, Block-F}
+use Rattle.lang_tree.specs.declared.stmt.Stmt.TheOpen.{Stmt-F}
 use Rattle.lang_tree.specs.declared.stmt.Stmt.TheFolds.{fold-roll-Stmt, fold-roll-Block}
 use Rattle.lang_tree.specs.declared.stmt.Block.{Block, roll-Block}
 use Rattle.lang_tree.specs.declared.program.Route.{Route}
-use Rattle.handler_reader.specs.declared.stop.Stop.{Stop}
 use Rattle.handler_reader.specs.Readers.{◌>>=◌, Read, block_at, block_in, call_in, close_at, comma_at, drop_in, each_in, else_in, equals_at, expr_at, get_in, if_in, in_at, let_in, method_at, most, now_in, pattern_at, put_in, random_in, reply_in, route_at, route_in, routes_in, semicolon_at, stmt_in, stmts_in, word_at}
 use Rattle.handler_reader.proofs.Binds.{and_true, bind_ok, ok_is}
 use Rattle.handler_reader.proofs.Loops.{stmts_closed, stmts_next}

@@ -1,198 +1,199 @@
 // A program told in a form of its own: an expression as `add<left|right>`, a text as `[text]`.
-use lang_base::{NoMemory, Text};
+use lang_base::Text;
 use lang_tree::{Block, Expr, Method, Op, Program, Stmt};
 use std::alloc::Global;
 
+/// What was told so far, and whether memory ran out.
+#[derive(Drop)]
+pub struct Teller {
+    alloc: Global,
+    pub text: String,
+    pub failed: bool,
+}
+
 fn op_name(op: Op) -> &'static str {
     match op {
-        Op::Add => "add",
-        Op::Sub => "sub",
-        Op::Mul => "mul",
-        Op::Equal => "equal",
-        Op::Less => "less",
-        Op::Join => "join",
+        Op::Add => "add<",
+        Op::Sub => "sub<",
+        Op::Mul => "mul<",
+        Op::Equal => "equal<",
+        Op::Less => "less<",
+        Op::Join => "join<",
     }
 }
 
 fn method_name(method: Method) -> &'static str {
     match method {
-        Method::Get => "GET",
-        Method::Put => "PUT",
-        Method::Post => "POST",
-        Method::Delete => "DELETE",
+        Method::Get => " GET ",
+        Method::Put => " PUT ",
+        Method::Post => " POST ",
+        Method::Delete => " DELETE ",
     }
 }
 
-fn say(out: &mut String, words: &str) -> Result<(), NoMemory> {
-    out.push_str(words)?;
-    Ok(())
-}
-
-fn say_expr(alloc: Global, out: &mut String, expr: &Expr) -> Result<(), NoMemory> {
-    match expr {
-        Expr::Integer(n) => say(out, &format!(in alloc; "{n}")?),
-        Expr::Str(text) => say(out, &format!(in alloc; "[{}]", text.as_str())?),
-        Expr::Nothing => say(out, "nothing"),
-        Expr::Body => say(out, "body"),
-        Expr::Who => say(out, "who"),
-        Expr::Var(name) => say(out, name.as_str()),
-        Expr::Path(n) => say(out, &format!(in alloc; "path.{n}")?),
-        Expr::Part { text, by, n } => {
-            say(out, "part<")?;
-            say_expr(alloc, out, text.get())?;
-            say(out, "|")?;
-            say_expr(alloc, out, by.get())?;
-            say(out, "|")?;
-            say_expr(alloc, out, n.get())?;
-            say(out, ">")
-        }
-        Expr::Number(inner) => {
-            say(out, "number<")?;
-            say_expr(alloc, out, inner.get())?;
-            say(out, ">")
-        }
-        Expr::AsText(inner) => {
-            say(out, "text<")?;
-            say_expr(alloc, out, inner.get())?;
-            say(out, ">")
-        }
-        Expr::Pair { left, op, right } => {
-            say(out, op_name(*op))?;
-            say(out, "<")?;
-            say_expr(alloc, out, left.get())?;
-            say(out, "|")?;
-            say_expr(alloc, out, right.get())?;
-            say(out, ">")
+impl Teller {
+    fn say(&mut self, words: &str) {
+        if self.text.push_str(words).is_err() {
+            self.failed = true;
         }
     }
-}
 
-fn say_names(out: &mut String, first: &Text, mark: &str, second: &Text) -> Result<(), NoMemory> {
-    say(out, first.as_str())?;
-    say(out, mark)?;
-    say(out, second.as_str())
-}
-
-fn say_call(
-    alloc: Global,
-    out: &mut String,
-    method: Method,
-    parts: [&Expr; 3],
-) -> Result<(), NoMemory> {
-    say(out, ":=")?;
-    say_expr(alloc, out, parts[0])?;
-    say(out, " ")?;
-    say(out, method_name(method))?;
-    say(out, " ")?;
-    say_expr(alloc, out, parts[1])?;
-    say(out, " ")?;
-    say_expr(alloc, out, parts[2])
-}
-
-fn say_plain(alloc: Global, out: &mut String, stmt: &Stmt) -> Result<(), NoMemory> {
-    match stmt {
-        Stmt::Let { var, value } => {
-            say(out, "let ")?;
-            say(out, var.as_str())?;
-            say(out, ":=")?;
-            say_expr(alloc, out, value)
-        }
-        Stmt::Get { var, table, key } => {
-            say(out, "get ")?;
-            say_names(out, var, ":=", table)?;
-            say(out, "@")?;
-            say_expr(alloc, out, key)
-        }
-        Stmt::Put { table, key, value } => {
-            say(out, "put ")?;
-            say(out, table.as_str())?;
-            say(out, "@")?;
-            say_expr(alloc, out, key)?;
-            say(out, ":=")?;
-            say_expr(alloc, out, value)
-        }
-        Stmt::Drop { table, key } => {
-            say(out, "drop ")?;
-            say(out, table.as_str())?;
-            say(out, "@")?;
-            say_expr(alloc, out, key)
-        }
-        Stmt::Call {
-            status,
-            answer,
-            dest,
-            method,
-            path,
-            body,
-        } => {
-            say(out, "call ")?;
-            say_names(out, status, ",", answer)?;
-            say_call(alloc, out, *method, [dest, path, body])
-        }
-        Stmt::Now { var } => say(out, &format!(in alloc; "now {}", var.as_str())?),
-        Stmt::Random { var } => say(out, &format!(in alloc; "random {}", var.as_str())?),
-        Stmt::Reply { status, body } => {
-            say(out, "reply ")?;
-            say_expr(alloc, out, status)?;
-            say(out, " ")?;
-            say_expr(alloc, out, body)
-        }
-        _ => say(out, "?"),
+    fn text(&mut self, before: &str, words: &Text, after: &str) {
+        self.say(before);
+        self.say(words.as_str());
+        self.say(after);
     }
-}
 
-#[cycle(told)]
-fn say_stmt(alloc: Global, out: &mut String, stmt: &Stmt) -> Result<(), NoMemory> {
-    match stmt {
-        Stmt::Each {
-            key,
-            text,
-            table,
-            prefix,
-            block,
-        } => {
-            say(out, "each ")?;
-            say_names(out, key, ",", text)?;
-            say(out, ":")?;
-            say(out, table.as_str())?;
-            say(out, "@")?;
-            say_expr(alloc, out, prefix)?;
-            say_block(alloc, out, block)
+    fn number(&mut self, before: &str, n: i64) {
+        self.say(before);
+        match format!(in self.alloc; "{n}") {
+            Ok(digits) => self.say(&digits),
+            Err(_) => self.failed = true,
         }
-        Stmt::If { test, then, other } => {
-            say(out, "if ")?;
-            say_expr(alloc, out, test)?;
-            say_block(alloc, out, then)?;
-            match other {
-                None => Ok(()),
-                Some(block) => {
-                    say(out, "else")?;
-                    say_block(alloc, out, block)
-                }
+    }
+
+    fn expr(&mut self, expr: &Expr) {
+        match expr {
+            Expr::Integer(n) => self.number("", *n),
+            Expr::Str(text) => self.text("[", text, "]"),
+            Expr::Nothing => self.say("nothing"),
+            Expr::Body => self.say("body"),
+            Expr::Who => self.say("who"),
+            Expr::Var(name) => self.text("", name, ""),
+            Expr::Path(n) => self.number("path.", *n as i64),
+            Expr::Part { text, by, n } => {
+                self.say("part<");
+                self.expr(text.get());
+                self.say("|");
+                self.expr(by.get());
+                self.say("|");
+                self.expr(n.get());
+                self.say(">");
+            }
+            Expr::Number(inner) => {
+                self.say("number<");
+                self.expr(inner.get());
+                self.say(">");
+            }
+            Expr::AsText(inner) => {
+                self.say("text<");
+                self.expr(inner.get());
+                self.say(">");
+            }
+            Expr::Pair { left, op, right } => {
+                self.say(op_name(*op));
+                self.expr(left.get());
+                self.say("|");
+                self.expr(right.get());
+                self.say(">");
             }
         }
-        plain => say_plain(alloc, out, plain),
+    }
+
+    fn call(&mut self, method: Method, dest: &Expr, path: &Expr, body: &Expr) {
+        self.expr(dest);
+        self.say(method_name(method));
+        self.expr(path);
+        self.say(" ");
+        self.expr(body);
+    }
+
+    fn plain(&mut self, stmt: &Stmt) {
+        match stmt {
+            Stmt::Let { var, value } => {
+                self.text("let ", var, ":=");
+                self.expr(value);
+            }
+            Stmt::Get { var, table, key } => {
+                self.text("get ", var, ":=");
+                self.text("", table, "@");
+                self.expr(key);
+            }
+            Stmt::Put { table, key, value } => {
+                self.text("put ", table, "@");
+                self.expr(key);
+                self.say(":=");
+                self.expr(value);
+            }
+            Stmt::Drop { table, key } => {
+                self.text("drop ", table, "@");
+                self.expr(key);
+            }
+            Stmt::Call {
+                status,
+                answer,
+                dest,
+                method,
+                path,
+                body,
+            } => {
+                self.text("call ", status, ",");
+                self.text("", answer, ":=");
+                self.call(*method, dest, path, body);
+            }
+            Stmt::Now { var } => self.text("now ", var, ""),
+            Stmt::Random { var } => self.text("random ", var, ""),
+            Stmt::Reply { status, body } => {
+                self.say("reply ");
+                self.expr(status);
+                self.say(" ");
+                self.expr(body);
+            }
+            _ => self.say("?"),
+        }
+    }
+
+    #[cycle(told)]
+    fn stmt(&mut self, stmt: &Stmt) {
+        match stmt {
+            Stmt::Each {
+                key,
+                text,
+                table,
+                prefix,
+                block,
+            } => {
+                self.text("each ", key, ",");
+                self.text("", text, ":");
+                self.text("", table, "@");
+                self.expr(prefix);
+                self.block(block);
+            }
+            Stmt::If { test, then, other } => {
+                self.say("if ");
+                self.expr(test);
+                self.block(then);
+                if let Some(block) = other {
+                    self.say("else");
+                    self.block(block);
+                }
+            }
+            plain => self.plain(plain),
+        }
+    }
+
+    #[cycle(told)]
+    fn block(&mut self, block: &Block) {
+        self.say("{");
+        for stmt in block.stmts.as_slice() {
+            self.stmt(stmt);
+            self.say(";");
+        }
+        self.say("}");
     }
 }
 
-#[cycle(told)]
-fn say_block(alloc: Global, out: &mut String, block: &Block) -> Result<(), NoMemory> {
-    say(out, "{")?;
-    for stmt in block.stmts.as_slice() {
-        say_stmt(alloc, out, stmt)?;
-        say(out, ";")?;
-    }
-    say(out, "}")
-}
-
-/// The routes, one space before each.
-pub fn told(alloc: Global, program: &Program) -> Result<String, NoMemory> {
-    let mut out = String::new(alloc);
+/// The routes, one behind the other.
+pub fn told(alloc: Global, program: &Program) -> Teller {
+    let mut teller = Teller {
+        alloc,
+        text: String::new(alloc),
+        failed: false,
+    };
     for route in program.routes() {
-        say(&mut out, " ")?;
-        say(&mut out, method_name(route.method))?;
-        say(&mut out, route.pattern.as_str())?;
-        say_block(alloc, &mut out, &route.block)?;
+        teller.say(method_name(route.method));
+        teller.text("", &route.pattern, "");
+        teller.block(&route.block);
     }
-    Ok(out)
+    teller
 }
