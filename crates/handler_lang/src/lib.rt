@@ -1,0 +1,14 @@
+//! The handler language: a text is read as the program that it spells, or refused at the first byte that doesn't fit, and what
+//! is printed of a program reads back to it.
+#![tactic(auto)]
+
+mod printing;
+mod reading;
+mod refused;
+
+pub use printing::{print_program, spells_one_program};
+pub use reading::read_program;
+pub use refused::ProgramRefused;
+
+#[cfg(test)]
+mod tests;
