@@ -1,0 +1,6 @@
+pub mod Binds
+pub mod Levels
+pub mod Loops
+pub mod Fitting
+pub mod FittingExprs
+pub mod FittingStmts
