@@ -4,9 +4,10 @@ ghost use Rattle.std.specs.Option.{ForSome};
 ghost use Rattle.io_edge.specs.Edge.{Wrote};
 
 use crate::{
-    Connection, Failed, MemoryConnection, MemorySink, MemorySource, ReadRefused, Reading, Sink,
-    Source, Writing, read_all, write_all,
+    Connection, Failed, Files, LoadRefused, MemoryConnection, MemoryFile, MemoryFiles, MemorySink,
+    MemorySource, ReadRefused, Reading, RealFiles, Sink, Source, Writing, read_all, write_all,
 };
+use lang_base::{Bytes, Seq, Text};
 use std::alloc::Global;
 use std::collections::VecDeque;
 use std::io;
@@ -162,5 +163,46 @@ fn counts_faults_of_readers_and_writers(rt: HostRuntime) -> Result<(), Fail> {
     let mut writer = Writing::new(Broken);
     assert_eq!(rt; write_all(&mut writer, b"x"), Err(Failed));
     assert_eq!(rt; writer.faults(), 1);
+    Ok(())
+}
+
+// Files in memory are loaded up to the limit, the first of two with one path, and the third load
+// fails.
+#[test]
+fn loads_files_in_memory(rt: HostRuntime) -> Result<(), Fail> {
+    let alloc = rt.alloc();
+    let mut named = Seq::new(alloc);
+    for (path, bytes) in [("a", b"first"), ("b", b"other"), ("a", b"later")] {
+        named.push(MemoryFile {
+            path: Text::of(alloc, path)?,
+            bytes: Bytes::of(alloc, bytes.as_slice())?,
+        })?;
+    }
+    let mut files = MemoryFiles::new(named, vec![in alloc; 3]?);
+    assert_eq!(rt; files.load(alloc, "a", 5)?.as_slice(), b"first".as_slice());
+    assert!(rt; matches!(files.load(alloc, "b", 4), Err(LoadRefused::TooLong)));
+    assert!(rt; matches!(files.load(alloc, "b", 5), Err(LoadRefused::Failed)));
+    assert_eq!(rt; files.faults(), 1);
+    assert_eq!(rt; files.load(alloc, "b", 9)?.as_slice(), b"other".as_slice());
+    assert!(rt; matches!(files.load(alloc, "c", 5), Err(LoadRefused::Failed)));
+    assert_eq!(rt; files.faults(), 2);
+    Ok(())
+}
+
+// Real files are loaded, and what can't be opened or read counts.
+#[test]
+fn loads_real_files(rt: HostRuntime) -> Result<(), Fail> {
+    let alloc = rt.alloc();
+    let mut files = RealFiles::new(&rt);
+    assert_eq!(rt; files.load(alloc, "/dev/null", 0)?.as_slice().len(), 0);
+    assert!(rt; matches!(files.load(alloc, "/dev/zero", 9), Err(LoadRefused::TooLong)));
+    assert_eq!(rt; files.faults(), 0);
+    for missing in ["/no/such/file", "/dev", ""] {
+        assert!(rt;
+            matches!(files.load(alloc, missing, 9), Err(LoadRefused::Failed)),
+            "{missing}"
+        );
+    }
+    assert_eq!(rt; files.faults(), 3);
     Ok(())
 }

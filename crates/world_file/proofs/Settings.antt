@@ -6,17 +6,28 @@ use Rattle.lang_tree.specs.declared.expr.Op.TheVariants.{Add, Equal}
 use Rattle.lang_tree.specs.declared.expr.Expr.{Expr, roll-Expr, map-Expr}
 use Rattle.lang_tree.specs.declared.expr.Expr.TheOpen.{Expr-F}
 use Rattle.lang_tree.specs.declared.expr.Expr.TheFolds.{fold-roll-Expr}
+use Rattle.lang_tree.specs.declared.program.Route.{Route}
 use Rattle.lang_tree.specs.declared.stmt.Block.{Block, roll-Block}
 use Rattle.lang_tree.specs.declared.stmt.Stmt.{Stmt, roll-Stmt, map-Stmt}
 use Rattle.lang_tree.specs.declared.stmt.Stmt.TheOpen.{Stmt-F, Block-F}
 use Rattle.lang_tree.specs.declared.stmt.Stmt.TheFolds.{fold-roll-Stmt, fold-roll-Block}
 use Rattle.lang_core.specs.contracts.setting.Setting.{the_row}
 use Rattle.lang_core.specs.declared.setting.Setting.{Setting}
+use Rattle.world_file.specs.Fields.{Fields}
+use Rattle.world_file.specs.Worlds.{setup_of}
+use Rattle.world_file.specs.declared.setup.Setup.{Setup}
 use Rattle.world_file.specs.Notes.{got, is_missing, not_found, missing, reply_note, counted, put_route, get_route, drop_route, copy_route, count_route, notes_routes}
 use Rattle.world_file.specs.Pieces.{string, variable, integer, nothing, request_body, segment, pair, as_text, block, reply}
 
 pub same_setting : (a b : Setting) → a.me ≡ b.me → a.peers ≡ b.peers → a.program ≡ b.program → a.weight ≡ b.weight → a ≡ b
 same_setting a b me peers program weight = the_row.coded.inj a b (cc)
+
+-- a service that is alone, by its parts
+pub set_up_is : (setting : Setting) (secret console door : List ℕ) (workers : ℕ) (fields : Fields) (routes : List Route) → setting.me ≡ fields.name → setting.peers ≡ [] → setting.program ≡ routes → setting.weight ≡ fields.weight
+    → secret ≡ fields.secret → console ≡ fields.console → door ≡ fields.door → workers ≡ fields.workers → setup_of fields routes ≡ record { setting = setting; secret = secret; console = console; door = door; workers = workers }
+set_up_is setting secret console door workers fields routes me peers program weight first second address count =
+    let same : setting ≡ (setup_of fields routes).setting = same_setting setting (setup_of fields routes).setting me peers program weight in
+    rw (same, first, second, address, count) refl
 
 expr_roll : (x : Expr-F Expr) → expr_within (roll-Expr x) ≡ nested (expr_parts_fit (map-Expr Expr Fits expr_within x))
 expr_roll x = fold-roll-Expr Fits (λ e. nested (expr_parts_fit e)) x

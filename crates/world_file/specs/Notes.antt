@@ -1,6 +1,7 @@
 -- The world `@notes`: one service that keeps a note under each name, copies and counts them.
-use Rattle.std.specs.Prelude.{List, [], ◌∷◌, None, codes}
+use Rattle.std.specs.Prelude.{List, [], ◌∷◌, Option, Some, None, if◌then◌else◌, ℕ, codes}
 use Rattle.std.proofs.Common.{below_none}
+use Rattle.lang_base.specs.Texts.{same_text}
 use Rattle.lang_tree.specs.declared.expr.Op.TheVariants.{Add, Equal}
 use Rattle.lang_tree.specs.declared.expr.Expr.{Expr}
 use Rattle.lang_tree.specs.declared.stmt.Block.{Block}
@@ -9,6 +10,7 @@ use Rattle.lang_tree.specs.declared.program.Route.{Route}
 use Rattle.lang_tree.specs.declared.stmt.Stmt.{Stmt, roll-Stmt}
 use Rattle.lang_tree.specs.declared.stmt.Stmt.TheOpen.{Stmt-F}
 use Rattle.lang_core.specs.declared.setting.Setting.{Setting}
+use Rattle.world_file.specs.declared.setup.Setup.{Setup}
 use Rattle.world_file.specs.Pieces.{string, variable, integer, nothing, request_body, segment, pair, as_text, block, reply}
 
 -- put notes path(2) = body; reply 200 "";
@@ -73,3 +75,10 @@ notes_routes = put_route ∷ get_route ∷ drop_route ∷ copy_route ∷ count_r
 
 abbrev pub notes_setting : Setting
 notes_setting = record { me = codes "notes"; peers = []; program = notes_routes; weight = 1000000000; alone = λ c. below_none (λ _. ⊥) c.0 c.1 }
+
+abbrev pub notes_setup : Setup
+notes_setup = record { setting = notes_setting; secret = codes "s"; console = codes "c"; door = codes "127.0.0.1:8101"; workers = 4 }
+
+-- the world that comes with the program under this word
+abbrev pub built_in : List ℕ → Option (List Setup)
+built_in word = if same_text word (codes "@notes") then Some (notes_setup ∷ []) else None

@@ -1,7 +1,20 @@
-//! The worlds that come with the program.
+//! Worlds: which services there are, and how each is set up. A world is read from a file, or comes with the program.
 #![tactic(auto)]
 
 mod build;
-mod built_in;
+mod field;
+mod fields;
+mod refused;
+mod setup;
+mod standard;
+mod world;
 
-pub use built_in::{MOST_WEIGHT, notes};
+pub use field::Field;
+pub use fields::MOST_WEIGHT;
+pub use refused::WorldRefused;
+pub use setup::Setup;
+pub use standard::{built_in, notes};
+pub use world::read_world;
+
+#[cfg(test)]
+mod tests;

@@ -2,7 +2,7 @@ use Rattle.std.proofs.Common.{◌≡◌, true, ap, ◌∙◌, refl}
 use Rattle.lang_core.specs.Names.{is_name}
 use Rattle.lang_tree.specs.Depths.{routes_fit}
 use Rattle.world_file.proofs.Settings.{made_is, same_setting, notes_fit}
-use Rattle.world_file.proofs.built_in.notes.Goals as goal
+use Rattle.world_file.proofs.standard.notes.Goals as goal
 
 pub unreachable-requires : goal.unreachable-requires
 unreachable-requires c =

@@ -1,17 +1,16 @@
-// The world `@notes`: one service that keeps notes.
-ghost use Rattle.std.specs.Prelude.{◌≡◌, IfOk};
-ghost use Rattle.world_file.specs.Notes.{got, is_missing, not_found, missing, reply_note, counted, put_route, get_route, drop_route, copy_route, count_route, notes_routes, notes_setting};
+// The worlds that come with the program: `@notes`, one service that keeps notes.
+ghost use Rattle.std.specs.Prelude.{◌≡◌, IfOk, option_map};
+ghost use Rattle.world_file.specs.Notes.{got, is_missing, not_found, missing, reply_note, counted, put_route, get_route, drop_route, copy_route, count_route, notes_routes, notes_setting, notes_setup, built_in};
 
 use crate::build::{
     as_text, block_of_four, block_of_one, block_of_three, block_of_two, pair, string, variable,
 };
+use crate::fields::MOST_WEIGHT;
+use crate::setup::Setup;
 use lang_core::{
     Block, Expr, Method, Name, NoMemory, Op, Program, Route, Routes, Seq, Setting, Stmt, Text,
 };
 use std::alloc::Global;
-
-/// How heavy a journal may grow where a world file doesn't say.
-pub const MOST_WEIGHT: u64 = 1000000000;
 
 // `put notes path(2) = body; reply 200 "";`
 fn put_route(alloc: Global) -> Result<Route, NoMemory>
@@ -200,4 +199,29 @@ pub fn notes(alloc: Global) -> Result<Setting, NoMemory>
         program,
         weight: MOST_WEIGHT,
     })
+}
+
+// The one service of `@notes`.
+fn notes_setup(alloc: Global) -> Result<Setup, NoMemory>
+    ensures { IfOk result (λ setup. setup ≡ notes_setup) }
+{
+    Ok(Setup {
+        setting: notes(alloc)?,
+        secret: Text::of(alloc, "s")?,
+        console: Text::of(alloc, "c")?,
+        door: Text::of(alloc, "127.0.0.1:8101")?,
+        workers: 4,
+    })
+}
+
+/// The world that comes with the program under this word; None exactly for words that name none.
+pub fn built_in(alloc: Global, word: &str) -> Result<Option<Vec<Setup>>, NoMemory>
+    ensures { IfOk result (λ world. option_map (λ setups. setups.items) world ≡ built_in word.now) }
+{
+    if word != "@notes" {
+        return Ok(None);
+    }
+    let mut setups = Vec::new(alloc);
+    setups.push(notes_setup(alloc)?)?;
+    Ok(Some(setups))
 }

@@ -1,0 +1,118 @@
+// Why a file is refused as a world.
+ghost use Rattle.std.specs.Prelude.{◌≡◌};
+ghost use Rattle.world_file.specs.Numbers.{place_of, refusal_number};
+
+use crate::field::{Field, FieldFault};
+use handler_lang::ProgramRefused;
+use lang_core::{Name, NoMemory};
+use std::fmt;
+
+/// Why the bytes of a file are refused as a world. Tests come in this order: JSON, the list of services, and then for
+/// each service its fields, its name among the earlier ones, and its program. The first is the refusal.
+#[derive(Drop)]
+pub enum WorldRefused {
+    /// Memory ran out. Nothing is known of the file.
+    NoMemory,
+    /// The bytes aren't one JSON value, or nest more than 127 deep.
+    NotJson,
+    /// A field isn't there.
+    Missing(Field),
+    /// A field isn't of its form, or is outside its limits.
+    BadField(Field),
+    /// An earlier service has this name. It doesn't come as long as a world has one service.
+    Twice(Name),
+    /// There are more services than a world may have.
+    TooMany,
+    /// The program of the service of this name is refused.
+    Program(Name, ProgramRefused),
+}
+
+impl WorldRefused {
+    /// The refusal's number, from 1 to 6; 0 for want of memory.
+    pub fn number(&self) -> u64
+        ensures { result ≡ refusal_number self.now }
+    {
+        match self {
+            WorldRefused::NoMemory => 0,
+            WorldRefused::NotJson => 1,
+            WorldRefused::Missing(_) => 2,
+            WorldRefused::BadField(_) => 3,
+            WorldRefused::Twice(_) => 4,
+            WorldRefused::TooMany => 5,
+            WorldRefused::Program(_, _) => 6,
+        }
+    }
+}
+
+// The byte of a program's text at which it is refused.
+fn place_of(refused: ProgramRefused) -> u64
+    ensures { result ≡ place_of refused }
+{
+    match refused {
+        ProgramRefused::NoMemory => 0,
+        ProgramRefused::Unexpected(at)
+        | ProgramRefused::BadString(at)
+        | ProgramRefused::BadNumber(at)
+        | ProgramRefused::BadPattern(at)
+        | ProgramRefused::TooDeep(at)
+        | ProgramRefused::TooLong(at) => at,
+    }
+}
+
+/// The refusal's number, and what it is about: a field, or a service's name, or that name, the number of its program's
+/// refusal and the byte of the text where that stands.
+impl fmt::Display for WorldRefused {
+    ghost use Rattle.std.specs.Prelude.{Some};
+    ghost use Rattle.world_file.specs.Numbers.{refusal_text};
+
+    ghost output = { λ why. Some (refusal_text why) };
+
+    fn fmt<W: fmt::Write>(&self, f: &mut fmt::Formatter<W>) -> fmt::Result {
+        match self {
+            WorldRefused::NoMemory => write!(f, "0"),
+            WorldRefused::NotJson => write!(f, "1"),
+            WorldRefused::Missing(field) => {
+                let field = field.as_str();
+                write!(f, "2 {field}")
+            }
+            WorldRefused::BadField(field) => {
+                let field = field.as_str();
+                write!(f, "3 {field}")
+            }
+            WorldRefused::Twice(name) => {
+                let name = name.as_str();
+                write!(f, "4 {name}")
+            }
+            WorldRefused::TooMany => write!(f, "5"),
+            WorldRefused::Program(name, refused) => {
+                let name = name.as_str();
+                let number = refused.number();
+                let place = place_of(*refused);
+                write!(f, "6 {name} {number} {place}")
+            }
+        }
+    }
+}
+
+impl From<NoMemory> for WorldRefused {
+    ghost use Rattle.world_file.specs.declared.refused.WorldRefused.{WorldRefused};
+
+    ghost from_gives = { λ _ why. why ≡ WorldRefused.NoMemory };
+
+    fn from(_: NoMemory) -> WorldRefused {
+        WorldRefused::NoMemory
+    }
+}
+
+impl From<FieldFault> for WorldRefused {
+    ghost use Rattle.world_file.specs.Worlds.{refusal_of};
+
+    ghost from_gives = { λ fault why. why ≡ refusal_of fault };
+
+    fn from(fault: FieldFault) -> WorldRefused {
+        match fault {
+            FieldFault::Missing(field) => WorldRefused::Missing(field),
+            FieldFault::Bad(field) => WorldRefused::BadField(field),
+        }
+    }
+}

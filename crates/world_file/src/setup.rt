@@ -1,0 +1,17 @@
+// How a service is set up.
+use lang_core::{Setting, Text};
+
+/// How a service of a world is set up: its setting, and how it is reached.
+#[derive(Drop)]
+pub struct Setup {
+    /// Its name, its peers, its program, and how heavy its journal may grow.
+    pub setting: Setting,
+    /// The secret that seals its messages, of 1 to 256 bytes.
+    pub secret: Text,
+    /// The secret that seals console requests, of 1 to 256 bytes.
+    pub console: Text,
+    /// The address that it listens at, of 1 to 64 visible ASCII characters.
+    pub door: Text,
+    /// How many workers serve requests, from 1 to 8.
+    pub workers: u64,
+}
