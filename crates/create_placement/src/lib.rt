@@ -1,0 +1,9 @@
+//! Where a created entry goes in a log.
+#![tactic(auto)]
+
+mod placing;
+
+pub use placing::place;
+
+#[cfg(test)]
+mod tests;
