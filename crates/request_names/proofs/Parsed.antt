@@ -9,10 +9,10 @@ use Rattle.std.proofs.lemmas.Bool.{ltb-true}
 use Rattle.std.proofs.lemmas.Bool.Decides.{nat_tests}
 use Rattle.request_names.specs.Numbers.{begins_well, digits_value, number_of}
 
-own : IsNumeralModel (λ ds. list_all is_ascii_digit ds ≡ true) digits_value
+pub own : IsNumeralModel (λ ds. list_all is_ascii_digit ds ≡ true) digits_value
 own = numerals_by_fold _ (search rules) (λ n ds. fold (λ m d. m * 10 + (d - 48)) n ds) (search rules)
 
-not_empty : (text : List ℕ) → begins_well text ≡ true → 0 < length text
+pub not_empty : (text : List ℕ) → begins_well text ≡ true → 0 < length text
 not_empty [] e = cc
 not_empty (d ∷ ds) e = omega arith
 

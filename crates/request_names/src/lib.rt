@@ -1,9 +1,11 @@
-//! Names of services, and numbers, read from texts.
+//! Names of services, requests and calls, and numbers: read from texts, and printed.
 #![tactic(auto)]
 
+mod ids;
 mod names;
 mod numbers;
 
+pub use ids::{print_call_id, print_request_id, read_call_id, read_request_id};
 pub use names::{NameRefused, read_name};
 pub use numbers::read_number;
 

@@ -1,4 +1,8 @@
-use crate::{NameRefused, read_name, read_number};
+use crate::{
+    NameRefused, print_call_id, print_request_id, read_call_id, read_name, read_number,
+    read_request_id,
+};
+use std::test::Fail;
 
 #[test]
 fn numbers_are_read(rt: HostRuntime) {
@@ -45,6 +49,59 @@ fn names_are_read(rt: HostRuntime) {
         match read_name(rt.alloc(), text) {
             Ok(name) => assert!(rt; want.is_none() && name.as_str() == text, "at {text}"),
             Err(why) => assert!(rt; want == Some(why), "at {text}"),
+        }
+    }
+}
+
+#[test]
+fn ids_are_read_and_printed(rt: HostRuntime) -> Result<(), Fail> {
+    for (text, service, number) in [
+        ("shop/7", "shop", 7),
+        ("_/1", "_", 1),
+        ("bank/18446744073709551615", "bank", u64::MAX),
+    ] {
+        let id = read_request_id(rt.alloc(), text)?;
+        assert!(rt;
+            id.service.as_str() == service && id.number == number,
+            "at {text}"
+        );
+        assert_eq!(rt; print_request_id(rt.alloc(), &id)?.as_str(), text);
+        let id = read_call_id(rt.alloc(), text)?;
+        assert!(rt;
+            id.service.as_str() == service && id.number == number,
+            "at {text}"
+        );
+        assert_eq!(rt; print_call_id(rt.alloc(), &id)?.as_str(), text);
+    }
+    Ok(())
+}
+
+#[test]
+fn ids_are_refused(rt: HostRuntime) {
+    for (text, want) in [
+        ("", NameRefused::Empty),
+        ("shop", NameRefused::NoSlash),
+        ("Shop", NameRefused::NoSlash),
+        ("/7", NameRefused::Empty),
+        ("/", NameRefused::Empty),
+        ("Shop/1", NameRefused::BadByte(0)),
+        ("shop /07", NameRefused::BadByte(4)),
+        ("abcdefghijklmnopqrstuvwxyz_012345/1", NameRefused::TooLong),
+        ("ABCDEFGHIJKLMNOPQRSTUVWXYZ_012345/0", NameRefused::TooLong),
+        ("shop/", NameRefused::BadNumber),
+        ("shop/0", NameRefused::BadNumber),
+        ("shop/07", NameRefused::BadNumber),
+        ("shop/+7", NameRefused::BadNumber),
+        ("shop/7/8", NameRefused::BadNumber),
+        ("shop/18446744073709551616", NameRefused::BadNumber),
+    ] {
+        match read_request_id(rt.alloc(), text) {
+            Ok(_) => assert!(rt; false, "at {text}"),
+            Err(why) => assert_eq!(rt; why, want, "at {text}"),
+        }
+        match read_call_id(rt.alloc(), text) {
+            Ok(_) => assert!(rt; false, "at {text}"),
+            Err(why) => assert_eq!(rt; why, want, "at {text}"),
         }
     }
 }
