@@ -9,7 +9,7 @@ use Rattle.std.proofs.Math.Seq.{take-add}
 use Rattle.std.proofs.lemmas.List.{append-nil, drop-drop, length-take, take-append-drop}
 use Rattle.io_edge.specs.Edge.{Wrote, WroteFront}
 use Rattle.io_edge.proofs.Pieces.{front_more, front_of, front_whole, wrote_more}
-use Rattle.service_core.specs.Events.{Kept}
+use Rattle.world_core.specs.Worlds.{World}
 use Rattle.script_run.specs.declared.line.Line.{Line}
 use Rattle.script_run.specs.declared.line.LineFault.{LineFault}
 use Rattle.script_run.specs.Faults.{fault_number}
@@ -44,41 +44,41 @@ behind_behind : (a b : List ℕ) (p : Played) → behind (a ++ b) p ≡ behind a
 behind_behind a b p = rw append_assoc refl
 
 -- a line and those behind it, with what the others are known to do
-one_line : (n : ℕ) (s : Kept) (r : Read) (xs ys : List (List ℕ))
-    (more : (next : Kept) → (played_from (n + 1) next xs).refused ≡ None
-    → played_from (n + 1) next (xs ++ ys) ≡ behind (played_from (n + 1) next xs).out (played_from (n + 1 + length xs) (played_from (n + 1) next xs).service ys))
+one_line : (n : ℕ) (s : World) (r : Read) (xs ys : List (List ℕ))
+    (more : (next : World) → (played_from (n + 1) next xs).refused ≡ None
+    → played_from (n + 1) next (xs ++ ys) ≡ behind (played_from (n + 1) next xs).out (played_from (n + 1 + length xs) (played_from (n + 1) next xs).world ys))
     → (with_line n s r (λ next. played_from (n + 1) next xs)).refused ≡ None
     → with_line n s r (λ next. played_from (n + 1) next (xs ++ ys))
-    ≡ behind (with_line n s r (λ next. played_from (n + 1) next xs)).out (played_from (n + 1 + length xs) (with_line n s r (λ next. played_from (n + 1) next xs)).service ys)
+    ≡ behind (with_line n s r (λ next. played_from (n + 1) next xs)).out (played_from (n + 1 + length xs) (with_line n s r (λ next. played_from (n + 1) next xs)).world ys)
 one_line n s (Ok line) xs ys more e =
     let next = after s line in
     let p = played_from (n + 1) next xs in
-    ap (behind (printed s line)) (more next e) ∙ sym (behind_behind (printed s line) p.out (played_from (n + 1 + length xs) p.service ys))
+    ap (behind (printed s line)) (more next e) ∙ sym (behind_behind (printed s line) p.out (played_from (n + 1 + length xs) p.world ys))
 one_line n s (Err fault) xs ys more e = cc
 
 -- what some lines did, and then the others
-pub played_append : (n : ℕ) (s : Kept) (xs ys : List (List ℕ)) → (played_from n s xs).refused ≡ None
-    → played_from n s (xs ++ ys) ≡ behind (played_from n s xs).out (played_from (n + length xs) (played_from n s xs).service ys)
+pub played_append : (n : ℕ) (s : World) (xs ys : List (List ℕ)) → (played_from n s xs).refused ≡ None
+    → played_from n s (xs ++ ys) ≡ behind (played_from n s xs).out (played_from (n + length xs) (played_from n s xs).world ys)
 played_append n s [] ys e = rw add-zero refl
 played_append n s (x ∷ xs) ys e =
     let more = one_line n s (line_for s x) xs ys (λ next h. played_append (n + 1) next xs ys h) e in
     let same : n + 1 + length xs ≡ n + suc (length xs) = omega arith in
     let p = with_line n s (line_for s x) (λ next. played_from (n + 1) next xs) in
-    more ∙ ap (λ (k : ℕ). behind p.out (played_from k p.service ys)) same
+    more ∙ ap (λ (k : ℕ). behind p.out (played_from k p.world ys)) same
 
 take_line : (lines rest : List (List ℕ)) (n : ℕ) (line : List ℕ) → drop n lines ≡ line ∷ rest → take (n + 1) lines ≡ take n lines ++ line ∷ []
 take_line lines rest n line e = take-add n 1 lines ∙ ap (λ (x : List (List ℕ)). take n lines ++ take 1 x) e
 
 -- one line more
-pub next_line : (n : ℕ) (s : Kept) (script line : List ℕ) (rest : List (List ℕ)) (said : Line) → drop n (lines_of script) ≡ line ∷ rest → (first_lines n s script).refused ≡ None → line_for (first_lines n s script).service line ≡ Ok said
-    → first_lines (n + 1) s script ≡ record { service = after (first_lines n s script).service said; out = (first_lines n s script).out ++ printed (first_lines n s script).service said; refused = None }
+pub next_line : (n : ℕ) (s : World) (script line : List ℕ) (rest : List (List ℕ)) (said : Line) → drop n (lines_of script) ≡ line ∷ rest → (first_lines n s script).refused ≡ None → line_for (first_lines n s script).world line ≡ Ok said
+    → first_lines (n + 1) s script ≡ record { world = after (first_lines n s script).world said; out = (first_lines n s script).out ++ printed (first_lines n s script).world said; refused = None }
 next_line n s script line rest said d goes says =
     ap (played_from 1 s) (take_line (lines_of script) rest n line d)
     ∙ played_append 1 s (take n (lines_of script)) (line ∷ []) goes
     ∙ rw (says, append-nil) refl
 
 -- the lines are all done
-pub all_lines : (n : ℕ) (s : Kept) (script : List ℕ) → drop n (lines_of script) ≡ [] → first_lines n s script ≡ played s script
+pub all_lines : (n : ℕ) (s : World) (script : List ℕ) → drop n (lines_of script) ≡ [] → first_lines n s script ≡ played s script
 all_lines n s script d =
     let whole = sym (append-nil (take n (lines_of script))) ∙ ap (λ (x : List (List ℕ)). take n (lines_of script) ++ x) (sym d) ∙ take-append-drop n (lines_of script) in
     ap (played_from 1 s) whole
@@ -87,8 +87,8 @@ length_taken : (lines rest : List (List ℕ)) (n : ℕ) (line : List ℕ) → dr
 length_taken lines rest n line d = omega (arith, length-take n lines, length-drop n lines, ap length d)
 
 -- a line is refused
-pub refused_line : (n : ℕ) (s : Kept) (script line : List ℕ) (rest : List (List ℕ)) (fault : LineFault) → drop n (lines_of script) ≡ line ∷ rest → (first_lines n s script).refused ≡ None → line_for (first_lines n s script).service line ≡ Err fault
-    → played s script ≡ record { service = (first_lines n s script).service; out = (first_lines n s script).out; refused = Some (n + 1, fault_number fault) }
+pub refused_line : (n : ℕ) (s : World) (script line : List ℕ) (rest : List (List ℕ)) (fault : LineFault) → drop n (lines_of script) ≡ line ∷ rest → (first_lines n s script).refused ≡ None → line_for (first_lines n s script).world line ≡ Err fault
+    → played s script ≡ record { world = (first_lines n s script).world; out = (first_lines n s script).out; refused = Some (n + 1, fault_number fault) }
 refused_line n s script line rest fault d goes says =
     let whole : lines_of script ≡ take n (lines_of script) ++ line ∷ rest = sym (take-append-drop n (lines_of script)) ∙ ap (λ (x : List (List ℕ)). take n (lines_of script) ++ x) d in
     let place : 1 + length (take n (lines_of script)) ≡ n + 1 = omega (arith, length_taken (lines_of script) rest n line d) in
@@ -98,66 +98,66 @@ refused_line n s script line rest fault d goes says =
 
 -- ---- how things stand before a line is done
 
-pub record Stands (n : ℕ) (before : Kept) (script line : List ℕ) (rest : List (List ℕ)) (said : Line) (now : Kept) : Type 0 where
+pub record Stands (n : ℕ) (before : World) (script line : List ℕ) (rest : List (List ℕ)) (said : Line) (now : World) : Type 0 where
   pub left : drop n (lines_of script) ≡ line ∷ rest
   pub goes : (first_lines n before script).refused ≡ None
   pub says : line_for now line ≡ Ok said
-  pub service : now ≡ (first_lines n before script).service
+  pub world : now ≡ (first_lines n before script).world
 
-stands_next : {n : ℕ} {before : Kept} {script line : List ℕ} {rest : List (List ℕ)} {said : Line} {now : Kept} → Stands n before script line rest said now
-    → first_lines (n + 1) before script ≡ record { service = after now said; out = (first_lines n before script).out ++ printed now said; refused = None }
+stands_next : {n : ℕ} {before : World} {script line : List ℕ} {rest : List (List ℕ)} {said : Line} {now : World} → Stands n before script line rest said now
+    → first_lines (n + 1) before script ≡ record { world = after now said; out = (first_lines n before script).out ++ printed now said; refused = None }
 stands_next {n} {before} {script} {line} {rest} {said} {now} s =
-    next_line n before script line rest said s.left s.goes (ap (λ (k : Kept). line_for k line) (sym s.service) ∙ s.says)
-    ∙ ap (λ (k : Kept). record { service = after k said; out = (first_lines n before script).out ++ printed k said; refused = None }) (sym s.service)
+    next_line n before script line rest said s.left s.goes (ap (λ (k : World). line_for k line) (sym s.world) ∙ s.says)
+    ∙ ap (λ (k : World). record { world = after k said; out = (first_lines n before script).out ++ printed k said; refused = None }) (sym s.world)
 
-pub done_goes : {n : ℕ} {before : Kept} {script line : List ℕ} {rest : List (List ℕ)} {said : Line} {now : Kept} → Stands n before script line rest said now → (first_lines (n + 1) before script).refused ≡ None
+pub done_goes : {n : ℕ} {before : World} {script line : List ℕ} {rest : List (List ℕ)} {said : Line} {now : World} → Stands n before script line rest said now → (first_lines (n + 1) before script).refused ≡ None
 done_goes s = ap (λ (q : Played). q.refused) (stands_next s)
 
-pub done_service : {n : ℕ} {before : Kept} {script line : List ℕ} {rest : List (List ℕ)} {said : Line} {now : Kept} (next : Kept) → Stands n before script line rest said now → next ≡ after now said → next ≡ (first_lines (n + 1) before script).service
-done_service next s e = e ∙ sym (ap (λ (q : Played). q.service) (stands_next s))
+pub done_world : {n : ℕ} {before : World} {script line : List ℕ} {rest : List (List ℕ)} {said : Line} {now : World} (next : World) → Stands n before script line rest said now → next ≡ after now said → next ≡ (first_lines (n + 1) before script).world
+done_world next s e = e ∙ sym (ap (λ (q : Played). q.world) (stands_next s))
 
-done_out : {n : ℕ} {before : Kept} {script line : List ℕ} {rest : List (List ℕ)} {said : Line} {now : Kept} → Stands n before script line rest said now → (first_lines (n + 1) before script).out ≡ (first_lines n before script).out ++ printed now said
+done_out : {n : ℕ} {before : World} {script line : List ℕ} {rest : List (List ℕ)} {said : Line} {now : World} → Stands n before script line rest said now → (first_lines (n + 1) before script).out ≡ (first_lines n before script).out ++ printed now said
 done_out s = ap (λ (q : Played). q.out) (stands_next s)
 
-pub done_wrote : {n : ℕ} {before : Kept} {script line : List ℕ} {rest : List (List ℕ)} {said : Line} {now : Kept} (a b c : Option (List ℕ)) → Stands n before script line rest said now
+pub done_wrote : {n : ℕ} {before : World} {script line : List ℕ} {rest : List (List ℕ)} {said : Line} {now : World} (a b c : Option (List ℕ)) → Stands n before script line rest said now
     → Wrote a b (first_lines n before script).out → Wrote b c (printed now said) → Wrote a c (first_lines (n + 1) before script).out
 done_wrote {n} {before} {script} a b c s f g = let W : List ℕ → Type 0 = λ x. Wrote a c x in subst W (sym (done_out s)) (wrote_more a b c (first_lines n before script).out _ f g)
 
-pub done_front : {n : ℕ} {before : Kept} {script line : List ℕ} {rest : List (List ℕ)} {said : Line} {now : Kept} (a b c : Option (List ℕ)) → Stands n before script line rest said now
+pub done_front : {n : ℕ} {before : World} {script line : List ℕ} {rest : List (List ℕ)} {said : Line} {now : World} (a b c : Option (List ℕ)) → Stands n before script line rest said now
     → Wrote a b (first_lines n before script).out → WroteFront b c (printed now said) → WroteFront a c (first_lines (n + 1) before script).out
 done_front {n} {before} {script} a b c s f g = let W : List ℕ → Type 0 = λ x. WroteFront a c x in subst W (sym (done_out s)) (front_more a b c (first_lines n before script).out _ f g)
 
-pub done_unwritten : {n : ℕ} {before : Kept} {script line : List ℕ} {rest : List (List ℕ)} {said : Line} {now : Kept} (a b : Option (List ℕ)) → Stands n before script line rest said now
+pub done_unwritten : {n : ℕ} {before : World} {script line : List ℕ} {rest : List (List ℕ)} {said : Line} {now : World} (a b : Option (List ℕ)) → Stands n before script line rest said now
     → Wrote a b (first_lines n before script).out → WroteFront a b (first_lines (n + 1) before script).out
 done_unwritten {n} {before} {script} a b s f = let W : List ℕ → Type 0 = λ x. WroteFront a b x in subst W (sym (done_out s)) (front_of a b (first_lines n before script).out _ f)
 
 -- ---- where a run stops
 
 -- the lines before are done, and no more
-pub stopped_before : (n : ℕ) (before : Kept) (script : List ℕ) (now : Kept) (a b : Option (List ℕ)) → (first_lines n before script).refused ≡ None → now ≡ (first_lines n before script).service → Wrote a b (first_lines n before script).out → StopsEarly before script now a b
-stopped_before n before script now a b goes same f = record { lines = n; not_refused = goes; service = same; wrote = front_whole a b _ f }
+pub stopped_before : (n : ℕ) (before : World) (script : List ℕ) (now : World) (a b : Option (List ℕ)) → (first_lines n before script).refused ≡ None → now ≡ (first_lines n before script).world → Wrote a b (first_lines n before script).out → StopsEarly before script now a b
+stopped_before n before script now a b goes same f = record { lines = n; not_refused = goes; world = same; wrote = front_whole a b _ f }
 
 -- a line is done or it isn't, and what it prints isn't written, for want of memory
-pub stopped : {n : ℕ} {before : Kept} {script line : List ℕ} {rest : List (List ℕ)} {said : Line} {now : Kept} (next : Kept) (a b : Option (List ℕ)) → Stands n before script line rest said now
+pub stopped : {n : ℕ} {before : World} {script line : List ℕ} {rest : List (List ℕ)} {said : Line} {now : World} (next : World) (a b : Option (List ℕ)) → Stands n before script line rest said now
     → Wrote a b (first_lines n before script).out → (next ≡ now) ⊎ (next ≡ after now said) → StopsEarly before script next a b
-stopped {n} {before} {script} next a b s f (inl same) = stopped_before n before script next a b s.goes (same ∙ s.service) f
-stopped {n} next a b s f (inr done) = record { lines = n + 1; not_refused = done_goes s; service = done_service next s done; wrote = done_unwritten a b s f }
+stopped {n} {before} {script} next a b s f (inl same) = stopped_before n before script next a b s.goes (same ∙ s.world) f
+stopped {n} next a b s f (inr done) = record { lines = n + 1; not_refused = done_goes s; world = done_world next s done; wrote = done_unwritten a b s f }
 
 -- a line is refused, and the lines before it are done
-pub refused_does : (n : ℕ) (before : Kept) (script line : List ℕ) (rest : List (List ℕ)) (fault : LineFault) (now : Kept) (a b : Option (List ℕ)) → drop n (lines_of script) ≡ line ∷ rest → (first_lines n before script).refused ≡ None → line_for now line ≡ Err fault
-    → now ≡ (first_lines n before script).service → Wrote a b (first_lines n before script).out → DoesAll (played before script) now a b × IsRefusedAt (n + 1) (fault_number fault) (played before script)
+pub refused_does : (n : ℕ) (before : World) (script line : List ℕ) (rest : List (List ℕ)) (fault : LineFault) (now : World) (a b : Option (List ℕ)) → drop n (lines_of script) ≡ line ∷ rest → (first_lines n before script).refused ≡ None → line_for now line ≡ Err fault
+    → now ≡ (first_lines n before script).world → Wrote a b (first_lines n before script).out → DoesAll (played before script) now a b × IsRefusedAt (n + 1) (fault_number fault) (played before script)
 refused_does n before script line rest fault now a b d goes says same f =
-    let p = refused_line n before script line rest fault d goes (ap (λ (k : Kept). line_for k line) (sym same) ∙ says) in
+    let p = refused_line n before script line rest fault d goes (ap (λ (k : World). line_for k line) (sym same) ∙ says) in
     let W : List ℕ → Type 0 = λ x. Wrote a b x in
-    (record { service = same ∙ sym (ap (λ (q : Played). q.service) p); wrote = subst W (sym (ap (λ (q : Played). q.out) p)) f }, ap (λ (q : Played). q.refused) p)
+    (record { world = same ∙ sym (ap (λ (q : Played). q.world) p); wrote = subst W (sym (ap (λ (q : Played). q.out) p)) f }, ap (λ (q : Played). q.refused) p)
 
-pub all_does : (n : ℕ) (before : Kept) (script : List ℕ) (now : Kept) (a b : Option (List ℕ)) → drop n (lines_of script) ≡ [] → now ≡ (first_lines n before script).service → Wrote a b (first_lines n before script).out → DoesAll (played before script) now a b
+pub all_does : (n : ℕ) (before : World) (script : List ℕ) (now : World) (a b : Option (List ℕ)) → drop n (lines_of script) ≡ [] → now ≡ (first_lines n before script).world → Wrote a b (first_lines n before script).out → DoesAll (played before script) now a b
 all_does n before script now a b d same f =
     let p = all_lines n before script d in
     let W : List ℕ → Type 0 = λ x. Wrote a b x in
-    record { service = same ∙ ap (λ (q : Played). q.service) p; wrote = subst W (ap (λ (q : Played). q.out) p) f }
+    record { world = same ∙ ap (λ (q : Played). q.world) p; wrote = subst W (ap (λ (q : Played). q.out) p) f }
 
-pub all_good : (n : ℕ) (before : Kept) (script : List ℕ) → drop n (lines_of script) ≡ [] → (first_lines n before script).refused ≡ None → (played before script).refused ≡ None
+pub all_good : (n : ℕ) (before : World) (script : List ℕ) → drop n (lines_of script) ≡ [] → (first_lines n before script).refused ≡ None → (played before script).refused ≡ None
 all_good n before script d goes = sym (ap (λ (q : Played). q.refused) (all_lines n before script d)) ∙ goes
 
 pub rest_behind : (lines rest : List (List ℕ)) (n : ℕ) (line : List ℕ) → drop n lines ≡ line ∷ rest → drop (n + 1) lines ≡ rest

@@ -1,26 +1,25 @@
 -- What a script does, and what it writes.
-use Rattle.std.specs.Prelude.{ℕ, ◌+◌, Bool, true, List, [], ◌∷◌, ◌++◌, Option, Some, None, Result, Ok, Err, ◌==◌, codes, length, decimal, if◌then◌else◌, nat_lt, take}
+use Rattle.std.specs.Prelude.{ℕ, ◌+◌, Bool, true, false, List, [], ◌∷◌, ◌++◌, Option, Some, None, Result, Ok, Err, ◌==◌, codes, length, decimal, if◌then◌else◌, nat_lt, take}
 use Rattle.std.specs.List.{slice_split}
-use Rattle.std.proofs.Common.{lit≤}
 use Rattle.lang_base.specs.Texts.{same_text}
-use Rattle.lang_core.specs.declared.inputs.Inputs.{Inputs}
 use Rattle.report_text.specs.Reports.{answer_line, id_text, log_text, rows_text, verdict_text}
-use Rattle.service_core.specs.Events.{Kept, arrival_answer, after_arrival, order_answer, after_order, stale_id, after_step}
+use Rattle.service_core.specs.Events.{arrival_answer, stale_id}
+use Rattle.service_core.specs.Orders.{order_answer}
 use Rattle.service_core.specs.declared.answers.Arrived.{Arrived}
 use Rattle.service_core.specs.declared.answers.Arrived.TheVariants.{Done}
 use Rattle.service_core.specs.declared.answers.ArriveRefused.{ArriveRefused}
 use Rattle.service_core.specs.declared.answers.ArriveRefused.TheVariants.{Full, NoMemory}
-use Rattle.service_core.specs.declared.answers.Command.TheVariants.{Cancel as Strike}
 use Rattle.service_core.specs.declared.answers.Ordered.{Ordered}
 use Rattle.service_core.specs.declared.answers.OrderRefused.{OrderRefused}
-use Rattle.service_core.specs.declared.answers.OrderRefused.TheVariants.{NoSuchRequest, NoMemory as MemoryLacks}
+use Rattle.service_core.specs.declared.answers.OrderRefused.TheVariants.{NoSuchRequest, Full as LogFull, NoMemory as MemoryLacks}
 use Rattle.local_repair.specs.Current.{rows_of}
 use Rattle.world_core.specs.Verdicts.{verdict}
+use Rattle.world_core.specs.Worlds.{World, after_command, after_request, after_run, next_inputs, with_moment, with_seed}
 use Rattle.script_run.specs.Faults.{fault_number}
 use Rattle.script_run.specs.Lines.{Read, line_at}
 use Rattle.script_run.specs.declared.line.Line.{Line}
-use Rattle.script_run.specs.declared.line.Line.TheVariants.{Blank, Ask, Cancel, Step, Rows, Log, Audit}
-use Rattle.script_run.specs.declared.line.LineFault.TheVariants.{Shape}
+use Rattle.script_run.specs.declared.line.Line.TheVariants.{Blank, Ask, Order, Step, Clock, Seed, Rows, Log, Audit}
+use Rattle.script_run.specs.declared.line.LineFault.TheVariants.{Service}
 
 -- ---- a line in a world of one service
 
@@ -28,33 +27,33 @@ use Rattle.script_run.specs.declared.line.LineFault.TheVariants.{Shape}
 abbrev pub is_about : List ℕ → Line → Bool
 is_about me Blank = true
 is_about me (Ask service request) = same_text service me
-is_about me (Cancel service id token who) = same_text service me
+is_about me (Order service command token who) = same_text service me
 is_about me (Step service) = same_text service me
+is_about me (Clock moment) = true
+is_about me (Seed n) = true
 is_about me (Rows service) = same_text service me
 is_about me (Log service) = same_text service me
 is_about me Audit = true
 
 -- a line about another service is refused
 abbrev pub known : List ℕ → Read → Read
-known me (Ok line) = if is_about me line then Ok line else Err Shape
+known me (Ok line) = if is_about me line then Ok line else Err Service
 known me (Err fault) = Err fault
 
-abbrev pub line_for : Kept → List ℕ → Read
-line_for s bytes = known s.setting.me (line_at bytes)
+abbrev pub line_for : World → List ℕ → Read
+line_for w bytes = known w.service.setting.me (line_at bytes)
 
--- the clock and the random words of a script, which are all 0
-abbrev pub no_inputs : Inputs
-no_inputs = record { moment = 0; w1 = 0; w2 = 0; w3 = 0; w4 = 0; w5 = 0; w6 = 0; w7 = 0; w8 = 0; in_range = lit≤ tt }
-
--- the service after a line
-abbrev pub after : Kept → Line → Kept
-after s Blank = s
-after s (Ask service request) = after_arrival s request no_inputs
-after s (Cancel service id token who) = after_order s (Strike id)
-after s (Step service) = after_step s
-after s (Rows service) = s
-after s (Log service) = s
-after s Audit = s
+-- the world after a line
+abbrev pub after : World → Line → World
+after w Blank = w
+after w (Ask service request) = after_request w request
+after w (Order service command token who) = after_command w command token
+after w (Step service) = after_run w
+after w (Clock moment) = with_moment w moment
+after w (Seed n) = with_seed w n
+after w (Rows service) = w
+after w (Log service) = w
+after w Audit = w
 
 -- `S refused WORD NUMBER`
 abbrev pub refused_text : List ℕ → List ℕ → ℕ → List ℕ
@@ -75,6 +74,7 @@ ordered_line me token about rule =
 abbrev pub ordered_text : List ℕ → List ℕ → Result Ordered OrderRefused → List ℕ
 ordered_text me token (Ok o) = ordered_line me token o.about o.rule
 ordered_text me token (Err (NoSuchRequest id)) = refused_text me (codes "nosuchrequest") id
+ordered_text me token (Err (LogFull n)) = refused_text me (codes "full") n
 ordered_text me token (Err MemoryLacks) = []
 
 abbrev pub idle_line : List ℕ → List ℕ
@@ -89,55 +89,57 @@ stepped_text me None = idle_line me
 stepped_text me (Some id) = ran_line me id
 
 -- the lines that a line prints
-abbrev pub printed : Kept → Line → List ℕ
-printed s Blank = []
-printed s (Ask service request) = arrived_text s.setting.me (arrival_answer s request no_inputs)
-printed s (Cancel service id token who) = ordered_text s.setting.me token (order_answer s (Strike id))
-printed s (Step service) = stepped_text s.setting.me (stale_id s)
-printed s (Rows service) = rows_text (rows_of s.entries)
-printed s (Log service) = log_text s.setting.me s.entries
-printed s Audit = verdict_text (s.setting.me ∷ []) (verdict (s ∷ []))
+abbrev pub printed : World → Line → List ℕ
+printed w Blank = []
+printed w (Ask service request) = arrived_text w.service.setting.me (arrival_answer w.service request (next_inputs w))
+printed w (Order service command token who) = ordered_text w.service.setting.me token (order_answer w.service command token)
+printed w (Step service) = stepped_text w.service.setting.me (stale_id w.service)
+printed w (Clock moment) = []
+printed w (Seed n) = []
+printed w (Rows service) = rows_text (rows_of w.service.entries)
+printed w (Log service) = log_text w.service.setting.me w.service.entries
+printed w Audit = verdict_text (w.service.setting.me ∷ []) (verdict (w.service ∷ []))
 
 -- ---- a script
 
--- where a script ends: the service then, what was written, and the line and number of a refusal
+-- where a script ends: the world then, what was written, and the line and number of a refusal
 pub record Played : Type 0 where
-  pub service : Kept
+  pub world : World
   pub out : List ℕ
   pub refused : Option (ℕ × ℕ)
 
 -- what was written before, and then this
 abbrev pub behind : List ℕ → Played → Played
-behind out p = record { service = p.service; out = out ++ p.out; refused = p.refused }
+behind out p = record { world = p.world; out = out ++ p.out; refused = p.refused }
 
 -- a line that is good is done and printed, and the rest follows; one that isn't ends the script
-abbrev pub with_line : ℕ → Kept → Read → (Kept → Played) → Played
-with_line n s (Ok line) rest = behind (printed s line) (rest (after s line))
-with_line n s (Err fault) rest = record { service = s; out = []; refused = Some (n, fault_number fault) }
+abbrev pub with_line : ℕ → World → Read → (World → Played) → Played
+with_line n w (Ok line) rest = behind (printed w line) (rest (after w line))
+with_line n w (Err fault) rest = record { world = w; out = []; refused = Some (n, fault_number fault) }
 
 -- lines from the n-th on
-abbrev pub played_from : ℕ → Kept → List (List ℕ) → Played
-played_from n s [] = record { service = s; out = []; refused = None }
-played_from n s (line ∷ lines) = with_line n s (line_for s line) (λ next. played_from (n + 1) next lines)
+abbrev pub played_from : ℕ → World → List (List ℕ) → Played
+played_from n w [] = record { world = w; out = []; refused = None }
+played_from n w (line ∷ lines) = with_line n w (line_for w line) (λ next. played_from (n + 1) next lines)
 
 -- lines end with a line feed, which the last may lack
 abbrev pub lines_of : List ℕ → List (List ℕ)
 lines_of script = slice_split (λ b. b == 10) script
 
 -- lines are counted from 1
-abbrev pub played : Kept → List ℕ → Played
-played s script = played_from 1 s (lines_of script)
+abbrev pub played : World → List ℕ → Played
+played w script = played_from 1 w (lines_of script)
 
 -- a script of more than 16,777,216 bytes is refused as line 0, before any line
-abbrev pub run_of_script : Kept → List ℕ → Played
-run_of_script s script =
-    if nat_lt 16777216 (length script) then record { service = s; out = []; refused = Some (0, 7) } else played s script
+abbrev pub run_of_script : World → List ℕ → Played
+run_of_script w script =
+    if nat_lt 16777216 (length script) then record { world = w; out = []; refused = Some (0, 7) } else played w script
 
 -- ---- where a run of a script stops
 
 -- its first lines alone
-abbrev pub first_lines : ℕ → Kept → List ℕ → Played
-first_lines n s script = played_from 1 s (take n (lines_of script))
+abbrev pub first_lines : ℕ → World → List ℕ → Played
+first_lines n w script = played_from 1 w (take n (lines_of script))
 
 -- the lines behind a line
 abbrev pub lines_left : Option (List ℕ) → List (List ℕ)

@@ -1,34 +1,18 @@
 // What a line does, and what it prints.
 ghost use Rattle.std.specs.Prelude.{◌≡◌, ◌⊎◌, ◌∷◌, [], IfOk, OnOk, OnErr};
-ghost use Rattle.service_core.specs.Events.{arrival_answer, after_arrival, order_answer, after_order, stale_id, after_step};
-ghost use Rattle.service_core.specs.declared.answers.Command.TheVariants.{Cancel as Strike};
+ghost use Rattle.service_core.specs.Events.{arrival_answer, stale_id};
+ghost use Rattle.service_core.specs.Orders.{order_answer};
 ghost use Rattle.world_core.specs.Verdicts.{verdict};
+ghost use Rattle.world_core.specs.Worlds.{after_command, after_request, after_run, next_inputs};
 ghost use Rattle.report_text.specs.Reports.{verdict_text};
-ghost use Rattle.script_run.specs.Plays.{after, printed, no_inputs, refused_text, arrived_text, ordered_line, ordered_text, idle_line, ran_line, stepped_text};
+ghost use Rattle.script_run.specs.Plays.{after, printed, refused_text, arrived_text, ordered_line, ordered_text, idle_line, ran_line, stepped_text};
 
 use crate::line::Line;
-use lang_core::{Copied, Inputs, Name, Names, NoMemory, Request, Text};
+use lang_core::{Copied, Name, Names, NoMemory, Request, Text};
 use report_text::{answer_line, log_text, push_id, rows_text, verdict_text};
-use service_core::{ArriveRefused, Arrived, Command, OrderRefused, Service, Stepped};
+use service_core::{ArriveRefused, Arrived, Command, OrderRefused, Ordered, Service, Stepped};
 use std::alloc::Global;
-use world_core::audit_service;
-
-/// The clock and the random words of a script's requests.
-fn no_inputs() -> Inputs
-    ensures { result ≡ no_inputs }
-{
-    Inputs {
-        moment: 0,
-        w1: 0,
-        w2: 0,
-        w3: 0,
-        w4: 0,
-        w5: 0,
-        w6: 0,
-        w7: 0,
-        w8: 0,
-    }
-}
+use world_core::{World, audit_service};
 
 fn refused_text(alloc: Global, me: &Name, word: &str, number: u64) -> Result<Text, NoMemory>
     ensures { IfOk result (λ text. text ≡ refused_text me.now word.now number) }
@@ -73,56 +57,61 @@ fn ran_line(alloc: Global, me: &Name, id: u64) -> Result<Text, NoMemory>
     Ok(Text::from(line))
 }
 
-fn ask(alloc: Global, service: &mut Service, request: Request) -> Result<Text, NoMemory>
-    ensures printed { IfOk result (λ text. text ≡ arrived_text service.old.setting.me (arrival_answer service.old request no_inputs)) }
-    ensures after { OnOk result (service.new ≡ after_arrival service.old request no_inputs) }
-    ensures early { OnErr result ((service.new ≡ service.old) ⊎ (service.new ≡ after_arrival service.old request no_inputs)) }
+fn ask(alloc: Global, world: &mut World, request: Request) -> Result<Text, NoMemory>
+    ensures printed { IfOk result (λ text. text ≡ arrived_text world.old.service.setting.me (arrival_answer world.old.service request (next_inputs world.old))) }
+    ensures after { OnOk result (world.new ≡ after_request world.old request) }
+    ensures early { OnErr result ((world.new ≡ world.old) ⊎ (world.new ≡ after_request world.old request)) }
 {
-    match service.arrive(alloc, request, no_inputs()) {
-        Ok(Arrived::Done { id, response }) => answer_line(
-            alloc,
-            &service.setting().me,
-            id,
-            &response,
-        ),
-        Err(ArriveRefused::Full(count)) => refused_text(
-            alloc,
-            &service.setting().me,
-            "full",
-            count,
-        ),
+    match world.arrive(alloc, request) {
+        Ok(Arrived::Done { id, response }) => {
+            answer_line(alloc, &world.service().setting().me, id, &response)
+        }
+        Err(ArriveRefused::Full(count)) => {
+            refused_text(alloc, &world.service().setting().me, "full", count)
+        }
         Err(ArriveRefused::NoMemory) => Err(NoMemory),
     }
 }
 
-fn cancel(alloc: Global, service: &mut Service, id: u64, token: &Text) -> Result<Text, NoMemory>
-    ensures printed { IfOk result (λ text. text ≡ ordered_text service.old.setting.me token.now (order_answer service.old (Strike id))) }
-    ensures after { OnOk result (service.new ≡ after_order service.old (Strike id)) }
-    ensures early { OnErr result ((service.new ≡ service.old) ⊎ (service.new ≡ after_order service.old (Strike id))) }
+fn ordered_text(
+    alloc: Global,
+    me: &Name,
+    token: &Text,
+    answer: Result<Ordered, OrderRefused>,
+) -> Result<Text, NoMemory>
+    ensures { IfOk result (λ text. text ≡ ordered_text me.now token.now answer) }
 {
-    match service.order(alloc, Command::Cancel(id)) {
-        Ok(ordered) => ordered_line(
-            alloc,
-            &service.setting().me,
-            token,
-            ordered.about,
-            ordered.rule,
-        ),
-        Err(OrderRefused::NoSuchRequest(id)) => {
-            refused_text(alloc, &service.setting().me, "nosuchrequest", id)
-        }
+    match answer {
+        Ok(ordered) => ordered_line(alloc, me, token, ordered.about, ordered.rule),
+        Err(OrderRefused::NoSuchRequest(id)) => refused_text(alloc, me, "nosuchrequest", id),
+        Err(OrderRefused::Full(count)) => refused_text(alloc, me, "full", count),
         Err(OrderRefused::NoMemory) => Err(NoMemory),
     }
 }
 
-fn step(alloc: Global, service: &mut Service) -> Result<Text, NoMemory>
-    ensures printed { IfOk result (λ text. text ≡ stepped_text service.old.setting.me (stale_id service.old)) }
-    ensures after { OnOk result (service.new ≡ after_step service.old) }
-    ensures early { OnErr result ((service.new ≡ service.old) ⊎ (service.new ≡ after_step service.old)) }
+fn order(
+    alloc: Global,
+    world: &mut World,
+    command: Command,
+    token: Text,
+) -> Result<Text, NoMemory>
+    ensures printed { IfOk result (λ text. text ≡ ordered_text world.old.service.setting.me token (order_answer world.old.service command token)) }
+    ensures after { OnOk result (world.new ≡ after_command world.old command token) }
+    ensures early { OnErr result ((world.new ≡ world.old) ⊎ (world.new ≡ after_command world.old command token)) }
 {
-    match service.repair_step(alloc)? {
-        Stepped::Idle => idle_line(alloc, &service.setting().me),
-        Stepped::Ran { id, answered: _ } => ran_line(alloc, &service.setting().me, id),
+    let told = token.copied(alloc)?;
+    let answer = world.order(alloc, command, token);
+    ordered_text(alloc, &world.service().setting().me, &told, answer)
+}
+
+fn step(alloc: Global, world: &mut World) -> Result<Text, NoMemory>
+    ensures printed { IfOk result (λ text. text ≡ stepped_text world.old.service.setting.me (stale_id world.old.service)) }
+    ensures after { OnOk result (world.new ≡ after_run world.old) }
+    ensures early { OnErr result ((world.new ≡ world.old) ⊎ (world.new ≡ after_run world.old)) }
+{
+    match world.repair_step(alloc)? {
+        Stepped::Idle => idle_line(alloc, &world.service().setting().me),
+        Stepped::Ran { id, answered: _ } => ran_line(alloc, &world.service().setting().me, id),
     }
 }
 
@@ -136,26 +125,38 @@ fn audit(alloc: Global, service: &Service) -> Result<Text, NoMemory>
 
 /// Does what a line says, and answers what it prints. For want of memory it is done or it isn't, and nothing is
 /// printed.
-pub fn act(alloc: Global, service: &mut Service, line: Line) -> Result<Text, NoMemory>
-    ensures printed { IfOk result (λ text. text ≡ printed service.old line) }
-    ensures after { OnOk result (service.new ≡ after service.old line) }
-    ensures early { OnErr result ((service.new ≡ service.old) ⊎ (service.new ≡ after service.old line)) }
+pub fn act(alloc: Global, world: &mut World, line: Line) -> Result<Text, NoMemory>
+    ensures printed { IfOk result (λ text. text ≡ printed world.old line) }
+    ensures after { OnOk result (world.new ≡ after world.old line) }
+    ensures early { OnErr result ((world.new ≡ world.old) ⊎ (world.new ≡ after world.old line)) }
 {
     match line {
         Line::Blank => Text::of(alloc, ""),
         Line::Ask {
             service: _,
             request,
-        } => ask(alloc, service, request),
-        Line::Cancel {
+        } => ask(alloc, world, request),
+        Line::Order {
             service: _,
-            id,
+            command,
             token,
             who: _,
-        } => cancel(alloc, service, id, &token),
-        Line::Step { service: _ } => step(alloc, service),
-        Line::Rows { service: _ } => rows_text(alloc, &service.rows(alloc)?),
-        Line::Log { service: _ } => log_text(alloc, &service.setting().me, service.entries()),
-        Line::Audit => audit(alloc, service),
+        } => order(alloc, world, command, token),
+        Line::Step { service: _ } => step(alloc, world),
+        Line::Clock(moment) => {
+            world.set_clock(moment);
+            Text::of(alloc, "")
+        }
+        Line::Seed(n) => {
+            world.seed(n);
+            Text::of(alloc, "")
+        }
+        Line::Rows { service: _ } => rows_text(alloc, &world.service().rows(alloc)?),
+        Line::Log { service: _ } => log_text(
+            alloc,
+            &world.service().setting().me,
+            world.service().entries(),
+        ),
+        Line::Audit => audit(alloc, world.service()),
     }
 }

@@ -12,8 +12,8 @@ use crate::line::{Line, LineFault};
 use crate::read::read_line;
 use io_edge::{Failed, Sink, write_all};
 use lang_core::{Name, NoMemory as LacksMemory, Same};
-use service_core::Service;
 use std::alloc::Global;
+use world_core::World;
 
 /// Why a script was not done to its end.
 #[derive(Clone, Copy, PartialEq, Eq)]
@@ -46,14 +46,14 @@ fn is_about(me: &Name, line: &Line) -> bool
     ensures { result ≡ is_about me.now line.now }
 {
     match line {
-        Line::Blank | Line::Audit => true,
+        Line::Blank | Line::Audit | Line::Clock(_) | Line::Seed(_) => true,
         Line::Ask {
             service,
             request: _,
         } => service.text().is(me.text()),
-        Line::Cancel {
+        Line::Order {
             service,
-            id: _,
+            command: _,
             token: _,
             who: _,
         } => service.text().is(me.text()),
@@ -63,20 +63,20 @@ fn is_about(me: &Name, line: &Line) -> bool
     }
 }
 
-// What a line says to this service.
+// What a line says to this world.
 fn line_for(
     alloc: Global,
-    service: &Service,
+    world: &World,
     bytes: &[u8],
 ) -> Result<Result<Line, LineFault>, LacksMemory>
-    ensures { IfOk result (λ read. read ≡ line_for service.now bytes.now) }
+    ensures { IfOk result (λ read. read ≡ line_for world.now bytes.now) }
 {
     match read_line(alloc, bytes)? {
         Ok(line) => {
-            if is_about(&service.setting().me, &line) {
+            if is_about(&world.service().setting().me, &line) {
                 Ok(Ok(line))
             } else {
-                Ok(Err(LineFault::Shape))
+                Ok(Err(LineFault::Service))
             }
         }
         Err(fault) => Ok(Err(fault)),
@@ -104,16 +104,16 @@ fn cut_line(bytes: &[u8]) -> (&[u8], Option<&[u8]>)
 /// of memory, or where the sink failed, that line may be done too, and a front of what it prints was written.
 pub fn run_script<K: Sink>(
     alloc: Global,
-    service: &mut Service,
+    world: &mut World,
     script: &[u8],
     out: &mut K,
 ) -> Result<(), ScriptRefused>
-    ensures ok { OnOk result (DoesAll (played service.old script.now) service.new (K.written out.old) (K.written out.new)) }
-    ensures done { OnOk result ((played service.old script.now).refused ≡ None) }
+    ensures ok { OnOk result (DoesAll (played world.old script.now) world.new (K.written out.old) (K.written out.new)) }
+    ensures done { OnOk result ((played world.old script.now).refused ≡ None) }
     ensures refused { (line : ℕ) (fault : LineFault) → IsErrOf result (Refused line fault)
-        → DoesAll (played service.old script.now) service.new (K.written out.old) (K.written out.new)
-        × IsRefusedAt line (fault_number fault) (played service.old script.now) }
-    ensures early { IfErr result (λ e. StopsEarly service.old script.now service.new (K.written out.old) (K.written out.new)) }
+        → DoesAll (played world.old script.now) world.new (K.written out.old) (K.written out.new)
+        × IsRefusedAt line (fault_number fault) (played world.old script.now) }
+    ensures early { IfErr result (λ e. StopsEarly world.old script.now world.new (K.written out.old) (K.written out.new)) }
     ensures counted { K.faults out.old ≤ K.faults out.new }
     ensures fault { IsErrOf result WriteFault → Rose (K.faults out.old) (K.faults out.new) }
 {
@@ -122,11 +122,11 @@ pub fn run_script<K: Sink>(
     while let Some(rest) = left {
         let (bytes, more) = cut_line(rest);
         number += 1;
-        let line = match line_for(alloc, service, bytes)? {
+        let line = match line_for(alloc, world, bytes)? {
             Ok(line) => line,
             Err(fault) => return Err(ScriptRefused::Refused(number, fault)),
         };
-        let text = act(alloc, service, line)?;
+        let text = act(alloc, world, line)?;
         write_all(out, text.as_bytes())?;
         left = more;
     }

@@ -1,4 +1,6 @@
 pub mod CallLemmas
 pub mod EventLemmas
 pub mod LegalLemmas
+pub mod OrderCalls
+pub mod OrderLemmas
 pub mod RerunLemmas

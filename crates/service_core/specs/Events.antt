@@ -1,5 +1,5 @@
 -- What a service keeps, and what each event makes of it.
-use Rattle.std.specs.Prelude.{ℕ, ◌+◌, ◌≡◌, ◌≤◌, Bool, true, false, List, [], ◌∷◌, ◌++◌, Option, Some, None, Result, Ok, Err, if◌then◌else◌, map, length, take, nat_le, find, is_some, All, refl}
+use Rattle.std.specs.Prelude.{ℕ, ◌+◌, ◌≡◌, ◌≤◌, Bool, true, false, List, [], ◌∷◌, ◌++◌, Option, Some, None, Result, Ok, Err, if◌then◌else◌, map, length, take, nat_le, All, refl}
 use Rattle.std.specs.Coded.{Coded, code_by, coded×, coded_list}
 use Rattle.lang_core.specs.contracts.setting.Setting as setting
 use Rattle.request_log.specs.contracts.entry.Entry as entry
@@ -8,7 +8,6 @@ use Rattle.lang_core.specs.declared.inputs.Inputs.{Inputs}
 use Rattle.lang_core.specs.declared.request.Request.{Request}
 use Rattle.lang_core.specs.declared.setting.Setting.{Setting}
 use Rattle.lang_core.specs.declared.trace.Trace.{Trace}
-use Rattle.request_log.specs.Entries.{has_id}
 use Rattle.request_log.specs.declared.entry.Entry.{Entry}
 use Rattle.execution.specs.Executions.{History, Replays}
 use Rattle.local_repair.specs.Current.{Consumed, AllRuns, rows_of}
@@ -20,26 +19,25 @@ use Rattle.local_repair.specs.Tests.{step_with}
 use Rattle.lang_base.specs.declared.memory.NoMemory.{NoMemory as LacksMemory}
 use Rattle.local_repair.specs.declared.stepped.Stepped.{Stepped}
 use Rattle.local_repair.specs.declared.stepped.Stepped.TheVariants.{Idle, Ran}
+use Rattle.service_core.specs.contracts.tokens.Accepted as accepted
+use Rattle.service_core.specs.declared.tokens.Accepted.{Accepted}
 use Rattle.service_core.specs.declared.answers.Arrived.{Arrived}
 use Rattle.service_core.specs.declared.answers.Arrived.TheVariants.{Done as Committed}
 use Rattle.service_core.specs.declared.answers.ArriveRefused.{ArriveRefused}
 use Rattle.service_core.specs.declared.answers.ArriveRefused.TheVariants.{Full, NoMemory}
-use Rattle.service_core.specs.declared.answers.Command.{Command}
-use Rattle.service_core.specs.declared.answers.Command.TheVariants.{Cancel}
-use Rattle.service_core.specs.declared.answers.Ordered.{Ordered}
-use Rattle.service_core.specs.declared.answers.OrderRefused.{OrderRefused}
-use Rattle.service_core.specs.declared.answers.OrderRefused.TheVariants.{NoSuchRequest, NoMemory as MemoryLacks}
 
--- what a service keeps
+-- what a service keeps: what it is set to do, its log, and the orders that it accepted
 pub record Kept : Type 0 where
   pub setting : Setting
   pub entries : List Entry
+  pub accepted : List Accepted
 
 -- by which a proof tells two of them apart
 abbrev pub kept_code : Coded Kept
 kept_code =
-    code_by (Setting × List Entry) (coded× setting.the_row.coded (coded_list entry.the_row.coded)) (λ s. (s.setting, s.entries))
-    (λ p. record { setting = p.0; entries = p.1 }) (λ _. refl)
+    code_by (Setting × (List Entry × List Accepted))
+    (coded× setting.the_row.coded (coded× (coded_list entry.the_row.coded) (coded_list accepted.the_row.coded)))
+    (λ s. (s.setting, (s.entries, s.accepted))) (λ p. record { setting = p.0; entries = p.1.0; accepted = p.1.1 }) (λ _. refl)
 
 -- a service without registers: each call would have the tentative answer
 abbrev pub unanswered : Consumed
@@ -86,26 +84,6 @@ arrival_answer s request inputs =
     if is_full s then Err (Full (length s.entries))
     else Ok (Committed (next_id s) (trace_on s.setting request inputs (rows_of s.entries)).response)
 
--- ---- an order
-
-abbrev pub strike : Entry → Entry
-strike e = record e { struck = true }
-
--- the entries, where the one of this number is struck
-abbrev pub struck : ℕ → List Entry → List Entry
-struck id entries = map (λ e. if has_id id e then strike e else e) entries
-
-abbrev pub has_entry : ℕ → Kept → Bool
-has_entry id s = is_some (find (has_id id) s.entries)
-
-abbrev pub after_order : Kept → Command → Kept
-after_order s (Cancel id) = record s { entries = struck id s.entries }
-
--- every order is allowed, by rule 1
-abbrev pub order_answer : Kept → Command → Result Ordered OrderRefused
-order_answer s (Cancel id) =
-    if has_entry id s then Ok (record { about = id; rule = 1 }) else Err (NoSuchRequest id)
-
 -- ---- a repair step
 
 -- the number of the first stale entry, if there is one
@@ -148,11 +126,6 @@ abbrev pub IsArrival : Kept → Request → Inputs → Result Arrived ArriveRefu
 IsArrival s request inputs (Err NoMemory) s' = s' ≡ s
 IsArrival s request inputs (Err (Full n)) s' = (Err (Full n) ≡ arrival_answer s request inputs) × (s' ≡ after_arrival s request inputs)
 IsArrival s request inputs (Ok a) s' = (Ok a ≡ arrival_answer s request inputs) × (s' ≡ after_arrival s request inputs)
-
-abbrev pub IsOrder : Kept → Command → Result Ordered OrderRefused → Kept → Type 0
-IsOrder s command (Err MemoryLacks) s' = s' ≡ s
-IsOrder s command (Err (NoSuchRequest id)) s' = (Err (NoSuchRequest id) ≡ order_answer s command) × (s' ≡ after_order s command)
-IsOrder s command (Ok o) s' = (Ok o ≡ order_answer s command) × (s' ≡ after_order s command)
 
 abbrev pub IsStep : Kept → Result Stepped LacksMemory → Kept → Type 0
 IsStep s (Err e) s' = s' ≡ s

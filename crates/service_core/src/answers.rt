@@ -1,7 +1,7 @@
 // What the calls of a service answer.
 ghost use Rattle.std.specs.Prelude.{◌≡◌};
 
-use lang_core::{NoMemory, Response};
+use lang_core::{Method, NoMemory, Request, Response, Text};
 
 /// What became of a request.
 #[derive(Drop)]
@@ -30,10 +30,26 @@ impl From<NoMemory> for ArriveRefused {
 }
 
 /// An order of an operator.
-#[derive(Clone, Copy, PartialEq, Eq)]
+#[derive(Drop)]
 pub enum Command {
     /// Strikes the request of this number: it is to have had no effect.
     Cancel(u64),
+    /// Takes back that the request of this number is struck.
+    Restore(u64),
+    /// Gives the request of this number another method, path and body.
+    Replace {
+        id: u64,
+        method: Method,
+        path: Text,
+        body: Text,
+    },
+    /// Puts a request that was never made among those of the past: immediately before the request numbered `before`
+    /// where there is one, else immediately after the one numbered `after`, else at the end.
+    Create {
+        before: Option<u64>,
+        after: Option<u64>,
+        request: Request,
+    },
 }
 
 /// What an accepted order is about, and the rule that allowed it.
@@ -50,6 +66,8 @@ pub enum OrderRefused {
     NoMemory,
     /// There is no request of this number.
     NoSuchRequest(u64),
+    /// The log has as many entries as it may have, which is this number.
+    Full(u64),
 }
 
 impl From<NoMemory> for OrderRefused {

@@ -3,7 +3,9 @@
 
 mod answers;
 mod service;
+mod tokens;
 
 pub use answers::{ArriveRefused, Arrived, Command, OrderRefused, Ordered};
 pub use local_repair::Stepped;
 pub use service::Service;
+pub use tokens::Accepted;

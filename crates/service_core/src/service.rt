@@ -1,15 +1,14 @@
-// A service: what it is set to do, and its log.
-ghost use Rattle.std.specs.Prelude.{◌≡◌, ℕ, [], ◌∷◌, IfOk, IfNone, OnOk, MatchOption, find, option_map};
+// A service: what it is set to do, its log, and its accepted orders.
+ghost use Rattle.std.specs.Prelude.{◌≡◌, ℕ, [], ◌∷◌, IfOk, IfNone, OnOk, MatchOption};
 ghost use Rattle.execution.specs.Executions.{IsLegal};
-ghost use Rattle.request_log.specs.Entries.{has_id, IsDistinct};
 ghost use Rattle.local_repair.specs.Current.{AllCurrent, IsCurrent, IsFirstStale, rows_of};
 ghost use Rattle.local_repair.specs.Repairs.{IsStaleId};
 ghost use Rattle.local_repair.specs.Alone.{trace_on};
 ghost use Rattle.local_repair.specs.Steps.{StepsTo};
-ghost use Rattle.service_core.specs.Events.{arrival, committed, history, strike, unanswered, stale_id, IsArrival, IsOrder, IsStep, ReplaysBefore};
-ghost use Rattle.service_core.specs.declared.answers.Command.TheVariants.{Cancel};
+ghost use Rattle.service_core.specs.Events.{arrival, committed, history, unanswered, stale_id, IsArrival, IsStep, ReplaysBefore};
 
-use crate::answers::{ArriveRefused, Arrived, Command, OrderRefused, Ordered};
+use crate::answers::{ArriveRefused, Arrived};
+use crate::tokens::Tokens;
 use handler_run::{Ran, RowsView, run};
 use lang_core::{Answers, Cells, Copied, Inputs, NoMemory, Origin, Request, Seq, Setting, Trace};
 use local_repair::{NoSlots, Repairer, Stepped};
@@ -17,13 +16,16 @@ use request_log::{Entry, Log, LogFull, MOST_ENTRIES, Made};
 use std::alloc::Global;
 use std::marker::Model;
 
-/// A service without peers: its setting, and its log under repair. Its type keeps that the log fits the setting: each
-/// record is what a run of its request gives, and the numbers of entries count from 1 in the order in which they were
-/// made.
+mod orders;
+
+/// A service without peers: its setting, its log under repair, and the orders that it accepted. Its type keeps that the
+/// log fits the setting: each record is what a run of its request gives, and the numbers of entries count from 1 in the
+/// order in which they were made.
 #[derive(Drop)]
 pub struct Service {
     setting: Setting,
     repairer: Repairer,
+    tokens: Tokens,
 }
 
 impl Model for Service {
@@ -33,7 +35,7 @@ impl Model for Service {
 
     ghost coded = { kept_code };
 
-    ghost view = { λ s. record { setting = s.setting; entries = s.repairer.entries } };
+    ghost view = { λ s. record { setting = s.setting; entries = s.repairer.entries; accepted = s.tokens } };
 
     ghost invariant = { λ s. Fits s.setting s.repairer.entries };
 }
@@ -98,33 +100,18 @@ fn committed(
     })
 }
 
-// The entry of a number, struck; None where there is none.
-fn struck_entry(alloc: Global, log: &Log, id: u64) -> Result<Option<Entry>, NoMemory>
-    ensures entry { IfOk result (λ entry. entry ≡ option_map strike (find (has_id id) log.now.entries)) }
-    ensures distinct { IsDistinct log.now.entries }
-{
-    // The type of the log keeps that no number stands twice.
-    let _entries = log.as_slice();
-    match log.find(id) {
-        None => Ok(None),
-        Some(entry) => {
-            let mut entry = entry.copied(alloc)?;
-            entry.struck = true;
-            Ok(Some(entry))
-        }
-    }
-}
-
 impl Service {
     /// A service that has answered nothing yet.
     pub fn new(alloc: Global, setting: Setting) -> Service
         requires { setting.peers ≡ [] }
         ensures setting { result.setting ≡ setting }
         ensures entries { result.entries ≡ [] }
+        ensures accepted { result.accepted ≡ [] }
     {
         Service {
             setting,
             repairer: Repairer::new(alloc),
+            tokens: Tokens::new(alloc),
         }
     }
 
@@ -158,6 +145,7 @@ impl Service {
         inputs: Inputs,
     ) -> Result<Arrived, ArriveRefused>
         ensures arrives { IsArrival self.old request inputs result self.new }
+        ensures setting { self.new.setting ≡ self.old.setting }
         ensures current { OnOk result (IsCurrent unanswered (rows_of self.old.entries) (arrival self.old request inputs)) }
     {
         let count = self.repairer.log().len();
@@ -173,27 +161,6 @@ impl Service {
             Ok(()) => Ok(Arrived::Done { id, response }),
             Err(LogFull::NoMemory) => Err(ArriveRefused::NoMemory),
             Err(LogFull::Full) => unreachable!(),
-        }
-    }
-
-    /// Carries out an order. It is refused where it names an entry that isn't there.
-    pub fn order(&mut self, alloc: Global, command: Command) -> Result<Ordered, OrderRefused>
-        ensures { IsOrder self.old command result self.new }
-    {
-        match command {
-            Command::Cancel(id) => self.cancel(alloc, id),
-        }
-    }
-
-    fn cancel(&mut self, alloc: Global, id: u64) -> Result<Ordered, OrderRefused>
-        ensures { IsOrder self.old (Cancel id) result self.new }
-    {
-        match struck_entry(alloc, self.repairer.log(), id)? {
-            None => Err(OrderRefused::NoSuchRequest(id)),
-            Some(entry) => {
-                self.repairer.amend(entry);
-                Ok(Ordered { about: id, rule: 1 })
-            }
         }
     }
 

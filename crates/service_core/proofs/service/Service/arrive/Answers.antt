@@ -39,14 +39,14 @@ returns-in-Ok-clause-arrives c =
     let traced = c.in_ok-trace.ensures ∙ ap (λ rows. trace_on setting c.args.request c.args.inputs rows) c.in_ok-rows.ensures in
     let made : c.in_ok-entry.entry ≡ committed (length es + 1) c.args.request c.args.inputs (trace_on setting c.args.request c.args.inputs (rows_of es)) =
     c.in_ok-entry.ensures ∙ ap (λ t. committed (c.len-count.result + 1) c.args.request c.args.inputs t) traced ∙ ap (λ n. committed (n + 1) c.args.request c.args.inputs (trace_on setting c.args.request c.args.inputs (rows_of es))) count in
-    let s : Kept = record { setting = setting; entries = es } in
-    let P : Kept → Type 0 = λ k. (Ok (Done (c.len-count.result + 1) c.in_ok-response.response) ≡ arrival_answer k c.args.request c.args.inputs) × ((record { setting = setting; entries = c.append.new.self.entries }) ≡ after_arrival k c.args.request c.args.inputs) in
+    let s : Kept = record { setting = setting; entries = es; accepted = c.self.inside.tokens } in
+    let P : Kept → Type 0 = λ k. (Ok (Done (c.len-count.result + 1) c.in_ok-response.response) ≡ arrival_answer k c.args.request c.args.inputs) × ((record { setting = setting; entries = c.append.new.self.entries; accepted = c.self.inside.tokens }) ≡ after_arrival k c.args.request c.args.inputs) in
     subst P c.self.view_is
     (arrival_done s c.args.request c.args.inputs c.in_ok-entry.entry c.append.new.self.entries c.len-count.result c.in_ok-response.response count
     (not_full (length es) c.len-count.result count c.if-count-ge-MOST_ENTRIES.false) made (c.in_ok-response.ensures ∙ ap (λ (t : Trace). t.response) traced) c.in-Ok.ensures.ok)
 
 pub returns-in-Ok-clause-current : goal.returns-in-Ok-clause-current
 returns-in-Ok-clause-current c =
-    let s : Kept = record { setting = c.self.inside.setting; entries = c.self.inside.repairer.entries } in
+    let s : Kept = record { setting = c.self.inside.setting; entries = c.self.inside.repairer.entries; accepted = c.self.inside.tokens } in
     let P : Kept → Type 0 = λ k. IsCurrent unanswered (rows_of k.entries) (arrival k c.args.request c.args.inputs) in
     subst P c.self.view_is (committed_current s.setting c.self.invariant.no_peers (length s.entries + 1) c.args.request c.args.inputs (rows_of s.entries))

@@ -14,6 +14,6 @@ invariant_of-self c =
 
 pub returns-clause-step : goal.returns-clause-step
 returns-clause-step c =
-    let s : Kept = record { setting = c.self.inside.setting; entries = c.self.inside.repairer.entries } in
-    let P : Kept → Type 0 = λ k. IsStep k c.step.result (record { setting = c.self.inside.setting; entries = c.step.new.self.entries }) in
+    let s : Kept = record { setting = c.self.inside.setting; entries = c.self.inside.repairer.entries; accepted = c.self.inside.tokens } in
+    let P : Kept → Type 0 = λ k. IsStep k c.step.result (record { setting = c.self.inside.setting; entries = c.step.new.self.entries; accepted = c.self.inside.tokens }) in
     subst P c.self.view_is (step_done _ s c.step.new.self.entries c.step.result c.self.invariant.no_peers c.step.ensures.steps c.step.ensures.err)

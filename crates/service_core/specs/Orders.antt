@@ -1,0 +1,132 @@
+-- What an order answers, and what it makes of a service.
+use Rattle.std.specs.Prelude.{ℕ, ◌≡◌, Bool, true, false, List, [], ◌∷◌, ◌++◌, Option, Some, None, Result, Ok, Err, if◌then◌else◌, map, length, find, insert, is_some, option_map}
+use Rattle.lang_base.specs.Texts.{same_text}
+use Rattle.lang_tree.specs.declared.method.Method.{Method}
+use Rattle.lang_core.specs.declared.ids.Origin.TheVariants.{Outside}
+use Rattle.lang_core.specs.declared.inputs.Inputs.{Inputs}
+use Rattle.lang_core.specs.declared.request.Request.{Request}
+use Rattle.request_log.specs.Entries.{has_id}
+use Rattle.request_log.specs.declared.entry.Entry.{Entry}
+use Rattle.create_placement.specs.Placement.{place_of}
+use Rattle.service_core.specs.Events.{Kept, is_full, next_id}
+use Rattle.service_core.specs.declared.answers.Command.{Command}
+use Rattle.service_core.specs.declared.answers.Command.TheVariants.{Cancel, Restore, Replace, Create}
+use Rattle.service_core.specs.declared.answers.Ordered.{Ordered}
+use Rattle.service_core.specs.declared.answers.OrderRefused.{OrderRefused}
+use Rattle.service_core.specs.declared.answers.OrderRefused.TheVariants.{Full, NoSuchRequest, NoMemory}
+use Rattle.service_core.specs.declared.tokens.Accepted.{Accepted}
+
+-- ---- tokens
+
+abbrev pub has_token : List ℕ → Accepted → Bool
+has_token token a = same_text a.token token
+
+-- what an order with this token was answered, if one was accepted
+abbrev pub given : List ℕ → List Accepted → Option Ordered
+given token accepted = option_map (λ (a : Accepted). a.ordered) (find (has_token token) accepted)
+
+-- ---- what an order makes of the entry that it names
+
+abbrev pub strike : Entry → Entry
+strike e = record e { struck = true }
+
+abbrev pub restore : Entry → Entry
+restore e = record e { struck = false }
+
+-- another method, path and body; who asked and the chain stay
+abbrev pub with_call : Method → List ℕ → List ℕ → Request → Request
+with_call method path body q = record q { method = method; path = path; body = body }
+
+abbrev pub replace : Method → List ℕ → List ℕ → Entry → Entry
+replace method path body e = record e { request = with_call method path body e.request }
+
+-- the entries, where the one of this number is changed so
+abbrev pub changed : ℕ → (Entry → Entry) → List Entry → List Entry
+changed id change entries = map (λ e. if has_id id e then change e else e) entries
+
+-- the entry of a request that never ran
+abbrev pub created : ℕ → Request → Inputs → Entry
+created id request inputs =
+    record {
+      id = id;
+      origin = Outside;
+      version = 0;
+      request = request;
+      wanted = true;
+      struck = false;
+      inputs = inputs;
+      made = None;
+      slots = [];
+      answer_version = 0;
+      runs = 0;
+    }
+
+-- ---- an order
+
+abbrev pub has_entry : ℕ → Kept → Bool
+has_entry id s = is_some (find (has_id id) s.entries)
+
+-- every order is allowed, by rule 1
+abbrev pub about : ℕ → Ordered
+about id = record { about = id; rule = 1 }
+
+-- an order about an entry
+abbrev pub about_entry : ℕ → Kept → Result Ordered OrderRefused
+about_entry id s = if has_entry id s then Ok (about id) else Err (NoSuchRequest id)
+
+-- what an order whose token is new is answered
+abbrev pub new_answer : Kept → Command → Result Ordered OrderRefused
+new_answer s (Cancel id) = about_entry id s
+new_answer s (Restore id) = about_entry id s
+new_answer s (Replace id method path body) = about_entry id s
+new_answer s (Create before after request) = if is_full s then Err (Full (length s.entries)) else Ok (about (next_id s))
+
+-- the entries after such an order, accepted
+abbrev pub ordered_entries : Kept → Command → Inputs → List Entry
+ordered_entries s (Cancel id) inputs = changed id strike s.entries
+ordered_entries s (Restore id) inputs = changed id restore s.entries
+ordered_entries s (Replace id method path body) inputs = changed id (replace method path body) s.entries
+ordered_entries s (Create before after request) inputs =
+    insert s.entries (place_of before after s.entries) (created (next_id s) request inputs)
+
+-- the service after such an order, which is noted where it was accepted
+abbrev pub after_new : Kept → Command → List ℕ → Inputs → Result Ordered OrderRefused → Kept
+after_new s command token inputs (Ok ordered) =
+    record s { entries = ordered_entries s command inputs; accepted = s.accepted ++ record { token = token; ordered = ordered } ∷ [] }
+after_new s command token inputs (Err why) = s
+
+-- an order whose token was given gets the answer of then
+abbrev pub answer_or : Option Ordered → Result Ordered OrderRefused → Result Ordered OrderRefused
+answer_or (Some ordered) answer = Ok ordered
+answer_or None answer = answer
+
+-- and it changes nothing
+abbrev pub kept_or : Option Ordered → Kept → Kept → Kept
+kept_or (Some ordered) s after = s
+kept_or None s after = after
+
+abbrev pub order_answer : Kept → Command → List ℕ → Result Ordered OrderRefused
+order_answer s command token = answer_or (given token s.accepted) (new_answer s command)
+
+abbrev pub after_order : Kept → Command → List ℕ → Inputs → Kept
+after_order s command token inputs =
+    kept_or (given token s.accepted) s (after_new s command token inputs (new_answer s command))
+
+-- what an order may answer, and what it leaves: that of the event, or nothing changed for want of memory
+abbrev pub IsOrder : Kept → Command → List ℕ → Inputs → Result Ordered OrderRefused → Kept → Type 0
+IsOrder s command token inputs (Err NoMemory) s' = s' ≡ s
+IsOrder s command token inputs (Err (NoSuchRequest id)) s' =
+    (Err (NoSuchRequest id) ≡ order_answer s command token) × (s' ≡ after_order s command token inputs)
+IsOrder s command token inputs (Err (Full n)) s' =
+    (Err (Full n) ≡ order_answer s command token) × (s' ≡ after_order s command token inputs)
+IsOrder s command token inputs (Ok o) s' = (Ok o ≡ order_answer s command token) × (s' ≡ after_order s command token inputs)
+
+-- the same of an order whose token is new
+abbrev pub IsNewOrder : Kept → Command → List ℕ → Inputs → Result Ordered OrderRefused → Kept → Type 0
+IsNewOrder s command token inputs (Err NoMemory) s' = s' ≡ s
+IsNewOrder s command token inputs (Err (NoSuchRequest id)) s' =
+    (Err (NoSuchRequest id) ≡ new_answer s command) × (s' ≡ after_new s command token inputs (new_answer s command))
+IsNewOrder s command token inputs (Err (Full n)) s' =
+    (Err (Full n) ≡ new_answer s command) × (s' ≡ after_new s command token inputs (new_answer s command))
+IsNewOrder s command token inputs (Ok o) s' =
+    (Ok o ≡ new_answer s command) × (s' ≡ after_new s command token inputs (new_answer s command))
