@@ -1,9 +1,10 @@
 -- Why a line is refused, as numbers.
 use Rattle.std.specs.Prelude.{ℕ}
 use Rattle.script_run.specs.declared.line.LineFault.{LineFault}
-use Rattle.script_run.specs.declared.line.LineFault.TheVariants.{Text, Word, Shape}
+use Rattle.script_run.specs.declared.line.LineFault.TheVariants.{Text, Word, Shape, Service}
 
 abbrev pub fault_number : LineFault → ℕ
 fault_number Text = 1
 fault_number Word = 2
 fault_number Shape = 3
+fault_number Service = 4

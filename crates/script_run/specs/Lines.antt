@@ -1,21 +1,23 @@
 -- What a line of a script says.
-use Rattle.std.specs.Prelude.{ℕ, Bool, true, ◌&&◌, not, List, [], ◌∷◌, length, Option, Some, None, Result, Ok, Err, if◌then◌else◌, nat_eq, nat_lt, nat_le, ◌==◌, codes}
-use Rattle.std.specs.List.{position_or_len, before_first, after_first, list_any, starts_with}
+use Rattle.std.specs.Prelude.{ℕ, Bool, true, ◌&&◌, not, nat_eq, List, [], ◌∷◌, length, Option, Some, None, Result, Ok, Err, if◌then◌else◌, nat_lt, nat_le, ◌==◌, codes}
+use Rattle.std.specs.List.{position_or_len, before_first, after_first, starts_with}
 use Rattle.std.specs.Str.{is_utf8}
 use Rattle.lang_base.specs.Texts.{same_text}
 use Rattle.lang_tree.specs.Forms.{is_path}
 use Rattle.lang_tree.specs.declared.method.Method.{Method}
 use Rattle.lang_tree.specs.declared.method.Method.TheVariants.{Get, Put, Post, Delete}
 use Rattle.lang_core.specs.Names.{is_name, is_who}
+use Rattle.lang_core.specs.declared.request.Request.{Request}
 use Rattle.request_names.specs.Numbers.{number_of}
+use Rattle.service_core.specs.declared.answers.Command.{Command}
+use Rattle.service_core.specs.declared.answers.Command.TheVariants.{Cancel, Restore, Replace, Create}
+use Rattle.script_run.specs.Escapes.{body_of}
 use Rattle.script_run.specs.declared.line.Line.{Line}
-use Rattle.script_run.specs.declared.line.Line.TheVariants.{Blank, Ask, Cancel, Step, Rows, Log, Audit}
+use Rattle.script_run.specs.declared.line.Line.TheVariants.{Blank, Ask, Order, Step, Rows, Log, Audit, Clock, Seed}
 use Rattle.script_run.specs.declared.line.LineFault.{LineFault}
 use Rattle.script_run.specs.declared.line.LineFault.TheVariants.{Text, Word, Shape}
 
--- what a part of a line is, where it is of its form
-abbrev pub Read : Type 0
-Read = Result Line LineFault
+-- ---- parts; none where a part is missing, or isn't of its form
 
 -- the first word, and what stands behind one space, if there is one
 abbrev pub cut_at : ℕ → List ℕ → List ℕ × Option (List ℕ)
@@ -23,19 +25,24 @@ cut_at sep text =
     if nat_lt (position_or_len (λ b. b == sep) text) (length text)
     then (before_first (λ b. b == sep) text, Some (after_first (λ b. b == sep) text)) else (text, None)
 
--- goes on with the next word and what stands behind it, where there is one
-abbrev pub with_word : Option (List ℕ) → (List ℕ → Option (List ℕ) → Read) → Read
-with_word None next = Err Shape
+-- goes on with a part
+abbrev pub with_part : {X Y : Type 0} → Option X → (X → Option Y) → Option Y
+with_part None next = None
+with_part (Some part) next = next part
+
+-- goes on with the next word and what stands behind it
+abbrev pub with_word : {X : Type 0} → Option (List ℕ) → (List ℕ → Option (List ℕ) → Option X) → Option X
+with_word None next = None
 with_word (Some rest) next = next (cut_at 32 rest).0 (cut_at 32 rest).1
 
 -- goes on where this holds
-abbrev pub where_good : Bool → Read → Read
-where_good ok next = if ok then next else Err Shape
+abbrev pub where_good : {X : Type 0} → Bool → Option X → Option X
+where_good ok next = if ok then next else None
 
 -- goes on where nothing stands behind
-abbrev pub at_end : Option (List ℕ) → Read → Read
+abbrev pub at_end : {X : Type 0} → Option (List ℕ) → Option X → Option X
 at_end None next = next
-at_end (Some rest) next = Err Shape
+at_end (Some rest) next = None
 
 -- the method of this name
 abbrev pub method_of : List ℕ → Option Method
@@ -46,25 +53,17 @@ method_of word =
     else (if same_text word (codes "DELETE") then Some Delete
     else None)))
 
--- goes on with a method
-abbrev pub with_method : Option Method → (Method → Read) → Read
-with_method None next = Err Shape
-with_method (Some method) next = next method
+-- a service and a number, with a slash between
+abbrev pub numbered_at : List ℕ × Option (List ℕ) → Option (List ℕ × ℕ)
+numbered_at parts = with_part parts.1 (λ digits. with_part (number_of digits) (λ n. Some (parts.0, n)))
 
--- goes on with a number
-abbrev pub with_number : Option ℕ → (ℕ → Read) → Read
-with_number None next = Err Shape
-with_number (Some n) next = next n
+abbrev pub numbered : List ℕ → Option (List ℕ × ℕ)
+numbered word = numbered_at (cut_at 47 word)
 
-abbrev pub behind_slash : Option (List ℕ) → (List ℕ → Read) → Read
-behind_slash None next = Err Shape
-behind_slash (Some rest) next = next rest
-
--- goes on with a request's name, `S/N`
-abbrev pub with_id : List ℕ → (List ℕ → ℕ → Read) → Read
-with_id word next =
-    where_good (is_name (cut_at 47 word).0) (behind_slash (cut_at 47 word).1
-    (λ rest. with_number (number_of rest) (next (cut_at 47 word).0)))
+-- a neighbour: a number, or `-` for none
+abbrev pub neighbour : List ℕ → Option (Option ℕ)
+neighbour word =
+    if same_text word (codes "-") then Some None else with_part (number_of word) (λ n. Some (Some n))
 
 -- a path that a script may ask: not one of the program's own
 unfoldable pub is_asked_path : List ℕ → Bool
@@ -75,53 +74,99 @@ abbrev pub rest_or_empty : Option (List ℕ) → List ℕ
 rest_or_empty None = []
 rest_or_empty (Some rest) = rest
 
--- a body of at most 65,536 bytes; a backslash stands for nothing yet
-unfoldable pub is_body : List ℕ → Bool
-is_body body = nat_le (length body) 65536 && not (list_any (λ b. b == 92) body)
+-- `METHOD PATH BODY`
+unfoldable pub asked : Option (List ℕ) → Option (Method × List ℕ × List ℕ)
+asked rest = with_word rest (λ word rest. with_part (method_of word) (λ method.
+    with_word rest (λ path rest. where_good (is_asked_path path)
+    (with_part (body_of (rest_or_empty rest)) (λ body. Some (method, path, body))))))
 
-abbrev pub ask_with : List ℕ → List ℕ → Method → List ℕ → List ℕ → Read
-ask_with service who method path body =
-    Ok (Ask service (record { method = method; path = path; body = body; who = who; chain = [] }))
+-- a request of a user, from outside
+abbrev pub request_of : List ℕ → Method × List ℕ × List ℕ → Request
+request_of who asked = record { method = asked.0; path = asked.1; body = asked.2; who = who; chain = [] }
 
--- `METHOD PATH BODY`, behind a service and a user
-unfoldable pub request_at : List ℕ → List ℕ → Option (List ℕ) → Read
-request_at service who rest = with_word rest (λ word rest. with_method (method_of word) (λ method.
-    with_word rest (λ path rest. where_good (is_asked_path path && is_body (rest_or_empty rest))
-    (ask_with service who method path (rest_or_empty rest)))))
+-- ---- lines, behind their first word
 
 -- `S WHO METHOD PATH BODY`
-unfoldable pub ask_at : Option (List ℕ) → Read
-ask_at rest = with_word rest (λ service rest. where_good (is_name service)
-    (with_word rest (λ who rest. where_good (is_who who) (request_at service who rest))))
+unfoldable pub ask_at : Option (List ℕ) → Option Line
+ask_at rest = with_word rest (λ service rest. with_word rest (λ who rest.
+    where_good (is_name service && is_who who) (with_part (asked rest) (λ asked. Some (Ask service (request_of who asked))))))
 
--- `TOKEN WHO`, behind a request's name
-abbrev pub order_at : List ℕ → ℕ → Option (List ℕ) → Read
-order_at service id rest = with_word rest (λ token rest. where_good (is_who token)
-    (with_word rest (λ who rest. where_good (is_who who) (at_end rest (Ok (Cancel service id token who))))))
+-- what an order is about, its token and its user, and what stands behind
+unfoldable pub order_parts : Option (List ℕ) → Option (List ℕ × List ℕ × List ℕ × Option (List ℕ))
+order_parts rest =
+    with_word rest (λ about rest. with_word rest (λ token rest. with_word rest (λ who rest. Some (about, token, who, rest))))
+
+abbrev pub order_with : List ℕ → Command → List ℕ → List ℕ → Option Line
+order_with service command token who =
+    where_good (is_name service && (is_who token && is_who who)) (Some (Order service command token who))
 
 -- `S/N TOKEN WHO`
-unfoldable pub cancel_at : Option (List ℕ) → Read
-cancel_at rest = with_word rest (λ word rest. with_id word (λ service id. order_at service id rest))
+unfoldable pub struck_at : (ℕ → Command) → Option (List ℕ) → Option Line
+struck_at command rest = with_part (order_parts rest) (λ o. at_end o.3
+    (with_part (numbered o.0) (λ about. order_with about.0 (command about.1) o.1 o.2)))
 
--- goes on with a name, if there is one
-abbrev pub with_name : Option (List ℕ) → (List ℕ → Line) → Read
-with_name None line = Err Shape
-with_name (Some name) line = Ok (line name)
+-- `S/N TOKEN WHO METHOD PATH BODY`
+unfoldable pub replace_at : Option (List ℕ) → Option Line
+replace_at rest = with_part (order_parts rest) (λ o. with_part (numbered o.0) (λ about. with_part (asked o.3) (λ asked.
+    order_with about.0 (Replace about.1 asked.0 asked.1 asked.2) o.1 o.2)))
+
+-- the neighbours and the user of a created request, and what stands behind
+unfoldable pub created_parts : Option (List ℕ) → Option (Option ℕ × Option ℕ × List ℕ × Option (List ℕ))
+created_parts rest = with_word rest (λ before rest. with_word rest (λ after rest. with_word rest (λ who rest.
+    with_part (neighbour before) (λ before. with_part (neighbour after) (λ after. Some (before, after, who, rest))))))
+
+abbrev pub created : Option ℕ → Option ℕ → List ℕ → Method × List ℕ × List ℕ → Option Command
+created before after who asked = where_good (is_who who) (Some (Create before after (request_of who asked)))
+
+-- `BEFORE AFTER WHO2 METHOD PATH BODY`
+unfoldable pub created_of : Option (List ℕ) → Option Command
+created_of rest = with_part (created_parts rest) (λ c. with_part (asked c.3) (λ asked. created c.0 c.1 c.2 asked))
+
+-- `S TOKEN WHO BEFORE AFTER WHO2 METHOD PATH BODY`
+unfoldable pub create_at : Option (List ℕ) → Option Line
+create_at rest = with_part (order_parts rest) (λ o. with_part (created_of o.3) (λ command. order_with o.0 command o.1 o.2))
 
 -- `S` alone
-unfoldable pub service_at : (List ℕ → Line) → Option (List ℕ) → Read
-service_at line rest = with_word rest (λ service rest. where_good (is_name service) (at_end rest (Ok (line service))))
+unfoldable pub service_at : (List ℕ → Line) → Option (List ℕ) → Option Line
+service_at line rest = with_word rest (λ service rest. at_end rest (where_good (is_name service) (Some (line service))))
+
+-- `N` alone
+unfoldable pub number_at : Option (List ℕ) → Option ℕ
+number_at rest = with_word rest (λ word rest. at_end rest (number_of word))
+
+-- no clock tells a later moment
+abbrev pub clock_at : Option (List ℕ) → Option Line
+clock_at rest = with_part (number_at rest) (λ n. where_good (nat_le n 9223372036854775807) (Some (Clock n)))
+
+abbrev pub seed_at : Option (List ℕ) → Option Line
+seed_at rest = with_part (number_at rest) (λ n. Some (Seed n))
+
+-- ---- a whole line
+
+-- what a line says, or the number of its fault
+abbrev pub Read : Type 0
+Read = Result Line LineFault
+
+-- a line of which a part is missing, or isn't of its form, has no shape
+abbrev pub shaped : Option Line → Read
+shaped None = Err Shape
+shaped (Some line) = Ok line
 
 -- what stands behind the first word
 unfoldable pub words_at : List ℕ → Option (List ℕ) → Read
 words_at word rest =
-    if same_text word (codes "ask") then ask_at rest
-    else (if same_text word (codes "cancel") then cancel_at rest
-    else (if same_text word (codes "step") then service_at Step rest
-    else (if same_text word (codes "rows") then service_at Rows rest
-    else (if same_text word (codes "log") then service_at Log rest
-    else (if same_text word (codes "audit") then at_end rest (Ok Audit)
-    else Err Word)))))
+    if same_text word (codes "ask") then shaped (ask_at rest)
+    else (if same_text word (codes "cancel") then shaped (struck_at Cancel rest)
+    else (if same_text word (codes "restore") then shaped (struck_at Restore rest)
+    else (if same_text word (codes "replace") then shaped (replace_at rest)
+    else (if same_text word (codes "create") then shaped (create_at rest)
+    else (if same_text word (codes "step") then shaped (service_at Step rest)
+    else (if same_text word (codes "rows") then shaped (service_at Rows rest)
+    else (if same_text word (codes "log") then shaped (service_at Log rest)
+    else (if same_text word (codes "audit") then shaped (at_end rest (Some Audit))
+    else (if same_text word (codes "clock") then shaped (clock_at rest)
+    else (if same_text word (codes "seed") then shaped (seed_at rest)
+    else Err Word))))))))))
 
 -- an empty line or a comment
 abbrev pub is_passed_over : List ℕ → Bool

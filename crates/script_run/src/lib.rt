@@ -2,6 +2,7 @@
 #![tactic(auto)]
 
 mod acting;
+mod escapes;
 mod line;
 mod parts;
 mod read;

@@ -3,6 +3,7 @@ ghost use Rattle.script_run.specs.Faults.{fault_number};
 ghost use Rattle.std.specs.Prelude.{◌≡◌};
 
 use lang_core::{Name, Request, Text};
+use service_core::Command;
 
 /// Why a line is refused. Tests come in this order.
 #[derive(Clone, Copy, PartialEq, Eq)]
@@ -11,12 +12,14 @@ pub enum LineFault {
     Text,
     /// Its first word is none of a script.
     Word,
-    /// A part isn't of its form, is over its limit, is missing or is too much, or names no service of the world.
+    /// A part isn't of its form, is over its limit, is missing or is too much.
     Shape,
+    /// It names a service that isn't in the world.
+    Service,
 }
 
 impl LineFault {
-    /// The number by which it is reported: 1 Text, 2 Word, 3 Shape.
+    /// The number by which it is reported: 1 Text, 2 Word, 3 Shape, 4 Service.
     pub fn number(self) -> u64
         ensures { result ≡ fault_number self }
     {
@@ -24,6 +27,7 @@ impl LineFault {
             LineFault::Text => 1,
             LineFault::Word => 2,
             LineFault::Shape => 3,
+            LineFault::Service => 4,
         }
     }
 }
@@ -38,10 +42,11 @@ pub enum Line {
         service: Name,
         request: Request,
     },
-    /// `cancel S/N TOKEN WHO`: an order that strikes a request.
-    Cancel {
+    /// `cancel S/N TOKEN WHO`, `restore S/N TOKEN WHO`, `replace S/N TOKEN WHO METHOD PATH BODY` or
+    /// `create S TOKEN WHO BEFORE AFTER WHO2 METHOD PATH BODY`: an order of the user `who`.
+    Order {
         service: Name,
-        id: u64,
+        command: Command,
         token: Text,
         who: Text,
     },
@@ -59,4 +64,8 @@ pub enum Line {
     },
     /// `audit`: the verdict over all services.
     Audit,
+    /// `clock N`: the moment, at most 9,223,372,036,854,775,807.
+    Clock(u64),
+    /// `seed N`: the number that random words go on from.
+    Seed(u64),
 }

@@ -1,11 +1,13 @@
 // The parts of a line.
-ghost use Rattle.std.specs.Prelude.{◌≡◌, ◌==◌, IfOk, Some, None, if◌then◌else◌};
-ghost use Rattle.std.specs.List.{list_any};
+ghost use Rattle.std.specs.Prelude.{◌≡◌, IfOk, Some, None, if◌then◌else◌};
 ghost use Rattle.std.specs.Option.{option_map};
 ghost use Rattle.lang_core.specs.Names.{is_name, is_who};
-ghost use Rattle.script_run.specs.Lines.{cut_at, is_asked_path, is_body, method_of, rest_or_empty};
+ghost use Rattle.script_run.specs.Escapes.{body_of};
+ghost use Rattle.script_run.specs.Lines.{cut_at, is_asked_path, method_of, neighbour, numbered, rest_or_empty};
 
+use crate::escapes::unescaped;
 use lang_core::{LONGEST_TEXT, Method, Name, NoMemory, Text, is_path, is_who};
+use request_names::read_number;
 use std::alloc::Global;
 
 /// The first word, and what stands behind one space, if there is one.
@@ -19,7 +21,7 @@ pub fn cut_word(text: &str) -> (&str, Option<&str>)
 }
 
 /// What stands before the first slash, and what stands behind it, if there is one.
-pub fn cut_slash(text: &str) -> (&str, Option<&str>)
+fn cut_slash(text: &str) -> (&str, Option<&str>)
     ensures { (result.0.now, option_map (λ x. x.now) result.1) ≡ cut_at 47 text.now }
 {
     match text.split_once('/') {
@@ -72,27 +74,35 @@ pub fn path_part(alloc: Global, word: &str) -> Result<Option<Text>, NoMemory>
     Ok(Some(path))
 }
 
-fn has_backslash(body: &[u8]) -> bool
-    ensures { result ≡ list_any (λ b. b == 92) body.now }
-{
-    body.iter().any(|b| *b == b'\\')
-}
-
-#[tactic(auto, unfolding(crate::specs::Lines::is_body))]
-fn is_body(body: &str) -> bool
-    ensures { result ≡ is_body body.now }
-{
-    body.len() as u64 <= LONGEST_TEXT && !has_backslash(body.as_bytes())
-}
-
-/// A body, if the rest of the line is one; where there is none, the body is empty.
+/// A body, if the rest of the line spells one; where there is none, the body is empty.
 pub fn body_part(alloc: Global, rest: Option<&str>) -> Result<Option<Text>, NoMemory>
-    ensures { let body = rest_or_empty (option_map (λ x. x.now) rest.entry) in
-        IfOk result (λ text. text ≡ (if is_body body then Some body else None)) }
+    ensures { IfOk result (λ body. body ≡ body_of (rest_or_empty (option_map (λ x. x.now) rest.entry))) }
 {
-    let body = rest.unwrap_or("");
-    if !is_body(body) {
+    let Some(body) = unescaped(alloc, rest.unwrap_or(""))? else {
+        return Ok(None);
+    };
+    if body.len() > LONGEST_TEXT {
         return Ok(None);
     }
-    Ok(Some(Text::of(alloc, body)?))
+    Ok(Some(body))
+}
+
+/// A service and a number with a slash between, if the word is so; the service may be no name.
+pub fn numbered_part(word: &str) -> Option<(&str, u64)>
+    ensures { option_map (λ parts. (parts.0.now, parts.1)) result ≡ numbered word.now }
+{
+    let (service, digits) = cut_slash(word);
+    let number = read_number(digits?)?;
+    Some((service, number))
+}
+
+/// A number, or None for `-`, if the word is one of these.
+pub fn neighbour_part(word: &str) -> Option<Option<u64>>
+    ensures { result ≡ neighbour word.now }
+{
+    if word == "-" {
+        return Some(None);
+    }
+    let number = read_number(word)?;
+    Some(Some(number))
 }

@@ -1,6 +1,7 @@
 // Lines written by hand, each with what it says or the number of its refusal.
 use crate::{Line, read_line};
 use lang_core::{Method, Name, NoMemory, Request, Text};
+use service_core::Command;
 use std::alloc::{AllocError, Global};
 use std::test::Fail;
 
@@ -13,30 +14,87 @@ fn method_word(method: Method) -> &'static str {
     }
 }
 
-fn spelled_ask(alloc: Global, service: &Name, request: &Request) -> Result<String, AllocError> {
-    let mut text = String::new(alloc);
-    let service = service.as_str();
+fn push_asked(
+    text: &mut String,
+    method: Method,
+    path: &Text,
+    body: &Text,
+) -> Result<(), AllocError> {
+    let method = method_word(method);
+    let path = path.as_str();
+    let body = body.as_str();
+    write!(text, "[{method}][{path}][{body}]")
+}
+
+fn push_request(text: &mut String, request: &Request) -> Result<(), AllocError> {
     let who = request.who.as_str();
-    let method = method_word(request.method);
-    let path = request.path.as_str();
-    let body = request.body.as_str();
     let chain = request.chain.len();
-    write!(text, "ask[{service}][{who}][{method}]")?;
-    write!(text, "[{path}][{body}]{chain}")?;
+    write!(text, "[{who}]")?;
+    push_asked(text, request.method, &request.path, &request.body)?;
+    write!(text, "{chain}")
+}
+
+fn spelled_ask(alloc: Global, service: &Name, request: &Request) -> Result<String, AllocError> {
+    let service = service.as_str();
+    let mut text = format!(in alloc; "ask[{service}]")?;
+    push_request(&mut text, request)?;
     Ok(text)
 }
 
-fn spelled_cancel(
+fn push_neighbour(text: &mut String, neighbour: Option<u64>) -> Result<(), AllocError> {
+    match neighbour {
+        Some(id) => write!(text, "[{id}]"),
+        None => text.push_str("[-]"),
+    }
+}
+
+fn push_signed(text: &mut String, token: &Text, who: &Text) -> Result<(), AllocError> {
+    let token = token.as_str();
+    let who = who.as_str();
+    write!(text, "[{token}][{who}]")
+}
+
+fn spelled_order(
     alloc: Global,
     service: &Name,
-    id: u64,
+    command: &Command,
     token: &Text,
     who: &Text,
 ) -> Result<String, AllocError> {
     let service = service.as_str();
-    let token = token.as_str();
-    let who = who.as_str();
-    format!(in alloc; "cancel[{service}][{id}][{token}][{who}]")
+    let mut text = String::new(alloc);
+    match command {
+        Command::Cancel(id) => {
+            write!(text, "cancel[{service}][{id}]")?;
+            push_signed(&mut text, token, who)?;
+        }
+        Command::Restore(id) => {
+            write!(text, "restore[{service}][{id}]")?;
+            push_signed(&mut text, token, who)?;
+        }
+        Command::Replace {
+            id,
+            method,
+            path,
+            body,
+        } => {
+            write!(text, "replace[{service}][{id}]")?;
+            push_signed(&mut text, token, who)?;
+            push_asked(&mut text, *method, path, body)?;
+        }
+        Command::Create {
+            before,
+            after,
+            request,
+        } => {
+            write!(text, "create[{service}]")?;
+            push_signed(&mut text, token, who)?;
+            push_neighbour(&mut text, *before)?;
+            push_neighbour(&mut text, *after)?;
+            push_request(&mut text, request)?;
+        }
+    }
+    Ok(text)
 }
 
 fn spelled_name(alloc: Global, word: &str, service: &Name) -> Result<String, AllocError> {
@@ -49,16 +107,18 @@ fn spelled(alloc: Global, line: &Line) -> Result<String, AllocError> {
     match line {
         Line::Blank => String::from_str(alloc, "blank"),
         Line::Ask { service, request } => spelled_ask(alloc, service, request),
-        Line::Cancel {
+        Line::Order {
             service,
-            id,
+            command,
             token,
             who,
-        } => spelled_cancel(alloc, service, *id, token, who),
+        } => spelled_order(alloc, service, command, token, who),
         Line::Step { service } => spelled_name(alloc, "step", service),
         Line::Rows { service } => spelled_name(alloc, "rows", service),
         Line::Log { service } => spelled_name(alloc, "log", service),
         Line::Audit => String::from_str(alloc, "audit"),
+        Line::Clock(moment) => format!(in alloc; "clock[{moment}]"),
+        Line::Seed(number) => format!(in alloc; "seed[{number}]"),
     }
 }
 
@@ -111,7 +171,13 @@ ask[notes][ann][GET][/airex][]0|ask notes ann GET /airex|
 ask[notes][ann][GET][/aire][]0|ask notes ann GET /aire|
 3|ask notes ann GET /aire/x|
 3|ask notes ann GET /aire/|
+ask[notes][ann][GET][/x][a\b\n]0|ask notes ann GET /x a\\b\\n|
 3|ask notes ann GET /x a\b|
+3|ask notes ann GET /x a\|
+3|ask notes ann GET /x \\\|
+3|ask notes ann GET /x \N|
+3|ask notes ann GET /x \s|
+ask[notes][ann][GET][/x\\][]0|ask notes ann GET /x\\|
 3|ask notes ann get /x|
 3|ask notes ann PATCH /x|
 3|ask notes ann GET x|
@@ -146,6 +212,39 @@ cancel[notes][18446744073709551615][t][ann]|cancel notes/18446744073709551615 t 
 3|cancel|
 3|cancel notes/7 t ann |
 3|cancel notes/7 t ann bob|
+restore[notes][7][t][ann]|restore notes/7 t ann|
+3|restore notes t ann|
+3|restore notes/7 t ann |
+replace[notes][7][t][ann][PUT][/x][b  c]|replace notes/7 t ann PUT /x b  c|
+replace[notes][0][t][ann][DELETE][/][]|replace notes/0 t ann DELETE /|
+3|replace notes/7 t ann|
+3|replace notes/7 t ann PUT|
+3|replace notes/7 t ann put /x|
+3|replace notes/7 t ann PUT /aire/x|
+3|replace notes/7 t ann PUT /x \x|
+3|replace notes t ann PUT /x|
+create[notes][t][ann][-][-][bob][PUT][/x][b c]0|create notes t ann - - bob PUT /x b c|
+create[notes][t][ann][3][0][bob][GET][/x][]0|create notes t ann 3 0 bob GET /x|
+create[notes][t][ann][-][18446744073709551615][bob][GET][/x][]0|create notes t ann - 18446744073709551615 bob GET /x |
+3|create notes/1 t ann - - bob GET /x|
+3|create notes t ann - bob GET /x|
+3|create notes t ann 03 - bob GET /x|
+3|create notes t ann -- - bob GET /x|
+3|create notes t ann - +1 bob GET /x|
+3|create notes t ann - 18446744073709551616 bob GET /x|
+3|create notes t ann - -  GET /x|
+3|create notes t ann - - bob|
+clock[0]|clock 0|
+clock[9223372036854775807]|clock 9223372036854775807|
+3|clock 9223372036854775808|
+3|clock 07|
+3|clock|
+3|clock 7 |
+seed[0]|seed 0|
+seed[18446744073709551615]|seed 18446744073709551615|
+3|seed 18446744073709551616|
+3|seed -1|
+3|seed 1 2|
 ";
 
 #[test]
@@ -160,7 +259,7 @@ fn lines_are_read(rt: HostRuntime) -> Result<(), Fail> {
         assert_eq!(rt; said.as_str(), want, "at {line}");
         count = count.saturating_add(1);
     }
-    assert_eq!(rt; count, 72);
+    assert_eq!(rt; count, 111);
     Ok(())
 }
 
@@ -177,6 +276,10 @@ fn bytes_are_read(rt: HostRuntime) -> Result<(), Fail> {
         (b"step\tshop".as_slice(), "2"),
         (b"audit\r".as_slice(), "2"),
         (b"step shop\r".as_slice(), "3"),
+        (
+            b"ask n a PUT /x \\na\\rb\\\\n\r".as_slice(),
+            "ask[n][a][PUT][/x][\na\rb\\n\r]0",
+        ),
     ] {
         assert_eq!(rt; said(rt.alloc(), line)?.as_str(), want);
     }
@@ -201,6 +304,9 @@ fn parts_have_limits(rt: HostRuntime) -> Result<(), Fail> {
         ("ask notes ", 64, " GET /x"),
         ("ask notes ann GET /", 1023, " body"),
         ("ask notes ann GET /x ", 65536, ""),
+        ("ask notes ann GET /x ", 65535, "\\n"),
+        ("replace notes/7 t ann PUT /x ", 65536, ""),
+        ("create notes t ann - - ", 64, " GET /x"),
         ("cancel ", 32, "/7 t ann"),
         ("cancel notes/7 ", 64, " ann"),
         ("cancel notes/7 t ", 64, ""),

@@ -1,0 +1,56 @@
+-- The escapes of a body.
+use Rattle.std.specs.Prelude.{ℕ, Bool, true, false, List, [], ◌∷◌, ◌++◌, length, Option, Some, None, if◌then◌else◌, nat_lt, nat_le, ◌==◌}
+use Rattle.std.specs.List.{position_or_len, before_first, after_first}
+use Rattle.std.specs.Option.{option_map}
+
+-- what a byte behind a backslash stands for
+abbrev pub escape_of : ℕ → Option ℕ
+escape_of b =
+    if b == 92 then Some 92
+    else (if b == 110 then Some 10
+    else (if b == 114 then Some 13
+    else None))
+
+-- a byte, and then others, where both are there
+abbrev pub byte_before : Option ℕ → Option (List ℕ) → Option (List ℕ)
+byte_before None rest = None
+byte_before (Some b) None = None
+byte_before (Some b) (Some rest) = Some (b ∷ rest)
+
+-- what bytes stand for, behind a backslash or not; none where a backslash is no escape
+abbrev pub unescaped_from : List ℕ → Bool → Option (List ℕ)
+unescaped_from [] true = None
+unescaped_from [] false = Some []
+unescaped_from (b ∷ bytes) true = byte_before (escape_of b) (unescaped_from bytes false)
+unescaped_from (b ∷ bytes) false =
+    if b == 92 then unescaped_from bytes true else byte_before (Some b) (unescaped_from bytes false)
+
+-- what a body stands for
+abbrev pub unescaped : List ℕ → Option (List ℕ)
+unescaped body = unescaped_from body false
+
+-- at most 65,536 bytes
+abbrev pub short_enough : Option (List ℕ) → Option (List ℕ)
+short_enough None = None
+short_enough (Some text) = if nat_le (length text) 65536 then Some text else None
+
+-- what a body stands for, within its limit
+abbrev pub body_of : List ℕ → Option (List ℕ)
+body_of body = short_enough (unescaped body)
+
+-- ---- piece by piece
+
+-- what stands before the first backslash and what behind it, if there is one
+abbrev pub at_backslash : List ℕ → Option (List ℕ × List ℕ)
+at_backslash text =
+    if nat_lt (position_or_len (λ b. b == 92) text) (length text)
+    then Some (before_first (λ b. b == 92) text, after_first (λ b. b == 92) text) else None
+
+-- what the first byte behind a backslash stands for, and what stands behind it
+abbrev pub escape_at : List ℕ → Option (List ℕ × List ℕ)
+escape_at [] = None
+escape_at (b ∷ bytes) = option_map (λ e. (e ∷ [], bytes)) (escape_of b)
+
+-- bytes, and what others stand for
+abbrev pub glued : List ℕ → Option (List ℕ) → Option (List ℕ)
+glued front rest = option_map (λ bytes. front ++ bytes) rest
