@@ -1,3 +1,4 @@
+pub mod EscapeLemmas
 pub mod Ordering
 pub mod Outcomes
 pub mod Playing

@@ -5,7 +5,9 @@ ghost use Rattle.service_core.specs.declared.answers.Command.TheVariants.{Cancel
 ghost use Rattle.script_run.specs.Lines.{ask_at, asked, at_end, clock_at, create_at, created_of, created_parts, is_passed_over, line_at, number_at, order_parts, order_with, replace_at, request_of, seed_at, service_at, shaped, struck_at, words_at};
 
 use crate::line::{Line, LineFault};
-use crate::parts::{body_part, cut_word, method_part, name_part, neighbour_part, numbered_part, path_part, who_part};
+use crate::parts::{
+    body_part, cut_word, method_part, name_part, neighbour_part, numbered_part, path_part, who_part,
+};
 use lang_core::{LAST_MOMENT, Method, Name, NoMemory, Request, Seq, Text};
 use request_names::read_number;
 use service_core::Command;
