@@ -31,7 +31,7 @@ path_exact =
     (λ k. behind_mark (((token.Path ∷ []) ++ (token.Left ∷ [])) ++ (token.Integer (segment k) ∷ [])) right_at token.Right (gives (expr.Path k)) expr_tokens right_mark
     (made ((((token.Path ∷ []) ++ (token.Left ∷ [])) ++ (token.Integer (segment k) ∷ [])) ++ (token.Right ∷ [])) (Expr-F.Path k) (expr.Path k) (rolls-Path k) refl)))
 
-number_regroup : (es : List Token) → token.Number ∷ (token.Left ∷ (es ++ (token.Right ∷ []))) ≡ ((((token.Number ∷ []) ++ (token.Left ∷ [])) ++ es) ++ (token.Right ∷ []))
+pub number_regroup : (es : List Token) → token.Number ∷ (token.Left ∷ (es ++ (token.Right ∷ []))) ≡ ((((token.Number ∷ []) ++ (token.Left ∷ [])) ++ es) ++ (token.Right ∷ []))
 number_regroup es = simp append_assoc
 
 number_exact : (n : ℕ) → IsExactAt n → GoesOn (token.Number ∷ []) (number_in (expr_at n)) expr_tokens
@@ -42,7 +42,7 @@ number_exact n inner =
     (λ e. behind_mark (((token.Number ∷ []) ++ (token.Left ∷ [])) ++ expr_tokens e) right_at token.Right (gives (expr.Number e)) expr_tokens right_mark
     (made ((((token.Number ∷ []) ++ (token.Left ∷ [])) ++ expr_tokens e) ++ (token.Right ∷ [])) (Expr-F.Number e) (expr.Number e) (rolls-Number e) (number_regroup (expr_tokens e)))))
 
-text_regroup : (es : List Token) → token.AsText ∷ (token.Left ∷ (es ++ (token.Right ∷ []))) ≡ ((((token.AsText ∷ []) ++ (token.Left ∷ [])) ++ es) ++ (token.Right ∷ []))
+pub text_regroup : (es : List Token) → token.AsText ∷ (token.Left ∷ (es ++ (token.Right ∷ []))) ≡ ((((token.AsText ∷ []) ++ (token.Left ∷ [])) ++ es) ++ (token.Right ∷ []))
 text_regroup es = simp append_assoc
 
 text_exact : (n : ℕ) → IsExactAt n → GoesOn (token.AsText ∷ []) (text_in (expr_at n)) expr_tokens
@@ -53,7 +53,7 @@ text_exact n inner =
     (λ e. behind_mark (((token.AsText ∷ []) ++ (token.Left ∷ [])) ++ expr_tokens e) right_at token.Right (gives (expr.AsText e)) expr_tokens right_mark
     (made ((((token.AsText ∷ []) ++ (token.Left ∷ [])) ++ expr_tokens e) ++ (token.Right ∷ [])) (Expr-F.AsText e) (expr.AsText e) (rolls-AsText e) (text_regroup (expr_tokens e)))))
 
-pair_regroup : (ls : List Token) (rs : List Token) (o : Op) → token.Left ∷ (ls ++ (op_token o ∷ (rs ++ (token.Right ∷ [])))) ≡ (((((token.Left ∷ []) ++ ls) ++ (op_token o ∷ [])) ++ rs) ++ (token.Right ∷ []))
+pub pair_regroup : (ls : List Token) (rs : List Token) (o : Op) → token.Left ∷ (ls ++ (op_token o ∷ (rs ++ (token.Right ∷ [])))) ≡ (((((token.Left ∷ []) ++ ls) ++ (op_token o ∷ [])) ++ rs) ++ (token.Right ∷ []))
 pair_regroup ls rs o = simp append_assoc
 
 pair_exact : (n : ℕ) → IsExactAt n → GoesOn (token.Left ∷ []) (pair_in (expr_at n)) expr_tokens
@@ -65,7 +65,7 @@ pair_exact n inner =
     (λ r. behind_mark ((((token.Left ∷ []) ++ expr_tokens l) ++ (op_token o ∷ [])) ++ expr_tokens r) right_at token.Right (gives (expr.Pair l o r)) expr_tokens right_mark
     (made (((((token.Left ∷ []) ++ expr_tokens l) ++ (op_token o ∷ [])) ++ expr_tokens r) ++ (token.Right ∷ [])) (Expr-F.Pair l o r) (expr.Pair l o r) (rolls-Pair l o r) (pair_regroup (expr_tokens l) (expr_tokens r) o)))))
 
-part_regroup : (xs : List Token) (bs : List Token) (cs : List Token) → token.Part ∷ (token.Left ∷ (xs ++ (token.Comma ∷ (bs ++ (token.Comma ∷ (cs ++ (token.Right ∷ []))))))) ≡ ((((((((token.Part ∷ []) ++ (token.Left ∷ [])) ++ xs) ++ (token.Comma ∷ [])) ++ bs) ++ (token.Comma ∷ [])) ++ cs) ++ (token.Right ∷ []))
+pub part_regroup : (xs : List Token) (bs : List Token) (cs : List Token) → token.Part ∷ (token.Left ∷ (xs ++ (token.Comma ∷ (bs ++ (token.Comma ∷ (cs ++ (token.Right ∷ []))))))) ≡ ((((((((token.Part ∷ []) ++ (token.Left ∷ [])) ++ xs) ++ (token.Comma ∷ [])) ++ bs) ++ (token.Comma ∷ [])) ++ cs) ++ (token.Right ∷ []))
 part_regroup xs bs cs = simp append_assoc
 
 part_exact : (n : ℕ) → IsExactAt n → GoesOn (token.Part ∷ []) (part_in (expr_at n)) expr_tokens

@@ -20,14 +20,14 @@ use Rattle.handler_reader.proofs.Fitting.{bound, gives, marked}
 use Rattle.handler_lang.proofs.Exact.{GoesOn, IsExact, behind_mark, behind_read, comma_mark, equals_mark, in_mark, method_exact, pattern_exact, semicolon_mark, spelled, word_exact}
 use Rattle.handler_lang.proofs.ExactExprs.{expr_exact}
 
-abbrev IsExactBlock : ℕ → Type 0
+abbrev pub IsExactBlock : ℕ → Type 0
 IsExactBlock n = IsExact (block_at n) block_tokens
 
-abbrev else_spells : Option Block → List Token
+abbrev pub else_spells : Option Block → List Token
 else_spells None = []
 else_spells (Some b) = token.Else ∷ block_tokens b
 
-else_exact : (n : ℕ) → IsExactBlock n → IsExact (else_in (block_at n)) else_spells
+pub else_exact : (n : ℕ) → IsExactBlock n → IsExact (else_in (block_at n)) else_spells
 unfolding else_in
 else_exact n inner = record { took = go } where
   go : (ts : List Token) (o : Option Block) (rest : List Token) → else_in (block_at n) ts ≡ Ok (o, rest) → ts ≡ else_spells o ++ rest
@@ -45,7 +45,7 @@ if_made : (front : List Token) (x : Expr) (b : Block) (o : Option Block) → tok
 if_made front x b None spells = made front (Stmt-F.If x b None) (stmt.If x b None) (rolls-If x b None) spells
 if_made front x b (Some c) spells = made front (Stmt-F.If x b (Some c)) (stmt.If x b (Some c)) (rolls-If x b (Some c)) spells
 
-let_regroup : (v : List ℕ) (xs : List Token) → token.Let ∷ (token.Word v ∷ (token.Equals ∷ (xs ++ (token.Semicolon ∷ [])))) ≡ (((((token.Let ∷ []) ++ (token.Word v ∷ [])) ++ (token.Equals ∷ [])) ++ xs) ++ (token.Semicolon ∷ []))
+pub let_regroup : (v : List ℕ) (xs : List Token) → token.Let ∷ (token.Word v ∷ (token.Equals ∷ (xs ++ (token.Semicolon ∷ [])))) ≡ (((((token.Let ∷ []) ++ (token.Word v ∷ [])) ++ (token.Equals ∷ [])) ++ xs) ++ (token.Semicolon ∷ []))
 let_regroup v xs = simp append_assoc
 
 let_exact : GoesOn (token.Let ∷ []) (let_in (expr_at 32)) stmt_tokens
@@ -57,7 +57,7 @@ let_exact =
     (λ x. behind_mark ((((token.Let ∷ []) ++ (token.Word v ∷ [])) ++ (token.Equals ∷ [])) ++ expr_tokens x) semicolon_at token.Semicolon (gives (stmt.Let v x)) stmt_tokens semicolon_mark
     (made (((((token.Let ∷ []) ++ (token.Word v ∷ [])) ++ (token.Equals ∷ [])) ++ expr_tokens x) ++ (token.Semicolon ∷ [])) (Stmt-F.Let v x) (stmt.Let v x) (rolls-Let v x) (let_regroup v (expr_tokens x))))))
 
-get_regroup : (v : List ℕ) (t : List ℕ) (ks : List Token) → token.Get ∷ (token.Word v ∷ (token.Equals ∷ (token.Word t ∷ (ks ++ (token.Semicolon ∷ []))))) ≡ ((((((token.Get ∷ []) ++ (token.Word v ∷ [])) ++ (token.Equals ∷ [])) ++ (token.Word t ∷ [])) ++ ks) ++ (token.Semicolon ∷ []))
+pub get_regroup : (v : List ℕ) (t : List ℕ) (ks : List Token) → token.Get ∷ (token.Word v ∷ (token.Equals ∷ (token.Word t ∷ (ks ++ (token.Semicolon ∷ []))))) ≡ ((((((token.Get ∷ []) ++ (token.Word v ∷ [])) ++ (token.Equals ∷ [])) ++ (token.Word t ∷ [])) ++ ks) ++ (token.Semicolon ∷ []))
 get_regroup v t ks = simp append_assoc
 
 get_exact : GoesOn (token.Get ∷ []) (get_in (expr_at 32)) stmt_tokens
@@ -70,7 +70,7 @@ get_exact =
     (λ k. behind_mark (((((token.Get ∷ []) ++ (token.Word v ∷ [])) ++ (token.Equals ∷ [])) ++ (token.Word t ∷ [])) ++ expr_tokens k) semicolon_at token.Semicolon (gives (stmt.Get v t k)) stmt_tokens semicolon_mark
     (made ((((((token.Get ∷ []) ++ (token.Word v ∷ [])) ++ (token.Equals ∷ [])) ++ (token.Word t ∷ [])) ++ expr_tokens k) ++ (token.Semicolon ∷ [])) (Stmt-F.Get v t k) (stmt.Get v t k) (rolls-Get v t k) (get_regroup v t (expr_tokens k)))))))
 
-put_regroup : (t : List ℕ) (ks : List Token) (xs : List Token) → token.Put ∷ (token.Word t ∷ (ks ++ (token.Equals ∷ (xs ++ (token.Semicolon ∷ []))))) ≡ ((((((token.Put ∷ []) ++ (token.Word t ∷ [])) ++ ks) ++ (token.Equals ∷ [])) ++ xs) ++ (token.Semicolon ∷ []))
+pub put_regroup : (t : List ℕ) (ks : List Token) (xs : List Token) → token.Put ∷ (token.Word t ∷ (ks ++ (token.Equals ∷ (xs ++ (token.Semicolon ∷ []))))) ≡ ((((((token.Put ∷ []) ++ (token.Word t ∷ [])) ++ ks) ++ (token.Equals ∷ [])) ++ xs) ++ (token.Semicolon ∷ []))
 put_regroup t ks xs = simp append_assoc
 
 put_exact : GoesOn (token.Put ∷ []) (put_in (expr_at 32)) stmt_tokens
@@ -83,7 +83,7 @@ put_exact =
     (λ x. behind_mark (((((token.Put ∷ []) ++ (token.Word t ∷ [])) ++ expr_tokens k) ++ (token.Equals ∷ [])) ++ expr_tokens x) semicolon_at token.Semicolon (gives (stmt.Put t k x)) stmt_tokens semicolon_mark
     (made ((((((token.Put ∷ []) ++ (token.Word t ∷ [])) ++ expr_tokens k) ++ (token.Equals ∷ [])) ++ expr_tokens x) ++ (token.Semicolon ∷ [])) (Stmt-F.Put t k x) (stmt.Put t k x) (rolls-Put t k x) (put_regroup t (expr_tokens k) (expr_tokens x)))))))
 
-drop_regroup : (t : List ℕ) (ks : List Token) → token.Drop ∷ (token.Word t ∷ (ks ++ (token.Semicolon ∷ []))) ≡ ((((token.Drop ∷ []) ++ (token.Word t ∷ [])) ++ ks) ++ (token.Semicolon ∷ []))
+pub drop_regroup : (t : List ℕ) (ks : List Token) → token.Drop ∷ (token.Word t ∷ (ks ++ (token.Semicolon ∷ []))) ≡ ((((token.Drop ∷ []) ++ (token.Word t ∷ [])) ++ ks) ++ (token.Semicolon ∷ []))
 drop_regroup t ks = simp append_assoc
 
 drop_exact : GoesOn (token.Drop ∷ []) (drop_in (expr_at 32)) stmt_tokens
@@ -94,7 +94,7 @@ drop_exact =
     (λ k. behind_mark (((token.Drop ∷ []) ++ (token.Word t ∷ [])) ++ expr_tokens k) semicolon_at token.Semicolon (gives (stmt.Drop t k)) stmt_tokens semicolon_mark
     (made ((((token.Drop ∷ []) ++ (token.Word t ∷ [])) ++ expr_tokens k) ++ (token.Semicolon ∷ [])) (Stmt-F.Drop t k) (stmt.Drop t k) (rolls-Drop t k) (drop_regroup t (expr_tokens k)))))
 
-each_regroup : (k : List ℕ) (x : List ℕ) (t : List ℕ) (ps : List Token) (bs : List Token) → token.Each ∷ (token.Word k ∷ (token.Comma ∷ (token.Word x ∷ (token.In ∷ (token.Word t ∷ (ps ++ bs)))))) ≡ ((((((((token.Each ∷ []) ++ (token.Word k ∷ [])) ++ (token.Comma ∷ [])) ++ (token.Word x ∷ [])) ++ (token.In ∷ [])) ++ (token.Word t ∷ [])) ++ ps) ++ bs)
+pub each_regroup : (k : List ℕ) (x : List ℕ) (t : List ℕ) (ps : List Token) (bs : List Token) → token.Each ∷ (token.Word k ∷ (token.Comma ∷ (token.Word x ∷ (token.In ∷ (token.Word t ∷ (ps ++ bs)))))) ≡ ((((((((token.Each ∷ []) ++ (token.Word k ∷ [])) ++ (token.Comma ∷ [])) ++ (token.Word x ∷ [])) ++ (token.In ∷ [])) ++ (token.Word t ∷ [])) ++ ps) ++ bs)
 each_regroup k x t ps bs = simp append_assoc
 
 each_exact : (n : ℕ) → IsExactBlock n → GoesOn (token.Each ∷ []) (each_in (expr_at 32) (block_at n)) stmt_tokens
@@ -109,7 +109,7 @@ each_exact n inner =
     (λ p. behind_read (((((((token.Each ∷ []) ++ (token.Word k ∷ [])) ++ (token.Comma ∷ [])) ++ (token.Word x ∷ [])) ++ (token.In ∷ [])) ++ (token.Word t ∷ [])) ++ expr_tokens p) (block_at n) (λ b. gives (stmt.Each k x t p b)) stmt_tokens inner
     (λ b. made ((((((((token.Each ∷ []) ++ (token.Word k ∷ [])) ++ (token.Comma ∷ [])) ++ (token.Word x ∷ [])) ++ (token.In ∷ [])) ++ (token.Word t ∷ [])) ++ expr_tokens p) ++ block_tokens b) (Stmt-F.Each k x t p b) (stmt.Each k x t p b) (rolls-Each k x t p b) (each_regroup k x t (expr_tokens p) (block_tokens b)))))))))
 
-if_regroup : (xs : List Token) (bs : List Token) (os : List Token) → token.If ∷ (xs ++ (bs ++ os)) ≡ ((((token.If ∷ []) ++ xs) ++ bs) ++ os)
+pub if_regroup : (xs : List Token) (bs : List Token) (os : List Token) → token.If ∷ (xs ++ (bs ++ os)) ≡ ((((token.If ∷ []) ++ xs) ++ bs) ++ os)
 if_regroup xs bs os = simp append_assoc
 
 if_exact : (n : ℕ) → IsExactBlock n → GoesOn (token.If ∷ []) (if_in (expr_at 32) (block_at n)) stmt_tokens
@@ -120,7 +120,7 @@ if_exact n inner =
     (λ b. behind_read (((token.If ∷ []) ++ expr_tokens x) ++ block_tokens b) (else_in (block_at n)) (λ o. gives (stmt.If x b o)) stmt_tokens (else_exact n inner)
     (λ o. if_made ((((token.If ∷ []) ++ expr_tokens x) ++ block_tokens b) ++ else_spells o) x b o (if_regroup (expr_tokens x) (block_tokens b) (else_spells o)))))
 
-call_regroup : (s : List ℕ) (a : List ℕ) (m : Method) (ds : List Token) (ps : List Token) (bs : List Token) → token.Call ∷ (token.Word s ∷ (token.Comma ∷ (token.Word a ∷ (token.Equals ∷ (ds ++ (token.Method m ∷ (ps ++ (bs ++ (token.Semicolon ∷ []))))))))) ≡ ((((((((((token.Call ∷ []) ++ (token.Word s ∷ [])) ++ (token.Comma ∷ [])) ++ (token.Word a ∷ [])) ++ (token.Equals ∷ [])) ++ ds) ++ (token.Method m ∷ [])) ++ ps) ++ bs) ++ (token.Semicolon ∷ []))
+pub call_regroup : (s : List ℕ) (a : List ℕ) (m : Method) (ds : List Token) (ps : List Token) (bs : List Token) → token.Call ∷ (token.Word s ∷ (token.Comma ∷ (token.Word a ∷ (token.Equals ∷ (ds ++ (token.Method m ∷ (ps ++ (bs ++ (token.Semicolon ∷ []))))))))) ≡ ((((((((((token.Call ∷ []) ++ (token.Word s ∷ [])) ++ (token.Comma ∷ [])) ++ (token.Word a ∷ [])) ++ (token.Equals ∷ [])) ++ ds) ++ (token.Method m ∷ [])) ++ ps) ++ bs) ++ (token.Semicolon ∷ []))
 call_regroup s a m ds ps bs = simp append_assoc
 
 call_exact : GoesOn (token.Call ∷ []) (call_in (expr_at 32)) stmt_tokens
@@ -151,7 +151,7 @@ random_exact =
     (λ v. behind_mark ((token.Random ∷ []) ++ (token.Word v ∷ [])) semicolon_at token.Semicolon (gives (stmt.Random v)) stmt_tokens semicolon_mark
     (made (((token.Random ∷ []) ++ (token.Word v ∷ [])) ++ (token.Semicolon ∷ [])) (Stmt-F.Random v) (stmt.Random v) (rolls-Random v) refl))
 
-reply_regroup : (ss : List Token) (bs : List Token) → token.Reply ∷ (ss ++ (bs ++ (token.Semicolon ∷ []))) ≡ ((((token.Reply ∷ []) ++ ss) ++ bs) ++ (token.Semicolon ∷ []))
+pub reply_regroup : (ss : List Token) (bs : List Token) → token.Reply ∷ (ss ++ (bs ++ (token.Semicolon ∷ []))) ≡ ((((token.Reply ∷ []) ++ ss) ++ bs) ++ (token.Semicolon ∷ []))
 reply_regroup ss bs = simp append_assoc
 
 reply_exact : GoesOn (token.Reply ∷ []) (reply_in (expr_at 32)) stmt_tokens
@@ -162,7 +162,7 @@ reply_exact =
     (λ b. behind_mark (((token.Reply ∷ []) ++ expr_tokens s) ++ expr_tokens b) semicolon_at token.Semicolon (gives (stmt.Reply s b)) stmt_tokens semicolon_mark
     (made ((((token.Reply ∷ []) ++ expr_tokens s) ++ expr_tokens b) ++ (token.Semicolon ∷ [])) (Stmt-F.Reply s b) (stmt.Reply s b) (rolls-Reply s b) (reply_regroup (expr_tokens s) (expr_tokens b)))))
 
-stmt_exact : (n : ℕ) → IsExactBlock n → (ts : List Token) (s : Stmt) (rest : List Token) → stmt_in (expr_at 32) (block_at n) ts ≡ Ok (s, rest) → ts ≡ stmt_tokens s ++ rest
+pub stmt_exact : (n : ℕ) → IsExactBlock n → (ts : List Token) (s : Stmt) (rest : List Token) → stmt_in (expr_at 32) (block_at n) ts ≡ Ok (s, rest) → ts ≡ stmt_tokens s ++ rest
 unfolding stmt_in
 stmt_exact n inner (token.Let ∷ ts) s rest h = let_exact.took ts s rest h
 stmt_exact n inner (token.Get ∷ ts) s rest h = get_exact.took ts s rest h
@@ -224,7 +224,7 @@ any_block_exact n inner (token.Open ∷ ts) b rest h =
     subst (λ (p : Block × List Token). token.Open ∷ ts ≡ block_tokens p.0 ++ p.1) (ok_is {A = Block × List Token} (block_of ss.0, ss.1) (b, rest) b1.2) (block_spelled ts ss.1 ss.0 (stmts_exact most n inner ts ss.0 ss.1 b1.1))
 any_block_exact n inner _ b rest h = absurd cc
 
-block_exact : (n : ℕ) → IsExactBlock n
+pub block_exact : (n : ℕ) → IsExactBlock n
 unfolding block_at
 block_exact zero = record { took = λ ts b rest h. absurd cc }
 block_exact (suc n) = record { took = any_block_exact n (block_exact n) }
@@ -242,7 +242,7 @@ route_exact =
     (λ p. behind_read (token.Route ∷ token.Method m ∷ token.Str p ∷ []) (block_at 32) (λ b. gives (route_of m p b)) route_tokens (block_exact 32)
     (λ b. spelled (token.Route ∷ token.Method m ∷ token.Str p ∷ block_tokens b) (route_of m p b) route_tokens refl)))
 
-any_route_exact : (ts : List Token) (r : Route) (rest : List Token) → route_at ts ≡ Ok (r, rest) → ts ≡ route_tokens r ++ rest
+pub any_route_exact : (ts : List Token) (r : Route) (rest : List Token) → route_at ts ≡ Ok (r, rest) → ts ≡ route_tokens r ++ rest
 unfolding route_at
 any_route_exact (token.Route ∷ ts) r rest h = route_exact.took ts r rest h
 any_route_exact _ r rest h = absurd cc

@@ -1,5 +1,8 @@
 pub mod AgainExprs
 pub mod AgainStmts
+pub mod Begun
+pub mod BegunExprs
+pub mod BegunStmts
 pub mod Exact
 pub mod ExactExprs
 pub mod ExactStmts

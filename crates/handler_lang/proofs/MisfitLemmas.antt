@@ -10,10 +10,13 @@ use Rattle.handler_reader.specs.declared.stop.Cause.{Cause}
 use Rattle.handler_reader.specs.declared.stop.Cause.TheVariants as cause
 use Rattle.handler_reader.specs.declared.stop.Stop.{Stop}
 use Rattle.handler_reader.specs.Readers.{most, program_of}
+use Rattle.handler_grammar.specs.Grammar.{program_tokens}
 use Rattle.handler_lang.specs.declared.refused.ProgramRefused.{ProgramRefused}
 use Rattle.handler_lang.specs.declared.refused.ProgramRefused.TheVariants as refusal
-use Rattle.handler_lang.specs.Misfits.{IsMisfit, StandsFirst, Stops, StopsFirst, place_at}
+use Rattle.handler_lang.specs.Misfits.{BeginsProgram, IsMisfit, StandsFirst, Stops, StopsFirst, place_at}
 use Rattle.handler_lang.specs.Reading.{Answers, first_or, place_left, placed, read_of, refusal_at}
+use Rattle.handler_lang.proofs.Begun.{Begun}
+use Rattle.handler_lang.proofs.BegunStmts.{routes_begun}
 use Rattle.handler_lang.proofs.SteadyStmts.{routes_refuse}
 
 abbrev refusing : ProgramRefused → Result (List Route) ProgramRefused
@@ -94,19 +97,50 @@ misfit_by text s (inr a) = inr (record {
   always = λ other more small same. refused_at other a.front more a.first s.cause small same (a.always more);
 })
 
-stands_first : (text : List ℕ) (why : Cause) (at : ℕ) (r : Result (List Route) Stop) → program_of (tokens (lex text)) ≡ r → placed (length text) (places (lex text)) r ≡ Err (refusal_at why at) → StandsFirst text why at
-stands_first text why at (Ok rs) e h = absurd cc
-stands_first text why at (Err s) e h =
-    let same = same_refusal s.cause why (place_left (length text) (places (lex text)) s.left) at (refused_is (refusal_at s.cause (place_left (length text) (places (lex text)) s.left)) (refusal_at why at) h) in
-    subst (λ (n : ℕ). StandsFirst text why n) same.at
-    (subst (λ (c : Cause). StandsFirst text c (place_left (length text) (places (lex text)) s.left)) same.why
-    (misfit_by text s (routes_refuse most (tokens (lex text)) s e)))
+begins_by : (text : List ℕ) (s : Stop) → Begun program_tokens (tokens (lex text)) s → BeginsProgram text (place_left (length text) (places (lex text)) s.left)
+begins_by text s b =
+    let count : length (places (lex text)) - s.left ≡ length b.front = omega (arith, as_many text, ap length b.is, length-append b.front b.back, b.left) in
+    record {
+      front = b.front;
+      back = b.back;
+      more = b.more;
+      whole = b.whole;
+      is = b.is;
+      place = ap (λ (n : ℕ). first_or (length text) (drop n (places (lex text)))) count;
+      spelled = b.spelled;
+    }
 
-stands_by : (text : List ℕ) (why : Cause) (at : ℕ) (b : Bool) → cond b (Err (refusal.TooLong 65536)) (placed (length text) (places (lex text)) (program_of (tokens (lex text)))) ≡ Err (refusal_at why at) → StandsFirst text why at
-stands_by text why at true h = not_too_long 65536 why at (StandsFirst text why at) (refused_is (refusal.TooLong 65536) (refusal_at why at) h)
-stands_by text why at false h = stands_first text why at (program_of (tokens (lex text))) refl h
+-- where reading the tokens of a refused text stops
+record IsStopped (text : List ℕ) (why : Cause) (at : ℕ) : Type 0 where
+  stop : Stop
+  stops : program_of (tokens (lex text)) ≡ Err stop
+  why_is : stop.cause ≡ why
+  at_is : place_left (length text) (places (lex text)) stop.left ≡ at
+
+stopped : (text : List ℕ) (why : Cause) (at : ℕ) (r : Result (List Route) Stop) → program_of (tokens (lex text)) ≡ r → placed (length text) (places (lex text)) r ≡ Err (refusal_at why at) → IsStopped text why at
+stopped text why at (Ok rs) e h = absurd cc
+stopped text why at (Err s) e h =
+    let same = same_refusal s.cause why (place_left (length text) (places (lex text)) s.left) at (refused_is (refusal_at s.cause (place_left (length text) (places (lex text)) s.left)) (refusal_at why at) h) in
+    record { stop = s; stops = e; why_is = same.why; at_is = same.at }
+
+stopped_by : (text : List ℕ) (why : Cause) (at : ℕ) (b : Bool) → cond b (Err (refusal.TooLong 65536)) (placed (length text) (places (lex text)) (program_of (tokens (lex text)))) ≡ Err (refusal_at why at) → IsStopped text why at
+stopped_by text why at true h = not_too_long 65536 why at (IsStopped text why at) (refused_is (refusal.TooLong 65536) (refusal_at why at) h)
+stopped_by text why at false h = stopped text why at (program_of (tokens (lex text))) refl h
+
+answer_stopped : (answer : Result (List Route) ProgramRefused) (text : List ℕ) (why : Cause) (at : ℕ) → Answers answer (read_of text) → answer ≡ Err (refusal_at why at) → IsStopped text why at
+answer_stopped answer text why at a e =
+    stopped_by text why at (nat_lt 65536 (length text)) (read_answered why at (read_of text) (subst (λ (r : Result (List Route) ProgramRefused). Answers r (read_of text)) e a))
 
 -- a refusal stands at the first misfit, whatever stands behind it
 pub first_misfit : (answer : Result (List Route) ProgramRefused) (text : List ℕ) (why : Cause) (at : ℕ) → Answers answer (read_of text) → answer ≡ Err (refusal_at why at) → StandsFirst text why at
 first_misfit answer text why at a e =
-    stands_by text why at (nat_lt 65536 (length text)) (read_answered why at (read_of text) (subst (λ (r : Result (List Route) ProgramRefused). Answers r (read_of text)) e a))
+    let i = answer_stopped answer text why at a e in
+    subst (λ (n : ℕ). StandsFirst text why n) i.at_is
+    (subst (λ (c : Cause). StandsFirst text c (place_left (length text) (places (lex text)) i.stop.left)) i.why_is
+    (misfit_by text i.stop (routes_refuse most (tokens (lex text)) i.stop i.stops)))
+
+-- what stands before a refusal begins a program
+pub begun_before : (answer : Result (List Route) ProgramRefused) (text : List ℕ) (why : Cause) (at : ℕ) → Answers answer (read_of text) → answer ≡ Err (refusal_at why at) → BeginsProgram text at
+begun_before answer text why at a e =
+    let i = answer_stopped answer text why at a e in
+    subst (λ (n : ℕ). BeginsProgram text n) i.at_is (begins_by text i.stop (routes_begun most (tokens (lex text)) i.stop i.stops))

@@ -3,6 +3,8 @@
 use Rattle.std.specs.Prelude.{◌≡◌, ◌≤◌, ℕ, suc, List, ◌∷◌, ◌++◌, length, drop, Result, Err, ◌⊎◌}
 use Rattle.handler_tokens.specs.declared.token.Token.{Token}
 use Rattle.handler_tokens.specs.Lexing.{lex, places, tokens}
+use Rattle.lang_tree.specs.declared.program.Route.{Route}
+use Rattle.handler_grammar.specs.Grammar.{program_tokens}
 use Rattle.handler_reader.specs.declared.stop.Cause.{Cause}
 use Rattle.handler_reader.specs.declared.stop.Stop.{Stop}
 use Rattle.handler_lang.specs.Reading.{first_or, read_of, refusal_at}
@@ -35,3 +37,13 @@ pub record IsMisfit (text : List ℕ) (why : Cause) : Type 0 where
 -- a refusal stands at the text's end, or at a misfit
 abbrev pub StandsFirst : List ℕ → Cause → ℕ → Type 0
 StandsFirst text why at = (at ≡ length text) ⊎ IsMisfit text why
+
+-- what stands before this place begins a program, which may nest deeper than a text's may
+pub record BeginsProgram (text : List ℕ) (at : ℕ) : Type 0 where
+  pub front : List Token
+  pub back : List Token
+  pub more : List Token
+  pub whole : List Route
+  pub is : tokens (lex text) ≡ front ++ back
+  pub place : at ≡ place_at text (length front)
+  pub spelled : front ++ more ≡ program_tokens whole

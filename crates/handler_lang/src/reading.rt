@@ -5,7 +5,7 @@ ghost use Rattle.lang_tree.specs.declared.program.Route.{Route};
 ghost use Rattle.handler_tokens.specs.Lexing.{lex, places, tokens};
 ghost use Rattle.handler_reader.specs.declared.stop.Cause.{Cause};
 ghost use Rattle.handler_reader.specs.Readers.{program_of};
-ghost use Rattle.handler_lang.specs.Misfits.{StandsFirst};
+ghost use Rattle.handler_lang.specs.Misfits.{BeginsProgram, StandsFirst};
 ghost use Rattle.handler_lang.specs.Reading.{Answers, place_left, placed, read_of, refusal_at};
 ghost use Rattle.handler_lang.specs.Spelled.{Spells};
 
@@ -70,7 +70,7 @@ fn read(alloc: Global, text: &str) -> Result<Program, ProgramRefused>
 /// The program that a text of at most 65,536 bytes spells: the one whose tokens are the text's. Another text is refused
 /// at the first byte of the token with which no program goes on, or at its end; of two refusals the one at the lesser
 /// byte is answered.
-#[tactic(auto, using(crate::proofs::Found::read_spells, crate::proofs::Found::only_answer, crate::proofs::MisfitLemmas::first_misfit))]
+#[tactic(auto, using(crate::proofs::Found::read_spells, crate::proofs::Found::only_answer, crate::proofs::MisfitLemmas::first_misfit, crate::proofs::MisfitLemmas::begun_before))]
 pub fn read_program(alloc: Global, text: &str) -> Result<Program, ProgramRefused>
     // Which program it is, or which refusal and where.
     ensures exact { Answers result (read_of text.now) }
@@ -80,6 +80,8 @@ pub fn read_program(alloc: Global, text: &str) -> Result<Program, ProgramRefused
     ensures only { (routes : List Route) → IsTrue (routes_fit routes) → Spells text.now routes → length text.now ≤ 65536 → Answers result (Ok routes) }
     // A refusal stands at the first misfit: whatever stands behind it, it is refused there, and so.
     ensures first { (why : Cause) (at : ℕ) → result ≡ Err (refusal_at why at) → StandsFirst text.now why at }
+    // And no earlier than it must: what stands before it begins a program, if one that may nest deeper.
+    ensures begun { (why : Cause) (at : ℕ) → result ≡ Err (refusal_at why at) → BeginsProgram text.now at }
 {
     read(alloc, text)
 }
