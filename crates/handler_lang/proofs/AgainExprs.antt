@@ -1,5 +1,5 @@
 -- An expression that is spelled so is read.
-use Rattle.std.proofs.Common.{◌≡◌, ℕ, ℤ, pos, negsuc, zero, suc, Bool, true, false, cond, List, [], ◌∷◌, ◌++◌, Result, Ok, Err, refl, sym, ap, subst, ◌∙◌, append_assoc}
+use Rattle.std.proofs.Common.{◌≡◌, ℕ, ℤ, pos, zero, suc, true, false, List, [], ◌∷◌, ◌++◌, Result, Ok, refl, sym, ap, subst, ◌∙◌, append_assoc}
 use Rattle.std.specs.Prelude.{nat_le, ◌&&◌}
 use Rattle.handler_tokens.specs.declared.token.Token.{Token}
 use Rattle.handler_tokens.specs.declared.token.Token.TheVariants as token
@@ -13,8 +13,9 @@ use Rattle.lang_tree.specs.declared.expr.Expr.TheOpen.{Expr-F}
 use Rattle.lang_tree.specs.declared.expr.Expr.TheFolds.{ind-Expr}
 use Rattle.handler_reader.specs.declared.stop.Stop.{Stop}
 use Rattle.handler_grammar.specs.Grammar.{expr_tokens, op_token, segment}
-use Rattle.handler_reader.specs.Readers.{◌>>=◌, Read, comma_at, expr_at, expr_in, left_at, number_in, op_at, pair_in, part_in, path_in, right_at, segment_at, text_in}
+use Rattle.handler_reader.specs.Readers.{◌>>=◌, expr_at, expr_in, number_in, op_at, pair_in, part_in, path_in, right_at, segment_at, text_in}
 use Rattle.handler_reader.proofs.Binds.{both}
+use Rattle.handler_lang.proofs.Conjuncts.{three}
 use Rattle.handler_grammar.proofs.Layers.{expr_layer, expr_layer_fits, expr_layer_tokens}
 
 pub record IsReadAgain (e : Expr) : Type 0 where
@@ -95,13 +96,17 @@ again (Expr-F.Number e) = again_at (Expr-F.Number e.0) (roll-Expr (Expr-F.Number
 again (Expr-F.AsText e) = again_at (Expr-F.AsText e.0) (roll-Expr (Expr-F.AsText e.0)) refl
     (λ n rest f. ap (text_in (expr_at n)) (one_more (expr_tokens e.0) rest) ∙ text_again n e.0 rest e.1 f ∙ ap (λ (v : Expr). Ok (v, rest)) (sym (rolls-AsText e.0)))
 again (Expr-F.Pair l o r) = again_at (Expr-F.Pair l.0 o r.0) (roll-Expr (Expr-F.Pair l.0 o r.0)) refl
-    (λ n rest f. ap (pair_in (expr_at n)) (pair_more (expr_tokens l.0) (op_token o) (expr_tokens r.0) rest)
-    ∙ pair_again n l.0 o r.0 rest l.1 r.1 (both (expr_within l.0 n) (expr_within r.0 n) f).0 (both (expr_within l.0 n) (expr_within r.0 n) f).1 ∙ ap (λ (v : Expr). Ok (v, rest)) (sym (rolls-Pair l.0 o r.0)))
+    (λ n rest f.
+    let k = both (expr_within l.0 n) (expr_within r.0 n) f in
+    ap (pair_in (expr_at n)) (pair_more (expr_tokens l.0) (op_token o) (expr_tokens r.0) rest)
+    ∙ pair_again n l.0 o r.0 rest l.1 r.1 k.0 k.1
+    ∙ ap (λ (v : Expr). Ok (v, rest)) (sym (rolls-Pair l.0 o r.0)))
 again (Expr-F.Part a b c) = again_at (Expr-F.Part a.0 b.0 c.0) (roll-Expr (Expr-F.Part a.0 b.0 c.0)) refl
-    (λ n rest f. ap (part_in (expr_at n)) (part_more (expr_tokens a.0) (expr_tokens b.0) (expr_tokens c.0) rest)
-    ∙ part_again n a.0 b.0 c.0 rest a.1 b.1 c.1 (both (expr_within a.0 n) (expr_within b.0 n) (both (expr_within a.0 n && expr_within b.0 n) (expr_within c.0 n) f).0).0
-    (both (expr_within a.0 n) (expr_within b.0 n) (both (expr_within a.0 n && expr_within b.0 n) (expr_within c.0 n) f).0).1
-    (both (expr_within a.0 n && expr_within b.0 n) (expr_within c.0 n) f).1 ∙ ap (λ (v : Expr). Ok (v, rest)) (sym (rolls-Part a.0 b.0 c.0)))
+    (λ n rest f.
+    let k = three (expr_within a.0 n) (expr_within b.0 n) (expr_within c.0 n) f in
+    ap (part_in (expr_at n)) (part_more (expr_tokens a.0) (expr_tokens b.0) (expr_tokens c.0) rest)
+    ∙ part_again n a.0 b.0 c.0 rest a.1 b.1 c.1 k.0 k.1 k.2
+    ∙ ap (λ (v : Expr). Ok (v, rest)) (sym (rolls-Part a.0 b.0 c.0)))
 
 pub expr_again : (e : Expr) → IsReadAgain e
 expr_again = ind-Expr IsReadAgain (λ x y is. subst (λ x. IsReadAgain (roll-Expr x)) is (again y))

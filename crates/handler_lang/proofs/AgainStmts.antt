@@ -1,7 +1,6 @@
 -- A program that is spelled so is read.
-use Rattle.std.proofs.Common.{◌≡◌, ℕ, zero, suc, ◌+◌, ◌≤◌, ◌<◌, Bool, true, false, List, [], ◌∷◌, ◌++◌, map, length, Option, Some, None, Result, Ok, Err, refl, sym, ap, subst, ◌∙◌, append_assoc, arith}
-use Rattle.std.specs.Prelude.{◌&&◌}
-use Rattle.std.proofs.lemmas.List.{length-append, append-nil}
+use Rattle.std.proofs.Common.{◌≡◌, ℕ, zero, suc, ◌≤◌, ◌<◌, true, false, List, [], ◌∷◌, ◌++◌, map, length, Option, Some, None, Ok, refl, sym, ap, subst, ◌∙◌, append_assoc, arith}
+use Rattle.std.proofs.lemmas.List.{length-append}
 use Rattle.handler_tokens.specs.declared.token.Token.{Token}
 use Rattle.handler_tokens.specs.declared.token.Token.TheVariants as token
 use Rattle.lang_tree.specs.Depths.{all_fit, block_fits, expr_within, routes_fit, stmt_fits}
@@ -18,6 +17,7 @@ use Rattle.lang_tree.specs.declared.program.Route.{Route}
 use Rattle.handler_grammar.specs.Grammar.{block_tokens, expr_tokens, joined, program_tokens, route_tokens, stmt_tokens}
 use Rattle.handler_reader.specs.Readers.{◌>>=◌, Read, block_at, block_in, call_in, close_at, drop_in, each_in, else_in, expr_at, get_in, if_in, let_in, most, now_in, pattern_at, put_in, random_in, reply_in, route_at, route_in, routes_in, stmt_in, stmts_in}
 use Rattle.handler_reader.proofs.Binds.{both}
+use Rattle.handler_lang.proofs.Conjuncts.{five, three}
 use Rattle.handler_grammar.proofs.Layers.{block_layer, block_of, stmt_layer, stmt_layer_fits, stmt_layer_tokens}
 use Rattle.handler_reader.proofs.Loops.{routes_ended, routes_next, stmts_closed, stmts_next}
 use Rattle.handler_lang.proofs.AgainExprs.{expr_again, then_ok}
@@ -137,22 +137,47 @@ read_to s rest = Ok (s, rest)
 again : (y : Stmt-F S B) → IsReadStmt (roll-Stmt (bare y))
 unfolding else_in
 again (Stmt-F.Let v x) = from_layer (Stmt-F.Let v x) (roll-Stmt (Stmt-F.Let v x)) refl
-    (λ n rest f small h. ap (one n) (let_more v (expr_tokens x) rest) ∙ let_again n v x rest (both (is_word v) (expr_within x 32) f).1 ∙ ap (λ (s : Stmt). read_to s rest) (sym (rolls-Let v x)))
+    (λ n rest f small h.
+    let k = both (is_word v) (expr_within x 32) f in
+    ap (one n) (let_more v (expr_tokens x) rest)
+    ∙ let_again n v x rest k.1
+    ∙ ap (λ (s : Stmt). read_to s rest) (sym (rolls-Let v x)))
     (λ rest. refl) (λ rest n. refl) (omega arith)
 again (Stmt-F.Get v t k) = from_layer (Stmt-F.Get v t k) (roll-Stmt (Stmt-F.Get v t k)) refl
-    (λ n rest f small h. ap (one n) (get_more v t (expr_tokens k) rest) ∙ get_again n v t k rest (both ((is_word v) && (is_word t)) (expr_within k 32) f).1 ∙ ap (λ (s : Stmt). read_to s rest) (sym (rolls-Get v t k)))
+    (λ n rest f small h.
+    let c = three (is_word v) (is_word t) (expr_within k 32) f in
+    ap (one n) (get_more v t (expr_tokens k) rest)
+    ∙ get_again n v t k rest c.2
+    ∙ ap (λ (s : Stmt). read_to s rest) (sym (rolls-Get v t k)))
     (λ rest. refl) (λ rest n. refl) (omega arith)
 again (Stmt-F.Put t k x) = from_layer (Stmt-F.Put t k x) (roll-Stmt (Stmt-F.Put t k x)) refl
-    (λ n rest f small h. ap (one n) (put_more t (expr_tokens k) (expr_tokens x) rest) ∙ put_again n t k x rest (both (is_word t) (expr_within k 32) (both ((is_word t) && (expr_within k 32)) (expr_within x 32) f).0).1 (both ((is_word t) && (expr_within k 32)) (expr_within x 32) f).1 ∙ ap (λ (s : Stmt). read_to s rest) (sym (rolls-Put t k x)))
+    (λ n rest f small h.
+    let c = three (is_word t) (expr_within k 32) (expr_within x 32) f in
+    ap (one n) (put_more t (expr_tokens k) (expr_tokens x) rest)
+    ∙ put_again n t k x rest c.1 c.2
+    ∙ ap (λ (s : Stmt). read_to s rest) (sym (rolls-Put t k x)))
     (λ rest. refl) (λ rest n. refl) (omega arith)
 again (Stmt-F.Drop t k) = from_layer (Stmt-F.Drop t k) (roll-Stmt (Stmt-F.Drop t k)) refl
-    (λ n rest f small h. ap (one n) (drop_more t (expr_tokens k) rest) ∙ drop_again n t k rest (both (is_word t) (expr_within k 32) f).1 ∙ ap (λ (s : Stmt). read_to s rest) (sym (rolls-Drop t k)))
+    (λ n rest f small h.
+    let c = both (is_word t) (expr_within k 32) f in
+    ap (one n) (drop_more t (expr_tokens k) rest)
+    ∙ drop_again n t k rest c.1
+    ∙ ap (λ (s : Stmt). read_to s rest) (sym (rolls-Drop t k)))
     (λ rest. refl) (λ rest n. refl) (omega arith)
 again (Stmt-F.Each k x t p b) = from_layer (Stmt-F.Each k x t p b.0) (roll-Stmt (Stmt-F.Each k x t p b.0)) refl
-    (λ n rest f small h. ap (one n) (each_more k x t (expr_tokens p) (block_tokens b.0) rest) ∙ each_again n k x t p b.0 (block_tokens b.0 ++ rest) rest (both (((is_word k) && (is_word x)) && (is_word t)) (expr_within p 32) (both ((((is_word k) && (is_word x)) && (is_word t)) && (expr_within p 32)) (block_fits b.0 n) f).0).1 (b.1.at n rest (both ((((is_word k) && (is_word x)) && (is_word t)) && (expr_within p 32)) (block_fits b.0 n) f).1 (omega (arith, small, length-append (expr_tokens p) (block_tokens b.0)))) ∙ ap (λ (s : Stmt). read_to s rest) (sym (rolls-Each k x t p b.0)))
+    (λ n rest f small h.
+    let c = five (is_word k) (is_word x) (is_word t) (expr_within p 32) (block_fits b.0 n) f in
+    let fewer : length (block_tokens b.0) ≤ 65536 = omega (arith, small, length-append (expr_tokens p) (block_tokens b.0)) in
+    ap (one n) (each_more k x t (expr_tokens p) (block_tokens b.0) rest)
+    ∙ each_again n k x t p b.0 (block_tokens b.0 ++ rest) rest c.3 (b.1.at n rest c.4 fewer)
+    ∙ ap (λ (s : Stmt). read_to s rest) (sym (rolls-Each k x t p b.0)))
     (λ rest. refl) (λ rest n. refl) (omega arith)
 again (Stmt-F.Call s a d m p b) = from_layer (Stmt-F.Call s a d m p b) (roll-Stmt (Stmt-F.Call s a d m p b)) refl
-    (λ n rest f small h. ap (one n) (call_more s a (expr_tokens d) m (expr_tokens p) (expr_tokens b) rest) ∙ call_again n s a d m p b rest (both ((is_word s) && (is_word a)) (expr_within d 32) (both (((is_word s) && (is_word a)) && (expr_within d 32)) (expr_within p 32) (both ((((is_word s) && (is_word a)) && (expr_within d 32)) && (expr_within p 32)) (expr_within b 32) f).0).0).1 (both (((is_word s) && (is_word a)) && (expr_within d 32)) (expr_within p 32) (both ((((is_word s) && (is_word a)) && (expr_within d 32)) && (expr_within p 32)) (expr_within b 32) f).0).1 (both ((((is_word s) && (is_word a)) && (expr_within d 32)) && (expr_within p 32)) (expr_within b 32) f).1 ∙ ap (λ (s : Stmt). read_to s rest) (sym (rolls-Call s a d m p b)))
+    (λ n rest f small h.
+    let c = five (is_word s) (is_word a) (expr_within d 32) (expr_within p 32) (expr_within b 32) f in
+    ap (one n) (call_more s a (expr_tokens d) m (expr_tokens p) (expr_tokens b) rest)
+    ∙ call_again n s a d m p b rest c.2 c.3 c.4
+    ∙ ap (λ (s : Stmt). read_to s rest) (sym (rolls-Call s a d m p b)))
     (λ rest. refl) (λ rest n. refl) (omega arith)
 again (Stmt-F.Now v) = from_layer (Stmt-F.Now v) (roll-Stmt (Stmt-F.Now v)) refl
     (λ n rest f small h. now_again n v rest ∙ ap (λ (s : Stmt). read_to s rest) (sym (rolls-Now v)))
@@ -161,22 +186,31 @@ again (Stmt-F.Random v) = from_layer (Stmt-F.Random v) (roll-Stmt (Stmt-F.Random
     (λ n rest f small h. random_again n v rest ∙ ap (λ (s : Stmt). read_to s rest) (sym (rolls-Random v)))
     (λ rest. refl) (λ rest n. refl) (omega arith)
 again (Stmt-F.Reply s b) = from_layer (Stmt-F.Reply s b) (roll-Stmt (Stmt-F.Reply s b)) refl
-    (λ n rest f small h. ap (one n) (reply_more (expr_tokens s) (expr_tokens b) rest) ∙ reply_again n s b rest (both (expr_within s 32) (expr_within b 32) f).0 (both (expr_within s 32) (expr_within b 32) f).1 ∙ ap (λ (s : Stmt). read_to s rest) (sym (rolls-Reply s b)))
+    (λ n rest f small h.
+    let c = both (expr_within s 32) (expr_within b 32) f in
+    ap (one n) (reply_more (expr_tokens s) (expr_tokens b) rest)
+    ∙ reply_again n s b rest c.0 c.1
+    ∙ ap (λ (s : Stmt). read_to s rest) (sym (rolls-Reply s b)))
     (λ rest. refl) (λ rest n. refl) (omega arith)
 again (Stmt-F.If x b None) = from_layer (Stmt-F.If x b.0 None) (roll-Stmt (Stmt-F.If x b.0 None)) refl
-    (λ n rest f small h. ap (one n) (if_more (expr_tokens x) (block_tokens b.0) rest)
-    ∙ if_again n x b.0 None (block_tokens b.0 ++ rest) rest rest (both (expr_within x 32) (block_fits b.0 n) (both (expr_within x 32 && block_fits b.0 n) true f).0).0
-    (b.1.at n rest (both (expr_within x 32) (block_fits b.0 n) (both (expr_within x 32 && block_fits b.0 n) true f).0).1 (omega (arith, small, length-append (expr_tokens x) (block_tokens b.0 ++ []), length-append (block_tokens b.0) []))) (h n)
+    (λ n rest f small h.
+    let c = three (expr_within x 32) (block_fits b.0 n) true f in
+    let fewer : length (block_tokens b.0) ≤ 65536 =
+    omega (arith, small, length-append (expr_tokens x) (block_tokens b.0 ++ []), length-append (block_tokens b.0) []) in
+    ap (one n) (if_more (expr_tokens x) (block_tokens b.0) rest)
+    ∙ if_again n x b.0 None (block_tokens b.0 ++ rest) rest rest c.0 (b.1.at n rest c.1 fewer) (h n)
     ∙ ap (λ (s : Stmt). read_to s rest) (sym (rolls-If x b.0 None)))
     (λ rest. refl) (λ rest n. refl) (omega arith)
 again (Stmt-F.If x b (Some c)) = from_layer (Stmt-F.If x b.0 (Some c.0)) (roll-Stmt (Stmt-F.If x b.0 (Some c.0))) refl
-    (λ n rest f small h. ap (one n) (if_else_more (expr_tokens x) (block_tokens b.0) (block_tokens c.0) rest)
-    ∙ if_again n x b.0 (Some c.0) (block_tokens b.0 ++ (token.Else ∷ (block_tokens c.0 ++ rest))) (token.Else ∷ (block_tokens c.0 ++ rest)) rest
-    (both (expr_within x 32) (block_fits b.0 n) (both (expr_within x 32 && block_fits b.0 n) (block_fits c.0 n) f).0).0
-    (b.1.at n (token.Else ∷ (block_tokens c.0 ++ rest)) (both (expr_within x 32) (block_fits b.0 n) (both (expr_within x 32 && block_fits b.0 n) (block_fits c.0 n) f).0).1
-    (omega (arith, small, length-append (expr_tokens x) (block_tokens b.0 ++ (token.Else ∷ block_tokens c.0)), length-append (block_tokens b.0) (token.Else ∷ block_tokens c.0))))
-    (else_again n c.0 rest (c.1.at n rest (both (expr_within x 32 && block_fits b.0 n) (block_fits c.0 n) f).1
-    (omega (arith, small, length-append (expr_tokens x) (block_tokens b.0 ++ (token.Else ∷ block_tokens c.0)), length-append (block_tokens b.0) (token.Else ∷ block_tokens c.0)))))
+    (λ n rest f small h.
+    let k = three (expr_within x 32) (block_fits b.0 n) (block_fits c.0 n) f in
+    let sum = length-append (expr_tokens x) (block_tokens b.0 ++ (token.Else ∷ block_tokens c.0)) in
+    let last = length-append (block_tokens b.0) (token.Else ∷ block_tokens c.0) in
+    let fewer : length (block_tokens b.0) ≤ 65536 = omega (arith, small, sum, last) in
+    let others : length (block_tokens c.0) ≤ 65536 = omega (arith, small, sum, last) in
+    let behind : List Token = token.Else ∷ (block_tokens c.0 ++ rest) in
+    ap (one n) (if_else_more (expr_tokens x) (block_tokens b.0) (block_tokens c.0) rest)
+    ∙ if_again n x b.0 (Some c.0) (block_tokens b.0 ++ behind) behind rest k.0 (b.1.at n behind k.1 fewer) (else_again n c.0 rest (c.1.at n rest k.2 others))
     ∙ ap (λ (s : Stmt). read_to s rest) (sym (rolls-If x b.0 (Some c.0))))
     (λ rest. refl) (λ rest n. refl) (omega arith)
 
@@ -264,10 +298,10 @@ pub routes_again : (rs : List Route) (k : ℕ) → length rs < k → routes_fit 
 routes_again rs zero lt f small = absurd (omega arith)
 routes_again [] (suc k) lt f small = routes_ended k
 routes_again (r ∷ rs) (suc k) lt f small =
-    let fs = both (is_path r.pattern && block_fits r.block 32) (routes_fit rs) f in
-    let gs = both (is_path r.pattern) (block_fits r.block 32) fs.0 in
+    let c = three (is_path r.pattern) (block_fits r.block 32) (routes_fit rs) f in
     let sum = length-append (route_tokens r) (program_tokens rs) in
-    routes_more k r rs (program_tokens rs) (route_again r (program_tokens rs) gs.0 gs.1 (omega (arith, small, sum))) (routes_again rs k (omega arith) fs.1 (omega (arith, small, sum)))
+    let one_route = route_again r (program_tokens rs) c.0 c.1 (omega (arith, small, sum)) in
+    routes_more k r rs (program_tokens rs) one_route (routes_again rs k (omega arith) c.2 (omega (arith, small, sum)))
 
 pub routes_count : (rs : List Route) → length rs ≤ length (program_tokens rs)
 routes_count [] = omega arith

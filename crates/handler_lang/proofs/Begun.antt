@@ -1,5 +1,5 @@
 -- What stands before a refused token begins something that is read: readers one behind the other.
-use Rattle.std.proofs.Common.{◌≡◌, ℕ, ℤ, pos, negsuc, Bool, true, false, List, [], ◌∷◌, ◌++◌, length, Result, Ok, Err, refl, sym, ap, ◌∙◌, append_assoc}
+use Rattle.std.proofs.Common.{◌≡◌, ℕ, pos, negsuc, Bool, true, false, List, [], ◌∷◌, ◌++◌, length, Result, Ok, Err, refl, sym, ap, ◌∙◌, append_assoc}
 use Rattle.std.specs.Prelude.{nat_le, ◌&&◌}
 use Rattle.std.proofs.lemmas.List.{append-nil}
 use Rattle.handler_tokens.specs.declared.token.Token.{Token}
@@ -10,7 +10,7 @@ use Rattle.lang_tree.specs.declared.method.Method.TheVariants as methods
 use Rattle.lang_tree.specs.declared.expr.Op.{Op}
 use Rattle.lang_tree.specs.declared.expr.Op.TheVariants as op
 use Rattle.handler_reader.specs.declared.stop.Stop.{Stop}
-use Rattle.handler_reader.specs.Readers.{◌>>=◌, Read, refused, stop, word_at, method_at, op_at, equals_at, semicolon_at, comma_at, in_at, left_at, right_at, segment_from, segment_at, pattern_at}
+use Rattle.handler_reader.specs.Readers.{◌>>=◌, Read, refused, stop, word_at, method_at, op_at, equals_at, semicolon_at, comma_at, in_at, left_at, right_at, segment_at, pattern_at}
 use Rattle.handler_reader.specs.declared.stop.Cause.TheVariants as cause
 use Rattle.handler_reader.proofs.Binds.{err_is, failed}
 use Rattle.handler_reader.proofs.Fitting.{bound, gives, marked}

@@ -1,9 +1,8 @@
 -- What stands before a refused token begins an expression, of whatever depth.
-use Rattle.std.proofs.Common.{◌≡◌, ℕ, zero, suc, List, [], ◌∷◌, ◌++◌, length, Result, Ok, Err, refl, ap, ◌∙◌}
+use Rattle.std.proofs.Common.{◌≡◌, ℕ, zero, suc, List, [], ◌∷◌, ◌++◌, length, Err, refl, ◌∙◌}
 use Rattle.std.specs.Prelude.{Bool, true, false, if◌then◌else◌}
 use Rattle.handler_tokens.specs.declared.token.Token.{Token}
 use Rattle.handler_tokens.specs.declared.token.Token.TheVariants as token
-use Rattle.lang_tree.specs.declared.expr.Op.{Op}
 use Rattle.lang_tree.specs.declared.expr.Expr.{Expr, roll-Expr}
 use Rattle.lang_tree.specs.declared.expr.Expr.TheVariants as expr
 use Rattle.lang_tree.specs.declared.expr.Expr.TheVariants.{rolls-Path, rolls-Part, rolls-Number, rolls-AsText, rolls-Pair}
@@ -12,7 +11,7 @@ use Rattle.handler_grammar.specs.Grammar.{expr_tokens, op_token, segment}
 use Rattle.handler_grammar.proofs.Layers.{expr_layer, expr_layer_tokens}
 use Rattle.handler_reader.specs.declared.stop.Cause.TheVariants as cause
 use Rattle.handler_reader.specs.declared.stop.Stop.{Stop}
-use Rattle.handler_reader.specs.Readers.{Read, begins_expr, comma_at, deep_expr, expr_at, expr_in, left_at, number_in, op_at, pair_in, part_in, path_in, refused, right_at, segment_at, stop, text_in}
+use Rattle.handler_reader.specs.Readers.{begins_expr, comma_at, deep_expr, expr_at, expr_in, left_at, number_in, op_at, pair_in, part_in, path_in, refused, right_at, segment_at, stop, text_in}
 use Rattle.handler_reader.proofs.Binds.{failed}
 use Rattle.handler_reader.proofs.Fitting.{bound, gives, marked}
 use Rattle.handler_lang.proofs.Exact.{comma_mark, left_mark, op_exact, right_mark, segment_exact}

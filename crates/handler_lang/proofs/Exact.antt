@@ -1,5 +1,5 @@
 -- What is read is spelled so: readers that are exact, one behind the other.
-use Rattle.std.proofs.Common.{◌≡◌, ℕ, ℤ, pos, negsuc, Bool, true, false, List, [], ◌∷◌, ◌++◌, Result, Ok, Err, refl, sym, ap, subst, ◌∙◌, append_assoc}
+use Rattle.std.proofs.Common.{◌≡◌, ℕ, ℤ, pos, negsuc, Bool, true, false, List, [], ◌∷◌, ◌++◌, Result, Ok, refl, sym, ap, subst, ◌∙◌, append_assoc}
 use Rattle.std.specs.Prelude.{nat_le, ◌&&◌}
 use Rattle.handler_tokens.specs.declared.token.Token.{Token}
 use Rattle.handler_tokens.specs.declared.token.Token.TheVariants as token
@@ -9,7 +9,7 @@ use Rattle.lang_tree.specs.declared.expr.Op.{Op}
 use Rattle.lang_tree.specs.declared.expr.Op.TheVariants as op
 use Rattle.handler_grammar.specs.Grammar.{op_token, segment}
 use Rattle.handler_reader.specs.declared.stop.Stop.{Stop}
-use Rattle.handler_reader.specs.Readers.{◌>>=◌, Read, word_at, method_at, op_at, equals_at, semicolon_at, comma_at, in_at, left_at, right_at, segment_from, segment_at, pattern_at}
+use Rattle.handler_reader.specs.Readers.{Read, word_at, method_at, op_at, equals_at, semicolon_at, comma_at, in_at, left_at, right_at, segment_from, segment_at, pattern_at}
 use Rattle.handler_reader.proofs.Binds.{bind_ok, ok_is, both}
 use Rattle.handler_reader.proofs.Fitting.{bound, gives, marked}
 

@@ -1,5 +1,5 @@
 -- An expression that is read is spelled so.
-use Rattle.std.proofs.Common.{◌≡◌, ℕ, zero, suc, List, [], ◌∷◌, ◌++◌, Result, Ok, Err, refl, ap, ◌∙◌, append_assoc}
+use Rattle.std.proofs.Common.{◌≡◌, ℕ, zero, suc, List, [], ◌∷◌, ◌++◌, Ok, refl, ◌∙◌, append_assoc}
 use Rattle.handler_tokens.specs.declared.token.Token.{Token}
 use Rattle.handler_tokens.specs.declared.token.Token.TheVariants as token
 use Rattle.lang_tree.specs.declared.expr.Op.{Op}
@@ -9,7 +9,7 @@ use Rattle.lang_tree.specs.declared.expr.Expr.TheVariants.{rolls-Integer, rolls-
 use Rattle.lang_tree.specs.declared.expr.Expr.TheOpen.{Expr-F}
 use Rattle.handler_grammar.specs.Grammar.{expr_tokens, op_token, segment}
 use Rattle.handler_grammar.proofs.Layers.{expr_layer, expr_layer_tokens}
-use Rattle.handler_reader.specs.Readers.{Read, comma_at, expr_at, expr_in, left_at, number_in, op_at, pair_in, part_in, path_in, right_at, segment_at, text_in}
+use Rattle.handler_reader.specs.Readers.{comma_at, expr_at, expr_in, left_at, number_in, op_at, pair_in, part_in, path_in, right_at, segment_at, text_in}
 use Rattle.handler_reader.proofs.Fitting.{bound, gives, marked}
 use Rattle.handler_lang.proofs.Exact.{GoesOn, IsExact, behind_mark, behind_read, comma_mark, left_mark, op_exact, right_mark, segment_exact, spelled, one_token}
 

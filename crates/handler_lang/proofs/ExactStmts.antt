@@ -1,5 +1,5 @@
 -- Statements, blocks and routes that are read are spelled so.
-use Rattle.std.proofs.Common.{◌≡◌, ℕ, zero, suc, List, [], ◌∷◌, ◌++◌, map, Option, Some, None, Result, Ok, Err, refl, sym, ap, subst, ◌∙◌, append_assoc, inl, inr, ◌⊎◌}
+use Rattle.std.proofs.Common.{◌≡◌, ℕ, zero, suc, List, [], ◌∷◌, ◌++◌, map, Option, Some, None, Ok, refl, sym, ap, subst, ◌∙◌, append_assoc, inl, inr, ◌⊎◌}
 use Rattle.handler_tokens.specs.declared.token.Token.{Token}
 use Rattle.handler_tokens.specs.declared.token.Token.TheVariants as token
 use Rattle.lang_tree.specs.declared.method.Method.{Method}
@@ -12,7 +12,6 @@ use Rattle.lang_tree.specs.declared.stmt.Block.{Block}
 use Rattle.lang_tree.specs.declared.program.Route.{Route}
 use Rattle.handler_grammar.specs.Grammar.{block_tokens, expr_tokens, joined, program_tokens, route_tokens, stmt_tokens}
 use Rattle.handler_grammar.proofs.Layers.{block_layer, block_of, stmt_layer, stmt_layer_tokens}
-use Rattle.handler_reader.specs.declared.stop.Stop.{Stop}
 use Rattle.handler_reader.specs.Readers.{◌>>=◌, Read, block_at, block_in, call_in, close_at, comma_at, drop_in, each_in, else_in, equals_at, expr_at, get_in, if_in, in_at, let_in, method_at, most, now_in, pattern_at, put_in, random_in, reply_in, route_at, route_in, routes_in, semicolon_at, stmt_in, stmts_in, word_at}
 use Rattle.handler_reader.proofs.Binds.{bind_ok, ok_is}
 use Rattle.handler_reader.proofs.Loops.{stmts_closed, stmts_next}

@@ -1,5 +1,5 @@
 -- What is read of a text is spelled so, and what is spelled so is read.
-use Rattle.std.proofs.Common.{◌≡◌, ℕ, ◌≤◌, Bool, true, false, cond, List, length, Result, Ok, Err, refl}
+use Rattle.std.proofs.Common.{◌≡◌, ℕ, ◌≤◌, Bool, true, false, cond, List, length, Result, Ok, Err}
 use Rattle.std.specs.Prelude.{nat_lt}
 use Rattle.handler_tokens.specs.Lexing.{lex, places, tokens}
 use Rattle.lang_tree.specs.Depths.{routes_fit}

@@ -3,6 +3,7 @@ pub mod AgainStmts
 pub mod Begun
 pub mod BegunExprs
 pub mod BegunStmts
+pub mod Conjuncts
 pub mod Exact
 pub mod ExactExprs
 pub mod ExactStmts

@@ -1,5 +1,5 @@
 -- Refusals of texts stand at their first misfit.
-use Rattle.std.proofs.Common.{◌≡◌, ℕ, suc, ◌+◌, ◌-◌, ◌≤◌, Bool, true, false, cond, List, [], ◌∷◌, ◌++◌, map, length, drop, Result, Ok, Err, refl, sym, ap, subst, ◌∙◌, inl, inr, ◌⊎◌, arith}
+use Rattle.std.proofs.Common.{◌≡◌, ℕ, suc, ◌-◌, ◌≤◌, Bool, true, false, cond, List, ◌∷◌, ◌++◌, length, drop, Result, Ok, Err, refl, sym, ap, subst, ◌∙◌, inl, inr, arith}
 use Rattle.std.specs.Prelude.{nat_lt}
 use Rattle.std.proofs.lemmas.Bool.Decides.{nat_tests}
 use Rattle.std.proofs.lemmas.List.{drop_all, length-append, length-map}
@@ -13,7 +13,7 @@ use Rattle.handler_reader.specs.Readers.{most, program_of}
 use Rattle.handler_grammar.specs.Grammar.{program_tokens}
 use Rattle.handler_lang.specs.declared.refused.ProgramRefused.{ProgramRefused}
 use Rattle.handler_lang.specs.declared.refused.ProgramRefused.TheVariants as refusal
-use Rattle.handler_lang.specs.Misfits.{BeginsProgram, IsMisfit, StandsFirst, Stops, StopsFirst, place_at}
+use Rattle.handler_lang.specs.Misfits.{BeginsProgram, StandsFirst, StopsFirst, place_at}
 use Rattle.handler_lang.specs.Reading.{Answers, first_or, place_left, placed, read_of, refusal_at}
 use Rattle.handler_lang.proofs.Begun.{Begun}
 use Rattle.handler_lang.proofs.BegunStmts.{routes_begun}

@@ -1,7 +1,7 @@
 -- The tokens of a program are tokens that a text can have.
-use Rattle.std.proofs.Common.{◌≡◌, ℕ, ℤ, pos, zero, suc, Bool, true, false, List, [], ◌∷◌, ◌++◌, map, Option, Some, None, refl, sym, ap, subst, ◌∙◌}
-use Rattle.std.specs.Prelude.{nat_le, ◌&&◌}
-use Rattle.std.specs.List.{AllByRecursion}
+use Rattle.std.proofs.Common.{◌≡◌, ℕ, zero, suc, true, false, List, [], ◌∷◌, ◌++◌, map, length, Some, None, refl, sym, subst, ◌∙◌, arith}
+use Rattle.std.specs.Prelude.{nat_eq, nat_le}
+use Rattle.std.specs.List.{AllByRecursion, list_all, starts_with}
 use Rattle.handler_tokens.specs.declared.token.Token.{Token}
 use Rattle.handler_tokens.specs.declared.token.Token.TheVariants as token
 use Rattle.handler_tokens.specs.Spelling.{IsSpelled}
@@ -17,12 +17,10 @@ use Rattle.lang_tree.specs.declared.stmt.Stmt.TheOpen.{Stmt-F, Block-F}
 use Rattle.lang_tree.specs.declared.stmt.Stmt.TheFolds.{ind-Block}
 use Rattle.lang_tree.specs.declared.stmt.Block.{Block, roll-Block}
 use Rattle.lang_tree.specs.declared.program.Route.{Route}
-use Rattle.std.proofs.Common.{length, ◌≤◌, ◌<◌, arith}
-use Rattle.std.specs.Prelude.{nat_eq}
-use Rattle.std.specs.List.{list_all, starts_with}
 use Rattle.std.proofs.lemmas.Bool.Decides.{nat_tests}
 use Rattle.handler_grammar.specs.Grammar.{block_tokens, expr_tokens, joined, op_token, program_tokens, route_tokens, segment, stmt_tokens}
 use Rattle.handler_reader.proofs.Binds.{and_true, both}
+use Rattle.handler_lang.proofs.Conjuncts.{five, three}
 use Rattle.handler_grammar.proofs.Layers.{block_layer, block_of, expr_layer, expr_layer_fits, expr_layer_tokens, stmt_layer, stmt_layer_fits, stmt_layer_tokens}
 
 abbrev pub AreSpelled : List Token → Type 0
@@ -63,24 +61,17 @@ again (Expr-F.Path k) = spelled_at (Expr-F.Path k) (roll-Expr (Expr-F.Path k)) r
 again (Expr-F.Number e) = spelled_at (Expr-F.Number e.0) (roll-Expr (Expr-F.Number e.0)) refl (λ n f. (tt, (tt, all_append (expr_tokens e.0) (token.Right ∷ []) (e.1.all n f) (tt, tt))))
 again (Expr-F.AsText e) = spelled_at (Expr-F.AsText e.0) (roll-Expr (Expr-F.AsText e.0)) refl (λ n f. (tt, (tt, all_append (expr_tokens e.0) (token.Right ∷ []) (e.1.all n f) (tt, tt))))
 again (Expr-F.Pair l o r) = spelled_at (Expr-F.Pair l.0 o r.0) (roll-Expr (Expr-F.Pair l.0 o r.0)) refl
-    (λ n f. let k = both (expr_within l.0 n) (expr_within r.0 n) f in (
-      tt,
-      all_append (expr_tokens l.0) (op_token o ∷ (expr_tokens r.0 ++ (token.Right ∷ []))) (l.1.all n k.0)
-          (op_spelled o (expr_tokens r.0 ++ (token.Right ∷ [])) (all_append (expr_tokens r.0) (token.Right ∷ []) (r.1.all n k.1) (tt, tt))),
-    ))
+    (λ n f.
+    let k = both (expr_within l.0 n) (expr_within r.0 n) f in
+    let right : AreSpelled (expr_tokens r.0 ++ (token.Right ∷ [])) = all_append (expr_tokens r.0) (token.Right ∷ []) (r.1.all n k.1) (tt, tt) in
+    (tt, all_append (expr_tokens l.0) (op_token o ∷ (expr_tokens r.0 ++ (token.Right ∷ []))) (l.1.all n k.0) (op_spelled o (expr_tokens r.0 ++ (token.Right ∷ [])) right)))
 again (Expr-F.Part a b c) = spelled_at (Expr-F.Part a.0 b.0 c.0) (roll-Expr (Expr-F.Part a.0 b.0 c.0)) refl
-    (λ n f. let k = both (expr_within a.0 n && expr_within b.0 n) (expr_within c.0 n) f in
-    let m = both (expr_within a.0 n) (expr_within b.0 n) k.0 in (
-      tt,
-      (
-        tt,
-        all_append (expr_tokens a.0) (token.Comma ∷ (expr_tokens b.0 ++ (token.Comma ∷ (expr_tokens c.0 ++ (token.Right ∷ []))))) (a.1.all n m.0) (
-          tt,
-          all_append (expr_tokens b.0) (token.Comma ∷ (expr_tokens c.0 ++ (token.Right ∷ []))) (b.1.all n m.1)
-              (tt, all_append (expr_tokens c.0) (token.Right ∷ []) (c.1.all n k.1) (tt, tt)),
-        ),
-      ),
-    ))
+    (λ n f.
+    let k = three (expr_within a.0 n) (expr_within b.0 n) (expr_within c.0 n) f in
+    let last : AreSpelled (expr_tokens c.0 ++ (token.Right ∷ [])) = all_append (expr_tokens c.0) (token.Right ∷ []) (c.1.all n k.2) (tt, tt) in
+    let behind : AreSpelled (expr_tokens b.0 ++ (token.Comma ∷ (expr_tokens c.0 ++ (token.Right ∷ [])))) =
+    all_append (expr_tokens b.0) (token.Comma ∷ (expr_tokens c.0 ++ (token.Right ∷ []))) (b.1.all n k.1) (tt, last) in
+    (tt, (tt, all_append (expr_tokens a.0) (token.Comma ∷ (expr_tokens b.0 ++ (token.Comma ∷ (expr_tokens c.0 ++ (token.Right ∷ []))))) (a.1.all n k.0) (tt, behind))))
 
 expr_spelled : (e : Expr) → IsSpelledExpr e
 expr_spelled = ind-Expr IsSpelledExpr (λ x y is. subst (λ x. IsSpelledExpr (roll-Expr x)) is (again y))
@@ -102,36 +93,53 @@ S = (s : Stmt) × IsSpelledStmt s
 abbrev B : Type 0
 B = (b : Block) × IsSpelledBlock b
 
+then_expr : (x : Expr) (ts : List Token) → expr_within x 32 ≡ true → AreSpelled ts → AreSpelled (expr_tokens x ++ ts)
+then_expr x ts f h = all_append (expr_tokens x) ts ((expr_spelled x).all 32 f) h
+
+then_end : (x : Expr) → expr_within x 32 ≡ true → AreSpelled (expr_tokens x ++ (token.Semicolon ∷ []))
+then_end x f = then_expr x (token.Semicolon ∷ []) f (tt, tt)
+
 stmt_again : (y : Stmt-F S B) → IsSpelledStmt (roll-Stmt (map-Stmt S B Stmt Block (λ e. e.0) (λ e. e.0) y))
 stmt_again (Stmt-F.Let v x) = stmt_spelled_at (Stmt-F.Let v x) (roll-Stmt (Stmt-F.Let v x)) refl
-    (λ n f. (tt, ((both (is_word v) (expr_within x 32) f).0, (tt, (all_append (expr_tokens x) (token.Semicolon ∷ []) ((expr_spelled x).all 32 (both (is_word v) (expr_within x 32) f).1) (tt, tt))))))
+    (λ n f.
+    let k = both (is_word v) (expr_within x 32) f in
+    (tt, (k.0, (tt, then_end x k.1))))
 stmt_again (Stmt-F.Get v t k) = stmt_spelled_at (Stmt-F.Get v t k) (roll-Stmt (Stmt-F.Get v t k)) refl
-    (λ n f. (tt, ((both (is_word v) (is_word t) (both ((is_word v) && (is_word t)) (expr_within k 32) f).0).0, (tt, ((both (is_word v) (is_word t) (both ((is_word v) && (is_word t)) (expr_within k 32) f).0).1, (all_append (expr_tokens k) (token.Semicolon ∷ []) ((expr_spelled k).all 32 (both ((is_word v) && (is_word t)) (expr_within k 32) f).1) (tt, tt)))))))
+    (λ n f.
+    let h = three (is_word v) (is_word t) (expr_within k 32) f in
+    (tt, (h.0, (tt, (h.1, then_end k h.2)))))
 stmt_again (Stmt-F.Put t k x) = stmt_spelled_at (Stmt-F.Put t k x) (roll-Stmt (Stmt-F.Put t k x)) refl
-    (λ n f. (tt, ((both (is_word t) (expr_within k 32) (both ((is_word t) && (expr_within k 32)) (expr_within x 32) f).0).0, (all_append (expr_tokens k) (token.Equals ∷ (expr_tokens x ++ (token.Semicolon ∷ []))) ((expr_spelled k).all 32 (both (is_word t) (expr_within k 32) (both ((is_word t) && (expr_within k 32)) (expr_within x 32) f).0).1) (tt, (all_append (expr_tokens x) (token.Semicolon ∷ []) ((expr_spelled x).all 32 (both ((is_word t) && (expr_within k 32)) (expr_within x 32) f).1) (tt, tt)))))))
+    (λ n f.
+    let h = three (is_word t) (expr_within k 32) (expr_within x 32) f in
+    (tt, (h.0, then_expr k (token.Equals ∷ (expr_tokens x ++ (token.Semicolon ∷ []))) h.1 (tt, then_end x h.2))))
 stmt_again (Stmt-F.Drop t k) = stmt_spelled_at (Stmt-F.Drop t k) (roll-Stmt (Stmt-F.Drop t k)) refl
-    (λ n f. (tt, ((both (is_word t) (expr_within k 32) f).0, (all_append (expr_tokens k) (token.Semicolon ∷ []) ((expr_spelled k).all 32 (both (is_word t) (expr_within k 32) f).1) (tt, tt)))))
+    (λ n f.
+    let h = both (is_word t) (expr_within k 32) f in
+    (tt, (h.0, then_end k h.1)))
 stmt_again (Stmt-F.Each k x t p b) = stmt_spelled_at (Stmt-F.Each k x t p b.0) (roll-Stmt (Stmt-F.Each k x t p b.0)) refl
-    (λ n f. (tt, ((both (is_word k) (is_word x) (both ((is_word k) && (is_word x)) (is_word t) (both (((is_word k) && (is_word x)) && (is_word t)) (expr_within p 32) (both ((((is_word k) && (is_word x)) && (is_word t)) && (expr_within p 32)) (block_fits b.0 n) f).0).0).0).0, (tt, ((both (is_word k) (is_word x) (both ((is_word k) && (is_word x)) (is_word t) (both (((is_word k) && (is_word x)) && (is_word t)) (expr_within p 32) (both ((((is_word k) && (is_word x)) && (is_word t)) && (expr_within p 32)) (block_fits b.0 n) f).0).0).0).1, (tt, ((both ((is_word k) && (is_word x)) (is_word t) (both (((is_word k) && (is_word x)) && (is_word t)) (expr_within p 32) (both ((((is_word k) && (is_word x)) && (is_word t)) && (expr_within p 32)) (block_fits b.0 n) f).0).0).1, (all_append (expr_tokens p) (block_tokens b.0) ((expr_spelled p).all 32 (both (((is_word k) && (is_word x)) && (is_word t)) (expr_within p 32) (both ((((is_word k) && (is_word x)) && (is_word t)) && (expr_within p 32)) (block_fits b.0 n) f).0).1) (b.1.all n (both ((((is_word k) && (is_word x)) && (is_word t)) && (expr_within p 32)) (block_fits b.0 n) f).1)))))))))
+    (λ n f.
+    let h = five (is_word k) (is_word x) (is_word t) (expr_within p 32) (block_fits b.0 n) f in
+    (tt, (h.0, (tt, (h.1, (tt, (h.2, then_expr p (block_tokens b.0) h.3 (b.1.all n h.4))))))))
 stmt_again (Stmt-F.Call s a d m p b) = stmt_spelled_at (Stmt-F.Call s a d m p b) (roll-Stmt (Stmt-F.Call s a d m p b)) refl
-    (λ n f. (tt, ((both (is_word s) (is_word a) (both ((is_word s) && (is_word a)) (expr_within d 32) (both (((is_word s) && (is_word a)) && (expr_within d 32)) (expr_within p 32) (both ((((is_word s) && (is_word a)) && (expr_within d 32)) && (expr_within p 32)) (expr_within b 32) f).0).0).0).0, (tt, ((both (is_word s) (is_word a) (both ((is_word s) && (is_word a)) (expr_within d 32) (both (((is_word s) && (is_word a)) && (expr_within d 32)) (expr_within p 32) (both ((((is_word s) && (is_word a)) && (expr_within d 32)) && (expr_within p 32)) (expr_within b 32) f).0).0).0).1, (tt, (all_append (expr_tokens d) (token.Method m ∷ (expr_tokens p ++ (expr_tokens b ++ (token.Semicolon ∷ [])))) ((expr_spelled d).all 32 (both ((is_word s) && (is_word a)) (expr_within d 32) (both (((is_word s) && (is_word a)) && (expr_within d 32)) (expr_within p 32) (both ((((is_word s) && (is_word a)) && (expr_within d 32)) && (expr_within p 32)) (expr_within b 32) f).0).0).1) (tt, (all_append (expr_tokens p) (expr_tokens b ++ (token.Semicolon ∷ [])) ((expr_spelled p).all 32 (both (((is_word s) && (is_word a)) && (expr_within d 32)) (expr_within p 32) (both ((((is_word s) && (is_word a)) && (expr_within d 32)) && (expr_within p 32)) (expr_within b 32) f).0).1) (all_append (expr_tokens b) (token.Semicolon ∷ []) ((expr_spelled b).all 32 (both ((((is_word s) && (is_word a)) && (expr_within d 32)) && (expr_within p 32)) (expr_within b 32) f).1) (tt, tt)))))))))))
-stmt_again (Stmt-F.Now v) = stmt_spelled_at (Stmt-F.Now v) (roll-Stmt (Stmt-F.Now v)) refl
-    (λ n f. (tt, (f, (tt, tt))))
-stmt_again (Stmt-F.Random v) = stmt_spelled_at (Stmt-F.Random v) (roll-Stmt (Stmt-F.Random v)) refl
-    (λ n f. (tt, (f, (tt, tt))))
+    (λ n f.
+    let h = five (is_word s) (is_word a) (expr_within d 32) (expr_within p 32) (expr_within b 32) f in
+    let last : AreSpelled (expr_tokens p ++ (expr_tokens b ++ (token.Semicolon ∷ []))) = then_expr p (expr_tokens b ++ (token.Semicolon ∷ [])) h.3 (then_end b h.4) in
+    (tt, (h.0, (tt, (h.1, (tt, then_expr d (token.Method m ∷ (expr_tokens p ++ (expr_tokens b ++ (token.Semicolon ∷ [])))) h.2 (tt, last)))))))
+stmt_again (Stmt-F.Now v) = stmt_spelled_at (Stmt-F.Now v) (roll-Stmt (Stmt-F.Now v)) refl (λ n f. (tt, (f, (tt, tt))))
+stmt_again (Stmt-F.Random v) = stmt_spelled_at (Stmt-F.Random v) (roll-Stmt (Stmt-F.Random v)) refl (λ n f. (tt, (f, (tt, tt))))
 stmt_again (Stmt-F.Reply s b) = stmt_spelled_at (Stmt-F.Reply s b) (roll-Stmt (Stmt-F.Reply s b)) refl
-    (λ n f. (tt, (all_append (expr_tokens s) (expr_tokens b ++ (token.Semicolon ∷ [])) ((expr_spelled s).all 32 (both (expr_within s 32) (expr_within b 32) f).0) (all_append (expr_tokens b) (token.Semicolon ∷ []) ((expr_spelled b).all 32 (both (expr_within s 32) (expr_within b 32) f).1) (tt, tt)))))
+    (λ n f.
+    let h = both (expr_within s 32) (expr_within b 32) f in
+    (tt, then_expr s (expr_tokens b ++ (token.Semicolon ∷ [])) h.0 (then_end b h.1)))
 stmt_again (Stmt-F.If x b None) = stmt_spelled_at (Stmt-F.If x b.0 None) (roll-Stmt (Stmt-F.If x b.0 None)) refl
-    (λ n f. let k = both (expr_within x 32 && block_fits b.0 n) true f in
-    let m = both (expr_within x 32) (block_fits b.0 n) k.0 in
-    (tt, all_append (expr_tokens x) (block_tokens b.0 ++ []) ((expr_spelled x).all 32 m.0) (all_append (block_tokens b.0) [] (b.1.all n m.1) tt)))
+    (λ n f.
+    let h = three (expr_within x 32) (block_fits b.0 n) true f in
+    (tt, then_expr x (block_tokens b.0 ++ []) h.0 (all_append (block_tokens b.0) [] (b.1.all n h.1) tt)))
 stmt_again (Stmt-F.If x b (Some c)) = stmt_spelled_at (Stmt-F.If x b.0 (Some c.0)) (roll-Stmt (Stmt-F.If x b.0 (Some c.0))) refl
-    (λ n f. let k = both (expr_within x 32 && block_fits b.0 n) (block_fits c.0 n) f in
-    let m = both (expr_within x 32) (block_fits b.0 n) k.0 in (
-      tt,
-      all_append (expr_tokens x) (block_tokens b.0 ++ (token.Else ∷ block_tokens c.0)) ((expr_spelled x).all 32 m.0)
-          (all_append (block_tokens b.0) (token.Else ∷ block_tokens c.0) (b.1.all n m.1) (tt, c.1.all n k.1)),
-    ))
+    (λ n f.
+    let h = three (expr_within x 32) (block_fits b.0 n) (block_fits c.0 n) f in
+    let last : AreSpelled (block_tokens b.0 ++ (token.Else ∷ block_tokens c.0)) = all_append (block_tokens b.0) (token.Else ∷ block_tokens c.0) (b.1.all n h.1) (tt, c.1.all n h.2) in
+    (tt, then_expr x (block_tokens b.0 ++ (token.Else ∷ block_tokens c.0)) h.0 last))
 
 abbrev bares : List S → List Stmt
 bares ss = map (λ s. s.0) ss
@@ -169,13 +177,11 @@ shorter n h = grind (arith, nat_tests)
 
 path_literal : (text : List ℕ) → is_path text ≡ true → is_literal text ≡ true
 path_literal text h =
-    let k = both (starts_with nat_eq text (47 ∷ []) && nat_le (length text) 1024) (list_all is_visible text) h in
-    let m = both (starts_with nat_eq text (47 ∷ [])) (nat_le (length text) 1024) k.0 in
-    and_true (nat_le (length text) 65536) (list_all is_literal_byte text) (shorter (length text) m.1) (all_literal text k.1)
+    let k = three (starts_with nat_eq text (47 ∷ [])) (nat_le (length text) 1024) (list_all is_visible text) h in
+    and_true (nat_le (length text) 65536) (list_all is_literal_byte text) (shorter (length text) k.1) (all_literal text k.2)
 
 pub fits_spelled : (rs : List Route) → routes_fit rs ≡ true → AreSpelled (program_tokens rs)
 fits_spelled [] f = tt
 fits_spelled (r ∷ rs) f =
-    let k = both (is_path r.pattern && block_fits r.block 32) (routes_fit rs) f in
-    let m = both (is_path r.pattern) (block_fits r.block 32) k.0 in
-    all_append (route_tokens r) (program_tokens rs) (tt, (tt, (path_literal r.pattern m.0, (block_spelled r.block).all 32 m.1))) (fits_spelled rs k.1)
+    let k = three (is_path r.pattern) (block_fits r.block 32) (routes_fit rs) f in
+    all_append (route_tokens r) (program_tokens rs) (tt, (tt, (path_literal r.pattern k.0, (block_spelled r.block).all 32 k.1))) (fits_spelled rs k.2)

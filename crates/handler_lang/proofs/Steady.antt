@@ -1,5 +1,5 @@
 -- Readers that refuse at the first token that doesn't fit, one behind the other.
-use Rattle.std.proofs.Common.{◌≡◌, ℕ, ℤ, pos, negsuc, zero, suc, Bool, true, false, List, [], ◌∷◌, ◌++◌, length, Result, Ok, Err, refl, sym, ap, subst, ◌∙◌, append_assoc, inl, inr, ◌⊎◌}
+use Rattle.std.proofs.Common.{◌≡◌, ℕ, pos, negsuc, suc, Bool, true, false, List, [], ◌∷◌, ◌++◌, length, Result, Ok, Err, refl, sym, ap, subst, ◌∙◌, append_assoc, inl, inr}
 use Rattle.std.specs.Prelude.{nat_le, ◌&&◌}
 use Rattle.handler_tokens.specs.declared.token.Token.{Token}
 use Rattle.handler_tokens.specs.declared.token.Token.TheVariants as token
@@ -10,7 +10,7 @@ use Rattle.lang_tree.specs.declared.expr.Op.TheVariants as op
 use Rattle.handler_reader.specs.declared.stop.Cause.{Cause}
 use Rattle.handler_reader.specs.declared.stop.Cause.TheVariants as cause
 use Rattle.handler_reader.specs.declared.stop.Stop.{Stop}
-use Rattle.handler_reader.specs.Readers.{◌>>=◌, Read, refused, word_at, method_at, op_at, equals_at, semicolon_at, comma_at, in_at, left_at, right_at, segment_from, segment_at, pattern_at}
+use Rattle.handler_reader.specs.Readers.{◌>>=◌, Read, refused, word_at, method_at, op_at, equals_at, semicolon_at, comma_at, in_at, left_at, right_at, segment_at, pattern_at}
 use Rattle.handler_reader.proofs.Binds.{bind_ok, ok_is, err_is}
 use Rattle.handler_reader.proofs.Fitting.{bound, gives, marked}
 use Rattle.handler_lang.specs.Misfits.{Stops, StopsFirst}

@@ -1,8 +1,7 @@
 -- Expressions are refused at their first token that doesn't fit.
-use Rattle.std.proofs.Common.{◌≡◌, ℕ, zero, suc, List, [], ◌∷◌, ◌++◌, length, Result, Ok, Err, refl}
+use Rattle.std.proofs.Common.{◌≡◌, ℕ, zero, suc, List, [], ◌∷◌, Ok, Err, refl}
 use Rattle.handler_tokens.specs.declared.token.Token.{Token}
 use Rattle.handler_tokens.specs.declared.token.Token.TheVariants as token
-use Rattle.lang_tree.specs.declared.expr.Op.{Op}
 use Rattle.lang_tree.specs.declared.expr.Expr.{Expr}
 use Rattle.lang_tree.specs.declared.expr.Expr.TheVariants as expr
 use Rattle.handler_reader.specs.declared.stop.Cause.TheVariants as cause

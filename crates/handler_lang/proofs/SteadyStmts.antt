@@ -1,10 +1,9 @@
 -- Statements, blocks and routes are refused at their first token that doesn't fit.
-use Rattle.std.proofs.Common.{◌≡◌, ℕ, zero, suc, ◌+◌, ◌<◌, List, [], ◌∷◌, ◌++◌, length, Option, Some, None, Result, Ok, Err, refl, sym, ap, subst, ◌∙◌, append_assoc, inl, inr, ◌⊎◌, arith}
+use Rattle.std.proofs.Common.{◌≡◌, ℕ, zero, suc, ◌<◌, List, [], ◌∷◌, ◌++◌, length, Option, Some, None, Result, Ok, Err, refl, sym, ap, subst, ◌∙◌, append_assoc, inl, inr, arith}
 use Rattle.std.proofs.lemmas.List.{length-append}
 use Rattle.handler_tokens.specs.declared.token.Token.{Token}
 use Rattle.handler_tokens.specs.declared.token.Token.TheVariants as token
 use Rattle.lang_tree.specs.declared.method.Method.{Method}
-use Rattle.lang_tree.specs.declared.expr.Expr.{Expr}
 use Rattle.lang_tree.specs.declared.stmt.Stmt.{Stmt}
 use Rattle.lang_tree.specs.declared.stmt.Stmt.TheVariants as stmt
 use Rattle.lang_tree.specs.declared.stmt.Block.{Block}
@@ -15,7 +14,7 @@ use Rattle.handler_reader.specs.Readers.{◌>>=◌, Read, refused, block_at, blo
 use Rattle.handler_reader.proofs.Binds.{err_is, ok_is}
 use Rattle.handler_reader.proofs.Loops.{routes_next, stmts_next}
 use Rattle.handler_reader.proofs.Fitting.{bound, gives, marked}
-use Rattle.handler_lang.specs.Misfits.{Stops, StopsFirst}
+use Rattle.handler_lang.specs.Misfits.{StopsFirst}
 use Rattle.handler_lang.proofs.Steady.{IsSteady, SameFirst, TookAgain, comma_steady, ended, equals_steady, gives_steady, in_steady, method_steady, never_both, pattern_steady, refuses_head, refuses_one, same_at, semicolon_steady, steady_bound, steady_marked, took_head, took_one, word_steady}
 use Rattle.handler_lang.proofs.SteadyExprs.{expr_steady}
 

@@ -44,23 +44,29 @@ impl Teller {
         self.say(after);
     }
 
-    fn number(&mut self, before: &str, n: i64) {
-        self.say(before);
+    fn number(&mut self, n: i64) {
         match format!(in self.alloc; "{n}") {
             Ok(digits) => self.say(&digits),
             Err(_) => self.failed = true,
         }
     }
 
+    fn segment(&mut self, n: u64) {
+        match format!(in self.alloc; "path.{n}") {
+            Ok(segment) => self.say(&segment),
+            Err(_) => self.failed = true,
+        }
+    }
+
     fn expr(&mut self, expr: &Expr) {
         match expr {
-            Expr::Integer(n) => self.number("", *n),
+            Expr::Integer(n) => self.number(*n),
             Expr::Str(text) => self.text("[", text, "]"),
             Expr::Nothing => self.say("nothing"),
             Expr::Body => self.say("body"),
             Expr::Who => self.say("who"),
             Expr::Var(name) => self.text("", name, ""),
-            Expr::Path(n) => self.number("path.", *n as i64),
+            Expr::Path(n) => self.segment(*n),
             Expr::Part { text, by, n } => {
                 self.say("part<");
                 self.expr(text.get());
