@@ -1,5 +1,5 @@
-//! The handler language: a text is read as the program that it spells, or refused at the first byte that doesn't fit, and what
-//! is printed of a program reads back to it.
+//! The handler language: a text is read as the program that it spells, or refused at the first byte that doesn't fit,
+//! and what is printed of a program reads back to it.
 #![tactic(auto)]
 
 mod printing;
