@@ -1,6 +1,6 @@
 -- What follows for a whole run.
 use Rattle.std.specs.Option.{ForSome, IsSomeAnd}
-use Rattle.std.proofs.Common.{◌≡◌, ◌≢◌, ◌⊎◌, ℕ, suc, ◌<◌, ◌≤◌, inl, inr, List, [], ◌∷◌, ◌++◌, Option, Some, None, Ok, Err, length, nat_lt, refl, ap, sym, subst, ◌∙◌, arith, rules, tests, true, false}
+use Rattle.std.proofs.Common.{◌≡◌, ◌≢◌, ◌⊎◌, ℕ, zero, suc, ◌<◌, ◌≤◌, inl, inr, List, [], ◌∷◌, ◌++◌, Option, Some, None, Ok, Err, length, nat_lt, refl, ap, sym, subst, ◌∙◌, arith, rules, tests, true, false}
 use Rattle.execution.specs.Executions.{History, IsLegal}
 use Rattle.io_edge.specs.Edge.{Wrote, Rose}
 use Rattle.io_edge.proofs.Pieces.{front_more, wrote_more}
@@ -105,13 +105,13 @@ good_goes misfit world script services verdict old new lb ln rb rn before now go
 
 -- a status that is neither refusal nor fault
 pub ends_well : (status : ℕ) → IsStatus status → status ≢ 2 → (status ≡ 3 → ⊥) → (status ≡ 4 → ⊥) → (status ≡ 5 → ⊥) → (status ≡ 0) ⊎ (status ≡ 6)
-ends_well 0 is a b c d = inl refl
-ends_well 1 is a b c d = absurd (is.1 refl)
-ends_well 2 is a b c d = absurd (a refl)
-ends_well 3 is a b c d = absurd (b refl)
-ends_well 4 is a b c d = absurd (c refl)
-ends_well 5 is a b c d = absurd (d refl)
-ends_well 6 is a b c d = inr refl
+ends_well zero is a b c d = inl refl
+ends_well (suc zero) is a b c d = absurd (is.1 refl)
+ends_well (suc (suc zero)) is a b c d = absurd (a refl)
+ends_well (suc (suc (suc zero))) is a b c d = absurd (b refl)
+ends_well (suc (suc (suc (suc zero)))) is a b c d = absurd (c refl)
+ends_well (suc (suc (suc (suc (suc zero))))) is a b c d = absurd (d refl)
+ends_well (suc (suc (suc (suc (suc (suc zero)))))) is a b c d = inr refl
 ends_well (suc (suc (suc (suc (suc (suc (suc more))))))) is a b c d = absurd (omega (arith, is.0))
 
 -- neither count rose
