@@ -1,8 +1,8 @@
-//! Runs a script over the standard streams.
+//! Runs a script over the files and standard streams of the machine.
 #![tactic(auto)]
 
 use aire_top::aire;
-use io_edge::{Reading, Writing};
+use io_edge::{Reading, RealFiles, Writing};
 use std::alloc::Global;
 use std::process::ExitCode;
 use std::rt::Env;
@@ -20,8 +20,9 @@ fn words_of(rt: &(impl Env + AllocGlobal), alloc: Global) -> io::Result<Vec<Stri
 fn main(rt: HostRuntime) -> io::Result<ExitCode> {
     let alloc = rt.alloc();
     let words = words_of(&rt, alloc)?;
+    let mut files = RealFiles::new(&rt);
     let mut input = Reading::new(rt.reader());
     let mut out = Writing::new(io::writer(&rt));
-    let ended = aire(alloc, &words, &mut input, &mut out);
+    let ended = aire(alloc, &words, &mut files, &mut input, &mut out);
     Ok(ExitCode::from(ended.status))
 }

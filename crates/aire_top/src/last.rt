@@ -1,9 +1,11 @@
 // The last lines.
 ghost use Rattle.std.specs.Prelude.{◌≡◌, ◌⊎◌, ◌≤◌, codes};
-ghost use Rattle.aire_top.specs.Top.{Ends, refused_line, usage_line};
+ghost use Rattle.aire_top.specs.Top.{Ends, refused_line, usage_line, world_line};
+ghost use Rattle.world_file.specs.Numbers.{refusal_text};
 
 use io_edge::{Sink, write_all};
 use std::alloc::Global;
+use world_file::WorldRefused;
 
 /// Writes a last line. A fault there changes nothing else.
 pub fn write_last<K: Sink>(out: &mut K, line: &str)
@@ -44,6 +46,31 @@ pub fn refused<K: Sink>(alloc: Global, out: &mut K, line: u64, number: u64) -> u
     ensures counted { K.faults out.old ≤ K.faults out.new }
 {
     match format!(in alloc; "script refused line {line} number {number}\n") {
+        Ok(line) => {
+            write_last(out, line.as_str());
+            3
+        }
+        Err(_) => want_of_memory(out),
+    }
+}
+
+/// Writes that the world file is too long, and answers that status.
+pub fn world_too_long<K: Sink>(out: &mut K) -> u8
+    ensures status { result ≡ 3 }
+    ensures ends { Ends (K.written out.old) (K.written out.new) (K.faults out.old) (K.faults out.new) (world_line (codes "8")) }
+    ensures counted { K.faults out.old ≤ K.faults out.new }
+{
+    write_last(out, "world refused 8\n");
+    3
+}
+
+/// Writes why the world file is refused, and answers that status.
+pub fn world_refused<K: Sink>(alloc: Global, out: &mut K, why: &WorldRefused) -> u8
+    ensures status { (result ≡ 3) ⊎ (result ≡ 6) }
+    ensures ends { result ≡ 3 → Ends (K.written out.old) (K.written out.new) (K.faults out.old) (K.faults out.new) (world_line (refusal_text why.now)) }
+    ensures counted { K.faults out.old ≤ K.faults out.new }
+{
+    match format!(in alloc; "world refused {why}\n") {
         Ok(line) => {
             write_last(out, line.as_str());
             3

@@ -1,6 +1,7 @@
 // Whole runs over memory: the worked examples by their bytes, and what happens where the k-th read or write fails.
 use crate::aire;
-use io_edge::{MemorySink, MemorySource};
+use io_edge::{MemoryFile, MemoryFiles, MemorySink, MemorySource};
+use lang_core::{Bytes, Seq, Text};
 use std::alloc::{AllocError, Global};
 use std::test::Fail;
 
@@ -61,6 +62,24 @@ fn joined(alloc: Global, parts: &[&str]) -> Result<Vec<u8>, AllocError> {
     text.as_bytes().to_vec(alloc)
 }
 
+// Runs over memory, with these files, of which the first load fails if so told.
+fn ran_over(
+    alloc: Global,
+    words: &[&str],
+    files: MemoryFiles,
+    input: MemorySource,
+    write_fails: u64,
+) -> Result<(u8, MemorySink), AllocError> {
+    let mut owned = Vec::new(alloc);
+    for word in words {
+        owned.push(String::from_str(alloc, word)?)?;
+    }
+    let (mut files, mut input) = (files, input);
+    let mut out = MemorySink::new(alloc, vec![in alloc; write_fails]?);
+    let ended = aire(alloc, &owned, &mut files, &mut input, &mut out);
+    Ok((ended.status, out))
+}
+
 // Runs a script over memory, whose reads and writes fail at these calls.
 fn ran(
     alloc: Global,
@@ -69,15 +88,10 @@ fn ran(
     read_fails: u64,
     write_fails: u64,
 ) -> Result<(u8, MemorySink), AllocError> {
-    let mut owned = Vec::new(alloc);
-    for word in words {
-        owned.push(String::from_str(alloc, word)?)?;
-    }
     let bytes = joined(alloc, script)?;
-    let mut input = MemorySource::new(bytes, vec![in alloc; read_fails]?);
-    let mut out = MemorySink::new(alloc, vec![in alloc; write_fails]?);
-    let ended = aire(alloc, &owned, &mut input, &mut out);
-    Ok((ended.status, out))
+    let input = MemorySource::new(bytes, vec![in alloc; read_fails]?);
+    let files = MemoryFiles::new(Seq::new(alloc), Vec::new(alloc));
+    ran_over(alloc, words, files, input, write_fails)
 }
 
 // Whether a run has this status and writes this.
@@ -161,8 +175,100 @@ fn each_status(rt: HostRuntime) -> Result<(), Fail> {
     let (status, out) = ran(alloc, &["run", "@notes"], &[], 0, 0)?;
     assert_eq!(rt; status, 2);
     assert_eq!(rt; out.bytes(), b"usage: word 2\n".as_slice());
-    let (status, out) = ran(alloc, &["run", "@mail", "-"], &[], 0, 0)?;
-    assert_eq!(rt; status, 2);
-    assert_eq!(rt; out.bytes(), b"usage: word 1\n".as_slice());
+    Ok(())
+}
+
+// A world of one service that keeps what is put.
+const WORLD: &str =
+    "{\"services\":[{\"name\":\"a\",\"program\":\"route PUT \\\"/*\\\" { put n path(1) = body; reply 200 \\\"\\\"; }\",\
+    \"rules\":\"allow any any any /\",\"secret\":\"s\",\"console\":\"c\",\"door\":\"d\",\"workers\":1}]}";
+
+// A world whose program is refused at byte 27.
+const BROKEN: &str =
+    "{\"services\":[{\"name\":\"a\",\"program\":\"route GET \\\"/a\\\" { reply 200 }\",\
+    \"rules\":\"allow any any any /\",\"secret\":\"s\",\"console\":\"c\",\"door\":\"d\",\"workers\":1}]}";
+
+const PUT: &str = "ask a ann PUT /x 1\n";
+
+// The files of the runs below.
+fn files_of(alloc: Global, fails: u64) -> Result<MemoryFiles, Fail> {
+    let mut files = Seq::new(alloc);
+    for (path, text) in [
+        ("world", WORLD),
+        ("broken", BROKEN),
+        ("lacking", "{\"services\":[{\"name\":\"a\"}]}"),
+        ("cut", "{"),
+        ("script", "ask a ann PUT /x 1\nrows a\n"),
+        ("fly", "fly notes\n"),
+        ("notes", "ask notes ann GET /n/x\n"),
+    ] {
+        files.push(MemoryFile {
+            path: Text::of(alloc, path)?,
+            bytes: Bytes::of(alloc, text.as_bytes())?,
+        })?;
+    }
+    Ok(MemoryFiles::new(files, vec![in alloc; fails]?))
+}
+
+// Words with what a run with PUT as its input answers and writes.
+#[test]
+fn worlds_and_scripts_of_files(rt: HostRuntime) -> Result<(), Fail> {
+    let alloc = rt.alloc();
+    for (world, script, load_fails, status, told) in [
+        ("world", "-", 0u64, 0u8, "a/1 = 200\n"),
+        ("world", "script", 0, 0, "a/1 = 200\nn x 1\n"),
+        ("@notes", "notes", 0, 0, "notes/1 = 404\n"),
+        ("world", "notes", 0, 3, "script refused line 1 number 3\n"),
+        ("@notes", "fly", 0, 3, "script refused line 1 number 2\n"),
+        ("lacking", "-", 0, 3, "world refused 2 program\n"),
+        ("lacking", "none", 0, 3, "world refused 2 program\n"),
+        ("cut", "-", 0, 3, "world refused 1\n"),
+        ("broken", "-", 0, 3, "world refused 6 a 1 27\n"),
+        ("none", "-", 0, 4, "read fault\n"),
+        ("@other", "-", 0, 4, "read fault\n"),
+        ("-", "-", 0, 4, "read fault\n"),
+        ("world", "none", 0, 4, "read fault\n"),
+        ("world", "script", 1, 4, "read fault\n"),
+        ("world", "script", 2, 4, "read fault\n"),
+        ("@notes", "notes", 1, 4, "read fault\n"),
+        ("-x", "none", 0, 2, "usage: word 1\n"),
+        ("none", "-x", 0, 2, "usage: word 2\n"),
+        ("--", "-", 0, 2, "usage: word 1\n"),
+    ] {
+        let input = MemorySource::new(PUT.as_bytes().to_vec(alloc)?, Vec::new(alloc));
+        let files = files_of(alloc, load_fails)?;
+        let (given, out) = ran_over(alloc, &["run", world, script], files, input, 0)?;
+        assert_eq!(rt; given, status, "{world} {script}");
+        assert_eq!(rt; out.bytes(), told.as_bytes(), "{world} {script}");
+    }
+    Ok(())
+}
+
+// Files at their limit and one byte over it.
+#[test]
+fn long_files(rt: HostRuntime) -> Result<(), Fail> {
+    let alloc = rt.alloc();
+    for (world, script, length, status, told) in [
+        ("long", "-", 4194304usize, 3u8, "world refused 1\n"),
+        ("long", "-", 4194305, 3, "world refused 8\n"),
+        (
+            "@notes",
+            "long",
+            16777217,
+            3,
+            "script refused line 0 number 7\n",
+        ),
+    ] {
+        let mut files = Seq::new(alloc);
+        files.push(MemoryFile {
+            path: Text::of(alloc, "long")?,
+            bytes: Bytes::from(vec![in alloc; b'\n'; length]?),
+        })?;
+        let files = MemoryFiles::new(files, Vec::new(alloc));
+        let input = MemorySource::new(Vec::new(alloc), Vec::new(alloc));
+        let (given, out) = ran_over(alloc, &["run", world, script], files, input, 0)?;
+        assert_eq!(rt; given, status, "{world} {length}");
+        assert_eq!(rt; out.bytes(), told.as_bytes(), "{world} {length}");
+    }
     Ok(())
 }

@@ -74,6 +74,12 @@ world_of_json (Some value) = world_of_services (get (field_word field.Services) 
 abbrev pub world_of : List ℕ → Outcome (List Setup)
 world_of bytes = if is_utf8 bytes then world_of_json (read bytes) else Err NotJson
 
+-- there is one service, which has no peers
+abbrev pub IsAlone : List Setup → Type 0
+IsAlone [] = ⊥
+IsAlone (setup ∷ []) = setup.setting.peers ≡ []
+IsAlone (setup ∷ other ∷ more) = ⊥
+
 -- a call refuses so, unless memory runs out
 abbrev pub Refuses : {X : Type 0} → WorldRefused → Outcome X → Type 0
 Refuses why outcome = why ≢ NoMemory → outcome ≡ Err why

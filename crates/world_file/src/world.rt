@@ -3,7 +3,7 @@ ghost use Rattle.std.specs.Prelude.{◌≡◌, Ok, Some, IfOk, IfErr};
 ghost use Rattle.handler_lang.specs.Reading.{read_of};
 ghost use Rattle.serde_json.specs.View.{view, items_view};
 ghost use Rattle.world_file.specs.Spelled.{fields_of};
-ghost use Rattle.world_file.specs.Worlds.{Refuses, service_of, setup_of, with_program, world_of, world_of_items, world_of_json};
+ghost use Rattle.world_file.specs.Worlds.{IsAlone, Refuses, service_of, setup_of, with_program, world_of, world_of_items, world_of_json};
 
 use crate::field::Field;
 use crate::fields::{Spelled, fields_in};
@@ -96,12 +96,9 @@ fn world_of_json(alloc: Global, value: &Value) -> Result<Vec<Setup>, WorldRefuse
     }
 }
 
-/// The world that the bytes of a file spell: its services in the file's order. A file is a JSON object whose field
-/// `services` is a list of objects.
-///
-/// Until services call each other, a world has one service, and its rules allow all.
+// The world that these bytes spell.
 #[tactic(auto, using(crate::proofs::Json::spelled, crate::proofs::Json::not_json))]
-pub fn read_world(alloc: Global, bytes: &[u8]) -> Result<Vec<Setup>, WorldRefused>
+fn world_of(alloc: Global, bytes: &[u8]) -> Result<Vec<Setup>, WorldRefused>
     ensures world { IfOk result (λ world. world_of bytes.now ≡ Ok world.items) }
     ensures refused { IfErr result (λ why. Refuses why (world_of bytes.now)) }
 {
@@ -110,4 +107,17 @@ pub fn read_world(alloc: Global, bytes: &[u8]) -> Result<Vec<Setup>, WorldRefuse
         Err(e) if e.is_memory() => Err(WorldRefused::NoMemory),
         Err(_) => Err(WorldRefused::NotJson),
     }
+}
+
+/// The world that the bytes of a file spell: its services in the file's order. A file is a JSON object whose field
+/// `services` is a list of objects.
+///
+/// Until services call each other, a world has one service, and its rules allow all.
+#[tactic(auto, using(crate::proofs::Ones::world_alone))]
+pub fn read_world(alloc: Global, bytes: &[u8]) -> Result<Vec<Setup>, WorldRefused>
+    ensures world { IfOk result (λ world. world_of bytes.now ≡ Ok world.items) }
+    ensures alone { IfOk result (λ world. IsAlone world.items) }
+    ensures refused { IfErr result (λ why. Refuses why (world_of bytes.now)) }
+{
+    world_of(alloc, bytes)
 }

@@ -1,20 +1,15 @@
-use Rattle.std.proofs.Common.{Err, ap, ◌∙◌, ◌≢◌, ◌≤◌, length, arith}
-use Rattle.aire_top.proofs.Runs.{at_line_of, stopped_early, too_long}
+use Rattle.std.proofs.Common.{inl, inr}
+use Rattle.aire_top.proofs.Runs.{no_world}
 use Rattle.aire_top.proofs.top.run.Goals as goal
 
-pub returns-in-Err-TooLong-clause-refused : goal.returns-in-Err-TooLong-clause-refused
-returns-in-Err-TooLong-clause-refused g c = λ e script told.
-    too_long script c.args.service _ _ _ _ _ (c.in-Err-TooLong.ensures.too_long (ap Err c.in-Err-TooLong.field-0-is) script told) c.requires (c.refusal.ensures.services e) (c.refusal.ensures.ends e)
+pub returns-in-Ok-clause-done : goal.returns-in-Ok-clause-done
+returns-in-Ok-clause-done g c = λ e. (c.in-Ok.setup, c.in-Ok.ensures.world, rw c.load_world.ensures.files at (c.run_in.ensures.done e))
 
-pub returns-in-Err-WriteFault-clause-early : goal.returns-in-Err-WriteFault-clause-early
-returns-in-Err-WriteFault-clause-early g c = λ e script told.
-    let same = c.deref.ensures.value ∙ c.in-Ok.ensures.all script told in
-    let stands : c.closed-in-Err-WriteFault.result.status ≢ 6 = λ six. omega (arith, e, six) in
-    stopped_early script c.deref.result.now c.args.service c.run_script.new.service _ _ _ _ c.requires same c.in-Err-WriteFault.ensures.early (c.closed-in-Err-WriteFault.ensures.same stands) (c.closed-in-Err-WriteFault.ensures.services stands)
+pub returns-in-Ok-clause-refused : goal.returns-in-Ok-clause-refused
+returns-in-Ok-clause-refused g c = λ e. inr (c.run_in.ensures.verdict (inr (inl e)), (c.in-Ok.setup, c.in-Ok.ensures.world, rw c.load_world.ensures.files at (c.run_in.ensures.refused e)))
 
-pub returns-in-Err-Refused-clause-refused : goal.returns-in-Err-Refused-clause-refused
-returns-in-Err-Refused-clause-refused g c = λ e script told.
-    let same = c.deref.ensures.value ∙ c.in-Ok.ensures.all script told in
-    let r = c.in-Err-Refused.ensures.refused c.in-Err-Refused.line c.in-Err-Refused.fault (ap Err c.in-Err-Refused.field-0-is) in
-    let short : length c.deref.result.now ≤ 16777216 = rw c.deref.ensures.value c.in-Ok.ensures.within in
-    at_line_of script c.deref.result.now c.args.service c.in-Err-Refused.line c.number.result c.run_script.new.service _ _ _ _ _ _ _ c.requires same short r.0 (rw c.number.ensures r.1) c.run_script.ensures.counted (c.refusal-in-Err-Refused.ensures.services e) (c.refusal-in-Err-Refused.ensures.ends e)
+pub returns-in-Ok-clause-early : goal.returns-in-Ok-clause-early
+returns-in-Ok-clause-early g c = λ e. (c.in-Ok.setup, c.in-Ok.ensures.world, rw c.load_world.ensures.files at (c.run_in.ensures.early e))
+
+pub returns-in-Err-clause-refused : goal.returns-in-Err-clause-refused
+returns-in-Err-clause-refused g c = λ e. inl (no_world _ _ _ _ _ _ _ _ c.in-Err.ensures.refused (c.worldless.ensures.refused e) c.worldless.ensures.none)

@@ -1,0 +1,69 @@
+-- What is known of a world that is loaded.
+use Rattle.std.proofs.Common.{◌≡◌, ◌≢◌, ℕ, ◌<◌, ◌≤◌, List, [], ◌∷◌, ◌++◌, length, Option, Some, None, option_map, Result, Ok, Err, Bool, true, false, cond, nat_lt, refl, ap, sym, ◌∙◌, arith, rules, tests, codes}
+use Rattle.std.specs.Option.{ForSome, IsSomeAnd}
+use Rattle.io_edge.specs.Files.{IsFile, IsLonger}
+use Rattle.lang_base.specs.Texts.{same_text}
+use Rattle.world_file.specs.Notes.{built_in, notes_setup}
+use Rattle.world_file.specs.Worlds.{IsAlone, world_of}
+use Rattle.world_file.specs.declared.setup.Setup.{Setup}
+use Rattle.aire_top.specs.Top.{ForThere, Is, Told, World, file_told, file_world, script_told, world_from, world_told, world_within, world_or}
+
+-- the last of services that are one is that one
+pub last_alone : (front : List Setup) (last : Setup) → IsAlone (front ++ last ∷ []) → front ≡ []
+last_alone [] last h = refl
+last_alone (one ∷ []) last h = absurd h
+last_alone (one ∷ other ∷ more) last h = absurd h
+
+no_list : {x : Setup} → Some (x ∷ []) ≡ Some [] → ⊥
+no_list h = cc
+
+long_list : {x y z : Setup} {more : List Setup} → Some (x ∷ []) ≡ Some (y ∷ z ∷ more) → ⊥
+long_list h = cc
+
+some_is : (setups : List Setup) → Some (notes_setup ∷ []) ≡ Some setups → IsAlone setups
+some_is (setup ∷ []) h = let e : notes_setup ≡ setup = cc in ap (λ (s : Setup). s.setting.peers) (sym e)
+some_is [] h = absurd (no_list h)
+some_is (setup ∷ other ∷ more) h = absurd (long_list h)
+
+by_word : (b : Bool) (setups : List Setup) → cond b (Some (notes_setup ∷ [])) None ≡ Some setups → IsAlone setups
+by_word true setups h = some_is setups h
+by_word false setups h = cc
+
+-- the worlds that come with the program
+pub standard_alone : (word : List ℕ) (setups : List Setup) → built_in word ≡ Some setups → IsAlone setups
+standard_alone word setups h = by_word (same_text word (codes "@notes")) setups h
+
+within-short : (bytes : List ℕ) → length bytes ≤ 4194304 → world_within bytes ≡ world_from (world_of bytes)
+within-short bytes short = let e : nat_lt 4194304 (length bytes) ≡ false = search (tests, rules) in rw e refl
+
+within-long : (bytes : List ℕ) → 4194304 < length bytes → world_within bytes ≡ Err (codes "8")
+within-long bytes long = let e : nat_lt 4194304 (length bytes) ≡ true = search (tests, rules) in rw e refl
+
+-- a file whose bytes are these
+pub file_is : (files : Option (List ℕ → Option (List ℕ))) (path bytes : List ℕ) (world : World) → IsFile files path bytes → world_within bytes ≡ world → Is (file_world files path) world
+file_is None path bytes world file is = λ there e. cc
+file_is (Some at) path bytes world file is = λ there e.
+    let stands : at path ≡ Some bytes = file at refl in
+    let told : option_map world_within (at path) ≡ there = cc in
+    sym told ∙ ap (option_map world_within) stands ∙ ap Some is
+
+-- a file of at most so many bytes
+pub short_file : (files : Option (List ℕ → Option (List ℕ))) (path bytes : List ℕ) (world : World) → IsFile files path bytes → length bytes ≤ 4194304 → world_from (world_of bytes) ≡ world → Is (file_world files path) world
+short_file files path bytes world file short is = file_is files path bytes world file (within-short bytes short ∙ is)
+
+-- a file that is too long
+pub long_file : (files : Option (List ℕ → Option (List ℕ))) (path : List ℕ) → IsLonger files path 4194304 → Is (file_world files path) (Err (codes "8"))
+long_file None path longer = λ there e. cc
+long_file (Some at) path longer =
+    let l = longer at refl in
+    file_is (Some at) path l.0 (Err (codes "8")) (λ other e. let same : at ≡ other = cc in ap (λ (f : List ℕ → Option (List ℕ)). f path) (sym same) ∙ l.1) (within-long l.0 l.2)
+
+-- a world that comes with the program, and one that doesn't
+pub standard_told : (files : Option (List ℕ → Option (List ℕ))) (word : List ℕ) (setups : List Setup) → built_in word ≡ Some setups → Is (world_told files word) (Ok setups)
+standard_told files word setups h = λ there e.
+    let told : world_told files word ≡ Some (Some (Ok setups)) = ap (λ (o : Option (List Setup)). world_or o (file_world files word)) h in
+    let same : Some (Some (Ok setups)) ≡ Some there = sym told ∙ e in
+    cc
+
+pub other_told : (files : Option (List ℕ → Option (List ℕ))) (word : List ℕ) → built_in word ≡ None → world_told files word ≡ file_world files word
+other_told files word h = ap (λ (o : Option (List Setup)). world_or o (file_world files word)) h
