@@ -1,5 +1,5 @@
 -- What a script does, and what it writes.
-use Rattle.std.specs.Prelude.{ℕ, ◌+◌, Bool, true, false, List, [], ◌∷◌, ◌++◌, Option, Some, None, Result, Ok, Err, ◌==◌, codes, length, decimal, if◌then◌else◌, nat_lt, take}
+use Rattle.std.specs.Prelude.{ℕ, ◌+◌, Bool, true, List, [], ◌∷◌, ◌++◌, Option, Some, None, Result, Ok, Err, ◌==◌, codes, length, decimal, if◌then◌else◌, nat_lt, take}
 use Rattle.std.specs.List.{slice_split}
 use Rattle.lang_base.specs.Texts.{same_text}
 use Rattle.report_text.specs.Reports.{answer_line, id_text, log_text, rows_text, verdict_text}

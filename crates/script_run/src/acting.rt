@@ -90,12 +90,7 @@ fn ordered_text(
     }
 }
 
-fn order(
-    alloc: Global,
-    world: &mut World,
-    command: Command,
-    token: Text,
-) -> Result<Text, NoMemory>
+fn order(alloc: Global, world: &mut World, command: Command, token: Text) -> Result<Text, NoMemory>
     ensures printed { IfOk result (λ text. text ≡ ordered_text world.old.service.setting.me token (order_answer world.old.service command token)) }
     ensures after { OnOk result (world.new ≡ after_command world.old command token) }
     ensures early { OnErr result ((world.new ≡ world.old) ⊎ (world.new ≡ after_command world.old command token)) }

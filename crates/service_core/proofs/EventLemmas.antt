@@ -1,5 +1,5 @@
 -- What events do to the numbers and the records of entries.
-use Rattle.std.proofs.Common.{◌≡◌, ◌≤◌, ℕ, ◌+◌, suc, Bool, true, false, cond, List, [], ◌∷◌, ◌++◌, length, Option, Some, None, IfSome, refl, sym, ap, ◌∙◌, subst, arith, get_or, length-append}
+use Rattle.std.proofs.Common.{◌≡◌, ◌≤◌, ℕ, ◌+◌, suc, Bool, true, false, cond, List, [], ◌∷◌, ◌++◌, length, None, IfSome, refl, sym, ap, ◌∙◌, subst, arith, get_or, length-append}
 use Rattle.std.specs.List.{All, Contains, find}
 use Rattle.std.proofs.lemmas.List.Elements.{All-push, All-cons}
 use Rattle.lang_core.specs.declared.cells.Cell.{Cell}

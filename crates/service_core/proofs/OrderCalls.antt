@@ -1,20 +1,15 @@
 -- What each call that carries out an order answers and leaves.
-use Rattle.std.proofs.Common.{◌≡◌, ◌≤◌, ◌<◌, ℕ, ◌+◌, false, List, [], ◌∷◌, ◌++◌, length, Option, Some, None, Result, Ok, Err, IfOk, IfErr, refl, sym, ap, ◌∙◌, subst}
-use Rattle.std.specs.List.{find, insert}
+use Rattle.std.proofs.Common.{◌≡◌, ℕ, List, [], ◌∷◌, ◌++◌, Result, Ok, Err, IfOk, IfErr, sym, ap, ◌∙◌}
 use Rattle.lang_core.specs.declared.inputs.Inputs.{Inputs}
-use Rattle.lang_core.specs.declared.request.Request.{Request}
-use Rattle.request_log.specs.Entries.{has_id, with_entry}
+use Rattle.request_log.specs.Entries.{with_entry}
 use Rattle.request_log.specs.declared.entry.Entry.{Entry}
-use Rattle.create_placement.specs.Placement.{place_of}
-use Rattle.service_core.specs.Events.{Kept, is_full, next_id}
-use Rattle.service_core.specs.Orders.{about, about_entry, after_new, answer_or, changed, created, given, kept_or, new_answer, ordered_entries, IsNewOrder, IsOrder}
+use Rattle.service_core.specs.Events.{Kept}
+use Rattle.service_core.specs.Orders.{about, about_entry, changed, new_answer, ordered_entries, IsNewOrder}
 use Rattle.service_core.specs.declared.answers.Command.{Command}
-use Rattle.service_core.specs.declared.answers.Command.TheVariants.{Create}
 use Rattle.service_core.specs.declared.answers.Ordered.{Ordered}
 use Rattle.service_core.specs.declared.answers.OrderRefused.{OrderRefused}
 use Rattle.service_core.specs.declared.answers.OrderRefused.TheVariants.{Full, NoSuchRequest, NoMemory}
-use Rattle.service_core.specs.declared.tokens.Accepted.{Accepted}
-use Rattle.service_core.proofs.OrderLemmas.{Changes, known_entry, unknown_entry}
+use Rattle.service_core.proofs.OrderLemmas.{Changes, known_entry}
 
 -- ---- an order about an entry
 
@@ -26,8 +21,11 @@ pub amended : (change : Entry → Entry) (s s' : Kept) (command : Command) (toke
 amended change s s' command token inputs id e (Ok o) answers entries c ok err =
     let answer : new_answer s command ≡ Ok (about id) = answers ∙ known_entry s id c.known in
     let same : o ≡ about id = ok.0 ∙ ap about c.names in
-    rw answer (ap Ok same, ok.1 ∙ ap (λ n. record s { entries = with_entry e s.entries; accepted = s.accepted ++ record { token = token; ordered = about n } ∷ [] }) c.names
-      ∙ ap (λ l. record s { entries = l; accepted = s.accepted ++ record { token = token; ordered = about id } ∷ [] }) (c.puts ∙ sym entries))
+    rw answer (
+      ap Ok same,
+      ok.1 ∙ ap (λ n. record s { entries = with_entry e s.entries; accepted = s.accepted ++ record { token = token; ordered = about n } ∷ [] }) c.names
+          ∙ ap (λ l. record s { entries = l; accepted = s.accepted ++ record { token = token; ordered = about id } ∷ [] }) (c.puts ∙ sym entries),
+    )
 amended change s s' command token inputs id e (Err NoMemory) answers entries c ok err = err.1
 amended change s s' command token inputs id e (Err (NoSuchRequest n)) answers entries c ok err = let wrong = err.0 in cc
 amended change s s' command token inputs id e (Err (Full n)) answers entries c ok err = let wrong = err.0 in cc

@@ -1,5 +1,5 @@
 -- What an order does to the numbers and the records of entries.
-use Rattle.std.proofs.Common.{◌≡◌, ◌≤◌, ◌<◌, ℕ, ◌+◌, suc, Bool, true, false, cond, not, List, [], ◌∷◌, ◌++◌, length, Option, Some, None, IfSome, IsSomeAnd, Result, Ok, Err, IfErr, refl, sym, ap, ◌∙◌, subst, eqb-true, arith, get_or, set, take, drop, option_map, is_some}
+use Rattle.std.proofs.Common.{◌≡◌, ◌≤◌, ℕ, ◌+◌, suc, Bool, true, false, cond, not, List, [], ◌∷◌, length, Option, Some, None, IfSome, IsSomeAnd, Ok, Err, refl, sym, ap, ◌∙◌, subst, eqb-true, arith, get_or, set, take, drop, option_map, is_some}
 use Rattle.std.proofs.lemmas.List.{length-map}
 use Rattle.std.proofs.lemmas.List.Edits.{length-insert}
 use Rattle.std.specs.List.{All, find, insert, position_or_len}
@@ -11,11 +11,8 @@ use Rattle.request_log.specs.Entries.{has_id, IsDistinct, with_entry}
 use Rattle.request_log.specs.declared.entry.Entry.{Entry}
 use Rattle.local_repair.specs.Current.{IsRun}
 use Rattle.local_repair.specs.Repairs.{Amends, IsAmended}
-use Rattle.create_placement.specs.Placement.{place_of}
-use Rattle.service_core.specs.Events.{Kept, Fits, IsAlone, next_id}
-use Rattle.service_core.specs.Orders.{about, about_entry, changed, created, has_entry}
-use Rattle.service_core.specs.declared.answers.Ordered.{Ordered}
-use Rattle.service_core.specs.declared.answers.OrderRefused.{OrderRefused}
+use Rattle.service_core.specs.Events.{Kept, Fits, IsAlone}
+use Rattle.service_core.specs.Orders.{about, about_entry, changed, created}
 use Rattle.service_core.specs.declared.answers.OrderRefused.TheVariants.{NoSuchRequest}
 use Rattle.service_core.proofs.EventLemmas.{at_most_one_more, either}
 

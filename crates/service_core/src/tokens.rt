@@ -54,7 +54,10 @@ impl Tokens {
     pub fn answer(&self, token: &Text) -> Option<Ordered>
         ensures { result ≡ given token.now self.now }
     {
-        let found = self.items.iter().find(|accepted| has_token(accepted, token))?;
+        let found = self
+            .items
+            .iter()
+            .find(|accepted| has_token(accepted, token))?;
         Some(found.ordered)
     }
 

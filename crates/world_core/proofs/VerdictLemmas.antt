@@ -1,10 +1,9 @@
 -- The verdict over services, one service more.
-use Rattle.std.proofs.Common.{◌≡◌, ℕ, ◌+◌, ◌<◌, suc, List, [], ◌∷◌, ◌++◌, Option, Some, None, length, take, drop, map, get_or, refl, sym, ap, ◌∙◌, subst, arith, drop-cons, add-one}
+use Rattle.std.proofs.Common.{◌≡◌, ℕ, ◌+◌, ◌<◌, suc, List, [], ◌∷◌, ◌++◌, None, length, take, drop, map, get_or, sym, ap, ◌∙◌, subst, drop-cons, add-one}
 use Rattle.std.specs.List.{All}
 use Rattle.std.proofs.lemmas.List.{take_more, map-append}
 use Rattle.std.proofs.lemmas.List.Elements.{All-append}
 use Rattle.execution.specs.Executions.{History, Replays, IsEmptyIfDead, IsLegal}
-use Rattle.journal_rows.specs.declared.verdict.Verdict.{Verdict}
 use Rattle.service_core.specs.Events.{Kept, history, stale_id}
 use Rattle.world_core.specs.Verdicts.{verdict_from, unless_stale}
 

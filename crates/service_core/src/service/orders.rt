@@ -215,7 +215,10 @@ impl Service {
         let id = count + 1;
         let ordered = Ordered { about: id, rule: 1 };
         self.tokens.note(token, ordered)?;
-        match self.repairer.insert(at, created(alloc, id, request, inputs)) {
+        match self
+            .repairer
+            .insert(at, created(alloc, id, request, inputs))
+        {
             Ok(()) => Ok(ordered),
             Err(LogFull::NoMemory) => {
                 self.tokens.forget_last();

@@ -1,6 +1,5 @@
-use Rattle.std.proofs.Common.{◌≡◌, None, IfNone, [], ◌∷◌, sym, ◌∙◌, subst}
-use Rattle.execution.specs.Executions.{IsLegal}
-use Rattle.service_core.specs.Events.{Kept, history, stale_id}
+use Rattle.std.proofs.Common.{◌≡◌, None, sym, ◌∙◌}
+use Rattle.service_core.specs.Events.{Kept, stale_id}
 use Rattle.world_core.proofs.VerdictLemmas.{verdict_more, legal_more}
 use Rattle.world_core.proofs.audit.audit_services.Goals as goal
 

@@ -1,4 +1,4 @@
-use Rattle.std.proofs.Common.{◌≡◌, ◌≤◌, ◌+◌, ℕ, List, length, ap, subst, sym, ◌∙◌}
+use Rattle.std.proofs.Common.{◌≡◌, ◌≤◌, ◌+◌, List, length, ap, subst, sym, ◌∙◌}
 use Rattle.std.specs.List.{insert}
 use Rattle.request_log.specs.declared.entry.Entry.{Entry}
 use Rattle.service_core.specs.Events.{Fits}
