@@ -1,12 +1,11 @@
 -- Bytes that are JSON, and bytes that aren't.
-use Rattle.std.proofs.Common.{◌≡◌, ℕ, ◌≤◌, arith, List, [], ◌∷◌, length, Option, Some, None, Result, Err, Bool, true, false, cond, refl, ap, sym, ◌∙◌}
+use Rattle.std.proofs.Common.{◌≡◌, ℕ, ◌≤◌, arith, List, [], ◌∷◌, length, Some, None, Err, Bool, true, false, refl}
 use Rattle.std.specs.Str.{is_utf8, IsUtf8}
 use Rattle.std.proofs.lemmas.Str.{is_utf8-from_IsUtf8, IsUtf8-from_is_utf8}
 use Rattle.serde_json.specs.Data.{Data}
 use Rattle.serde_json.specs.Read.{read}
 use Rattle.serde_json.specs.View.{items_view}
 use Rattle.serde_json.specs.declared.value.Value.{Value}
-use Rattle.world_file.specs.declared.setup.Setup.{Setup}
 use Rattle.world_file.specs.declared.refused.WorldRefused.TheVariants.{NotJson, TooMany}
 use Rattle.world_file.specs.Worlds.{world_of, world_of_items, world_of_json}
 

@@ -1,5 +1,5 @@
 -- A world that is read has one service, which has no peers.
-use Rattle.std.proofs.Common.{◌≡◌, ℕ, List, [], ◌∷◌, length, Option, Some, None, Result, Ok, Err, Bool, true, false, cond, refl, subst}
+use Rattle.std.proofs.Common.{◌≡◌, ℕ, List, [], ◌∷◌, Option, Some, None, Result, Ok, Err, Bool, true, false, cond, refl, subst}
 use Rattle.std.specs.Str.{is_utf8}
 use Rattle.lang_tree.specs.declared.program.Route.{Route}
 use Rattle.handler_lang.specs.Reading.{read_of}
@@ -11,7 +11,7 @@ use Rattle.world_file.specs.Fields.{Fields, Read, field_word, fields_in}
 use Rattle.world_file.specs.declared.field.Field.TheVariants as field
 use Rattle.world_file.specs.declared.setup.Setup.{Setup}
 use Rattle.world_file.specs.declared.refused.WorldRefused.TheVariants.{NotJson}
-use Rattle.world_file.specs.Worlds.{IsAlone, Outcome, alone, setup_of, with_fields, with_program, world_of, world_of_items, world_of_list, world_of_services, world_of_json}
+use Rattle.world_file.specs.Worlds.{IsAlone, alone, setup_of, with_fields, with_program, world_of, world_of_items, world_of_list, world_of_services, world_of_json}
 
 err_ok : {X E : Type 0} {x : X} {e : E} → Err e ≡ Ok x → ⊥
 err_ok h = cc

@@ -15,7 +15,6 @@ use Rattle.lang_core.specs.contracts.setting.Setting.{the_row}
 use Rattle.lang_core.specs.declared.setting.Setting.{Setting}
 use Rattle.world_file.specs.Fields.{Fields}
 use Rattle.world_file.specs.Worlds.{setup_of}
-use Rattle.world_file.specs.declared.setup.Setup.{Setup}
 use Rattle.world_file.specs.Notes.{got, is_missing, not_found, missing, reply_note, counted, put_route, get_route, drop_route, copy_route, count_route, notes_routes}
 use Rattle.world_file.specs.Pieces.{string, variable, integer, nothing, request_body, segment, pair, as_text, block, reply}
 

@@ -1,5 +1,5 @@
 -- The fields of a service in a world file, and what each must be.
-use Rattle.std.specs.Prelude.{ℕ, Bool, true, ◌&&◌, ◌||◌, not, List, length, Option, Some, None, option_and_then, Result, Ok, Err, if◌then◌else◌, nat_le, codes}
+use Rattle.std.specs.Prelude.{ℕ, Bool, ◌&&◌, ◌||◌, not, List, length, Option, Some, None, option_and_then, Result, Ok, Err, if◌then◌else◌, nat_le, codes}
 use Rattle.std.specs.List.{list_all}
 use Rattle.lang_base.specs.Texts.{same_text}
 use Rattle.lang_tree.specs.Forms.{is_visible}

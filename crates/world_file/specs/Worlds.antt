@@ -1,5 +1,5 @@
 -- Which bytes spell which world, and which refusal stands where they spell none.
-use Rattle.std.specs.Prelude.{◌≡◌, ◌≢◌, ℕ, List, [], ◌∷◌, Option, Some, None, Result, Ok, Err, if◌then◌else◌, codes}
+use Rattle.std.specs.Prelude.{◌≡◌, ◌≢◌, ℕ, List, [], ◌∷◌, Option, Some, None, Result, Ok, Err, if◌then◌else◌}
 use Rattle.std.specs.Str.{is_utf8}
 use Rattle.std.proofs.Common.{below_none}
 use Rattle.lang_tree.specs.declared.program.Route.{Route}
