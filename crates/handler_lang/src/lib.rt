@@ -6,7 +6,7 @@ mod printing;
 mod reading;
 mod refused;
 
-pub use printing::{print_program, spells_one_program};
+pub use printing::print_program;
 pub use reading::read_program;
 pub use refused::ProgramRefused;
 

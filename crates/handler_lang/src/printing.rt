@@ -1,7 +1,5 @@
 // Programs, printed as texts.
-ghost use Rattle.std.specs.Prelude.{◌≡◌, ◌≤◌, ℕ, List, Ok, IfOk, IsTrue, length};
-ghost use Rattle.lang_tree.specs.Depths.{routes_fit};
-ghost use Rattle.lang_tree.specs.declared.program.Route.{Route};
+ghost use Rattle.std.specs.Prelude.{◌≡◌, ◌≤◌, Ok, IfOk, length};
 ghost use Rattle.handler_grammar.specs.Printing.{text_of};
 ghost use Rattle.handler_lang.specs.Reading.{read_of};
 ghost use Rattle.handler_lang.specs.Spelled.{Spells};
@@ -23,9 +21,3 @@ pub fn print_program(alloc: Global, program: &Program) -> Result<Text, NoMemory>
 {
     print_routes(alloc, program.routes())
 }
-
-/// A law: a text of at most 65,536 bytes spells one program at most.
-#[tactic(auto, using(crate::proofs::Spelled::one_program))]
-pub fn spells_one_program()
-    ensures { (text : List ℕ) (p q : List Route) → IsTrue (routes_fit p) → IsTrue (routes_fit q) → length text ≤ 65536 → Spells text p → Spells text q → p ≡ q }
-{}

@@ -70,7 +70,7 @@ fn read(alloc: Global, text: &str) -> Result<Program, ProgramRefused>
 /// The program that a text of at most 65,536 bytes spells: the one whose tokens are the text's. Another text is refused
 /// at the first byte of the token with which no program goes on, or at its end; of two refusals the one at the lesser
 /// byte is answered.
-#[tactic(auto, using(crate::proofs::Found::read_spells, crate::proofs::Found::only_answer, crate::proofs::MisfitLemmas::first_misfit, crate::proofs::MisfitLemmas::begun_before))]
+#[tactic(auto, using(crate::proofs::Found::read_spells, crate::proofs::Found::only_answer, crate::proofs::MisfitLemmas::first_misfit, crate::proofs::MisfitLemmas::begun_before, crate::proofs::Spelled::one_program))]
 pub fn read_program(alloc: Global, text: &str) -> Result<Program, ProgramRefused>
     // Which program it is, or which refusal and where.
     ensures exact { Answers result (read_of text.now) }
@@ -78,6 +78,8 @@ pub fn read_program(alloc: Global, text: &str) -> Result<Program, ProgramRefused
     ensures found { IfOk result (λ program. Spells text.now program) }
     // What is spelled so is read, unless memory runs out.
     ensures only { (routes : List Route) → IsTrue (routes_fit routes) → Spells text.now routes → length text.now ≤ 65536 → Answers result (Ok routes) }
+    // A text spells one program at most.
+    ensures one { (p q : List Route) → IsTrue (routes_fit p) → IsTrue (routes_fit q) → length text.now ≤ 65536 → Spells text.now p → Spells text.now q → p ≡ q }
     // A refusal stands at the first misfit: whatever stands behind it, it is refused there, and so.
     ensures first { (why : Cause) (at : ℕ) → result ≡ Err (refusal_at why at) → StandsFirst text.now why at }
     // And no earlier than it must: what stands before it begins a program, if one that may nest deeper.

@@ -27,11 +27,14 @@ given token accepted = option_map (λ (a : Accepted). a.ordered) (find (has_toke
 
 -- ---- what an order makes of the entry that it names
 
-abbrev pub strike : Entry → Entry
-strike e = record e { struck = true }
+-- struck, or not any more
+abbrev pub mark : Bool → Entry → Entry
+mark struck e = record e { struck = struck }
 
-abbrev pub restore : Entry → Entry
-restore e = record e { struck = false }
+-- the order that does so
+abbrev pub marking : Bool → ℕ → Command
+marking true id = Cancel id
+marking false id = Restore id
 
 -- another method, path and body; who asked and the chain stay
 abbrev pub with_call : Method → List ℕ → List ℕ → Request → Request
@@ -83,8 +86,8 @@ new_answer s (Create before after request) = if is_full s then Err (Full (length
 
 -- the entries after such an order, accepted
 abbrev pub ordered_entries : Kept → Command → Inputs → List Entry
-ordered_entries s (Cancel id) inputs = changed id strike s.entries
-ordered_entries s (Restore id) inputs = changed id restore s.entries
+ordered_entries s (Cancel id) inputs = changed id (mark true) s.entries
+ordered_entries s (Restore id) inputs = changed id (mark false) s.entries
 ordered_entries s (Replace id method path body) inputs = changed id (replace method path body) s.entries
 ordered_entries s (Create before after request) inputs =
     insert s.entries (place_of before after s.entries) (created (next_id s) request inputs)

@@ -1,5 +1,5 @@
 // Orders over the past: cancelled, restored, replaced and created requests, by the bytes that their scripts print.
-use super::tells;
+use super::{COPIED, COPIED_TOLD, tells};
 use std::test::Fail;
 
 // A request is cancelled, and another put into the past, before the count that scanned their keys.
@@ -77,43 +77,39 @@ const REPEATED_TOLD: &str = "notes ordered t1 notes/1 rule 1\n\
     notes ordered t3 notes/1 rule 1\n\
     notes/1 v0 dead r0 out:ann PUT /n/a = none\n";
 
-// What was cancelled and repaired is restored and repaired again.
-const RESTORED: &str = "ask notes ann PUT /n/a hi\n\
-    ask notes ann POST /copy/a/b\n\
-    ask notes ann GET /n/b\n\
-    cancel notes/1 t1 ann\n\
+// Three requests run again, one after another.
+const FOUR_STEPS: &str = "step notes\n\
     step notes\n\
     step notes\n\
-    step notes\n\
-    step notes\n\
-    restore notes/1 t2 ann\n\
-    step notes\n\
-    step notes\n\
-    step notes\n\
-    step notes\n\
-    rows notes\n\
-    log notes\n\
-    audit\n";
+    step notes\n";
 
-const RESTORED_TOLD: &str = "notes/1 = 200\n\
-    notes/2 = 200 hi\n\
-    notes/3 = 200 hi\n\
-    notes ordered t1 notes/1 rule 1\n\
-    notes ran notes/1\n\
+const THREE_RAN: &str = "notes ran notes/1\n\
     notes ran notes/2\n\
     notes ran notes/3\n\
-    notes idle\n\
-    notes ordered t2 notes/1 rule 1\n\
-    notes ran notes/1\n\
-    notes ran notes/2\n\
-    notes ran notes/3\n\
-    notes idle\n\
-    notes a hi\n\
-    notes b hi\n\
-    notes/1 v0 alive r3 out:ann PUT /n/a = 200\n\
-    notes/2 v0 alive r3 out:ann POST /copy/a/b = 200 hi\n\
-    notes/3 v0 alive r3 out:ann GET /n/b = 200 hi\n\
-    legal\n";
+    notes idle\n";
+
+// What was cancelled and repaired is restored and repaired again.
+const RESTORED: &[&str] = &[
+    COPIED,
+    "cancel notes/1 t1 ann\n",
+    FOUR_STEPS,
+    "restore notes/1 t2 ann\n",
+    FOUR_STEPS,
+    "rows notes\nlog notes\naudit\n",
+];
+
+const RESTORED_TOLD: &[&str] = &[
+    COPIED_TOLD,
+    "notes ordered t1 notes/1 rule 1\n",
+    THREE_RAN,
+    "notes ordered t2 notes/1 rule 1\n",
+    THREE_RAN,
+    "notes a hi\nnotes b hi\n",
+    "notes/1 v0 alive r3 out:ann PUT /n/a = 200\n",
+    "notes/2 v0 alive r3 out:ann POST /copy/a/b = 200 hi\n",
+    "notes/3 v0 alive r3 out:ann GET /n/b = 200 hi\n",
+    "legal\n",
+];
 
 // Another body, with escapes; who asked stays, whoever orders.
 const REPLACED: &str = "ask notes ann PUT /n/a hi\n\
@@ -156,7 +152,7 @@ fn orders_over_the_past(rt: HostRuntime) -> Result<(), Fail> {
     assert!(rt; tells(alloc, &[COUNTED], none, 0, &[COUNTED_TOLD])?);
     assert!(rt; tells(alloc, &[PLACED], none, 0, &[PLACED_TOLD])?);
     assert!(rt; tells(alloc, &[REPEATED], none, 0, &[REPEATED_TOLD])?);
-    assert!(rt; tells(alloc, &[RESTORED], none, 0, &[RESTORED_TOLD])?);
+    assert!(rt; tells(alloc, RESTORED, none, 0, RESTORED_TOLD)?);
     assert!(rt; tells(alloc, &[REPLACED], none, 0, &[REPLACED_TOLD])?);
     Ok(())
 }

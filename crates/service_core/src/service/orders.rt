@@ -4,8 +4,8 @@ ghost use Rattle.lang_core.specs.declared.inputs.Inputs.{Inputs};
 ghost use Rattle.request_log.specs.Entries.{has_id, IsDistinct, with_entry};
 ghost use Rattle.local_repair.specs.Repairs.{IsAmended};
 ghost use Rattle.service_core.specs.Events.{Fits};
-ghost use Rattle.service_core.specs.Orders.{about, created, given, replace, restore, strike, IsNewOrder, IsOrder};
-ghost use Rattle.service_core.specs.declared.answers.Command.TheVariants.{Cancel, Create, Replace, Restore};
+ghost use Rattle.service_core.specs.Orders.{about, created, given, mark, marking, replace, IsNewOrder, IsOrder};
+ghost use Rattle.service_core.specs.declared.answers.Command.TheVariants.{Create, Replace};
 ghost use Rattle.service_core.specs.declared.answers.OrderRefused.TheVariants.{NoMemory as MemoryLacks};
 
 use super::Service;
@@ -15,9 +15,14 @@ use lang_core::{Copied, Inputs, Method, NoMemory, Origin, Request, Seq, Text};
 use request_log::{Entry, Log, LogFull, MOST_ENTRIES};
 use std::alloc::Global;
 
-// The entry of a number, struck; None where there is none.
-fn struck_entry(alloc: Global, log: &Log, id: u64) -> Result<Option<Entry>, NoMemory>
-    ensures entry { IfOk result (λ entry. entry ≡ option_map strike (find (has_id id) log.now.entries)) }
+// The entry of a number, struck or not; None where there is none.
+fn marked_entry(
+    alloc: Global,
+    log: &Log,
+    id: u64,
+    struck: bool,
+) -> Result<Option<Entry>, NoMemory>
+    ensures entry { IfOk result (λ entry. entry ≡ option_map (mark struck) (find (has_id id) log.now.entries)) }
     ensures distinct { IsDistinct log.now.entries }
 {
     // The type of the log keeps that no number stands twice.
@@ -26,23 +31,7 @@ fn struck_entry(alloc: Global, log: &Log, id: u64) -> Result<Option<Entry>, NoMe
         None => Ok(None),
         Some(entry) => {
             let mut entry = entry.copied(alloc)?;
-            entry.struck = true;
-            Ok(Some(entry))
-        }
-    }
-}
-
-// The entry of a number, not struck; None where there is none.
-fn restored_entry(alloc: Global, log: &Log, id: u64) -> Result<Option<Entry>, NoMemory>
-    ensures entry { IfOk result (λ entry. entry ≡ option_map restore (find (has_id id) log.now.entries)) }
-    ensures distinct { IsDistinct log.now.entries }
-{
-    let _entries = log.as_slice();
-    match log.find(id) {
-        None => Ok(None),
-        Some(entry) => {
-            let mut entry = entry.copied(alloc)?;
-            entry.struck = false;
+            entry.struck = struck;
             Ok(Some(entry))
         }
     }
@@ -124,8 +113,8 @@ impl Service {
         ensures setting { self.new.setting ≡ self.old.setting }
     {
         match command {
-            Command::Cancel(id) => self.cancel(alloc, id, token),
-            Command::Restore(id) => self.restore(alloc, id, token),
+            Command::Cancel(id) => self.mark(alloc, id, true, token),
+            Command::Restore(id) => self.mark(alloc, id, false, token),
             Command::Replace {
                 id,
                 method,
@@ -140,21 +129,18 @@ impl Service {
         }
     }
 
-    fn cancel(&mut self, alloc: Global, id: u64, token: Text) -> Result<Ordered, OrderRefused>
-        ensures order { (inputs : Inputs) → IsNewOrder self.old (Cancel id) token inputs result self.new }
+    // Strikes an entry, or takes that back.
+    fn mark(
+        &mut self,
+        alloc: Global,
+        id: u64,
+        struck: bool,
+        token: Text,
+    ) -> Result<Ordered, OrderRefused>
+        ensures order { (inputs : Inputs) → IsNewOrder self.old (marking struck id) token inputs result self.new }
         ensures setting { self.new.setting ≡ self.old.setting }
     {
-        match struck_entry(alloc, self.repairer.log(), id)? {
-            None => Err(OrderRefused::NoSuchRequest(id)),
-            Some(entry) => self.amend(entry, token),
-        }
-    }
-
-    fn restore(&mut self, alloc: Global, id: u64, token: Text) -> Result<Ordered, OrderRefused>
-        ensures order { (inputs : Inputs) → IsNewOrder self.old (Restore id) token inputs result self.new }
-        ensures setting { self.new.setting ≡ self.old.setting }
-    {
-        match restored_entry(alloc, self.repairer.log(), id)? {
+        match marked_entry(alloc, self.repairer.log(), id, struck)? {
             None => Err(OrderRefused::NoSuchRequest(id)),
             Some(entry) => self.amend(entry, token),
         }
