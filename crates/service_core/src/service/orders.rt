@@ -16,12 +16,7 @@ use request_log::{Entry, Log, LogFull, MOST_ENTRIES};
 use std::alloc::Global;
 
 // The entry of a number, struck or not; None where there is none.
-fn marked_entry(
-    alloc: Global,
-    log: &Log,
-    id: u64,
-    struck: bool,
-) -> Result<Option<Entry>, NoMemory>
+fn marked_entry(alloc: Global, log: &Log, id: u64, struck: bool) -> Result<Option<Entry>, NoMemory>
     ensures entry { IfOk result (λ entry. entry ≡ option_map (mark struck) (find (has_id id) log.now.entries)) }
     ensures distinct { IsDistinct log.now.entries }
 {
