@@ -16,9 +16,9 @@ seconds_of() {
 
 # The first number less the second, at least a millisecond.
 less() {
-    echo "$1 $2" | awk '{ d = $1 - $2; printf "%.3f", d > 0.001 ? d : 0.001 }'
+    echo "$1 $2" | awk '{ d = $1 - $2; printf "%.3f", (d > 0.001 ? d : 0.001) }'
 }
 
 ratio() {
-    echo "$1 $2" | awk '{ printf "%.2f", $1 / $2 }'
+    echo "$1 $2" | awk '{ printf "%.3f", $1 / $2 }'
 }

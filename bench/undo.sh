@@ -15,22 +15,26 @@ asks() {
     done
 }
 
-# The order, and the eleven steps that it takes.
-undo() {
-    local i
-    echo "cancel notes/1 t1 root"
-    for ((i = 1; i <= 12; i++)); do
-        echo "step notes"
+# Twenty repairs: the note is cancelled and restored by turns, and each time eleven requests run again.
+repairs() {
+    local i j order
+    for ((i = 1; i <= 20; i++)); do
+        order=cancel
+        if ((i % 2 == 0)); then order=restore; fi
+        echo "$order notes/1 t$i root"
+        for ((j = 1; j <= 12; j++)); do
+            echo "step notes"
+        done
     done
     echo "audit"
 }
 
 for n in 500 1000 2000; do
     asks "$n" >"$folder/asks"
-    (asks "$n"; undo) >"$folder/undone"
+    (asks "$n"; repairs) >"$folder/repaired"
     replay=$(seconds_of @notes "$folder/asks")
-    both=$(seconds_of @notes "$folder/undone")
+    both=$(seconds_of @notes "$folder/repaired")
     [ "$(tail -n 2 "$folder/told" | tr '\n' ' ')" = "notes idle legal " ]
-    repair=$(less "$both" "$replay")
-    echo "$n requests: repair $repair s, all anew $replay s, ratio $(ratio "$repair" "$replay")"
+    repair=$(echo "$(less "$both" "$replay")" | awk '{ printf "%.4f", $1 / 20 }')
+    echo "$n requests: a repair $repair s, all anew $replay s, ratio $(ratio "$repair" "$replay")"
 done
