@@ -1,5 +1,6 @@
 // Whole runs over memory: the worked examples by their bytes, and what happens where the k-th read or write fails.
 mod orders;
+mod programs;
 
 use crate::aire;
 use io_edge::{MemoryFile, MemoryFiles, MemorySink, MemorySource};

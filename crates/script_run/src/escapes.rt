@@ -1,5 +1,6 @@
 // The escapes of a body.
-ghost use Rattle.std.specs.Prelude.{◌≡◌, IfOk};
+ghost use Rattle.std.specs.Prelude.{◌≡◌, ℕ, List, Some, IfOk};
+ghost use Rattle.report_text.specs.Reports.{escaped_body};
 ghost use Rattle.std.specs.Option.{option_map};
 ghost use Rattle.script_run.specs.Escapes.{at_backslash, escape_at, unescaped};
 
@@ -29,9 +30,8 @@ fn cut_escape(text: &str) -> Option<(&'static str, &str)>
     None
 }
 
-/// What a body stands for: `\\`, `\n` and `\r` in it are a backslash, a line feed and a carriage return. None exactly
-/// where it has another use of a backslash.
-pub fn unescaped(alloc: Global, body: &str) -> Result<Option<Text>, NoMemory>
+// Piece by piece.
+fn read_escapes(alloc: Global, body: &str) -> Result<Option<Text>, NoMemory>
     ensures { IfOk result (λ text. text ≡ unescaped body.now) }
 {
     let mut text = String::new(alloc);
@@ -46,4 +46,15 @@ pub fn unescaped(alloc: Global, body: &str) -> Result<Option<Text>, NoMemory>
     }
     text.push_str(rest)?;
     Ok(Some(Text::from(text)))
+}
+
+/// What a body stands for: `\\`, `\n` and `\r` in it are a backslash, a line feed and a carriage return. None exactly
+/// where it has another use of a backslash.
+#[tactic(auto, using(crate::proofs::PrintedBodies::reads_back))]
+pub fn unescaped(alloc: Global, body: &str) -> Result<Option<Text>, NoMemory>
+    ensures text { IfOk result (λ text. text ≡ unescaped body.now) }
+    // A body as it is printed reads back.
+    ensures printed { (text : List ℕ) → body.now ≡ escaped_body text → IfOk result (λ read. read ≡ Some text) }
+{
+    read_escapes(alloc, body)
 }
