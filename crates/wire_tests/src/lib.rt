@@ -1,0 +1,5 @@
+//! Tests of messages as bytes: seals against published vectors, heads and bodies with their refusals, and what is written.
+#![tactic(auto)]
+
+#[cfg(test)]
+mod seals;
