@@ -1,0 +1,12 @@
+//! What services say to one another: calls as they are sent, answers, and what acknowledges them.
+#![tactic(auto)]
+
+mod kinds;
+mod messages;
+mod pairs;
+mod posts;
+
+pub use kinds::{Kind, kind_of, spelling};
+pub use messages::{Ack, AnswerMessage, Confirm, SetMessage};
+pub use pairs::copied_pair;
+pub use posts::{Post, PostName};
