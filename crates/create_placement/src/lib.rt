@@ -4,6 +4,3 @@
 mod placing;
 
 pub use placing::place;
-
-#[cfg(test)]
-mod tests;

@@ -10,6 +10,3 @@ mod text;
 
 pub use program::tokens_of;
 pub use text::print_routes;
-
-#[cfg(test)]
-mod tests;

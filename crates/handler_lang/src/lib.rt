@@ -9,6 +9,3 @@ mod refused;
 pub use printing::print_program;
 pub use reading::read_program;
 pub use refused::ProgramRefused;
-
-#[cfg(test)]
-mod tests;

@@ -20,6 +20,3 @@ pub use handler::run;
 pub use recorded::MOST_READ_BYTES;
 pub use state::{Fault, Ran};
 pub use view::{RowsView, View};
-
-#[cfg(test)]
-mod tests;

@@ -15,6 +15,3 @@ mod writing;
 pub use lexer::{Lexed, lex};
 pub use token::Token;
 pub use writing::write_tokens;
-
-#[cfg(test)]
-mod tests;

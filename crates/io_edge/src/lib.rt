@@ -17,8 +17,6 @@ mod memory;
 mod memory_files;
 mod real_files;
 mod streams;
-#[cfg(test)]
-mod tests;
 mod told;
 mod traits;
 mod whole;

@@ -16,6 +16,3 @@ pub use fault::FaultNote;
 pub use memory::{Copied, NoMemory, Same};
 pub use seq::{Seq, all_same, copied_items};
 pub use text::Text;
-
-#[cfg(test)]
-mod tests;

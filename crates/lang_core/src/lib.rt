@@ -27,6 +27,3 @@ pub use setting::Setting;
 pub use trace::{CallMade, Calls, Read, Reads, Trace};
 pub use value::Value;
 pub use writes::{Write, Writes, apply_writes};
-
-#[cfg(test)]
-mod tests;

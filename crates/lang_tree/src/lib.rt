@@ -13,6 +13,3 @@ pub use method::Method;
 pub use program::{MOST_DEPTH, MOST_SEGMENTS, Program, Route, Routes};
 pub use sqlite_items::{Boxed, Items};
 pub use stmt::{Block, Stmt};
-
-#[cfg(test)]
-mod tests;

@@ -11,6 +11,3 @@ mod traits;
 pub use drawing::{draw, draw_script};
 pub use scripted::{ScriptClock, ScriptWords};
 pub use traits::{Clock, Words};
-
-#[cfg(test)]
-mod tests;

@@ -11,6 +11,3 @@ pub use entries::{answer_line, log_text};
 pub use ids::push_id;
 pub use rows::rows_text;
 pub use verdicts::verdict_text;
-
-#[cfg(test)]
-mod tests;

@@ -184,6 +184,3 @@ impl Copied for Log {
         Ok(Log { items })
     }
 }
-
-#[cfg(test)]
-mod tests;

@@ -8,6 +8,3 @@ mod numbers;
 pub use ids::{print_call_id, print_request_id, read_call_id, read_request_id};
 pub use names::{NameRefused, read_name};
 pub use numbers::read_number;
-
-#[cfg(test)]
-mod tests;

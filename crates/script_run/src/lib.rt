@@ -12,6 +12,3 @@ pub use acting::act;
 pub use line::{Line, LineFault};
 pub use read::read_line;
 pub use script::{ScriptRefused, run_script};
-
-#[cfg(test)]
-mod tests;

@@ -15,6 +15,3 @@ pub use refused::WorldRefused;
 pub use setup::Setup;
 pub use standard::{built_in, notes};
 pub use world::read_world;
-
-#[cfg(test)]
-mod tests;

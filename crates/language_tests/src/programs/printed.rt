@@ -1,5 +1,5 @@
 // Texts, and what is printed of the program that each spells.
-use crate::{print_program, read_program};
+use handler_lang::{print_program, read_program};
 use lang_base::{NoMemory, Text};
 use std::alloc::Global;
 

@@ -1,6 +1,6 @@
 // Lines written by hand, each with what it says or the number of its refusal.
-use crate::{Line, read_line};
 use lang_core::{Method, Name, NoMemory, Request, Text};
+use script_run::{Line, read_line};
 use service_core::Command;
 use std::alloc::{AllocError, Global};
 use std::test::Fail;

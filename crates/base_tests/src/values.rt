@@ -1,4 +1,4 @@
-use crate::{Bytes, Copied, FaultNote, NoMemory, Same, Seq, Text};
+use lang_base::{Bytes, Copied, FaultNote, NoMemory, Same, Seq, Text};
 use std::alloc::Global;
 use std::cmp::Ordering;
 

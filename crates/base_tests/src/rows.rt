@@ -1,4 +1,4 @@
-use crate::{
+use lang_core::{
     Answers, CallId, CallMade, Calls, Cell, Cells, Copied, Method, Name, Names, NoMemory, Origin,
     Program, Read, Reads, Request, RequestId, Response, Routes, Same, Setting, Text, Trace, Value,
     Write, Writes, apply_writes, is_who, row_get, row_scan,

@@ -1,6 +1,6 @@
 ghost use Rattle.std.specs.Prelude.{◌≡◌, IfOk};
 
-use crate::place;
+use create_placement::place;
 use lang_core::{Inputs, Method, NoMemory, Origin, Request, Seq, Text};
 use request_log::{Entry, Log};
 use std::alloc::Global;

@@ -3,11 +3,11 @@ ghost use Rattle.std.specs.Prelude.{◌≡◌};
 ghost use Rattle.std.specs.Option.{is_some};
 ghost use Rattle.request_log.specs.Entries.{find_call};
 
-use crate::{answer_line, log_text, rows_text, verdict_text};
 use journal_rows::{Outstanding, Verdict};
 use lang_core::{
     Cell, Cells, Inputs, Method, Name, Names, NoMemory, Origin, Request, Response, Seq, Text,
 };
+use report_text::{answer_line, log_text, rows_text, verdict_text};
 use request_log::{Entry, Log, Made, dead_trace};
 use std::alloc::Global;
 use std::process::Abort;

@@ -3,7 +3,7 @@ ghost use Rattle.std.specs.Prelude.{◌≡◌, ◌≤◌, OnOk};
 ghost use Rattle.std.specs.Option.{ForSome};
 ghost use Rattle.io_edge.specs.Edge.{Wrote};
 
-use crate::{
+use io_edge::{
     Connection, Failed, Files, LoadRefused, MemoryConnection, MemoryFile, MemoryFiles, MemorySink,
     MemorySource, ReadRefused, Reading, RealFiles, Sink, Source, Writing, read_all, write_all,
 };

@@ -3,7 +3,7 @@ mod printed;
 mod statements;
 mod told;
 
-use crate::{ProgramRefused, read_program};
+use handler_lang::{ProgramRefused, read_program};
 use lang_base::NoMemory;
 use statements::STATEMENTS;
 use std::alloc::Global;

@@ -1,5 +1,5 @@
 // Texts and their tokens.
-use crate::{Token, lex, write_tokens};
+use handler_tokens::{Token, lex, write_tokens};
 use lang_base::NoMemory;
 use lang_tree::Method;
 use std::alloc::Global;

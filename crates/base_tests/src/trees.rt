@@ -1,7 +1,7 @@
-use crate::{
+use lang_base::{Copied, NoMemory, Text};
+use lang_tree::{
     Block, Boxed, Expr, Items, Method, Program, Route, Routes, Stmt, is_literal, is_path, is_word,
 };
-use lang_base::{Copied, NoMemory, Text};
 use std::alloc::Global;
 
 fn repeated(alloc: Global, first: &str, byte: char, times: u64) -> Result<Text, NoMemory> {

@@ -1,4 +1,4 @@
-use crate::{
+use request_names::{
     NameRefused, print_call_id, print_request_id, read_call_id, read_name, read_number,
     read_request_id,
 };

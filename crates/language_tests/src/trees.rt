@@ -1,4 +1,4 @@
-use crate::print_routes;
+use handler_grammar::print_routes;
 use lang_base::{NoMemory, Text};
 use lang_tree::{Block, Boxed, Expr, Items, Method, Op, Program, Route, Routes, Stmt};
 use std::alloc::Global;

@@ -1,10 +1,9 @@
 ghost use Rattle.std.specs.Prelude.{◌≡◌, IfOk, IsTrue};
 ghost use Rattle.request_log.specs.Entries.{IsNew, IsKnown};
 
-use super::*;
-use crate::entry::dead_trace;
-use crate::{Made, Numbers};
-use lang_core::{Inputs, Method, Names, Request, Text};
+use lang_core::{Copied, Inputs, Method, Name, Names, NoMemory, Origin, Request, Same, Text};
+use request_log::{Entry, Log, Made, Numbers, dead_trace};
+use std::alloc::Global;
 
 fn origin(alloc: Global, number: u64) -> Result<Origin, NoMemory> {
     match Name::new(Text::of(alloc, "shop")?) {

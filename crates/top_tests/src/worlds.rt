@@ -1,7 +1,7 @@
 // World files with what they are refused for, and what stands in those that aren't.
-use crate::{Setup, built_in, read_world};
 use std::alloc::{AllocError, Global};
 use std::test::Fail;
+use world_file::{Setup, built_in, read_world};
 
 // The fields of a good service, as a file has them.
 const FIELDS: [(&str, &str); 7] = [

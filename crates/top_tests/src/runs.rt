@@ -2,7 +2,7 @@
 mod orders;
 mod programs;
 
-use crate::aire;
+use aire_top::aire;
 use io_edge::{MemoryFile, MemoryFiles, MemorySink, MemorySource};
 use lang_core::{Bytes, Seq, Text};
 use std::alloc::{AllocError, Global};

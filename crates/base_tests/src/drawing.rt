@@ -1,4 +1,4 @@
-use crate::{ScriptClock, ScriptWords, draw_script};
+use recorded_inputs::{ScriptClock, ScriptWords, draw_script};
 
 #[test]
 fn inputs_are_drawn(rt: HostRuntime) {

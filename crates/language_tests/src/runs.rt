@@ -3,7 +3,7 @@ mod limits;
 mod rows;
 mod words;
 
-use crate::{Ran, RowsView, run};
+use handler_run::{Ran, RowsView, run};
 use lang_core::{
     Answers, Cell, Cells, Inputs, Method, Name, Names, Program, Request, Response, Route, Routes,
     Same, Setting, Text, Trace,

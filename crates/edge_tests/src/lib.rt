@@ -1,0 +1,5 @@
+//! Tests of sources, sinks and files.
+#![tactic(auto)]
+
+#[cfg(test)]
+mod edge;

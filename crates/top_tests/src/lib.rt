@@ -1,0 +1,9 @@
+//! Tests of world files, of a script's lines, and of whole runs.
+#![tactic(auto)]
+
+#[cfg(test)]
+mod lines;
+#[cfg(test)]
+mod runs;
+#[cfg(test)]
+mod worlds;
