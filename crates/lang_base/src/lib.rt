@@ -13,6 +13,6 @@ mod values;
 
 pub use bytes::Bytes;
 pub use fault::FaultNote;
-pub use memory::{Copied, NoMemory, Same};
+pub use memory::{Copied, NoMemory, Same, both};
 pub use seq::{Seq, all_same, copied_items};
 pub use text::Text;

@@ -1,5 +1,5 @@
 // Want of memory, copies and equality.
-ghost use Rattle.std.specs.Prelude.{◌≡◌, ◌↔◌, IfOk, IsTrue};
+ghost use Rattle.std.specs.Prelude.{◌≡◌, ◌↔◌, ◌⊎◌, Ok, Err, IfOk, IfErr, IsTrue};
 
 use std::alloc::{AllocError, AllocFailed, Global};
 
@@ -31,4 +31,21 @@ pub trait Same {
     /// Whether the two are equal.
     fn is(&self, other: &Self) -> bool
         ensures { IsTrue result ↔ (self.now ≡ other.now) };
+}
+
+/// Both values, where both are there. So parts that need memory are each made first, and tested together.
+pub fn both<A: Drop, B: Drop>(
+    first: Result<A, NoMemory>,
+    second: Result<B, NoMemory>,
+) -> Result<(A, B), NoMemory>
+    ensures ok { IfOk result (λ pair. (first ≡ Ok pair.0) × (second ≡ Ok pair.1)) }
+    ensures err { IfErr result (λ why. (first ≡ Err why) ⊎ (second ≡ Err why)) }
+{
+    match first {
+        Ok(left) => match second {
+            Ok(right) => Ok((left, right)),
+            Err(why) => Err(why),
+        },
+        Err(why) => Err(why),
+    }
 }

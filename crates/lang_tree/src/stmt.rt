@@ -1,9 +1,10 @@
 // Statements and blocks.
-ghost use Rattle.std.specs.Prelude.{◌≡◌, IfOk};
+ghost use Rattle.std.specs.Prelude.{◌≡◌, IfOk, IsOkAnd};
+ghost use Rattle.lang_tree.specs.declared.stmt.Stmt.TheVariants as stmt;
 
 use crate::expr::Expr;
 use crate::method::Method;
-use lang_base::{Copied, NoMemory, Text};
+use lang_base::{Copied, NoMemory, Text, both};
 use sqlite_items::Items;
 use std::alloc::Global;
 
@@ -78,73 +79,134 @@ pub struct Block {
     pub stmts: Items<Stmt>,
 }
 
-impl Copied for Stmt {
-    #[cycle(copy)]
-    fn copied(&self, alloc: Global) -> Result<Stmt, NoMemory> {
-        match self {
-            Stmt::Let { var, value } => Ok(Stmt::Let {
-                var: var.copied(alloc)?,
-                value: value.copied(alloc)?,
-            }),
-            Stmt::Get { var, table, key } => Ok(Stmt::Get {
-                var: var.copied(alloc)?,
-                table: table.copied(alloc)?,
-                key: key.copied(alloc)?,
-            }),
-            Stmt::Put { table, key, value } => Ok(Stmt::Put {
-                table: table.copied(alloc)?,
-                key: key.copied(alloc)?,
-                value: value.copied(alloc)?,
-            }),
-            Stmt::Drop { table, key } => Ok(Stmt::Drop {
-                table: table.copied(alloc)?,
-                key: key.copied(alloc)?,
-            }),
-            Stmt::Each {
-                key,
-                text,
-                table,
-                prefix,
-                block,
-            } => Ok(Stmt::Each {
-                key: key.copied(alloc)?,
-                text: text.copied(alloc)?,
-                table: table.copied(alloc)?,
-                prefix: prefix.copied(alloc)?,
-                block: block.copied(alloc)?,
-            }),
-            Stmt::If { test, then, other } => Ok(Stmt::If {
-                test: test.copied(alloc)?,
-                then: then.copied(alloc)?,
-                other: copied_other(alloc, other)?,
-            }),
-            Stmt::Call {
-                status,
-                answer,
-                dest,
-                method,
-                path,
-                body,
-            } => Ok(Stmt::Call {
-                status: status.copied(alloc)?,
-                answer: answer.copied(alloc)?,
-                dest: dest.copied(alloc)?,
-                method: *method,
-                path: path.copied(alloc)?,
-                body: body.copied(alloc)?,
-            }),
-            Stmt::Now { var } => Ok(Stmt::Now {
-                var: var.copied(alloc)?,
-            }),
-            Stmt::Random { var } => Ok(Stmt::Random {
-                var: var.copied(alloc)?,
-            }),
-            Stmt::Reply { status, body } => Ok(Stmt::Reply {
-                status: status.copied(alloc)?,
-                body: body.copied(alloc)?,
-            }),
-        }
-    }
+// Each form is copied by a function of its own, and no part is held while another may fail: so proofs stay small.
+
+fn copied_let(alloc: Global, var: &Text, value: &Expr) -> Result<Stmt, NoMemory>
+    ensures { IfOk result (λ copy. copy ≡ stmt.Let var.now value.now) }
+{
+    let (var, value) = both(var.copied(alloc), value.copied(alloc))?;
+    Ok(Stmt::Let { var, value })
+}
+
+fn copied_get(alloc: Global, var: &Text, table: &Text, key: &Expr) -> Result<Stmt, NoMemory>
+    ensures { IfOk result (λ copy. copy ≡ stmt.Get var.now table.now key.now) }
+{
+    let words = both(var.copied(alloc), table.copied(alloc));
+    let (words, key) = both(words, key.copied(alloc))?;
+    Ok(Stmt::Get {
+        var: words.0,
+        table: words.1,
+        key,
+    })
+}
+
+fn copied_put(alloc: Global, table: &Text, key: &Expr, value: &Expr) -> Result<Stmt, NoMemory>
+    ensures { IfOk result (λ copy. copy ≡ stmt.Put table.now key.now value.now) }
+{
+    let row = both(key.copied(alloc), value.copied(alloc));
+    let (table, row) = both(table.copied(alloc), row)?;
+    Ok(Stmt::Put {
+        table,
+        key: row.0,
+        value: row.1,
+    })
+}
+
+fn copied_drop(alloc: Global, table: &Text, key: &Expr) -> Result<Stmt, NoMemory>
+    ensures { IfOk result (λ copy. copy ≡ stmt.Drop table.now key.now) }
+{
+    let (table, key) = both(table.copied(alloc), key.copied(alloc))?;
+    Ok(Stmt::Drop { table, key })
+}
+
+fn copied_call(
+    alloc: Global,
+    status: &Text,
+    answer: &Text,
+    dest: &Expr,
+    method: Method,
+    path: &Expr,
+    body: &Expr,
+) -> Result<Stmt, NoMemory>
+    ensures { IfOk result (λ copy. copy ≡ stmt.Call status.now answer.now dest.now method path.now body.now) }
+{
+    let words = both(status.copied(alloc), answer.copied(alloc));
+    let sent = both(path.copied(alloc), body.copied(alloc));
+    let (head, sent) = both(both(words, dest.copied(alloc)), sent)?;
+    let (words, dest) = head;
+    Ok(Stmt::Call {
+        status: words.0,
+        answer: words.1,
+        dest,
+        method,
+        path: sent.0,
+        body: sent.1,
+    })
+}
+
+fn copied_now(alloc: Global, var: &Text) -> Result<Stmt, NoMemory>
+    ensures { IfOk result (λ copy. copy ≡ stmt.Now var.now) }
+{
+    Ok(Stmt::Now {
+        var: var.copied(alloc)?,
+    })
+}
+
+fn copied_random(alloc: Global, var: &Text) -> Result<Stmt, NoMemory>
+    ensures { IfOk result (λ copy. copy ≡ stmt.Random var.now) }
+{
+    Ok(Stmt::Random {
+        var: var.copied(alloc)?,
+    })
+}
+
+fn copied_reply(alloc: Global, status: &Expr, body: &Expr) -> Result<Stmt, NoMemory>
+    ensures { IfOk result (λ copy. copy ≡ stmt.Reply status.now body.now) }
+{
+    let (status, body) = both(status.copied(alloc), body.copied(alloc))?;
+    Ok(Stmt::Reply { status, body })
+}
+
+// What stands before the block of an `each`.
+type EachHead = ((Text, Text), (Text, Expr));
+
+fn copied_head(
+    alloc: Global,
+    key: &Text,
+    text: &Text,
+    table: &Text,
+    prefix: &Expr,
+) -> Result<EachHead, NoMemory>
+    ensures { IfOk result (λ copy. copy ≡ ((key.now, text.now), (table.now, prefix.now))) }
+{
+    let words = both(key.copied(alloc), text.copied(alloc));
+    let scan = both(table.copied(alloc), prefix.copied(alloc));
+    both(words, scan)
+}
+
+fn each_of(parts: Result<(EachHead, Block), NoMemory>) -> Result<Stmt, NoMemory>
+    ensures { IfOk result (λ copy. IsOkAnd parts (λ p. copy ≡ stmt.Each p.0.0.0 p.0.0.1 p.0.1.0 p.0.1.1 p.1)) }
+{
+    let (head, block) = parts?;
+    let (words, scan) = head;
+    Ok(Stmt::Each {
+        key: words.0,
+        text: words.1,
+        table: scan.0,
+        prefix: scan.1,
+        block,
+    })
+}
+
+fn if_of(parts: Result<(Expr, (Block, Option<Block>)), NoMemory>) -> Result<Stmt, NoMemory>
+    ensures { IfOk result (λ copy. IsOkAnd parts (λ p. copy ≡ stmt.If p.0 p.1.0 p.1.1)) }
+{
+    let (test, blocks) = parts?;
+    Ok(Stmt::If {
+        test,
+        then: blocks.0,
+        other: blocks.1,
+    })
 }
 
 #[cycle(copy)]
@@ -154,6 +216,43 @@ fn copied_other(alloc: Global, other: &Option<Block>) -> Result<Option<Block>, N
     match other {
         None => Ok(None),
         Some(block) => Ok(Some(block.copied(alloc)?)),
+    }
+}
+
+impl Copied for Stmt {
+    #[cycle(copy)]
+    fn copied(&self, alloc: Global) -> Result<Stmt, NoMemory> {
+        match self {
+            Stmt::Let { var, value } => copied_let(alloc, var, value),
+            Stmt::Get { var, table, key } => copied_get(alloc, var, table, key),
+            Stmt::Put { table, key, value } => copied_put(alloc, table, key, value),
+            Stmt::Drop { table, key } => copied_drop(alloc, table, key),
+            Stmt::Each {
+                key,
+                text,
+                table,
+                prefix,
+                block,
+            } => {
+                let head = copied_head(alloc, key, text, table, prefix);
+                each_of(both(head, block.copied(alloc)))
+            }
+            Stmt::If { test, then, other } => {
+                let blocks = both(then.copied(alloc), copied_other(alloc, other));
+                if_of(both(test.copied(alloc), blocks))
+            }
+            Stmt::Call {
+                status,
+                answer,
+                dest,
+                method,
+                path,
+                body,
+            } => copied_call(alloc, status, answer, dest, *method, path, body),
+            Stmt::Now { var } => copied_now(alloc, var),
+            Stmt::Random { var } => copied_random(alloc, var),
+            Stmt::Reply { status, body } => copied_reply(alloc, status, body),
+        }
     }
 }
 
