@@ -20,7 +20,7 @@ fn words_of(rt: &(impl Env + AllocGlobal), alloc: Global) -> io::Result<Vec<Stri
 fn main(rt: HostRuntime) -> io::Result<ExitCode> {
     let alloc = rt.alloc();
     let words = words_of(&rt, alloc)?;
-    let mut files = RealFiles::new(&rt);
+    let mut files = RealFiles::new(alloc, &rt);
     let mut input = Reading::new(rt.reader());
     let mut out = Writing::new(io::writer(&rt));
     let ended = aire(alloc, &words, &mut files, &mut input, &mut out);

@@ -1,5 +1,5 @@
 // What no clause says: that calls succeed with memory at hand, and where faults fall in mid-stream.
-ghost use Rattle.std.specs.Prelude.{◌≡◌, ◌≤◌, OnOk};
+ghost use Rattle.std.specs.Prelude.{◌≡◌, ◌<◌, ◌≤◌, OnOk};
 ghost use Rattle.std.specs.Option.{ForSome};
 ghost use Rattle.io_edge.specs.Edge.{Wrote};
 
@@ -7,39 +7,51 @@ use io_edge::{
     Connection, Failed, Files, LoadRefused, MemoryConnection, MemoryFile, MemoryFiles, MemorySink,
     MemorySource, ReadRefused, Reading, RealFiles, Sink, Source, Writing, read_all, write_all,
 };
-use lang_base::{Bytes, Seq, Text};
-use std::alloc::Global;
+use lang_base::{Bytes, NoMemory, Seq, Text};
+use std::alloc::{AllocError, Global};
 use std::collections::VecDeque;
-use std::io;
 use std::test::Fail;
+use std::{fs, io};
+
+// Whether `journal`, read in pieces of at most so many bytes, comes whole within the limit.
+fn comes_whole(alloc: Global, most: usize, limit: u64) -> Result<bool, AllocError>
+    requires { 0 < most }
+{
+    let bytes = b"journal".to_vec(alloc)?;
+    let mut source = MemorySource::in_pieces(bytes, most, Vec::new(alloc));
+    let whole = match read_all(alloc, &mut source, limit) {
+        Ok(bytes) => bytes.as_slice() == b"journal".as_slice(),
+        Err(_) => false,
+    };
+    let kept = source.whole() == b"journal".as_slice();
+    Ok(whole && kept && source.left().is_empty() && source.faults() == 0)
+}
+
+// Whether it is refused as too long, with this left.
+fn leaves(alloc: Global, most: usize, limit: u64, left: &str) -> Result<bool, AllocError>
+    requires { 0 < most }
+{
+    let bytes = b"journal".to_vec(alloc)?;
+    let mut source = MemorySource::in_pieces(bytes, most, Vec::new(alloc));
+    let refused = matches!(
+        read_all(alloc, &mut source, limit),
+        Err(ReadRefused::TooLong)
+    );
+    Ok(refused && source.left() == left.as_bytes() && source.faults() == 0)
+}
 
 // Reads whole in pieces, up to the limit and one byte over it.
 #[test]
 fn reads_up_to_the_limit(rt: HostRuntime) -> Result<(), Fail> {
-    let text = b"journal";
-    for (most, limit, left) in [
-        (1, 7, None),
-        (3, 8, None),
-        (usize::MAX, 7, None),
-        (1, 6, Some("")),
-        (usize::MAX, 3, Some("nal")),
-        (2, 0, Some("ournal")),
-    ] {
-        let bytes = text.to_vec(rt.alloc())?;
-        let mut source = MemorySource::in_pieces(bytes, most, Vec::new(rt.alloc()));
-        let got = read_all(rt.alloc(), &mut source, limit);
-        match left {
-            None => assert_eq!(rt; got?.as_slice(), text.as_slice(), "{most} {limit}"),
-            Some(left) => {
-                assert!(rt; matches!(got, Err(ReadRefused::TooLong)), "{most} {limit}");
-                assert_eq!(rt; source.left(), left.as_bytes(), "{most} {limit}");
-            }
-        }
-        assert_eq!(rt; source.faults(), 0);
-        assert_eq!(rt; source.whole(), text.as_slice());
-    }
-    let mut nothing = MemorySource::new(Vec::new(rt.alloc()), Vec::new(rt.alloc()));
-    assert_eq!(rt; read_all(rt.alloc(), &mut nothing, 0)?.len(), 0);
+    let alloc = rt.alloc();
+    assert!(rt; comes_whole(alloc, 1, 7)?);
+    assert!(rt; comes_whole(alloc, 3, 8)?);
+    assert!(rt; comes_whole(alloc, usize::MAX, 7)?);
+    assert!(rt; leaves(alloc, 1, 6, "")?);
+    assert!(rt; leaves(alloc, usize::MAX, 3, "nal")?);
+    assert!(rt; leaves(alloc, 2, 0, "ournal")?);
+    let mut nothing = MemorySource::new(Vec::new(alloc), Vec::new(alloc));
+    assert_eq!(rt; read_all(alloc, &mut nothing, 0)?.len(), 0);
     Ok(())
 }
 
@@ -73,11 +85,11 @@ fn writes_on_after_a_fault(rt: HostRuntime) -> Result<(), Fail> {
 // What a peer sends, sent back to it: a read keeps what was written, and a write what there was to
 // read.
 fn echo<C: Connection>(alloc: Global, connection: &mut C) -> Result<(), ReadRefused>
-    ensures echoed { OnOk result (ForSome (C.left connection.old) (λ bytes.
-        Wrote (C.written connection.old) (C.written connection.new) bytes)) }
-    ensures whole { C.whole connection.new ≡ C.whole connection.old }
-    ensures reads { C.Source.faults connection.old ≤ C.Source.faults connection.new }
-    ensures writes { C.Sink.faults connection.old ≤ C.Sink.faults connection.new }
+    ensures echoed { OnOk result (ForSome (C.reads connection.old).left (λ bytes.
+        Wrote (C.writes connection.old) (C.writes connection.new) bytes)) }
+    ensures whole { (C.reads connection.new).whole ≡ (C.reads connection.old).whole }
+    ensures reads { (C.reads connection.old).faults ≤ (C.reads connection.new).faults }
+    ensures writes { (C.writes connection.old).faults ≤ (C.writes connection.new).faults }
 {
     let bytes = read_all(alloc, connection, 100)?;
     write_all(connection, &bytes)?;
@@ -166,26 +178,53 @@ fn counts_faults_of_readers_and_writers(rt: HostRuntime) -> Result<(), Fail> {
     Ok(())
 }
 
+// Whether a load gives this text.
+fn gives<F: Files>(alloc: Global, files: &mut F, path: &str, limit: u64, text: &str) -> bool {
+    match files.load(alloc, path, limit) {
+        Ok(bytes) => bytes.as_slice() == text.as_bytes(),
+        Err(_) => false,
+    }
+}
+
+// Whether a load is refused so.
+fn refuses<F: Files>(
+    alloc: Global,
+    files: &mut F,
+    path: &str,
+    limit: u64,
+    why: LoadRefused,
+) -> bool {
+    match files.load(alloc, path, limit) {
+        Ok(_) => false,
+        Err(refused) => refused == why,
+    }
+}
+
+fn file_of(alloc: Global, path: &str, text: &str) -> Result<MemoryFile, NoMemory> {
+    let path = Text::of(alloc, path)?;
+    let bytes = Bytes::of(alloc, text.as_bytes())?;
+    Ok(MemoryFile { path, bytes })
+}
+
 // Files in memory are loaded up to the limit, the first of two with one path, and the third load
-// fails.
+// fails. Each path is kept, whatever the answer.
 #[test]
 fn loads_files_in_memory(rt: HostRuntime) -> Result<(), Fail> {
     let alloc = rt.alloc();
     let mut named = Seq::new(alloc);
-    for (path, bytes) in [("a", b"first"), ("b", b"other"), ("a", b"later")] {
-        named.push(MemoryFile {
-            path: Text::of(alloc, path)?,
-            bytes: Bytes::of(alloc, bytes.as_slice())?,
-        })?;
-    }
+    named.push(file_of(alloc, "a", "first")?)?;
+    named.push(file_of(alloc, "b", "other")?)?;
+    named.push(file_of(alloc, "a", "later")?)?;
     let mut files = MemoryFiles::new(named, vec![in alloc; 3]?);
-    assert_eq!(rt; files.load(alloc, "a", 5)?.as_slice(), b"first".as_slice());
-    assert!(rt; matches!(files.load(alloc, "b", 4), Err(LoadRefused::TooLong)));
-    assert!(rt; matches!(files.load(alloc, "b", 5), Err(LoadRefused::Failed)));
+    assert!(rt; gives(alloc, &mut files, "a", 5, "first"));
+    assert!(rt; refuses(alloc, &mut files, "b", 4, LoadRefused::TooLong));
+    assert!(rt; refuses(alloc, &mut files, "b", 5, LoadRefused::Failed));
     assert_eq!(rt; files.faults(), 1);
-    assert_eq!(rt; files.load(alloc, "b", 9)?.as_slice(), b"other".as_slice());
-    assert!(rt; matches!(files.load(alloc, "c", 5), Err(LoadRefused::Failed)));
+    assert!(rt; gives(alloc, &mut files, "b", 9, "other"));
+    assert!(rt; refuses(alloc, &mut files, "c", 5, LoadRefused::Failed));
     assert_eq!(rt; files.faults(), 2);
+    assert_eq!(rt; files.asked().len(), 5);
+    assert_eq!(rt; files.asked()[4].as_str(), "c");
     Ok(())
 }
 
@@ -193,16 +232,42 @@ fn loads_files_in_memory(rt: HostRuntime) -> Result<(), Fail> {
 #[test]
 fn loads_real_files(rt: HostRuntime) -> Result<(), Fail> {
     let alloc = rt.alloc();
-    let mut files = RealFiles::new(&rt);
-    assert_eq!(rt; files.load(alloc, "/dev/null", 0)?.as_slice().len(), 0);
-    assert!(rt; matches!(files.load(alloc, "/dev/zero", 9), Err(LoadRefused::TooLong)));
+    let mut files = RealFiles::new(alloc, &rt);
+    assert!(rt; gives(alloc, &mut files, "/dev/null", 0, ""));
+    assert!(rt; refuses(alloc, &mut files, "/dev/zero", 9, LoadRefused::TooLong));
     assert_eq!(rt; files.faults(), 0);
-    for missing in ["/no/such/file", "/dev", ""] {
-        assert!(rt;
-            matches!(files.load(alloc, missing, 9), Err(LoadRefused::Failed)),
-            "{missing}"
-        );
-    }
+    assert!(rt; refuses(alloc, &mut files, "/no/such/file", 9, LoadRefused::Failed));
+    assert!(rt; refuses(alloc, &mut files, "/dev", 9, LoadRefused::Failed));
+    assert!(rt; refuses(alloc, &mut files, "", 9, LoadRefused::Failed));
     assert_eq!(rt; files.faults(), 3);
+    Ok(())
+}
+
+// A real file is loaded up to the limit, and its path is taken as it stands, with a space at its
+// end.
+#[test]
+fn loads_a_path_that_ends_in_a_space(rt: HostRuntime) -> Result<(), Fail> {
+    let alloc = rt.alloc();
+    fs::write(&rt, "a file of edge_tests ", "nine more")?;
+    let mut files = RealFiles::new(alloc, &rt);
+    let whole = gives(alloc, &mut files, "a file of edge_tests ", 9, "nine more");
+    let long = refuses(
+        alloc,
+        &mut files,
+        "a file of edge_tests ",
+        8,
+        LoadRefused::TooLong,
+    );
+    let other = refuses(
+        alloc,
+        &mut files,
+        "a file of edge_tests",
+        9,
+        LoadRefused::Failed,
+    );
+    fs::remove_file(&rt, "a file of edge_tests ")?;
+    assert!(rt; whole);
+    assert!(rt; long);
+    assert!(rt; other);
     Ok(())
 }

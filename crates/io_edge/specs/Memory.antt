@@ -1,5 +1,6 @@
 -- What a source and a sink in memory tell.
-use Rattle.std.specs.Prelude.{ℕ, List, drop, length, min}
+use Rattle.std.specs.Prelude.{ℕ, List, Some, drop, length, min}
+use Rattle.io_edge.specs.Edge.{Reads, Writes}
 use Rattle.io_edge.specs.declared.told.Told.{Told}
 use Rattle.io_edge.specs.declared.memory.MemorySource.{MemorySource}
 use Rattle.io_edge.specs.declared.memory.MemorySink.{MemorySink}
@@ -15,6 +16,10 @@ source_whole s = s.bytes.items
 -- how many of its reads have failed
 abbrev pub source_faults : MemorySource → ℕ
 source_faults s = s.calls.faults
+
+-- all that it tells
+abbrev pub source_reads : MemorySource → Reads
+source_reads s = record { left = Some (source_left s); whole = Some (source_whole s); faults = source_faults s }
 
 -- the reads that are to fail, and how many were made
 abbrev pub source_calls : MemorySource → Told
@@ -35,6 +40,10 @@ sink_bytes s = s.bytes.items
 -- how many of its writes have failed
 abbrev pub sink_faults : MemorySink → ℕ
 sink_faults s = s.calls.faults
+
+-- all that it tells
+abbrev pub sink_writes : MemorySink → Writes
+sink_writes s = record { written = Some (sink_bytes s); faults = sink_faults s }
 
 -- the writes that are to fail, and how many were made
 abbrev pub sink_calls : MemorySink → Told

@@ -25,16 +25,9 @@ impl MemoryConnection {
 }
 
 impl Source for MemoryConnection {
-    ghost left = { λ c. ⟦<MemorySource as Source>⟧.left c.source };
+    ghost reads = { λ c. ⟦<MemorySource as Source>⟧.reads c.source };
 
-    ghost whole = { λ c. ⟦<MemorySource as Source>⟧.whole c.source };
-
-    ghost faults = { λ c. ⟦<MemorySource as Source>⟧.faults c.source };
-
-    ghost beside = { λ c. (
-      ⟦<MemorySink as Sink>⟧.written c.sink,
-      ⟦<MemorySink as Sink>⟧.faults c.sink,
-    ) };
+    ghost beside = { λ c. ⟦<MemorySink as Sink>⟧.writes c.sink };
 
     fn read(&mut self, into: &mut [u8]) -> Result<u64, Failed> {
         self.source.read(into)
@@ -42,15 +35,9 @@ impl Source for MemoryConnection {
 }
 
 impl Sink for MemoryConnection {
-    ghost written = { λ c. ⟦<MemorySink as Sink>⟧.written c.sink };
+    ghost writes = { λ c. ⟦<MemorySink as Sink>⟧.writes c.sink };
 
-    ghost faults = { λ c. ⟦<MemorySink as Sink>⟧.faults c.sink };
-
-    ghost beside = { λ c. (
-      ⟦<MemorySource as Source>⟧.left c.source,
-      ⟦<MemorySource as Source>⟧.whole c.source,
-      ⟦<MemorySource as Source>⟧.faults c.source,
-    ) };
+    ghost beside = { λ c. ⟦<MemorySource as Source>⟧.reads c.source };
 
     fn write(&mut self, bytes: &[u8]) -> Result<u64, Failed> {
         self.sink.write(bytes)

@@ -1,6 +1,6 @@
 // A source and a sink in memory. Each tells its bytes, and fails at the calls that it is told to.
 ghost use Rattle.std.specs.Prelude.{◌≡◌, ◌+◌, ◌<◌, ◌≤◌, ◌↔◌, ℕ, List, Some, [], drop, length, take, min, IsErr, IfOk, OnErr};
-ghost use Rattle.io_edge.specs.Edge.{Took, IsAtEnd, Wrote, Rose};
+ghost use Rattle.io_edge.specs.Edge.{Took, IsAtEnd, Wrote, ReadFails, WriteFails};
 
 use crate::told::Told;
 use crate::{Failed, Sink, Source};
@@ -76,26 +76,22 @@ impl MemorySource {
 }
 
 impl Source for MemorySource {
-    ghost use Rattle.io_edge.specs.Memory.{source_left, source_whole, source_faults, source_most, source_calls, read_count};
+    ghost use Rattle.io_edge.specs.Memory.{source_left, source_whole, source_faults, source_reads, source_most, source_calls, read_count};
     ghost use Rattle.io_edge.specs.Told.{one_more, IsToldToFail};
 
-    ghost left = { λ s. Some (source_left s) };
-
-    ghost whole = { λ s. Some (source_whole s) };
-
-    ghost faults = { λ s. source_faults s };
+    ghost reads = { λ s. source_reads s };
 
     fn read(&mut self, into: &mut [u8]) -> Result<u64, Failed>
         // The trait's clauses.
         ensures bound { IfOk result (λ n. n ≤ length into.new) }
         ensures took { IfOk result (λ n.
-            Took (Some (source_left self.old)) (Some (source_left self.new)) (take n into.new)) }
+            Took (source_reads self.old) (source_reads self.new) (take n into.new)) }
         ensures end { IfOk result (λ n. n ≡ 0 → 0 < length into.new
-            → IsAtEnd (Some (source_left self.new))) }
+            → IsAtEnd (source_reads self.new)) }
         ensures err { OnErr result (source_left self.new ≡ source_left self.old) }
         ensures whole { source_whole self.new ≡ source_whole self.old }
         ensures counted { source_faults self.old ≤ source_faults self.new }
-        ensures failed { OnErr result (Rose (source_faults self.old) (source_faults self.new)) }
+        ensures failed { OnErr result (ReadFails (source_reads self.old) (source_reads self.new)) }
 
         // It fails exactly where it is told to, and gives as much as it may.
         ensures told { IsErr result ↔ IsToldToFail (source_calls self.old) }
@@ -173,23 +169,21 @@ impl MemorySink {
 }
 
 impl Sink for MemorySink {
-    ghost use Rattle.io_edge.specs.Memory.{sink_bytes, sink_faults, sink_most, sink_calls};
+    ghost use Rattle.io_edge.specs.Memory.{sink_bytes, sink_faults, sink_writes, sink_most, sink_calls};
     ghost use Rattle.io_edge.specs.Told.{one_more, IsToldToFail};
 
-    ghost written = { λ s. Some (sink_bytes s) };
-
-    ghost faults = { λ s. sink_faults s };
+    ghost writes = { λ s. sink_writes s };
 
     fn write(&mut self, bytes: &[u8]) -> Result<u64, Failed>
         // The trait's clauses.
         ensures bound { IfOk result (λ n. n ≤ length bytes.now) }
         ensures wrote { IfOk result (λ n.
-            Wrote (Some (sink_bytes self.old)) (Some (sink_bytes self.new)) (take n bytes.now)) }
+            Wrote (sink_writes self.old) (sink_writes self.new) (take n bytes.now)) }
         ensures none { IfOk result (λ n. n ≡ 0 → 0 < length bytes.now
-            → Rose (sink_faults self.old) (sink_faults self.new)) }
+            → WriteFails (sink_writes self.old) (sink_writes self.new)) }
         ensures err { OnErr result (sink_bytes self.new ≡ sink_bytes self.old) }
         ensures counted { sink_faults self.old ≤ sink_faults self.new }
-        ensures failed { OnErr result (Rose (sink_faults self.old) (sink_faults self.new)) }
+        ensures failed { OnErr result (WriteFails (sink_writes self.old) (sink_writes self.new)) }
 
         // It fails where it is told to, or memory runs out, and takes as much as it may.
         ensures told { IsToldToFail (sink_calls self.old) → IsErr result }

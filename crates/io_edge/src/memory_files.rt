@@ -1,10 +1,10 @@
 // Files in memory. They tell their bytes, and fail at the loads that they are told to.
-ghost use Rattle.std.specs.Prelude.{◌≡◌, ◌⊎◌, ◌<◌, ◌≤◌, None, find, length, IfOk, IsErrOf};
+ghost use Rattle.std.specs.Prelude.{◌≡◌, ◌⊎◌, ◌<◌, ◌≤◌, [], None, find, length, IfOk, IsErrOf};
 ghost use Rattle.std.specs.Option.{option_copied};
-ghost use Rattle.io_edge.specs.Edge.{Rose};
-ghost use Rattle.io_edge.specs.Files.{IsFile, IsLonger};
+ghost use Rattle.io_edge.specs.Files.{AskedFor, AskedNothing, IsFile, IsLonger, LoadFails};
 ghost use Rattle.io_edge.specs.MemoryFiles.{has_path};
 
+use crate::files::keep_path;
 use crate::told::Told;
 use crate::{Files, LoadRefused};
 use lang_base::{Bytes, Copied, Seq, Text};
@@ -21,6 +21,7 @@ pub struct MemoryFile {
 #[derive(Drop)]
 pub struct MemoryFiles {
     files: Seq<MemoryFile>,
+    asked: Seq<Text>,
     calls: Told,
 }
 
@@ -47,19 +48,29 @@ fn within(alloc: Global, file: &MemoryFile, limit: u64) -> Result<Bytes, LoadRef
 }
 
 impl MemoryFiles {
-    ghost use Rattle.io_edge.specs.MemoryFiles.{memory_files, load_faults, load_calls};
+    ghost use Rattle.io_edge.specs.MemoryFiles.{memory_files, load_faults, load_calls, paths_asked};
 
     /// These files. The loads with the numbers in `failing`, counted from 1, fail.
     pub fn new(files: Seq<MemoryFile>, failing: Vec<u64>) -> Self
         ensures files { memory_files result ≡ files }
+        ensures asked { paths_asked result ≡ [] }
         ensures faults { load_faults result ≡ 0 }
         ensures failing { (load_calls result).failing ≡ failing }
         ensures made { (load_calls result).made ≡ 0 }
     {
+        let asked = Seq::new(*failing.allocator());
         MemoryFiles {
             files,
+            asked,
             calls: Told::new(failing),
         }
+    }
+
+    /// The paths that were asked for, in order.
+    pub fn asked(&self) -> &[Text]
+        ensures asked { result.now ≡ paths_asked self.now }
+    {
+        self.asked.as_slice()
     }
 
     /// How many loads have failed, up to the greatest `u64`.
@@ -71,36 +82,40 @@ impl MemoryFiles {
 }
 
 impl Files for MemoryFiles {
-    ghost use Rattle.std.specs.Prelude.{Some};
-    ghost use Rattle.io_edge.specs.MemoryFiles.{bytes_at, memory_files, load_faults, load_calls};
+    ghost use Rattle.io_edge.specs.MemoryFiles.{bytes_at, memory_files, load_faults, load_calls, memory_loads};
     ghost use Rattle.io_edge.specs.Told.{one_more, IsToldToFail};
 
-    ghost files = { λ s. Some (bytes_at (memory_files s)) };
-
-    ghost faults = { λ s. load_faults s };
+    ghost loads = { λ s. memory_loads s };
 
     fn load(&mut self, alloc: Global, path: &str, limit: u64) -> Result<Bytes, LoadRefused>
         // The trait's clauses.
-        ensures file { IfOk result (λ bytes.
-            IsFile (Some (bytes_at (memory_files self.old))) path.now bytes) }
+        ensures file { IfOk result (λ bytes. IsFile (memory_loads self.old) path.now bytes) }
         ensures within { IfOk result (λ bytes. length bytes ≤ limit) }
         ensures too_long { IsErrOf result LoadRefused.TooLong
-            → IsLonger (Some (bytes_at (memory_files self.old))) path.now limit }
+            → IsLonger (memory_loads self.old) path.now limit }
         ensures files { memory_files self.new ≡ memory_files self.old }
+        ensures asked { AskedFor (memory_loads self.old) (memory_loads self.new) path.now
+            ⊎ (IsErrOf result LoadRefused.NoMemory
+            × AskedNothing (memory_loads self.old) (memory_loads self.new)) }
         ensures counted { load_faults self.old ≤ load_faults self.new }
         ensures failed { IsErrOf result LoadRefused.Failed
-            → Rose (load_faults self.old) (load_faults self.new) }
+            → LoadFails (memory_loads self.old) (memory_loads self.new) }
 
-        // It fails exactly where it is told to, or there is no such file.
-        ensures told { IsToldToFail (load_calls self.old) → IsErrOf result LoadRefused.Failed }
+        // It fails exactly where it is told to, or there is no such file, unless memory is wanting.
+        ensures told { IsToldToFail (load_calls self.old)
+            → IsErrOf result LoadRefused.Failed ⊎ IsErrOf result LoadRefused.NoMemory }
         ensures missing { bytes_at (memory_files self.old) path.now ≡ None
-            → IsErrOf result LoadRefused.Failed }
+            → IsErrOf result LoadRefused.Failed ⊎ IsErrOf result LoadRefused.NoMemory }
         ensures cause { IsErrOf result LoadRefused.Failed → IsToldToFail (load_calls self.old)
             ⊎ (bytes_at (memory_files self.old) path.now ≡ None) }
         ensures failing { (load_calls self.new).failing ≡ (load_calls self.old).failing }
         ensures made { (load_calls self.new).made ≡ one_more (load_calls self.old).made }
     {
-        if self.calls.fails() {
+        let fails = self.calls.fails();
+        if keep_path(alloc, &mut self.asked, path).is_err() {
+            return Err(LoadRefused::NoMemory);
+        }
+        if fails {
             self.calls.fault();
             return Err(LoadRefused::Failed);
         }

@@ -1,7 +1,7 @@
 // Readers and writers of std as a source and a sink. They count their faults and tell no bytes.
-ghost use Rattle.std.specs.Prelude.{◌≡◌, ◌≤◌, ◌<◌, None, length, IfOk, OnErr};
+ghost use Rattle.std.specs.Prelude.{◌≡◌, ◌≤◌, ◌<◌, length, IfOk, OnErr};
 ghost use Rattle.std.specs.Io.KnownBytes.{ReadConsumes, WriteAppends};
-ghost use Rattle.io_edge.specs.Edge.{Rose};
+ghost use Rattle.io_edge.specs.Edge.{ReadFails, WriteFails};
 
 use crate::{Failed, Sink, Source};
 use std::io;
@@ -32,13 +32,9 @@ impl<R: io::Read + Drop> Reading<R> {
 }
 
 impl<R: io::Read + Drop> Source for Reading<R> {
-    ghost use Rattle.io_edge.specs.Streams.{reader, read_faults};
+    ghost use Rattle.io_edge.specs.Streams.{reader, read_faults, told_reads};
 
-    ghost left = { λ _. None };
-
-    ghost whole = { λ _. None };
-
-    ghost faults = { λ s. read_faults s };
+    ghost reads = { λ s. told_reads s };
 
     fn read(&mut self, into: &mut [u8]) -> Result<u64, Failed>
         // What the reader gave, or nothing where it failed.
@@ -46,7 +42,7 @@ impl<R: io::Read + Drop> Source for Reading<R> {
             result into.new }
         ensures bound { IfOk result (λ n. n ≤ length into.new) }
         ensures counted { read_faults self.old ≤ read_faults self.new }
-        ensures failed { OnErr result (Rose (read_faults self.old) (read_faults self.new)) }
+        ensures failed { OnErr result (ReadFails (told_reads self.old) (told_reads self.new)) }
     {
         match self.inner.read(into) {
             Ok(n) => Ok(n as u64),
@@ -85,11 +81,9 @@ impl<W: io::Write + Drop> Writing<W> {
 }
 
 impl<W: io::Write + Drop> Sink for Writing<W> {
-    ghost use Rattle.io_edge.specs.Streams.{writer, write_faults};
+    ghost use Rattle.io_edge.specs.Streams.{writer, write_faults, told_writes};
 
-    ghost written = { λ _. None };
-
-    ghost faults = { λ s. write_faults s };
+    ghost writes = { λ s. told_writes s };
 
     fn write(&mut self, bytes: &[u8]) -> Result<u64, Failed>
         // What the writer took, or nothing where it failed.
@@ -97,9 +91,9 @@ impl<W: io::Write + Drop> Sink for Writing<W> {
             result bytes.now }
         ensures bound { IfOk result (λ n. n ≤ length bytes.now) }
         ensures none { IfOk result (λ n. n ≡ 0 → 0 < length bytes.now
-            → Rose (write_faults self.old) (write_faults self.new)) }
+            → WriteFails (told_writes self.old) (told_writes self.new)) }
         ensures counted { write_faults self.old ≤ write_faults self.new }
-        ensures failed { OnErr result (Rose (write_faults self.old) (write_faults self.new)) }
+        ensures failed { OnErr result (WriteFails (told_writes self.old) (told_writes self.new)) }
     {
         match self.inner.write(bytes) {
             // A writer that takes nothing of something is full: going on would never end.

@@ -1,7 +1,7 @@
 // All of a source, and all of a text to a sink.
-ghost use Rattle.std.specs.Prelude.{◌≡◌, ◌+◌, ◌<◌, ◌≤◌, ℕ, List, Option, length, IfOk, OnOk, OnErr, IsErrOf};
+ghost use Rattle.std.specs.Prelude.{◌≡◌, ◌+◌, ◌<◌, ◌≤◌, length, IfOk, OnOk, OnErr, IsErrOf};
 ghost use Rattle.std.specs.Option.{ForSome};
-ghost use Rattle.io_edge.specs.Edge.{Took, TookUpTo, IsAtEnd, Wrote, WroteFront, Rose};
+ghost use Rattle.io_edge.specs.Edge.{Took, TookUpTo, IsAtEnd, Wrote, WroteFront, ReadFails, WriteFails};
 ghost use Rattle.io_edge.specs.declared.whole.ReadRefused.TheVariants.{NoMemory, Fault};
 
 use crate::{Failed, Sink, Source};
@@ -47,19 +47,19 @@ pub fn read_all<S: Source>(
     source: &mut S,
     limit: u64,
 ) -> Result<Vec<u8>, ReadRefused>
-    ensures took { IfOk result (λ v. Took (S.left source.old) (S.left source.new) v.items) }
-    ensures end { OnOk result (IsAtEnd (S.left source.new)) }
-    ensures all { IfOk result (λ v. ForSome (S.left source.old) (λ all. v.items ≡ all)) }
+    ensures took { IfOk result (λ v. Took (S.reads source.old) (S.reads source.new) v.items) }
+    ensures end { OnOk result (IsAtEnd (S.reads source.new)) }
+    ensures all { IfOk result (λ v. ForSome (S.reads source.old).left (λ all. v.items ≡ all)) }
     ensures within { IfOk result (λ v. length v.items ≤ limit) }
     ensures too_long { IsErrOf result ReadRefused.TooLong
-        → ForSome (S.left source.old) (λ all. limit < length all) }
-    ensures err { OnErr result (TookUpTo (limit + 1) (S.left source.old) (S.left source.new)) }
-    ensures whole { S.whole source.new ≡ S.whole source.old }
+        → ForSome (S.reads source.old).left (λ all. limit < length all) }
+    ensures err { OnErr result (TookUpTo (limit + 1) (S.reads source.old) (S.reads source.new)) }
+    ensures whole { (S.reads source.new).whole ≡ (S.reads source.old).whole }
     ensures beside { S.beside source.new ≡ S.beside source.old }
 
-    ensures counted { S.faults source.old ≤ S.faults source.new }
+    ensures counted { (S.reads source.old).faults ≤ (S.reads source.new).faults }
     ensures fault { IsErrOf result ReadRefused.Fault
-        → Rose (S.faults source.old) (S.faults source.new) }
+        → ReadFails (S.reads source.old) (S.reads source.new) }
 {
     let mut bytes = Vec::new(alloc);
     let mut piece = [0u8; PIECE];
@@ -79,12 +79,12 @@ pub fn read_all<S: Source>(
 
 /// Writes all of the bytes. After an `Err` a front of them was written, perhaps none or all.
 pub fn write_all<K: Sink>(sink: &mut K, bytes: &[u8]) -> Result<(), Failed>
-    ensures ok { OnOk result (Wrote (K.written sink.old) (K.written sink.new) bytes.now) }
-    ensures err { OnErr result (WroteFront (K.written sink.old) (K.written sink.new) bytes.now) }
+    ensures ok { OnOk result (Wrote (K.writes sink.old) (K.writes sink.new) bytes.now) }
+    ensures err { OnErr result (WroteFront (K.writes sink.old) (K.writes sink.new) bytes.now) }
     ensures beside { K.beside sink.new ≡ K.beside sink.old }
 
-    ensures counted { K.faults sink.old ≤ K.faults sink.new }
-    ensures failed { OnErr result (Rose (K.faults sink.old) (K.faults sink.new)) }
+    ensures counted { (K.writes sink.old).faults ≤ (K.writes sink.new).faults }
+    ensures failed { OnErr result (WriteFails (K.writes sink.old) (K.writes sink.new)) }
 {
     let mut at = 0;
     while at < bytes.len() {
