@@ -1,8 +1,8 @@
 -- How several reads or writes add up: what crates above cite for their own loops over a source or a sink.
-use Rattle.std.proofs.Common.{◌≡◌, ℕ, ◌+◌, ◌-◌, ◌≤◌, List, [], ◌++◌, Some, take, drop, length, refl, subst, sym, ap, ◌∙◌, append_assoc, length-append, length-drop, arith}
+use Rattle.std.proofs.Common.{◌≡◌, ℕ, ◌+◌, ◌-◌, ◌<◌, ◌≤◌, List, [], ◌++◌, Some, take, drop, length, refl, subst, sym, ap, ◌∙◌, append_assoc, length-append, length-drop, arith}
 use Rattle.std.proofs.lemmas.List.{append-nil, drop-drop, length-take, take-append-drop, take_all}
 use Rattle.std.proofs.Math.Seq.{take-add}
-use Rattle.io_edge.specs.Edge.{Reads, Took, TookUpTo, Writes, Wrote, WroteFront}
+use Rattle.io_edge.specs.Edge.{Reads, Took, TookUpTo, Writes, Wrote, WroteFront, WroteShort}
 
 -- where nothing was taken
 pub took_none : (a b : Reads) → b.left ≡ a.left → Took a b []
@@ -24,10 +24,19 @@ pub wrote_more : (a b c : Writes) (xs ys : List ℕ) → Wrote a b xs → Wrote 
 wrote_more a b c xs ys first second = λ all told.
     second (all ++ xs) (first all told) ∙ ap Some (append_assoc all xs ys)
 
--- the first `at` bytes of a text were written, and then nothing more
-pub front_at : (a b c : Writes) (bytes : List ℕ) (at : ℕ) → Wrote a b (take at bytes) → c.written ≡ b.written → WroteFront a c bytes
-front_at a b c bytes at first same =
-    (take at bytes, (drop at bytes, sym (take-append-drop at bytes)), λ all told. same ∙ first all told)
+-- the first `at` bytes of a text were written, and nothing more
+pub short_at : (a b c : Writes) (bytes : List ℕ) (at : ℕ) → at < length bytes → Wrote a b (take at bytes) → c.written ≡ b.written → WroteShort a c bytes
+short_at a b c bytes at within first same = (
+  take at bytes,
+  drop at bytes,
+  sym (take-append-drop at bytes),
+  (λ none. omega (arith, within, length-drop at bytes, ap length none)),
+  (λ all told. same ∙ first all told),
+)
+
+-- a front that isn't all of a text is a front of it
+pub short_front : (a b : Writes) (bytes : List ℕ) → WroteShort a b bytes → WroteFront a b bytes
+short_front a b bytes short = (short.0, (short.1, short.2), short.4)
 
 -- the first `at` bytes of a text were written, and then the next n
 pub piece_at : (a b c : Writes) (bytes : List ℕ) (at n : ℕ) → Wrote a b (take at bytes) → Wrote b c (take n (drop at bytes)) → Wrote a c (take (at + n) bytes)

@@ -1,5 +1,5 @@
 -- What the outside tells before a call and after it, and what reads and writes do to that.
-use Rattle.std.specs.Prelude.{◌≡◌, ℕ, ◌+◌, ◌^◌, ◌<◌, ◌≤◌, List, [], ◌++◌, length, Option, Some}
+use Rattle.std.specs.Prelude.{◌≡◌, ◌≢◌, ℕ, ◌+◌, ◌^◌, ◌<◌, ◌≤◌, List, [], ◌++◌, length, Option, Some}
 use Rattle.std.specs.Option.{ForSome}
 
 -- What a source tells: the bytes that are left and all that it ever had, where it tells them, and how many of its reads
@@ -54,6 +54,11 @@ IsFront front bytes = (rest : List ℕ) × (bytes ≡ front ++ rest)
 -- a front of these bytes, perhaps all or none of them, was written behind what stood there
 abbrev pub WroteFront : Writes → Writes → List ℕ → Type 0
 WroteFront before now bytes = (front : List ℕ) × IsFront front bytes × Wrote before now front
+
+-- a front of these bytes, perhaps none of them but not all, was written behind what stood there
+abbrev pub WroteShort : Writes → Writes → List ℕ → Type 0
+WroteShort before now bytes =
+    (front : List ℕ) × (rest : List ℕ) × (bytes ≡ front ++ rest) × (rest ≢ []) × Wrote before now front
 
 -- a write failed
 abbrev pub WriteFails : Writes → Writes → Type 0

@@ -1,7 +1,7 @@
 // All of a source, and all of a text to a sink.
 ghost use Rattle.std.specs.Prelude.{◌≡◌, ◌+◌, ◌<◌, ◌≤◌, length, IfOk, OnOk, OnErr, IsErrOf};
 ghost use Rattle.std.specs.Option.{ForSome};
-ghost use Rattle.io_edge.specs.Edge.{Took, TookUpTo, IsAtEnd, Wrote, WroteFront, ReadFails, WriteFails};
+ghost use Rattle.io_edge.specs.Edge.{Took, TookUpTo, IsAtEnd, Wrote, WroteShort, ReadFails, WriteFails};
 ghost use Rattle.io_edge.specs.declared.whole.ReadRefused.TheVariants.{NoMemory, Fault};
 
 use crate::{Failed, Sink, Source};
@@ -77,10 +77,10 @@ pub fn read_all<S: Source>(
     }
 }
 
-/// Writes all of the bytes. After an `Err` a front of them was written, perhaps none or all.
+/// Writes all of the bytes. After an `Err` a front of them was written, perhaps none but not all.
 pub fn write_all<K: Sink>(sink: &mut K, bytes: &[u8]) -> Result<(), Failed>
     ensures ok { OnOk result (Wrote (K.writes sink.old) (K.writes sink.new) bytes.now) }
-    ensures err { OnErr result (WroteFront (K.writes sink.old) (K.writes sink.new) bytes.now) }
+    ensures err { OnErr result (WroteShort (K.writes sink.old) (K.writes sink.new) bytes.now) }
     ensures beside { K.beside sink.new ≡ K.beside sink.old }
 
     ensures counted { (K.writes sink.old).faults ≤ (K.writes sink.new).faults }

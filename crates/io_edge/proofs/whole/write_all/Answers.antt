@@ -1,20 +1,20 @@
 use Rattle.std.proofs.Common.{◌∙◌, ◌+◌, List, ℕ, take, length, arith, refl, subst, ap, length-drop}
 use Rattle.std.proofs.lemmas.Result.{err_from_is_err_and}
 use Rattle.io_edge.specs.Edge.{Wrote}
-use Rattle.io_edge.proofs.Pieces.{front_at, piece_at, slice_rest}
+use Rattle.io_edge.proofs.Pieces.{piece_at, short_at, slice_rest}
 use Rattle.io_edge.proofs.whole.write_all.Goals as goal
 
 pub returns-in_err-n-clause-err : goal.returns-in_err-n-clause-err
 returns-in_err-n-clause-err g c =
     let is_err = err_from_is_err_and c.from_residual.result c.from_residual.ensures.1 in
-    rw is_err.1 (front_at (g.K.Sink.writes c.args.sink.now) (g.K.Sink.writes c.loop-at.sink) (g.K.Sink.writes c.write.new.self) c.args.bytes.now c.loop-at.at c.loop-at.invariant.wrote c.in_err-n.ensures.err)
+    rw is_err.1 (short_at (g.K.Sink.writes c.args.sink.now) (g.K.Sink.writes c.loop-at.sink) (g.K.Sink.writes c.write.new.self) c.args.bytes.now c.loop-at.at (omega arith) c.loop-at.invariant.wrote c.in_err-n.ensures.err)
 
 pub returns-then-n-eq0-clause-err : goal.returns-then-n-eq0-clause-err
 returns-then-n-eq0-clause-err g c =
     let P : List ℕ → Type 0 = λ rest. Wrote (g.K.Sink.writes c.loop-at.sink) (g.K.Sink.writes c.write.new.self) (take c.in_ok-n.n rest) in
     let piece = subst P (slice_rest c.args.bytes.now c.loop-at.at) c.in_ok-n.ensures.wrote in
     let front = piece_at (g.K.Sink.writes c.args.sink.now) (g.K.Sink.writes c.loop-at.sink) (g.K.Sink.writes c.write.new.self) c.args.bytes.now c.loop-at.at c.in_ok-n.n c.loop-at.invariant.wrote piece in
-    front_at (g.K.Sink.writes c.args.sink.now) (g.K.Sink.writes c.write.new.self) (g.K.Sink.writes c.write.new.self) c.args.bytes.now (c.loop-at.at + c.in_ok-n.n) front refl
+    short_at (g.K.Sink.writes c.args.sink.now) (g.K.Sink.writes c.write.new.self) (g.K.Sink.writes c.write.new.self) c.args.bytes.now (c.loop-at.at + c.in_ok-n.n) (omega arith) front refl
 
 pub loop-at-preserved : goal.loop-at-preserved
 loop-at-preserved g c =
