@@ -1,6 +1,24 @@
-//! What is said of the state of all services: the verdict of an audit.
+//! The journal of a service: a row for each thing that it asked, took, sent, saw and answered, and for each order. Rows
+//! are never changed and never taken away. Beside them, what is said of the state of all services: the verdict of an
+//! audit.
 #![tactic(auto)]
 
+mod callee;
+mod caller;
+mod orders;
+mod row;
+mod rows;
 mod verdict;
+mod weights;
+mod words;
 
+pub use callee::{AckedRow, AnsweredRow, AskedRow, TookRow, WasConfirmedRow};
+pub use caller::{AckHow, ConfirmedRow, How, SawAckRow, SawAnswerRow, SentRow};
+pub use orders::{About, Command, OrderedRow};
+pub use row::Row;
+pub use rows::Rows;
 pub use verdict::{Outstanding, Verdict};
+pub use weights::weight;
+pub use words::{
+    Mark, last_answered, last_mark, last_seen, last_sent, last_taken, ordered, seen_acked,
+};

@@ -1,0 +1,66 @@
+// A row of a journal.
+use crate::callee::{AckedRow, AnsweredRow, AskedRow, TookRow, WasConfirmedRow};
+use crate::caller::{ConfirmedRow, SawAckRow, SawAnswerRow, SentRow};
+use crate::orders::OrderedRow;
+use lang_core::{Copied, NoMemory, Same};
+use std::alloc::Global;
+
+/// A row of a journal.
+#[derive(Drop)]
+pub enum Row {
+    /// An entry was made.
+    Asked(AskedRow),
+    /// A version of a caller's call was taken.
+    Took(TookRow),
+    /// A message with a version of a caller's call was acknowledged.
+    Acked(AckedRow),
+    /// An entry has an answer that it didn't have before.
+    Answered(AnsweredRow),
+    /// A caller confirmed an answer.
+    WasConfirmed(WasConfirmedRow),
+    /// A version of an own call was named.
+    Sent(SentRow),
+    /// A version of an own call was seen to be acknowledged.
+    SawAck(SawAckRow),
+    /// An answer to an own call was seen.
+    SawAnswer(SawAnswerRow),
+    /// A message with an answer to an own call was confirmed.
+    Confirmed(ConfirmedRow),
+    /// An order was accepted.
+    Ordered(OrderedRow),
+}
+
+impl Copied for Row {
+    fn copied(&self, alloc: Global) -> Result<Row, NoMemory> {
+        match self {
+            Row::Asked(row) => row.copied(alloc).map(Row::Asked),
+            Row::Took(row) => row.copied(alloc).map(Row::Took),
+            Row::Acked(row) => row.copied(alloc).map(Row::Acked),
+            Row::Answered(row) => row.copied(alloc).map(Row::Answered),
+            Row::WasConfirmed(row) => row.copied(alloc).map(Row::WasConfirmed),
+            Row::Sent(row) => row.copied(alloc).map(Row::Sent),
+            Row::SawAck(row) => Ok(Row::SawAck(*row)),
+            Row::SawAnswer(row) => row.copied(alloc).map(Row::SawAnswer),
+            Row::Confirmed(row) => Ok(Row::Confirmed(*row)),
+            Row::Ordered(row) => row.copied(alloc).map(Row::Ordered),
+        }
+    }
+}
+
+impl Same for Row {
+    fn is(&self, other: &Row) -> bool {
+        match (self, other) {
+            (Row::Asked(left), Row::Asked(right)) => left.is(right),
+            (Row::Took(left), Row::Took(right)) => left.is(right),
+            (Row::Acked(left), Row::Acked(right)) => left.is(right),
+            (Row::Answered(left), Row::Answered(right)) => left.is(right),
+            (Row::WasConfirmed(left), Row::WasConfirmed(right)) => left.is(right),
+            (Row::Sent(left), Row::Sent(right)) => left.is(right),
+            (Row::SawAck(left), Row::SawAck(right)) => *left == *right,
+            (Row::SawAnswer(left), Row::SawAnswer(right)) => left.is(right),
+            (Row::Confirmed(left), Row::Confirmed(right)) => *left == *right,
+            (Row::Ordered(left), Row::Ordered(right)) => left.is(right),
+            _ => false,
+        }
+    }
+}

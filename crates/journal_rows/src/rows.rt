@@ -1,0 +1,104 @@
+// The rows of a journal, in order.
+ghost use Rattle.std.specs.Prelude.{◌≡◌, ◌+◌, ◌<◌, ◌≤◌, [], ◌∷◌, ◌++◌, length, slice_get, OnOk, OnErr, IfOk, IsOk};
+ghost use Rattle.std.specs.Option.{option_copied};
+ghost use Rattle.journal_rows.specs.Weights.{journal_weight};
+
+use crate::row::Row;
+use crate::weights::weight;
+use lang_base::copied_items;
+use lang_core::NoMemory;
+use std::alloc::Global;
+use std::marker::Model;
+
+/// The rows of a journal in order, with spare room. They only grow.
+#[derive(Drop)]
+pub struct Rows {
+    rows: Vec<Row>,
+    weight: u64,
+}
+
+impl Model for Rows {
+    ghost use Rattle.std.specs.Prelude.{◌≡◌, ◌-◌, vec_len, vec_capacity};
+    ghost use Rattle.journal_rows.specs.Journals.{Journal};
+    ghost use Rattle.journal_rows.specs.Weights.{journal_weight};
+
+    ghost Value = { Journal };
+
+    ghost view = { λ j. record { rows = j.rows.items; spare = vec_capacity j.rows - vec_len j.rows } };
+
+    ghost invariant = { λ j. j.weight ≡ journal_weight j.rows.items };
+}
+
+impl Rows {
+    /// No rows.
+    pub fn new(alloc: Global) -> Rows
+        ensures { result.rows ≡ [] }
+    {
+        Rows {
+            rows: Vec::new(alloc),
+            weight: 0,
+        }
+    }
+
+    /// The rows, in order.
+    pub fn as_slice(&self) -> &[Row]
+        ensures { result.now ≡ self.now.rows }
+    {
+        self.rows.as_slice()
+    }
+
+    /// How many rows there are.
+    pub fn len(&self) -> u64
+        ensures { result ≡ length self.now.rows }
+    {
+        self.rows.len() as u64
+    }
+
+    /// The row at a place, counted from 0; None exactly past the end.
+    pub fn at(&self, place: u64) -> Option<&Row>
+        ensures { option_copied result ≡ slice_get self.now.rows place }
+    {
+        self.rows.get(place as usize)
+    }
+
+    /// What the rows weigh together; the greatest number of 64 bits where none holds it.
+    pub fn weight(&self) -> u64
+        ensures { result ≡ journal_weight self.now.rows }
+    {
+        self.weight
+    }
+
+    /// Makes room for so many rows more. Refused, there is as much as before, and the rows stay.
+    pub fn reserve(&mut self, more: u64) -> Result<(), NoMemory>
+        ensures rows { self.new.rows ≡ self.old.rows }
+        ensures ok { OnOk result (more ≤ self.new.spare) }
+        ensures spare { self.old.spare ≤ self.new.spare }
+    {
+        self.rows.reserve(more as usize)?;
+        Ok(())
+    }
+
+    /// Puts a row last, which takes no memory where there is room. Refused, it is dropped and the rows stay.
+    pub fn push(&mut self, row: Row) -> Result<(), NoMemory>
+        ensures ok { OnOk result (self.new.rows ≡ self.old.rows ++ row ∷ []) }
+        ensures err { OnErr result (self.new.rows ≡ self.old.rows) }
+        ensures ready { 0 < self.old.spare → IsOk result }
+        ensures spare { self.old.spare ≤ self.new.spare + 1 }
+    {
+        let more = weight(&row);
+        self.rows.push(row)?;
+        self.weight = self.weight.saturating_add(more);
+        Ok(())
+    }
+
+    /// Equal rows; nothing is said of their room.
+    pub fn copied(&self, alloc: Global) -> Result<Rows, NoMemory>
+        ensures { IfOk result (λ copy. copy.rows ≡ self.now.rows) }
+    {
+        let rows = copied_items(alloc, &self.rows)?;
+        Ok(Rows {
+            rows,
+            weight: self.weight,
+        })
+    }
+}
