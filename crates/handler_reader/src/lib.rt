@@ -5,7 +5,9 @@
 #![tactic(auto)]
 
 mod exprs;
+mod joins;
 mod marks;
+mod pieces;
 mod program;
 mod stmts;
 mod stop;

@@ -84,12 +84,12 @@ pub fn close(tokens: &[Token]) -> Option<&[Token]>
     }
 }
 
-/// A variable or a table.
-pub fn word(alloc: Global, tokens: &[Token]) -> Result<(Text, &[Token]), ReadFailed>
-    ensures { Gives (λ x. (x.0, x.1.now)) result (word_at tokens.now) }
+/// A variable or a table, which stays with its token.
+pub fn word(tokens: &[Token]) -> Result<(&Text, &[Token]), ReadFailed>
+    ensures { Gives (λ x. (x.0.now, x.1.now)) result (word_at tokens.now) }
 {
     match tokens {
-        [Token::Word(name), rest @ ..] => Ok((name.copied(alloc)?, rest)),
+        [Token::Word(name), rest @ ..] => Ok((name, rest)),
         _ => Err(ReadFailed::At(refused(tokens))),
     }
 }

@@ -2,6 +2,7 @@
 ghost use Rattle.std.specs.Prelude.{◌≡◌};
 ghost use Rattle.handler_reader.specs.Readers.{Gives, most, program_of, route_at, route_in, routes_in};
 
+use crate::joins::beside;
 use crate::marks::{method, pattern, refused};
 use crate::stmts::{MOST_PARTS, block};
 use crate::stop::ReadFailed;
@@ -16,7 +17,7 @@ fn route_body(alloc: Global, tokens: &[Token]) -> Result<(Route, &[Token]), Read
 {
     let (method, rest) = method(tokens)?;
     let (pattern, rest) = pattern(alloc, rest)?;
-    let (block, rest) = block(alloc, rest, MOST_DEPTH)?;
+    let ((pattern, block), rest) = beside(pattern, block(alloc, rest, MOST_DEPTH))?;
     let route = Route {
         method,
         pattern,

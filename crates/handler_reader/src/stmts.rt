@@ -1,82 +1,76 @@
 // Statements and blocks.
 ghost use Rattle.std.specs.Prelude.{◌≡◌};
+ghost use Rattle.handler_reader.specs.Pieces.{in_turn};
 ghost use Rattle.handler_reader.specs.Readers.{block_at, block_in, call_in, drop_in, each_in, else_in, expr_at, get_in, Gives, if_in, let_in, most, now_in, put_in, random_in, reply_in, stmt_in, stmts_in};
 
 use crate::exprs::expr;
-use crate::marks::{close, comma, deep_block, equals, in_word, method, refused, semicolon, word};
+use crate::joins::{beside, made};
+use crate::marks::{close, deep_block, refused, semicolon, word};
+use crate::pieces::{
+    before_equals, call_head, call_words, each_head, last, last_row, last_two, row_before_equals,
+};
 use crate::stop::ReadFailed;
 use handler_tokens::Token;
+use lang_base::Copied;
 use lang_tree::{Block, Items, MOST_DEPTH, Stmt};
 use std::alloc::Global;
 
 /// More statements or routes than a text of 65,536 bytes has tokens.
 pub const MOST_PARTS: u64 = 65537;
 
-#[tactic(auto, unfolding(crate::specs::Readers::let_in))]
+#[tactic(auto, using(crate::proofs::PieceLemmas::let_pieces))]
 fn let_stmt(alloc: Global, tokens: &[Token]) -> Result<(Stmt, &[Token]), ReadFailed>
     ensures { Gives (λ x. (x.0, x.1.now)) result (let_in (expr_at 32) tokens.now) }
 {
-    let (var, rest) = word(alloc, tokens)?;
-    let rest = equals(rest)?;
-    let (value, rest) = expr(alloc, rest, MOST_DEPTH)?;
-    let rest = semicolon(rest)?;
+    let (var, rest) = before_equals(alloc, tokens)?;
+    let ((var, value), rest) = beside(var, last(alloc, rest))?;
     Ok((Stmt::Let { var, value }, rest))
 }
 
-#[tactic(auto, unfolding(crate::specs::Readers::get_in))]
+#[tactic(auto, using(crate::proofs::PieceLemmas::get_pieces))]
 fn get_stmt(alloc: Global, tokens: &[Token]) -> Result<(Stmt, &[Token]), ReadFailed>
     ensures { Gives (λ x. (x.0, x.1.now)) result (get_in (expr_at 32) tokens.now) }
 {
-    let (var, rest) = word(alloc, tokens)?;
-    let rest = equals(rest)?;
-    let (table, rest) = word(alloc, rest)?;
-    let (key, rest) = expr(alloc, rest, MOST_DEPTH)?;
-    let rest = semicolon(rest)?;
+    let (var, rest) = before_equals(alloc, tokens)?;
+    let ((var, row), rest) = beside(var, last_row(alloc, rest))?;
+    let (table, key) = row;
     Ok((Stmt::Get { var, table, key }, rest))
 }
 
-#[tactic(auto, unfolding(crate::specs::Readers::put_in))]
+#[tactic(auto, using(crate::proofs::PieceLemmas::put_pieces))]
 fn put_stmt(alloc: Global, tokens: &[Token]) -> Result<(Stmt, &[Token]), ReadFailed>
     ensures { Gives (λ x. (x.0, x.1.now)) result (put_in (expr_at 32) tokens.now) }
 {
-    let (table, rest) = word(alloc, tokens)?;
-    let (key, rest) = expr(alloc, rest, MOST_DEPTH)?;
-    let rest = equals(rest)?;
-    let (value, rest) = expr(alloc, rest, MOST_DEPTH)?;
-    let rest = semicolon(rest)?;
+    let (row, rest) = row_before_equals(alloc, tokens)?;
+    let ((row, value), rest) = beside(row, last(alloc, rest))?;
+    let (table, key) = row;
     Ok((Stmt::Put { table, key, value }, rest))
 }
 
-#[tactic(auto, unfolding(crate::specs::Readers::drop_in))]
+#[tactic(auto, using(crate::proofs::PieceLemmas::drop_pieces))]
 fn drop_stmt(alloc: Global, tokens: &[Token]) -> Result<(Stmt, &[Token]), ReadFailed>
     ensures { Gives (λ x. (x.0, x.1.now)) result (drop_in (expr_at 32) tokens.now) }
 {
-    let (table, rest) = word(alloc, tokens)?;
-    let (key, rest) = expr(alloc, rest, MOST_DEPTH)?;
-    let rest = semicolon(rest)?;
+    let (row, rest) = last_row(alloc, tokens)?;
+    let (table, key) = row;
     Ok((Stmt::Drop { table, key }, rest))
 }
 
-#[tactic(auto, unfolding(crate::specs::Readers::call_in))]
+#[tactic(auto, using(crate::proofs::PieceLemmas::call_pieces))]
 fn call_stmt(alloc: Global, tokens: &[Token]) -> Result<(Stmt, &[Token]), ReadFailed>
     ensures { Gives (λ x. (x.0, x.1.now)) result (call_in (expr_at 32) tokens.now) }
 {
-    let (status, rest) = word(alloc, tokens)?;
-    let rest = comma(rest)?;
-    let (answer, rest) = word(alloc, rest)?;
-    let rest = equals(rest)?;
-    let (dest, rest) = expr(alloc, rest, MOST_DEPTH)?;
-    let (method, rest) = method(rest)?;
-    let (path, rest) = expr(alloc, rest, MOST_DEPTH)?;
-    let (body, rest) = expr(alloc, rest, MOST_DEPTH)?;
-    let rest = semicolon(rest)?;
+    let (words, rest) = call_words(alloc, tokens)?;
+    let (head, rest) = beside(words, call_head(alloc, rest))?;
+    let (parts, rest) = beside(head, last_two(alloc, rest))?;
+    let ((words, head), sent) = parts;
     let call = Stmt::Call {
-        status,
-        answer,
-        dest,
-        method,
-        path,
-        body,
+        status: words.0,
+        answer: words.1,
+        dest: head.0,
+        method: head.1,
+        path: sent.0,
+        body: sent.1,
     };
     Ok((call, rest))
 }
@@ -85,8 +79,9 @@ fn call_stmt(alloc: Global, tokens: &[Token]) -> Result<(Stmt, &[Token]), ReadFa
 fn now_stmt(alloc: Global, tokens: &[Token]) -> Result<(Stmt, &[Token]), ReadFailed>
     ensures { Gives (λ x. (x.0, x.1.now)) result (now_in tokens.now) }
 {
-    let (var, rest) = word(alloc, tokens)?;
+    let (var, rest) = word(tokens)?;
     let rest = semicolon(rest)?;
+    let (var, rest) = made(var.copied(alloc), rest)?;
     Ok((Stmt::Now { var }, rest))
 }
 
@@ -94,38 +89,34 @@ fn now_stmt(alloc: Global, tokens: &[Token]) -> Result<(Stmt, &[Token]), ReadFai
 fn random_stmt(alloc: Global, tokens: &[Token]) -> Result<(Stmt, &[Token]), ReadFailed>
     ensures { Gives (λ x. (x.0, x.1.now)) result (random_in tokens.now) }
 {
-    let (var, rest) = word(alloc, tokens)?;
+    let (var, rest) = word(tokens)?;
     let rest = semicolon(rest)?;
+    let (var, rest) = made(var.copied(alloc), rest)?;
     Ok((Stmt::Random { var }, rest))
 }
 
-#[tactic(auto, unfolding(crate::specs::Readers::reply_in))]
+#[tactic(auto, using(crate::proofs::PieceLemmas::reply_pieces))]
 fn reply_stmt(alloc: Global, tokens: &[Token]) -> Result<(Stmt, &[Token]), ReadFailed>
     ensures { Gives (λ x. (x.0, x.1.now)) result (reply_in (expr_at 32) tokens.now) }
 {
-    let (status, rest) = expr(alloc, tokens, MOST_DEPTH)?;
-    let (body, rest) = expr(alloc, rest, MOST_DEPTH)?;
-    let rest = semicolon(rest)?;
+    let (reply, rest) = last_two(alloc, tokens)?;
+    let (status, body) = reply;
     Ok((Stmt::Reply { status, body }, rest))
 }
 
 #[cycle(block)]
-#[tactic(auto, unfolding(crate::specs::Readers::each_in))]
+#[tactic(auto, using(crate::proofs::PieceLemmas::each_pieces))]
 fn each_stmt(alloc: Global, tokens: &[Token], levels: u64) -> Result<(Stmt, &[Token]), ReadFailed>
     ensures { Gives (λ x. (x.0, x.1.now)) result (each_in (expr_at 32) (block_at levels) tokens.now) }
 {
-    let (key, rest) = word(alloc, tokens)?;
-    let rest = comma(rest)?;
-    let (text, rest) = word(alloc, rest)?;
-    let rest = in_word(rest)?;
-    let (table, rest) = word(alloc, rest)?;
-    let (prefix, rest) = expr(alloc, rest, MOST_DEPTH)?;
-    let (block, rest) = block(alloc, rest, levels)?;
+    let (head, rest) = each_head(alloc, tokens)?;
+    let ((head, block), rest) = beside(head, block(alloc, rest, levels))?;
+    let (words, row) = head;
     let each = Stmt::Each {
-        key,
-        text,
-        table,
-        prefix,
+        key: words.0,
+        text: words.1,
+        table: row.0,
+        prefix: row.1,
         block,
     };
     Ok((each, rest))
@@ -149,14 +140,28 @@ fn else_block(
     }
 }
 
+// The blocks of an `if`.
 #[cycle(block)]
-#[tactic(auto, unfolding(crate::specs::Readers::if_in))]
+#[tactic(auto, unfolding(crate::specs::Pieces::in_turn))]
+fn blocks(
+    alloc: Global,
+    tokens: &[Token],
+    levels: u64,
+) -> Result<((Block, Option<Block>), &[Token]), ReadFailed>
+    ensures { Gives (λ x. (x.0, x.1.now)) result (in_turn (block_at levels) (else_in (block_at levels)) tokens.now) }
+{
+    let (then, rest) = block(alloc, tokens, levels)?;
+    beside(then, else_block(alloc, rest, levels))
+}
+
+#[cycle(block)]
+#[tactic(auto, using(crate::proofs::PieceLemmas::if_pieces))]
 fn if_stmt(alloc: Global, tokens: &[Token], levels: u64) -> Result<(Stmt, &[Token]), ReadFailed>
     ensures { Gives (λ x. (x.0, x.1.now)) result (if_in (expr_at 32) (block_at levels) tokens.now) }
 {
     let (test, rest) = expr(alloc, tokens, MOST_DEPTH)?;
-    let (then, rest) = block(alloc, rest, levels)?;
-    let (other, rest) = else_block(alloc, rest, levels)?;
+    let ((test, blocks), rest) = beside(test, blocks(alloc, rest, levels))?;
+    let (then, other) = blocks;
     Ok((Stmt::If { test, then, other }, rest))
 }
 

@@ -10,10 +10,13 @@ abbrev pub decreases-each_stmt : goal.decreases-each_stmt
 decreases-each_stmt l = 7 * l.levels + 1
 
 abbrev pub decreases-else_block : goal.decreases-else_block
-decreases-else_block l = 7 * l.levels + 2
+decreases-else_block l = 7 * l.levels + 1
 
 abbrev pub decreases-if_stmt : goal.decreases-if_stmt
 decreases-if_stmt l = 7 * l.levels + 3
+
+abbrev pub decreases-blocks : goal.decreases-blocks
+decreases-blocks l = 7 * l.levels + 2
 
 abbrev pub decreases-stmt : goal.decreases-stmt
 decreases-stmt l = 7 * l.levels + 4
