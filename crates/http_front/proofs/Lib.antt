@@ -1,0 +1,4 @@
+mod StartLemmas
+mod EndLemmas
+mod ReadLemmas
+mod TextLemmas

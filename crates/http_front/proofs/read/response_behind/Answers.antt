@@ -1,0 +1,8 @@
+use Rattle.std.proofs.Common.{refl}
+use Rattle.http_front.proofs.ReadLemmas.{response_read}
+use Rattle.http_front.proofs.read.response_behind.Goals as goal
+
+pub returns-in-Ok-clause-response : goal.returns-in-Ok-clause-response
+returns-in-Ok-clause-response g c =
+    response_read (g.S.Source.reads c.args.source.now) (g.S.Source.reads c.read_body-body.new.source) c.args.head.now c.in-Ok.start c.read_body-body.result c.response_with.result
+    (c.in-Ok.ensures.answer refl) c.response_with.ensures c.read_body-body.ensures.body

@@ -1,0 +1,7 @@
+use Rattle.http_front.proofs.StartLemmas.{starts_request}
+use Rattle.http_front.proofs.request_head.request_start.Goals as goal
+
+pub returns-in-Some-clause-answer : goal.returns-in-Some-clause-answer
+returns-in-Some-clause-answer c = λ answered.
+    let head = c.in-Some.ensures.parts.1 in
+    starts_request c.args.bytes.now c.spans_of.new.fields c.in-Some.spans head.0 c.in-Some.ensures.parts.0 c.spans_of.auto.fields head.1 c.start_at.result (c.start_at.ensures.answer answered)

@@ -1,0 +1,19 @@
+-- The methods that are read and written.
+use Rattle.std.specs.Prelude.{ℕ, List, Option, Some, None, codes, if◌then◌else◌}
+use Rattle.lang_tree.specs.Forms.{is_text}
+use Rattle.lang_tree.specs.declared.method.Method.{Method}
+use Rattle.lang_tree.specs.declared.method.Method.TheVariants.{Get, Put, Post, Delete}
+
+abbrev pub method_word : Method → List ℕ
+method_word Get = codes "GET"
+method_word Put = codes "PUT"
+method_word Post = codes "POST"
+method_word Delete = codes "DELETE"
+
+abbrev pub method_named : List ℕ → Option Method
+method_named word =
+    if is_text word (codes "GET") then Some Get
+    else (if is_text word (codes "PUT") then Some Put
+    else (if is_text word (codes "POST") then Some Post
+    else (if is_text word (codes "DELETE") then Some Delete
+    else None)))

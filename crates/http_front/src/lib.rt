@@ -1,0 +1,24 @@
+//! HTTP messages as bytes.
+#![tactic(auto)]
+
+mod ends;
+mod fields;
+mod header;
+mod length;
+mod lines;
+mod message;
+mod method;
+mod read;
+mod reading;
+mod request_head;
+mod response_head;
+mod texts;
+mod write;
+
+pub use header::{AIRE_HEADERS, AireHeader};
+pub use length::LONGEST_BODY;
+pub use message::{FrontRefused, WireRequest, WireResponse, WriteRefused};
+pub use read::{read_request, read_response};
+pub use reading::LONGEST_HEAD;
+pub use request_head::MOST_FIELDS;
+pub use write::{request_bytes, response_bytes, write_request, write_response};
