@@ -1,54 +1,14 @@
-ghost use Rattle.std.specs.Prelude.{◌≡◌, IfOk, IsTrue};
+ghost use Rattle.std.specs.Prelude.{◌≡◌, IsTrue};
 ghost use Rattle.request_log.specs.Entries.{IsNew, IsKnown};
 
-use lang_core::{Copied, Inputs, Method, Name, Names, NoMemory, Origin, Request, Same, Text};
-use request_log::{Entry, Log, Made, Numbers, dead_trace};
-use std::alloc::Global;
+use crate::given::{entry, equal, holds, name, request};
+use lang_core::{Copied, Origin, Same};
+use request_log::{Entry, Log, Made, dead_trace};
+use std::process::Abort;
 
-fn origin(alloc: Global, number: u64) -> Result<Origin, NoMemory> {
-    match Name::new(Text::of(alloc, "shop")?) {
-        Ok(caller) => Ok(Origin::Call { caller, number }),
-        Err(_) => Ok(Origin::Outside),
-    }
-}
-
-fn entry(alloc: Global, id: u64, origin: Origin) -> Result<Entry, NoMemory> {
-    let request = Request {
-        method: Method::Get,
-        path: Text::of(alloc, "/x")?,
-        body: Text::of(alloc, "")?,
-        who: Text::of(alloc, "ann")?,
-        chain: Names::new(alloc),
-    };
-    let made = Some(Made {
-        alive: false,
-        version: 0,
-        request: request.copied(alloc)?,
-        trace: dead_trace(alloc)?,
-    });
-    Ok(Entry {
-        id,
-        origin,
-        version: 0,
-        request,
-        wanted: true,
-        struck: true,
-        inputs: Inputs {
-            moment: 0,
-            w1: 0,
-            w2: 0,
-            w3: 0,
-            w4: 0,
-            w5: 0,
-            w6: 0,
-            w7: 0,
-            w8: 0,
-        },
-        made,
-        slots: Numbers::new(alloc),
-        answer_version: 0,
-        runs: 1,
-    })
+fn called(rt: &(impl Abort + AllocGlobal), number: u64) -> Origin {
+    let caller = name(rt, "shop");
+    Origin::Call { caller, number }
 }
 
 fn is_new(log: &Log, entry: &Entry) -> bool
@@ -72,90 +32,92 @@ fn is_known(log: &Log, entry: &Entry) -> bool
     }
 }
 
-// Whether the entry went in, last or before what stands there.
-fn add(log: &mut Log, at: u64, entry: Entry) -> bool {
-    if !is_new(log, &entry) || at > log.len() {
-        return false;
-    }
-    if at == log.len() {
-        log.append(entry).is_ok()
-    } else {
-        log.insert(at, entry).is_ok()
-    }
+// An entry of this number and origin goes in last.
+fn append(rt: &(impl Abort + AllocGlobal), log: &mut Log, id: u64, origin: Origin) {
+    let entry = entry(rt, id, origin);
+    assert!(rt; is_new(log, &entry));
+    holds(rt, "appended", log.append(entry).is_ok());
 }
 
-fn add_outside(alloc: Global, log: &mut Log, at: u64, id: u64) -> bool {
-    match entry(alloc, id, Origin::Outside) {
-        Ok(entry) => add(log, at, entry),
-        Err(_) => false,
-    }
+// An entry goes in before what stands there.
+fn insert(rt: &(impl Abort + AllocGlobal), log: &mut Log, at: u64, id: u64, origin: Origin) {
+    let entry = entry(rt, id, origin);
+    assert!(rt; is_new(log, &entry) && at < log.len());
+    holds(rt, "inserted", log.insert(at, entry).is_ok());
 }
 
-fn called(alloc: Global, id: u64, number: u64) -> Result<Entry, NoMemory> {
-    entry(alloc, id, origin(alloc, number)?)
+// An entry of this number and origin isn't new.
+fn is_old(rt: &(impl Abort + AllocGlobal), log: &Log, id: u64, origin: Origin) {
+    let entry = entry(rt, id, origin);
+    holds(rt, "old", !is_new(log, &entry));
 }
 
-fn add_called(alloc: Global, log: &mut Log, at: u64, id: u64, number: u64) -> bool {
-    match called(alloc, id, number) {
-        Ok(entry) => add(log, at, entry),
-        Err(_) => false,
-    }
+fn stands_at(rt: &(impl Abort + AllocGlobal), log: &Log, place: u64, id: u64) {
+    let found = log.at(place).expect(rt, "an entry");
+    equal(rt, found.id, id);
+    holds(rt, "found", log.find(id).is_some());
+    holds(rt, "place", log.place_of(id) == Some(place));
 }
 
-// The entry that the new one replaces.
-fn put(log: &mut Log, entry: Entry) -> Option<Entry> {
-    if is_known(log, &entry) {
-        Some(log.put(entry))
-    } else {
-        None
-    }
-}
-
-fn stands_at(log: &Log, place: u64, id: u64) -> bool {
-    match log.at(place) {
-        None => false,
-        Some(entry) => entry.id == id && log.find(id).is_some() && log.place_of(id) == Some(place),
-    }
-}
-
-fn holds_call(log: &Log, call: &Origin, id: u64) -> bool {
-    match call {
-        Origin::Outside => false,
-        Origin::Call { caller, number } => match log.find_origin(caller, *number) {
-            None => false,
-            Some(entry) => entry.id == id,
-        },
-    }
+// The number of the entry of this call.
+fn id_of_call(rt: &(impl Abort + AllocGlobal), log: &Log, number: u64) -> Option<u64> {
+    let entry = log.find_origin(&name(rt, "shop"), number)?;
+    Some(entry.id)
 }
 
 #[test]
 fn keeps_entries_in_order(rt: HostRuntime) {
-    let alloc = rt.alloc();
-    let mut log = Log::new(alloc);
-    assert!(rt; add_outside(alloc, &mut log, 0, 1));
-    assert!(rt; add_called(alloc, &mut log, 1, 2, 7));
-    assert!(rt; add_called(alloc, &mut log, 1, 3, 8));
-    assert!(rt; add_outside(alloc, &mut log, 0, 4));
-    assert!(rt; !add_called(alloc, &mut log, 2, 5, 7));
-    assert!(rt; !add_called(alloc, &mut log, 2, 2, 9));
-    let log = log.copied(alloc).expect(&rt, "memory");
-    for (place, id) in [(0, 4), (1, 1), (2, 3), (3, 2)] {
-        assert!(rt; stands_at(&log, place, id), "{place}");
+    let mut log = Log::new(rt.alloc());
+    append(&rt, &mut log, 1, Origin::Outside);
+    append(&rt, &mut log, 2, called(&rt, 7));
+    insert(&rt, &mut log, 1, 3, called(&rt, 8));
+    insert(&rt, &mut log, 0, 4, Origin::Outside);
+    is_old(&rt, &log, 5, called(&rt, 7));
+    is_old(&rt, &log, 2, called(&rt, 9));
+    let log = log.copied(rt.alloc()).expect(&rt, "memory");
+    stands_at(&rt, &log, 0, 4);
+    stands_at(&rt, &log, 1, 1);
+    stands_at(&rt, &log, 2, 3);
+    stands_at(&rt, &log, 3, 2);
+    equal(&rt, log.len(), 4);
+    holds(&rt, "fifth", log.at(4).is_none());
+    holds(&rt, "place of 5", log.place_of(5).is_none());
+    holds(&rt, "call 7", id_of_call(&rt, &log, 7) == Some(2));
+    holds(&rt, "call 9", id_of_call(&rt, &log, 9).is_none());
+}
+
+fn struck(rt: &(impl Abort + AllocGlobal)) -> Made {
+    Made {
+        alive: false,
+        version: 0,
+        request: request(rt),
+        trace: dead_trace(rt.alloc()).expect(rt, "memory"),
     }
-    assert!(rt; log.len() == 4 && log.at(4).is_none() && log.place_of(5).is_none());
-    assert!(rt; holds_call(&log, &origin(alloc, 7).expect(&rt, "memory"), 2));
-    assert!(rt; !holds_call(&log, &origin(alloc, 9).expect(&rt, "memory"), 2));
+}
+
+// A log of one struck entry with a record.
+fn log_of_struck(rt: &(impl Abort + AllocGlobal)) -> Log {
+    let mut log = Log::new(rt.alloc());
+    let mut entry = entry(rt, 3, called(rt, 8));
+    entry.struck = true;
+    entry.made = Some(struck(rt));
+    assert!(rt; is_new(&log, &entry));
+    holds(rt, "appended", log.append(entry).is_ok());
+    log
+}
+
+fn is_alive(rt: &impl Abort, log: &Log, id: u64) -> bool {
+    log.find(id).expect(rt, "an entry").is_alive()
 }
 
 #[test]
 fn hands_the_old_entry_back(rt: HostRuntime) {
-    let alloc = rt.alloc();
-    let mut log = Log::new(alloc);
-    assert!(rt; add_called(alloc, &mut log, 0, 3, 8));
-    let mut changed = called(alloc, 3, 8).expect(&rt, "memory");
-    changed.struck = false;
-    assert!(rt; changed.is_alive());
-    let old = put(&mut log, changed);
-    assert!(rt; old.is_some_and(|e| e.id == 3 && !e.is_alive()));
-    assert!(rt; log.find(3).is_some_and(|e| e.is_alive()));
+    let mut log = log_of_struck(&rt);
+    holds(&rt, "struck", !is_alive(&rt, &log, 3));
+    let changed = entry(&rt, 3, called(&rt, 8));
+    assert!(rt; is_known(&log, &changed));
+    let old = log.put(changed);
+    equal(&rt, old.id, 3);
+    holds(&rt, "old", !old.is_alive());
+    holds(&rt, "new", is_alive(&rt, &log, 3));
 }

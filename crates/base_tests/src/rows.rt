@@ -1,303 +1,204 @@
+use crate::given::{equal, holds, name, repeated, request, same, text};
 use lang_core::{
-    Answers, CallId, CallMade, Calls, Cell, Cells, Copied, Method, Name, Names, NoMemory, Origin,
-    Program, Read, Reads, Request, RequestId, Response, Routes, Same, Setting, Text, Trace, Value,
-    Write, Writes, apply_writes, is_who, row_get, row_scan,
+    Answers, CallId, CallMade, Calls, Cell, Cells, Copied, Name, Names, Origin, Program, Read,
+    Reads, RequestId, Response, Routes, Same, Setting, Text, Trace, Value, Write, Writes,
+    apply_writes, is_who, row_get, row_scan,
 };
-use std::alloc::Global;
+use std::process::Abort;
 
-fn repeated(alloc: Global, byte: char, times: u64) -> Result<Text, NoMemory> {
-    let mut text = String::new(alloc);
-    for _ in 0..times {
-        text.push(byte)?;
-    }
-    Ok(Text::from(text))
-}
-
-fn is_name(alloc: Global, byte: char, times: u64) -> Result<bool, NoMemory> {
-    match Name::new(repeated(alloc, byte, times)?) {
-        Ok(name) => Ok(name.copied(alloc)?.is(&name)),
-        Err(_) => Ok(false),
-    }
-}
-
-fn cell(alloc: Global, table: &str, key: Text, size: u64) -> Result<Cell, NoMemory> {
-    Ok(Cell {
-        table: Text::of(alloc, table)?,
-        key,
-        text: repeated(alloc, 'x', size)?,
-    })
-}
-
-// Rows with so many cells of such a size under `k` of a table, one above them and one in another table.
-fn rows(alloc: Global, count: u64, size: u64) -> Result<Cells, NoMemory> {
-    let mut cells = Cells::new(alloc);
-    for n in 0..count {
-        let key = Text::from(format!(in alloc; "k{n:04}")?);
-        cells.set(cell(alloc, "t", key, size)?)?;
-    }
-    cells.set(cell(alloc, "t", Text::of(alloc, "l")?, size)?)?;
-    cells.set(cell(alloc, "s", Text::of(alloc, "k")?, size)?)?;
-    Ok(cells)
-}
-
-fn scans(alloc: Global, count: u64, size: u64, want: u64) -> Result<bool, NoMemory> {
-    let cells = rows(alloc, count, size)?;
-    let found = row_scan(
-        alloc,
-        &cells,
-        &Text::of(alloc, "t")?,
-        &Text::of(alloc, "k")?,
-    )?;
-    Ok(found.len() == want)
-}
-
-fn write(alloc: Global, key: &str, text: Option<&str>) -> Result<Write, NoMemory> {
-    let text = match text {
-        None => None,
-        Some(text) => Some(Text::of(alloc, text)?),
-    };
-    Ok(Write {
-        table: Text::of(alloc, "t")?,
-        key: Text::of(alloc, key)?,
-        text,
-    })
-}
-
-fn writes(alloc: Global) -> Result<Writes, NoMemory> {
-    let mut writes = Writes::new(alloc);
-    writes.set(write(alloc, "l", Some("new"))?)?;
-    writes.set(write(alloc, "a", Some("first"))?)?;
-    writes.set(write(alloc, "k0001", None)?)?;
-    Ok(writes)
-}
-
-fn written(alloc: Global) -> Result<Cells, NoMemory> {
-    let mut cells = rows(alloc, 2, 1)?;
-    apply_writes(alloc, &mut cells, &writes(alloc)?)?;
-    cells.copied(alloc)
-}
-
-fn holds(cells: &Cells, table: &Text, key: &Text, text: Option<&str>) -> bool {
-    match (row_get(cells, table, key), text) {
-        (None, None) => true,
-        (Some(found), Some(text)) => found.as_str() == text,
-        _ => false,
-    }
-}
-
-fn is_read(alloc: Global, key: &str, text: Option<&str>) -> Result<bool, NoMemory> {
-    let cells = written(alloc)?;
-    let table = Text::of(alloc, "t")?;
-    let key = Text::of(alloc, key)?;
-    Ok(cells.len() == 4 && holds(&cells, &table, &key, text))
-}
-
-fn reads_set(alloc: Global) -> Result<bool, NoMemory> {
-    is_read(alloc, "l", Some("new"))
-}
-
-fn reads_added(alloc: Global) -> Result<bool, NoMemory> {
-    is_read(alloc, "a", Some("first"))
-}
-
-fn reads_kept(alloc: Global) -> Result<bool, NoMemory> {
-    is_read(alloc, "k0000", Some("x"))
-}
-
-fn reads_removed(alloc: Global) -> Result<bool, NoMemory> {
-    is_read(alloc, "k0001", None)
-}
-
-fn is_user(alloc: Global, byte: char, times: u64) -> Result<bool, NoMemory> {
-    Ok(is_who(&repeated(alloc, byte, times)?))
-}
-
-fn is_true(answer: Result<bool, NoMemory>) -> bool {
-    match answer {
-        Ok(answer) => answer,
-        Err(_) => false,
-    }
+// Whether so many of a character are a name, and a user.
+fn are_names(
+    rt: &(impl Abort + AllocGlobal),
+    character: char,
+    times: u64,
+    is_name: bool,
+    is_user: bool,
+) {
+    let text = repeated(rt, "", character, times);
+    holds(rt, "user", is_who(&text) == is_user);
+    holds(rt, "name", Name::new(text).is_ok() == is_name);
 }
 
 #[test]
 fn keeps_forms(rt: HostRuntime) {
-    let alloc = rt.alloc();
-    for (byte, times, name, user) in [
-        ('a', 0, false, false),
-        ('_', 32, true, true),
-        ('z', 33, false, true),
-        ('A', 64, false, true),
-        ('~', 65, false, false),
-        (' ', 1, false, false),
-    ] {
-        assert!(rt;
-            is_true(is_name(alloc, byte, times)) == name,
-            "{byte} {times}"
-        );
-        assert!(rt;
-            is_true(is_user(alloc, byte, times)) == user,
-            "{byte} {times}"
-        );
+    are_names(&rt, 'a', 0, false, false);
+    are_names(&rt, '_', 32, true, true);
+    are_names(&rt, 'z', 33, false, true);
+    are_names(&rt, 'A', 64, false, true);
+    are_names(&rt, '~', 65, false, false);
+    are_names(&rt, ' ', 1, false, false);
+}
+
+fn set(rt: &(impl Abort + AllocGlobal), cells: &mut Cells, table: &str, key: Text, size: u64) {
+    let cell = Cell {
+        table: text(rt, table),
+        key,
+        text: repeated(rt, "", 'x', size),
+    };
+    cells.set(cell).expect(rt, "memory");
+}
+
+fn numbered(rt: &(impl Abort + AllocGlobal), n: u64) -> Text {
+    Text::from(format!(in rt.alloc(); "k{n:04}").expect(rt, "memory"))
+}
+
+// Rows with so many cells of such a size under `k` of a table, one above them and one in another table.
+fn rows(rt: &(impl Abort + AllocGlobal), count: u64, size: u64) -> Cells {
+    let mut cells = Cells::new(rt.alloc());
+    for n in 0..count {
+        set(rt, &mut cells, "t", numbered(rt, n), size);
     }
+    set(rt, &mut cells, "t", text(rt, "l"), size);
+    set(rt, &mut cells, "s", text(rt, "k"), size);
+    cells
+}
+
+fn scans(rt: &(impl Abort + AllocGlobal), count: u64, size: u64, want: u64) {
+    let cells = rows(rt, count, size);
+    let found = row_scan(rt.alloc(), &cells, &text(rt, "t"), &text(rt, "k"));
+    equal(rt, found.expect(rt, "memory").len(), want);
 }
 
 #[test]
 fn stops_a_scan(rt: HostRuntime) {
-    let alloc = rt.alloc();
-    for (count, size, want) in [
-        (1000, 0, 1000),
-        (1001, 0, 1001),
-        (1002, 0, 1001),
-        (6, 65531, 5),
-        (6, 65532, 4),
-    ] {
-        assert!(rt; is_true(scans(alloc, count, size, want)), "{count} {size}");
+    scans(&rt, 1000, 0, 1000);
+    scans(&rt, 1001, 0, 1001);
+    scans(&rt, 1002, 0, 1001);
+    scans(&rt, 6, 65531, 5);
+    scans(&rt, 6, 65532, 4);
+}
+
+fn write(rt: &(impl Abort + AllocGlobal), writes: &mut Writes, key: &str, text: Option<Text>) {
+    let write = Write {
+        table: crate::given::text(rt, "t"),
+        key: crate::given::text(rt, key),
+        text,
+    };
+    writes.set(write).expect(rt, "memory");
+}
+
+fn writes(rt: &(impl Abort + AllocGlobal)) -> Writes {
+    let mut writes = Writes::new(rt.alloc());
+    write(rt, &mut writes, "l", Some(text(rt, "new")));
+    write(rt, &mut writes, "a", Some(text(rt, "first")));
+    write(rt, &mut writes, "k0001", None);
+    writes
+}
+
+fn reads_as(rt: &(impl Abort + AllocGlobal), cells: &Cells, key: &str, want: Option<&str>) {
+    let table = text(rt, "t");
+    let key = text(rt, key);
+    match (row_get(cells, &table, &key), want) {
+        (Some(found), Some(want)) => same(rt, found.as_str(), want),
+        (found, want) => holds(rt, "none", found.is_none() && want.is_none()),
     }
 }
 
 #[test]
 fn reads_what_was_written(rt: HostRuntime) {
-    let alloc = rt.alloc();
-    assert!(rt; is_true(reads_set(alloc)));
-    assert!(rt; is_true(reads_added(alloc)));
-    assert!(rt; is_true(reads_kept(alloc)));
-    assert!(rt; is_true(reads_removed(alloc)));
+    let mut cells = rows(&rt, 2, 1);
+    apply_writes(rt.alloc(), &mut cells, &writes(&rt)).expect(&rt, "memory");
+    let cells = cells.copied(rt.alloc()).expect(&rt, "memory");
+    equal(&rt, cells.len(), 4);
+    reads_as(&rt, &cells, "l", Some("new"));
+    reads_as(&rt, &cells, "a", Some("first"));
+    reads_as(&rt, &cells, "k0000", Some("x"));
+    reads_as(&rt, &cells, "k0001", None);
 }
 
-// Whether a value is equal to its copy.
-fn copies<T: Copied + Same + Drop>(alloc: Global, value: &T) -> Result<bool, NoMemory> {
-    let copy = value.copied(alloc)?;
-    Ok(copy.is(value))
+// A value is equal to its copy.
+fn copies<T: Copied + Same + Drop>(rt: &(impl Abort + AllocGlobal), value: &T) {
+    let copy = value.copied(rt.alloc()).expect(rt, "memory");
+    holds(rt, "copied", copy.is(value));
 }
 
-fn request(alloc: Global) -> Result<Request, NoMemory> {
-    Ok(Request {
-        method: Method::Get,
-        path: Text::of(alloc, "/x")?,
-        body: Text::of(alloc, "b")?,
-        who: Text::of(alloc, "ann")?,
-        chain: Names::new(alloc),
-    })
-}
-
-fn reads(alloc: Global) -> Result<Reads, NoMemory> {
-    let mut reads = Reads::new(alloc);
-    reads.push(Read::Key {
-        table: Text::of(alloc, "t")?,
-        key: Text::of(alloc, "k")?,
+fn reads(rt: &(impl Abort + AllocGlobal)) -> Reads {
+    let mut reads = Reads::new(rt.alloc());
+    let key = Read::Key {
+        table: text(rt, "t"),
+        key: text(rt, "k"),
         found: None,
-    })?;
-    reads.push(Read::Scan {
-        table: Text::of(alloc, "t")?,
-        prefix: Text::of(alloc, "")?,
-        found: rows(alloc, 1, 1)?,
-    })?;
-    Ok(reads)
+    };
+    reads.push(key).expect(rt, "memory");
+    let scan = Read::Scan {
+        table: text(rt, "t"),
+        prefix: text(rt, ""),
+        found: rows(rt, 1, 1),
+    };
+    reads.push(scan).expect(rt, "memory");
+    reads
 }
 
-fn answers(alloc: Global) -> Result<Answers, NoMemory> {
-    let mut answers = Answers::new(alloc);
-    let body = Text::of(alloc, "")?;
-    answers.push(Response { status: 502, body })?;
-    Ok(answers)
+fn answers(rt: &(impl Abort + AllocGlobal)) -> Answers {
+    let mut answers = Answers::new(rt.alloc());
+    let body = text(rt, "");
+    answers
+        .push(Response { status: 502, body })
+        .expect(rt, "memory");
+    answers
 }
 
-fn name(alloc: Global) -> Result<Name, NoMemory> {
-    match Name::new(Text::of(alloc, "notes")?) {
-        Ok(name) => Ok(name),
-        Err(_) => Err(NoMemory),
-    }
+fn calls(rt: &(impl Abort + AllocGlobal)) -> Calls {
+    let mut calls = Calls::new(rt.alloc());
+    let dest = name(rt, "notes");
+    let request = request(rt);
+    calls.push(CallMade { dest, request }).expect(rt, "memory");
+    calls
 }
 
-fn calls(alloc: Global) -> Result<Calls, NoMemory> {
-    let mut calls = Calls::new(alloc);
-    let dest = name(alloc)?;
-    let request = request(alloc)?;
-    calls.push(CallMade { dest, request })?;
-    Ok(calls)
-}
-
-fn trace(alloc: Global) -> Result<Trace, NoMemory> {
-    Ok(Trace {
-        reads: reads(alloc)?,
-        calls: calls(alloc)?,
-        answers: answers(alloc)?,
-        writes: writes(alloc)?,
+fn copies_trace(rt: &(impl Abort + AllocGlobal)) {
+    let trace = Trace {
+        reads: reads(rt),
+        calls: calls(rt),
+        answers: answers(rt),
+        writes: writes(rt),
         response: Response {
             status: 200,
-            body: Text::of(alloc, "ok")?,
+            body: text(rt, "ok"),
         },
-    })
-}
-
-fn copies_request(alloc: Global) -> Result<bool, NoMemory> {
-    let request = request(alloc)?;
-    copies(alloc, &request)
-}
-
-fn copies_trace(alloc: Global) -> Result<bool, NoMemory> {
-    let trace = trace(alloc)?;
-    let copy = trace.copied(alloc)?;
-    Ok(copy.reads.is(&trace.reads) && copy.calls.is(&trace.calls))
-}
-
-fn copies_call(alloc: Global) -> Result<bool, NoMemory> {
-    let call = CallId {
-        service: name(alloc)?,
-        number: 7,
     };
-    Ok(call.copied(alloc)?.number == 7)
+    let copy = trace.copied(rt.alloc()).expect(rt, "memory");
+    holds(rt, "reads", copy.reads.is(&trace.reads));
+    holds(rt, "calls", copy.calls.is(&trace.calls));
 }
 
-fn copies_id(alloc: Global) -> Result<bool, NoMemory> {
-    let id = RequestId {
-        service: name(alloc)?,
-        number: 7,
+fn copies_ids(rt: &(impl Abort + AllocGlobal)) {
+    let (service, number) = (name(rt, "notes"), 7);
+    let call = CallId { service, number };
+    equal(rt, call.copied(rt.alloc()).expect(rt, "memory").number, 7);
+    let service = name(rt, "notes");
+    let id = RequestId { service, number };
+    equal(rt, id.copied(rt.alloc()).expect(rt, "memory").number, 7);
+    let caller = name(rt, "notes");
+    copies(rt, &Origin::Call { caller, number });
+}
+
+fn copies_setting(rt: &(impl Abort + AllocGlobal)) {
+    let program = Program::new(Routes::new(rt.alloc())).ok();
+    let setting = Setting {
+        me: name(rt, "notes"),
+        peers: Names::new(rt.alloc()),
+        program: program.expect(rt, "a program"),
+        weight: 9,
     };
-    Ok(id.copied(alloc)?.number == 7)
+    let copy = setting.copied(rt.alloc()).expect(rt, "memory");
+    equal(rt, copy.weight, 9);
 }
 
-fn copies_origin(alloc: Global) -> Result<bool, NoMemory> {
-    let origin = Origin::Call {
-        caller: name(alloc)?,
-        number: 7,
-    };
-    copies(alloc, &origin)
-}
-
-fn copies_setting(alloc: Global) -> Result<bool, NoMemory> {
-    match Program::new(Routes::new(alloc)) {
-        Err(_) => Ok(false),
-        Ok(program) => {
-            let me = name(alloc)?;
-            let peers = Names::new(alloc);
-            let setting = Setting {
-                me,
-                peers,
-                program,
-                weight: 9,
-            };
-            Ok(setting.copied(alloc)?.weight == 9)
-        }
-    }
-}
-
-fn copies_value(alloc: Global) -> Result<bool, NoMemory> {
-    let value = Value::Str(Text::of(alloc, "x")?);
-    match value.copied(alloc)? {
-        Value::Str(text) => Ok(text.as_str() == "x"),
-        _ => Ok(false),
+fn copies_value(rt: &(impl Abort + AllocGlobal)) {
+    let value = Value::Str(text(rt, "x"));
+    match value.copied(rt.alloc()).expect(rt, "memory") {
+        Value::Str(text) => same(rt, text.as_str(), "x"),
+        _ => holds(rt, "a text", false),
     }
 }
 
 #[test]
 fn copies_each_type(rt: HostRuntime) {
-    let alloc = rt.alloc();
-    assert!(rt; is_true(copies_request(alloc)));
-    assert!(rt; is_true(copies_trace(alloc)));
-    assert!(rt; is_true(copies_call(alloc)));
-    assert!(rt; is_true(copies_id(alloc)));
-    assert!(rt; is_true(copies_origin(alloc)));
-    assert!(rt; is_true(copies_setting(alloc)));
-    assert!(rt; is_true(copies_value(alloc)));
+    copies(&rt, &name(&rt, "notes"));
+    copies(&rt, &request(&rt));
+    copies_trace(&rt);
+    copies_ids(&rt);
+    copies_setting(&rt);
+    copies_value(&rt);
 }

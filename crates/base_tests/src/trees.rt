@@ -1,111 +1,104 @@
-use lang_base::{Copied, NoMemory, Text};
+use crate::given::{holds, repeated, text};
+use lang_base::Copied;
 use lang_tree::{
     Block, Boxed, Expr, Items, Method, Program, Route, Routes, Stmt, is_literal, is_path, is_word,
 };
-use std::alloc::Global;
+use std::process::Abort;
 
-fn repeated(alloc: Global, first: &str, byte: char, times: u64) -> Result<Text, NoMemory> {
-    let mut text = String::from_str(alloc, first)?;
-    for _ in 0..times {
-        text.push(byte)?;
-    }
-    Ok(Text::from(text))
-}
-
-fn nested_expr(alloc: Global, depth: u64) -> Result<Expr, NoMemory> {
+fn nested_expr(rt: &(impl Abort + AllocGlobal), depth: u64) -> Expr {
     let mut expr = Expr::Body;
     for _ in 1..depth {
-        expr = Expr::Number(Boxed::new(alloc, expr)?);
+        expr = Expr::Number(Boxed::new(rt.alloc(), expr).ok().expect(rt, "memory"));
     }
-    Ok(expr)
+    expr
 }
 
-fn block_of(alloc: Global, stmt: Stmt) -> Result<Block, NoMemory> {
-    let mut stmts = Items::new(alloc);
-    stmts.push(stmt)?;
-    Ok(Block { stmts })
+fn block_of(rt: &(impl Abort + AllocGlobal), stmt: Stmt) -> Block {
+    let mut stmts = Items::new(rt.alloc());
+    stmts.push(stmt).expect(rt, "memory");
+    Block { stmts }
 }
 
-fn nested_block(alloc: Global, depth: u64, body: Expr) -> Result<Block, NoMemory> {
+fn tested(rt: &(impl Abort + AllocGlobal), then: Block) -> Block {
+    block_of(
+        rt,
+        Stmt::If {
+            test: Expr::Body,
+            then,
+            other: None,
+        },
+    )
+}
+
+fn nested_block(rt: &(impl Abort + AllocGlobal), depth: u64, body: Expr) -> Block {
     let status = Expr::Integer(200);
-    let mut block = block_of(alloc, Stmt::Reply { status, body })?;
+    let mut block = block_of(rt, Stmt::Reply { status, body });
     for _ in 1..depth {
-        let test = Expr::Body;
-        block = block_of(
-            alloc,
-            Stmt::If {
-                test,
-                then: block,
-                other: None,
-            },
-        )?;
+        block = tested(rt, block);
     }
-    Ok(block)
+    block
+}
+
+fn routes(rt: &(impl Abort + AllocGlobal), block: Block) -> Routes {
+    let mut routes = Routes::new(rt.alloc());
+    let pattern = text(rt, "/n/*");
+    routes
+        .push(Route {
+            method: Method::Put,
+            pattern,
+            block,
+        })
+        .expect(rt, "memory");
+    routes
 }
 
 // Whether a program may nest so deep; the copy of one that may has as many routes.
-fn may_nest(alloc: Global, blocks: u64, exprs: u64) -> Result<bool, NoMemory> {
-    let block = nested_block(alloc, blocks, nested_expr(alloc, exprs)?)?;
-    let pattern = Text::of(alloc, "/n/*")?;
-    let mut routes = Routes::new(alloc);
-    routes.push(Route {
-        method: Method::Put,
-        pattern,
-        block,
-    })?;
-    match Program::new(routes) {
-        Ok(program) => Ok(program.copied(alloc)?.routes().len() == 1),
-        Err(_) => Ok(false),
-    }
-}
-
-// Whether such a text is a path, a word and a literal, or not, as wanted.
-fn has_forms(
-    alloc: Global,
-    first: &str,
-    byte: char,
-    times: u64,
-    want: (bool, bool, bool),
-) -> Result<bool, NoMemory> {
-    let text = repeated(alloc, first, byte, times)?;
-    Ok((is_path(&text), is_word(&text), is_literal(&text)) == want)
-}
-
-fn is_true(answer: Result<bool, NoMemory>) -> bool {
-    match answer {
-        Ok(answer) => answer,
+fn may_nest(rt: &(impl Abort + AllocGlobal), blocks: u64, exprs: u64) -> bool {
+    let block = nested_block(rt, blocks, nested_expr(rt, exprs));
+    match Program::new(routes(rt, block)) {
+        Ok(program) => {
+            let copy = program.copied(rt.alloc()).expect(rt, "memory");
+            copy.routes().len() == 1
+        }
         Err(_) => false,
     }
 }
 
+// Whether such a text is a path, a word and a literal.
+fn has_forms(
+    rt: &(impl Abort + AllocGlobal),
+    first: &str,
+    character: char,
+    times: u64,
+    path: bool,
+    word: bool,
+    literal: bool,
+) {
+    let text = repeated(rt, first, character, times);
+    holds(rt, "path", is_path(&text) == path);
+    holds(rt, "word", is_word(&text) == word);
+    holds(rt, "literal", is_literal(&text) == literal);
+}
+
 #[test]
 fn keeps_forms(rt: HostRuntime) {
-    let alloc = rt.alloc();
-    for (first, byte, times, want) in [
-        ("", 'a', 0, (false, false, true)),
-        ("/", '~', 1023, (true, false, true)),
-        ("/", '~', 1024, (false, false, true)),
-        ("/ ", '~', 1, (false, false, true)),
-        ("_", '9', 31, (false, true, true)),
-        ("_", '9', 32, (false, false, true)),
-        ("9", 'a', 1, (false, false, true)),
-        ("le", 't', 1, (false, false, true)),
-        ("Le", 't', 1, (false, true, true)),
-        ("", '\n', 65536, (false, false, true)),
-        ("", '\n', 65537, (false, false, false)),
-        ("a", '\r', 1, (false, false, false)),
-    ] {
-        assert!(rt;
-            is_true(has_forms(alloc, first, byte, times, want)),
-            "{first} {times}"
-        );
-    }
+    has_forms(&rt, "", 'a', 0, false, false, true);
+    has_forms(&rt, "/", '~', 1023, true, false, true);
+    has_forms(&rt, "/", '~', 1024, false, false, true);
+    has_forms(&rt, "/ ", '~', 1, false, false, true);
+    has_forms(&rt, "_", '9', 31, false, true, true);
+    has_forms(&rt, "_", '9', 32, false, false, true);
+    has_forms(&rt, "9", 'a', 1, false, false, true);
+    has_forms(&rt, "le", 't', 1, false, false, true);
+    has_forms(&rt, "Le", 't', 1, false, true, true);
+    has_forms(&rt, "", '\n', 65536, false, false, true);
+    has_forms(&rt, "", '\n', 65537, false, false, false);
+    has_forms(&rt, "a", '\r', 1, false, false, false);
 }
 
 #[test]
 fn keeps_depths(rt: HostRuntime) {
-    let alloc = rt.alloc();
-    assert!(rt; is_true(may_nest(alloc, 32, 32)));
-    assert!(rt; !is_true(may_nest(alloc, 33, 1)));
-    assert!(rt; !is_true(may_nest(alloc, 1, 33)));
+    holds(&rt, "32 blocks, 32 expressions", may_nest(&rt, 32, 32));
+    holds(&rt, "33 blocks, 1 expressions", !may_nest(&rt, 33, 1));
+    holds(&rt, "1 blocks, 33 expressions", !may_nest(&rt, 1, 33));
 }

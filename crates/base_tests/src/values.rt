@@ -1,85 +1,71 @@
-use lang_base::{Bytes, Copied, FaultNote, NoMemory, Same, Seq, Text};
-use std::alloc::Global;
+// That calls succeed where memory suffices.
+use crate::given::{equal, holds, same, text};
+use lang_base::{Bytes, Copied, FaultNote, Same, Seq};
 use std::cmp::Ordering;
+use std::process::Abort;
 
-fn numbers(alloc: Global) -> Result<Seq<u64>, NoMemory> {
-    let mut numbers = Seq::new(alloc);
-    numbers.push(3)?;
-    numbers.push(1)?;
-    Ok(numbers)
+// A value is equal to its copy.
+fn copies<T: Copied + Same + Drop>(rt: &(impl Abort + AllocGlobal), value: &T) {
+    let copy = value.copied(rt.alloc()).expect(rt, "memory");
+    holds(rt, "copied", copy.is(value));
 }
 
-fn texts(alloc: Global) -> Result<Seq<Text>, NoMemory> {
-    let mut texts = Seq::new(alloc);
-    texts.push(Text::of(alloc, "a")?)?;
-    texts.push(Text::of(alloc, "\u{fc}b")?)?;
-    Ok(texts)
+fn numbers(rt: &(impl Abort + AllocGlobal)) {
+    let mut numbers = Seq::new(rt.alloc());
+    numbers.push(3u64).expect(rt, "memory");
+    numbers.push(1).expect(rt, "memory");
+    equal(rt, numbers.len(), 2);
+    holds(rt, "second", numbers.at(1) == Some(&1));
+    holds(rt, "third", numbers.at(2).is_none());
+    copies(rt, &numbers);
 }
 
-// Whether a value is equal to its copy.
-fn copies<T: Copied + Same + Drop>(alloc: Global, value: &T) -> Result<bool, NoMemory> {
-    let copy = value.copied(alloc)?;
-    Ok(copy.is(value))
+fn texts(rt: &(impl Abort + AllocGlobal)) {
+    let mut texts = Seq::new(rt.alloc());
+    texts.push(text(rt, "a")).expect(rt, "memory");
+    texts.push(text(rt, "\u{fc}b")).expect(rt, "memory");
+    let last = texts.at(1).expect(rt, "a text");
+    equal(rt, last.len(), 3);
+    same(rt, last.as_str(), "\u{fc}b");
+    copies(rt, &texts);
 }
 
-fn holds_numbers(alloc: Global) -> Result<bool, NoMemory> {
-    let numbers = numbers(alloc)?;
-    Ok(
-        numbers.len() == 2
-            && numbers.at(1) == Some(&1)
-            && numbers.at(2).is_none()
-            && copies(alloc, &numbers)?,
-    )
+fn bytes(rt: &(impl Abort + AllocGlobal)) {
+    let bytes = Bytes::of(rt.alloc(), &[0, 255]).expect(rt, "memory");
+    let copy = bytes.copied(rt.alloc()).expect(rt, "memory");
+    holds(rt, "bytes", copy.as_slice() == [0, 255].as_slice());
 }
 
-fn holds_texts(alloc: Global) -> Result<bool, NoMemory> {
-    let texts = texts(alloc)?;
-    match texts.at(1) {
-        None => Ok(false),
-        Some(text) => Ok(text.len() == 3 && text.as_str() == "\u{fc}b" && copies(alloc, &texts)?),
-    }
-}
-
-fn holds_bytes(alloc: Global) -> Result<bool, NoMemory> {
-    let copy = Bytes::of(alloc, &[0, 255])?.copied(alloc)?;
-    Ok(copy.as_slice() == [0, 255].as_slice())
-}
-
-fn holds_note(alloc: Global) -> Result<bool, NoMemory> {
+fn note(rt: &(impl Abort + AllocGlobal)) {
     let note = FaultNote {
         before: 1,
         after: 2,
     };
-    Ok(note.copied(alloc)? == note)
+    let copy = note.copied(rt.alloc()).expect(rt, "memory");
+    holds(rt, "note", copy == note);
 }
 
-fn orders(alloc: Global) -> Result<bool, NoMemory> {
-    let low = Text::of(alloc, "ab")?;
-    let high = Text::of(alloc, "b")?;
-    Ok(low.order(&high) == Ordering::Less && high.order(&low) == Ordering::Greater)
+fn order(rt: &(impl Abort + AllocGlobal)) {
+    let low = text(rt, "ab");
+    let high = text(rt, "b");
+    holds(rt, "less", low.order(&high) == Ordering::Less);
+    holds(rt, "greater", high.order(&low) == Ordering::Greater);
 }
 
-fn begins(alloc: Global) -> Result<bool, NoMemory> {
-    let whole = Text::of(alloc, "ab")?;
-    let front = Text::of(alloc, "a")?;
-    Ok(whole.begins_with(&front) && !front.begins_with(&whole))
-}
-
-fn is_true(answer: Result<bool, NoMemory>) -> bool {
-    match answer {
-        Ok(answer) => answer,
-        Err(_) => false,
-    }
+fn begins(rt: &(impl Abort + AllocGlobal)) {
+    let whole = text(rt, "ab");
+    let front = text(rt, "a");
+    holds(rt, "whole", whole.begins_with(&front));
+    holds(rt, "front", !front.begins_with(&whole));
 }
 
 #[test]
 fn copies_and_compares(rt: HostRuntime) {
-    let alloc = rt.alloc();
-    assert!(rt; is_true(holds_numbers(alloc)));
-    assert!(rt; is_true(holds_texts(alloc)));
-    assert!(rt; is_true(holds_bytes(alloc)));
-    assert!(rt; is_true(holds_note(alloc)));
-    assert!(rt; is_true(copies(alloc, &Some(9u64))));
-    assert!(rt; is_true(orders(alloc)));
-    assert!(rt; is_true(begins(alloc)));
+    numbers(&rt);
+    texts(&rt);
+    bytes(&rt);
+    note(&rt);
+    copies(&rt, &Some(9u64));
+    order(&rt);
+    begins(&rt);
 }
