@@ -1,5 +1,5 @@
 -- A service that calls nobody has nothing to settle, and its repair is a function of the log.
-use Rattle.std.proofs.Common.{◌≡◌, ℕ, Bool, true, false, if◌then◌else◌, List, [], ◌∷◌, ◌++◌, map, length, refl, sym, ap, ◌∙◌, arith}
+use Rattle.std.proofs.Common.{◌≡◌, ℕ, Bool, true, false, if◌then◌else◌, List, [], ◌∷◌, ◌++◌, length, refl, sym, ap, ◌∙◌, arith}
 use Rattle.lang_core.specs.Traces.{dead_trace}
 use Rattle.lang_core.specs.declared.cells.Cell.{Cell}
 use Rattle.lang_core.specs.declared.inputs.Inputs.{Inputs}
@@ -15,6 +15,7 @@ use Rattle.request_log.specs.declared.entry.Entry.{Entry}
 use Rattle.request_log.specs.declared.entry.Made.{Made}
 use Rattle.local_repair.specs.Alone.{trace_or_dead, trace_on, made_on, remade_on}
 use Rattle.local_repair.specs.Current.{Consumed}
+use Rattle.local_repair.specs.Registers.{Change}
 use Rattle.local_repair.specs.Settling.{CanSettle, CallsNone}
 use Rattle.local_repair.specs.Steps.{remade, IsRerun, IsRemade, StepsTo}
 use Rattle.local_repair.specs.Tests.{step_with}
@@ -76,19 +77,19 @@ made_is : (m : Made) (a : Bool) (v : ℕ) (q : Request) (t : Trace) → m.alive 
     → m ≡ record { alive = a; version = v; request = q; trace = t }
 made_is m a v q t ea ev eq et = λ i. record { alive = ea i; version = ev i; request = eq i; trace = et i }
 
-no_slots : (consumed : Consumed) (slots : List ℕ) → map consumed slots ≡ [] → slots ≡ []
-no_slots consumed [] e = refl
-no_slots consumed (n ∷ ns) e = cc
+no_slots : (slots : List ℕ) → length slots ≡ 0 → slots ≡ []
+no_slots [] e = refl
+no_slots (n ∷ ns) e = absurd (omega (arith, e))
 
-pub alone_remade : (setting : Setting) → setting.peers ≡ [] → (old new : Consumed) (rows : List Cell) (e e' : Entry) → IsRemade setting old new rows e e' → e' ≡ remade_on setting rows e
-alone_remade setting none old new rows e e' r =
-    let p = rerun_trace setting none old rows e r.made r.rerun (is_alive e) refl in
+alone_remade : (setting : Setting) → setting.peers ≡ [] → (c : Change) (rows : List Cell) (e e' : Entry) → IsRemade setting c rows e e' → e' ≡ remade_on setting rows e
+alone_remade setting none c rows e e' r =
+    let p = rerun_trace setting none c.before rows e r.made r.rerun (is_alive e) refl in
     let made : r.made ≡ made_on setting rows e = made_is r.made (is_alive e) e.version e.request (made_on setting rows e).trace r.rerun.alive r.rerun.version r.rerun.request p.0 in
-    let slots : r.slots ≡ [] = no_slots new r.slots (r.consumes ∙ p.1) in
+    let slots : r.slots ≡ [] = no_slots r.slots (r.count ∙ ap length p.1) in
     r.is ∙ ap (λ ns. remade e r.made ns) slots ∙ ap (λ m. remade e m []) made
 
 -- a step is this function of its log
-pub alone_step : (setting : Setting) → setting.peers ≡ [] → (old new : Consumed) (before after : List Entry) (stepped : Stepped) → StepsTo setting old new before stepped after
-    → after ≡ step_with old (remade_on setting) [] before
-alone_step setting none old new before after stepped s =
-    step_is setting old new (remade_on setting) (λ rows e e' r. alone_remade setting none old new rows e e' r) before after stepped s
+pub alone_step : (setting : Setting) → setting.peers ≡ [] → (c : Change) (before after : List Entry) (stepped : Stepped) → StepsTo setting c before stepped after
+    → after ≡ step_with c.before (remade_on setting) [] before
+alone_step setting none c before after stepped s =
+    step_is setting c (remade_on setting) (λ rows e e' r. alone_remade setting none c rows e e' r) before after stepped s

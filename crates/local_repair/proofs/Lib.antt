@@ -5,7 +5,6 @@ pub mod EarlierLemmas
 pub mod FindLemmas
 pub mod HandlerLemmas
 pub mod KeyLemmas
-pub mod LogLemmas
 pub mod MemberLemmas
 pub mod ReplayLemmas
 pub mod ScanLemmas

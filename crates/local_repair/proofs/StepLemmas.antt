@@ -1,32 +1,31 @@
 -- What a repair step leaves.
-use Rattle.std.proofs.Common.{◌≡◌, ◌≢◌, ℕ, suc, ◌<◌, ◌≤◌, Bool, List, [], ◌∷◌, ◌++◌, Option, Some, None, IfSome, IsSomeAnd, All, Contains, map, length, get_or, set, take, refl, sym, ap, ◌∙◌, subst, inl, inr, arith, append-nil, get_or-set_same, get_or-set_other}
-use Rattle.std.specs.List.{find, position_or_len}
+use Rattle.std.proofs.Common.{◌≡◌, ◌≢◌, ℕ, zero, suc, ◌<◌, ◌≤◌, Bool, List, [], ◌∷◌, ◌++◌, Option, Some, None, IfSome, IsSomeAnd, All, Contains, map, length, get_or, set, take, refl, sym, ap, ◌∙◌, subst, inl, inr, arith, Result, Ok, Err, IfOk, append-nil, get_or-set_same, get_or-set_other}
 use Rattle.std.proofs.lemmas.Bool.{cases_Bool, cases_eq}
 use Rattle.std.proofs.lemmas.List.{take-set, get_or_default, get_or-take, length-take}
 use Rattle.std.proofs.lemmas.List.Elements.{All-nil, All-set, All-get_or}
-use Rattle.std.proofs.Math.ListN.{length-set, length-map}
+use Rattle.std.proofs.Math.ListN.{length-set}
+use Rattle.lang_base.specs.declared.memory.NoMemory.{NoMemory}
 use Rattle.lang_core.specs.declared.cells.Cell.{Cell}
 use Rattle.lang_core.specs.declared.request.Request.{Request}
-use Rattle.lang_core.specs.declared.request.Response.{Response}
 use Rattle.lang_core.specs.declared.setting.Setting.{Setting}
 use Rattle.lang_core.specs.declared.trace.CallMade.{CallMade}
 use Rattle.lang_core.specs.declared.trace.Trace.{Trace}
 use Rattle.handler_run.specs.Handlers.{run_of}
 use Rattle.handler_run.specs.Reads.{Gives, GivesAll}
 use Rattle.handler_run.specs.declared.state.Ran.TheVariants.{Done}
-use Rattle.request_log.specs.Entries.{is_alive, has_id, IsDistinct, IsKnown, with_entry}
+use Rattle.request_log.specs.Entries.{is_alive, with_run}
 use Rattle.request_log.specs.declared.entry.Entry.{Entry}
 use Rattle.request_log.specs.declared.entry.Made.{Made}
 use Rattle.local_repair.specs.Current.{Consumed, after_entry, rows_of, IsCurrentRecord, IsCurrent, AllCurrent, IsFirstStale, IsRun, AllRuns}
-use Rattle.local_repair.specs.Repairs.{IsStaleAgain}
-use Rattle.local_repair.specs.Settling.{HasItsSlots, CanSettle, IsSettled, IsAgain, IsFirstAgain, Leaves}
-use Rattle.local_repair.specs.Steps.{answers_for, calls_of_made, remade, IsRerun, IsRemade, IsFreshOr, AreApart, RanFirst, StepsTo}
+use Rattle.local_repair.specs.Registers.{Change}
+use Rattle.local_repair.specs.Settling.{HasItsSlots, CanSettle, IsAgain, noted, Leaves}
+use Rattle.local_repair.specs.Steps.{answers_for, calls_of_made, raised, raised_if, IsRerun, IsRemade, IsFreshOr, StandOnce, AreApart, RanFirst, StepsTo}
 use Rattle.local_repair.specs.Tests.{step_with}
+use Rattle.local_repair.specs.declared.remaking.Again.{Again}
 use Rattle.local_repair.specs.declared.stepped.Stepped.{Stepped}
 use Rattle.local_repair.specs.declared.stepped.Stepped.TheVariants.{Idle, Ran}
-use Rattle.local_repair.proofs.CurrentLemmas.{AllCurrent-more}
+use Rattle.local_repair.proofs.CurrentLemmas.{AllCurrent-more, next_later}
 use Rattle.local_repair.proofs.HandlerLemmas.{IsHandler}
-use Rattle.local_repair.proofs.LogLemmas.{place_of_id, found_at}
 use Rattle.local_repair.proofs.TestLemmas.{step_with_none, step_with_at}
 
 -- a new record is what a run gave
@@ -98,9 +97,9 @@ at_most last last' n own (inl kept) given l = let below = given kept in omega ar
 at_most last last' n own (inr new) given l = new.1
 
 -- the entries stay apart
-apart_after : (old new : Consumed) (last last' : ℕ) (entries : List Entry) (place : ℕ) (x y : Entry) (answers : List Response) → AreApart last entries → place < length entries
-    → ((d : Entry) → get_or entries place d ≡ x) → IsSettled old new last last' x.slots y.slots answers → AreApart last' (set entries place y)
-apart_after old new last last' entries place x y answers apart l at s = record {
+apart_after : (last last' : ℕ) (entries : List Entry) (place : ℕ) (x y : Entry) → AreApart last entries → place < length entries → ((d : Entry) → get_or entries place d ≡ x)
+    → ((n : ℕ) → Contains y.slots n → IsFreshOr x.slots last last' n) → StandOnce y.slots → last ≤ last' → AreApart last' (set entries place y)
+apart_after last last' entries place x y apart l at fresh once higher = record {
   apart = λ j k d before within n inj ink.
       let w : k < length entries = (let P : ℕ → Type 0 = λ m. k < m in subst P (length-set entries place y) within) in
       let given : (m : ℕ) → m < length entries → Contains (get_or entries m d).slots n → n ≤ last = λ m lm. All-get_or (λ (e : Entry). (i : ℕ) → Contains e.slots i → i ≤ last) entries m d lm apart.given n in
@@ -109,19 +108,20 @@ apart_after old new last last' entries place x y answers apart l at s = record {
         | inl jp ↦ (let yj : Contains y.slots n = subst E (first_is j d jp) inj in
             let kp : k ≢ place = omega arith in
             let other : Contains (get_or entries k d).slots n = subst E (get_or-set_other entries place k y d kp) ink in
-            not_both last last' n x.slots (get_or entries k d).slots (s.fresh n yj) (given k w)
+            not_both last last' n x.slots (get_or entries k d).slots (fresh n yj) (given k w)
             (λ mine there. apart.apart j k d before w n (subst E (old_is j d jp) mine) there) other)
         | inr jn ↦ (let yj : Contains (get_or entries j d).slots n = subst E (get_or-set_other entries place j y d jn) inj in
             elim (cases_eq k place) [
               | inl kp ↦ (let other : Contains y.slots n = subst E (first_is k d kp) ink in
-                  not_both last last' n x.slots (get_or entries j d).slots (s.fresh n other) (given j (omega arith))
+                  not_both last last' n x.slots (get_or entries j d).slots (fresh n other) (given j (omega arith))
                   (λ mine there. apart.apart j k d before w n there (subst E (old_is k d kp) mine)) yj)
               | inr kn ↦ apart.apart j k d before w n yj (subst E (get_or-set_other entries place k y d kn) ink)
             ])
       ];
+  once = All-set (λ e. StandOnce e.slots) entries place y once apart.once;
   given = All-set (λ e. (n : ℕ) → Contains e.slots n → n ≤ last') entries place y
-      (λ n there. at_most last last' n x.slots (s.fresh n there) (λ mine. (let E : Entry → Type 0 = λ e. Contains e.slots n in All-get_or (λ (e : Entry). (i : ℕ) → Contains e.slots i → i ≤ last) entries place x l apart.given n (subst E (sym (at x)) mine))) s.later)
-      (λ k d w n there. let below = apart.given k d w n there in let more = s.later in omega arith);
+      (λ n there. at_most last last' n x.slots (fresh n there) (λ mine. (let E : Entry → Type 0 = λ e. Contains e.slots n in All-get_or (λ (e : Entry). (i : ℕ) → Contains e.slots i → i ≤ last) entries place x l apart.given n (subst E (sym (at x)) mine))) higher)
+      (λ k d w n there. let below = apart.given k d w n there in let more = higher in omega arith);
 }
   where
     first_is : (j : ℕ) (d : Entry) → j ≡ place → get_or (set entries place y) j d ≡ y
@@ -130,100 +130,106 @@ apart_after old new last last' entries place x y answers apart l at s = record {
     old_is : (j : ℕ) (d : Entry) → j ≡ place → x ≡ get_or entries j d
     old_is j d e = sym (at d) ∙ ap (λ k. get_or entries k d) (sym e)
 
--- what a step leaves where the first stale entry was made anew
-pub step_leaves : (setting : Setting) → IsHandler setting → (old new : Consumed) (last last' : ℕ) (entries : List Entry) (place : ℕ) (was entry : Entry) (answered : Bool) (m : Made) (slots : List ℕ)
-    → IsFirstStale old entries place → ((d : Entry) → get_or entries place d ≡ was) → IsRerun setting old (rows_of (take place entries)) was m
-    → IsSettled old new last last' was.slots slots m.trace.answers → entry ≡ remade was m slots
-    → AllRuns setting entries → AreApart last entries → All HasItsSlots entries → Leaves setting new last' place (set entries place entry)
-step_leaves setting h old new last last' entries place was entry answered m slots first at rerun settled is runs apart own =
+-- what a step leaves where the first stale entry ran again
+step_leaves : (setting : Setting) → IsHandler setting → (c : Change) (entries : List Entry) (place : ℕ) (was : Entry) (again : Again)
+    → IsFirstStale c.before entries place → ((d : Entry) → get_or entries place d ≡ was) → IsAgain setting c (rows_of (take place entries)) was again
+    → AllRuns setting entries → AreApart c.last entries → All HasItsSlots entries → Leaves setting c place (set entries place (noted again was))
+step_leaves setting h c entries place was again first at a runs apart own =
     let rows = rows_of (take place entries) in
-    let z : Entry = remade was m slots in
+    let z : Entry = noted again was in
+    let m : Made = again.made in
     let l = first.within in
-    let current : IsCurrent new rows z = record { alive = rerun.alive; version = rerun.version; request = rerun.request; reads = rerun_reads setting h old rows was m rerun; answers = sym settled.consumes } in
-    let before : AllCurrent new [] (take place entries) = all_same_current old new (take place entries) [] (λ e c. map_same old new e.slots (λ n there.
-    let o = others_apart last entries place was apart l e c n there in
-    settled.others n o.0 (λ mine. o.1 (let E : Entry → Type 0 = λ v. Contains v.slots n in subst E (sym (at was)) mine)))) first.before in
-    let many : length slots ≡ length m.trace.calls = sym (length-map slots new) ∙ ap length (settled.consumes ∙ rerun.answers) ∙ length-answers_for old (calls_of_made was.made) was.slots m.trace.calls in
-    let After : Entry → Type 0 = λ v. Leaves setting new last' place (set entries place v) in
-    subst After (sym is) (record {
-      runs = All-set (λ e. IfSome e.made (IsRun setting e.inputs)) entries place z (rerun_is setting h old rows was m rerun) runs;
-      apart = apart_after old new last last' entries place was z m.trace.answers apart l at settled;
+    let current : c.timely → IsCurrent c.after rows z = λ ok. record { alive = a.rerun.alive; version = a.rerun.version; request = a.rerun.request; reads = rerun_reads setting h c.before rows was m a.rerun; answers = sym (a.settled.consumes ok) } in
+    let before : AllCurrent c.after [] (take place entries) = all_same_current c.before c.after (take place entries) [] (λ e k. map_same c.before c.after e.slots (λ n there.
+    let o = others_apart c.last entries place was apart l e k n there in
+    a.settled.others n o.0 (λ mine. o.1 (let E : Entry → Type 0 = λ v. Contains v.slots n in subst E (sym (at was)) mine)))) first.before in
+    let many : length again.numbers ≡ length m.trace.calls = a.settled.count ∙ ap length a.rerun.answers ∙ length-answers_for c.before (calls_of_made was.made) was.slots m.trace.calls in
+    record {
+      runs = All-set (λ e. IfSome e.made (IsRun setting e.inputs)) entries place z (rerun_is setting h c.before rows was m a.rerun) runs;
+      apart = apart_after c.last c.later entries place was z apart l at a.settled.fresh a.settled.once a.settled.higher;
       own = All-set HasItsSlots entries place z many own;
-      current = AllCurrent-more new (set entries place z) place z [] (rw length-set l) (sym (get_or-set_same entries place z z l)) (rw (take-set entries place z) before) (rw (take-set entries place z) current);
-    })
+      current = λ ok. AllCurrent-more c.after (set entries place z) place z [] (rw length-set l) (sym (get_or-set_same entries place z z l)) (rw (take-set entries place z) before) (rw (take-set entries place z) (current ok));
+    }
 
 -- the same, as a step
-pub steps_to : (setting : Setting) → IsHandler setting → (old new : Consumed) (last last' : ℕ) (entries after : List Entry) (place : ℕ) (entry : Entry) (answered : Bool) (id : ℕ)
-    → IsFirstAgain setting old new last last' entries place entry answered → AllRuns setting entries → AreApart last entries → All HasItsSlots entries
-    → after ≡ set entries place entry → id ≡ entry.id
-    → Leaves setting new last' place after × RanFirst setting old new entries id answered after
-steps_to setting h old new last last' entries after place entry answered id f runs apart own e named =
-    let a = f.again in
-    let left : Leaves setting new last' place (set entries place entry) =
-    step_leaves setting h old new last last' entries place f.was entry answered a.made a.slots f.first f.there a.rerun a.settled a.is runs apart own in
-    let there : Leaves setting new last' place after = (let P : List Entry → Type 0 = λ xs. Leaves setting new last' place xs in subst P (sym e) left) in (
-      there,
+ran_first : (setting : Setting) → IsHandler setting → (c : Change) (entries after : List Entry) (place : ℕ) (was : Entry) (again : Again)
+    → IsFirstStale c.before entries place → ((d : Entry) → get_or entries place d ≡ was) → IsAgain setting c (rows_of (take place entries)) was again
+    → AllRuns setting entries → AreApart c.last entries → All HasItsSlots entries → after ≡ set entries place (noted again was)
+    → Leaves setting c place after × RanFirst setting c entries was.id again.answered after
+ran_first setting h c entries after place was again first at a runs apart own e =
+    let left : Leaves setting c place after =
+    (let P : List Entry → Type 0 = λ xs. Leaves setting c place xs in subst P (sym e) (step_leaves setting h c entries place was again first at a runs apart own)) in (
+      left,
       record {
         place = place;
-        first = f.first;
-        was = f.was;
-        there = f.there;
-        entry = entry;
-        remade = record { made = a.made; rerun = a.rerun; slots = a.slots; consumes = a.settled.consumes; is = a.is };
-        names = named ∙ ap (λ (x : Entry). x.id) a.is;
+        first = first;
+        was = was;
+        there = at;
+        entry = noted again was;
+        remade = record {
+          made = again.made;
+          rerun = a.rerun;
+          slots = again.numbers;
+          settled = (let S : Bool → Type 0 = λ b. c.settles was again.made.trace b again.numbers in subst S a.tells a.how);
+          count = a.settled.count;
+          consumes = a.settled.consumes;
+          is = ap (λ b. with_run again.made again.numbers (raised_if b was.answer_version) (raised was.runs) was) a.tells;
+        };
+        names = refl;
         tells = a.tells;
         rest = e;
-        current = there.current;
+        current = left.current;
+        later = λ ok next stale. next_later c.after after place next was (left.current ok) stale;
       },
     )
 
+-- a place within has an entry
+entry_at : (entries : List Entry) (place : ℕ) → place < length entries → (e : Entry) × ((d : Entry) → get_or entries place d ≡ e)
+entry_at [] place l = absurd (omega (arith, l))
+entry_at (x ∷ xs) zero l = (x, λ d. refl)
+entry_at (x ∷ xs) (suc place) l = entry_at xs place (omega (arith, l))
+
+-- what a step answers and leaves, from what was run again and noted
+pub stepped : (setting : Setting) → IsHandler setting → (c : Change) (entries after : List Entry) (place : ℕ) (again : Again) (answer : Stepped) → IsFirstStale c.before entries place
+    → ((d : Entry) → IsAgain setting c (rows_of (take place entries)) (get_or entries place d) again)
+    → ((d : Entry) → answer ≡ Ran (get_or entries place d).id again.answered) → ((d : Entry) → after ≡ set entries place (noted again (get_or entries place d)))
+    → AllRuns setting entries → AreApart c.last entries → All HasItsSlots entries
+    → Leaves setting c place after × StepsTo setting c entries answer after
+stepped setting h c entries after place again answer first a told put runs apart own =
+    let x = entry_at entries place first.within in
+    let was : Entry = x.0 in
+    let at : (d : Entry) → get_or entries place d ≡ was = x.1 in
+    let A : Entry → Type 0 = λ e. IsAgain setting c (rows_of (take place entries)) e again in
+    let P : Entry → Type 0 = λ e. after ≡ set entries place (noted again e) in
+    let T : Entry → Type 0 = λ e. answer ≡ Ran e.id again.answered in
+    let S : Stepped → Type 0 = λ s. StepsTo setting c entries s after in
+    let r = ran_first setting h c entries after place was again first at (subst A (at was) (a was)) runs apart own (subst P (at was) (put was)) in
+    (r.0, subst S (sym (subst T (at was) (told was))) r.1)
+
 -- a step is a function of the log where an entry made anew is a function of the rows and the entry
-pub step_is : (setting : Setting) (old new : Consumed) (remake : List Cell → Entry → Entry) → ((rows : List Cell) (e e' : Entry) → IsRemade setting old new rows e e' → e' ≡ remake rows e)
-    → (before after : List Entry) (stepped : Stepped) → StepsTo setting old new before stepped after → after ≡ step_with old remake [] before
-step_is setting old new remake is before after Idle s = s.1 ∙ sym (step_with_none old remake before [] s.0)
-step_is setting old new remake is before after (Ran id answered) s =
+pub step_is : (setting : Setting) (c : Change) (remake : List Cell → Entry → Entry) → ((rows : List Cell) (e e' : Entry) → IsRemade setting c rows e e' → e' ≡ remake rows e)
+    → (before after : List Entry) (answer : Stepped) → StepsTo setting c before answer after → after ≡ step_with c.before remake [] before
+step_is setting c remake is before after Idle s = s.1 ∙ sym (step_with_none c.before remake before [] s.0)
+step_is setting c remake is before after (Ran id answered) s =
     s.rest ∙ ap (λ e. set before s.place e) (is (rows_of (take s.place before)) s.was s.entry s.remade ∙ ap (λ e. remake (rows_of (take s.place before)) e) (sym (s.there s.was)))
-    ∙ sym (step_with_at old remake before s.place s.was s.first)
+    ∙ sym (step_with_at c.before remake before s.place s.was s.first)
 
--- the first stale entry made anew, from its place and the rows before it
-pub stale_again : (setting : Setting) (old new : Consumed) (last last' : ℕ) (entries : List Entry) (place : ℕ) (was entry : Entry) (rows : List Cell) (answered : Bool)
-    → IsFirstStale old entries place → rows ≡ rows_of (take place entries) → was ≡ get_or entries place was
-    → IsAgain setting old new last last' rows was entry answered → IsStaleAgain setting old new last last' entries entry answered
-stale_again setting old new last last' entries place was entry rows answered first before at again = (
-  place,
-  record {
-    first = first;
-    was = was;
-    there = λ d. sym (at ∙ get_or_default entries place was d first.within);
-    again = (let P : List Cell → Type 0 = λ r. IsAgain setting old new last last' r was entry answered in subst P before again);
-  },
-)
+-- an entry that ran again, by its place
+pub again_at : (setting : Setting) (c : Change) (entries : List Entry) (place : ℕ) (was : Entry) (rows : List Cell) (r : Result Again NoMemory) → place < length entries → was ≡ get_or entries place was
+    → rows ≡ rows_of (take place entries) → IfOk r (λ again. IsAgain setting c rows was again)
+    → IfOk r (λ again. (d : Entry) → IsAgain setting c (rows_of (take place entries)) (get_or entries place d) again)
+again_at setting c entries place was rows (Ok again) l read before h = λ d.
+    let A : List Cell → Entry → Type 0 = λ rs e. IsAgain setting c rs e again in
+    let B : List Cell → Type 0 = λ rs. A rs was in
+    subst (A (rows_of (take place entries))) (read ∙ get_or_default entries place was d l) (subst B before h)
+again_at setting c entries place was rows (Err e) l read before h = tt
 
--- its number and its origin are the old ones, so it is known
-pub stale_known : (setting : Setting) (old new : Consumed) (last last' : ℕ) (entries : List Entry) (entry : Entry) (answered : Bool)
-    → IsStaleAgain setting old new last last' entries entry answered → IsDistinct entries → IsKnown entry entries
-stale_known setting old new last last' entries entry answered s distinct =
-    let f = s.1 in
-    let found : find (has_id f.was.id) entries ≡ Some f.was =
-    (let P : Entry → Type 0 = λ e. find (has_id e.id) entries ≡ Some e in subst P (f.there f.was) (found_at entries s.0 f.was distinct f.first.within)) in
-    let P : Entry → Type 0 = λ e. IsKnown e entries in
-    subst P (sym f.again.is) (known_by (find (has_id f.was.id) entries) f.was found)
-  where
-    known_by : (o : Option Entry) (e : Entry) → o ≡ Some e → IsSomeAnd o (λ x. x.origin ≡ e.origin)
-    known_by None e h = cc
-    known_by (Some x) e h = let same : x ≡ e = cc in ap (λ (v : Entry). v.origin) same
+abbrev pub ok : Stepped → Result Stepped NoMemory
+ok answer = Ok answer
 
--- put in place of the old one it is what a step leaves
-pub stale_put : (setting : Setting) → IsHandler setting → (old new : Consumed) (last last' : ℕ) (entries after : List Entry) (entry : Entry) (answered : Bool)
-    → IsStaleAgain setting old new last last' entries entry answered → IsDistinct entries → AllRuns setting entries → AreApart last entries → All HasItsSlots entries
-    → after ≡ with_entry entry entries
-    → (AllRuns setting after × AreApart last' after × All HasItsSlots after) × RanFirst setting old new entries entry.id answered after
-stale_put setting h old new last last' entries after entry answered s distinct runs apart own put =
-    let f = s.1 in
-    let id : entry.id ≡ f.was.id = ap (λ (x : Entry). x.id) f.again.is in
-    let place : position_or_len (has_id entry.id) entries ≡ s.0 =
-    ap (λ n. position_or_len (has_id n) entries) id
-    ∙ (let P : Entry → Type 0 = λ e. position_or_len (has_id e.id) entries ≡ s.0 in subst P (f.there f.was) (place_of_id entries s.0 f.was distinct f.first.within)) in
-    let e : after ≡ set entries s.0 entry = put ∙ ap (λ k. set entries k entry) place in
-    let r = steps_to setting h old new last last' entries after s.0 entry answered entry.id f runs apart own e refl in
-    ((r.0.runs, r.0.apart, r.0.own), r.1)
+-- a step that ran isn't idle
+pub not_idle : (entries : List Entry) (place : ℕ) (answered : Bool) (answer : Stepped) → place < length entries → ((d : Entry) → answer ≡ Ran (get_or entries place d).id answered)
+    → ok answer ≡ ok Idle → ⊥
+not_idle entries place answered answer l told idle =
+    let ran = told (entry_at entries place l).0 in
+    cc

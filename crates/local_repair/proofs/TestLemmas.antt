@@ -113,6 +113,16 @@ pub first_stale_at : (consumed : Consumed) (entries : List Entry) (place : ℕ) 
     → first_stale consumed [] entries ≡ Some (get_or entries place d)
 first_stale_at consumed entries place d first = stale_from consumed entries [] place d first.within first.before (first.stale d)
 
+-- where all are current, none is the first stale entry
+some_none : (o : Option Entry) (e : Entry) → o ≡ None → o ≡ Some e → ⊥
+some_none None e n s = cc
+some_none (Some x) e n s = cc
+
+pub none_first : (consumed : Consumed) (entries : List Entry) (place : ℕ) → AllCurrent consumed [] entries → IsFirstStale consumed entries place → ⊥
+none_first consumed [] place all first = absurd (omega (arith, first.within))
+none_first consumed (e ∷ es) place all first =
+    some_none (first_stale consumed [] (e ∷ es)) (get_or (e ∷ es) place e) (first_stale_none consumed (e ∷ es) [] all) (first_stale_at consumed (e ∷ es) place e first)
+
 -- a step where all are current changes nothing
 pub step_with_none : (consumed : Consumed) (remake : List Cell → Entry → Entry) (entries : List Entry) (rows : List Cell) → AllCurrent consumed rows entries
     → step_with consumed remake rows entries ≡ entries

@@ -1,5 +1,5 @@
 -- The repair of a service that calls nobody, as a function of the rows and the entry.
-use Rattle.std.specs.Prelude.{List, [], if◌then◌else◌}
+use Rattle.std.specs.Prelude.{ℕ, ◌≡◌, Bool, List, [], if◌then◌else◌}
 use Rattle.lang_core.specs.Traces.{dead_trace}
 use Rattle.lang_core.specs.declared.cells.Cell.{Cell}
 use Rattle.lang_core.specs.declared.inputs.Inputs.{Inputs}
@@ -12,7 +12,17 @@ use Rattle.handler_run.specs.declared.state.Ran.TheVariants.{Done, Wants}
 use Rattle.request_log.specs.Entries.{is_alive}
 use Rattle.request_log.specs.declared.entry.Entry.{Entry}
 use Rattle.request_log.specs.declared.entry.Made.{Made}
-use Rattle.local_repair.specs.Steps.{remade}
+use Rattle.local_repair.specs.Registers.{Change}
+use Rattle.local_repair.specs.Steps.{remade, tentative}
+
+-- with no register there is no number to give
+abbrev pub settles_none : Entry → Trace → Bool → List ℕ → Type 0
+settles_none e t answered numbers = numbers ≡ []
+
+-- a service without registers: each call would have the tentative answer, and there is none to settle
+abbrev pub no_registers : Change
+no_registers =
+    record { before = λ n. tentative; after = λ n. tentative; last = 0; later = 0; timely = Unit {0}; settles = settles_none }
 
 -- the trace of a run that ended
 abbrev pub trace_or_dead : Ran → Trace

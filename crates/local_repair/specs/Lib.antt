@@ -3,6 +3,7 @@ pub mod Current
 pub mod Earlier
 pub mod Histories
 pub mod Parts
+pub mod Registers
 pub mod Repairs
 pub mod Settling
 pub mod Steps

@@ -1,11 +1,9 @@
 -- What a repairer keeps, and which changes of an entry an event may make.
-use Rattle.std.specs.Prelude.{ℕ, ◌≡◌, Bool, List, [], Option, find, IsSomeAnd, option_map}
+use Rattle.std.specs.Prelude.{ℕ, ◌≡◌, List, [], Option, find, IsSomeAnd, option_map}
 use Rattle.std.specs.List.{HoldsAt}
-use Rattle.lang_core.specs.declared.setting.Setting.{Setting}
 use Rattle.request_log.specs.Entries.{has_id}
 use Rattle.request_log.specs.declared.entry.Entry.{Entry}
 use Rattle.local_repair.specs.Current.{Consumed, IsFirstStale}
-use Rattle.local_repair.specs.Settling.{IsFirstAgain}
 use Rattle.local_repair.specs.Tests.{first_stale}
 
 -- what a repairer keeps
@@ -20,11 +18,6 @@ Amends old new =
 -- the entry of its number is there, and this one amends it
 abbrev pub IsAmended : Entry → List Entry → Type 0
 IsAmended entry entries = IsSomeAnd (find (has_id entry.id) entries) (λ old. Amends old entry)
-
--- the first stale entry, wherever it stands, made anew
-abbrev pub IsStaleAgain : Setting → Consumed → Consumed → ℕ → ℕ → List Entry → Entry → Bool → Type 0
-IsStaleAgain setting old new last last' entries entry answered =
-    (place : ℕ) × IsFirstAgain setting old new last last' entries place entry answered
 
 -- the first stale entry, wherever it stands, has this number
 pub record IsStaleId (consumed : Consumed) (entries : List Entry) (id : ℕ) : Type 0 where

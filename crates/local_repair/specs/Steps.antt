@@ -1,5 +1,5 @@
 -- A repair step: what it may answer, and what it leaves.
-use Rattle.std.specs.Prelude.{ℕ, ◌≡◌, ◌+◌, ◌<◌, ◌≤◌, ◌⊎◌, Bool, true, false, not, ◌&&◌, List, [], ◌∷◌, Option, Some, None, if◌then◌else◌, map, take, min, nat_eq, slice_get, slice_set, slice_index_or, Contains, All, AllPairs}
+use Rattle.std.specs.Prelude.{ℕ, ◌≡◌, ◌+◌, ◌<◌, ◌≤◌, ◌≢◌, ◌⊎◌, Bool, true, false, not, ◌&&◌, List, [], ◌∷◌, Option, Some, None, if◌then◌else◌, map, take, length, min, nat_eq, slice_get, slice_set, slice_index_or, Contains, All, AllPairs}
 use Rattle.lang_base.specs.Equal.{equal}
 use Rattle.lang_core.specs.Traces.{dead_trace}
 use Rattle.lang_core.specs.contracts.request.Response as response
@@ -14,6 +14,7 @@ use Rattle.request_log.specs.Entries.{is_alive}
 use Rattle.request_log.specs.declared.entry.Entry.{Entry}
 use Rattle.request_log.specs.declared.entry.Made.{Made}
 use Rattle.local_repair.specs.Current.{Consumed, AllCurrent, IsFirstStale, rows_of}
+use Rattle.local_repair.specs.Registers.{Change}
 use Rattle.local_repair.specs.declared.stepped.Stepped.{Stepped}
 use Rattle.local_repair.specs.declared.stepped.Stepped.TheVariants.{Idle, Ran}
 
@@ -79,37 +80,45 @@ abbrev pub remade : Entry → Made → List ℕ → Entry
 remade e m slots =
     record e { made = Some m; slots = slots; answer_version = raised_if (is_new_answer e.made m) e.answer_version; runs = raised e.runs }
 
--- an entry made anew on these rows, with slots that consume what its run consumed
-pub record IsRemade (setting : Setting) (old new : Consumed) (rows : List Cell) (e e' : Entry) : Type 0 where
+-- an entry made anew on these rows, with slots that the registers settled; where they were timely, the slots consume what its run consumed
+pub record IsRemade (setting : Setting) (c : Change) (rows : List Cell) (e e' : Entry) : Type 0 where
   pub made : Made
-  pub rerun : IsRerun setting old rows e made
+  pub rerun : IsRerun setting c.before rows e made
   pub slots : List ℕ
-  pub consumes : map new slots ≡ made.trace.answers
+  pub settled : c.settles e made.trace (is_new_answer e.made made) slots
+  pub count : length slots ≡ length made.trace.answers
+  pub consumes : c.timely → map c.after slots ≡ made.trace.answers
   pub is : e' ≡ remade e made slots
 
--- the first stale entry ran, at this place, and no other changed; up to it none is stale any more
-pub record RanFirst (setting : Setting) (old new : Consumed) (before : List Entry) (id : ℕ) (answered : Bool) (after : List Entry) : Type 0 where
+-- the first stale entry ran, at this place, and no other changed; where the registers were timely, none up to it is stale any more, so that the next one stands later
+pub record RanFirst (setting : Setting) (c : Change) (before : List Entry) (id : ℕ) (answered : Bool) (after : List Entry) : Type 0 where
   pub place : ℕ
-  pub first : IsFirstStale old before place
+  pub first : IsFirstStale c.before before place
   pub was : Entry
   pub there : (d : Entry) → slice_index_or before place d ≡ was
   pub entry : Entry
-  pub remade : IsRemade setting old new (rows_of (take place before)) was entry
+  pub remade : IsRemade setting c (rows_of (take place before)) was entry
   pub names : id ≡ was.id
   pub tells : answered ≡ is_new_answer was.made remade.made
   pub rest : after ≡ slice_set before place entry
-  pub current : AllCurrent new [] (take (place + 1) after)
+  pub current : c.timely → AllCurrent c.after [] (take (place + 1) after)
+  pub later : c.timely → (next : ℕ) → IsFirstStale c.after after next → place < next
 
 -- what a step may answer on these entries, and what it leaves
-abbrev pub StepsTo : Setting → Consumed → Consumed → List Entry → Stepped → List Entry → Type 0
-StepsTo setting old new before Idle after = AllCurrent old [] before × (after ≡ before)
-StepsTo setting old new before (Ran id answered) after = RanFirst setting old new before id answered after
+abbrev pub StepsTo : Setting → Change → List Entry → Stepped → List Entry → Type 0
+StepsTo setting c before Idle after = AllCurrent c.before [] before × (after ≡ before)
+StepsTo setting c before (Ran id answered) after = RanFirst setting c before id answered after
 
 -- a number is one of these, or it was given since
 abbrev pub IsFreshOr : List ℕ → ℕ → ℕ → ℕ → Type 0
 IsFreshOr slots before after n = Contains slots n ⊎ ((before < n) × (n ≤ after))
 
--- each slot was given, and stands in one entry alone
+-- no number stands twice
+abbrev pub StandOnce : List ℕ → Type 0
+StandOnce numbers = AllPairs (λ m n. m ≢ n) numbers
+
+-- each slot was given, and stands in one entry alone, and there once
 pub record AreApart (last : ℕ) (entries : List Entry) : Type 0 where
   pub apart : AllPairs (λ e f. (n : ℕ) → Contains e.slots n → Contains f.slots n → ⊥) entries
+  pub once : All (λ e. StandOnce e.slots) entries
   pub given : All (λ e. (n : ℕ) → Contains e.slots n → n ≤ last) entries

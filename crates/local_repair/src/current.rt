@@ -1,46 +1,17 @@
-// Which entries are stale.
-ghost use Rattle.std.specs.Prelude.{◌≡◌, ◌↔◌, [], map, take, IfOk, OnOk, OnErr, IsTrue, MatchOption};
+// Which entries are stale, told without memory.
+ghost use Rattle.std.specs.Prelude.{◌≡◌, ◌↔◌, [], map, IsTrue, MatchOption};
 ghost use Rattle.std.specs.Option.{option_copied};
 ghost use Rattle.handler_run.specs.Reads.{Gives, GivesAll};
-ghost use Rattle.local_repair.specs.Current.{after_entry, rows_of, IsCurrentRecord, IsCurrent, AllCurrent, IsFirstStale};
+ghost use Rattle.local_repair.specs.Current.{rows_of, IsCurrentRecord, IsCurrent, AllCurrent, IsFirstStale};
 ghost use Rattle.local_repair.specs.Parts.{IsOf};
 ghost use Rattle.local_repair.specs.Steps.{answer_or_tentative, tentative};
 
+use crate::earlier::{scan_finds, text_in};
 use crate::slots::Slots;
-use lang_core::{Cells, NoMemory, Read, Response, Same, Text, apply_writes, row_get, row_scan};
+use lang_core::{Read, Response, Same, Text};
 use request_log::{Entry, Made};
-use std::alloc::Global;
 
-/// The place of the first stale entry, counted from 0, and the rows before it.
-#[derive(Drop)]
-pub struct Stale {
-    pub place: usize,
-    pub rows: Cells,
-}
-
-/// Applies the writes of an entry's record, if it has one. Refused, the rows stay.
-pub fn apply_entry(alloc: Global, rows: &mut Cells, entry: &Entry) -> Result<(), NoMemory>
-    ensures ok { OnOk result (rows.new ≡ after_entry rows.old entry.now) }
-    ensures err { OnErr result (rows.new ≡ rows.old) }
-{
-    match &entry.made {
-        Some(made) => apply_writes(alloc, rows, &made.trace.writes),
-        None => Ok(()),
-    }
-}
-
-/// The rows after these entries, the first of a log.
-pub fn rows_after(alloc: Global, entries: &[Entry]) -> Result<Cells, NoMemory>
-    ensures { IfOk result (λ rows. rows ≡ rows_of entries.now) }
-{
-    let mut rows = Cells::new(alloc);
-    for entry in entries {
-        apply_entry(alloc, &mut rows, entry)?;
-    }
-    Ok(rows)
-}
-
-pub(crate) fn is_text(now: Option<&Text>, found: &Option<Text>) -> bool
+fn is_text(now: Option<&Text>, found: &Option<Text>) -> bool
     ensures { IsTrue result ↔ (option_copied now.entry ≡ found.now) }
 {
     match (now, found) {
@@ -50,32 +21,29 @@ pub(crate) fn is_text(now: Option<&Text>, found: &Option<Text>) -> bool
     }
 }
 
-// Whether the rows give what was read.
-fn gives(alloc: Global, rows: &Cells, read: &Read) -> Result<bool, NoMemory>
-    ensures { IfOk result (λ b. IsTrue b ↔ Gives rows.now read.now) }
+// Whether the rows after these entries give what was read.
+fn gives(before: &[Entry], read: &Read) -> bool
+    ensures { IsTrue result ↔ Gives (rows_of before.now) read.now }
 {
     match read {
-        Read::Key { table, key, found } => Ok(is_text(row_get(rows, table, key), found)),
+        Read::Key { table, key, found } => is_text(text_in(before, table, key), found),
         Read::Scan {
             table,
             prefix,
             found,
-        } => {
-            let now = row_scan(alloc, rows, table, prefix)?;
-            Ok(now.is(found))
-        }
+        } => scan_finds(before, table, prefix, found),
     }
 }
 
-fn reads_hold(alloc: Global, rows: &Cells, reads: &[Read]) -> Result<bool, NoMemory>
-    ensures { IfOk result (λ b. IsTrue b ↔ GivesAll rows.now reads.now) }
+fn reads_hold(before: &[Entry], reads: &[Read]) -> bool
+    ensures { IsTrue result ↔ GivesAll (rows_of before.now) reads.now }
 {
     for read in reads {
-        if !gives(alloc, rows, read)? {
-            return Ok(false);
+        if !gives(before, read) {
+            return false;
         }
     }
-    Ok(true)
+    true
 }
 
 fn is_tentative(answer: &Response) -> bool
@@ -109,7 +77,7 @@ fn answers_hold<S: Slots>(slots: &S, numbers: &[u64], answers: &[Response]) -> b
 }
 
 // Whether a record is of the entry as it is now, with the answers of now.
-pub(crate) fn is_of<S: Slots>(entry: &Entry, made: &Made, slots: &S) -> bool
+fn is_of<S: Slots>(entry: &Entry, made: &Made, slots: &S) -> bool
     ensures { IsTrue result ↔ IsOf (S.consumed_of slots.now) entry.now made.now }
 {
     made.alive == entry.is_alive()
@@ -118,52 +86,31 @@ pub(crate) fn is_of<S: Slots>(entry: &Entry, made: &Made, slots: &S) -> bool
         && answers_hold(slots, entry.slots.as_slice(), made.trace.answers.as_slice())
 }
 
-fn is_current_record<S: Slots>(
-    alloc: Global,
-    rows: &Cells,
-    entry: &Entry,
-    made: &Made,
-    slots: &S,
-) -> Result<bool, NoMemory>
-    ensures { IfOk result (λ b. IsTrue b ↔ IsCurrentRecord (S.consumed_of slots.now) rows.now entry.now made.now) }
+fn is_current_record<S: Slots>(before: &[Entry], entry: &Entry, made: &Made, slots: &S) -> bool
+    ensures { IsTrue result ↔ IsCurrentRecord (S.consumed_of slots.now) (rows_of before.now) entry.now made.now }
 {
-    if !is_of(entry, made, slots) {
-        return Ok(false);
-    }
-    reads_hold(alloc, rows, made.trace.reads.as_slice())
+    is_of(entry, made, slots) && reads_hold(before, made.trace.reads.as_slice())
 }
 
-/// Whether an entry, before which these are the rows, isn't stale.
-pub fn is_current<S: Slots>(
-    alloc: Global,
-    rows: &Cells,
-    entry: &Entry,
-    slots: &S,
-) -> Result<bool, NoMemory>
-    ensures { IfOk result (λ b. IsTrue b ↔ IsCurrent (S.consumed_of slots.now) rows.now entry.now) }
+fn is_current<S: Slots>(before: &[Entry], entry: &Entry, slots: &S) -> bool
+    ensures { IsTrue result ↔ IsCurrent (S.consumed_of slots.now) (rows_of before.now) entry.now }
 {
     match &entry.made {
-        Some(made) => is_current_record(alloc, rows, entry, made, slots),
-        None => Ok(false),
+        Some(made) => is_current_record(before, entry, made, slots),
+        None => false,
     }
 }
 
-/// The first stale entry, with the rows before it; None exactly where no entry is stale.
-pub fn find_stale<S: Slots>(
-    alloc: Global,
-    entries: &[Entry],
-    slots: &S,
-) -> Result<Option<Stale>, NoMemory>
-    ensures { IfOk result (λ found. MatchOption found
+/// The place of the first stale entry, counted from 0; None exactly where no entry is stale.
+pub fn place_of_stale<S: Slots>(entries: &[Entry], slots: &S) -> Option<usize>
+    ensures { MatchOption result
         (AllCurrent (S.consumed_of slots.now) [] entries.now)
-        (λ stale. IsFirstStale (S.consumed_of slots.now) entries.now stale.place × (stale.rows ≡ rows_of (take stale.place entries.now)))) }
+        (λ place. IsFirstStale (S.consumed_of slots.now) entries.now place) }
 {
-    let mut rows = Cells::new(alloc);
     for (place, entry) in entries.iter().enumerate() {
-        if !is_current(alloc, &rows, entry, slots)? {
-            return Ok(Some(Stale { place, rows }));
+        if !is_current(&entries[..place], entry, slots) {
+            return Some(place);
         }
-        apply_entry(alloc, &mut rows, entry)?;
     }
-    Ok(None)
+    None
 }

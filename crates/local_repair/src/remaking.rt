@@ -1,31 +1,19 @@
-// An entry made anew, its calls settled.
-ghost use Rattle.std.specs.Prelude.{◌≡◌, IfOk, OnErr, if◌then◌else◌};
-ghost use Rattle.local_repair.specs.Settling.{HasItsSlots, CanSettle, IsAgain};
-ghost use Rattle.local_repair.specs.Steps.{raised, raised_if};
+// An entry run again, its calls settled.
+ghost use Rattle.std.specs.Prelude.{◌≡◌, IfOk, OnErr};
+ghost use Rattle.local_repair.specs.Settling.{HasItsSlots, HasSlotsOnce, CanSettle, IsAgain};
 
 use crate::rerun::{is_new_answer, run_again};
 use crate::slots::Slots;
-use lang_core::{Cells, Copied, NoMemory, Setting};
-use request_log::Entry;
+use lang_core::{Cells, NoMemory, Setting};
+use request_log::{Entry, Made, Numbers};
 use std::alloc::Global;
 
-/// An entry made anew, and whether it has a new answer.
+/// What came of running an entry again: its new record, the numbers of its calls, and whether it has a new answer.
 #[derive(Drop)]
 pub struct Again {
-    pub entry: Entry,
+    pub made: Made,
+    pub numbers: Numbers,
     pub answered: bool,
-}
-
-fn raised(n: u64) -> u64
-    ensures { result ≡ raised n }
-{
-    n.saturating_add(1)
-}
-
-fn raised_if(raise: bool, n: u64) -> u64
-    ensures { result ≡ raised_if raise n }
-{
-    if raise { raised(n) } else { n }
 }
 
 /// Runs an entry again on the rows before it, and settles its calls. Refused, the registers stay.
@@ -37,30 +25,27 @@ pub fn remake<S: Slots>(
     slots: &mut S,
 ) -> Result<Again, NoMemory>
     requires own { HasItsSlots entry.now }
+    requires once { HasSlotsOnce entry.now }
     requires can { CanSettle (S.can_settle slots.old) setting.now entry.now }
-    ensures ok { IfOk result (λ again. IsAgain setting.now (S.consumed_of slots.old) (S.consumed_of slots.new) (S.last_of slots.old) (S.last_of slots.new)
-        rows.now entry.now again.entry again.answered) }
+    ensures ok { IfOk result (λ again. IsAgain setting.now
+        (record {
+          before = S.consumed_of slots.old;
+          after = S.consumed_of slots.new;
+          last = S.last_of slots.old;
+          later = S.last_of slots.new;
+          timely = S.is_timely slots.old;
+          settles = S.settles slots.old slots.new;
+        })
+        rows.now entry.now again) }
+    ensures timely { S.is_timely slots.old → S.is_timely slots.new }
     ensures err { OnErr result (slots.new ≡ slots.old) }
 {
     let made = run_again(alloc, setting, rows, entry, slots)?;
     let answered = is_new_answer(entry, &made);
-    let origin = entry.origin.copied(alloc)?;
-    let request = entry.request.copied(alloc)?;
     let numbers = slots.settle(alloc, entry, &made.trace, answered)?;
     Ok(Again {
-        entry: Entry {
-            id: entry.id,
-            origin,
-            version: entry.version,
-            request,
-            wanted: entry.wanted,
-            struck: entry.struck,
-            inputs: entry.inputs,
-            made: Some(made),
-            slots: numbers,
-            answer_version: raised_if(answered, entry.answer_version),
-            runs: raised(entry.runs),
-        },
+        made,
+        numbers,
         answered,
     })
 }

@@ -1,15 +1,16 @@
 // A log, and its repair.
-ghost use Rattle.std.specs.Prelude.{◌≡◌, ◌↔◌, ◌≤◌, [], ◌∷◌, ◌++◌, All, Err, Ok, IfOk, OnOk, OnErr, MatchOption, insert, length};
+ghost use Rattle.std.specs.Prelude.{◌≡◌, ◌↔◌, ◌<◌, ◌≤◌, [], ◌∷◌, ◌++◌, All, Err, Ok, IfOk, OnOk, OnErr, MatchOption, insert, length, take, slice_set, slice_index_or};
 ghost use Rattle.request_log.specs.Entries.{IsNew, IsKnown, with_entry};
 ghost use Rattle.local_repair.specs.Current.{AllCurrent, AllRuns, rows_of};
-ghost use Rattle.local_repair.specs.Repairs.{IsAmended, IsStaleAgain, IsStaleId, stale_id};
-ghost use Rattle.local_repair.specs.Settling.{HasItsSlots, CanSettle};
-ghost use Rattle.local_repair.specs.Steps.{AreApart, StepsTo};
+ghost use Rattle.request_log.specs.declared.entry.Entry.{Entry};
+ghost use Rattle.local_repair.specs.Repairs.{IsAmended, IsStaleId, stale_id};
+ghost use Rattle.local_repair.specs.Settling.{HasItsSlots, HasSlotsOnce, CanSettle, IsAgain, noted};
+ghost use Rattle.local_repair.specs.Steps.{AreApart, StepsTo, raised, raised_if};
 
-use crate::current::{find_stale, rows_after};
+use crate::current::place_of_stale;
 use crate::remaking::{Again, remake};
+use crate::rows::rows_after;
 use crate::slots::Slots;
-use crate::stale::place_of_stale;
 use crate::stepped::Stepped;
 use lang_core::{Cells, NoMemory, Setting};
 use request_log::{Entry, Log, LogFull};
@@ -30,28 +31,64 @@ impl Model for Repairer {
     ghost view = { λ repairer. record { entries = repairer.log.entries } };
 }
 
-// Makes the first stale entry anew, if there is one. Refused, the registers stay.
-fn remake_first<S: Slots>(
+fn raised(n: u64) -> u64
+    ensures { result ≡ raised n }
+{
+    n.saturating_add(1)
+}
+
+fn raised_if(raise: bool, n: u64) -> u64
+    ensures { result ≡ raised_if raise n }
+{
+    if raise { raised(n) } else { n }
+}
+
+// Runs the entry at a place again on the rows before it. Refused, the registers stay.
+fn remake_at<S: Slots>(
     alloc: Global,
     setting: &Setting,
     entries: &[Entry],
+    place: usize,
     slots: &mut S,
-) -> Result<Option<Again>, NoMemory>
+) -> Result<Again, NoMemory>
+    requires within { place < length entries.now }
     requires own { All HasItsSlots entries.now }
+    requires once { All HasSlotsOnce entries.now }
     requires can { All (CanSettle (S.can_settle slots.old) setting.now) entries.now }
-    ensures ok { IfOk result (λ found. MatchOption found
-        (AllCurrent (S.consumed_of slots.old) [] entries.now × (slots.new ≡ slots.old))
-        (λ again. IsStaleAgain setting.now (S.consumed_of slots.old) (S.consumed_of slots.new) (S.last_of slots.old) (S.last_of slots.new)
-        entries.now again.entry again.answered)) }
+    ensures ok { IfOk result (λ again. (d : Entry) → IsAgain setting.now
+        (record {
+          before = S.consumed_of slots.old;
+          after = S.consumed_of slots.new;
+          last = S.last_of slots.old;
+          later = S.last_of slots.new;
+          timely = S.is_timely slots.old;
+          settles = S.settles slots.old slots.new;
+        })
+        (rows_of (take place entries.now)) (slice_index_or entries.now place d) again) }
+    ensures timely { S.is_timely slots.old → S.is_timely slots.new }
     ensures err { OnErr result (slots.new ≡ slots.old) }
 {
-    match find_stale(alloc, entries, slots)? {
-        None => Ok(None),
-        Some(stale) => {
-            let again = remake(alloc, setting, &stale.rows, &entries[stale.place], slots)?;
-            Ok(Some(again))
-        }
-    }
+    let rows = rows_after(alloc, &entries[..place])?;
+    remake(alloc, setting, &rows, &entries[place], slots)
+}
+
+// Notes what came of running the entry at a place again.
+fn note(log: &mut Log, place: usize, again: Again) -> Stepped
+    requires { place < length log.old.entries }
+    ensures stepped { (d : Entry) → result ≡ Stepped.Ran (slice_index_or log.old.entries place d).id again.answered }
+    ensures entries { (d : Entry) → log.new.entries ≡ slice_set log.old.entries place (noted again (slice_index_or log.old.entries place d)) }
+{
+    let Again {
+        made,
+        numbers,
+        answered,
+    } = again;
+    let entry = &log.as_slice()[place];
+    let id = entry.id;
+    let answer_version = raised_if(answered, entry.answer_version);
+    let runs = raised(entry.runs);
+    log.note_run(place as u64, made, numbers, answer_version, runs);
+    Stepped::Ran { id, answered }
 }
 
 // Puts an entry in place of the one of its number.
@@ -91,7 +128,7 @@ impl Repairer {
         requires { IsNew entry self.old.entries }
         ensures ok { OnOk result (self.new.entries ≡ self.old.entries ++ entry ∷ []) }
         ensures full { (result ≡ Err LogFull.Full) ↔ (length self.old.entries ≡ 100000) }
-        ensures err { OnErr result (self.new.entries ≡ self.old.entries) }
+        ensures err { OnErr result (self.new ≡ self.old) }
     {
         self.log.append(entry)
     }
@@ -102,7 +139,7 @@ impl Repairer {
         requires is_new { IsNew entry self.old.entries }
         ensures ok { OnOk result (self.new.entries ≡ insert self.old.entries at entry) }
         ensures full { (result ≡ Err LogFull.Full) ↔ (length self.old.entries ≡ 100000) }
-        ensures err { OnErr result (self.new.entries ≡ self.old.entries) }
+        ensures err { OnErr result (self.new ≡ self.old) }
     {
         self.log.insert(at, entry)
     }
@@ -130,7 +167,8 @@ impl Repairer {
         }
     }
 
-    /// Runs the first stale entry again on the rows before it, if there is one. Refused, nothing changes.
+    /// Runs the first stale entry again on the rows before it, and settles its calls. Where none is stale the answer is
+    /// Idle, which takes no memory. Refused, nothing changes.
     pub fn step<S: Slots>(
         &mut self,
         alloc: Global,
@@ -144,18 +182,26 @@ impl Repairer {
         ensures runs { AllRuns setting.now self.new.entries }
         ensures apart { AreApart (S.last_of slots.new) self.new.entries }
         ensures own { All HasItsSlots self.new.entries }
-        ensures steps { IfOk result (λ stepped.
-            StepsTo setting.now (S.consumed_of slots.old) (S.consumed_of slots.new) self.old.entries stepped self.new.entries) }
-        ensures idle { result ≡ Ok Stepped.Idle → slots.new ≡ slots.old }
-        ensures err { OnErr result ((self.new.entries ≡ self.old.entries) × (slots.new ≡ slots.old)) }
+        ensures steps { IfOk result (λ stepped. StepsTo setting.now
+            (record {
+              before = S.consumed_of slots.old;
+              after = S.consumed_of slots.new;
+              last = S.last_of slots.old;
+              later = S.last_of slots.new;
+              timely = S.is_timely slots.old;
+              settles = S.settles slots.old slots.new;
+            })
+            self.old.entries stepped self.new.entries) }
+        ensures timely { S.is_timely slots.old → S.is_timely slots.new }
+        ensures free { AllCurrent (S.consumed_of slots.old) [] self.old.entries → result ≡ Ok Stepped.Idle }
+        ensures idle { result ≡ Ok Stepped.Idle → (self.new ≡ self.old) × (slots.new ≡ slots.old) }
+        ensures err { OnErr result ((self.new ≡ self.old) × (slots.new ≡ slots.old)) }
     {
-        match remake_first(alloc, setting, self.log.as_slice(), slots)? {
+        match place_of_stale(self.log.as_slice(), slots) {
             None => Ok(Stepped::Idle),
-            Some(again) => {
-                let Again { entry, answered } = again;
-                let id = entry.id;
-                replace(&mut self.log, entry);
-                Ok(Stepped::Ran { id, answered })
+            Some(place) => {
+                let again = remake_at(alloc, setting, self.log.as_slice(), place, slots)?;
+                Ok(note(&mut self.log, place, again))
             }
         }
     }

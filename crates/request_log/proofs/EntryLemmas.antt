@@ -197,3 +197,14 @@ pub put_old : (k : Kept) (id : ℕ) (es : List Entry) (place : ℕ) (old : Entry
 put_old k id es place old is at read =
     let seen : es ≡ k.entries = ap (λ (v : Kept). v.entries) is in
     rw (← seen) ((at_place id es place old at).found ∙ ap Some (sym read))
+
+-- a log with a run noted of the entry at a place
+pub log-note : (k : Kept) (es : List Entry) (place : ℕ) (old y : Entry) → (record { entries = es }) ≡ k → place < length k.entries → old ≡ get_or es place old
+    → y.id ≡ old.id → y.origin ≡ old.origin → IsLog es → IsLog (set es place y)
+log-note k es place old y is within read id origin log =
+    let seen : es ≡ k.entries = ap (λ (v : Kept). v.entries) is in
+    let inside : place < length es = rw seen within in
+    record {
+      distinct = distinct-set es place y old (slice_get-get_or es place old inside ∙ ap Some (sym read)) id origin log.distinct;
+      few = rw (length-set es place y) log.few;
+    }

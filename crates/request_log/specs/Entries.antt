@@ -1,10 +1,11 @@
 -- Entries of a log: which are alive, and which has a number or comes from a call.
-use Rattle.std.specs.Prelude.{ℕ, ◌≡◌, ◌≤◌, Bool, false, ◌&&◌, not, List, [], ◌∷◌, Option, None, nat_eq, length, find, slice_set, IsSomeAnd}
+use Rattle.std.specs.Prelude.{ℕ, ◌≡◌, ◌≤◌, Bool, false, ◌&&◌, not, List, [], ◌∷◌, Option, Some, None, nat_eq, length, find, slice_set, IsSomeAnd}
 use Rattle.std.specs.List.{position_or_len}
 use Rattle.lang_base.specs.Texts.{same_text}
 use Rattle.lang_core.specs.declared.ids.Origin.{Origin}
 use Rattle.lang_core.specs.declared.ids.Origin.TheVariants.{Outside, Call}
 use Rattle.request_log.specs.declared.entry.Entry.{Entry}
+use Rattle.request_log.specs.declared.entry.Made.{Made}
 
 -- its origin wants it, and no order has struck it
 abbrev pub is_alive : Entry → Bool
@@ -45,6 +46,11 @@ IsKnown entry entries = IsSomeAnd (find (has_id entry.id) entries) (λ old. old.
 -- with this in place of the entry of its number
 abbrev pub with_entry : Entry → List Entry → List Entry
 with_entry entry entries = slice_set entries (position_or_len (has_id entry.id) entries) entry
+
+-- an entry after one more run: its record, its slots, the version of its answer, and how often it ran
+abbrev pub with_run : Made → List ℕ → ℕ → ℕ → Entry → Entry
+with_run made slots answer_version runs e =
+    record e { made = Some made; slots = slots; answer_version = answer_version; runs = runs }
 
 -- a log: its entries in order
 pub record Kept : Type 0 where

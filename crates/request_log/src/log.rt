@@ -1,9 +1,10 @@
 // The log: entries in order.
-ghost use Rattle.std.specs.Prelude.{◌≡◌, ◌↔◌, ◌≤◌, [], ◌∷◌, ◌++◌, length, find, position, insert, slice_get, OnOk, OnErr, IfOk, IsSome, IsTrue};
+ghost use Rattle.std.specs.Prelude.{◌≡◌, ◌↔◌, ◌<◌, ◌≤◌, [], ◌∷◌, ◌++◌, length, find, position, insert, slice_get, slice_set, slice_index_or, OnOk, OnErr, IfOk, IsSome, IsTrue};
 ghost use Rattle.std.specs.Option.{option_copied};
-ghost use Rattle.request_log.specs.Entries.{has_id, has_origin, IsNew, IsKnown, IsLog, with_entry};
+ghost use Rattle.request_log.specs.Entries.{has_id, has_origin, IsNew, IsKnown, IsLog, with_entry, with_run};
+ghost use Rattle.request_log.specs.declared.entry.Entry.{Entry};
 
-use crate::entry::Entry;
+use crate::entry::{Entry, Made, Numbers};
 use lang_base::copied_items;
 use lang_core::{Copied, Name, NoMemory, Origin, Same};
 use std::alloc::{AllocFailed, Global};
@@ -142,7 +143,7 @@ impl Log {
         requires { IsNew entry self.old.entries }
         ensures ok { OnOk result (self.new.entries ≡ self.old.entries ++ entry ∷ []) }
         ensures full { (result ≡ Err LogFull.Full) ↔ (length self.old.entries ≡ MOST_ENTRIES) }
-        ensures err { OnErr result (self.new.entries ≡ self.old.entries) }
+        ensures err { OnErr result (self.new ≡ self.old) }
     {
         if self.is_full() {
             return Err(LogFull::Full);
@@ -158,7 +159,7 @@ impl Log {
         requires is_new { IsNew entry self.old.entries }
         ensures ok { OnOk result (self.new.entries ≡ insert self.old.entries at entry) }
         ensures full { (result ≡ Err LogFull.Full) ↔ (length self.old.entries ≡ MOST_ENTRIES) }
-        ensures err { OnErr result (self.new.entries ≡ self.old.entries) }
+        ensures err { OnErr result (self.new ≡ self.old) }
     {
         if self.is_full() {
             return Err(LogFull::Full);
@@ -175,6 +176,27 @@ impl Log {
     {
         let place = place_of(&self.items, entry.id).unwrap();
         std::mem::replace(&mut self.items[place], entry)
+    }
+
+    /// Notes a run of the entry at a place, counted from 0: its record, its slots, the version of its answer, and how
+    /// often it ran.
+    pub fn note_run(
+        &mut self,
+        place: u64,
+        made: Made,
+        slots: Numbers,
+        answer_version: u64,
+        runs: u64,
+    )
+        requires { place < length self.old.entries }
+        ensures { (d : Entry) → self.new.entries
+            ≡ slice_set self.old.entries place (with_run made slots answer_version runs (slice_index_or self.old.entries place d)) }
+    {
+        let entry = &mut self.items[place as usize];
+        entry.made = Some(made);
+        entry.slots = slots;
+        entry.answer_version = answer_version;
+        entry.runs = runs;
     }
 }
 

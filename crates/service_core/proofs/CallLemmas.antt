@@ -6,8 +6,9 @@ use Rattle.lang_core.specs.declared.request.Request.{Request}
 use Rattle.lang_core.specs.declared.request.Response.{Response}
 use Rattle.lang_core.specs.declared.setting.Setting.{Setting}
 use Rattle.request_log.specs.declared.entry.Entry.{Entry}
-use Rattle.local_repair.specs.Alone.{trace_on}
+use Rattle.local_repair.specs.Alone.{no_registers, trace_on}
 use Rattle.local_repair.specs.Current.{AllRuns, rows_of}
+use Rattle.local_repair.specs.Repairs.{Kept as Repaired}
 use Rattle.local_repair.specs.Steps.{StepsTo}
 use Rattle.local_repair.specs.declared.stepped.Stepped.{Stepped}
 use Rattle.local_repair.specs.declared.stepped.Stepped.TheVariants.{Idle, Ran}
@@ -15,6 +16,7 @@ use Rattle.local_repair.proofs.AloneLemmas.{alone_step}
 use Rattle.local_repair.proofs.TestLemmas.{stale_id_none, stale_id_at}
 use Rattle.service_core.specs.Events.{Kept, Fits, committed, unanswered, next_id, is_full, arrival_answer, after_arrival, IsStep}
 use Rattle.service_core.specs.declared.answers.Arrived.TheVariants.{Done}
+use Rattle.service_core.specs.declared.tokens.Accepted.{Accepted}
 use Rattle.service_core.proofs.EventLemmas.{fits_step}
 
 -- ---- an arrival
@@ -30,20 +32,21 @@ arrival_done s q i e es count r n room is response pushed =
 
 -- ---- a step
 
-pub step_fits : (X : Type 0) (setting : Setting) (es es' : List Entry) (r : Result Stepped NoMemory) → Fits setting es → AllRuns setting es'
-    → IfOk r (λ stepped. StepsTo setting unanswered unanswered es stepped es') → OnErr r ((es' ≡ es) × X) → Fits setting es'
-step_fits X setting es es' (Ok stepped) f runs steps kept = fits_step setting es es' f runs (alone_step setting f.no_peers unanswered unanswered es es' stepped steps)
-step_fits X setting es es' (Err e) f runs steps kept = subst (Fits setting) (sym kept.0) f
+pub step_fits : (X : Type 0) (setting : Setting) (k k' : Repaired) (r : Result Stepped NoMemory) → Fits setting k.entries → AllRuns setting k'.entries
+    → IfOk r (λ stepped. StepsTo setting no_registers k.entries stepped k'.entries) → OnErr r ((k' ≡ k) × X) → Fits setting k'.entries
+step_fits X setting k k' (Ok stepped) f runs steps kept = fits_step setting k.entries k'.entries f runs (alone_step setting f.no_peers no_registers k.entries k'.entries stepped steps)
+step_fits X setting k k' (Err e) f runs steps kept = (let P : Repaired → Type 0 = λ v. Fits setting v.entries in subst P (sym kept.0) f)
 
-pub step_done : (X : Type 0) (s : Kept) (es : List Entry) (r : Result Stepped NoMemory) → s.setting.peers ≡ []
-    → IfOk r (λ stepped. StepsTo s.setting unanswered unanswered s.entries stepped es) → OnErr r ((es ≡ s.entries) × X)
-    → IsStep s r (record s { entries = es })
-step_done X s es (Err e) none steps kept = ap (λ l. record s { entries = l }) kept.0
-step_done X s es (Ok Idle) none steps kept = (
-  stale_id_none unanswered s.entries steps.0,
-  ap (λ l. record s { entries = l }) (alone_step s.setting none unanswered unanswered s.entries es Idle steps),
+pub step_done : (X : Type 0) (setting : Setting) (accepted : List Accepted) (k k' : Repaired) (r : Result Stepped NoMemory) → setting.peers ≡ []
+    → IfOk r (λ stepped. StepsTo setting no_registers k.entries stepped k'.entries) → OnErr r ((k' ≡ k) × X)
+    → IsStep (record { setting = setting; entries = k.entries; accepted = accepted }) r (record { setting = setting; entries = k'.entries; accepted = accepted })
+step_done X setting accepted k k' (Err e) none steps kept =
+    ap (λ (v : Repaired). (let s : Kept = record { setting = setting; entries = v.entries; accepted = accepted } in s)) kept.0
+step_done X setting accepted k k' (Ok Idle) none steps kept = (
+  stale_id_none unanswered k.entries steps.0,
+  ap (λ l. (let s : Kept = record { setting = setting; entries = l; accepted = accepted } in s)) (alone_step setting none no_registers k.entries k'.entries Idle steps),
 )
-step_done X s es (Ok (Ran id answered)) none steps kept = (
-  ap Some (steps.names ∙ ap (λ (e : Entry). e.id) (sym (steps.there steps.was))) ∙ stale_id_at unanswered s.entries steps.place steps.was steps.first,
-  ap (λ l. record s { entries = l }) (alone_step s.setting none unanswered unanswered s.entries es (Ran id answered) steps),
+step_done X setting accepted k k' (Ok (Ran id answered)) none steps kept = (
+  ap Some (steps.names ∙ ap (λ (e : Entry). e.id) (sym (steps.there steps.was))) ∙ stale_id_at unanswered k.entries steps.place steps.was steps.first,
+  ap (λ l. (let s : Kept = record { setting = setting; entries = l; accepted = accepted } in s)) (alone_step setting none no_registers k.entries k'.entries (Ran id answered) steps),
 )

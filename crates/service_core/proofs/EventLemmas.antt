@@ -15,7 +15,7 @@ use Rattle.local_repair.specs.Current.{Consumed, IsRun, AllRuns, after_entry}
 use Rattle.local_repair.specs.Tests.{is_current, step_with}
 use Rattle.local_repair.specs.Alone.{remade_on, trace_on, trace_or_dead}
 use Rattle.local_repair.specs.Settling.{HasItsSlots, CanSettle, CallsNone}
-use Rattle.local_repair.specs.Steps.{AreApart}
+use Rattle.local_repair.specs.Steps.{StandOnce, AreApart}
 use Rattle.local_repair.proofs.AloneLemmas.{alone_settles, ends_alone}
 use Rattle.service_core.specs.Events.{unanswered, IsNumbered, IsAlone, Fits}
 
@@ -122,8 +122,15 @@ no_slot e h n c = let N : List ℕ → Type 0 = λ ns. Contains ns n in none n (
     none : (n : ℕ) → Contains [] n → ⊥
     none n c = absurd (omega arith)
 
+none_twice : (e : Entry) → IsAlone e → StandOnce e.slots
+none_twice e h = subst StandOnce (sym h.slots) none
+  where
+    none : StandOnce []
+    none = λ i j d before within. absurd (omega (arith, within))
+
 pub all_apart : (es : List Entry) → All IsAlone es → AreApart 0 es
 all_apart es h = record {
+  once = λ k d l. none_twice (get_or es k d) (h k d l);
   apart = λ j k d before within n one other. no_slot (get_or es j d) (h j d (omega arith)) n one;
   given = λ k d l n c. absurd (no_slot (get_or es k d) (h k d l) n c);
 }

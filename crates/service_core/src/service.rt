@@ -3,7 +3,7 @@ ghost use Rattle.std.specs.Prelude.{◌≡◌, ℕ, [], ◌∷◌, IfOk, IfNone,
 ghost use Rattle.execution.specs.Executions.{IsLegal};
 ghost use Rattle.local_repair.specs.Current.{AllCurrent, IsCurrent, IsFirstStale, rows_of};
 ghost use Rattle.local_repair.specs.Repairs.{IsStaleId};
-ghost use Rattle.local_repair.specs.Alone.{trace_on};
+ghost use Rattle.local_repair.specs.Alone.{no_registers, trace_on};
 ghost use Rattle.local_repair.specs.Steps.{StepsTo};
 ghost use Rattle.service_core.specs.Events.{arrival, committed, history, unanswered, stale_id, IsArrival, IsStep, ReplaysBefore};
 
@@ -168,7 +168,7 @@ impl Service {
     pub fn repair_step(&mut self, alloc: Global) -> Result<Stepped, NoMemory>
         ensures step { IsStep self.old result self.new }
         ensures first { IfOk result (λ stepped.
-            StepsTo self.old.setting unanswered unanswered self.old.entries stepped self.new.entries) }
+            StepsTo self.old.setting no_registers self.old.entries stepped self.new.entries) }
     {
         self.repairer.step(alloc, &self.setting, &mut NoSlots)
     }

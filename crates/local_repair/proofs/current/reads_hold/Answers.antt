@@ -1,9 +1,10 @@
-use Rattle.std.proofs.Common.{subst}
+use Rattle.std.proofs.Common.{refl, subst}
 use Rattle.std.proofs.lemmas.List.Elements.{All-more}
 use Rattle.handler_run.specs.Reads.{Gives}
+use Rattle.local_repair.specs.Current.{rows_of}
 use Rattle.local_repair.proofs.current.reads_hold.Goals as goal
 
 pub loop-read-preserved : goal.loop-read-preserved
 loop-read-preserved c =
-    All-more (Gives c.args.rows.now) c.args.reads.now c.loop-read.read-index c.read-item.result c.loop-read-test.true c.loop-read.invariant
-    (subst (Gives c.args.rows.now) c.read-item.is (c.in_ok-gives.ensures.0 c.if-not-branch.false))
+    All-more (Gives (rows_of c.args.before.now)) c.args.reads.now c.loop-read.read-index c.read-item.result c.loop-read-test.true c.loop-read.invariant
+    (subst (Gives (rows_of c.args.before.now)) c.read-item.is (c.if-not-gives.ensures.0 refl))

@@ -1,51 +1,75 @@
-use Rattle.std.proofs.Common.{◌≡◌, ◌∙◌, ap, subst, All, List}
-use Rattle.request_log.specs.Entries.{IsDistinct, with_entry}
+use Rattle.std.proofs.Common.{◌≡◌, ◌∙◌, ap, subst, List, get_or, set, take}
 use Rattle.request_log.specs.declared.entry.Entry.{Entry}
-use Rattle.local_repair.specs.Current.{AllRuns}
-use Rattle.local_repair.specs.Repairs.{Kept, IsStaleAgain}
-use Rattle.local_repair.specs.Settling.{HasItsSlots}
-use Rattle.local_repair.specs.Steps.{AreApart, RanFirst}
+use Rattle.local_repair.specs.Current.{IsFirstStale, rows_of}
+use Rattle.local_repair.specs.Registers.{Change}
+use Rattle.local_repair.specs.Repairs.{Kept}
+use Rattle.local_repair.specs.Settling.{IsAgain, Leaves, noted}
+use Rattle.local_repair.specs.Steps.{StepsTo}
+use Rattle.local_repair.specs.declared.stepped.Stepped.TheVariants.{Ran}
 use Rattle.local_repair.proofs.HandlerLemmas.{handler}
-use Rattle.local_repair.proofs.StepLemmas.{stale_known, stale_put}
+use Rattle.local_repair.proofs.StepLemmas.{stepped, not_idle}
+use Rattle.local_repair.proofs.TestLemmas.{none_first}
 use Rattle.local_repair.proofs.repairer.Repairer.step.Given.{Over}
 use Rattle.local_repair.proofs.repairer.Repairer.step.Goals as goal
 
-pub replace-requires : goal.replace-requires
-replace-requires g c =
-    let old = g.S.Slots.consumed_of c.args.slots.now in
-    let new = g.S.Slots.consumed_of c.remake_first.new.slots in
-    let last = g.S.Slots.last_of c.args.slots.now in
-    let last' = g.S.Slots.last_of c.remake_first.new.slots in
-    let P : List Entry → Type 0 = λ entries. IsStaleAgain c.args.setting.now old new last last' entries c.in-Some.again.entry c.in-Some.again.answered in
-    stale_known c.args.setting.now old new last last' c.self.inside.log.entries c.in-Some.again.entry c.in-Some.again.answered
-    (subst P c.as_slice.ensures.entries (rw c.in-Some.is at c.in_ok-remake_first.ensures.ok)) c.as_slice.ensures.log.distinct
+-- the registers before and after
+change : (g : Over) (c : goal.After-note g) → Change
+change g c =
+    record {
+      before = g.S.Slots.consumed_of c.args.slots.now;
+      after = g.S.Slots.consumed_of c.remake_at.new.slots;
+      last = g.S.Slots.last_of c.args.slots.now;
+      later = g.S.Slots.last_of c.remake_at.new.slots;
+      timely = g.S.Slots.is_timely c.args.slots.now;
+      settles = g.S.Slots.settles c.args.slots.now c.remake_at.new.slots;
+    }
 
--- what the step leaves
-left : (g : Over) (c : goal.After-replace g)
-    → let after = c.replace.new.log.entries in
-    let last' = g.S.Slots.last_of c.remake_first.new.slots in
-    (AllRuns c.args.setting.now after × AreApart last' after × All HasItsSlots after)
-    × RanFirst c.args.setting.now (g.S.Slots.consumed_of c.args.slots.now) (g.S.Slots.consumed_of c.remake_first.new.slots) c.args.self.now.entries c.in-Some.again.entry.id c.in-Some.again.answered after
+-- what the step answers and leaves
+left : (g : Over) (c : goal.After-note g)
+    → Leaves c.args.setting.now (change g c) c.in-Some.place c.note.new.log.entries × StepsTo c.args.setting.now (change g c) c.args.self.now.entries c.note.result c.note.new.log.entries
+unfolding change
 left g c =
-    let old = g.S.Slots.consumed_of c.args.slots.now in
-    let new = g.S.Slots.consumed_of c.remake_first.new.slots in
-    let last = g.S.Slots.last_of c.args.slots.now in
-    let last' = g.S.Slots.last_of c.remake_first.new.slots in
-    let P : List Entry → Type 0 = λ entries. IsStaleAgain c.args.setting.now old new last last' entries c.in-Some.again.entry c.in-Some.again.answered in
+    let place = c.in-Some.place in
+    let again = c.in_ok-again-in-Some.again in
     let seen : c.self.inside.log.entries ≡ c.args.self.now.entries = ap (λ (k : Kept). k.entries) c.self.view_is in
-    stale_put c.args.setting.now (handler c.args.setting.now) old new last last' c.args.self.now.entries c.replace.new.log.entries c.in-Some.again.entry c.in-Some.again.answered
-    (subst P (c.as_slice.ensures.entries ∙ seen) (rw c.in-Some.is at c.in_ok-remake_first.ensures.ok))
-    (subst IsDistinct seen c.as_slice.ensures.log.distinct) c.requires.runs c.requires.apart c.requires.own
-    (c.replace.ensures ∙ ap (λ entries. with_entry c.in-Some.again.entry entries) seen)
+    let F : List Entry → Type 0 = λ xs. IsFirstStale (g.S.Slots.consumed_of c.args.slots.now) xs place in
+    let A : List Entry → Type 0 = λ xs. (d : Entry) → IsAgain c.args.setting.now (change g c) (rows_of (take place xs)) (get_or xs place d) again in
+    let T : List Entry → Type 0 = λ xs. (d : Entry) → c.note.result ≡ Ran (get_or xs place d).id again.answered in
+    let P : List Entry → Type 0 = λ xs. (d : Entry) → c.note.new.log.entries ≡ set xs place (noted again (get_or xs place d)) in
+    stepped c.args.setting.now (handler c.args.setting.now) (change g c) c.args.self.now.entries c.note.new.log.entries place again c.note.result
+    (subst F (c.as_slice.ensures.entries ∙ seen) c.in-Some.ensures)
+    (subst A (c.as_slice-in-Some.ensures.entries ∙ seen) c.in_ok-again-in-Some.ensures.ok)
+    (subst T seen c.note.ensures.stepped) (subst P seen c.note.ensures.entries)
+    c.requires.runs c.requires.apart c.requires.own
 
-pub returns-in-Some-clause-runs : goal.returns-in-Some-clause-runs
-returns-in-Some-clause-runs g c = (left g c).0.0
+pub returns-in_ok-again-in-Some-clause-runs : goal.returns-in_ok-again-in-Some-clause-runs
+returns-in_ok-again-in-Some-clause-runs g c = (left g c).0.runs
 
-pub returns-in-Some-clause-apart : goal.returns-in-Some-clause-apart
-returns-in-Some-clause-apart g c = (left g c).0.1
+pub returns-in_ok-again-in-Some-clause-apart : goal.returns-in_ok-again-in-Some-clause-apart
+unfolding change
+returns-in_ok-again-in-Some-clause-apart g c = (left g c).0.apart
 
-pub returns-in-Some-clause-own : goal.returns-in-Some-clause-own
-returns-in-Some-clause-own g c = (left g c).0.2
+pub returns-in_ok-again-in-Some-clause-own : goal.returns-in_ok-again-in-Some-clause-own
+returns-in_ok-again-in-Some-clause-own g c = (left g c).0.own
 
-pub returns-in-Some-clause-steps : goal.returns-in-Some-clause-steps
-returns-in-Some-clause-steps g c = (left g c).1
+pub returns-in_ok-again-in-Some-clause-steps : goal.returns-in_ok-again-in-Some-clause-steps
+unfolding change
+returns-in_ok-again-in-Some-clause-steps g c = (left g c).1
+
+pub returns-in_ok-again-in-Some-clause-free : goal.returns-in_ok-again-in-Some-clause-free
+returns-in_ok-again-in-Some-clause-free g c = λ all.
+    let seen = c.as_slice.ensures.entries ∙ ap (λ (k : Kept). k.entries) c.self.view_is in
+    let F : List Entry → Type 0 = λ xs. IsFirstStale (g.S.Slots.consumed_of c.args.slots.now) xs c.in-Some.place in
+    absurd (none_first (g.S.Slots.consumed_of c.args.slots.now) c.args.self.now.entries c.in-Some.place all (subst F seen c.in-Some.ensures))
+
+pub returns-in_err-again-in-Some-clause-free : goal.returns-in_err-again-in-Some-clause-free
+returns-in_err-again-in-Some-clause-free g c = λ all.
+    let seen = c.as_slice.ensures.entries ∙ ap (λ (k : Kept). k.entries) c.self.view_is in
+    let F : List Entry → Type 0 = λ xs. IsFirstStale (g.S.Slots.consumed_of c.args.slots.now) xs c.in-Some.place in
+    absurd (none_first (g.S.Slots.consumed_of c.args.slots.now) c.args.self.now.entries c.in-Some.place all (subst F seen c.in-Some.ensures))
+
+pub returns-in_ok-again-in-Some-clause-idle : goal.returns-in_ok-again-in-Some-clause-idle
+returns-in_ok-again-in-Some-clause-idle g c = λ idle.
+    let F : List Entry → Type 0 = λ xs. IsFirstStale (g.S.Slots.consumed_of c.args.slots.now) xs c.in-Some.place in
+    let first = subst F c.as_slice.ensures.entries c.in-Some.ensures in
+    absurd (not_idle c.self.inside.log.entries c.in-Some.place c.in_ok-again-in-Some.again.answered c.note.result first.within c.note.ensures.stepped idle)

@@ -1,6 +1,6 @@
 use Rattle.std.proofs.Common.{[], refl}
 use Rattle.local_repair.proofs.CurrentLemmas.{AllCurrent-more}
-use Rattle.local_repair.proofs.stale.place_of_stale.Goals as goal
+use Rattle.local_repair.proofs.current.place_of_stale.Goals as goal
 
 pub loop-place-preserved : goal.loop-place-preserved
 loop-place-preserved g c =
