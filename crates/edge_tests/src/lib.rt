@@ -2,4 +2,8 @@
 #![tactic(auto)]
 
 #[cfg(test)]
-mod edge;
+mod files;
+#[cfg(test)]
+mod given;
+#[cfg(test)]
+mod streams;
