@@ -1,0 +1,5 @@
+//! Tests of labels in an order.
+#![tactic(auto)]
+
+#[cfg(test)]
+mod labels;
