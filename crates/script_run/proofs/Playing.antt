@@ -7,15 +7,15 @@ use Rattle.std.proofs.lemmas.Bool.{ltb-true}
 use Rattle.std.proofs.lemmas.List.Sums.{fails_before_first}
 use Rattle.std.proofs.Math.Seq.{take-add}
 use Rattle.std.proofs.lemmas.List.{append-nil, drop-drop, length-take, take-append-drop}
-use Rattle.io_edge.specs.Edge.{Wrote, WroteFront}
-use Rattle.io_edge.proofs.Pieces.{front_more, front_of, front_whole, wrote_more}
+use Rattle.io_edge.specs.Edge.{IsFront, Writes, Wrote, WroteFront, WroteShort}
+use Rattle.io_edge.proofs.Pieces.{front_of, front_whole, wrote_more}
 use Rattle.world_core.specs.Worlds.{World}
 use Rattle.script_run.specs.declared.line.Line.{Line}
 use Rattle.script_run.specs.declared.line.LineFault.{LineFault}
 use Rattle.script_run.specs.Faults.{fault_number}
 use Rattle.script_run.specs.Lines.{Read}
 use Rattle.script_run.specs.Plays.{after, behind, first_lines, line_for, lines_left, lines_of, Played, played, played_from, printed, with_line}
-use Rattle.script_run.specs.Stops.{DoesAll, StopsEarly, IsRefusedAt}
+use Rattle.script_run.specs.Stops.{DoesAll, IsRefusedAt, StopsEarly, StopsInLine}
 
 -- ---- where the first line ends
 
@@ -119,43 +119,55 @@ done_world next s e = e ∙ sym (ap (λ (q : Played). q.world) (stands_next s))
 done_out : {n : ℕ} {before : World} {script line : List ℕ} {rest : List (List ℕ)} {said : Line} {now : World} → Stands n before script line rest said now → (first_lines (n + 1) before script).out ≡ (first_lines n before script).out ++ printed now said
 done_out s = ap (λ (q : Played). q.out) (stands_next s)
 
-pub done_wrote : {n : ℕ} {before : World} {script line : List ℕ} {rest : List (List ℕ)} {said : Line} {now : World} (a b c : Option (List ℕ)) → Stands n before script line rest said now
+pub done_wrote : {n : ℕ} {before : World} {script line : List ℕ} {rest : List (List ℕ)} {said : Line} {now : World} (a b c : Writes) → Stands n before script line rest said now
     → Wrote a b (first_lines n before script).out → Wrote b c (printed now said) → Wrote a c (first_lines (n + 1) before script).out
 done_wrote {n} {before} {script} a b c s f g = let W : List ℕ → Type 0 = λ x. Wrote a c x in subst W (sym (done_out s)) (wrote_more a b c (first_lines n before script).out _ f g)
 
-pub done_front : {n : ℕ} {before : World} {script line : List ℕ} {rest : List (List ℕ)} {said : Line} {now : World} (a b c : Option (List ℕ)) → Stands n before script line rest said now
-    → Wrote a b (first_lines n before script).out → WroteFront b c (printed now said) → WroteFront a c (first_lines (n + 1) before script).out
-done_front {n} {before} {script} a b c s f g = let W : List ℕ → Type 0 = λ x. WroteFront a c x in subst W (sym (done_out s)) (front_more a b c (first_lines n before script).out _ f g)
-
-pub done_unwritten : {n : ℕ} {before : World} {script line : List ℕ} {rest : List (List ℕ)} {said : Line} {now : World} (a b : Option (List ℕ)) → Stands n before script line rest said now
+pub done_unwritten : {n : ℕ} {before : World} {script line : List ℕ} {rest : List (List ℕ)} {said : Line} {now : World} (a b : Writes) → Stands n before script line rest said now
     → Wrote a b (first_lines n before script).out → WroteFront a b (first_lines (n + 1) before script).out
 done_unwritten {n} {before} {script} a b s f = let W : List ℕ → Type 0 = λ x. WroteFront a b x in subst W (sym (done_out s)) (front_of a b (first_lines n before script).out _ f)
 
 -- ---- where a run stops
 
 -- the lines before are done, and no more
-pub stopped_before : (n : ℕ) (before : World) (script : List ℕ) (now : World) (a b : Option (List ℕ)) → (first_lines n before script).refused ≡ None → now ≡ (first_lines n before script).world → Wrote a b (first_lines n before script).out → StopsEarly before script now a b
-stopped_before n before script now a b goes same f = record { lines = n; not_refused = goes; world = same; wrote = front_whole a b _ f }
+pub stopped_before : (n : ℕ) (before : World) (script : List ℕ) (now : World) (a b : Writes) → (first_lines n before script).refused ≡ None → now ≡ (first_lines n before script).world → Wrote a b (first_lines n before script).out → StopsEarly before script now a b
+stopped_before n before script now a b goes same f = record { lines = n; not_refused = goes; same_world = same; wrote = front_whole a b _ f }
 
 -- a line is done or it isn't, and what it prints isn't written, for want of memory
-pub stopped : {n : ℕ} {before : World} {script line : List ℕ} {rest : List (List ℕ)} {said : Line} {now : World} (next : World) (a b : Option (List ℕ)) → Stands n before script line rest said now
+pub stopped : {n : ℕ} {before : World} {script line : List ℕ} {rest : List (List ℕ)} {said : Line} {now : World} (next : World) (a b : Writes) → Stands n before script line rest said now
     → Wrote a b (first_lines n before script).out → (next ≡ now) ⊎ (next ≡ after now said) → StopsEarly before script next a b
 stopped {n} {before} {script} next a b s f (inl same) = stopped_before n before script next a b s.goes (same ∙ s.world) f
-stopped {n} next a b s f (inr done) = record { lines = n + 1; not_refused = done_goes s; world = done_world next s done; wrote = done_unwritten a b s f }
+stopped {n} next a b s f (inr done) = record { lines = n + 1; not_refused = done_goes s; same_world = done_world next s done; wrote = done_unwritten a b s f }
+
+-- a line is done, and not all that it prints is written
+pub cut_short : {n : ℕ} {before : World} {script line : List ℕ} {rest : List (List ℕ)} {said : Line} {now : World} (next : World) (a b c : Writes) → Stands n before script line rest said now
+    → Wrote a b (first_lines n before script).out → next ≡ after now said → WroteShort b c (printed now said) → StopsInLine before script next a c
+cut_short {n} {before} {script} next a b c s f done short = record {
+  lines = n;
+  not_refused = done_goes s;
+  same_world = done_world next s done;
+  wrote = (
+    short.0,
+    short.1,
+    done_out s ∙ ap (λ (x : List ℕ). (first_lines n before script).out ++ x) short.2,
+    short.3,
+    wrote_more a b c (first_lines n before script).out short.0 f short.4,
+  );
+}
 
 -- a line is refused, and the lines before it are done
-pub refused_does : (n : ℕ) (before : World) (script line : List ℕ) (rest : List (List ℕ)) (fault : LineFault) (now : World) (a b : Option (List ℕ)) → drop n (lines_of script) ≡ line ∷ rest → (first_lines n before script).refused ≡ None → line_for now line ≡ Err fault
+pub refused_does : (n : ℕ) (before : World) (script line : List ℕ) (rest : List (List ℕ)) (fault : LineFault) (now : World) (a b : Writes) → drop n (lines_of script) ≡ line ∷ rest → (first_lines n before script).refused ≡ None → line_for now line ≡ Err fault
     → now ≡ (first_lines n before script).world → Wrote a b (first_lines n before script).out → DoesAll (played before script) now a b × IsRefusedAt (n + 1) (fault_number fault) (played before script)
 refused_does n before script line rest fault now a b d goes says same f =
     let p = refused_line n before script line rest fault d goes (ap (λ (k : World). line_for k line) (sym same) ∙ says) in
     let W : List ℕ → Type 0 = λ x. Wrote a b x in
-    (record { world = same ∙ sym (ap (λ (q : Played). q.world) p); wrote = subst W (sym (ap (λ (q : Played). q.out) p)) f }, ap (λ (q : Played). q.refused) p)
+    (record { same_world = same ∙ sym (ap (λ (q : Played). q.world) p); wrote = subst W (sym (ap (λ (q : Played). q.out) p)) f }, ap (λ (q : Played). q.refused) p)
 
-pub all_does : (n : ℕ) (before : World) (script : List ℕ) (now : World) (a b : Option (List ℕ)) → drop n (lines_of script) ≡ [] → now ≡ (first_lines n before script).world → Wrote a b (first_lines n before script).out → DoesAll (played before script) now a b
+pub all_does : (n : ℕ) (before : World) (script : List ℕ) (now : World) (a b : Writes) → drop n (lines_of script) ≡ [] → now ≡ (first_lines n before script).world → Wrote a b (first_lines n before script).out → DoesAll (played before script) now a b
 all_does n before script now a b d same f =
     let p = all_lines n before script d in
     let W : List ℕ → Type 0 = λ x. Wrote a b x in
-    record { world = same ∙ ap (λ (q : Played). q.world) p; wrote = subst W (ap (λ (q : Played). q.out) p) f }
+    record { same_world = same ∙ ap (λ (q : Played). q.world) p; wrote = subst W (ap (λ (q : Played). q.out) p) f }
 
 pub all_good : (n : ℕ) (before : World) (script : List ℕ) → drop n (lines_of script) ≡ [] → (first_lines n before script).refused ≡ None → (played before script).refused ≡ None
 all_good n before script d goes = sym (ap (λ (q : Played). q.refused) (all_lines n before script d)) ∙ goes
@@ -166,3 +178,30 @@ rest_behind lines rest n line e = sym (drop-drop 1 n lines) ∙ ap (drop 1) e
 pub nothing_left : (o : Option (Bor (List ℕ))) → ((x : Bor (List ℕ)) → o ≡ Some x → ⊥) → lines_left (option_map (λ x. x.now) o) ≡ []
 nothing_left None none = refl
 nothing_left (Some x) none = absurd (none x refl)
+
+-- what some first lines print begins what the script prints
+lines_front : (n : ℕ) (start : World) (script : List ℕ) → (first_lines n start script).refused ≡ None → IsFront (first_lines n start script).out (played start script).out
+lines_front n start script goes =
+    let whole = sym (take-append-drop n (lines_of script)) in
+    let p = played_from (1 + length (take n (lines_of script))) (first_lines n start script).world (drop n (lines_of script)) in
+    (p.out, ap (λ (lines : List (List ℕ)). (played_from 1 start lines).out) whole ∙ ap (λ (q : Played). q.out) (played_append 1 start (take n (lines_of script)) (drop n (lines_of script)) goes))
+
+-- where a run stops for want of memory, a front of what the script prints was written
+pub early_front : (start : World) (script : List ℕ) (world : World) (a b : Writes) → StopsEarly start script world a b → WroteFront a b (played start script).out
+early_front start script world a b early =
+    let front = early.wrote in
+    let more = front.1 in
+    let lines = lines_front early.lines start script early.not_refused in
+    (front.0, (more.0 ++ lines.0, lines.1 ∙ ap (λ (x : List ℕ). x ++ lines.0) more.1 ∙ append_assoc front.0 more.0 lines.0), front.2)
+
+-- a run that stops in a line stops early
+pub line_early : (start : World) (script : List ℕ) (world : World) (a b : Writes) → StopsInLine start script world a b → StopsEarly start script world a b
+line_early start script world a b stops =
+    let into = stops.wrote in
+    let first = (first_lines stops.lines start script).out in
+    record {
+      lines = stops.lines + 1;
+      not_refused = stops.not_refused;
+      same_world = stops.same_world;
+      wrote = (first ++ into.0, (into.1, into.2 ∙ sym (append_assoc first into.0 into.1)), into.4);
+    }

@@ -44,6 +44,14 @@ abbrev pub at_end : {X : Type 0} → Option (List ℕ) → Option X → Option X
 at_end None next = next
 at_end (Some rest) next = None
 
+-- a service's name
+abbrev pub name_part : List ℕ → Option (List ℕ)
+name_part word = where_good (is_name word) (Some word)
+
+-- a user or a token
+abbrev pub who_part : List ℕ → Option (List ℕ)
+who_part word = where_good (is_who word) (Some word)
+
 -- the method of this name
 abbrev pub method_of : List ℕ → Option Method
 method_of word =
@@ -96,9 +104,14 @@ unfoldable pub order_parts : Option (List ℕ) → Option (List ℕ × List ℕ 
 order_parts rest =
     with_word rest (λ about rest. with_word rest (λ token rest. with_word rest (λ who rest. Some (about, token, who, rest))))
 
+-- an order whose service, token and user are each there
+abbrev pub order_of : Option (List ℕ) → Command → Option (List ℕ) → Option (List ℕ) → Option Line
+order_of service command token who =
+    with_part service (λ service. with_part token (λ token. with_part who (λ who. Some (Order service command token who))))
+
+-- an order whose service is a name, and whose token and user may be such
 abbrev pub order_with : List ℕ → Command → List ℕ → List ℕ → Option Line
-order_with service command token who =
-    where_good (is_name service && (is_who token && is_who who)) (Some (Order service command token who))
+order_with service command token who = order_of (name_part service) command (who_part token) (who_part who)
 
 -- `S/N TOKEN WHO`
 unfoldable pub struck_at : (ℕ → Command) → Option (List ℕ) → Option Line

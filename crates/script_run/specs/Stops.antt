@@ -1,21 +1,34 @@
 -- Where a run of a script stops.
-use Rattle.std.specs.Prelude.{◌≡◌, ℕ, List, Option, Some, None}
-use Rattle.io_edge.specs.Edge.{Wrote, WroteFront}
+use Rattle.std.specs.Prelude.{◌≡◌, ◌≢◌, ℕ, ◌+◌, List, [], ◌++◌, Some, None}
+use Rattle.io_edge.specs.Edge.{Writes, Wrote, WroteFront}
 use Rattle.world_core.specs.Worlds.{World}
 use Rattle.script_run.specs.Plays.{Played, first_lines}
 
 -- all that was played is done and written
-pub record DoesAll (p : Played) (now : World) (old new : Option (List ℕ)) : Type 0 where
-  pub world : now ≡ p.world
-  pub wrote : Wrote old new p.out
-
--- some first lines are done, and a front of what they print was written
-pub record StopsEarly (before : World) (script : List ℕ) (now : World) (old new : Option (List ℕ)) : Type 0 where
-  pub lines : ℕ
-  pub not_refused : (first_lines lines before script).refused ≡ None
-  pub world : now ≡ (first_lines lines before script).world
-  pub wrote : WroteFront old new (first_lines lines before script).out
+pub record DoesAll (p : Played) (world : World) (before now : Writes) : Type 0 where
+  pub same_world : world ≡ p.world
+  pub wrote : Wrote before now p.out
 
 -- the line of this number is refused with this number
 abbrev pub IsRefusedAt : ℕ → ℕ → Played → Type 0
 IsRefusedAt line number p = p.refused ≡ Some (line, number)
+
+-- some first lines are done, and a front of what they print was written
+pub record StopsEarly (start : World) (script : List ℕ) (world : World) (before now : Writes) : Type 0 where
+  pub lines : ℕ
+  pub not_refused : (first_lines lines start script).refused ≡ None
+  pub same_world : world ≡ (first_lines lines start script).world
+  pub wrote : WroteFront before now (first_lines lines start script).out
+
+-- All of the first text was written, and of the whole, which goes on behind it, not all.
+abbrev pub WroteInto : Writes → Writes → List ℕ → List ℕ → Type 0
+WroteInto before now first whole =
+    (piece : List ℕ) × (rest : List ℕ) × (whole ≡ first ++ (piece ++ rest)) × (rest ≢ []) × Wrote before now (first ++ piece)
+
+-- Some first lines are done and all that they print was written; the line behind them is done too, and not all that it
+-- prints was written.
+pub record StopsInLine (start : World) (script : List ℕ) (world : World) (before now : Writes) : Type 0 where
+  pub lines : ℕ
+  pub not_refused : (first_lines (lines + 1) start script).refused ≡ None
+  pub same_world : world ≡ (first_lines (lines + 1) start script).world
+  pub wrote : WroteInto before now (first_lines lines start script).out (first_lines (lines + 1) start script).out

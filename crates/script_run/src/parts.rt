@@ -1,9 +1,8 @@
 // The parts of a line.
 ghost use Rattle.std.specs.Prelude.{◌≡◌, IfOk, Some, None, if◌then◌else◌};
 ghost use Rattle.std.specs.Option.{option_map};
-ghost use Rattle.lang_core.specs.Names.{is_name, is_who};
 ghost use Rattle.script_run.specs.Escapes.{body_of};
-ghost use Rattle.script_run.specs.Lines.{cut_at, is_asked_path, method_of, neighbour, numbered, rest_or_empty};
+ghost use Rattle.script_run.specs.Lines.{cut_at, is_asked_path, method_of, name_part, neighbour, numbered, rest_or_empty, who_part};
 
 use crate::escapes::unescaped;
 use lang_core::{LONGEST_TEXT, Method, Name, NoMemory, Text, is_path, is_who};
@@ -32,7 +31,7 @@ fn cut_slash(text: &str) -> (&str, Option<&str>)
 
 /// A service's name, if the word is one.
 pub fn name_part(alloc: Global, word: &str) -> Result<Option<Name>, NoMemory>
-    ensures { IfOk result (λ name. name ≡ (if is_name word.now then Some word.now else None)) }
+    ensures { IfOk result (λ name. name ≡ name_part word.now) }
 {
     let text = Text::of(alloc, word)?;
     Ok(Name::new(text).ok())
@@ -40,7 +39,7 @@ pub fn name_part(alloc: Global, word: &str) -> Result<Option<Name>, NoMemory>
 
 /// A user or a token, if the word is one.
 pub fn who_part(alloc: Global, word: &str) -> Result<Option<Text>, NoMemory>
-    ensures { IfOk result (λ who. who ≡ (if is_who word.now then Some word.now else None)) }
+    ensures { IfOk result (λ who. who ≡ who_part word.now) }
 {
     let who = Text::of(alloc, word)?;
     if !is_who(&who) {

@@ -2,7 +2,7 @@
 ghost use Rattle.std.specs.Prelude.{◌≡◌, ℕ, List, IfOk, Some};
 ghost use Rattle.std.specs.Option.{option_map};
 ghost use Rattle.service_core.specs.declared.answers.Command.TheVariants.{Cancel as Strike, Restore};
-ghost use Rattle.script_run.specs.Lines.{ask_at, asked, at_end, clock_at, create_at, created_of, created_parts, is_passed_over, line_at, number_at, order_parts, order_with, replace_at, request_of, seed_at, service_at, shaped, struck_at, words_at};
+ghost use Rattle.script_run.specs.Lines.{ask_at, asked, at_end, clock_at, create_at, created_of, created_parts, is_passed_over, line_at, name_part, number_at, order_of, order_parts, order_with, replace_at, request_of, seed_at, service_at, shaped, struck_at, who_part, words_at};
 
 use crate::line::{Line, LineFault};
 use crate::parts::{
@@ -89,6 +89,49 @@ fn cut_order(rest: Option<&str>) -> Option<(&str, &str, &str, Option<&str>)>
     Some((about, token, who, rest))
 }
 
+// A token and a user, each if the word may be one.
+fn users_of(alloc: Global, token: &str, who: &str) -> Result<(Option<Text>, Option<Text>), NoMemory>
+    ensures { IfOk result (λ parts. parts ≡ (who_part token.now, who_part who.now)) }
+{
+    let token = who_part(alloc, token)?;
+    let who = who_part(alloc, who)?;
+    Ok((token, who))
+}
+
+// The order of these, if each is there.
+fn order_of(
+    service: Option<Name>,
+    command: Command,
+    token: Option<Text>,
+    who: Option<Text>,
+) -> Option<Line>
+    ensures { result ≡ order_of service command token who }
+{
+    match (service, token, who) {
+        (Some(service), Some(token), Some(who)) => Some(Line::Order {
+            service,
+            command,
+            token,
+            who,
+        }),
+        _ => None,
+    }
+}
+
+// A service, a token and a user, each if the word may be one.
+fn names_of(
+    alloc: Global,
+    service: &str,
+    token: &str,
+    who: &str,
+) -> Result<(Option<Name>, Option<Text>, Option<Text>), NoMemory>
+    ensures { IfOk result (λ parts. parts ≡ (name_part service.now, who_part token.now, who_part who.now)) }
+{
+    let service = name_part(alloc, service)?;
+    let (token, who) = users_of(alloc, token, who)?;
+    Ok((service, token, who))
+}
+
 fn order_with(
     alloc: Global,
     service: &str,
@@ -98,21 +141,8 @@ fn order_with(
 ) -> Result<Option<Line>, NoMemory>
     ensures { IfOk result (λ r. r ≡ order_with service.now command token.now who.now) }
 {
-    let Some(service) = name_part(alloc, service)? else {
-        return Ok(None);
-    };
-    let Some(token) = who_part(alloc, token)? else {
-        return Ok(None);
-    };
-    let Some(who) = who_part(alloc, who)? else {
-        return Ok(None);
-    };
-    Ok(Some(Line::Order {
-        service,
-        command,
-        token,
-        who,
-    }))
+    let (service, token, who) = names_of(alloc, service, token, who)?;
+    Ok(order_of(service, command, token, who))
 }
 
 // `S/N TOKEN WHO`

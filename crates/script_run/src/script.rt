@@ -1,9 +1,9 @@
 // A script, line by line.
-ghost use Rattle.std.specs.Prelude.{◌≡◌, ◌==◌, ◌≤◌, ℕ, ◌∷◌, IfOk, IfErr, OnOk, IsErrOf, None, option_map, length, position};
-ghost use Rattle.io_edge.specs.Edge.{Rose};
+ghost use Rattle.std.specs.Prelude.{◌≡◌, ◌==◌, ◌≤◌, ℕ, ◌∷◌, IfOk, OnOk, IsErrOf, None, option_map, length, position};
+ghost use Rattle.io_edge.specs.Edge.{WriteFails};
 ghost use Rattle.script_run.specs.Faults.{fault_number};
 ghost use Rattle.script_run.specs.Plays.{is_about, line_for, lines_of, lines_left, bytes_left, played};
-ghost use Rattle.script_run.specs.Stops.{DoesAll, StopsEarly, IsRefusedAt};
+ghost use Rattle.script_run.specs.Stops.{DoesAll, IsRefusedAt, StopsEarly, StopsInLine};
 ghost use Rattle.script_run.specs.declared.line.LineFault.{LineFault};
 ghost use Rattle.script_run.specs.declared.script.ScriptRefused.TheVariants.{Refused, NoMemory, WriteFault};
 
@@ -100,22 +100,24 @@ fn cut_line(bytes: &[u8]) -> (&[u8], Option<&[u8]>)
     }
 }
 
-/// Does a script's lines in order, and writes what each prints. On an error the lines before it are done; for want
-/// of memory, or where the sink failed, that line may be done too, and a front of what it prints was written.
+/// Does a script's lines in order, and writes what each prints before the next is done. On an error the lines before it
+/// are done and written. A line that can't be written is done, and not all that it prints was written. For want of
+/// memory the line may be done too, and nothing that it prints was written.
 pub fn run_script<K: Sink>(
     alloc: Global,
     world: &mut World,
     script: &[u8],
     out: &mut K,
 ) -> Result<(), ScriptRefused>
-    ensures ok { OnOk result (DoesAll (played world.old script.now) world.new (K.written out.old) (K.written out.new)) }
+    ensures ok { OnOk result (DoesAll (played world.old script.now) world.new (K.writes out.old) (K.writes out.new)) }
     ensures done { OnOk result ((played world.old script.now).refused ≡ None) }
     ensures refused { (line : ℕ) (fault : LineFault) → IsErrOf result (Refused line fault)
-        → DoesAll (played world.old script.now) world.new (K.written out.old) (K.written out.new)
+        → DoesAll (played world.old script.now) world.new (K.writes out.old) (K.writes out.new)
         × IsRefusedAt line (fault_number fault) (played world.old script.now) }
-    ensures early { IfErr result (λ e. StopsEarly world.old script.now world.new (K.written out.old) (K.written out.new)) }
-    ensures counted { K.faults out.old ≤ K.faults out.new }
-    ensures fault { IsErrOf result WriteFault → Rose (K.faults out.old) (K.faults out.new) }
+    ensures cut { IsErrOf result WriteFault → StopsInLine world.old script.now world.new (K.writes out.old) (K.writes out.new) }
+    ensures fault { IsErrOf result WriteFault → WriteFails (K.writes out.old) (K.writes out.new) }
+    ensures early { IsErrOf result NoMemory → StopsEarly world.old script.now world.new (K.writes out.old) (K.writes out.new) }
+    ensures counted { (K.writes out.old).faults ≤ (K.writes out.new).faults }
 {
     let mut left = Some(script);
     let mut number = 0;

@@ -7,10 +7,10 @@ abbrev pub invariant-loop-left : goal.invariant-loop-left
 invariant-loop-left g l = record {
   not_refused : (first_lines l.number l.initial.world l.script).refused ≡ None;
   world : l.world ≡ (first_lines l.number l.initial.world l.script).world;
-  wrote : Wrote (g.K.Sink.written l.initial.out) (g.K.Sink.written l.out) (first_lines l.number l.initial.world l.script).out;
+  wrote : Wrote (g.K.Sink.writes l.initial.out) (g.K.Sink.writes l.out) (first_lines l.number l.initial.world l.script).out;
   left : drop l.number (lines_of l.script) ≡ lines_left (option_map (λ x. x.now) l.left);
   room : l.number + bytes_left (option_map (λ x. x.now) l.left) ≤ length l.script + 1;
-  counted : g.K.Sink.faults l.initial.out ≤ g.K.Sink.faults l.out;
+  counted : (g.K.Sink.writes l.initial.out).faults ≤ (g.K.Sink.writes l.out).faults;
 }
 
 abbrev pub decreases-loop-left : goal.decreases-loop-left
