@@ -1,0 +1,80 @@
+-- Replies are changed by their place, and stay in order.
+use Rattle.std.proofs.Common.{◌≡◌, ◌∙◌, sym, ap, refl, ℕ, zero, suc, ◌<◌, Bool, true, false, cond, List, [], ◌∷◌, ◌++◌, length, set, get_or, slice_get, Option, Some, None, find, position, IsSome, nat_lt, arith, subst}
+use Rattle.std.specs.List.{position_or_len}
+use Rattle.std.proofs.lemmas.Bool.{lt-ltb}
+use Rattle.std.proofs.lemmas.List.Folds.{find_at}
+use Rattle.std.proofs.lemmas.List.Quantifiers.{position-Some}
+use Rattle.std.proofs.lemmas.Option.{slice_get_within}
+use Rattle.call_registers.proofs.ChangeLemmas.{pass, fail}
+use Rattle.call_registers.specs.Changes.{change}
+use Rattle.call_registers.specs.Replies.{has_entry, IsThere, IsAboveAll, IsBelowAll, IsRising, at_entry, changed}
+use Rattle.call_registers.specs.declared.reply.Change.{Change}
+use Rattle.call_registers.specs.declared.reply.Change.TheVariants.{Take, Answer, Confirm, Due, Hold, Release}
+use Rattle.call_registers.specs.declared.reply.Reply.{Reply}
+
+-- ---- the place of a reply
+
+some_within : {X : Type 0} (xs : List X) (k : ℕ) (o : Option X) → slice_get xs k ≡ o → IsSome o → k < length xs
+some_within xs k None e h = cc
+some_within xs k (Some x) e h = slice_get_within xs k x e
+
+chosen : (b : Bool) (n : ℕ) → b ≡ true → IsSome (cond b (Some n) None)
+chosen true n h = refl
+chosen false n h = cc
+
+-- a reply that is there has a place
+pub there_placed : (id : ℕ) (ps : List Reply) → IsThere id ps → IsSome (position (has_entry id) ps)
+there_placed id ps there =
+    let n = position_or_len (has_entry id) ps in
+    let w : n < length ps = some_within ps n (find (has_entry id) ps) (sym (find_at (has_entry id) ps)) there in
+    chosen (nat_lt n (length ps)) n (lt-ltb n (length ps) w)
+
+-- ---- a change by the place
+
+set_changes : (p : Reply → Bool) (f : Reply → Reply) (xs : List Reply) (i : ℕ) (old : Reply) → p (get_or xs i old) ≡ true → ((k : ℕ) → k < i → p (get_or xs k old) ≡ false) → old ≡ get_or xs i old → set xs i (f old) ≡ change p f xs
+set_changes p f [] i old here before is = refl
+set_changes p f (x ∷ xs) zero old here before is =
+    ap (λ y. f y ∷ xs) is ∙ sym (pass (p x) (f x) x xs (change p f xs) here)
+set_changes p f (x ∷ xs) (suc i) old here before is =
+    let skipped : p x ≡ false = before zero (omega arith) in
+    ap (λ l. x ∷ l) (set_changes p f xs i old here (λ k w. before (suc k) (omega (arith, w))) is)
+    ∙ sym (fail (p x) (f x) x xs (change p f xs) skipped)
+
+pub change_placed : (id place : ℕ) (f : Reply → Reply) (ps : List Reply) (old : Reply) → position (has_entry id) ps ≡ Some place → old ≡ get_or ps place old → set ps place (f old) ≡ at_entry id f ps
+change_placed id place f ps old at is =
+    let first = position-Some (has_entry id) ps place old at in
+    set_changes (has_entry id) f ps place old first.1 first.2 is
+
+-- ---- the order
+
+below_set : (id place : ℕ) (ps : List Reply) (old new : Reply) → IsBelowAll id ps → old ≡ get_or ps place old → new.id ≡ old.id → IsBelowAll id (set ps place new)
+below_set id place [] old new h is e = tt
+below_set id zero (p ∷ ps) old new h is e =
+    let same : p.id ≡ new.id = sym (e ∙ ap (λ (x : Reply). x.id) is) in
+    (subst (λ n. id < n) same h.0, h.1)
+below_set id (suc place) (p ∷ ps) old new h is e = (h.0, below_set id place ps old new h.1 is e)
+
+below_same : (m n : ℕ) (ps : List Reply) → m ≡ n → IsBelowAll m ps → IsBelowAll n ps
+below_same m n ps e h = subst (λ k. IsBelowAll k ps) e h
+
+pub rising_set : (place : ℕ) (ps : List Reply) (old new : Reply) → IsRising ps → old ≡ get_or ps place old → new.id ≡ old.id → IsRising (set ps place new)
+rising_set place [] old new h is e = tt
+rising_set zero (p ∷ ps) old new h is e = (below_same p.id new.id ps (sym (e ∙ ap (λ (x : Reply). x.id) is)) h.0, h.1)
+rising_set (suc place) (p ∷ ps) old new h is e = (below_set p.id place ps old new h.0 is e, rising_set place ps old new h.1 is e)
+
+below_push : (id : ℕ) (ps : List Reply) (p : Reply) → IsBelowAll id ps → id < p.id → IsBelowAll id (ps ++ p ∷ [])
+below_push id [] p h w = (w, tt)
+below_push id (x ∷ ps) p h w = (h.0, below_push id ps p h.1 w)
+
+pub rising_push : (ps : List Reply) (p : Reply) → IsRising ps → IsAboveAll p.id ps → IsRising (ps ++ p ∷ [])
+rising_push [] p h w = (tt, tt)
+rising_push (x ∷ ps) p h w = (below_push x.id ps p h.0 w.0, rising_push ps p h.1 w.1)
+
+-- no change of a reply changes its entry
+pub entry_stays : (change : Change) (p : Reply) → (changed change p).id ≡ p.id
+entry_stays (Take version wanted) p = refl
+entry_stays (Answer answer_version version since) p = refl
+entry_stays (Confirm answer_version since) p = refl
+entry_stays (Due since) p = refl
+entry_stays (Hold hold) p = refl
+entry_stays (Release who) p = refl

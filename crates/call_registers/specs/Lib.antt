@@ -1,0 +1,4 @@
+pub mod Changes
+pub mod Registers
+pub mod Rooms
+pub mod Replies

@@ -1,0 +1,18 @@
+//! What a service keeps of the calls that it makes and of those that it answers: for each call of its own a register, with
+//! what it wants, what was acknowledged and the answer that it heard, and for each entry of another service's call a reply,
+//! with what was taken and whether an answer is due.
+#![tactic(auto)]
+
+mod calls;
+mod register;
+mod registers;
+mod replaces;
+mod replies;
+mod reply;
+mod wants;
+
+pub use calls::RegistersCall;
+pub use register::{Answer, Hold, Register, Why};
+pub use registers::Registers;
+pub use replies::{Replies, RepliesCall};
+pub use reply::Reply;

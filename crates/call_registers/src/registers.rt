@@ -1,0 +1,344 @@
+// The registers of a service.
+ghost use Rattle.std.specs.Prelude.{◌≡◌, ◌+◌, ◌<◌, [], ◌∷◌, ◌++◌, length, slice_get, IfOk, IsOk, OnOk, OnErr, IsTrue, vec_len, vec_capacity};
+ghost use Rattle.std.specs.Option.{option_copied};
+ghost use Rattle.call_room.specs.Room.{is_made, spend};
+ghost use Rattle.call_registers.specs.Registers.{register, IsThere, IsWanted, IsNumbered, consumed, answer_to, next_number, with_call, at_number, sent_anew, with_ack, with_answer, with_cause, with_hold, released, changed, want_call, replace_call};
+ghost use Rattle.call_registers.specs.Rooms.{call_code};
+ghost use Rattle.call_registers.specs.declared.register.Change.{Change};
+
+use crate::calls::RegistersCall;
+use crate::register::{Answer, Change, Hold, Register, Why, apply};
+use crate::replaces::{make_replace, ready_replace, take_replace};
+use crate::wants::{make_want, ready_want, take_want};
+use lang_base::copied_items;
+use lang_core::{Name, NoMemory, Request, Response, Text};
+use std::alloc::Global;
+use std::marker::Model;
+
+/// The registers of a service, in the order of their numbers, which are 1, 2, 3 and so on.
+#[derive(Drop)]
+pub struct Registers {
+    list: Vec<Register>,
+    room: Vec<RegistersCall>,
+}
+
+impl Model for Registers {
+    ghost use Rattle.std.specs.Prelude.{◌+◌, vec_len, vec_capacity};
+    ghost use Rattle.call_registers.specs.Registers.{Kept, IsKept};
+
+    ghost Value = { Kept };
+
+    ghost view = { λ r. record { list = r.list.items; room = r.room.items } };
+
+    ghost invariant = { λ r. IsKept r.list.items (vec_len r.list + vec_len r.room) (vec_capacity r.list) };
+}
+
+fn item_at(list: &[Register], place: usize) -> Option<&Register>
+    ensures { option_copied result ≡ slice_get list.now place }
+{
+    list.get(place)
+}
+
+fn find_in(list: &[Register], number: u64) -> Option<&Register>
+    requires { IsNumbered list.now }
+    ensures { option_copied result ≡ register number list.now }
+{
+    if number == 0 {
+        return None;
+    }
+    item_at(list, (number - 1) as usize)
+}
+
+fn place_of(list: &[Register], number: u64) -> usize
+    requires numbered { IsNumbered list.now }
+    requires there { IsThere number list.now }
+    ensures place { result + 1 ≡ number }
+    ensures within { result < length list.now }
+{
+    (number - 1) as usize
+}
+
+fn change_in(list: &mut Vec<Register>, number: u64, change: Change)
+    requires numbered { IsNumbered list.old.items }
+    requires there { IsThere number list.old.items }
+    ensures items { list.new.items ≡ at_number number (changed change) list.old.items }
+    ensures numbered { IsNumbered list.new.items }
+    ensures len { vec_len list.new ≡ vec_len list.old }
+    ensures capacity { vec_capacity list.new ≡ vec_capacity list.old }
+{
+    let place = place_of(list, number);
+    apply(&mut list[place], change);
+}
+
+fn next_number(list: &[Register]) -> u64
+    ensures { result ≡ next_number list.now }
+{
+    list.len() as u64 + 1
+}
+
+fn new_register(number: u64, dest: Name, request: Request, repair_who: Text, since: u64) -> Register
+    ensures { result ≡ record {
+      number = number;
+      dest = dest;
+      version = 1;
+      desired = Some request;
+      acked = 0;
+      answer = None;
+      told = None;
+      held = None;
+      repair_who = repair_who;
+      since = since;
+    } }
+{
+    Register {
+        number,
+        dest,
+        version: 1,
+        desired: Some(request),
+        acked: 0,
+        answer: None,
+        told: None,
+        held: None,
+        repair_who,
+        since,
+    }
+}
+
+impl Registers {
+    /// No registers.
+    pub fn new(alloc: Global) -> Registers
+        ensures list { result.list ≡ [] }
+        ensures room { result.room ≡ [] }
+    {
+        Registers {
+            list: Vec::new(alloc),
+            room: Vec::new(alloc),
+        }
+    }
+
+    /// The registers, in the order of their numbers.
+    pub fn as_slice(&self) -> &[Register]
+        ensures list { result.now ≡ self.now.list }
+        ensures numbered { IsNumbered self.now.list }
+    {
+        self.list.as_slice()
+    }
+
+    /// How many registers there are, which is the last number.
+    pub fn len(&self) -> u64
+        ensures { result ≡ length self.now.list }
+    {
+        self.list.len() as u64
+    }
+
+    /// The register of a number; None exactly where there is none.
+    pub fn get(&self, number: u64) -> Option<&Register>
+        ensures { option_copied result ≡ register number self.now.list }
+    {
+        find_in(&self.list, number)
+    }
+
+    /// The answer that a call consumes: the one that is held, where it answers the call's version. None is the tentative
+    /// answer.
+    pub fn consumed(&self, number: u64) -> Option<&Response>
+        ensures { option_copied result ≡ consumed number self.now.list }
+    {
+        match self.get(number) {
+            None => None,
+            Some(register) => answer_of(register),
+        }
+    }
+
+    fn change(&mut self, number: u64, change: Change)
+        requires { IsThere number self.old.list }
+        ensures list { self.new.list ≡ at_number number (changed change) self.old.list }
+        ensures room { self.new.room ≡ self.old.room }
+    {
+        change_in(&mut self.list, number, change);
+    }
+
+    /// Notes why a call that is there goes on without an answer.
+    pub fn tell(&mut self, number: u64, why: Why)
+        requires { IsThere number self.old.list }
+        ensures list { self.new.list ≡ at_number number (with_cause why) self.old.list }
+        ensures room { self.new.room ≡ self.old.room }
+    {
+        self.change(number, Change::Tell(why));
+    }
+
+    /// A call that is there and wanted is to have no effect, from this index of the journal on and for good: its version
+    /// rises, and nothing holds it.
+    pub fn unwant(&mut self, number: u64, since: u64)
+        requires { IsWanted number self.old.list }
+        ensures list { self.new.list ≡ at_number number (sent_anew None since) self.old.list }
+        ensures room { self.new.room ≡ self.old.room }
+    {
+        self.change(
+            number,
+            Change::Send {
+                desired: None,
+                since,
+            },
+        );
+    }
+
+    /// Notes that a version of a call that is there was acknowledged.
+    pub fn saw_ack(&mut self, number: u64, version: u64)
+        requires { IsThere number self.old.list }
+        ensures list { self.new.list ≡ at_number number (with_ack version) self.old.list }
+        ensures room { self.new.room ≡ self.old.room }
+    {
+        self.change(number, Change::Ack(version));
+    }
+
+    /// Keeps the answer to a call that is there, where its answer version is the greatest so far.
+    pub fn saw_answer(&mut self, number: u64, answer: Answer)
+        requires { IsThere number self.old.list }
+        ensures list { self.new.list ≡ at_number number (with_answer answer) self.old.list }
+        ensures room { self.new.room ≡ self.old.room }
+    {
+        self.change(number, Change::Hear(answer));
+    }
+
+    /// The post of a call that is there was refused: it isn't sent before it is released or has a new version.
+    pub fn hold(&mut self, number: u64, hold: Hold)
+        requires { IsThere number self.old.list }
+        ensures list { self.new.list ≡ at_number number (with_hold hold) self.old.list }
+        ensures room { self.new.room ≡ self.old.room }
+    {
+        self.change(number, Change::Hold(hold));
+    }
+
+    /// The post of a call that is there is sent again, from now on for this user.
+    pub fn release(&mut self, number: u64, who: Text)
+        requires { IsThere number self.old.list }
+        ensures list { self.new.list ≡ at_number number (released who) self.old.list }
+        ensures room { self.new.room ≡ self.old.room }
+    {
+        self.change(number, Change::Release(who));
+    }
+
+    /// Makes room for that call of `want`.
+    pub fn ready_want(
+        &mut self,
+        alloc: Global,
+        dest: &Name,
+        request: &Request,
+        since: u64,
+    ) -> Result<(), NoMemory>
+        ensures list { self.new.list ≡ self.old.list }
+        ensures ok { OnOk result (self.new.room ≡ self.old.room ++ want_call dest.now request.now since ∷ []) }
+        ensures err { OnErr result (self.new.room ≡ self.old.room) }
+    {
+        ready_want(&mut self.list, &mut self.room, alloc, dest, request, since)
+    }
+
+    /// A new call, with the number after the last one. Its request's user is the service itself, for whom it is posted too.
+    /// `since` is the index in the journal at which it is named. Refused, the registers stay.
+    pub fn want(
+        &mut self,
+        alloc: Global,
+        dest: &Name,
+        request: &Request,
+        since: u64,
+    ) -> Result<u64, NoMemory>
+        ensures number { IfOk result (λ number. number ≡ next_number self.old.list) }
+        ensures ok { OnOk result (self.new.list ≡ with_call dest.now request.now since self.old.list) }
+        ensures err { OnErr result (self.new.list ≡ self.old.list) }
+        ensures room { self.new.room ≡ spend call_code (want_call dest.now request.now since) self.old.room }
+        ensures ready { IsTrue (is_made call_code (want_call dest.now request.now since) self.old.room) → IsOk result }
+    {
+        make_want(&mut self.list, &mut self.room, alloc, dest, request, since)?;
+        let number = next_number(&self.list);
+        let (dest, request, repair_who) = take_want(&mut self.room, dest, request, since);
+        let register = new_register(number, dest, request, repair_who, since);
+        self.list.push_reserved(register);
+        Ok(number)
+    }
+
+    /// Makes room for that call of `replace`.
+    pub fn ready_replace(
+        &mut self,
+        alloc: Global,
+        number: u64,
+        request: &Request,
+        since: u64,
+    ) -> Result<(), NoMemory>
+        ensures list { self.new.list ≡ self.old.list }
+        ensures ok { OnOk result (self.new.room ≡ self.old.room ++ replace_call number request.now since ∷ []) }
+        ensures err { OnErr result (self.new.room ≡ self.old.room) }
+    {
+        ready_replace(
+            &mut self.list,
+            &mut self.room,
+            alloc,
+            number,
+            request,
+            since,
+        )
+    }
+
+    /// A call that is there and wanted asks another request, from this index of the journal on: its version rises, and
+    /// nothing holds it. Refused, the registers stay.
+    pub fn replace(
+        &mut self,
+        alloc: Global,
+        number: u64,
+        request: &Request,
+        since: u64,
+    ) -> Result<(), NoMemory>
+        requires { IsWanted number self.old.list }
+        ensures ok { OnOk result (self.new.list ≡ at_number number (sent_anew (Some request.now) since) self.old.list) }
+        ensures err { OnErr result (self.new.list ≡ self.old.list) }
+        ensures room { self.new.room ≡ spend call_code (replace_call number request.now since) self.old.room }
+        ensures ready { IsTrue (is_made call_code (replace_call number request.now since) self.old.room) → IsOk result }
+    {
+        make_replace(
+            &mut self.list,
+            &mut self.room,
+            alloc,
+            number,
+            request,
+            since,
+        )?;
+        let request = take_replace(&mut self.room, number, request, since);
+        let desired = Some(request);
+        self.change(number, Change::Send { desired, since });
+        Ok(())
+    }
+
+    /// Lets all room go.
+    pub fn forget_room(&mut self)
+        ensures list { self.new.list ≡ self.old.list }
+        ensures room { self.new.room ≡ [] }
+    {
+        self.room.clear();
+    }
+
+    /// Equal registers, without room.
+    pub fn copied(&self, alloc: Global) -> Result<Registers, NoMemory>
+        ensures { IfOk result (λ copy. copy.list ≡ self.now.list) }
+    {
+        let list = copied_items(alloc, &self.list)?;
+        Ok(Registers {
+            list,
+            room: Vec::new(alloc),
+        })
+    }
+}
+
+// The answer that is held, where it answers the register's version.
+fn answer_of(register: &Register) -> Option<&Response>
+    ensures { option_copied result ≡ answer_to register.now.version register.now.answer }
+{
+    match &register.answer {
+        None => None,
+        Some(answer) => {
+            if answer.version == register.version {
+                Some(&answer.response)
+            } else {
+                None
+            }
+        }
+    }
+}
