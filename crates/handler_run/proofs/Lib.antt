@@ -1,10 +1,9 @@
 pub mod BindLemmas
 pub mod BlockLaws
 pub mod BlockLemmas
-pub mod CutLemmas
 pub mod EachLemmas
+pub mod IfLemmas
 pub mod OwnLemmas
-pub mod PathLemmas
 pub mod RunLaws
 pub mod RunLists
 pub mod TwoBlocks

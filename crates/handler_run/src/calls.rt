@@ -1,14 +1,17 @@
 // Calls of other services.
-ghost use Rattle.std.specs.Prelude.{◌≡◌, [], find, IfOk};
+ghost use Rattle.std.specs.Prelude.{◌≡◌, [], ◌∷◌, ◌++◌, find, IfOk};
 ghost use Rattle.std.specs.List.{list_any};
 ghost use Rattle.std.specs.Option.{option_copied};
 ghost use Rattle.lang_base.specs.Texts.{same_text};
 ghost use Rattle.handler_run.specs.Runs.{ended, goes_on, answered, take_answer, send, call_request, send_to, is_loop, call_to, call_path_fits, call_at, call_of};
 
-use crate::state::{Fault, Flow, Given, State};
+use crate::state::{Flow, State};
 use crate::steps::{text_fits, value_in};
+use handler_values::{Fault, Given, pair_up};
+use lang_base::both;
 use lang_core::{
-    CallMade, Copied, Expr, Method, Name, NoMemory, Request, Response, Same, Text, Value, is_path,
+    CallMade, Copied, Expr, Method, Name, Names, NoMemory, Request, Response, Same, Text, Value,
+    is_path,
 };
 use std::alloc::Global;
 
@@ -104,6 +107,15 @@ fn send(
     take_answer(alloc, answer, state, status_var, body_var, call)
 }
 
+// The services that wait for a call: those that wait for this request, and the service itself.
+fn chain_on(alloc: Global, given: &Given) -> Result<Names, NoMemory>
+    ensures { IfOk result (λ chain. chain ≡ given.now.request.chain ++ given.now.me ∷ []) }
+{
+    let (mut chain, me) = both(given.request.chain.copied(alloc), given.me.copied(alloc))?;
+    chain.push(me)?;
+    Ok(chain)
+}
+
 // The request of a call, for which the service itself is the user.
 fn call_request(
     alloc: Global,
@@ -114,13 +126,12 @@ fn call_request(
 ) -> Result<Request, NoMemory>
     ensures { IfOk result (λ request. request ≡ call_request given.now method path body) }
 {
-    let mut chain = given.request.chain.copied(alloc)?;
-    chain.push(given.me.copied(alloc)?)?;
+    let (who, chain) = both(given.me.text().copied(alloc), chain_on(alloc, given))?;
     Ok(Request {
         method,
         path,
         body,
-        who: given.me.text().copied(alloc)?,
+        who,
         chain,
     })
 }
@@ -142,10 +153,9 @@ fn send_to(
     let Some(dest) = dest else {
         return refuse(alloc, state, status_var, body_var, 502);
     };
-    let call = CallMade {
-        dest: dest.copied(alloc)?,
-        request: call_request(alloc, given, method, path, body)?,
-    };
+    let request = call_request(alloc, given, method, path, body);
+    let (dest, request) = both(dest.copied(alloc), request)?;
+    let call = CallMade { dest, request };
     send(alloc, given, state, status_var, body_var, call)
 }
 
@@ -221,16 +231,11 @@ pub fn run_call(
     ensures { IfOk result (λ flow. ended flow state.new
         ≡ call_of given.now status_var.now body_var.now dest.now method path.now body.now state.old) }
 {
-    let dest = match value_in(alloc, given, state, dest)? {
-        Ok(dest) => dest,
-        Err(fault) => return Ok(Flow::Faulted(fault)),
-    };
-    let path = match value_in(alloc, given, state, path)? {
-        Ok(path) => path,
-        Err(fault) => return Ok(Flow::Faulted(fault)),
-    };
-    match value_in(alloc, given, state, body)? {
-        Ok(body) => call_at(
+    let dest = value_in(alloc, given, state, dest);
+    let path = value_in(alloc, given, state, path);
+    let (head, body) = both(both(dest, path), value_in(alloc, given, state, body))?;
+    match pair_up(pair_up(head.0, head.1), body) {
+        Ok(((dest, path), body)) => call_at(
             alloc, given, state, status_var, body_var, &dest, method, path, body,
         ),
         Err(fault) => Ok(Flow::Faulted(fault)),

@@ -5,18 +5,20 @@ ghost use Rattle.lang_core.specs.declared.cells.Cell.{Cell};
 ghost use Rattle.lang_core.specs.declared.request.Response.{Response};
 ghost use Rattle.handler_run.specs.Handlers.{fault_number, fault_text, replied, faulted_trace, finish, start, given, not_found, run_block, run_route, run_of};
 ghost use Rattle.handler_run.specs.Laws.{IfDone, IfWants, IsDone, calls_of};
+ghost use Rattle.handler_values.specs.Paths.{route_of};
 ghost use Rattle.handler_run.specs.Reads.{GivesAll};
 ghost use Rattle.handler_run.specs.declared.state.Ran.TheVariants.{Done};
 
 use crate::blocks::run_block;
-use crate::paths::{route_of, segments_of};
 use crate::recorded::Recorded;
-use crate::state::{Fault, Flow, Given, Ran, State};
+use crate::state::{Flow, Ran, State};
 use crate::variables::Variables;
 use crate::view::View;
+use handler_values::{Fault, Given, route_of, segments_of};
+use lang_base::both;
 use lang_core::{
-    Answers, Block, Calls, Copied, Inputs, NoMemory, Reads, Request, Response, Route, Setting,
-    Text, Trace, Writes,
+    Answers, Block, Calls, Copied, Inputs, Method, NoMemory, Reads, Request, Response, Route,
+    Setting, Text, Trace, Writes,
 };
 use std::alloc::Global;
 
@@ -111,13 +113,17 @@ fn given(
 ) -> Result<Given, NoMemory>
     ensures { IfOk result (λ g. g ≡ given setting.now request.now inputs.now answers.now) }
 {
+    let names = both(setting.me.copied(alloc), setting.peers.copied(alloc));
+    let asked = both(request.copied(alloc), segments_of(alloc, &request.path));
+    let (head, answers) = both(both(names, asked), answers.copied(alloc))?;
+    let (names, asked) = head;
     Ok(Given {
-        me: setting.me.copied(alloc)?,
-        peers: setting.peers.copied(alloc)?,
-        request: request.copied(alloc)?,
-        segments: segments_of(alloc, &request.path)?,
+        me: names.0,
+        peers: names.1,
+        request: asked.0,
+        segments: asked.1,
         inputs: *inputs,
-        answers: answers.copied(alloc)?,
+        answers,
     })
 }
 
@@ -163,6 +169,19 @@ fn run_route<V: View>(
     }
 }
 
+fn run_given<V: View>(
+    alloc: Global,
+    given: &Given,
+    routes: &[Route],
+    method: Method,
+    view: &V,
+) -> Result<Ran, NoMemory>
+    ensures { IfOk result (λ ran. ran ≡ run_route (route_of routes.now method given.now.segments) given.now (V.rows view.now)) }
+{
+    let route = route_of(alloc, routes, method, given.segments.as_slice())?;
+    run_route(alloc, given, view, route)
+}
+
 fn run_request<V: View>(
     alloc: Global,
     setting: &Setting,
@@ -175,8 +194,7 @@ fn run_request<V: View>(
 {
     let given = given(alloc, setting, request, inputs, answers)?;
     let routes = setting.program.routes();
-    let route = route_of(alloc, routes, request.method, given.segments.as_slice())?;
-    run_route(alloc, &given, view, route)
+    run_given(alloc, &given, routes, request.method, view)
 }
 
 /// Runs a request on the rows of a view, with the answers of its first calls: the first route that takes its method

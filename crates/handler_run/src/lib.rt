@@ -4,19 +4,16 @@
 mod blocks;
 mod calls;
 mod handler;
-mod numbers;
-mod parts;
-mod paths;
 mod reads;
 mod recorded;
 mod state;
 mod statements;
 mod steps;
-mod values;
 mod variables;
 mod view;
 
 pub use handler::run;
+pub use handler_values::Fault;
 pub use recorded::MOST_READ_BYTES;
-pub use state::{Fault, Ran};
+pub use state::Ran;
 pub use view::{RowsView, View};

@@ -1,15 +1,19 @@
 // Statements that read rows.
-ghost use Rattle.std.specs.Prelude.{◌≡◌, ◌&&◌, ℕ, List, None, sum_by, nat_le, IfOk, MatchResult};
+ghost use Rattle.std.specs.Prelude.{◌≡◌, ◌&&◌, ℕ, List, None, true, false, sum_by, nat_le, IfOk, MatchResult, OnOk};
 ghost use Rattle.lang_base.specs.Texts.{same_text, begins_with};
 ghost use Rattle.lang_core.specs.Places.{IsOrdered};
 ghost use Rattle.lang_core.specs.Rows.{cell_size, write_place};
 ghost use Rattle.lang_core.specs.declared.cells.Cell.{Cell};
-ghost use Rattle.handler_run.specs.Runs.{Effect, ended, faulted, own, read_or, get_at, get_of, scan_fits, own_beneath, laid_over, turns, with_cells, each_at, each_of};
+ghost use Rattle.lang_core.specs.declared.trace.Read.TheVariants.{Key, Scan};
+ghost use Rattle.handler_values.specs.Values.{text_or_nothing};
+ghost use Rattle.handler_values.specs.declared.given.Fault.TheVariants.{Limit};
+ghost use Rattle.handler_run.specs.Runs.{Effect, ended, faulted, goes_on, note_read, noted, own, read_or, reads_fit, set_var, within, get_at, get_of, scan_fits, own_beneath, laid_over, turns, with_cells, each_at, each_of};
 
-use crate::state::{Fault, Flow, Given, State};
+use crate::state::{Flow, State};
 use crate::steps::{key_fits, own, value_in};
-use crate::values::text_or_nothing;
 use crate::view::View;
+use handler_values::{Fault, Given, text_or_nothing};
+use lang_base::both;
 use lang_core::{
     Cell, Cells, Copied, Expr, MOST_SCAN_BYTES, MOST_SCAN_CELLS, NoMemory, Read, Same, Text, Value,
     Write, Writes, apply_writes,
@@ -20,6 +24,49 @@ const LONGEST_PREFIX: u64 = 256;
 
 /// Cells that an `each` goes over, or a fault. Want of memory stands outside of it.
 pub type Beneath = Result<Cells, Fault>;
+
+// Records a read of a key.
+fn note_key(
+    alloc: Global,
+    state: &mut State,
+    table: &Text,
+    key: &Text,
+    found: Option<Text>,
+) -> Result<(), NoMemory>
+    ensures { OnOk result (state.new ≡ note_read (Key table.now key.now found) state.old) }
+{
+    let (table, key) = both(table.copied(alloc), key.copied(alloc))?;
+    state.note_read(Read::Key { table, key, found })
+}
+
+// Gives a variable what was read, where the reads are within their limit.
+fn set_read(alloc: Global, state: &mut State, var: &Text, value: Value) -> Result<Flow, NoMemory>
+    ensures { IfOk result (λ flow. ended flow state.new
+        ≡ within (reads_fit state.old) state.old (goes_on (set_var var.now value state.old))) }
+{
+    if !state.reads.fit() {
+        return Ok(Flow::Faulted(Fault::Limit));
+    }
+    state.set_var(alloc, var, value)?;
+    Ok(Flow::GoesOn)
+}
+
+// Goes on with what a key was found to have.
+fn found_at(
+    alloc: Global,
+    state: &mut State,
+    var: &Text,
+    table: &Text,
+    key: &Text,
+    found: Option<Text>,
+) -> Result<Flow, NoMemory>
+    ensures { IfOk result (λ flow. ended flow state.new
+        ≡ noted (Key table.now key.now found) state.old (λ u. goes_on (set_var var.now (text_or_nothing found) u))) }
+{
+    let value = text_or_nothing(alloc, &found)?;
+    note_key(alloc, state, table, key, found)?;
+    set_read(alloc, state, var, value)
+}
 
 // Reads a key of the rows.
 fn read_row<V: View>(
@@ -33,17 +80,7 @@ fn read_row<V: View>(
     ensures { IfOk result (λ flow. ended flow state.new ≡ read_or None (V.rows view.now) var.now table.now key.now state.old) }
 {
     let found = view.key(alloc, table, key)?;
-    let value = text_or_nothing(alloc, &found)?;
-    state.note_read(Read::Key {
-        table: table.copied(alloc)?,
-        key: key.copied(alloc)?,
-        found,
-    })?;
-    if !state.reads.fit() {
-        return Ok(Flow::Faulted(Fault::Limit));
-    }
-    state.set_var(alloc, var, value)?;
-    Ok(Flow::GoesOn)
+    found_at(alloc, state, var, table, key, found)
 }
 
 fn read_at<V: View>(
@@ -166,6 +203,45 @@ fn laid_over(
     Ok(cells)
 }
 
+// Records a scan.
+fn note_scan(
+    alloc: Global,
+    state: &mut State,
+    table: &Text,
+    prefix: &Text,
+    cells: &Cells,
+) -> Result<(), NoMemory>
+    ensures { OnOk result (state.new ≡ note_read (Scan table.now prefix.now cells.now) state.old) }
+{
+    let words = both(table.copied(alloc), prefix.copied(alloc));
+    let (words, found) = both(words, cells.copied(alloc))?;
+    let (table, prefix) = words;
+    state.note_read(Read::Scan {
+        table,
+        prefix,
+        found,
+    })
+}
+
+// Cells with own writes laid over them, where a scan may hold so many.
+fn laid_within(
+    alloc: Global,
+    cells: Cells,
+    table: &Text,
+    prefix: &Text,
+    state: &State,
+) -> Result<Beneath, NoMemory>
+    ensures { IfOk result (λ beneath. MatchResult beneath
+        (λ laid. (laid ≡ laid_over cells table.now prefix.now state.now) × (scan_fits laid ≡ true))
+        (λ fault. (fault ≡ Limit) × (scan_fits (laid_over cells table.now prefix.now state.now) ≡ false))) }
+{
+    let laid = laid_over(alloc, cells, table, prefix, state)?;
+    if !scan_fits(laid.as_slice()) {
+        return Ok(Err(Fault::Limit));
+    }
+    Ok(Ok(laid))
+}
+
 // What an `each` goes over: the cells beneath, which are recorded, with own writes laid over them.
 fn cells_over(
     alloc: Global,
@@ -178,19 +254,11 @@ fn cells_over(
         (λ laid. (next : List Cell → Effect) → with_cells cells table.now prefix.now state.old next ≡ next laid state.new)
         (λ fault. (next : List Cell → Effect) → with_cells cells table.now prefix.now state.old next ≡ faulted fault state.new)) }
 {
-    state.note_read(Read::Scan {
-        table: table.copied(alloc)?,
-        prefix: prefix.copied(alloc)?,
-        found: cells.copied(alloc)?,
-    })?;
+    note_scan(alloc, state, table, prefix, &cells)?;
     if !state.reads.fit() || !scan_fits(cells.as_slice()) {
         return Ok(Err(Fault::Limit));
     }
-    let laid = laid_over(alloc, cells, table, prefix, state)?;
-    if !scan_fits(laid.as_slice()) {
-        return Ok(Err(Fault::Limit));
-    }
-    Ok(Ok(laid))
+    laid_within(alloc, cells, table, prefix, state)
 }
 
 // The cells under a prefix.

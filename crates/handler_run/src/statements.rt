@@ -3,8 +3,9 @@ ghost use Rattle.std.specs.Prelude.{◌≡◌, pos, slice_get, IfOk};
 ghost use Rattle.handler_run.specs.declared.state.State.{State};
 ghost use Rattle.handler_run.specs.Runs.{ended, let_of, put_at, put_of, drop_at, drop_of, now_of, words_of, random_of, reply_at, reply_of};
 
-use crate::state::{Fault, Flow, Given, State};
+use crate::state::{Flow, State};
 use crate::steps::{key_fits, text_fits, value_in};
+use handler_values::{Fault, Given};
 use lang_core::{Expr, Inputs, NoMemory, Response, Text, Value};
 use std::alloc::Global;
 

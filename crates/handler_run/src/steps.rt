@@ -2,11 +2,11 @@
 ghost use Rattle.std.specs.Prelude.{◌≡◌, Some, None, OnOk, IfOk};
 ghost use Rattle.std.specs.Bool.{MatchBool};
 ghost use Rattle.std.specs.Option.{option_copied};
-ghost use Rattle.handler_run.specs.Values.{value_of};
+ghost use Rattle.handler_values.specs.Values.{value_of};
 ghost use Rattle.handler_run.specs.Runs.{begun, set_var, note_read, write_own, answered, note_call, own, key_fits, text_fits};
 
-use crate::state::{Given, State};
-use crate::values::{Outcome, value_of};
+use crate::state::State;
+use handler_values::{Given, Outcome, value_of};
 use lang_core::{
     CallMade, Copied, Expr, LONGEST_TEXT, NoMemory, Read, Response, Text, Value, Write, Writes,
 };

@@ -3,7 +3,7 @@ ghost use Rattle.std.specs.Prelude.{◌≡◌, ◌<◌, [], ◌∷◌, ◌++◌,
 ghost use Rattle.lang_core.specs.declared.value.Value.{Value};
 ghost use Rattle.handler_run.specs.Runs.{bind};
 
-use crate::state::Binding;
+use handler_values::Binding;
 use lang_core::{Copied, NoMemory, Same, Text, Value};
 use std::alloc::Global;
 use std::marker::Model;
@@ -16,7 +16,7 @@ pub struct Variables {
 
 impl Model for Variables {
     ghost use Rattle.std.specs.Prelude.{List};
-    ghost use Rattle.handler_run.specs.declared.state.Binding.{Binding};
+    ghost use Rattle.handler_values.specs.declared.given.Binding.{Binding};
 
     ghost Value = { List Binding };
 

@@ -1,9 +1,12 @@
 // What a run read, called, wrote and answered.
+ghost use Rattle.std.specs.Prelude.{◌≡◌, IfOk};
+ghost use Rattle.lang_core.specs.declared.trace.Read.TheVariants as read;
+
 use crate::cells::Cells;
 use crate::ids::Name;
 use crate::request::{Answers, Request, Response};
 use crate::writes::Writes;
-use lang_base::{Copied, NoMemory, Same, Seq, Text};
+use lang_base::{Copied, NoMemory, Same, Seq, Text, both};
 use std::alloc::Global;
 
 /// What a run read of its rows, and what it found.
@@ -26,23 +29,44 @@ pub enum Read {
 /// Reads, in the order in which they were made.
 pub type Reads = Seq<Read>;
 
+fn copied_key(
+    alloc: Global,
+    table: &Text,
+    key: &Text,
+    found: &Option<Text>,
+) -> Result<Read, NoMemory>
+    ensures { IfOk result (λ copy. copy ≡ read.Key table.now key.now found.now) }
+{
+    let words = both(table.copied(alloc), key.copied(alloc));
+    let (words, found) = both(words, Copied::copied(found, alloc))?;
+    Ok(Read::Key {
+        table: words.0,
+        key: words.1,
+        found,
+    })
+}
+
+fn copied_scan(alloc: Global, table: &Text, prefix: &Text, found: &Cells) -> Result<Read, NoMemory>
+    ensures { IfOk result (λ copy. copy ≡ read.Scan table.now prefix.now found.now) }
+{
+    let words = both(table.copied(alloc), prefix.copied(alloc));
+    let (words, found) = both(words, found.copied(alloc))?;
+    Ok(Read::Scan {
+        table: words.0,
+        prefix: words.1,
+        found,
+    })
+}
+
 impl Copied for Read {
     fn copied(&self, alloc: Global) -> Result<Read, NoMemory> {
         match self {
-            Read::Key { table, key, found } => Ok(Read::Key {
-                table: table.copied(alloc)?,
-                key: key.copied(alloc)?,
-                found: Copied::copied(found, alloc)?,
-            }),
+            Read::Key { table, key, found } => copied_key(alloc, table, key, found),
             Read::Scan {
                 table,
                 prefix,
                 found,
-            } => Ok(Read::Scan {
-                table: table.copied(alloc)?,
-                prefix: prefix.copied(alloc)?,
-                found: found.copied(alloc)?,
-            }),
+            } => copied_scan(alloc, table, prefix, found),
         }
     }
 }
@@ -112,12 +136,15 @@ pub struct Trace {
 
 impl Copied for Trace {
     fn copied(&self, alloc: Global) -> Result<Trace, NoMemory> {
+        let called = both(self.calls.copied(alloc), self.answers.copied(alloc));
+        let ended = both(self.writes.copied(alloc), self.response.copied(alloc));
+        let (reads, (called, ended)) = both(self.reads.copied(alloc), both(called, ended))?;
         Ok(Trace {
-            reads: self.reads.copied(alloc)?,
-            calls: self.calls.copied(alloc)?,
-            answers: self.answers.copied(alloc)?,
-            writes: self.writes.copied(alloc)?,
-            response: self.response.copied(alloc)?,
+            reads,
+            calls: called.0,
+            answers: called.1,
+            writes: ended.0,
+            response: ended.1,
         })
     }
 }
