@@ -1,56 +1,40 @@
--- What events do to the numbers and the records of entries.
-use Rattle.std.proofs.Common.{◌≡◌, ◌≤◌, ℕ, ◌+◌, suc, Bool, true, false, cond, List, [], ◌∷◌, ◌++◌, length, None, IfSome, refl, sym, ap, ◌∙◌, subst, arith, get_or, length-append}
-use Rattle.std.specs.List.{All, Contains, find}
+-- What events do to the records of entries.
+use Rattle.std.proofs.Common.{◌≡◌, ℕ, ◌+◌, suc, Bool, true, false, cond, not, ◌&&◌, nat_eq, List, [], ◌∷◌, ◌++◌, length, Option, Some, None, IfSome, refl, sym, ap, ◌∙◌, subst, arith, get_or}
+use Rattle.std.specs.List.{All, Contains}
 use Rattle.std.proofs.lemmas.List.Elements.{All-push, All-cons}
+use Rattle.lang_base.specs.Equal.{equal}
+use Rattle.lang_core.specs.contracts.request.Response as response
 use Rattle.lang_core.specs.declared.cells.Cell.{Cell}
 use Rattle.lang_core.specs.declared.setting.Setting.{Setting}
 use Rattle.lang_core.specs.Traces.{dead_trace}
-use Rattle.lang_core.specs.declared.ids.Origin.TheVariants.{Outside}
 use Rattle.lang_core.specs.declared.inputs.Inputs.{Inputs}
 use Rattle.lang_core.specs.declared.request.Request.{Request}
 use Rattle.lang_core.specs.declared.trace.Trace.{Trace}
-use Rattle.request_log.specs.Entries.{has_id, is_alive, find_call, IsNew}
+use Rattle.request_log.specs.Entries.{is_alive}
 use Rattle.request_log.specs.declared.entry.Entry.{Entry}
+use Rattle.request_log.specs.declared.entry.Made.{Made}
 use Rattle.local_repair.specs.Current.{Consumed, IsRun, AllRuns, after_entry}
 use Rattle.local_repair.specs.Tests.{is_current, step_with}
-use Rattle.local_repair.specs.Alone.{remade_on, trace_on, trace_or_dead}
+use Rattle.local_repair.specs.Alone.{made_on, remade_on, trace_on, trace_or_dead}
 use Rattle.local_repair.specs.Settling.{HasItsSlots, CanSettle, CallsNone}
-use Rattle.local_repair.specs.Steps.{StandOnce, AreApart}
+use Rattle.local_repair.specs.Steps.{StandOnce, AreApart, is_new_answer, raised_if}
 use Rattle.local_repair.proofs.AloneLemmas.{alone_settles, ends_alone}
-use Rattle.service_core.specs.Events.{unanswered, IsNumbered, IsAlone, Fits}
+use Rattle.service_core.specs.Events.{ids, unanswered, AreCounted, HasItsVersion, IsAlone, Fits}
+use Rattle.service_core.proofs.NumberLemmas.{ids-step, numbered_push}
 
 -- what holds of both choices holds of the chosen one
 pub either : {X : Type 0} (P : X → Type 0) (b : Bool) (x y : X) → P x → P y → P (cond b x y)
 either P true x y p q = p
 either P false x y p q = q
 
--- ---- numbers
-
-pub at_most_one_more : (n : ℕ) (es : List Entry) → All (λ e. e.id ≤ n) es → All (λ (e : Entry). e.id ≤ n + 1) es
-at_most_one_more n es h = λ k d l. let b = h k d l in omega arith
-
-not_last : (n : ℕ) (e : Entry) → e.id ≤ n → has_id (n + 1) e ≡ false
-not_last n e h = grind arith
-
--- a number above all isn't given yet
-pub find-above : (n : ℕ) (es : List Entry) → All (λ e. e.id ≤ n) es → find (has_id (n + 1)) es ≡ None
-find-above n [] h = refl
-find-above n (e ∷ es) h =
-    let here : e.id ≤ n = h 0 e (omega arith) in
-    rw (not_last n e here) (find-above n es (λ k d l. h (suc k) d (omega arith)))
-
 -- ---- an arrival
 
-pub fits_push : (setting : Setting) (es : List Entry) (e : Entry) → Fits setting es → e.id ≡ length es + 1 → IfSome e.made (IsRun setting e.inputs) → IsAlone e → Fits setting (es ++ e ∷ [])
-fits_push setting es e f id run alone = record {
+pub fits_push : (setting : Setting) (es : List Entry) (e : Entry) → Fits setting es → e.id ≡ length es + 1 → IfSome e.made (IsRun setting e.inputs) → HasItsVersion e → IsAlone e → Fits setting (es ++ e ∷ [])
+fits_push setting es e f id run version alone = record {
   no_peers = f.no_peers;
   runs = All-push (λ e. IfSome e.made (IsRun setting e.inputs)) es e f.runs run;
-  numbered = record {
-    within =
-        let n : length (es ++ e ∷ []) ≡ length es + 1 = grind (arith, length-append) in
-        let W : ℕ → Type 0 = λ n. All (λ (e : Entry). e.id ≤ n) (es ++ e ∷ []) in
-        subst W (sym n) (All-push (λ e. e.id ≤ length es + 1) es e (at_most_one_more (length es) es f.numbered.within) (omega (arith, id)));
-  };
+  numbered = numbered_push es e id f.numbered;
+  versions = All-push HasItsVersion es e f.versions version;
   alone = All-push IsAlone es e f.alone alone;
 }
 
@@ -79,33 +63,31 @@ remade_alone setting none rows e = record {
   calls = dead_or_alone (is_alive e) (trace_on setting e.request e.inputs rows) (trace_on_alone setting none e.request e.inputs rows);
 }
 
-length-step : (consumed : Consumed) (remake : List Cell → Entry → Entry) (rows : List Cell) (es : List Entry) → length (step_with consumed remake rows es) ≡ length es
-length-step consumed remake rows [] = refl
-length-step consumed remake rows (e ∷ es) =
-    either (λ l. length l ≡ length (e ∷ es)) (is_current consumed rows e) (e ∷ step_with consumed remake (after_entry rows e) es) (remake rows e ∷ es)
-    (ap (λ n. suc n) (length-step consumed remake (after_entry rows e) es)) refl
+-- a record that is made anew has an answer version
+not_zero : (b : Bool) (n : ℕ) → (n ≡ 0 → ⊥) → raised_if b n ≡ 0 → ⊥
+not_zero true n above is = omega arith
+not_zero false n above is = above is
+
+version_given : (made : Option Made) (m : Made) (n : ℕ) → (n ≡ 0 → made ≡ None) → raised_if (is_new_answer made m) n ≡ 0 → ⊥
+version_given None m n none is = omega arith
+version_given (Some old) m n none is =
+    not_zero (not (nat_eq old.version m.version && equal response.the_row.coded old.trace.response m.trace.response)) n (λ zero. (let lacks = none zero in cc)) is
+
+remade_version : (setting : Setting) (rows : List Cell) (e : Entry) → HasItsVersion e → HasItsVersion (remade_on setting rows e)
+remade_version setting rows e h = (λ zero. absurd (version_given e.made (made_on setting rows e) e.answer_version h.0 zero), λ none. (cc))
 
 pub fits_step : (setting : Setting) (es es' : List Entry) → Fits setting es → AllRuns setting es' → es' ≡ step_with unanswered (remade_on setting) [] es → Fits setting es'
 fits_step setting es es' f runs is = record {
   no_peers = f.no_peers;
   runs = runs;
-  numbered = record {
-    within =
-        let kept = step_keeps (λ e. e.id ≤ length es) unanswered (remade_on setting) (λ rows e h. h) [] es f.numbered.within in
-        let W : ℕ → List Entry → Type 0 = λ n l. All (λ (e : Entry). e.id ≤ n) l in
-        let same : length es' ≡ length es = ap length is ∙ length-step unanswered (remade_on setting) [] es in
-        subst (λ l. W (length es') l) (sym is) (subst (λ n. W n (step_with unanswered (remade_on setting) [] es)) (sym same) kept);
-  };
+  numbered =
+      let same : ids es' ≡ ids es = ap ids is ∙ ids-step unanswered (remade_on setting) (λ rows e. refl) [] es in
+      subst AreCounted (sym same) f.numbered;
+  versions = subst (All HasItsVersion) (sym is) (step_keeps HasItsVersion unanswered (remade_on setting) (remade_version setting) [] es f.versions);
   alone = subst (All IsAlone) (sym is) (step_keeps IsAlone unanswered (remade_on setting) (λ rows e h. remade_alone setting f.no_peers rows e) [] es f.alone);
 }
 
 -- ---- what the calls of a repairer ask
-
-pub new_last : (es : List Entry) (e : Entry) → IsNumbered es → e.id ≡ length es + 1 → e.origin ≡ Outside → IsNew e es
-new_last es e n id origin = record {
-  id = subst (λ k. find (has_id k) es ≡ None) (sym id) (find-above (length es) es n.within);
-  origin = ap (λ o. find_call o es) origin;
-}
 
 own_slots : (e : Entry) → IsAlone e → HasItsSlots e
 own_slots e h = ap length h.slots ∙ sym (ap length h.calls)

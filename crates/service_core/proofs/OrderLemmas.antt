@@ -1,7 +1,5 @@
 -- What an order does to the numbers and the records of entries.
 use Rattle.std.proofs.Common.{◌≡◌, ◌≤◌, ℕ, ◌+◌, suc, Bool, true, false, cond, not, List, [], ◌∷◌, length, Option, Some, None, IfSome, IsSomeAnd, Ok, Err, refl, sym, ap, ◌∙◌, subst, eqb-true, arith, get_or, set, take, drop, option_map, is_some}
-use Rattle.std.proofs.lemmas.List.{length-map}
-use Rattle.std.proofs.lemmas.List.Edits.{length-insert}
 use Rattle.std.specs.List.{All, find, insert, position_or_len}
 use Rattle.std.proofs.lemmas.List.Elements.{All-map, All-append, All-cons, All-take, All-drop}
 use Rattle.lang_core.specs.declared.inputs.Inputs.{Inputs}
@@ -11,10 +9,11 @@ use Rattle.request_log.specs.Entries.{has_id, IsDistinct, with_entry}
 use Rattle.request_log.specs.declared.entry.Entry.{Entry}
 use Rattle.local_repair.specs.Current.{IsRun}
 use Rattle.local_repair.specs.Repairs.{Amends, IsAmended}
-use Rattle.service_core.specs.Events.{Kept, Fits, IsAlone}
+use Rattle.service_core.specs.Events.{Kept, Fits, AreCounted, HasItsVersion, IsAlone}
 use Rattle.service_core.specs.Orders.{about, about_entry, changed, created}
 use Rattle.service_core.specs.declared.answers.OrderRefused.TheVariants.{NoSuchRequest}
-use Rattle.service_core.proofs.EventLemmas.{at_most_one_more, either}
+use Rattle.service_core.proofs.EventLemmas.{either}
+use Rattle.service_core.proofs.NumberLemmas.{ids-changed, numbered_insert}
 
 -- ---- the entry of a number is changed
 
@@ -83,27 +82,21 @@ changed_keeps P change keeps id es h =
     All-map P (λ (e : Entry). cond (has_id id e) (change e) e) es
     (λ k d l. either P (has_id id (get_or es k d)) (change (get_or es k d)) (get_or es k d) (keeps (get_or es k d) (h k d l)) (h k d l))
 
-length-changed : (change : Entry → Entry) (id : ℕ) (es : List Entry) → length (changed id change es) ≡ length es
-length-changed change id es = grind (arith, length-map)
-
 run_kept : (setting : Setting) (change : Entry → Entry) → IsChange change → (e : Entry) → IfSome e.made (IsRun setting e.inputs) → IfSome (change e).made (IsRun setting (change e).inputs)
 run_kept setting change is e h = let P : Entry → Type 0 = λ v. IfSome v.made (IsRun setting v.inputs) in subst P (sym (is e)) h
 
 alone_kept : (change : Entry → Entry) → IsChange change → (e : Entry) → IsAlone e → IsAlone (change e)
 alone_kept change is e h = subst IsAlone (sym (is e)) (record { slots = h.slots; calls = h.calls })
 
-id_kept : (n : ℕ) (change : Entry → Entry) → IsChange change → (e : Entry) → e.id ≤ n → (change e).id ≤ n
-id_kept n change is e h = subst (λ k. k ≤ n) (sym (same_id change is e)) h
+version_kept : (change : Entry → Entry) → IsChange change → (e : Entry) → HasItsVersion e → HasItsVersion (change e)
+version_kept change is e h = subst HasItsVersion (sym (is e)) (h.0, h.1)
 
 pub fits_changed : (setting : Setting) (change : Entry → Entry) → IsChange change → (id : ℕ) (es : List Entry) → Fits setting es → Fits setting (changed id change es)
 fits_changed setting change is id es f = record {
   no_peers = f.no_peers;
   runs = changed_keeps (λ e. IfSome e.made (IsRun setting e.inputs)) change (run_kept setting change is) id es f.runs;
-  numbered = record {
-    within =
-        let W : ℕ → Type 0 = λ n. All (λ (e : Entry). e.id ≤ n) (changed id change es) in
-        subst W (sym (length-changed change id es)) (changed_keeps (λ e. e.id ≤ length es) change (id_kept (length es) change is) id es f.numbered.within);
-  };
+  numbered = subst AreCounted (sym (ids-changed change (same_id change is) id es)) f.numbered;
+  versions = changed_keeps HasItsVersion change (version_kept change is) id es f.versions;
   alone = changed_keeps IsAlone change (alone_kept change is) id es f.alone;
 }
 
@@ -173,10 +166,7 @@ fits_insert setting es at request inputs within f =
     record {
       no_peers = f.no_peers;
       runs = inserted_all (λ (e : Entry). IfSome e.made (IsRun setting e.inputs)) es at e f.runs tt;
-      numbered = record {
-        within =
-            let W : ℕ → Type 0 = λ n. All (λ (e : Entry). e.id ≤ n) (insert es at e) in
-            subst W (sym (length-insert es at e within)) (inserted_all (λ (e : Entry). e.id ≤ length es + 1) es at e (at_most_one_more (length es) es f.numbered.within) (omega arith));
-      };
+      numbered = numbered_insert es at e within refl f.numbered;
+      versions = inserted_all HasItsVersion es at e f.versions (λ _. refl, λ _. refl);
       alone = inserted_all IsAlone es at e f.alone (record { slots = refl; calls = refl });
     }

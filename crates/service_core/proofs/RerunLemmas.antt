@@ -1,18 +1,19 @@
 -- The record that an arrival makes is what its run gives.
-use Rattle.std.proofs.Common.{◌≡◌, ℕ, List, [], ◌∷◌, ◌++◌, IfSome, refl, sym, ap, ◌∙◌}
+use Rattle.std.proofs.Common.{◌≡◌, ℕ, List, [], ◌∷◌, ◌++◌, IfSome, refl, sym, ap, ◌∙◌, arith}
 use Rattle.std.proofs.lemmas.List.{append-nil}
 use Rattle.lang_core.specs.declared.cells.Cell.{Cell}
 use Rattle.lang_core.specs.declared.inputs.Inputs.{Inputs}
 use Rattle.lang_core.specs.declared.request.Request.{Request}
 use Rattle.lang_core.specs.declared.request.Response.{Response}
 use Rattle.lang_core.specs.declared.setting.Setting.{Setting}
+use Rattle.lang_core.specs.declared.trace.Trace.{Trace}
 use Rattle.handler_run.specs.Handlers.{run_of}
 use Rattle.handler_run.specs.declared.state.Ran.TheVariants.{Done}
 use Rattle.handler_run.proofs.RunLaws.{reads_done, same_done, takes_done}
 use Rattle.local_repair.specs.Alone.{trace_on, trace_or_dead}
 use Rattle.local_repair.specs.Current.{IsCurrent, IsRun}
 use Rattle.local_repair.proofs.AloneLemmas.{ends_alone}
-use Rattle.service_core.specs.Events.{committed, unanswered}
+use Rattle.service_core.specs.Events.{committed, unanswered, HasItsVersion}
 
 -- a service that calls nobody ends each run with this trace
 pub trace_on_is : (s : Setting) → s.peers ≡ [] → (q : Request) (i : Inputs) (rows : List Cell) → run_of s q i [] rows ≡ Done (trace_on s q i rows)
@@ -28,7 +29,10 @@ committed_runs s none id q i rows = record {
   dead = λ h. cc;
 }
 
-none_taken : (xs rest : List Response) → [] ≡ xs ++ rest → xs ≡ []
+pub committed_version : (id : ℕ) (q : Request) (i : Inputs) (t : Trace) → HasItsVersion (committed id q i t)
+committed_version id q i t = (λ zero. absurd (omega arith), λ none. (cc))
+
+pub none_taken : (xs rest : List Response) → [] ≡ xs ++ rest → xs ≡ []
 none_taken [] rest e = refl
 none_taken (x ∷ xs) rest e = cc
 

@@ -1,5 +1,8 @@
 -- What a service keeps, and what each event makes of it.
-use Rattle.std.specs.Prelude.{ℕ, ◌+◌, ◌≡◌, ◌≤◌, Bool, true, false, List, [], ◌∷◌, ◌++◌, Option, Some, None, Result, Ok, Err, if◌then◌else◌, map, length, take, nat_le, All, refl}
+use Rattle.std.specs.Prelude.{ℕ, ◌+◌, ◌≡◌, ◌↔◌, Bool, true, false, List, [], ◌∷◌, ◌++◌, Option, Some, None, Result, Ok, Err, if◌then◌else◌, map, length, take, nat_le, All, refl}
+use Rattle.std.specs.Fn.{iterate}
+use Rattle.std.specs.List.{range_with_len}
+use Rattle.std.specs.List.Sorted.{IsPermutation}
 use Rattle.std.specs.Coded.{Coded, code_by, coded×, coded_list}
 use Rattle.lang_core.specs.contracts.setting.Setting as setting
 use Rattle.request_log.specs.contracts.entry.Entry as entry
@@ -93,22 +96,36 @@ stale_id s = first_stale_id unanswered s.entries
 abbrev pub after_step : Kept → Kept
 after_step s = record s { entries = step_with unanswered (remade_on s.setting) [] s.entries }
 
+-- so many repair steps with no event between leave no stale entry
+abbrev pub SettlesWithin : ℕ → Kept → Type 0
+SettlesWithin steps s = stale_id (iterate after_step steps s) ≡ None
+
 -- ---- what always holds
 
--- the numbers of entries are 1, 2, 3 and so on, up to how many there are
-pub record IsNumbered (entries : List Entry) : Type 0 where
-  pub within : All (λ e. e.id ≤ length entries) entries
+-- the numbers of entries
+abbrev pub ids : List Entry → List ℕ
+ids entries = map (λ (e : Entry). e.id) entries
+
+-- numbers that are 1, 2, 3 and so on, each once, in some order
+abbrev pub AreCounted : List ℕ → Type 0
+AreCounted numbers = IsPermutation (range_with_len 1 (length numbers)) numbers
+
+-- an entry's answer version is 0 exactly where it has no record
+abbrev pub HasItsVersion : Entry → Type 0
+HasItsVersion e = (e.answer_version ≡ 0) ↔ (e.made ≡ None)
 
 -- an entry of a service that calls nobody
 pub record IsAlone (e : Entry) : Type 0 where
   pub slots : e.slots ≡ []
   pub calls : calls_of_made e.made ≡ []
 
--- a service's log fits its setting: it calls nobody, each record is what a run gave, and numbers are given in order
+-- a service's log fits its setting: it calls nobody, each record is what a run gave, numbers are given in order and
+-- once, and answer versions go with records
 pub record Fits (setting : Setting) (entries : List Entry) : Type 0 where
   pub no_peers : setting.peers ≡ []
   pub runs : AllRuns setting entries
-  pub numbered : IsNumbered entries
+  pub numbered : AreCounted (ids entries)
+  pub versions : All HasItsVersion entries
   pub alone : All IsAlone entries
 
 -- a service as a history

@@ -1,11 +1,11 @@
 // A service: what it is set to do, its log, and its accepted orders.
-ghost use Rattle.std.specs.Prelude.{◌≡◌, ℕ, [], ◌∷◌, IfOk, IfNone, OnOk, MatchOption};
+ghost use Rattle.std.specs.Prelude.{◌≡◌, ℕ, [], ◌∷◌, length, Ok, IfOk, IfNone, OnOk, OnErr, MatchOption};
 ghost use Rattle.execution.specs.Executions.{IsLegal};
 ghost use Rattle.local_repair.specs.Current.{AllCurrent, IsCurrent, IsFirstStale, rows_of};
 ghost use Rattle.local_repair.specs.Repairs.{IsStaleId};
 ghost use Rattle.local_repair.specs.Alone.{no_registers, trace_on};
 ghost use Rattle.local_repair.specs.Steps.{StepsTo};
-ghost use Rattle.service_core.specs.Events.{arrival, committed, history, unanswered, stale_id, IsArrival, IsStep, ReplaysBefore};
+ghost use Rattle.service_core.specs.Events.{arrival, committed, history, unanswered, stale_id, Fits, IsArrival, IsStep, ReplaysBefore, SettlesWithin};
 
 use crate::answers::{ArriveRefused, Arrived};
 use crate::tokens::Tokens;
@@ -19,8 +19,8 @@ use std::marker::Model;
 mod orders;
 
 /// A service without peers: its setting, its log under repair, and the orders that it accepted. Its type keeps that the
-/// log fits the setting: each record is what a run of its request gives, and the numbers of entries count from 1 in the
-/// order in which they were made.
+/// log fits the setting: each record is what a run of its request gives, the numbers of entries are 1, 2, 3 and so on in
+/// the order in which they were made, each once, and an entry has an answer version exactly where it has a record.
 #[derive(Drop)]
 pub struct Service {
     setting: Setting,
@@ -122,9 +122,10 @@ impl Service {
         &self.setting
     }
 
-    /// Its log.
+    /// Its log, which fits its setting.
     pub fn entries(&self) -> &Log
-        ensures { result.now.entries ≡ self.now.entries }
+        ensures log { result.now.entries ≡ self.now.entries }
+        ensures fits { Fits self.now.setting self.now.entries }
     {
         self.repairer.log()
     }
@@ -145,6 +146,7 @@ impl Service {
         inputs: Inputs,
     ) -> Result<Arrived, ArriveRefused>
         ensures arrives { IsArrival self.old request inputs result self.new }
+        ensures refused { OnErr result (self.new ≡ self.old) }
         ensures setting { self.new.setting ≡ self.old.setting }
         ensures current { OnOk result (IsCurrent unanswered (rows_of self.old.entries) (arrival self.old request inputs)) }
     {
@@ -164,11 +166,14 @@ impl Service {
         }
     }
 
-    /// Runs the first stale entry again, if there is one.
+    /// Runs the first stale entry again, if there is one; where there is none, the answer is Idle and takes no memory. As
+    /// many steps as there are entries, with no event between, leave none stale.
     pub fn repair_step(&mut self, alloc: Global) -> Result<Stepped, NoMemory>
         ensures step { IsStep self.old result self.new }
         ensures first { IfOk result (λ stepped.
             StepsTo self.old.setting no_registers self.old.entries stepped self.new.entries) }
+        ensures bound { SettlesWithin (length self.old.entries) self.old }
+        ensures idle { AllCurrent unanswered [] self.old.entries → (result ≡ Ok Stepped.Idle) × (self.new ≡ self.old) }
     {
         self.repairer.step(alloc, &self.setting, &mut NoSlots)
     }

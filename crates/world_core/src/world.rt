@@ -1,7 +1,9 @@
 // A world: services, and what their requests are given from outside.
-ghost use Rattle.std.specs.Prelude.{◌≡◌};
-ghost use Rattle.service_core.specs.Events.{IsStep};
-ghost use Rattle.world_core.specs.Worlds.{fresh_world, with_moment, with_seed, IsCommand, IsRequest};
+ghost use Rattle.std.specs.Prelude.{◌≡◌, [], length, Ok, IfSome, OnErr};
+ghost use Rattle.local_repair.specs.Current.{AllCurrent};
+ghost use Rattle.service_core.specs.Events.{unanswered, IsStep, SettlesWithin};
+ghost use Rattle.service_core.specs.Orders.{given};
+ghost use Rattle.world_core.specs.Worlds.{fresh_world, once_drawn, with_moment, with_seed, IsCommand, IsRequest};
 
 use lang_core::{LAST_MOMENT, NoMemory, Request, Text};
 use recorded_inputs::{ScriptClock, ScriptWords, draw_script};
@@ -70,6 +72,7 @@ impl World {
     /// A request from outside, which draws its inputs even where it is refused, but for want of memory.
     pub fn arrive(&mut self, alloc: Global, request: Request) -> Result<Arrived, ArriveRefused>
         ensures request { IsRequest self.old request result self.new }
+        ensures refused { OnErr result (self.new.service ≡ self.old.service) }
         ensures setting { self.new.service.setting ≡ self.old.service.setting }
     {
         let last = self.words.last();
@@ -83,7 +86,8 @@ impl World {
         }
     }
 
-    /// An order of an operator, which draws inputs even where it is refused or repeated, but for want of memory.
+    /// An order of an operator, which draws inputs even where it is refused or repeated, but for want of memory. A
+    /// repeated one takes no memory.
     pub fn order(
         &mut self,
         alloc: Global,
@@ -91,6 +95,9 @@ impl World {
         token: Text,
     ) -> Result<Ordered, OrderRefused>
         ensures order { IsCommand self.old command token result self.new }
+        ensures repeated { IfSome (given token self.old.service.accepted)
+            (λ ordered. (result ≡ Ok ordered) × (self.new ≡ once_drawn self.old self.old.service)) }
+        ensures refused { OnErr result (self.new.service ≡ self.old.service) }
         ensures setting { self.new.service.setting ≡ self.old.service.setting }
     {
         let last = self.words.last();
@@ -104,10 +111,12 @@ impl World {
         }
     }
 
-    /// A repair step of its service, which draws nothing.
+    /// A repair step of its service, which draws nothing. Where no entry is stale it takes no memory.
     pub fn repair_step(&mut self, alloc: Global) -> Result<Stepped, NoMemory>
         ensures step { IsStep self.old.service result self.new.service }
         ensures rest { self.new ≡ record self.old { service = self.new.service } }
+        ensures bound { SettlesWithin (length self.old.service.entries) self.old.service }
+        ensures idle { AllCurrent unanswered [] self.old.service.entries → (result ≡ Ok Stepped.Idle) × (self.new ≡ self.old) }
     {
         self.service.repair_step(alloc)
     }

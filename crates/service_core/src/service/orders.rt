@@ -1,5 +1,5 @@
 // Orders of an operator.
-ghost use Rattle.std.specs.Prelude.{◌≡◌, [], ◌∷◌, ◌++◌, IfOk, IfErr, OnErr, find, option_map};
+ghost use Rattle.std.specs.Prelude.{◌≡◌, [], ◌∷◌, ◌++◌, Ok, IfOk, IfErr, IfSome, OnErr, find, option_map};
 ghost use Rattle.lang_core.specs.declared.inputs.Inputs.{Inputs};
 ghost use Rattle.request_log.specs.Entries.{has_id, IsDistinct, with_entry};
 ghost use Rattle.local_repair.specs.Repairs.{IsAmended};
@@ -78,7 +78,7 @@ fn created(alloc: Global, id: u64, request: Request, inputs: Inputs) -> Entry
 
 impl Service {
     /// Carries out an order, and notes what it was answered. An order whose token was accepted before is answered as
-    /// then, and changes nothing. It is refused where it names an entry that isn't there, or where it creates one and
+    /// then, without memory, and changes nothing. It is refused where it names an entry that isn't there, or where it creates one and
     /// the log has 100,000 entries; then nothing changes.
     pub fn order(
         &mut self,
@@ -88,6 +88,8 @@ impl Service {
         inputs: Inputs,
     ) -> Result<Ordered, OrderRefused>
         ensures order { IsOrder self.old command token inputs result self.new }
+        ensures repeated { IfSome (given token self.old.accepted) (λ ordered. (result ≡ Ok ordered) × (self.new ≡ self.old)) }
+        ensures refused { OnErr result (self.new ≡ self.old) }
         ensures setting { self.new.setting ≡ self.old.setting }
     {
         match self.tokens.answer(&token) {

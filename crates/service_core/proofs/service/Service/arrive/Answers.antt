@@ -6,8 +6,9 @@ use Rattle.local_repair.specs.Current.{IsCurrent, rows_of}
 use Rattle.service_core.specs.Events.{Kept, arrival, committed, arrival_answer, after_arrival, unanswered}
 use Rattle.service_core.specs.declared.answers.Arrived.TheVariants.{Done}
 use Rattle.service_core.proofs.CallLemmas.{not_full, arrival_done}
-use Rattle.service_core.proofs.EventLemmas.{fits_push, new_last, trace_on_alone}
-use Rattle.service_core.proofs.RerunLemmas.{committed_current, committed_runs}
+use Rattle.service_core.proofs.EventLemmas.{fits_push, trace_on_alone}
+use Rattle.service_core.proofs.NumberLemmas.{new_last}
+use Rattle.service_core.proofs.RerunLemmas.{committed_current, committed_runs, committed_version}
 use Rattle.service_core.proofs.service.Service.arrive.Goals as goal
 
 pub append-requires : goal.append-requires
@@ -29,6 +30,7 @@ invariant_of-self c =
     rw (c.in-Ok.ensures.ok, made)
     (fits_push setting es e c.self.invariant refl
     (committed_runs setting none (length es + 1) c.args.request c.args.inputs (rows_of es))
+    (committed_version (length es + 1) c.args.request c.args.inputs (trace_on setting c.args.request c.args.inputs (rows_of es)))
     (record { slots = refl; calls = trace_on_alone setting none c.args.request c.args.inputs (rows_of es) }))
 
 pub returns-in-Ok-clause-arrives : goal.returns-in-Ok-clause-arrives

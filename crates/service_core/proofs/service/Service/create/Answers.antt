@@ -3,7 +3,7 @@ use Rattle.std.specs.List.{insert}
 use Rattle.request_log.specs.declared.entry.Entry.{Entry}
 use Rattle.service_core.specs.Events.{Fits}
 use Rattle.service_core.specs.Orders.{created}
-use Rattle.service_core.proofs.EventLemmas.{new_last}
+use Rattle.service_core.proofs.NumberLemmas.{new_last}
 use Rattle.service_core.proofs.OrderLemmas.{fits_insert}
 use Rattle.service_core.proofs.service.Service.create.Goals as goal
 
