@@ -28,54 +28,97 @@ fn segment(n: u64) -> i64
     if n <= MOST_SEGMENTS { n as i64 } else { -1 }
 }
 
+/// One token.
+pub(crate) fn put(out: &mut Vec<Token>, token: Token) -> Result<(), NoMemory>
+    ensures { OnOk result (out.new.items ≡ out.old.items ++ (token ∷ [])) }
+{
+    out.push(token)?;
+    Ok(())
+}
+
+fn put_string(alloc: Global, out: &mut Vec<Token>, text: &Text) -> Result<(), NoMemory>
+    ensures { OnOk result (out.new.items ≡ out.old.items ++ (token.Str text.now ∷ [])) }
+{
+    put(out, Token::Str(text.copied(alloc)?))
+}
+
+fn put_name(alloc: Global, out: &mut Vec<Token>, name: &Text) -> Result<(), NoMemory>
+    ensures { OnOk result (out.new.items ≡ out.old.items ++ (token.Word name.now ∷ [])) }
+{
+    put(out, Token::Word(name.copied(alloc)?))
+}
+
+#[tactic(auto, using(crate::proofs::Printed::appends))]
+fn put_path(out: &mut Vec<Token>, n: u64) -> Result<(), NoMemory>
+    ensures { OnOk result (out.new.items
+        ≡ out.old.items ++ (token.Path ∷ (token.Left ∷ (token.Integer (segment n) ∷ (token.Right ∷ []))))) }
+{
+    put(out, Token::Path)?;
+    put(out, Token::Left)?;
+    put(out, Token::Integer(segment(n)))?;
+    put(out, Token::Right)
+}
+
+/// This token, and an expression.
+#[cycle(expr)]
+#[tactic(auto, using(crate::proofs::Printed::appends))]
+pub(crate) fn put_behind(
+    alloc: Global,
+    out: &mut Vec<Token>,
+    first: Token,
+    expr: &Expr,
+) -> Result<(), NoMemory>
+    ensures { OnOk result (out.new.items ≡ out.old.items ++ (first ∷ expr_tokens expr.now)) }
+{
+    put(out, first)?;
+    put_expr(alloc, out, expr)
+}
+
+// This token, and an expression in brackets.
+#[cycle(expr)]
+#[tactic(auto, using(crate::proofs::Printed::appends))]
+fn put_inner(
+    alloc: Global,
+    out: &mut Vec<Token>,
+    first: Token,
+    inner: &Expr,
+) -> Result<(), NoMemory>
+    ensures { OnOk result (out.new.items
+        ≡ out.old.items ++ (first ∷ (token.Left ∷ (expr_tokens inner.now ++ (token.Right ∷ []))))) }
+{
+    put(out, first)?;
+    put_behind(alloc, out, Token::Left, inner)?;
+    put(out, Token::Right)
+}
+
+#[cycle(expr)]
 #[tactic(auto, using(crate::proofs::Printed::appends))]
 pub(crate) fn put_expr(alloc: Global, out: &mut Vec<Token>, expr: &Expr) -> Result<(), NoMemory>
     ensures { OnOk result (out.new.items ≡ out.old.items ++ expr_tokens expr.now) }
 {
     match expr {
-        Expr::Integer(n) => out.push(Token::Integer(*n))?,
-        Expr::Str(text) => out.push(Token::Str(text.copied(alloc)?))?,
-        Expr::Nothing => out.push(Token::Nothing)?,
-        Expr::Body => out.push(Token::Body)?,
-        Expr::Who => out.push(Token::Who)?,
-        Expr::Var(name) => out.push(Token::Word(name.copied(alloc)?))?,
-        Expr::Path(n) => {
-            out.push(Token::Path)?;
-            out.push(Token::Left)?;
-            out.push(Token::Integer(segment(*n)))?;
-            out.push(Token::Right)?;
-        }
+        Expr::Integer(n) => put(out, Token::Integer(*n)),
+        Expr::Str(text) => put_string(alloc, out, text),
+        Expr::Nothing => put(out, Token::Nothing),
+        Expr::Body => put(out, Token::Body),
+        Expr::Who => put(out, Token::Who),
+        Expr::Var(name) => put_name(alloc, out, name),
+        Expr::Path(n) => put_path(out, *n),
         Expr::Part { text, by, n } => {
-            out.push(Token::Part)?;
-            out.push(Token::Left)?;
-            put_expr(alloc, out, text.get())?;
-            out.push(Token::Comma)?;
-            put_expr(alloc, out, by.get())?;
-            out.push(Token::Comma)?;
-            put_expr(alloc, out, n.get())?;
-            out.push(Token::Right)?;
+            put(out, Token::Part)?;
+            put_behind(alloc, out, Token::Left, text.get())?;
+            put_behind(alloc, out, Token::Comma, by.get())?;
+            put_behind(alloc, out, Token::Comma, n.get())?;
+            put(out, Token::Right)
         }
-        Expr::Number(inner) => {
-            out.push(Token::Number)?;
-            out.push(Token::Left)?;
-            put_expr(alloc, out, inner.get())?;
-            out.push(Token::Right)?;
-        }
-        Expr::AsText(inner) => {
-            out.push(Token::AsText)?;
-            out.push(Token::Left)?;
-            put_expr(alloc, out, inner.get())?;
-            out.push(Token::Right)?;
-        }
+        Expr::Number(inner) => put_inner(alloc, out, Token::Number, inner.get()),
+        Expr::AsText(inner) => put_inner(alloc, out, Token::AsText, inner.get()),
         Expr::Pair { left, op, right } => {
-            out.push(Token::Left)?;
-            put_expr(alloc, out, left.get())?;
-            out.push(op_token(*op))?;
-            put_expr(alloc, out, right.get())?;
-            out.push(Token::Right)?;
+            put_behind(alloc, out, Token::Left, left.get())?;
+            put_behind(alloc, out, op_token(*op), right.get())?;
+            put(out, Token::Right)
         }
     }
-    Ok(())
 }
 
 /// This token, and a variable or a table.
@@ -88,9 +131,8 @@ pub(crate) fn put_word(
 ) -> Result<(), NoMemory>
     ensures { OnOk result (out.new.items ≡ out.old.items ++ (first ∷ (token.Word name.now ∷ []))) }
 {
-    out.push(first)?;
-    out.push(Token::Word(name.copied(alloc)?))?;
-    Ok(())
+    put(out, first)?;
+    put_name(alloc, out, name)
 }
 
 /// An expression, and the `;` behind it.
@@ -99,6 +141,5 @@ pub(crate) fn put_last(alloc: Global, out: &mut Vec<Token>, expr: &Expr) -> Resu
     ensures { OnOk result (out.new.items ≡ out.old.items ++ (expr_tokens expr.now ++ (token.Semicolon ∷ []))) }
 {
     put_expr(alloc, out, expr)?;
-    out.push(Token::Semicolon)?;
-    Ok(())
+    put(out, Token::Semicolon)
 }

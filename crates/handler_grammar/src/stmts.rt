@@ -4,7 +4,7 @@ ghost use Rattle.handler_tokens.specs.declared.token.Token.TheVariants as token;
 ghost use Rattle.lang_tree.specs.declared.stmt.Stmt.TheOpen.{Stmt-F};
 ghost use Rattle.handler_grammar.specs.Grammar.{block_tokens, expr_tokens, joined, other_tokens, stmt_form, stmt_tokens};
 
-use crate::exprs::{put_expr, put_last, put_word};
+use crate::exprs::{put, put_behind, put_expr, put_last, put_word};
 use handler_tokens::Token;
 use lang_base::{NoMemory, Text};
 use lang_tree::{Block, Expr, Method, Stmt};
@@ -15,7 +15,7 @@ fn put_let(alloc: Global, out: &mut Vec<Token>, var: &Text, value: &Expr) -> Res
     ensures { OnOk result (out.new.items ≡ out.old.items ++ stmt_form (Stmt-F.Let var.now value.now)) }
 {
     put_word(alloc, out, Token::Let, var)?;
-    out.push(Token::Equals)?;
+    put(out, Token::Equals)?;
     put_last(alloc, out, value)
 }
 
@@ -46,7 +46,7 @@ fn put_put(
 {
     put_word(alloc, out, Token::Put, table)?;
     put_expr(alloc, out, key)?;
-    out.push(Token::Equals)?;
+    put(out, Token::Equals)?;
     put_last(alloc, out, value)
 }
 
@@ -91,10 +91,8 @@ fn put_call(
 {
     put_word(alloc, out, Token::Call, status)?;
     put_word(alloc, out, Token::Comma, answer)?;
-    out.push(Token::Equals)?;
-    put_expr(alloc, out, dest)?;
-    out.push(Token::Method(method))?;
-    put_expr(alloc, out, path)?;
+    put_behind(alloc, out, Token::Equals, dest)?;
+    put_behind(alloc, out, Token::Method(method), path)?;
     put_last(alloc, out, body)
 }
 
@@ -103,8 +101,7 @@ fn put_now(alloc: Global, out: &mut Vec<Token>, var: &Text) -> Result<(), NoMemo
     ensures { OnOk result (out.new.items ≡ out.old.items ++ stmt_form (Stmt-F.Now var.now)) }
 {
     put_word(alloc, out, Token::Now, var)?;
-    out.push(Token::Semicolon)?;
-    Ok(())
+    put(out, Token::Semicolon)
 }
 
 #[tactic(auto, using(crate::proofs::Printed::appends))]
@@ -112,8 +109,7 @@ fn put_random(alloc: Global, out: &mut Vec<Token>, var: &Text) -> Result<(), NoM
     ensures { OnOk result (out.new.items ≡ out.old.items ++ stmt_form (Stmt-F.Random var.now)) }
 {
     put_word(alloc, out, Token::Random, var)?;
-    out.push(Token::Semicolon)?;
-    Ok(())
+    put(out, Token::Semicolon)
 }
 
 #[tactic(auto, using(crate::proofs::Printed::appends))]
@@ -125,8 +121,7 @@ fn put_reply(
 ) -> Result<(), NoMemory>
     ensures { OnOk result (out.new.items ≡ out.old.items ++ stmt_form (Stmt-F.Reply status.now body.now)) }
 {
-    out.push(Token::Reply)?;
-    put_expr(alloc, out, status)?;
+    put_behind(alloc, out, Token::Reply, status)?;
     put_last(alloc, out, body)
 }
 
@@ -151,8 +146,7 @@ fn put_stmt(alloc: Global, out: &mut Vec<Token>, stmt: &Stmt) -> Result<(), NoMe
             put_block(alloc, out, block)
         }
         Stmt::If { test, then, other } => {
-            out.push(Token::If)?;
-            put_expr(alloc, out, test)?;
+            put_behind(alloc, out, Token::If, test)?;
             put_block(alloc, out, then)?;
             put_other(alloc, out, other)
         }
@@ -178,7 +172,7 @@ fn put_other(alloc: Global, out: &mut Vec<Token>, other: &Option<Block>) -> Resu
     match other {
         None => Ok(()),
         Some(block) => {
-            out.push(Token::Else)?;
+            put(out, Token::Else)?;
             put_block(alloc, out, block)
         }
     }
@@ -200,8 +194,7 @@ fn put_stmts(alloc: Global, out: &mut Vec<Token>, stmts: &[Stmt]) -> Result<(), 
 pub(crate) fn put_block(alloc: Global, out: &mut Vec<Token>, block: &Block) -> Result<(), NoMemory>
     ensures { OnOk result (out.new.items ≡ out.old.items ++ block_tokens block.now) }
 {
-    out.push(Token::Open)?;
+    put(out, Token::Open)?;
     put_stmts(alloc, out, block.stmts.as_slice())?;
-    out.push(Token::Close)?;
-    Ok(())
+    put(out, Token::Close)
 }

@@ -1,5 +1,5 @@
 // A text's tokens.
-ghost use Rattle.std.specs.Prelude.{◌≡◌, IfOk, option_map};
+ghost use Rattle.std.specs.Prelude.{◌≡◌, [], ◌∷◌, ◌++◌, IfOk, OnOk, option_map};
 ghost use Rattle.std.specs.Char.{is_ascii_digit};
 ghost use Rattle.handler_tokens.specs.Lexing.{is_bad, is_word_part, lex, mark_at, next_token, number_in, places, plus_at, run, token_at, tokens, word_in};
 
@@ -92,6 +92,15 @@ fn is_bad(token: &Token) -> bool
     }
 }
 
+// Puts one more token last, with its place.
+fn note(found: &mut Lexed, at: u64, token: Token) -> Result<(), NoMemory>
+    ensures tokens { OnOk result (found.new.tokens ≡ found.old.tokens ++ token ∷ []) }
+    ensures places { OnOk result (found.new.places ≡ found.old.places ++ at ∷ []) }
+{
+    found.tokens.push(token)?;
+    found.places.push(at)
+}
+
 /// The tokens of a text, the last of which alone may be none.
 pub fn lex(alloc: Global, text: &[u8]) -> Result<Lexed, NoMemory>
     ensures tokens { IfOk result (λ found. found.tokens ≡ tokens (lex text.now)) }
@@ -109,8 +118,7 @@ pub fn lex(alloc: Global, text: &[u8]) -> Result<Lexed, NoMemory>
         };
         let bad = is_bad(&token);
         let at = text.len().saturating_sub(rest.len());
-        found.places.push(at as u64)?;
-        found.tokens.push(token)?;
+        note(&mut found, at as u64, token)?;
         if bad {
             return Ok(found);
         }

@@ -17,23 +17,23 @@ pub returns-then-bad-clause-tokens : goal.returns-then-bad-clause-tokens
 returns-then-bad-clause-tokens c =
     let at : c.saturating_sub-at.result ≡ length c.args.text.now - length (past_gap false c.loop.left.now) = rw c.past_gap-rest.ensures at c.saturating_sub-at.ensures in
     let next : Some (c.in-Some.token, c.in-Some.after.now) ≡ next_token (past_gap false c.loop.left.now) = rw c.past_gap-rest.ensures at (rw c.in-Some.is at c.in_ok-token.ensures) in
-    rw c.in_ok-push-2.ensures.ok (ends_bad token_of c.loop.found.tokens (tokens (lex c.args.text.now)) (length c.args.text.now) c.loop.counter (length c.args.text.now) c.saturating_sub-at.result c.loop.left.now c.in-Some.after.now c.in-Some.token
+    rw c.in_ok-note.ensures.tokens (ends_bad token_of c.loop.found.tokens (tokens (lex c.args.text.now)) (length c.args.text.now) c.loop.counter (length c.args.text.now) c.saturating_sub-at.result c.loop.left.now c.in-Some.after.now c.in-Some.token
     c.loop-test.true at next c.if-bad.ensures c.loop.invariant.0)
 
 pub returns-then-bad-clause-places : goal.returns-then-bad-clause-places
 returns-then-bad-clause-places c =
     let at : c.saturating_sub-at.result ≡ length c.args.text.now - length (past_gap false c.loop.left.now) = rw c.past_gap-rest.ensures at c.saturating_sub-at.ensures in
     let next : Some (c.in-Some.token, c.in-Some.after.now) ≡ next_token (past_gap false c.loop.left.now) = rw c.past_gap-rest.ensures at (rw c.in-Some.is at c.in_ok-token.ensures) in
-    rw c.in_ok-push.ensures.ok (ends_bad place_of c.loop.found.places (places (lex c.args.text.now)) (length c.args.text.now) c.loop.counter (length c.args.text.now) c.saturating_sub-at.result c.loop.left.now c.in-Some.after.now c.in-Some.token
+    rw c.in_ok-note.ensures.places (ends_bad place_of c.loop.found.places (places (lex c.args.text.now)) (length c.args.text.now) c.loop.counter (length c.args.text.now) c.saturating_sub-at.result c.loop.left.now c.in-Some.after.now c.in-Some.token
     c.loop-test.true at next c.if-bad.ensures c.loop.invariant.1)
 
 pub loop-preserved : goal.loop-preserved
 loop-preserved c =
     let at : c.saturating_sub-at.result ≡ length c.args.text.now - length (past_gap false c.loop.left.now) = rw c.past_gap-rest.ensures at c.saturating_sub-at.ensures in
     let next : Some (c.in-Some.token, c.in-Some.after.now) ≡ next_token (past_gap false c.loop.left.now) = rw c.past_gap-rest.ensures at (rw c.in-Some.is at c.in_ok-token.ensures) in (
-      rw c.in_ok-push-2.ensures.ok (goes_on token_of c.loop.found.tokens (tokens (lex c.args.text.now)) (length c.args.text.now) c.loop.counter (length c.args.text.now) c.saturating_sub-at.result c.loop.left.now c.in-Some.after.now c.in-Some.token
+      rw c.in_ok-note.ensures.tokens (goes_on token_of c.loop.found.tokens (tokens (lex c.args.text.now)) (length c.args.text.now) c.loop.counter (length c.args.text.now) c.saturating_sub-at.result c.loop.left.now c.in-Some.after.now c.in-Some.token
           c.loop-test.true at next c.if-bad.ensures c.loop.invariant.0),
-      rw c.in_ok-push.ensures.ok (goes_on place_of c.loop.found.places (places (lex c.args.text.now)) (length c.args.text.now) c.loop.counter (length c.args.text.now) c.saturating_sub-at.result c.loop.left.now c.in-Some.after.now c.in-Some.token
+      rw c.in_ok-note.ensures.places (goes_on place_of c.loop.found.places (places (lex c.args.text.now)) (length c.args.text.now) c.loop.counter (length c.args.text.now) c.saturating_sub-at.result c.loop.left.now c.in-Some.after.now c.in-Some.token
           c.loop-test.true at next c.if-bad.ensures c.loop.invariant.1),
     )
 
