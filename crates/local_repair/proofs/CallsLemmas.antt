@@ -1,5 +1,5 @@
 -- The answers of calls, one call more.
-use Rattle.std.proofs.Common.{◌≡◌, ℕ, suc, ◌+◌, ◌≤◌, if◌then◌else◌, List, [], ◌∷◌, ◌++◌, Option, Some, None, length, slice_get, refl, sym, ap, ◌∙◌, subst, arith, length-append, append-nil}
+use Rattle.std.proofs.Common.{◌≡◌, ℕ, suc, ◌+◌, ◌-◌, ◌≤◌, if◌then◌else◌, List, [], ◌∷◌, ◌++◌, Option, Some, None, length, slice_get, refl, sym, ap, ◌∙◌, subst, arith, length-append, append-nil}
 use Rattle.lang_core.specs.declared.request.Response.{Response}
 use Rattle.lang_core.specs.declared.trace.CallMade.{CallMade}
 use Rattle.lang_core.specs.declared.trace.Trace.{Trace}
@@ -7,7 +7,7 @@ use Rattle.handler_run.specs.Laws.{calls_of}
 use Rattle.handler_run.specs.declared.state.Ran.{Ran}
 use Rattle.handler_run.specs.declared.state.Ran.TheVariants.{Done, Wants}
 use Rattle.local_repair.specs.Current.{Consumed}
-use Rattle.local_repair.specs.Steps.{tentative, same_call, chosen, answer_at, answers_for}
+use Rattle.local_repair.specs.Steps.{tentative, same_call, chosen, answer_at, answers_for, ended_or, trace_through}
 use Rattle.local_repair.proofs.HandlerLemmas.{IsSteady}
 
 no_slot : (consumed : Consumed) (o : Option CallMade) (call : CallMade) → chosen consumed o None call ≡ tentative
@@ -33,6 +33,8 @@ pub record IsTurn (run : List Response → Ran) (consumed : Consumed) (old : Lis
   pub few : length xs ≤ 16
   pub calls : length (calls_of (run xs)) ≡ length xs
   pub so_far : xs ≡ answers_for consumed old slots (calls_of (run xs))
+  -- and with the turns that are left it comes to what it comes to from its start
+  pub goes : (left : ℕ) → turn + left ≡ 17 → trace_through left run (answer_at consumed old slots) xs ≡ trace_through 17 run (answer_at consumed old slots) []
 
 pub first_turn : (run : List Response → Ran) → IsSteady run → (consumed : Consumed) (old : List CallMade) (slots : List ℕ) → IsTurn run consumed old slots [] 0
 first_turn run s consumed old slots = record {
@@ -40,7 +42,19 @@ first_turn run s consumed old slots = record {
   few = omega arith;
   calls = ap length s.starts;
   so_far = sym (ap (λ calls. answers_for consumed old slots calls) s.starts);
+  goes = λ left e. (let all : left ≡ 17 = omega (arith, e) in ap (λ n. trace_through n run (answer_at consumed old slots) []) all);
 }
+
+-- a run that wants an answer goes on with it
+goes_with : (run : List Response → Ran) (answer : ℕ → CallMade → Response) (left : ℕ) (xs : List Response) (slot : ℕ) (calls : List CallMade) (call : CallMade)
+    → run xs ≡ Wants slot calls call → trace_through left run answer (xs ++ answer (length xs) call ∷ []) ≡ trace_through (suc left) run answer xs
+unfolding trace_through
+goes_with run answer left xs slot calls call e = sym (ap (λ r. ended_or r (λ call. trace_through left run answer (xs ++ answer (length xs) call ∷ []))) e)
+
+-- a run that ended has come to its trace
+comes_to : (run : List Response → Ran) (answer : ℕ → CallMade → Response) (left : ℕ) (xs : List Response) (t : Trace) → run xs ≡ Done t → trace_through (suc left) run answer xs ≡ t
+unfolding trace_through
+comes_to run answer left xs t e = ap (λ r. ended_or r (λ call. trace_through left run answer (xs ++ answer (length xs) call ∷ []))) e
 
 pub turn_more : (run : List Response → Ran) → IsSteady run → (consumed : Consumed) (old : List CallMade) (slots : List ℕ) (xs new : List Response) (turn : ℕ)
     (ran : Ran) (slot : ℕ) (calls : List CallMade) (call : CallMade) (x : Response) → ran ≡ run xs → ran ≡ Wants slot calls call
@@ -59,6 +73,10 @@ turn_more run s consumed old slots xs new turn ran slot calls call x is wants an
           let now : x ≡ answer_at consumed old slots (length calls) call = answer ∙ ap (λ k. answer_at consumed old slots k call) (sym bound.1) in
           rw (more, answers_for-more consumed calls old slots call)
           (ap (λ ys. ys ++ x ∷ []) before ∙ ap (λ y. answers_for consumed old slots calls ++ y ∷ []) now);
+      goes = λ left e.
+          ap (λ y. trace_through left run (answer_at consumed old slots) (xs ++ y ∷ [])) answer
+          ∙ goes_with run (answer_at consumed old slots) left xs slot calls call here
+          ∙ t.goes (suc left) (omega (arith, e));
     })
 
 all_taken : (xs ys rest : List Response) → xs ≡ ys ++ rest → length ys ≡ length xs → ys ≡ xs
@@ -81,3 +99,10 @@ pub done_answers : (run : List Response → Ran) → IsSteady run → (consumed 
     → IsTurn run consumed old slots xs turn → run xs ≡ Done t → t.answers ≡ answers_for consumed old slots t.calls
 done_answers run s consumed old slots xs turn t at done =
     done_takes run s consumed old slots xs turn t at done ∙ at.so_far ∙ ap (λ r. answers_for consumed old slots (calls_of r)) done
+
+pub done_again : (run : List Response → Ran) → (consumed : Consumed) (old : List CallMade) (slots : List ℕ) (xs : List Response) (turn : ℕ) (t : Trace)
+    → IsTurn run consumed old slots xs turn → run xs ≡ Done t → t ≡ trace_through 17 run (answer_at consumed old slots) []
+done_again run consumed old slots xs turn t at done =
+    let less : turn ≤ 16 = omega (arith, at.count, at.few) in
+    let left : turn + suc (16 - turn) ≡ 17 = omega (arith, less) in
+    sym (comes_to run (answer_at consumed old slots) (16 - turn) xs t done) ∙ at.goes (suc (16 - turn)) left

@@ -1,5 +1,5 @@
 -- A repair step: what it may answer, and what it leaves.
-use Rattle.std.specs.Prelude.{ℕ, ◌≡◌, ◌+◌, ◌<◌, ◌≤◌, ◌≢◌, ◌⊎◌, Bool, true, false, not, ◌&&◌, List, [], ◌∷◌, Option, Some, None, if◌then◌else◌, map, take, length, min, nat_eq, slice_get, slice_set, slice_index_or, Contains, All, AllPairs}
+use Rattle.std.specs.Prelude.{ℕ, zero, suc, ◌≡◌, ◌+◌, ◌<◌, ◌≤◌, ◌≢◌, ◌⊎◌, Bool, true, false, not, ◌&&◌, List, [], ◌∷◌, ◌++◌, Option, Some, None, if◌then◌else◌, map, take, length, min, nat_eq, slice_get, slice_set, slice_index_or, Contains, All, AllPairs}
 use Rattle.lang_base.specs.Equal.{equal}
 use Rattle.lang_core.specs.Traces.{dead_trace}
 use Rattle.lang_core.specs.contracts.request.Response as response
@@ -8,8 +8,10 @@ use Rattle.lang_core.specs.declared.cells.Cell.{Cell}
 use Rattle.lang_core.specs.declared.request.Response.{Response}
 use Rattle.lang_core.specs.declared.setting.Setting.{Setting}
 use Rattle.lang_core.specs.declared.trace.CallMade.{CallMade}
+use Rattle.lang_core.specs.declared.trace.Trace.{Trace}
 use Rattle.handler_run.specs.Handlers.{run_of}
-use Rattle.handler_run.specs.declared.state.Ran.TheVariants.{Done}
+use Rattle.handler_run.specs.declared.state.Ran.{Ran as Outcome}
+use Rattle.handler_run.specs.declared.state.Ran.TheVariants.{Done, Wants}
 use Rattle.request_log.specs.Entries.{is_alive}
 use Rattle.request_log.specs.declared.entry.Entry.{Entry}
 use Rattle.request_log.specs.declared.entry.Made.{Made}
@@ -53,6 +55,24 @@ answers_for consumed (o ∷ os) (n ∷ ns) (call ∷ calls) =
 answers_for consumed [] slots (call ∷ calls) = tentative ∷ answers_for consumed [] slots calls
 answers_for consumed (o ∷ os) [] (call ∷ calls) = tentative ∷ answers_for consumed os [] calls
 
+-- the trace of a run that ended; one that wants the answer of a call goes on from there
+abbrev pub ended_or : Outcome → (CallMade → Trace) → Trace
+ended_or (Done t) on = t
+ended_or (Wants slot calls call) on = on call
+
+-- the trace of a run with these answers so far, whose further calls are answered so by their places, in so many turns at most
+unfoldable pub trace_through : ℕ → (List Response → Outcome) → (ℕ → CallMade → Response) → List Response → Trace
+trace_through zero run answer xs = dead_trace
+trace_through (suc turns) run answer xs =
+    ended_or (run xs) (λ call. trace_through turns run answer (xs ++ answer (length xs) call ∷ []))
+
+-- the trace of an entry that runs again on these rows from its start, its calls answered as their slots consume; a run has 16 calls at most
+abbrev pub trace_again : Setting → Consumed → List Cell → Entry → Trace
+trace_again setting consumed rows e =
+    if is_alive e
+    then trace_through 17 (λ xs. run_of setting e.request e.inputs xs rows) (answer_at consumed (calls_of_made e.made) e.slots) []
+    else dead_trace
+
 -- a new record of an entry on these rows: its run, whose calls get the old answers where they are the old calls, or the dead trace
 pub record IsRerun (setting : Setting) (consumed : Consumed) (rows : List Cell) (e : Entry) (m : Made) : Type 0 where
   pub alive : m.alive ≡ is_alive e
@@ -61,6 +81,7 @@ pub record IsRerun (setting : Setting) (consumed : Consumed) (rows : List Cell) 
   pub live : is_alive e ≡ true → run_of setting e.request e.inputs m.trace.answers rows ≡ Done m.trace
   pub dead : is_alive e ≡ false → m.trace ≡ dead_trace
   pub answers : m.trace.answers ≡ answers_for consumed (calls_of_made e.made) e.slots m.trace.calls
+  pub trace : m.trace ≡ trace_again setting consumed rows e
 
 -- whether a record answers something else than the one before, or is the first
 abbrev pub is_new_answer : Option Made → Made → Bool

@@ -1,10 +1,10 @@
 // A new record of an entry, which its run gives.
-ghost use Rattle.std.specs.Prelude.{◌≡◌, IfOk, Some, true, false};
+ghost use Rattle.std.specs.Prelude.{◌≡◌, [], IfOk, Some, true, false};
 ghost use Rattle.handler_run.specs.Handlers.{run_of};
 ghost use Rattle.handler_run.specs.declared.state.Ran.{Ran};
 ghost use Rattle.lang_core.specs.Traces.{dead_trace};
 ghost use Rattle.request_log.specs.Entries.{is_alive};
-ghost use Rattle.local_repair.specs.Steps.{tentative, answer_at, answers_for, calls_of_made, same_call, is_new_answer, IsRerun};
+ghost use Rattle.local_repair.specs.Steps.{tentative, answer_at, answers_for, calls_of_made, same_call, is_new_answer, trace_through, trace_again, IsRerun};
 ghost use Rattle.local_repair.specs.Parts.{same_response};
 
 use crate::slots::Slots;
@@ -80,6 +80,8 @@ fn live_trace<S: Slots>(
 ) -> Result<Trace, NoMemory>
     ensures run { IfOk result (λ t. run_of setting.now entry.now.request entry.now.inputs t.answers rows.now ≡ Ran.Done t) }
     ensures answers { IfOk result (λ t. t.answers ≡ answers_for (S.consumed_of slots.now) old.now entry.now.slots t.calls) }
+    ensures again { IfOk result (λ t. t ≡ trace_through 17 (λ xs. run_of setting.now entry.now.request entry.now.inputs xs rows.now)
+        (answer_at (S.consumed_of slots.now) old.now entry.now.slots) []) }
 {
     let view = RowsView { cells: rows };
     let mut answers: Answers = Seq::new(alloc);
@@ -118,6 +120,7 @@ fn new_trace<S: Slots>(
     ensures live { is_alive entry.now ≡ true → IfOk result (λ t. run_of setting.now entry.now.request entry.now.inputs t.answers rows.now ≡ Ran.Done t) }
     ensures dead { is_alive entry.now ≡ false → IfOk result (λ t. t ≡ dead_trace) }
     ensures answers { IfOk result (λ t. t.answers ≡ answers_for (S.consumed_of slots.now) (calls_of_made entry.now.made) entry.now.slots t.calls) }
+    ensures again { IfOk result (λ t. t ≡ trace_again setting.now (S.consumed_of slots.now) rows.now entry.now) }
 {
     if entry.is_alive() {
         live_trace(alloc, setting, rows, entry, old_calls(entry), slots)

@@ -4,7 +4,7 @@ use Rattle.handler_run.specs.Handlers.{run_of}
 use Rattle.handler_run.specs.declared.state.Ran.{Ran}
 use Rattle.local_repair.specs.Steps.{answer_at}
 use Rattle.local_repair.proofs.HandlerLemmas.{handler}
-use Rattle.local_repair.proofs.CallsLemmas.{IsTurn, first_turn, turn_more, done_runs, done_answers}
+use Rattle.local_repair.proofs.CallsLemmas.{IsTurn, first_turn, turn_more, done_runs, done_answers, done_again}
 use Rattle.local_repair.proofs.rerun.live_trace.Goals as goal
 
 pub loop-turn-init : goal.loop-turn-init
@@ -35,5 +35,11 @@ pub returns-in-Done-clause-answers : goal.returns-in-Done-clause-answers
 returns-in-Done-clause-answers g c =
     done_answers (λ xs. run_of c.args.setting.now c.args.entry.now.request c.args.entry.now.inputs xs c.args.rows.now)
     ((handler c.args.setting.now).steady c.args.entry.now.request c.args.entry.now.inputs c.args.rows.now)
+    (g.S.Slots.consumed_of c.args.slots.now) c.args.old.now c.args.entry.now.slots c.loop-turn.answers c.loop-turn.turn c.in-Done.trace
+    c.loop-turn.invariant (sym c.in_ok-trace.ensures.meaning ∙ c.in-Done.is)
+
+pub returns-in-Done-clause-again : goal.returns-in-Done-clause-again
+returns-in-Done-clause-again g c =
+    done_again (λ xs. run_of c.args.setting.now c.args.entry.now.request c.args.entry.now.inputs xs c.args.rows.now)
     (g.S.Slots.consumed_of c.args.slots.now) c.args.old.now c.args.entry.now.slots c.loop-turn.answers c.loop-turn.turn c.in-Done.trace
     c.loop-turn.invariant (sym c.in_ok-trace.ensures.meaning ∙ c.in-Done.is)
