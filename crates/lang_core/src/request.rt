@@ -5,7 +5,7 @@ ghost use Rattle.lang_tree.specs.Forms.{is_visible};
 ghost use Rattle.lang_core.specs.Names.{is_who};
 
 use crate::ids::Names;
-use lang_base::{Copied, NoMemory, Same, Seq, Text};
+use lang_base::{Copied, NoMemory, Same, Seq, Text, both};
 use lang_tree::Method;
 use std::alloc::Global;
 
@@ -38,12 +38,15 @@ pub struct Request {
 
 impl Copied for Request {
     fn copied(&self, alloc: Global) -> Result<Request, NoMemory> {
+        let texts = both(self.path.copied(alloc), self.body.copied(alloc));
+        let sent = both(self.who.copied(alloc), self.chain.copied(alloc));
+        let (texts, sent) = both(texts, sent)?;
         Ok(Request {
             method: self.method,
-            path: self.path.copied(alloc)?,
-            body: self.body.copied(alloc)?,
-            who: self.who.copied(alloc)?,
-            chain: self.chain.copied(alloc)?,
+            path: texts.0,
+            body: texts.1,
+            who: sent.0,
+            chain: sent.1,
         })
     }
 }

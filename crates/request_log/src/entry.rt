@@ -3,6 +3,7 @@ ghost use Rattle.std.specs.Prelude.{◌≡◌, IfOk};
 ghost use Rattle.lang_core.specs.Traces.{dead_trace};
 ghost use Rattle.request_log.specs.Entries.{is_alive};
 
+use lang_base::both;
 use lang_core::{Copied, Inputs, NoMemory, Origin, Request, Response, Seq, Text, Trace, Writes};
 use std::alloc::Global;
 
@@ -58,16 +59,19 @@ impl Copied for Made {
 
 impl Copied for Entry {
     fn copied(&self, alloc: Global) -> Result<Entry, NoMemory> {
+        let asked = both(self.origin.copied(alloc), self.request.copied(alloc));
+        let ran = both(Copied::copied(&self.made, alloc), self.slots.copied(alloc));
+        let (asked, ran) = both(asked, ran)?;
         Ok(Entry {
             id: self.id,
-            origin: self.origin.copied(alloc)?,
+            origin: asked.0,
             version: self.version,
-            request: self.request.copied(alloc)?,
+            request: asked.1,
             wanted: self.wanted,
             struck: self.struck,
             inputs: self.inputs,
-            made: Copied::copied(&self.made, alloc)?,
-            slots: self.slots.copied(alloc)?,
+            made: ran.0,
+            slots: ran.1,
             answer_version: self.answer_version,
             runs: self.runs,
         })
