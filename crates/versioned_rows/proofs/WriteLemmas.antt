@@ -1,0 +1,143 @@
+-- What edits at each key of a place's writes come to.
+use Rattle.std.proofs.Common.{◌≡◌, ℕ, zero, suc, ◌+◌, ◌<◌, ◌≤◌, subst, Bool, true, false, ◌||◌, cond, List, [], ◌∷◌, Option, Some, None, is_some, length, get_or, take, refl, sym, ap, ◌∙◌, inl, inr, arith, add-one}
+use Rattle.std.specs.declared.cmp.Ordering.TheVariants.{Less}
+use Rattle.std.specs.Ordering.{is_eq}
+use Rattle.std.specs.List.{find}
+use Rattle.std.proofs.lemmas.Bool.{cases_Bool}
+use Rattle.std.proofs.lemmas.List.{get_or_default}
+use Rattle.lang_core.specs.Places.{Place, place_of, place_order, same_place, IsBelowAll, IsOrdered}
+use Rattle.lang_core.specs.Rows.{write_place}
+use Rattle.lang_core.specs.declared.writes.Write.{Write}
+use Rattle.versioned_rows.specs.Places.{is_written}
+use Rattle.versioned_rows.specs.Rows.{labels_in, spare_in, IsEdited}
+use Rattle.versioned_rows.specs.declared.rows.Row.{Row}
+use Rattle.versioned_rows.proofs.EditLemmas.{place_is, place_same}
+use Rattle.versioned_rows.proofs.SeekLemmas.{same_order}
+
+below_at : (p : Place) (ws : List Write) (j : ℕ) (d : Write) → IsBelowAll write_place p ws → j < length ws → place_order p (write_place (get_or ws j d)) ≡ Less
+below_at p [] j d all lt = absurd (omega arith)
+below_at p (w ∷ ws) zero d all lt = all.0
+below_at p (w ∷ ws) (suc j) d all lt = below_at p ws j d all.1 (omega arith)
+
+order_at : (ws : List Write) (i j : ℕ) (d : Write) → IsOrdered write_place ws → i < j → j < length ws → place_order (write_place (get_or ws i d)) (write_place (get_or ws j d)) ≡ Less
+order_at [] i j d o lt within = absurd (omega arith)
+order_at (w ∷ ws) i zero d o lt within = absurd (omega arith)
+order_at (w ∷ ws) zero (suc j) d o lt within = below_at (write_place w) ws j d o.0 (omega arith)
+order_at (w ∷ ws) (suc i) (suc j) d o lt within = order_at ws i j d o.1 (omega arith) (omega arith)
+
+-- no two writes are at one place
+pub writes_apart : (ws : List Write) (i j : ℕ) (d : Write) → IsOrdered write_place ws → i < j → j < length ws → same_place (write_place (get_or ws i d)) (write_place (get_or ws j d)) ≡ false
+writes_apart ws i j d o lt within = same_order (write_place (get_or ws i d)) (write_place (get_or ws j d)) ∙ ap is_eq (order_at ws i j d o lt within)
+
+or_true : (b : Bool) → (b || true) ≡ true
+or_true true = refl
+or_true false = refl
+
+or_false : (b : Bool) → (b || false) ≡ b
+or_false true = refl
+or_false false = refl
+
+some_if : {X : Type 0} (b c : Bool) (x : X) (o : Option X) → is_some o ≡ c → is_some (cond b (Some x) o) ≡ (b || c)
+some_if true c x o h = refl
+some_if false c x o h = h
+
+or_more : (a b c : Bool) → (a || (b || c)) ≡ ((a || b) || c)
+or_more true b c = refl
+or_more false b c = refl
+
+found_more : {X : Type 0} (p : X → Bool) (xs : List X) (i : ℕ) (d : X) → i < length xs → is_some (find p (take (suc i) xs)) ≡ (is_some (find p (take i xs)) || p (get_or xs i d))
+found_more p [] i d lt = absurd (omega arith)
+found_more p (x ∷ xs) zero d lt = some_if (p x) false x None refl ∙ or_false (p x)
+found_more p (x ∷ xs) (suc i) d lt =
+    some_if (p x) (is_some (find p (take i xs)) || p (get_or xs i d)) x (find p (take (suc i) xs)) (found_more p xs i d (omega arith))
+    ∙ or_more (p x) (is_some (find p (take i xs))) (p (get_or xs i d))
+    ∙ ap (λ b. b || p (get_or xs i d)) (sym (some_if (p x) (is_some (find p (take i xs))) x (find p (take i xs)) refl))
+
+pub written_more : (t k : List ℕ) (ws : List Write) (i : ℕ) (d : Write) → i < length ws
+    → is_written t k (take (i + 1) ws) ≡ (is_written t k (take i ws) || same_place (write_place (get_or ws i d)) (place_of t k))
+written_more t k ws i d lt = rw add-one (found_more (λ w. same_place (write_place w) (place_of t k)) ws i d lt)
+
+none_in : {X : Type 0} (p : X → Bool) (xs : List X) (i : ℕ) → ((j : ℕ) (d : X) → j < i → j < length xs → p (get_or xs j d) ≡ false) → is_some (find p (take i xs)) ≡ false
+none_in p [] zero h = refl
+none_in p [] (suc i) h = refl
+none_in p (x ∷ xs) zero h = refl
+none_in p (x ∷ xs) (suc i) h = let here : p x ≡ false = h 0 x (omega arith) (omega arith) in rw here (none_in p xs i (λ j d a b. h (suc j) d (omega arith) (omega arith)))
+
+-- the writes before one don't write its key
+pub not_written : (ws : List Write) (i : ℕ) (w : Write) → IsOrdered write_place ws → i < length ws → w ≡ get_or ws i w → is_written w.table w.key (take i ws) ≡ false
+not_written ws i w o lt is =
+    none_in (λ v. same_place (write_place v) (write_place w)) ws i
+    (λ j d below inside. ap (λ v. same_place (write_place (get_or ws j d)) (write_place v)) (is ∙ get_or_default ws i w d lt) ∙ writes_apart ws j i d o below lt)
+
+found_at : {X : Type 0} (p : X → Bool) (xs : List X) (i : ℕ) (x : X) → i < length xs → x ≡ get_or xs i x → p x ≡ true → is_some (find p xs) ≡ true
+found_at p [] i x lt is h = absurd (omega arith)
+found_at p (y ∷ ys) zero x lt is h = let here : p y ≡ true = ap p (sym is) ∙ h in rw here refl
+found_at p (y ∷ ys) (suc i) x lt is h = some_if (p y) true y (find p ys) (found_at p ys i x (omega arith) is h) ∙ or_true (p y)
+
+-- these write the key of each of them
+pub written_at : (ws : List Write) (i : ℕ) (w : Write) → i < length ws → w ≡ get_or ws i w → is_written w.table w.key ws ≡ true
+written_at ws i w lt is = found_at (λ v. same_place (write_place v) (write_place w)) ws i w lt is (place_same (write_place w) (write_place w) refl)
+
+-- one more key is edited
+module _ (edit : List ℕ → List ℕ) (start before after : List Row) (ws : List Write) (i : ℕ) (w : Write) (o : IsOrdered write_place ws) (lt : i < length ws) (is : w ≡ get_or ws i w)
+    (each : (t k : List ℕ) → labels_in before t k ≡ cond (is_written t k (take i ws)) (edit (labels_in start t k)) (labels_in start t k)) where
+  pub unedited : labels_in before w.table w.key ≡ labels_in start w.table w.key
+  unedited = each w.table w.key ∙ ap (λ b. cond b (edit (labels_in start w.table w.key)) (labels_in start w.table w.key)) (not_written ws i w o lt is)
+
+  pub edit_more : IsEdited w.table w.key (edit (labels_in before w.table w.key)) before after
+      → (t k : List ℕ) → labels_in after t k ≡ cond (is_written t k (take (i + 1) ws)) (edit (labels_in start t k)) (labels_in start t k)
+  edit_more edited t k =
+      let more : is_written t k (take (i + 1) ws) ≡ (is_written t k (take i ws) || same_place (write_place w) (place_of t k)) =
+      written_more t k ws i w lt ∙ ap (λ v. is_written t k (take i ws) || same_place (write_place v) (place_of t k)) (sym is) in
+      edited t k ∙ elim (cases_Bool (same_place (write_place w) (place_of t k))) [
+        | inl e ↦ (let p : write_place w ≡ place_of t k = place_is (write_place w) (place_of t k) e in
+            let now : edit (labels_in before w.table w.key) ≡ edit (labels_in start t k) = ap edit (unedited ∙ ap (λ (q : Place). labels_in start q.table q.key) p) in
+            rw (more, e, or_true (is_written t k (take i ws))) now)
+        | inr differs ↦ (let b = each t k in rw (more, differs, or_false (is_written t k (take i ws))) b)
+      ]
+
+-- and places for labels: one less at each key that is written
+module _ (start before after : List Row) (ws : List Write) (i : ℕ) (w : Write) (lt : i < length ws) (is : w ≡ get_or ws i w) where
+  same_more : (t k : List ℕ) → is_written t k (take (i + 1) ws) ≡ (is_written t k (take i ws) || same_place (write_place w) (place_of t k))
+  same_more t k = written_more t k ws i w lt ∙ ap (λ v. is_written t k (take i ws) || same_place (write_place v) (place_of t k)) (sym is)
+
+  -- where a key is written at most once
+  less_by : (a b : Bool) (x y z : ℕ) → x ≤ y + cond a 1 0 → y ≤ z + cond b 1 0 → (b ≡ true → a ≡ false) → x ≤ z + cond (a || b) 1 0
+  less_by true true x y z h g f = let no = f refl in cc
+  less_by true false x y z h g f = omega arith
+  less_by false true x y z h g f = omega arith
+  less_by false false x y z h g f = omega arith
+
+  pub spare_less : IsOrdered write_place ws → ((t k : List ℕ) → spare_in start t k ≤ spare_in before t k + cond (is_written t k (take i ws)) 1 0)
+      → ((t k : List ℕ) → spare_in before t k ≤ spare_in after t k + cond (same_place (write_place w) (place_of t k)) 1 0)
+      → (t k : List ℕ) → spare_in start t k ≤ spare_in after t k + cond (is_written t k (take (i + 1) ws)) 1 0
+  spare_less o left now t k =
+      let less = less_by (is_written t k (take i ws)) (same_place (write_place w) (place_of t k)) (spare_in start t k) (spare_in before t k) (spare_in after t k) (left t k) (now t k)
+      (λ e. let p : write_place w ≡ place_of t k = place_is (write_place w) (place_of t k) e in
+      ap (λ (q : Place). is_written q.table q.key (take i ws)) (sym p) ∙ not_written ws i w o lt is) in
+      let P : Bool → Type 0 = λ c. spare_in start t k ≤ spare_in after t k + cond c 1 0 in
+      subst P (sym (same_more t k)) less
+
+  -- a key that was promised a place, and isn't written yet, has it
+  pub spare_left : IsOrdered write_place ws → ((t k : List ℕ) → is_written t k ws ≡ true → 0 < spare_in start t k)
+      → ((t k : List ℕ) → spare_in start t k ≤ spare_in before t k + cond (is_written t k (take i ws)) 1 0) → 0 < spare_in before w.table w.key
+  spare_left o promised left =
+      let here = promised w.table w.key (written_at ws i w lt is) in
+      let rest = left w.table w.key in
+      let none = not_written ws i w o lt is in
+      let P : Bool → Type 0 = λ c. spare_in start w.table w.key ≤ spare_in before w.table w.key + cond c 1 0 in
+      let more : spare_in start w.table w.key ≤ spare_in before w.table w.key + 0 = subst P none rest in
+      omega arith
+
+  made_by : (n : ℕ) (a b : Bool) (z : ℕ) → (a || b) ≡ true → (a ≡ true → n ≤ z) → (b ≡ true → n ≤ z) → n ≤ z
+  made_by n true b z h f g = f refl
+  made_by n false b z h f g = g h
+
+  -- places for one key more
+  pub spare_made : (n : ℕ) → ((t k : List ℕ) → is_written t k (take i ws) ≡ true → n ≤ spare_in before t k) → ((t k : List ℕ) → spare_in before t k ≤ spare_in after t k) → n ≤ spare_in after w.table w.key
+      → (t k : List ℕ) → is_written t k (take (i + 1) ws) ≡ true → n ≤ spare_in after t k
+  spare_made n had more here t k h =
+      made_by n (is_written t k (take i ws)) (same_place (write_place w) (place_of t k)) (spare_in after t k) (sym (same_more t k) ∙ h)
+      (λ e. let a = had t k e in let b = more t k in omega arith)
+      (λ e. let p : write_place w ≡ place_of t k = place_is (write_place w) (place_of t k) e in
+      let P : Place → Type 0 = λ q. n ≤ spare_in after q.table q.key in subst P p here)

@@ -1,0 +1,45 @@
+-- Places with their writes, and the rows before a place.
+use Rattle.std.specs.Prelude.{ℕ, Bool, List, [], ◌∷◌, ◌++◌, Option, Some, not, nat_eq, fold, filter, map, is_some}
+use Rattle.std.specs.List.{find}
+use Rattle.lang_core.specs.Places.{place_of, same_place}
+use Rattle.lang_core.specs.Rows.{apply, write_place}
+use Rattle.lang_core.specs.declared.cells.Cell.{Cell}
+use Rattle.lang_core.specs.declared.writes.Write.{Write}
+use Rattle.versioned_rows.specs.Rising.{is_before}
+use Rattle.versioned_rows.specs.declared.places.PlaceWrites.{PlaceWrites}
+
+abbrev pub label_of : PlaceWrites → ℕ
+label_of p = p.label
+
+-- the rows that the writes of these places make, one after the other, of empty rows
+abbrev pub rows_after : List PlaceWrites → List Cell
+rows_after places = fold (λ rows (p : PlaceWrites). apply rows p.writes) [] places
+
+-- the places before a label, or all where that is the end
+abbrev pub before : List ℕ → Option ℕ → List PlaceWrites → List PlaceWrites
+before order end places = filter (λ p. is_before order end (label_of p)) places
+
+abbrev pub is_other : ℕ → ℕ → Bool
+is_other x y = not (nat_eq y x)
+
+-- the places without that of a label
+abbrev pub without : ℕ → List PlaceWrites → List PlaceWrites
+without label places = filter (λ p. is_other label (label_of p)) places
+
+-- the places with one more, whose label isn't there
+abbrev pub with_place : List ℕ → PlaceWrites → List PlaceWrites → List PlaceWrites
+with_place order p places =
+    filter (λ q. is_before order (Some (label_of p)) (label_of q)) places
+    ++ p ∷ filter (λ q. not (is_before order (Some (label_of p)) (label_of q))) places
+
+-- whether these write the key
+abbrev pub is_written : List ℕ → List ℕ → List Write → Bool
+is_written t k writes = is_some (find (λ w. same_place (write_place w) (place_of t k)) writes)
+
+-- the labels of the places that write the key
+abbrev pub writers : List ℕ → List ℕ → List PlaceWrites → List ℕ
+writers t k places = map label_of (filter (λ p. is_written t k p.writes) places)
+
+-- labels with one more, which isn't there
+abbrev pub with_writer : List ℕ → ℕ → List ℕ → List ℕ
+with_writer order x xs = filter (is_before order (Some x)) xs ++ x ∷ filter (λ y. not (is_before order (Some x) y)) xs

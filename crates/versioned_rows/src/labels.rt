@@ -1,0 +1,57 @@
+// How many of a list stand before a label, found by halves.
+ghost use Rattle.std.specs.Prelude.{ℕ, ◌≡◌, ◌<◌, ◌≤◌, length, filter, map, take, true, false, slice_index_or};
+ghost use Rattle.std.specs.List.{Contains};
+ghost use Rattle.std.specs.Option.{ForSome};
+ghost use Rattle.versioned_rows.specs.Rising.{IsRising, is_before};
+
+use place_order::Order;
+
+/// What stands at a label of an order.
+pub trait Labelled {
+    ghost label: { Self → ℕ };
+
+    /// The label.
+    fn label(&self) -> u64
+        ensures { result ≡ label self.now };
+}
+
+impl Labelled for u64 {
+    ghost label = { λ n. n };
+
+    fn label(&self) -> u64 {
+        *self
+    }
+}
+
+fn is_before(order: &Order, label: u64, end: Option<u64>) -> bool
+    requires label { Contains order.now.labels label }
+    requires end { ForSome end (Contains order.now.labels) }
+    ensures { result ≡ is_before order.now.labels end label }
+{
+    match end {
+        None => true,
+        Some(end) => order.compare(label, end).is_lt(),
+    }
+}
+
+/// How many of these stand before a label; all do where there is none.
+pub(crate) fn count_before<T: Labelled>(order: &Order, items: &[T], end: Option<u64>) -> usize
+    requires rising { IsRising order.now.labels (map T.label items.now) }
+    requires end { ForSome end (Contains order.now.labels) }
+    ensures within { result ≤ length items.now }
+    ensures front { (i : ℕ) (d : T) → i < result → is_before order.now.labels end (T.label (slice_index_or items.now i d)) ≡ true }
+    ensures rest { (i : ℕ) (d : T) → result ≤ i → i < length items.now → is_before order.now.labels end (T.label (slice_index_or items.now i d)) ≡ false }
+    ensures count { filter (λ x. is_before order.now.labels end (T.label x)) items.now ≡ take result items.now }
+{
+    let mut low = 0;
+    let mut high = items.len();
+    while low < high {
+        let middle = low + (high - low) / 2;
+        if is_before(order, items[middle].label(), end) {
+            low = middle + 1;
+        } else {
+            high = middle;
+        }
+    }
+    low
+}

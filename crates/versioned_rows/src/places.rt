@@ -1,0 +1,112 @@
+// Places with their writes, and the rows that name them.
+ghost use Rattle.std.specs.Prelude.{ℕ, List, ◌≡◌, ◌+◌, ◌<◌, ◌≤◌, None, true, find, position, nat_eq, map, vec_len, vec_capacity, if◌then◌else◌};
+ghost use Rattle.std.specs.List.{Contains, AllByRecursion};
+ghost use Rattle.std.specs.Option.{option_copied};
+ghost use Rattle.lang_core.specs.Places.{IsOrdered};
+ghost use Rattle.lang_core.specs.Rows.{written, write_place};
+ghost use Rattle.versioned_rows.specs.Rising.{IsRising};
+ghost use Rattle.versioned_rows.specs.Places.{label_of, is_other, is_written, without, with_place};
+ghost use Rattle.versioned_rows.specs.Rows.{spare_in};
+ghost use Rattle.versioned_rows.specs.Versions.{IsIndexed};
+
+use crate::labels::{Labelled, count_before};
+use crate::rows::{Row, drop_labels, put_labels};
+use lang_core::{Text, Writes};
+use place_order::Order;
+
+/// What the place of a label wrote.
+#[derive(Drop)]
+pub struct PlaceWrites {
+    pub label: u64,
+    pub writes: Writes,
+}
+
+impl Labelled for PlaceWrites {
+    ghost label = { λ p. p.label };
+
+    fn label(&self) -> u64 {
+        self.label
+    }
+}
+
+/// The text that these write to a key; None where they drop it or don't write it.
+pub(crate) fn text_at<'a>(writes: &'a Writes, table: &Text, key: &Text) -> Option<&'a Text>
+    ensures { option_copied result ≡ written writes.now table.now key.now None }
+{
+    match writes.find(table, key) {
+        None => None,
+        Some(write) => write.text.as_ref(),
+    }
+}
+
+/// The place of a label, found by halves.
+pub(crate) fn find_place<'a>(
+    order: &Order,
+    places: &'a [PlaceWrites],
+    label: u64,
+) -> Option<&'a PlaceWrites>
+    requires rising { IsRising order.now.labels (map label_of places.now) }
+    requires label { Contains order.now.labels label }
+    ensures { option_copied result ≡ find (λ p. nat_eq (label_of p) label) places.now }
+{
+    let at = count_before(order, places, Some(label));
+    if at == places.len() {
+        return None;
+    }
+    let place = &places[at];
+    if place.label == label {
+        Some(place)
+    } else {
+        None
+    }
+}
+
+fn position_of(places: &[PlaceWrites], label: u64) -> Option<usize>
+    ensures { result ≡ position (λ p. nat_eq (label_of p) label) places.now }
+{
+    places.iter().position(|place| place.label == label)
+}
+
+/// Takes the place of a label out, if it is there.
+pub(crate) fn take_out(places: &mut Vec<PlaceWrites>, rows: &mut Vec<Row>, label: u64)
+    requires { IsIndexed places.old.items rows.old.items }
+    ensures places { places.new.items ≡ without label places.old.items }
+    ensures indexed { IsIndexed places.new.items rows.new.items }
+    ensures spare { (t k : List ℕ) → spare_in rows.old.items t k ≤ spare_in rows.new.items t k }
+    ensures len { vec_len places.new ≤ vec_len places.old }
+    ensures capacity { vec_capacity places.new ≡ vec_capacity places.old }
+{
+    match position_of(places, label) {
+        None => {}
+        Some(at) => {
+            let place = places.remove(at);
+            drop_labels(rows, place.writes.as_slice(), label);
+        }
+    }
+}
+
+/// Puts in the place of a label that isn't there, where there is room for it.
+pub(crate) fn put_in(
+    order: &Order,
+    places: &mut Vec<PlaceWrites>,
+    rows: &mut Vec<Row>,
+    place: PlaceWrites,
+)
+    requires indexed { IsIndexed places.old.items rows.old.items }
+    requires rising { IsRising order.now.labels (map label_of places.old.items) }
+    requires label { Contains order.now.labels place.label }
+    requires others { AllByRecursion (λ p. is_other place.label (label_of p) ≡ true) places.old.items }
+    requires writes { IsOrdered write_place place.writes }
+    requires room { vec_len places.old < vec_capacity places.old }
+    requires spare { (t k : List ℕ) → is_written t k place.writes ≡ true → 0 < spare_in rows.old.items t k }
+    ensures places { places.new.items ≡ with_place order.now.labels place places.old.items }
+    ensures indexed { IsIndexed places.new.items rows.new.items }
+    ensures spare { (t k : List ℕ) → spare_in rows.old.items t k
+        ≤ spare_in rows.new.items t k + (if is_written t k place.writes then 1 else 0) }
+    ensures len { vec_len places.new ≡ vec_len places.old + 1 }
+    ensures capacity { vec_capacity places.old ≤ vec_capacity places.new }
+{
+    put_labels(order, rows, place.writes.as_slice(), place.label);
+    let at = count_before(order, places, Some(place.label));
+    let _ = places.insert(at, place);
+}

@@ -1,0 +1,169 @@
+// For each key that was ever written, the labels of the places that write it.
+ghost use Rattle.std.specs.Prelude.{ℕ, List, ◌≡◌, ◌+◌, ◌<◌, ◌≤◌, [], true, filter, length, IfOk, OnOk, vec_len, vec_capacity, if◌then◌else◌};
+ghost use Rattle.std.specs.List.{Contains};
+ghost use Rattle.lang_core.specs.Places.{IsOrdered, place_of, same_place};
+ghost use Rattle.lang_core.specs.Rows.{write_place};
+ghost use Rattle.versioned_rows.specs.Rising.{IsRising};
+ghost use Rattle.versioned_rows.specs.Places.{is_written, is_other, with_writer};
+ghost use Rattle.versioned_rows.specs.Rows.{row_place, labels_in, spare_of, spare_in, IsEdited};
+
+use crate::labels::count_before;
+use crate::seeking::seek;
+use lang_core::{Copied, NoMemory, Placed, Text, Write};
+use place_order::Order;
+use std::alloc::Global;
+
+/// The labels of the places that write a key, in the order of the places. It may have none.
+#[derive(Drop)]
+pub struct Row {
+    pub table: Text,
+    pub key: Text,
+    pub labels: Vec<u64>,
+}
+
+impl Placed for Row {
+    ghost place = { λ r. place_of r.table r.key };
+
+    fn table(&self) -> &Text {
+        &self.table
+    }
+
+    fn key(&self) -> &Text {
+        &self.key
+    }
+}
+
+/// The labels of the places that write a key.
+pub(crate) fn labels_in<'a>(rows: &'a [Row], table: &Text, key: &Text) -> &'a [u64]
+    requires { IsOrdered row_place rows.now }
+    ensures { result.now ≡ labels_in rows.now table.now key.now }
+{
+    let (at, taken) = seek(rows, table, key);
+    if taken { &rows[at].labels } else { &[] }
+}
+
+fn empty_row(alloc: Global, table: &Text, key: &Text, spare: usize) -> Result<Row, NoMemory>
+    ensures table { IfOk result (λ row. row.table ≡ table.now) }
+    ensures key { IfOk result (λ row. row.key ≡ key.now) }
+    ensures labels { IfOk result (λ row. row.labels.items ≡ []) }
+    ensures spare { IfOk result (λ row. spare ≤ spare_of row) }
+{
+    let mut labels = Vec::new(alloc);
+    labels.reserve(spare)?;
+    let table = table.copied(alloc)?;
+    let key = key.copied(alloc)?;
+    Ok(Row { table, key, labels })
+}
+
+fn make_spare(labels: &mut Vec<u64>, spare: usize) -> Result<(), NoMemory>
+    ensures labels { labels.new.items ≡ labels.old.items }
+    ensures len { vec_len labels.new ≡ vec_len labels.old }
+    ensures capacity { vec_capacity labels.old ≤ vec_capacity labels.new }
+    ensures spare { OnOk result (vec_len labels.new + spare ≤ vec_capacity labels.new) }
+{
+    labels.reserve(spare)?;
+    Ok(())
+}
+
+/// Sees to it that a key has a row with places for so many labels more. No label changes.
+pub(crate) fn make_row(
+    alloc: Global,
+    rows: &mut Vec<Row>,
+    table: &Text,
+    key: &Text,
+    spare: usize,
+) -> Result<(), NoMemory>
+    requires { IsOrdered row_place rows.old.items }
+    ensures ordered { IsOrdered row_place rows.new.items }
+    ensures each { (t k : List ℕ) → labels_in rows.new.items t k ≡ labels_in rows.old.items t k }
+    ensures kept { (t k : List ℕ) → spare_in rows.old.items t k ≤ spare_in rows.new.items t k }
+    ensures spare { OnOk result (spare ≤ spare_in rows.new.items table.now key.now) }
+{
+    let (at, taken) = seek(rows, table, key);
+    if taken {
+        return make_spare(&mut rows[at].labels, spare);
+    }
+    let row = empty_row(alloc, table, key, spare)?;
+    rows.insert(at, row)?;
+    Ok(())
+}
+
+/// Puts a label into the row of a key, which has a place for it.
+pub(crate) fn put_label(order: &Order, rows: &mut Vec<Row>, table: &Text, key: &Text, label: u64)
+    requires ordered { IsOrdered row_place rows.old.items }
+    requires spare { 0 < spare_in rows.old.items table.now key.now }
+    requires rising { IsRising order.now.labels (labels_in rows.old.items table.now key.now) }
+    requires label { Contains order.now.labels label }
+    ensures ordered { IsOrdered row_place rows.new.items }
+    ensures edited { IsEdited table.now key.now (with_writer order.now.labels label (labels_in rows.old.items table.now key.now)) rows.old.items rows.new.items }
+    ensures spare { (t k : List ℕ) → spare_in rows.old.items t k
+        ≤ spare_in rows.new.items t k + (if same_place (place_of table.now key.now) (place_of t k) then 1 else 0) }
+{
+    let (at, _) = seek(rows, table, key);
+    let n = count_before(order, &rows[at].labels, Some(label));
+    let _ = rows[at].labels.insert(n, label);
+}
+
+/// Takes a label out of the row of a key, if it is there.
+pub(crate) fn drop_label(rows: &mut Vec<Row>, table: &Text, key: &Text, label: u64)
+    requires { IsOrdered row_place rows.old.items }
+    ensures ordered { IsOrdered row_place rows.new.items }
+    ensures edited { IsEdited table.now key.now (filter (is_other label) (labels_in rows.old.items table.now key.now)) rows.old.items rows.new.items }
+    ensures spare { (t k : List ℕ) → spare_in rows.old.items t k ≤ spare_in rows.new.items t k }
+{
+    let (at, taken) = seek(rows, table, key);
+    if taken {
+        rows[at].labels.retain(|other| *other != label);
+    }
+}
+
+/// Sees to it that each key that these write has a row with places for so many labels more. No label changes.
+pub(crate) fn make_rows(
+    alloc: Global,
+    rows: &mut Vec<Row>,
+    writes: &[Write],
+    spare: usize,
+) -> Result<(), NoMemory>
+    requires { IsOrdered row_place rows.old.items }
+    ensures ordered { IsOrdered row_place rows.new.items }
+    ensures each { (t k : List ℕ) → labels_in rows.new.items t k ≡ labels_in rows.old.items t k }
+    ensures kept { (t k : List ℕ) → spare_in rows.old.items t k ≤ spare_in rows.new.items t k }
+    ensures spare { OnOk result ((t k : List ℕ) → is_written t k writes.now ≡ true → spare ≤ spare_in rows.new.items t k) }
+{
+    for write in writes {
+        make_row(alloc, rows, &write.table, &write.key, spare)?;
+    }
+    Ok(())
+}
+
+/// Puts a label into the row of each key that these write, which has a place for it.
+pub(crate) fn put_labels(order: &Order, rows: &mut Vec<Row>, writes: &[Write], label: u64)
+    requires ordered { IsOrdered row_place rows.old.items }
+    requires writes { IsOrdered write_place writes.now }
+    requires spare { (t k : List ℕ) → is_written t k writes.now ≡ true → 0 < spare_in rows.old.items t k }
+    requires rising { (t k : List ℕ) → IsRising order.now.labels (labels_in rows.old.items t k) }
+    requires label { Contains order.now.labels label }
+    ensures ordered { IsOrdered row_place rows.new.items }
+    ensures each { (t k : List ℕ) → labels_in rows.new.items t k
+        ≡ (if is_written t k writes.now then with_writer order.now.labels label (labels_in rows.old.items t k) else labels_in rows.old.items t k) }
+    ensures spare { (t k : List ℕ) → spare_in rows.old.items t k
+        ≤ spare_in rows.new.items t k + (if is_written t k writes.now then 1 else 0) }
+{
+    for write in writes {
+        put_label(order, rows, &write.table, &write.key, label);
+    }
+}
+
+/// Takes a label out of the row of each key that these write.
+pub(crate) fn drop_labels(rows: &mut Vec<Row>, writes: &[Write], label: u64)
+    requires ordered { IsOrdered row_place rows.old.items }
+    requires writes { IsOrdered write_place writes.now }
+    ensures ordered { IsOrdered row_place rows.new.items }
+    ensures each { (t k : List ℕ) → labels_in rows.new.items t k
+        ≡ (if is_written t k writes.now then filter (is_other label) (labels_in rows.old.items t k) else labels_in rows.old.items t k) }
+    ensures spare { (t k : List ℕ) → spare_in rows.old.items t k ≤ spare_in rows.new.items t k }
+{
+    for write in writes {
+        drop_label(rows, &write.table, &write.key, label);
+    }
+}

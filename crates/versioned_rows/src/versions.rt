@@ -1,0 +1,134 @@
+// Versions: what each place wrote, and for each key the places that write it.
+ghost use Rattle.std.specs.Prelude.{ℕ, List, ◌≡◌, ◌++◌, ◌∷◌, [], length, map, IsTrue, IsOk, OnOk, OnErr};
+ghost use Rattle.std.specs.List.{Contains};
+ghost use Rattle.std.specs.Option.{option_copied, ForSome};
+ghost use Rattle.lang_core.specs.Rows.{get};
+ghost use Rattle.call_room.specs.Room.{is_made, spend};
+ghost use Rattle.versioned_rows.specs.Rising.{IsRising};
+ghost use Rattle.versioned_rows.specs.Places.{label_of, rows_after, before, without, with_place};
+ghost use Rattle.versioned_rows.specs.Versions.{call_code, write_call, IsIndexed, IsCovered};
+
+use crate::labels::count_before;
+use crate::places::{PlaceWrites, find_place, put_in, take_out, text_at};
+use crate::room::{VersionsCall, ready_writes, take_writes};
+use crate::rows::{Row, labels_in};
+use lang_core::{NoMemory, Text, Writes};
+use place_order::Order;
+use std::alloc::Global;
+use std::marker::Model;
+
+/// What each place of an order wrote, which contracts see as the list of the places with their writes, in order, and the
+/// room that was made for calls to come.
+///
+/// The order is the caller's: each call that takes one asks that the labels of the list rise in it.
+#[derive(Drop)]
+pub struct Versions {
+    places: Vec<PlaceWrites>,
+    // By table and key. A row stays when its last label goes.
+    rows: Vec<Row>,
+    room: Vec<VersionsCall>,
+}
+
+impl Model for Versions {
+    ghost use Rattle.std.specs.Prelude.{◌+◌, ◌≤◌, vec_len, vec_capacity};
+    ghost use Rattle.versioned_rows.specs.Versions.{Kept, IsIndexed, IsCovered};
+
+    ghost Value = { Kept };
+
+    ghost view = { λ v. record { versions = v.places.items; room = v.room.items } };
+
+    ghost invariant = { λ v. IsIndexed v.places.items v.rows.items
+        × (vec_len v.places + vec_len v.room ≤ vec_capacity v.places)
+        × IsCovered v.room.items v.rows.items };
+}
+
+impl Versions {
+    /// Versions of no place.
+    pub fn new(alloc: Global) -> Versions
+        ensures versions { result.versions ≡ [] }
+        ensures room { result.room ≡ [] }
+    {
+        Versions {
+            places: Vec::new(alloc),
+            rows: Vec::new(alloc),
+            room: Vec::new(alloc),
+        }
+    }
+
+    /// The text at a key of a table in the rows that the writes of all places before this one make, or of all places where
+    /// there is none; None exactly where those rows have no such key.
+    pub fn get_before(
+        &self,
+        order: &Order,
+        label: Option<u64>,
+        table: &Text,
+        key: &Text,
+    ) -> Option<&Text>
+        requires rising { IsRising order.now.labels (map label_of self.now.versions) }
+        requires label { ForSome label (Contains order.now.labels) }
+        ensures { option_copied result ≡ get (rows_after (before order.now.labels label self.now.versions)) table.now key.now }
+    {
+        let labels = labels_in(&self.rows, table, key);
+        let n = count_before(order, labels, label);
+        if n == 0 {
+            return None;
+        }
+        match find_place(order, &self.places, labels[n - 1]) {
+            None => None,
+            Some(place) => text_at(&place.writes, table, key),
+        }
+    }
+
+    /// Takes the writes of a place out, if it has some. No other place changes.
+    pub fn take_back(&mut self, label: u64)
+        ensures versions { self.new.versions ≡ without label self.old.versions }
+        ensures room { self.new.room ≡ self.old.room }
+    {
+        take_out(&mut self.places, &mut self.rows, label);
+    }
+
+    /// Puts these writes at the place of a label, instead of those that it had. No other place changes. Refused, none
+    /// does.
+    pub fn write_at(
+        &mut self,
+        alloc: Global,
+        order: &Order,
+        label: u64,
+        writes: &Writes,
+    ) -> Result<(), NoMemory>
+        requires rising { IsRising order.now.labels (map label_of self.old.versions) }
+        requires label { Contains order.now.labels label }
+        ensures ok { OnOk result (self.new.versions
+            ≡ with_place order.now.labels (record { label = label; writes = writes.now }) (without label self.old.versions)) }
+        ensures err { OnErr result (self.new.versions ≡ self.old.versions) }
+        ensures room { self.new.room ≡ spend call_code (write_call writes.now) self.old.room }
+        ensures ready { IsTrue (is_made call_code (write_call writes.now) self.old.room) → IsOk result }
+    {
+        let writes = take_writes(
+            alloc,
+            &mut self.places,
+            &mut self.rows,
+            &mut self.room,
+            writes,
+        )?;
+        take_out(&mut self.places, &mut self.rows, label);
+        let place = PlaceWrites { label, writes };
+        put_in(order, &mut self.places, &mut self.rows, place);
+        Ok(())
+    }
+
+    /// Makes room for a `write_at` of these writes, at whichever place.
+    pub fn ready_write_at(&mut self, alloc: Global, writes: &Writes) -> Result<(), NoMemory>
+        ensures versions { self.new.versions ≡ self.old.versions }
+        ensures ok { OnOk result (self.new.room ≡ self.old.room ++ write_call writes.now ∷ []) }
+        ensures err { OnErr result (self.new.room ≡ self.old.room) }
+    {
+        ready_writes(
+            alloc,
+            &mut self.places,
+            &mut self.rows,
+            &mut self.room,
+            writes,
+        )
+    }
+}
