@@ -18,6 +18,7 @@ mod write;
 pub use header::{AIRE_HEADERS, AireHeader};
 pub use length::LONGEST_BODY;
 pub use message::{FrontRefused, WireRequest, WireResponse, WriteRefused};
+pub use method::{method_named, method_word};
 pub use read::{read_request, read_response};
 pub use reading::LONGEST_HEAD;
 pub use request_head::MOST_FIELDS;

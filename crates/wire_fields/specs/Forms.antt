@@ -1,0 +1,85 @@
+-- The forms of header fields.
+use Rattle.std.specs.Prelude.{ℕ, Bool, false, ◌&&◌, ◌||◌, List, Option, Some, None, codes, length, nat_eq, nat_le, ◌==◌, if◌then◌else◌}
+use Rattle.std.specs.List.{list_all, slice_split, starts_with, ends_with}
+use Rattle.std.specs.Option.{is_some}
+use Rattle.lang_core.specs.Names.{is_name, is_who}
+use Rattle.lang_tree.specs.Forms.{is_digit, is_path, is_text}
+use Rattle.request_names.specs.Ids.{parts_of}
+use Rattle.request_names.specs.Numbers.{number_of}
+use Rattle.repair_messages.specs.declared.kinds.Kind.{Kind}
+use Rattle.repair_messages.specs.declared.kinds.Kind.TheVariants.{Create, Replace, Delete, ReplaceResponse}
+use Rattle.http_front.specs.Methods.{method_named}
+use Rattle.http_front.specs.declared.header.AireHeader.{AireHeader}
+use Rattle.http_front.specs.declared.header.AireHeader.TheVariants.{From, Dest, RequestId, ResponseId, NotifierUrl, Repair, Version, AnswerVersion, Who, Method, Path, RequestWho, Chain, Before, After, Status, Refused, Seal}
+
+-- ---- ids: a service, a slash, and a number from 1
+
+abbrev pub numbered : List ℕ → Option ℕ → Option (List ℕ × ℕ)
+numbered service None = None
+numbered service (Some n) = if nat_eq n 0 then None else Some (service, n)
+
+abbrev pub id_with : Option (List ℕ × List ℕ) → Option (List ℕ × ℕ)
+id_with None = None
+id_with (Some parts) = if is_name parts.0 then numbered parts.0 (number_of parts.1) else None
+
+-- the service and the number that a text names
+abbrev pub id_of : List ℕ → Option (List ℕ × ℕ)
+id_of text = id_with (parts_of text)
+
+-- ---- words
+
+-- the kind of a message that has this word
+abbrev pub kind_named : List ℕ → Option Kind
+kind_named word =
+    if is_text word (codes "create") then Some Create
+    else (if is_text word (codes "replace") then Some Replace
+    else (if is_text word (codes "delete") then Some Delete
+    else (if is_text word (codes "replace_response") then Some ReplaceResponse
+    else None)))
+
+-- ---- others
+
+-- at least one name, with commas between them
+abbrev pub is_chain : List ℕ → Bool
+is_chain text = list_all is_name (slice_split (λ b. b == 44) text)
+
+-- a number of 16 bits
+abbrev pub status_in : Option ℕ → Option ℕ
+status_in None = None
+status_in (Some n) = if nat_le n 65535 then Some n else None
+
+abbrev pub status_of : List ℕ → Option ℕ
+status_of text = status_in (number_of text)
+
+-- a digit of a seal
+abbrev pub is_seal_digit : ℕ → Bool
+is_seal_digit b = is_digit b || (nat_le 97 b && nat_le b 102)
+
+abbrev pub is_seal : List ℕ → Bool
+is_seal text = nat_eq (length text) 64 && list_all is_seal_digit text
+
+-- where a service hears of new responses
+abbrev pub is_notifier : List ℕ → Bool
+is_notifier text =
+    starts_with nat_eq text (codes "http://") && ends_with nat_eq text (codes "/aire/notify") && nat_le 20 (length text) && nat_le (length text) 83
+
+-- the text is of its header's form
+abbrev pub has_form : AireHeader → List ℕ → Bool
+has_form From text = is_name text
+has_form Dest text = is_name text
+has_form RequestId text = is_some (id_of text)
+has_form ResponseId text = is_some (id_of text)
+has_form NotifierUrl text = is_notifier text
+has_form Repair text = is_some (kind_named text)
+has_form Version text = is_some (number_of text)
+has_form AnswerVersion text = is_some (number_of text)
+has_form Who text = is_who text
+has_form Method text = is_some (method_named text)
+has_form Path text = is_path text
+has_form RequestWho text = is_who text
+has_form Chain text = is_chain text
+has_form Before text = is_some (number_of text)
+has_form After text = is_some (number_of text)
+has_form Status text = is_some (status_of text)
+has_form Refused text = false
+has_form Seal text = is_seal text

@@ -1,0 +1,57 @@
+-- Which kind of message a request is.
+use Rattle.std.specs.Prelude.{ℕ, List, Option, Some, None, codes, drop, nat_eq, if◌then◌else◌}
+use Rattle.std.specs.List.{starts_with}
+use Rattle.lang_tree.specs.Forms.{is_text}
+use Rattle.lang_tree.specs.declared.method.Method.{Method}
+use Rattle.lang_tree.specs.declared.method.Method.TheVariants.{Get, Put, Post, Delete}
+use Rattle.http_header.specs.FieldValue.{FieldValue}
+use Rattle.http_header.specs.HeaderMap.{Entries, get}
+use Rattle.wire_fields.specs.declared.console.ConsoleWord.{ConsoleWord}
+use Rattle.wire_fields.specs.declared.console.ConsoleWord.TheVariants.{Cancel, Restore, Replace, Create, Retry, Notices, Log, Rows, Audit, Stop}
+use Rattle.wire_fields.specs.declared.kinds.RequestKind.{RequestKind}
+use Rattle.wire_fields.specs.declared.kinds.RequestKind.TheVariants.{Answer, Call, Console, Outside, Set}
+
+unfoldable pub console_word : List ℕ → Option ConsoleWord
+console_word word =
+    if is_text word (codes "cancel") then Some Cancel
+    else (if is_text word (codes "restore") then Some Restore
+    else (if is_text word (codes "replace") then Some Replace
+    else (if is_text word (codes "create") then Some Create
+    else (if is_text word (codes "retry") then Some Retry
+    else (if is_text word (codes "notices") then Some Notices
+    else (if is_text word (codes "log") then Some Log
+    else (if is_text word (codes "rows") then Some Rows
+    else (if is_text word (codes "audit") then Some Audit
+    else (if is_text word (codes "stop") then Some Stop
+    else None)))))))))
+
+abbrev pub console_kind : Option ConsoleWord → Option RequestKind
+console_kind None = None
+console_kind (Some word) = Some (Console word)
+
+abbrev pub console_path : List ℕ → Option RequestKind
+console_path path = if starts_with nat_eq path (codes "/aire/console/") then console_kind (console_word (drop 14 path)) else None
+
+-- of a POST to a path below `/aire/`
+abbrev pub posted_kind : List ℕ → Option RequestKind
+posted_kind path =
+    if is_text path (codes "/aire/repair") then Some Set
+    else (if is_text path (codes "/aire/response") then Some Answer
+    else (console_path path))
+
+abbrev pub own_kind : Method → List ℕ → Option RequestKind
+own_kind Post path = posted_kind path
+own_kind Get path = None
+own_kind Put path = None
+own_kind Delete path = None
+
+-- of a request to a path of the service's handlers
+abbrev pub handled_kind : Option FieldValue → RequestKind
+handled_kind None = Outside
+handled_kind (Some id) = Call
+
+-- which kind of message it is; None where there is none below `/aire/`
+abbrev pub request_kind : Method → List ℕ → Entries FieldValue → Option RequestKind
+request_kind method path head =
+    if starts_with nat_eq path (codes "/aire/") then own_kind method path
+    else Some (handled_kind (get head (codes "aire-response-id")))

@@ -1,0 +1,5 @@
+pub mod Forms
+pub mod Kinds
+pub mod Rows
+pub mod Sealed
+pub mod Secrets

@@ -1,0 +1,59 @@
+// What operators send.
+ghost use Rattle.std.specs.Prelude.{◌≡◌};
+ghost use Rattle.wire_fields.specs.Kinds.{console_word};
+
+use lang_core::Text;
+
+/// What an operator asks for.
+#[derive(Clone, Copy, Debug, PartialEq, Eq)]
+pub enum ConsoleWord {
+    Cancel,
+    Restore,
+    Replace,
+    Create,
+    Retry,
+    Notices,
+    Log,
+    Rows,
+    Audit,
+    Stop,
+}
+
+/// A sealed request of an operator, whose body isn't read yet.
+#[derive(Drop)]
+pub struct ConsoleRequest {
+    pub word: ConsoleWord,
+    /// Who asks, from 1 to 64 visible characters.
+    pub who: Text,
+    pub body: Text,
+}
+
+/// What the word asks for; None exactly where it is none of the ten.
+#[tactic(auto, unfolding(crate::specs::Kinds::console_word))]
+pub fn console_word(word: &[u8]) -> Option<ConsoleWord>
+    ensures { result ≡ console_word word.now }
+{
+    if word == b"cancel".as_slice() {
+        Some(ConsoleWord::Cancel)
+    } else if word == b"restore".as_slice() {
+        Some(ConsoleWord::Restore)
+    } else if word == b"replace".as_slice() {
+        Some(ConsoleWord::Replace)
+    } else if word == b"create".as_slice() {
+        Some(ConsoleWord::Create)
+    } else if word == b"retry".as_slice() {
+        Some(ConsoleWord::Retry)
+    } else if word == b"notices".as_slice() {
+        Some(ConsoleWord::Notices)
+    } else if word == b"log".as_slice() {
+        Some(ConsoleWord::Log)
+    } else if word == b"rows".as_slice() {
+        Some(ConsoleWord::Rows)
+    } else if word == b"audit".as_slice() {
+        Some(ConsoleWord::Audit)
+    } else if word == b"stop".as_slice() {
+        Some(ConsoleWord::Stop)
+    } else {
+        None
+    }
+}

@@ -1,0 +1,158 @@
+// The forms of header fields.
+ghost use Rattle.std.specs.Prelude.{◌≡◌, ◌==◌};
+ghost use Rattle.std.specs.List.{list_all, position};
+ghost use Rattle.std.specs.Option.{option_map};
+ghost use Rattle.lang_core.specs.Names.{is_name, is_name_byte, is_who};
+ghost use Rattle.lang_tree.specs.Forms.{is_path, is_visible};
+ghost use Rattle.request_names.specs.Ids.{parts_of};
+ghost use Rattle.wire_fields.specs.Forms.{has_form, id_of, is_chain, is_notifier, is_seal, is_seal_digit, kind_named, status_of};
+
+use http_front::{AireHeader, method_named};
+use lang_core::{LONGEST_NAME, LONGEST_PATH, LONGEST_WHO};
+use repair_messages::Kind;
+use request_names::read_number;
+
+fn is_name_byte(byte: u8) -> bool
+    ensures { result ≡ is_name_byte byte }
+{
+    byte.is_ascii_lowercase() || byte.is_ascii_digit() || byte == b'_'
+}
+
+fn all_name_bytes(bytes: &[u8]) -> bool
+    ensures { result ≡ list_all is_name_byte bytes.now }
+{
+    bytes.iter().all(|byte| is_name_byte(*byte))
+}
+
+/// Whether the bytes are the name of a service.
+pub fn is_name(bytes: &[u8]) -> bool
+    ensures { result ≡ is_name bytes.now }
+{
+    !bytes.is_empty() && bytes.len() as u64 <= LONGEST_NAME && all_name_bytes(bytes)
+}
+
+fn all_visible(bytes: &[u8]) -> bool
+    ensures { result ≡ list_all is_visible bytes.now }
+{
+    bytes.iter().all(|byte| (0x21..=0x7e).contains(byte))
+}
+
+fn is_who(bytes: &[u8]) -> bool
+    ensures { result ≡ is_who bytes.now }
+{
+    !bytes.is_empty() && bytes.len() as u64 <= LONGEST_WHO && all_visible(bytes)
+}
+
+fn is_path(bytes: &[u8]) -> bool
+    ensures { result ≡ is_path bytes.now }
+{
+    bytes.starts_with(b"/") && bytes.len() as u64 <= LONGEST_PATH && all_visible(bytes)
+}
+
+fn cut_slash(text: &str) -> Option<(&str, &str)>
+    ensures { option_map (λ parts. (parts.0.now, parts.1.now)) result ≡ parts_of text.now }
+{
+    text.split_once('/')
+}
+
+/// The service and the number that a text names.
+pub fn id_of(text: &str) -> Option<(&str, u64)>
+    ensures { option_map (λ id. (id.0.now, id.1)) result ≡ id_of text.now }
+{
+    let Some((service, digits)) = cut_slash(text) else {
+        return None;
+    };
+    if !is_name(service.as_bytes()) {
+        return None;
+    }
+    match read_number(digits) {
+        None | Some(0) => None,
+        Some(number) => Some((service, number)),
+    }
+}
+
+/// The kind of a message that has this word.
+pub fn kind_named(word: &str) -> Option<Kind>
+    ensures { result ≡ kind_named word.now }
+{
+    match word {
+        "create" => Some(Kind::Create),
+        "replace" => Some(Kind::Replace),
+        "delete" => Some(Kind::Delete),
+        "replace_response" => Some(Kind::ReplaceResponse),
+        _ => None,
+    }
+}
+
+fn comma(bytes: &[u8]) -> Option<usize>
+    ensures { result ≡ position (λ b. b == 44) bytes.now }
+{
+    bytes.iter().position(|byte| *byte == b',')
+}
+
+fn is_chain(bytes: &[u8]) -> bool
+    ensures { result ≡ is_chain bytes.now }
+{
+    match comma(bytes) {
+        None => is_name(bytes),
+        Some(end) => is_name(&bytes[..end]) && is_chain(&bytes[end + 1..]),
+    }
+}
+
+/// The status that a text spells.
+pub fn status_of(text: &str) -> Option<u16>
+    ensures { result ≡ status_of text.now }
+{
+    match read_number(text) {
+        Some(number) if number <= 65535 => Some(number as u16),
+        _ => None,
+    }
+}
+
+fn is_seal_digit(byte: u8) -> bool
+    ensures { result ≡ is_seal_digit byte }
+{
+    byte.is_ascii_digit() || (b'a'..=b'f').contains(&byte)
+}
+
+fn all_seal_digits(bytes: &[u8]) -> bool
+    ensures { result ≡ list_all is_seal_digit bytes.now }
+{
+    bytes.iter().all(|byte| is_seal_digit(*byte))
+}
+
+fn is_seal(bytes: &[u8]) -> bool
+    ensures { result ≡ is_seal bytes.now }
+{
+    bytes.len() == 64 && all_seal_digits(bytes)
+}
+
+fn is_notifier(bytes: &[u8]) -> bool
+    ensures { result ≡ is_notifier bytes.now }
+{
+    bytes.starts_with(b"http://")
+        && bytes.ends_with(b"/aire/notify")
+        && bytes.len() >= 20
+        && bytes.len() <= 83
+}
+
+/// Whether the text is of its header's form.
+pub fn has_form(header: AireHeader, text: &str) -> bool
+    ensures { result ≡ has_form header text.now }
+{
+    match header {
+        AireHeader::From | AireHeader::Dest => is_name(text.as_bytes()),
+        AireHeader::RequestId | AireHeader::ResponseId => id_of(text).is_some(),
+        AireHeader::NotifierUrl => is_notifier(text.as_bytes()),
+        AireHeader::Repair => kind_named(text).is_some(),
+        AireHeader::Version | AireHeader::AnswerVersion | AireHeader::Before | AireHeader::After =>
+            { read_number(text).is_some() }
+        AireHeader::Who | AireHeader::RequestWho => is_who(text.as_bytes()),
+        AireHeader::Method => method_named(text.as_bytes()).is_some(),
+        AireHeader::Path => is_path(text.as_bytes()),
+        AireHeader::Chain => is_chain(text.as_bytes()),
+        AireHeader::Status => status_of(text).is_some(),
+        AireHeader::Refused => false,
+        AireHeader::Seal => is_seal(text.as_bytes()),
+    }
+}

@@ -1,0 +1,22 @@
+//! What HTTP messages between services are made of: the forms of their header fields, which of them each kind of message
+//! has and the first that is missing or bad, the bytes that are sealed, and the secrets of peers.
+#![tactic(auto)]
+
+mod console;
+mod forms;
+mod kinds;
+mod refused;
+mod rows;
+mod sealed;
+mod secrets;
+
+pub use console::{ConsoleRequest, ConsoleWord, console_word};
+pub use forms::{has_form, id_of, is_name, kind_named, status_of};
+pub use kinds::{RequestKind, request_kind};
+pub use refused::WireRefused;
+pub use rows::{
+    ANSWER_HEADERS, CALL_HEADERS, CONSOLE_HEADERS, DESIRED_HEADERS, NEIGHBOUR_HEADERS, SET_HEADERS,
+    first_refusal, text_at,
+};
+pub use sealed::{sealed_request, sealed_response};
+pub use secrets::{Peer, Secrets};
