@@ -1,6 +1,6 @@
 // A log, and its repair.
-ghost use Rattle.std.specs.Prelude.{◌≡◌, ◌↔◌, ◌<◌, ◌≤◌, [], ◌∷◌, ◌++◌, All, Err, Ok, IfOk, OnOk, OnErr, MatchOption, insert, length, take, slice_set, slice_index_or};
-ghost use Rattle.request_log.specs.Entries.{IsNew, IsKnown, with_entry};
+ghost use Rattle.std.specs.Prelude.{◌≡◌, ◌↔◌, ◌<◌, ◌≤◌, [], ◌∷◌, ◌++◌, All, Err, Ok, IfOk, OnOk, OnErr, MatchOption, insert, length, take, slice_set, slice_index_or, find, is_some};
+ghost use Rattle.request_log.specs.Entries.{changed, has_id, mark, replace, IsNew, IsKnown, with_entry};
 ghost use Rattle.local_repair.specs.Current.{AllCurrent, AllRuns, rows_of};
 ghost use Rattle.request_log.specs.declared.entry.Entry.{Entry};
 ghost use Rattle.local_repair.specs.Repairs.{IsAmended, IsStaleId, stale_id};
@@ -12,7 +12,7 @@ use crate::remaking::{Again, remake};
 use crate::rows::rows_after;
 use crate::slots::Slots;
 use crate::stepped::Stepped;
-use lang_core::{Cells, NoMemory, Setting};
+use lang_core::{Cells, Method, NoMemory, Setting, Text};
 use request_log::{Entry, Log, LogFull};
 use std::alloc::Global;
 use std::marker::Model;
@@ -151,6 +151,22 @@ impl Repairer {
         ensures { self.new.entries ≡ with_entry entry self.old.entries }
     {
         replace(&mut self.log, entry);
+    }
+
+    /// Strikes the entry of a number, or takes that back; false exactly where there is none.
+    pub fn strike(&mut self, id: u64, struck: bool) -> bool
+        ensures entries { self.new.entries ≡ changed id (mark struck) self.old.entries }
+        ensures there { result ≡ is_some (find (has_id id) self.old.entries) }
+    {
+        self.log.strike(id, struck)
+    }
+
+    /// Gives the entry of a number another method, path and body; false exactly where there is none.
+    pub fn rewrite(&mut self, id: u64, method: Method, path: Text, body: Text) -> bool
+        ensures entries { self.new.entries ≡ changed id (replace method path body) self.old.entries }
+        ensures there { result ≡ is_some (find (has_id id) self.old.entries) }
+    {
+        self.log.rewrite(id, method, path, body)
     }
 
     /// The number of the first stale entry; None exactly where no entry is stale.

@@ -139,13 +139,13 @@ some_chosen true n h = refl
 some_chosen false n h = cc
 
 -- a number that is found has a place
-is_found : (id : ℕ) (es : List Entry) → IsSome (find (has_id id) es) → IsSome (position (has_id id) es)
+pub is_found : (id : ℕ) (es : List Entry) → IsSome (find (has_id id) es) → IsSome (position (has_id id) es)
 is_found id es found =
     let n = position_or_len (has_id id) es in
     let there : IsSome (slice_get es n) = rw find_at at found in
     some_chosen (nat_lt n (length es)) n (lt-ltb n (length es) (some_within es n there))
 
-placed : (b : Bool) (n place : ℕ) → cond b (Some n) None ≡ Some place → n ≡ place
+pub placed : (b : Bool) (n place : ℕ) → cond b (Some n) None ≡ Some place → n ≡ place
 placed true n place e = cc
 placed false n place e = cc
 

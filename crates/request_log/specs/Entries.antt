@@ -1,9 +1,11 @@
 -- Entries of a log: which are alive, and which has a number or comes from a call.
-use Rattle.std.specs.Prelude.{ℕ, ◌≡◌, ◌≤◌, Bool, false, ◌&&◌, not, List, [], ◌∷◌, Option, Some, None, nat_eq, length, find, slice_set, IsSomeAnd}
+use Rattle.std.specs.Prelude.{ℕ, ◌≡◌, ◌≤◌, Bool, false, ◌&&◌, not, List, [], ◌∷◌, Option, Some, None, nat_eq, length, find, slice_set, IsSomeAnd, if◌then◌else◌, map}
 use Rattle.std.specs.List.{position_or_len}
 use Rattle.lang_base.specs.Texts.{same_text}
+use Rattle.lang_tree.specs.declared.method.Method.{Method}
 use Rattle.lang_core.specs.declared.ids.Origin.{Origin}
 use Rattle.lang_core.specs.declared.ids.Origin.TheVariants.{Outside, Call}
+use Rattle.lang_core.specs.declared.request.Request.{Request}
 use Rattle.request_log.specs.declared.entry.Entry.{Entry}
 use Rattle.request_log.specs.declared.entry.Made.{Made}
 
@@ -51,6 +53,21 @@ with_entry entry entries = slice_set entries (position_or_len (has_id entry.id) 
 abbrev pub with_run : Made → List ℕ → ℕ → ℕ → Entry → Entry
 with_run made slots answer_version runs e =
     record e { made = Some made; slots = slots; answer_version = answer_version; runs = runs }
+
+-- struck, or not any more
+abbrev pub mark : Bool → Entry → Entry
+mark struck e = record e { struck = struck }
+
+-- another method, path and body; who asked and the chain stay
+abbrev pub with_call : Method → List ℕ → List ℕ → Request → Request
+with_call method path body q = record q { method = method; path = path; body = body }
+
+abbrev pub replace : Method → List ℕ → List ℕ → Entry → Entry
+replace method path body e = record e { request = with_call method path body e.request }
+
+-- the entries, where the one of this number is changed so
+abbrev pub changed : ℕ → (Entry → Entry) → List Entry → List Entry
+changed id change entries = map (λ e. if has_id id e then change e else e) entries
 
 -- a log: its entries in order
 pub record Kept : Type 0 where

@@ -1,12 +1,12 @@
 // The log: entries in order.
-ghost use Rattle.std.specs.Prelude.{◌≡◌, ◌↔◌, ◌<◌, ◌≤◌, [], ◌∷◌, ◌++◌, length, find, position, insert, slice_get, slice_set, slice_index_or, OnOk, OnErr, IfOk, IsSome, IsTrue};
+ghost use Rattle.std.specs.Prelude.{◌≡◌, ◌↔◌, ◌<◌, ◌≤◌, [], ◌∷◌, ◌++◌, length, find, position, insert, slice_get, slice_set, slice_index_or, OnOk, OnErr, IfOk, IsSome, IsTrue, is_some};
 ghost use Rattle.std.specs.Option.{option_copied};
-ghost use Rattle.request_log.specs.Entries.{has_id, has_origin, IsNew, IsKnown, IsLog, with_entry, with_run};
+ghost use Rattle.request_log.specs.Entries.{changed, has_id, has_origin, mark, replace, IsNew, IsKnown, IsLog, with_entry, with_run};
 ghost use Rattle.request_log.specs.declared.entry.Entry.{Entry};
 
 use crate::entry::{Entry, Made, Numbers};
 use lang_base::copied_items;
-use lang_core::{Copied, Name, NoMemory, Origin, Same};
+use lang_core::{Copied, Method, Name, NoMemory, Origin, Same, Text};
 use std::alloc::{AllocFailed, Global};
 use std::marker::Model;
 
@@ -197,6 +197,37 @@ impl Log {
         entry.slots = slots;
         entry.answer_version = answer_version;
         entry.runs = runs;
+    }
+
+    /// Strikes the entry of a number, or takes that back; false exactly where there is none.
+    pub fn strike(&mut self, id: u64, struck: bool) -> bool
+        ensures entries { self.new.entries ≡ changed id (mark struck) self.old.entries }
+        ensures there { result ≡ is_some (find (has_id id) self.old.entries) }
+    {
+        match place_of(&self.items, id) {
+            None => false,
+            Some(place) => {
+                self.items[place].struck = struck;
+                true
+            }
+        }
+    }
+
+    /// Gives the entry of a number another method, path and body; false exactly where there is none.
+    pub fn rewrite(&mut self, id: u64, method: Method, path: Text, body: Text) -> bool
+        ensures entries { self.new.entries ≡ changed id (replace method path body) self.old.entries }
+        ensures there { result ≡ is_some (find (has_id id) self.old.entries) }
+    {
+        match place_of(&self.items, id) {
+            None => false,
+            Some(place) => {
+                let request = &mut self.items[place].request;
+                request.method = method;
+                request.path = path;
+                request.body = body;
+                true
+            }
+        }
     }
 }
 

@@ -8,12 +8,11 @@ use Rattle.std.proofs.lemmas.List.FromFn.{length-range_with_len, get_or-range_wi
 use Rattle.std.proofs.lemmas.List.Sorted.{All-permutation, IsPermutation-append_right, IsPermutation-insert, IsPermutation-to_front, IsPermutation-trans}
 use Rattle.lang_core.specs.declared.cells.Cell.{Cell}
 use Rattle.lang_core.specs.declared.ids.Origin.TheVariants.{Outside}
-use Rattle.request_log.specs.Entries.{has_id, find_call, IsNew}
+use Rattle.request_log.specs.Entries.{changed, has_id, find_call, IsNew}
 use Rattle.request_log.specs.declared.entry.Entry.{Entry}
 use Rattle.local_repair.specs.Current.{Consumed, after_entry}
 use Rattle.local_repair.specs.Tests.{is_current, step_with}
 use Rattle.service_core.specs.Events.{ids, AreCounted}
-use Rattle.service_core.specs.Orders.{changed}
 
 -- ---- one number more
 

@@ -1,43 +1,40 @@
 -- What each call that carries out an order answers and leaves.
-use Rattle.std.proofs.Common.{◌≡◌, ℕ, List, [], ◌∷◌, ◌++◌, Bool, true, false, None, Result, Ok, Err, IfOk, IfErr, refl, sym, ap, ◌∙◌}
+use Rattle.std.proofs.Common.{◌≡◌, ℕ, List, Bool, true, false, Ok, Err, refl, sym, ap, ◌∙◌}
 use Rattle.lang_core.specs.declared.inputs.Inputs.{Inputs}
-use Rattle.std.specs.List.{find}
-use Rattle.request_log.specs.Entries.{has_id, with_entry}
+use Rattle.request_log.specs.Entries.{changed, mark}
 use Rattle.request_log.specs.declared.entry.Entry.{Entry}
 use Rattle.service_core.specs.Events.{Kept}
-use Rattle.service_core.specs.Orders.{about, about_entry, changed, mark, marking, new_answer, ordered_entries, IsNewOrder}
+use Rattle.service_core.specs.Orders.{about_entry, after_new, marking, new_answer, noted, ordered_entries, IsAbout, IsNewOrder}
 use Rattle.service_core.specs.declared.answers.Command.{Command}
 use Rattle.service_core.specs.declared.answers.Ordered.{Ordered}
 use Rattle.service_core.specs.declared.answers.OrderRefused.{OrderRefused}
 use Rattle.service_core.specs.declared.answers.OrderRefused.TheVariants.{Full, NoSuchRequest, NoMemory}
-use Rattle.service_core.proofs.OrderLemmas.{Changes, known_entry, unknown_entry}
+use Rattle.service_core.specs.declared.tokens.Accepted.{Accepted}
 
 -- ---- an order about an entry
 
-pub amended : (change : Entry → Entry) (s s' : Kept) (command : Command) (token : List ℕ) (inputs : Inputs) (id : ℕ) (e : Entry) (r : Result Ordered OrderRefused)
-    → new_answer s command ≡ about_entry id s → ordered_entries s command inputs ≡ changed id change s.entries → Changes change s.setting id s.entries e
-    → IfOk r (λ o. (o ≡ about e.id) × (s' ≡ record s { entries = with_entry e s.entries; accepted = s.accepted ++ record { token = token; ordered = about e.id } ∷ [] }))
-    → IfErr r (λ why. (why ≡ NoMemory) × (s' ≡ s))
-    → IsNewOrder s command token inputs r s'
-amended change s s' command token inputs id e (Ok o) answers entries c ok err =
-    let answer : new_answer s command ≡ Ok (about id) = answers ∙ known_entry s id c.known in
-    let same : o ≡ about id = ok.0 ∙ ap about c.names in
-    rw answer (
-      ap Ok same,
-      ok.1 ∙ ap (λ n. record s { entries = with_entry e s.entries; accepted = s.accepted ++ record { token = token; ordered = about n } ∷ [] }) c.names
-          ∙ ap (λ l. record s { entries = l; accepted = s.accepted ++ record { token = token; ordered = about id } ∷ [] }) (c.puts ∙ sym entries),
+pub about_done : (s : Kept) (command : Command) (token : List ℕ) (inputs : Inputs) (id : ℕ) (change : Entry → Entry) (o : Ordered) (es : List Entry) (accepted : List Accepted)
+    → new_answer s command ≡ about_entry id s.entries → ordered_entries s command inputs ≡ changed id change s.entries
+    → Ok o ≡ about_entry id s.entries → es ≡ changed id change s.entries → accepted ≡ noted token o s.accepted
+    → IsNewOrder s command token inputs (Ok o) (record s { entries = es; accepted = accepted })
+about_done s command token inputs id change o es accepted answers entries is changes notes =
+    let answer : Ok o ≡ new_answer s command = is ∙ sym answers in (
+      answer,
+      ap (λ l. record s { entries = l; accepted = accepted }) (changes ∙ sym entries)
+          ∙ ap (λ a. record s { entries = ordered_entries s command inputs; accepted = a }) notes ∙ ap (after_new s command token inputs) answer,
     )
-amended change s s' command token inputs id e (Err NoMemory) answers entries c ok err = err.1
-amended change s s' command token inputs id e (Err (NoSuchRequest n)) answers entries c ok err = let wrong = err.0 in cc
-amended change s s' command token inputs id e (Err (Full n)) answers entries c ok err = let wrong = err.0 in cc
 
-pub unknown : (s : Kept) (command : Command) (token : List ℕ) (inputs : Inputs) (id : ℕ) → new_answer s command ≡ about_entry id s → find (has_id id) s.entries ≡ None
-    → IsNewOrder s command token inputs (Err (NoSuchRequest id)) s
-unknown s command token inputs id answers none = let answer : new_answer s command ≡ Err (NoSuchRequest id) = answers ∙ unknown_entry s id none in rw answer (refl, refl)
+pub about_refused : (s s' : Kept) (command : Command) (token : List ℕ) (inputs : Inputs) (id : ℕ) (why : OrderRefused) → new_answer s command ≡ about_entry id s.entries
+    → IsAbout id s.entries (Err why) → s' ≡ s → IsNewOrder s command token inputs (Err why) s'
+about_refused s s' command token inputs id NoMemory answers is same = same
+about_refused s s' command token inputs id (NoSuchRequest n) answers is same =
+    let answer : Err (NoSuchRequest n) ≡ new_answer s command = is ∙ sym answers in (answer, same ∙ ap (after_new s command token inputs) answer)
+about_refused s s' command token inputs id (Full n) answers is same =
+    let answer : Err (Full n) ≡ new_answer s command = is ∙ sym answers in (answer, same ∙ ap (after_new s command token inputs) answer)
 
 -- ---- an order that strikes an entry, or takes that back
 
-pub mark_answer : (s : Kept) (struck : Bool) (id : ℕ) → new_answer s (marking struck id) ≡ about_entry id s
+pub mark_answer : (s : Kept) (struck : Bool) (id : ℕ) → new_answer s (marking struck id) ≡ about_entry id s.entries
 mark_answer s true id = refl
 mark_answer s false id = refl
 

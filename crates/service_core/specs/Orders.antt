@@ -1,11 +1,10 @@
 -- What an order answers, and what it makes of a service.
-use Rattle.std.specs.Prelude.{ℕ, ◌≡◌, Bool, true, false, List, [], ◌∷◌, ◌++◌, Option, Some, None, Result, Ok, Err, if◌then◌else◌, map, length, find, insert, is_some, option_map}
+use Rattle.std.specs.Prelude.{ℕ, ◌≡◌, Bool, true, false, List, [], ◌∷◌, ◌++◌, Option, Some, None, Result, Ok, Err, if◌then◌else◌, length, find, insert, is_some, option_map}
 use Rattle.lang_base.specs.Texts.{same_text}
-use Rattle.lang_tree.specs.declared.method.Method.{Method}
 use Rattle.lang_core.specs.declared.ids.Origin.TheVariants.{Outside}
 use Rattle.lang_core.specs.declared.inputs.Inputs.{Inputs}
 use Rattle.lang_core.specs.declared.request.Request.{Request}
-use Rattle.request_log.specs.Entries.{has_id}
+use Rattle.request_log.specs.Entries.{changed, has_id, mark, replace}
 use Rattle.request_log.specs.declared.entry.Entry.{Entry}
 use Rattle.create_placement.specs.Placement.{place_of}
 use Rattle.service_core.specs.Events.{Kept, is_full, next_id}
@@ -25,27 +24,16 @@ has_token token a = same_text a.token token
 abbrev pub given : List ℕ → List Accepted → Option Ordered
 given token accepted = option_map (λ (a : Accepted). a.ordered) (find (has_token token) accepted)
 
+-- with an order that was accepted now
+abbrev pub noted : List ℕ → Ordered → List Accepted → List Accepted
+noted token ordered accepted = accepted ++ record { token = token; ordered = ordered } ∷ []
+
 -- ---- what an order makes of the entry that it names
 
--- struck, or not any more
-abbrev pub mark : Bool → Entry → Entry
-mark struck e = record e { struck = struck }
-
--- the order that does so
+-- the order that strikes it, or takes that back
 abbrev pub marking : Bool → ℕ → Command
 marking true id = Cancel id
 marking false id = Restore id
-
--- another method, path and body; who asked and the chain stay
-abbrev pub with_call : Method → List ℕ → List ℕ → Request → Request
-with_call method path body q = record q { method = method; path = path; body = body }
-
-abbrev pub replace : Method → List ℕ → List ℕ → Entry → Entry
-replace method path body e = record e { request = with_call method path body e.request }
-
--- the entries, where the one of this number is changed so
-abbrev pub changed : ℕ → (Entry → Entry) → List Entry → List Entry
-changed id change entries = map (λ e. if has_id id e then change e else e) entries
 
 -- the entry of a request that never ran
 abbrev pub created : ℕ → Request → Inputs → Entry
@@ -66,22 +54,19 @@ created id request inputs =
 
 -- ---- an order
 
-abbrev pub has_entry : ℕ → Kept → Bool
-has_entry id s = is_some (find (has_id id) s.entries)
-
 -- every order is allowed, by rule 1
 abbrev pub about : ℕ → Ordered
 about id = record { about = id; rule = 1 }
 
 -- an order about an entry
-abbrev pub about_entry : ℕ → Kept → Result Ordered OrderRefused
-about_entry id s = if has_entry id s then Ok (about id) else Err (NoSuchRequest id)
+abbrev pub about_entry : ℕ → List Entry → Result Ordered OrderRefused
+about_entry id entries = if is_some (find (has_id id) entries) then Ok (about id) else Err (NoSuchRequest id)
 
 -- what an order whose token is new is answered
 abbrev pub new_answer : Kept → Command → Result Ordered OrderRefused
-new_answer s (Cancel id) = about_entry id s
-new_answer s (Restore id) = about_entry id s
-new_answer s (Replace id method path body) = about_entry id s
+new_answer s (Cancel id) = about_entry id s.entries
+new_answer s (Restore id) = about_entry id s.entries
+new_answer s (Replace id method path body) = about_entry id s.entries
 new_answer s (Create before after request) = if is_full s then Err (Full (length s.entries)) else Ok (about (next_id s))
 
 -- the entries after such an order, accepted
@@ -95,7 +80,7 @@ ordered_entries s (Create before after request) inputs =
 -- the service after such an order, which is noted where it was accepted
 abbrev pub after_new : Kept → Command → List ℕ → Inputs → Result Ordered OrderRefused → Kept
 after_new s command token inputs (Ok ordered) =
-    record s { entries = ordered_entries s command inputs; accepted = s.accepted ++ record { token = token; ordered = ordered } ∷ [] }
+    record s { entries = ordered_entries s command inputs; accepted = noted token ordered s.accepted }
 after_new s command token inputs (Err why) = s
 
 -- an order whose token was given gets the answer of then
@@ -123,6 +108,13 @@ IsOrder s command token inputs (Err (NoSuchRequest id)) s' =
 IsOrder s command token inputs (Err (Full n)) s' =
     (Err (Full n) ≡ order_answer s command token) × (s' ≡ after_order s command token inputs)
 IsOrder s command token inputs (Ok o) s' = (Ok o ≡ order_answer s command token) × (s' ≡ after_order s command token inputs)
+
+-- what a call may answer of an order about an entry: what is so, or want of memory
+abbrev pub IsAbout : ℕ → List Entry → Result Ordered OrderRefused → Type 0
+IsAbout id entries (Err NoMemory) = Unit {0}
+IsAbout id entries (Err (NoSuchRequest n)) = Err (NoSuchRequest n) ≡ about_entry id entries
+IsAbout id entries (Err (Full n)) = Err (Full n) ≡ about_entry id entries
+IsAbout id entries (Ok o) = Ok o ≡ about_entry id entries
 
 -- the same of an order whose token is new
 abbrev pub IsNewOrder : Kept → Command → List ℕ → Inputs → Result Ordered OrderRefused → Kept → Type 0

@@ -1,16 +1,18 @@
 // A service: what it is set to do, its log, and its accepted orders.
-ghost use Rattle.std.specs.Prelude.{◌≡◌, ℕ, [], ◌∷◌, length, Ok, IfOk, IfNone, OnOk, OnErr, MatchOption};
+ghost use Rattle.std.specs.Prelude.{◌≡◌, ◌<◌, ◌+◌, ℕ, [], ◌∷◌, ◌++◌, length, Ok, IfOk, IfNone, OnOk, OnErr, MatchOption};
 ghost use Rattle.execution.specs.Executions.{IsLegal};
 ghost use Rattle.local_repair.specs.Current.{AllCurrent, IsCurrent, IsFirstStale, rows_of};
 ghost use Rattle.local_repair.specs.Repairs.{IsStaleId};
 ghost use Rattle.local_repair.specs.Alone.{no_registers, trace_on};
 ghost use Rattle.local_repair.specs.Steps.{StepsTo};
-ghost use Rattle.service_core.specs.Events.{arrival, committed, history, unanswered, stale_id, Fits, IsArrival, IsStep, ReplaysBefore, SettlesWithin};
+ghost use Rattle.service_core.specs.Events.{arrival, committed, history, ids, unanswered, stale_id, AreCounted, Fits, IsArrival, IsStep, ReplaysBefore, SettlesWithin};
 
 use crate::answers::{ArriveRefused, Arrived};
 use crate::tokens::Tokens;
 use handler_run::{Ran, RowsView, run};
-use lang_core::{Answers, Cells, Copied, Inputs, NoMemory, Origin, Request, Seq, Setting, Trace};
+use lang_core::{
+    Answers, Cells, Copied, Inputs, NoMemory, Origin, Request, Response, Seq, Setting, Trace,
+};
 use local_repair::{NoSlots, Repairer, Stepped};
 use request_log::{Entry, Log, LogFull, MOST_ENTRIES, Made};
 use std::alloc::Global;
@@ -100,6 +102,89 @@ fn committed(
     })
 }
 
+// What a request does at the end of the log.
+fn trace_at_end(
+    alloc: Global,
+    setting: &Setting,
+    repairer: &Repairer,
+    request: &Request,
+    inputs: &Inputs,
+) -> Result<Trace, NoMemory>
+    requires { setting.now.peers ≡ [] }
+    ensures { IfOk result (λ trace. trace ≡ trace_on setting.now request.now inputs.now (rows_of repairer.now.entries)) }
+{
+    let rows = repairer.rows(alloc)?;
+    trace_on(alloc, setting, request, inputs, &rows)
+}
+
+// The entry that a request becomes, and what it is answered.
+#[derive(Drop)]
+struct Outcome {
+    entry: Entry,
+    response: Response,
+}
+
+// An entry that did this, and its response.
+fn answering(
+    alloc: Global,
+    id: u64,
+    request: Request,
+    inputs: Inputs,
+    trace: Trace,
+) -> Result<Outcome, NoMemory>
+    ensures { IfOk result (λ a. (a.entry ≡ committed id request inputs trace) × (a.response ≡ trace.response)) }
+{
+    let response = trace.response.copied(alloc)?;
+    let entry = committed(alloc, id, request, inputs, trace)?;
+    Ok(Outcome { entry, response })
+}
+
+// The same of what it does at the end of the log.
+fn arriving(
+    alloc: Global,
+    setting: &Setting,
+    repairer: &Repairer,
+    id: u64,
+    request: Request,
+    inputs: Inputs,
+) -> Result<Outcome, NoMemory>
+    requires { setting.now.peers ≡ [] }
+    ensures { IfOk result (λ a.
+        (a.entry ≡ committed id request inputs (trace_on setting.now request inputs (rows_of repairer.now.entries)))
+        × (a.response ≡ (trace_on setting.now request inputs (rows_of repairer.now.entries)).response)) }
+{
+    let trace = trace_at_end(alloc, setting, repairer, &request, &inputs)?;
+    answering(alloc, id, request, inputs, trace)
+}
+
+// Logs a request as the last entry, under the next number, with what it does at the end of the log. Refused, the log
+// stays.
+fn log_arrival(
+    alloc: Global,
+    setting: &Setting,
+    repairer: &mut Repairer,
+    id: u64,
+    request: Request,
+    inputs: Inputs,
+) -> Result<Response, NoMemory>
+    requires no_peers { setting.now.peers ≡ [] }
+    requires counted { AreCounted (ids repairer.old.entries) }
+    requires next { id ≡ length repairer.old.entries + 1 }
+    requires room { length repairer.old.entries < 100000 }
+    ensures ok { IfOk result (λ response.
+        (repairer.new.entries ≡ repairer.old.entries ++ committed id request inputs (trace_on setting.now request inputs (rows_of repairer.old.entries)) ∷ [])
+        × (response ≡ (trace_on setting.now request inputs (rows_of repairer.old.entries)).response)) }
+    ensures err { OnErr result (repairer.new ≡ repairer.old) }
+{
+    let outcome = arriving(alloc, setting, repairer, id, request, inputs)?;
+    let Outcome { entry, response } = outcome;
+    match repairer.append(entry) {
+        Ok(()) => Ok(response),
+        Err(LogFull::NoMemory) => Err(NoMemory),
+        Err(LogFull::Full) => unreachable!(),
+    }
+}
+
 impl Service {
     /// A service that has answered nothing yet.
     pub fn new(alloc: Global, setting: Setting) -> Service
@@ -154,16 +239,16 @@ impl Service {
         if count >= MOST_ENTRIES {
             return Err(ArriveRefused::Full(count));
         }
-        let rows = self.repairer.rows(alloc)?;
-        let trace = trace_on(alloc, &self.setting, &request, &inputs, &rows)?;
-        let response = trace.response.copied(alloc)?;
         let id = count + 1;
-        let entry = committed(alloc, id, request, inputs, trace)?;
-        match self.repairer.append(entry) {
-            Ok(()) => Ok(Arrived::Done { id, response }),
-            Err(LogFull::NoMemory) => Err(ArriveRefused::NoMemory),
-            Err(LogFull::Full) => unreachable!(),
-        }
+        let response = log_arrival(
+            alloc,
+            &self.setting,
+            &mut self.repairer,
+            id,
+            request,
+            inputs,
+        )?;
+        Ok(Arrived::Done { id, response })
     }
 
     /// Runs the first stale entry again, if there is one; where there is none, the answer is Idle and takes no memory. As

@@ -1,6 +1,6 @@
 // The tokens of accepted orders.
 ghost use Rattle.std.specs.Prelude.{◌≡◌, [], ◌∷◌, ◌++◌, OnOk, OnErr, List};
-ghost use Rattle.service_core.specs.Orders.{given, has_token};
+ghost use Rattle.service_core.specs.Orders.{given, has_token, noted};
 ghost use Rattle.service_core.specs.declared.tokens.Accepted.{Accepted};
 
 use crate::answers::Ordered;
@@ -63,7 +63,7 @@ impl Tokens {
 
     /// Notes an accepted order as the last. Refused, nothing changes.
     pub fn note(&mut self, token: Text, ordered: Ordered) -> Result<(), NoMemory>
-        ensures ok { OnOk result (self.new ≡ self.old ++ record { token = token; ordered = ordered } ∷ []) }
+        ensures ok { OnOk result (self.new ≡ noted token ordered self.old) }
         ensures err { OnErr result (self.new ≡ self.old) }
     {
         self.items.push(Accepted { token, ordered })?;

@@ -1,60 +1,29 @@
 // Orders of an operator.
-ghost use Rattle.std.specs.Prelude.{◌≡◌, [], ◌∷◌, ◌++◌, Ok, IfOk, IfErr, IfSome, OnErr, find, option_map};
+ghost use Rattle.std.specs.Prelude.{◌≡◌, Ok, IfOk, IfSome, OnErr};
 ghost use Rattle.lang_core.specs.declared.inputs.Inputs.{Inputs};
-ghost use Rattle.request_log.specs.Entries.{has_id, IsDistinct, with_entry};
-ghost use Rattle.local_repair.specs.Repairs.{IsAmended};
-ghost use Rattle.service_core.specs.Events.{Fits};
-ghost use Rattle.service_core.specs.Orders.{about, created, given, mark, marking, replace, IsNewOrder, IsOrder};
+ghost use Rattle.service_core.specs.Orders.{created, given, marking, noted, IsAbout, IsNewOrder, IsOrder};
 ghost use Rattle.service_core.specs.declared.answers.Command.TheVariants.{Create, Replace};
-ghost use Rattle.service_core.specs.declared.answers.OrderRefused.TheVariants.{NoMemory as MemoryLacks};
 
 use super::Service;
 use crate::answers::{Command, OrderRefused, Ordered};
+use crate::tokens::Tokens;
 use create_placement::place;
-use lang_core::{Copied, Inputs, Method, NoMemory, Origin, Request, Seq, Text};
+use lang_core::{Inputs, Method, Origin, Request, Seq, Text};
 use request_log::{Entry, Log, LogFull, MOST_ENTRIES};
 use std::alloc::Global;
 
-// The entry of a number, struck or not; None where there is none.
-fn marked_entry(alloc: Global, log: &Log, id: u64, struck: bool) -> Result<Option<Entry>, NoMemory>
-    ensures entry { IfOk result (λ entry. entry ≡ option_map (mark struck) (find (has_id id) log.now.entries)) }
-    ensures distinct { IsDistinct log.now.entries }
+// Notes an order about an entry, which has to be there. Refused, nothing changes.
+fn note_about(tokens: &mut Tokens, log: &Log, id: u64, token: Text) -> Result<Ordered, OrderRefused>
+    ensures answer { IsAbout id log.now.entries result }
+    ensures ok { IfOk result (λ ordered. tokens.new ≡ noted token ordered tokens.old) }
+    ensures err { OnErr result (tokens.new ≡ tokens.old) }
 {
-    // The type of the log keeps that no number stands twice.
-    let _entries = log.as_slice();
-    match log.find(id) {
-        None => Ok(None),
-        Some(entry) => {
-            let mut entry = entry.copied(alloc)?;
-            entry.struck = struck;
-            Ok(Some(entry))
-        }
+    if log.find(id).is_none() {
+        return Err(OrderRefused::NoSuchRequest(id));
     }
-}
-
-// The entry of a number, with another method, path and body; None where there is none.
-fn replaced_entry(
-    alloc: Global,
-    log: &Log,
-    id: u64,
-    method: Method,
-    path: Text,
-    body: Text,
-) -> Result<Option<Entry>, NoMemory>
-    ensures entry { IfOk result (λ entry. entry ≡ option_map (replace method path body) (find (has_id id) log.now.entries)) }
-    ensures distinct { IsDistinct log.now.entries }
-{
-    let _entries = log.as_slice();
-    match log.find(id) {
-        None => Ok(None),
-        Some(entry) => {
-            let mut entry = entry.copied(alloc)?;
-            entry.request.method = method;
-            entry.request.path = path;
-            entry.request.body = body;
-            Ok(Some(entry))
-        }
-    }
+    let ordered = Ordered { about: id, rule: 1 };
+    tokens.note(token, ordered)?;
+    Ok(ordered)
 }
 
 // The entry of a request that never ran.
@@ -110,14 +79,14 @@ impl Service {
         ensures setting { self.new.setting ≡ self.old.setting }
     {
         match command {
-            Command::Cancel(id) => self.mark(alloc, id, true, token),
-            Command::Restore(id) => self.mark(alloc, id, false, token),
+            Command::Cancel(id) => self.strike(id, true, token),
+            Command::Restore(id) => self.strike(id, false, token),
             Command::Replace {
                 id,
                 method,
                 path,
                 body,
-            } => self.replace(alloc, id, method, path, body, token),
+            } => self.rewrite(id, method, path, body, token),
             Command::Create {
                 before,
                 after,
@@ -127,25 +96,18 @@ impl Service {
     }
 
     // Strikes an entry, or takes that back.
-    fn mark(
-        &mut self,
-        alloc: Global,
-        id: u64,
-        struck: bool,
-        token: Text,
-    ) -> Result<Ordered, OrderRefused>
+    fn strike(&mut self, id: u64, struck: bool, token: Text) -> Result<Ordered, OrderRefused>
         ensures order { (inputs : Inputs) → IsNewOrder self.old (marking struck id) token inputs result self.new }
         ensures setting { self.new.setting ≡ self.old.setting }
     {
-        match marked_entry(alloc, self.repairer.log(), id, struck)? {
-            None => Err(OrderRefused::NoSuchRequest(id)),
-            Some(entry) => self.amend(entry, token),
-        }
+        let ordered = note_about(&mut self.tokens, self.repairer.log(), id, token)?;
+        let _there = self.repairer.strike(id, struck);
+        Ok(ordered)
     }
 
-    fn replace(
+    // Gives an entry another method, path and body.
+    fn rewrite(
         &mut self,
-        alloc: Global,
         id: u64,
         method: Method,
         path: Text,
@@ -155,26 +117,8 @@ impl Service {
         ensures order { (inputs : Inputs) → IsNewOrder self.old (Replace id method path body) token inputs result self.new }
         ensures setting { self.new.setting ≡ self.old.setting }
     {
-        match replaced_entry(alloc, self.repairer.log(), id, method, path, body)? {
-            None => Err(OrderRefused::NoSuchRequest(id)),
-            Some(entry) => self.amend(entry, token),
-        }
-    }
-
-    // Puts an entry in place of the one that it amends, and notes the order.
-    fn amend(&mut self, entry: Entry, token: Text) -> Result<Ordered, OrderRefused>
-        requires amends { IsAmended entry self.old.entries }
-        requires fits { Fits self.old.setting (with_entry entry self.old.entries) }
-        ensures ok { IfOk result (λ ordered. (ordered ≡ about entry.id)
-            × (self.new ≡ record self.old { entries = with_entry entry self.old.entries; accepted = self.old.accepted ++ record { token = token; ordered = about entry.id } ∷ [] })) }
-        ensures err { IfErr result (λ why. (why ≡ MemoryLacks) × (self.new ≡ self.old)) }
-    {
-        let ordered = Ordered {
-            about: entry.id,
-            rule: 1,
-        };
-        self.tokens.note(token, ordered)?;
-        self.repairer.amend(entry);
+        let ordered = note_about(&mut self.tokens, self.repairer.log(), id, token)?;
+        let _there = self.repairer.rewrite(id, method, path, body);
         Ok(ordered)
     }
 
