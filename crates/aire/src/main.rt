@@ -1,28 +1,67 @@
 //! Runs a script over the files and standard streams of the machine.
 #![tactic(auto)]
 
-use aire_top::aire;
+ghost use Rattle.std.specs.Prelude.{◌≡◌, IfOk, codes, string_bytes};
+ghost use Rattle.std.specs.Str.{IsUtf8};
+
+use aire_top::{aire, lacking_status};
 use io_edge::{Reading, RealFiles, Writing};
-use std::alloc::Global;
+use std::alloc::{AllocError, Global};
+use std::env::{Env, FillError};
+use std::io;
 use std::process::ExitCode;
-use std::rt::Env;
-use std::{env, io};
+
+// The most bytes of a word and a zero behind it: the system hands over no longer one.
+const LONGEST_WORD: usize = 131072;
+
+// The word of these bytes. One that isn't UTF-8 fits nowhere, and neither does what stands for it.
+fn word_of(alloc: Global, bytes: &[u8]) -> Result<String, AllocError>
+    ensures text { IfOk result (λ word. IsUtf8 bytes.now → string_bytes word ≡ bytes.now) }
+    ensures other { IfOk result (λ word. ¬ (IsUtf8 bytes.now) → string_bytes word ≡ codes "--") }
+{
+    match str::from_utf8(bytes) {
+        Ok(text) => String::from_str(alloc, text),
+        Err(_) => String::from_str(alloc, "--"),
+    }
+}
+
+// The word of this index, counted from the program's name, if there is one.
+fn word_at(
+    rt: &impl Env,
+    alloc: Global,
+    room: &mut [u8],
+    i: usize,
+) -> Result<Option<String>, AllocError> {
+    match rt.arg(i, room) {
+        Ok(n) => Ok(Some(word_of(alloc, &room[..n])?)),
+        Err(FillError::TooLong) => Ok(Some(String::from_str(alloc, "--")?)),
+        Err(FillError::NotPresent) => Ok(None),
+    }
+}
 
 // The words after the program's name.
-fn words_of(rt: &(impl Env + AllocGlobal), alloc: Global) -> io::Result<Vec<String>> {
+fn words_of(rt: &impl Env, alloc: Global) -> Result<Vec<String>, AllocError> {
+    let mut room = vec![in alloc; 0u8; LONGEST_WORD]?;
     let mut words = Vec::new(alloc);
-    for word in env::args(rt)?.skip(1) {
+    for i in 1..usize::MAX {
+        let Some(word) = word_at(rt, alloc, &mut room, i)? else {
+            break;
+        };
         words.push(word)?;
     }
     Ok(words)
 }
 
-fn main(rt: HostRuntime) -> io::Result<ExitCode> {
+fn main(rt: HostRuntime) -> ExitCode {
     let alloc = rt.alloc();
-    let words = words_of(&rt, alloc)?;
-    let mut files = RealFiles::new(alloc, &rt);
-    let mut input = Reading::new(rt.reader());
     let mut out = Writing::new(io::writer(&rt));
-    let ended = aire(alloc, &words, &mut files, &mut input, &mut out);
-    Ok(ExitCode::from(ended.status))
+    match words_of(&rt, alloc) {
+        Ok(words) => {
+            let mut files = RealFiles::new(alloc, &rt);
+            let mut input = Reading::new(rt.reader());
+            let ended = aire(alloc, &words, &mut files, &mut input, &mut out);
+            ExitCode::from(ended.status)
+        }
+        Err(_) => ExitCode::from(lacking_status(&mut out)),
+    }
 }

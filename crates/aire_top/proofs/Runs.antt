@@ -1,123 +1,306 @@
 -- What follows for a whole run.
-use Rattle.std.specs.Option.{ForSome, IsSomeAnd}
-use Rattle.std.proofs.Common.{◌≡◌, ◌≢◌, ◌⊎◌, ℕ, zero, suc, ◌<◌, ◌≤◌, inl, inr, List, [], ◌∷◌, ◌++◌, Option, Some, None, Ok, Err, length, nat_lt, refl, ap, sym, subst, ◌∙◌, arith, rules, tests, true, false}
+use Rattle.std.specs.Option.{ForSome}
+use Rattle.std.proofs.Common.{◌≡◌, ◌⊎◌, ℕ, ◌<◌, ◌≤◌, Bool, true, false, inl, inr, List, [], ◌∷◌, ◌++◌, Option, Some, None, Result, Ok, Err, OnOk, OnErr, length, nat_lt, codes, refl, ap, sym, subst, ◌∙◌, append_assoc, arith, rules, tests}
+use Rattle.std.proofs.lemmas.List.{append-nil}
 use Rattle.execution.specs.Executions.{History, IsLegal}
-use Rattle.io_edge.specs.Edge.{Wrote, Rose}
-use Rattle.io_edge.proofs.Pieces.{front_more, wrote_more}
+use Rattle.io_edge.specs.Edge.{IsFront, ReadFails, Reads, WriteFails, Writes, Wrote, WroteFront, WroteShort}
+use Rattle.io_edge.specs.Files.{LoadFails, Loads}
+use Rattle.io_edge.proofs.Pieces.{front_whole, wrote_more}
 use Rattle.journal_rows.specs.declared.verdict.Verdict.{Verdict}
 use Rattle.journal_rows.specs.declared.verdict.Verdict.TheVariants.{Legal, Forged, Unsettled}
 use Rattle.service_core.specs.Events.{Kept}
-use Rattle.world_core.specs.Verdicts.{IsLegalIf}
+use Rattle.world_core.specs.Verdicts.{IsLegalIf, verdict}
 use Rattle.world_core.specs.Worlds.{World}
 use Rattle.script_run.specs.Plays.{Played, played, run_of_script}
-use Rattle.script_run.specs.Stops.{DoesAll, StopsEarly, IsRefusedAt}
+use Rattle.script_run.specs.Stops.{DoesAll, IsRefusedAt, StopsEarly, StopsInLine}
+use Rattle.script_run.proofs.Playing.{early_front, line_early}
+use Rattle.world_file.specs.Numbers.{refusal_text}
 use Rattle.world_file.specs.declared.setup.Setup.{Setup}
-use Rattle.aire_top.specs.Top.{Ends, ForThere, IsStatus, HasNone, HasVerdict, Is, IsGoodRun, IsNoWorld, IsRefused, IsStopped, Stands, Told, WorldOrRefusal, refused_line, run_of, world_line}
+use Rattle.aire_top.specs.Causes.{what_of}
+use Rattle.aire_top.specs.Closings.{Closes, ClosesWorldless, IsGot, RunsIn}
+use Rattle.aire_top.specs.Endings.{Answer, Asked, ByScript, EndsWith, IsGoodRun, LacksInScript, LacksMemory, Outside, RunEnds, ScriptEnds, Untouched, answer, lacking_line, nothing, of_service, outside, refused_line, unread_line, usage_line, world_line}
+use Rattle.aire_top.specs.Top.{Is, WorldOrRefusal, Words, fitting, fresh, is_input, misfit, script_told, script_word, words_of, world_path, world_told, world_word}
+use Rattle.aire_top.specs.declared.loading.NoWorld.{NoWorld}
+use Rattle.aire_top.specs.declared.loading.NoWorld.TheVariants.{NoMemory, Failed as LoadFailed, TooLong, Refused}
+
+-- ---- last lines
+
+fails_since : (a b c : Writes) → a.faults ≤ b.faults → WriteFails b c → WriteFails a c
+fails_since a b c h r = λ small. omega (arith, h, r small)
+
+fails_until : (a b c : Writes) → b.faults ≤ c.faults → WriteFails a b → WriteFails a c
+fails_until a b c h r = λ small. omega (arith, h, r (omega (arith, h, small)))
+
+or_since : (front line : List ℕ) (a b c : Writes) → a.faults ≤ b.faults → (front ≡ line) ⊎ WriteFails b c → (front ≡ line) ⊎ WriteFails a c
+or_since front line a b c h (inl whole) = inl whole
+or_since front line a b c h (inr fails) = inr (fails_since a b c h fails)
+
+-- a text was written, and then a last line
+pub ends_behind : (a b c : Writes) (text line : List ℕ) → Wrote a b text → a.faults ≤ b.faults → EndsWith b c [] line → EndsWith a c text line
+ends_behind a b c text line f h e = record {
+  front = e.front;
+  of_line = e.of_line;
+  wrote = wrote_more a b c text e.front f e.wrote;
+  whole = or_since e.front line a b c h e.whole;
+}
+
+front_of_nothing : (front rest : List ℕ) → [] ≡ front ++ rest → front ≡ []
+front_of_nothing [] rest e = refl
+front_of_nothing (x ∷ front) rest e = cc
+
+-- a text was written, and then nothing
+nothing_more : (a b c : Writes) (text : List ℕ) → Wrote a b text → EndsWith b c [] [] → Wrote a c text
+nothing_more a b c text f e =
+    let none = front_of_nothing e.front e.of_line.0 e.of_line.1 in
+    let W : List ℕ → Type 0 = λ x. Wrote a c x in
+    subst W (ap (λ (x : List ℕ). text ++ x) none ∙ append-nil text) (wrote_more a b c text e.front f e.wrote)
+
+-- what writing a last line comes to
+pub last_ends : {X E : Type 0} (a b : Writes) (line : List ℕ) (r : Result X E) → OnOk r (Wrote a b line) → OnErr r (WroteShort a b line) → OnErr r (WriteFails a b) → EndsWith a b [] line
+last_ends a b line (Ok x) whole short fails = record { front = line; of_line = ([], sym (append-nil line)); wrote = whole; whole = inl refl }
+last_ends a b line (Err e) whole short fails = record { front = short.0; of_line = (short.1, short.2); wrote = short.4; whole = inr fails }
+
+-- nothing is written
+pub ends_now : (a : Writes) → EndsWith a a [] []
+ends_now a = record { front = []; of_line = ([], refl); wrote = λ all told. told ∙ ap Some (sym (append-nil all)); whole = inl refl }
+
+-- the services are that of a world of one
+pub closes_alone : (service : Kept) (services : List Kept) (a b : Writes) (line : List ℕ) (ans : Answer) → services ≡ service ∷ [] → Closes a b (answer 3 services (Some (verdict services))) line ans → Closes a b (of_service 3 service) line ans
+closes_alone service services a b line ans alone ends =
+    let P : List Kept → Type 0 = λ x. Closes a b (answer 3 x (Some (verdict x))) line ans in
+    subst P alone ends
+
+pub closed_alone : (status : ℕ) (service : Kept) (services : List Kept) (a : Writes) (ans : Answer) → services ≡ service ∷ [] → ans ≡ answer status services (Some (verdict services)) → Closes a a (of_service status service) [] ans
+closed_alone status service services a ans alone is =
+    let P : List Kept → Type 0 = λ x. ans ≡ answer status x (Some (verdict x)) in
+    inl (subst P alone is, ends_now a)
+
+-- ---- a script in a world
 
 run_of-long : (start : World) (script : List ℕ) → 16777216 < length script → run_of_script start script ≡ record { world = start; out = []; refused = Some (0, 7) }
 run_of-long start script long = let e : nat_lt 16777216 (length script) ≡ true = search (tests, rules) in rw e refl
 
-pub run_of-short : (start : World) (script : List ℕ) → length script ≤ 16777216 → run_of_script start script ≡ played start script
+run_of-short : (start : World) (script : List ℕ) → length script ≤ 16777216 → run_of_script start script ≡ played start script
 run_of-short start script short = let e : nat_lt 16777216 (length script) ≡ false = search (tests, rules) in rw e refl
 
-none_some : {X : Type 0} {x : X} → None ≡ Some x → ⊥
-none_some h = cc
+service_of : (p q : Played) (world : World) (service : Kept) → p ≡ q → world ≡ q.world → service ≡ world.service → service ≡ p.world.service
+service_of p q world service same done is = is ∙ ap (λ (w : World). w.service) (done ∙ sym (ap (λ (x : Played). x.world) same))
 
-rose_since : (a b c : ℕ) → a ≤ b → Rose b c → Rose a c
-rose_since a b c h r = λ small. omega (arith, h, r small)
-
-ends_behind : (a b c : Option (List ℕ)) (before mid now : ℕ) (xs text : List ℕ) → Wrote a b xs → before ≤ mid → Ends b c mid now text → Ends a c before now (xs ++ text)
-ends_behind a b c before mid now xs text f h (inl whole) = inl (wrote_more a b c xs text f whole)
-ends_behind a b c before mid now xs text f h (inr front) = inr (front_more a b c xs text f front.0, rose_since before mid now h front.1)
-
--- a script that is too long
-pub too_long : (start : World) (script : List ℕ) (services : List Kept) (a c : Option (List ℕ)) (before now : ℕ) → 16777216 < length script → services ≡ start.service ∷ [] → Ends a c before now (refused_line 0 7) → IsRefused (run_of_script start script) services a c before now
-too_long start script services a c before now long e ends =
-    let p = run_of-long start script long in
-    let E : List ℕ → Type 0 = λ x. Ends a c before now (x ++ refused_line 0 7) in
+-- memory is wanting when some of what the script prints is written
+lacks_behind : (start : World) (script : List ℕ) (a b c : Writes) (ans : Answer) → length script ≤ 16777216 → WroteFront a b (played start script).out → a.faults ≤ b.faults → LacksMemory b c ans
+    → LacksInScript (run_of_script start script) a c ans
+lacks_behind start script a b c ans short f h lacks =
+    let F : Played → Type 0 = λ p. IsFront f.0 p.out in
     record {
-      line = 0;
-      number = 7;
-      at_line = ap (λ (q : Played). q.refused) p;
-      same_services = e ∙ ap (λ (w : World). w.service ∷ []) (sym (ap (λ (q : Played). q.world) p));
-      ends = subst E (sym (ap (λ (q : Played). q.out) p)) ends;
+      answered = lacks.answered;
+      front = f.0;
+      of_script = subst F (sym (run_of-short start script short)) f.1;
+      ends = ends_behind a b c f.0 lacking_line f.2 h lacks.ends;
     }
 
--- the same, of a service that is known to be this one
-pub too_long_of : (service : Kept) (start : World) (script : List ℕ) (services : List Kept) (a c : Option (List ℕ)) (before now : ℕ) → service ≡ start.service → 16777216 < length script → services ≡ service ∷ [] → Ends a c before now (refused_line 0 7) → IsRefused (run_of_script start script) services a c before now
-too_long_of service start script services a c before now same long e ends = too_long start script services a c before now long (e ∙ ap (λ (k : Kept). k ∷ []) same) ends
-
--- a script with a line that is refused
-pub at_line : (start : World) (script : List ℕ) (line number : ℕ) (world : World) (services : List Kept) (a b c : Option (List ℕ)) (before mid now : ℕ) → length script ≤ 16777216 → DoesAll (played start script) world a b → IsRefusedAt line number (played start script)
-    → before ≤ mid → services ≡ world.service ∷ [] → Ends b c mid now (refused_line line number) → IsRefused (run_of_script start script) services a c before now
-at_line start script line number world services a b c before mid now short does at counted e ends =
+-- all lines are done
+pub all_done : (start : World) (script : List ℕ) (world : World) (service : Kept) (a b c : Writes) (ans : Answer) → length script ≤ 16777216 → DoesAll (played start script) world a b → (played start script).refused ≡ None → a.faults ≤ b.faults
+    → service ≡ world.service → Closes b c (of_service 0 service) [] ans → ScriptEnds start script a c ans
+all_done start script world service a b c ans short does goes h is (inl good) =
     let p = run_of-short start script short in
-    let E : List ℕ → Type 0 = λ x. Ends a c before now (x ++ refused_line line number) in
-    record {
+    let W : Played → Type 0 = λ q. Wrote a c q.out in
+    inl (record {
+      not_refused = ap (λ (q : Played). q.refused) p ∙ goes;
+      answered = good.0 ∙ ap (of_service 0) (service_of _ _ world service p does.same_world is);
+      wrote = subst W (sym p) (nothing_more a b c _ does.wrote good.1);
+    })
+all_done start script world service a b c ans short does goes h is (inr lacks) =
+    inr (inr (inr (lacks_behind start script a b c ans short (front_whole a b _ does.wrote) h lacks)))
+
+-- a line is refused
+pub at_line : (start : World) (script : List ℕ) (line number : ℕ) (world : World) (service : Kept) (a b c : Writes) (ans : Answer) → length script ≤ 16777216 → DoesAll (played start script) world a b → IsRefusedAt line number (played start script)
+    → a.faults ≤ b.faults → service ≡ world.service → Closes b c (of_service 3 service) (refused_line line number) ans → ScriptEnds start script a c ans
+at_line start script line number world service a b c ans short does at h is (inl good) =
+    let p = run_of-short start script short in
+    let E : Played → Type 0 = λ q. EndsWith a c q.out (refused_line line number) in
+    inr (inl (record {
       line = line;
       number = number;
       at_line = ap (λ (q : Played). q.refused) p ∙ at;
-      same_services = e ∙ ap (λ (w : World). w.service ∷ []) (does.world ∙ sym (ap (λ (q : Played). q.world) p));
-      ends = subst E (sym (ap (λ (q : Played). q.out) p)) (ends_behind a b c before mid now (played start script).out _ does.wrote counted ends);
-    }
+      answered = good.0 ∙ ap (of_service 3) (service_of _ _ world service p does.same_world is);
+      ends = subst E (sym p) (ends_behind a b c _ _ does.wrote h good.1);
+    }))
+at_line start script line number world service a b c ans short does at h is (inr lacks) =
+    inr (inr (inr (lacks_behind start script a b c ans short (front_whole a b _ does.wrote) h lacks)))
 
--- a run that stopped early
-pub stopped_early : (start : World) (script : List ℕ) (world : World) (services : List Kept) (a b c : Option (List ℕ)) → StopsEarly start script world a b → c ≡ b → services ≡ world.service ∷ [] → IsStopped start script services a c
-stopped_early start script world services a b c early e alone =
-    let R : Option (List ℕ) → Type 0 = λ o. StopsEarly start script world a o in
-    record { world = world; same_services = alone; early = subst R (sym e) early }
+-- a write failed in a line
+pub cut_short : (start : World) (script : List ℕ) (world : World) (service : Kept) (a b c : Writes) (ans : Answer) → length script ≤ 16777216 → StopsInLine start script world a b → WriteFails a b → a.faults ≤ b.faults → b.faults ≤ c.faults
+    → service ≡ world.service → Closes b c (of_service 5 service) [] ans → ScriptEnds start script a c ans
+cut_short start script world service a b c ans short stops fails h more is (inl good) =
+    inr (inr (inl (record {
+      world = world;
+      answered = good.0 ∙ ap (of_service 5) is;
+      in_line = record {
+        lines = stops.lines;
+        not_refused = stops.not_refused;
+        same_world = stops.same_world;
+        wrote = (stops.wrote.0, stops.wrote.1, stops.wrote.2, stops.wrote.3, nothing_more a b c _ stops.wrote.4 good.1);
+      };
+      fault = fails_until a b c more fails;
+    })))
+cut_short start script world service a b c ans short stops fails h more is (inr lacks) =
+    inr (inr (inr (lacks_behind start script a b c ans short (early_front start script world a b (line_early start script world a b stops)) h lacks)))
 
--- ---- what is told of worlds and scripts
+-- memory was wanting
+pub lacked : (start : World) (script : List ℕ) (world : World) (a b c : Writes) (ans : Answer) → length script ≤ 16777216 → StopsEarly start script world a b → a.faults ≤ b.faults → LacksMemory b c ans → ScriptEnds start script a c ans
+lacked start script world a b c ans short early h lacks =
+    inr (inr (inr (lacks_behind start script a b c ans short (early_front start script world a b early) h lacks)))
 
--- it is this, and so what holds of this holds of it
-pub for_there : {X : Type 0} (told : Told X) (x : X) (P : X → Type 0) → Is told x → P x → ForThere told P
-for_there told x P is p = λ there e. let s = is there e in rw s p
+-- ---- a script that a word names
 
-and_more : {X : Type 0} (o : Option X) (P Q : X → Type 0) → IsSomeAnd o P → ((x : X) → P x → Q x) → IsSomeAnd o Q
-and_more None P Q h f = h
-and_more (Some x) P Q h f = f x h
+-- a script that isn't too long
+pub in_script : (setup : Setup) (word : List ℕ) (before now : Outside) (world : World) (bytes script : List ℕ) (ans : Answer) → IsGot word before.loads now.loads before.reads now.reads script → world ≡ fresh setup → bytes ≡ script
+    → ScriptEnds world bytes before.writes now.writes ans → RunsIn setup word before now ans
+in_script setup word before now world bytes script ans got start same ends =
+    let W : World → Type 0 = λ w. ScriptEnds w bytes before.writes now.writes ans in
+    let B : List ℕ → Type 0 = λ b. ScriptEnds (fresh setup) b before.writes now.writes ans in
+    inl (record { script = script; got = got; ended = subst B same (subst W start ends) })
 
-pub there_more : {X : Type 0} (told : Told X) (P Q : X → Type 0) → ForThere told P → ((x : X) → P x → Q x) → ForThere told Q
-there_more told P Q h f = λ there e. and_more there P Q (h there e) f
+-- a script that is too long
+pub too_long : (setup : Setup) (word : List ℕ) (before now : Outside) (service : Kept) (ans : Answer) → service ≡ (fresh setup).service
+    → ((script : List ℕ) × IsGot word before.loads now.loads before.reads now.reads script × (16777216 < length script)) → Closes before.writes now.writes (of_service 3 service) (refused_line 0 7) ans
+    → RunsIn setup word before now ans
+too_long setup word before now service ans is got (inl good) =
+    let p = run_of-long (fresh setup) got.0 got.2 in
+    let E : Played → Type 0 = λ q. EndsWith before.writes now.writes q.out (refused_line 0 7) in
+    inl (record {
+      script = got.0;
+      got = got.1;
+      ended = inr (inl (record {
+        line = 0;
+        number = 7;
+        at_line = ap (λ (q : Played). q.refused) p;
+        answered = good.0 ∙ ap (of_service 3) (service_of _ _ (fresh setup) service p refl is);
+        ends = subst E (sym p) good.1;
+      }));
+    })
+too_long setup word before now service ans is got (inr lacks) = inr (inr lacks)
 
--- a world that is refused
-pub no_world : (o : Option (List ℕ)) (world : Told WorldOrRefusal) (services : List Kept) (verdict : Option Verdict) (old new : Option (List ℕ)) (before now : ℕ) → ForSome o (λ what. Is world (Err what)) → IsSomeAnd o (λ what. Ends old new before now (world_line what))
-    → HasNone services verdict → IsNoWorld world services verdict old new before now
-no_world None world services verdict old new before now refused ends none = absurd ends
-no_world (Some what) world services verdict old new before now refused ends none = record { what = what; refused = refused what refl; ends = ends; none = none }
+-- ---- a run of the program
 
--- a good run isn't refused
-pub good_goes : (misfit : Option ℕ) (world : Told WorldOrRefusal) (script : Told (List ℕ)) (services : List Kept) (verdict : Option Verdict) (old new : Option (List ℕ)) (loaded_before loaded_now read_before read_now before now : ℕ)
-    → IsGoodRun misfit world script loaded_before loaded_now read_before read_now before now
-    → (IsNoWorld world services verdict old new before now ⊎ (HasVerdict services verdict × Stands world (λ setup. ForThere script (λ bytes. IsRefused (run_of setup bytes) services old new before now)))) → ⊥
-good_goes misfit world script services verdict old new lb ln rb rn before now good (inl none) =
-    let e = none.refused (Some (Ok (good.setup ∷ []))) good.world_stands in
-    cc
-good_goes misfit world script services verdict old new lb ln rb rn before now good (inr stands) =
-    let setup = stands.1.0 in
-    let e = stands.1.1 (Some (Ok (good.setup ∷ []))) good.world_stands in
-    let same : good.setup ≡ setup = cc in
-    let R : Setup → Type 0 = λ s. (run_of s good.bytes).refused ≡ None in
-    let lines : R setup = subst R same good.lines in
-    let r = stands.1.2 (Some good.bytes) good.script_stands in
-    let at = r.at_line in
-    absurd (none_some (sym lines ∙ at))
+asked_more : (a b c : Loads) (xs ys : List (List ℕ)) → Asked a b xs → Asked b c ys → Asked a c (xs ++ ys)
+asked_more a b c xs ys first second = second ∙ ap (λ (x : List (List ℕ)). x ++ ys) first ∙ append_assoc a.asked xs ys
 
--- a status that is neither refusal nor fault
-pub ends_well : (status : ℕ) → IsStatus status → status ≢ 2 → (status ≡ 3 → ⊥) → (status ≡ 4 → ⊥) → (status ≡ 5 → ⊥) → (status ≡ 0) ⊎ (status ≡ 6)
-ends_well zero is a b c d = inl refl
-ends_well (suc zero) is a b c d = absurd (is.1 refl)
-ends_well (suc (suc zero)) is a b c d = absurd (a refl)
-ends_well (suc (suc (suc zero))) is a b c d = absurd (b refl)
-ends_well (suc (suc (suc (suc zero)))) is a b c d = absurd (c refl)
-ends_well (suc (suc (suc (suc (suc zero))))) is a b c d = absurd (d refl)
-ends_well (suc (suc (suc (suc (suc (suc zero)))))) is a b c d = inr refl
-ends_well (suc (suc (suc (suc (suc (suc (suc more))))))) is a b c d = absurd (omega (arith, is.0))
+loads_since : (a b c : Loads) → a.faults ≤ b.faults → LoadFails b c → LoadFails a c
+loads_since a b c h r = λ small. omega (arith, h, r small)
 
--- neither count rose
-pub none_rose : {A B : Type 0} → (A → ⊥) → (B → ⊥) → A ⊎ B → ⊥
-none_rose f g (inl a) = f a
-none_rose f g (inr b) = g b
+script_since : (input : Bool) (a b c : Loads) (reads now : Reads) → a.faults ≤ b.faults → ByScript input (ReadFails reads now) (LoadFails b c × Untouched reads now) → ByScript input (ReadFails reads now) (LoadFails a c × Untouched reads now)
+script_since true a b c reads now h fails = fails
+script_since false a b c reads now h fails = (loads_since a b c h fails.0, fails.1)
+
+-- the world stands, and a script is run in it, or can't be read
+pub in_world : (world script : List ℕ) (setup : Setup) (loads mid : Loads) (reads : Reads) (writes : Writes) (now : Outside) (ans : Answer) → Is (world_told loads.files world) (Ok (setup ∷ [])) → mid.files ≡ loads.files → Asked loads mid (world_path world)
+    → loads.faults ≤ mid.faults → RunsIn setup script (outside mid reads writes) now ans → RunEnds (fitting world script) (outside loads reads writes) now ans
+in_world world script setup loads mid reads writes now ans stands same asked h (inl run) =
+    let T : Option (List ℕ → Option (List ℕ)) → Type 0 = λ files. Is (script_told files reads.left script) run.script in
+    inl (record {
+      fit = refl;
+      setup = setup;
+      world = stands;
+      script = run.script;
+      of_word = subst T same run.got.of_word;
+      asked = asked_more loads mid now.loads _ _ asked run.got.asked;
+      beside = run.got.beside;
+      read = run.got.read;
+      ended = run.ended;
+    })
+in_world world script setup loads mid reads writes now ans stands same asked h (inr (inl (lost, inl good))) =
+    inr (inr (inr (inl (record {
+      fit = refl;
+      answered = good.0;
+      ends = good.1;
+      cause = inr (record {
+        setup = setup;
+        world = stands;
+        asked = asked_more loads mid now.loads _ _ asked lost.asked;
+        fault = script_since (is_input script) loads mid now.loads reads now.reads h lost.fault;
+      });
+    }))))
+in_world world script setup loads mid reads writes now ans stands same asked h (inr (inl (lost, inr lacks))) = inr (inr (inr (inr lacks)))
+in_world world script setup loads mid reads writes now ans stands same asked h (inr (inr lacks)) = inr (inr (inr (inr lacks)))
+
+world_refused : (world script what : List ℕ) (loads mid : Loads) (reads : Reads) (writes now : Writes) (ans : Answer) → Is (world_told loads.files world) (Err what) → Asked loads mid (world_path world) → Closes writes now (nothing 3) (world_line what) ans
+    → RunEnds (fitting world script) (outside loads reads writes) (outside mid reads now) ans
+world_refused world script what loads mid reads writes now ans is asked (inl good) =
+    inr (inr (inl (record { fit = refl; what = what; refused = is; answered = good.0; ends = good.1; asked = asked; input = refl })))
+world_refused world script what loads mid reads writes now ans is asked (inr lacks) = inr (inr (inr (inr lacks)))
+
+world_unread : (world script : List ℕ) (loads mid : Loads) (reads : Reads) (writes now : Writes) (ans : Answer) → LoadFails loads mid → Asked loads mid (world_path world) → Closes writes now (nothing 4) unread_line ans
+    → RunEnds (fitting world script) (outside loads reads writes) (outside mid reads now) ans
+world_unread world script loads mid reads writes now ans fails asked (inl good) =
+    inr (inr (inr (inl (record { fit = refl; answered = good.0; ends = good.1; cause = inl (record { asked = asked; input = refl; fault = fails }) }))))
+world_unread world script loads mid reads writes now ans fails asked (inr lacks) = inr (inr (inr (inr lacks)))
+
+abbrev pub NotFor : NoWorld → NoWorld → Type 0
+NotFor why other = ◌≡◌ {A = Result Setup NoWorld} (Err why) (Err other)
+
+-- no world stands
+pub no_world : (why : NoWorld) (world script : List ℕ) (loads mid : Loads) (reads : Reads) (writes now : Writes) (ans : Answer) → ForSome (what_of why) (λ what. Is (world_told loads.files world) (Err what))
+    → (¬ (NotFor why NoMemory) → Asked loads mid (world_path world)) → (NotFor why LoadFailed → LoadFails loads mid) → ClosesWorldless why writes now ans → RunEnds (fitting world script) (outside loads reads writes) (outside mid reads now) ans
+no_world NoMemory world script loads mid reads writes now ans is asked fails ends = inr (inr (inr (inr ends)))
+no_world LoadFailed world script loads mid reads writes now ans is asked fails ends = world_unread world script loads mid reads writes now ans (fails refl) (asked (λ e. cc)) ends
+no_world TooLong world script loads mid reads writes now ans is asked fails ends = world_refused world script (codes "8") loads mid reads writes now ans (is (codes "8") refl) (asked (λ e. cc)) ends
+no_world (Refused why) world script loads mid reads writes now ans is asked fails ends =
+    world_refused world script (refusal_text why) loads mid reads writes now ans (is (refusal_text why) refl) (asked (λ e. cc)) ends
+
+-- the words don't fit
+pub not_fitting : (words : Words) (place : ℕ) (loads : Loads) (reads : Reads) (writes now : Writes) (ans : Answer) → words.misfit ≡ Some place → Closes writes now (nothing 2) (usage_line place) ans → RunEnds words (outside loads reads writes) (outside loads reads now) ans
+not_fitting words place loads reads writes now ans at (inl good) =
+    inr (inl (record { place = place; at_word = at; answered = good.0; ends = good.1; asked = sym (append-nil loads.asked); input = refl }))
+not_fitting words place loads reads writes now ans at (inr lacks) = inr (inr (inr (inr lacks)))
+
+pub words_fit : (words : List (List ℕ)) (world script : List ℕ) → misfit words ≡ None → world_word words ≡ world → script_word words ≡ script → words_of words ≡ fitting world script
+words_fit words world script fit w s =
+    ap (λ (o : Option ℕ). record { misfit = o; world = world_word words; script = script_word words }) fit
+    ∙ ap (λ (x : List ℕ). record { misfit = None; world = x; script = script_word words }) w
+    ∙ ap (λ (x : List ℕ). record { misfit = None; world = world; script = x }) s
+
+pub run_fits : (words : List (List ℕ)) (world script : List ℕ) (before now : Outside) (ans : Answer) → misfit words ≡ None → world_word words ≡ world → script_word words ≡ script → RunEnds (fitting world script) before now ans → RunEnds (words_of words) before now ans
+run_fits words world script before now ans fit w s ends =
+    let P : Words → Type 0 = λ x. RunEnds x before now ans in
+    subst P (sym (words_fit words world script fit w s)) ends
+
+-- ---- a good run ends well
+
+some_none : {X : Type 0} (o : Option X) (x : X) → o ≡ None → o ≡ Some x → ⊥
+some_none o x a b = let e : None ≡ Some x = sym a ∙ b in cc
+
+neither : (input : Bool) (a c : Loads) (reads now : Reads) → ¬ (LoadFails a c) → ¬ (ReadFails reads now) → ByScript input (ReadFails reads now) (LoadFails a c × Untouched reads now) → ⊥
+neither true a c reads now loads rest fails = rest fails
+neither false a c reads now loads rest fails = loads fails.0
+
+same_setup : (a b : Setup) (x y : WorldOrRefusal) → x ≡ Ok (a ∷ []) → y ≡ Ok (b ∷ []) → Some x ≡ Some y → a ≡ b
+same_setup a b x y is other e = let same : x ≡ y = cc in cc
+
+stands_refused : (a : Setup) (what : List ℕ) (x y : WorldOrRefusal) → x ≡ Ok (a ∷ []) → y ≡ Err what → Some x ≡ Some y → ⊥
+stands_refused a what x y is other e = let same : x ≡ y = cc in cc
+
+script_well : (start : World) (script : List ℕ) (before now : Writes) (ans : Answer) → (run_of_script start script).refused ≡ None → ¬ (WriteFails before now) → ScriptEnds start script before now ans → (ans.status ≡ 0) ⊎ (ans.status ≡ 6)
+script_well start script before now ans lines writes (inl done) = inl (ap (λ (x : Answer). x.status) done.answered)
+script_well start script before now ans lines writes (inr (inl at)) = absurd (some_none _ _ lines at.at_line)
+script_well start script before now ans lines writes (inr (inr (inl cut))) = absurd (writes cut.fault)
+script_well start script before now ans lines writes (inr (inr (inr lacks))) = inr (ap (λ (x : Answer). x.status) lacks.answered)
+
+pub ends_well : (words : Words) (before now : Outside) (ans : Answer) → IsGoodRun words before now → RunEnds words before now ans → (ans.status ≡ 0) ⊎ (ans.status ≡ 6)
+ends_well words before now ans good (inl run) =
+    let setup = same_setup good.setup run.setup (Ok (good.setup ∷ [])) (Ok (run.setup ∷ [])) refl refl (run.world (Some (Ok (good.setup ∷ []))) good.world) in
+    let script : good.script ≡ run.script = let e = run.of_word (Some good.script) good.of_word in cc in
+    let P : Setup → Type 0 = λ s. (run_of_script (fresh s) good.script).refused ≡ None in
+    let Q : List ℕ → Type 0 = λ s. (run_of_script (fresh run.setup) s).refused ≡ None in
+    script_well (fresh run.setup) run.script before.writes now.writes ans (subst Q script (subst P setup good.lines)) good.writes run.ended
+ends_well words before now ans good (inr (inl misused)) = absurd (some_none words.misfit misused.place good.fit misused.at_word)
+ends_well words before now ans good (inr (inr (inl none))) = absurd (stands_refused good.setup none.what (Ok (good.setup ∷ [])) (Err none.what) refl refl (none.refused (Some (Ok (good.setup ∷ []))) good.world))
+ends_well words before now ans good (inr (inr (inr (inl unread)))) =
+    elim unread.cause as (λ _. (ans.status ≡ 0) ⊎ (ans.status ≡ 6)) [
+      | inl lost ↦ absurd (good.loads lost.fault)
+      | inr lost ↦ absurd (neither (is_input words.script) before.loads now.loads before.reads now.reads good.loads good.reads lost.fault)
+    ]
+ends_well words before now ans good (inr (inr (inr (inr lacks)))) = inr (ap (λ (x : Answer). x.status) lacks.answered)
 
 -- what a verdict that is Legal says
 pub legal_told : (v : Verdict) (world : List History) → IsLegalIf v world → Some v ≡ Some Legal → IsLegal world

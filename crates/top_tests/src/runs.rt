@@ -1,4 +1,6 @@
 // Whole runs over memory: the worked examples by their bytes, and what happens where the k-th read or write fails.
+mod guestbook;
+mod loads;
 mod orders;
 mod programs;
 

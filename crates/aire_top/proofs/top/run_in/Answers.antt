@@ -1,8 +1,23 @@
-use Rattle.std.proofs.Common.{Err, ap, ◌∙◌, ◌∷◌, []}
+use Rattle.std.proofs.Common.{Err, ap, inl, inr, ◌∙◌}
 use Rattle.world_core.specs.Worlds.{World}
-use Rattle.aire_top.proofs.Runs.{there_more, too_long_of}
+use Rattle.aire_top.specs.Endings.{outside}
+use Rattle.aire_top.proofs.Runs.{in_script, too_long}
 use Rattle.aire_top.proofs.top.run_in.Goals as goal
 
-pub returns-in-Err-TooLong-clause-refused : goal.returns-in-Err-TooLong-clause-refused
-returns-in-Err-TooLong-clause-refused g c = λ e.
-    there_more _ _ _ (c.in-Err-TooLong.ensures.too_long (ap Err c.in-Err-TooLong.field-0-is)) (λ script long. too_long_of _ _ script _ _ _ _ _ (c.into_service.ensures ∙ ap (λ (w : World). w.service) c.started-world.ensures) long (c.refusal.ensures.services e) (c.refusal.ensures.ends e))
+pub returns-in-Ok-clause-ends : goal.returns-in-Ok-clause-ends
+returns-in-Ok-clause-ends g c =
+    let before = outside (g.F.Files.loads c.args.files.now) (g.S.Source.reads c.args.input.now) (g.K.Sink.writes c.args.out.now) in
+    let now = outside (g.F.Files.loads c.load_script.new.files) (g.S.Source.reads c.load_script.new.input) (g.K.Sink.writes c.play.new.out) in
+    in_script c.args.setup c.args.script.now before now _ _ _ _ c.in-Ok.ensures.got c.started-world.ensures c.as_slice.ensures c.play.ensures.ends
+
+pub returns-in-Err-NoMemory-clause-ends : goal.returns-in-Err-NoMemory-clause-ends
+returns-in-Err-NoMemory-clause-ends g c = inr (inr c.lacking.ensures.ends)
+
+pub returns-in-Err-Fault-clause-ends : goal.returns-in-Err-Fault-clause-ends
+returns-in-Err-Fault-clause-ends g c = inr (inl (c.in-Err-Fault.ensures.fault (ap Err c.in-Err-Fault.field-0-is), c.unread.ensures.ends))
+
+pub returns-in-Err-TooLong-clause-ends : goal.returns-in-Err-TooLong-clause-ends
+returns-in-Err-TooLong-clause-ends g c =
+    let before = outside (g.F.Files.loads c.args.files.now) (g.S.Source.reads c.args.input.now) (g.K.Sink.writes c.args.out.now) in
+    let now = outside (g.F.Files.loads c.load_script.new.files) (g.S.Source.reads c.load_script.new.input) (g.K.Sink.writes c.refusal.new.out) in
+    too_long c.args.setup c.args.script.now before now _ _ (c.into_service.ensures ∙ ap (λ (w : World). w.service) c.started-world.ensures) (c.in-Err-TooLong.ensures.too_long (ap Err c.in-Err-TooLong.field-0-is)) c.refusal.ensures.ends

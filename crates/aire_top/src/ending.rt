@@ -1,0 +1,170 @@
+// How a run ends.
+ghost use Rattle.std.specs.Prelude.{◌≡◌, ◌≤◌, [], ◌∷◌, Some, map, codes};
+ghost use Rattle.std.specs.Option.{ForSome};
+ghost use Rattle.execution.specs.Executions.{IsLegal};
+ghost use Rattle.journal_rows.specs.declared.verdict.Verdict.TheVariants.{Legal};
+ghost use Rattle.service_core.specs.Events.{history};
+ghost use Rattle.world_core.specs.Verdicts.{verdict};
+ghost use Rattle.world_file.specs.Numbers.{refusal_text};
+ghost use Rattle.aire_top.specs.Closings.{Closes};
+ghost use Rattle.aire_top.specs.Endings.{LacksMemory, answer, nothing, of_service, refused_line, unread_line, usage_line, world_line};
+
+use crate::last::{lacking_status, write_last};
+use io_edge::Sink;
+use service_core::Service;
+use std::alloc::Global;
+use world_core::{Verdict, audit_services};
+use world_file::WorldRefused;
+
+/// How a run ended: its status, the services of its last world, and the verdict over them. There are no services and
+/// there is no verdict where no world stood, or the script couldn't be read, or memory was wanting.
+#[derive(Drop)]
+pub struct Ended {
+    pub status: u8,
+    pub services: Vec<Service>,
+    pub verdict: Option<Verdict>,
+}
+
+// The end of a run without services.
+fn without(alloc: Global, status: u8) -> Ended
+    ensures answer { answer result.status result.services.items result.verdict ≡ nothing status }
+    ensures legal { result.verdict ≡ Some Legal → IsLegal (map history result.services.items) }
+{
+    Ended {
+        status,
+        services: Vec::new(alloc),
+        verdict: None,
+    }
+}
+
+/// The end of a run for want of memory: 6.
+pub fn lacking<K: Sink>(alloc: Global, out: &mut K) -> Ended
+    ensures ends { LacksMemory (K.writes out.old) (K.writes out.new) (answer result.status result.services.items result.verdict) }
+    ensures legal { result.verdict ≡ Some Legal → IsLegal (map history result.services.items) }
+    ensures counted { (K.writes out.old).faults ≤ (K.writes out.new).faults }
+{
+    let status = lacking_status(out);
+    without(alloc, status)
+}
+
+// The end of a run whose services stand.
+fn standing(status: u8, services: Vec<Service>) -> Ended
+    ensures answer { answer result.status result.services.items result.verdict
+        ≡ answer status services.items (Some (verdict services.items)) }
+    ensures legal { result.verdict ≡ Some Legal → IsLegal (map history result.services.items) }
+{
+    let verdict = Some(audit_services(&services));
+    Ended {
+        status,
+        services,
+        verdict,
+    }
+}
+
+// The services of a world of one, if there is memory to name them together.
+fn alone(alloc: Global, service: Service) -> Option<Vec<Service>>
+    ensures { ForSome result (λ services. services.items ≡ service ∷ []) }
+{
+    let mut services = Vec::new(alloc);
+    match services.push(service) {
+        Ok(()) => Some(services),
+        Err(_) => None,
+    }
+}
+
+/// The end of a run whose service stands, with nothing more to write.
+pub fn closed<K: Sink>(alloc: Global, status: u8, service: Service, out: &mut K) -> Ended
+    ensures ends { Closes (K.writes out.old) (K.writes out.new) (of_service status service) [] (answer result.status result.services.items result.verdict) }
+    ensures legal { result.verdict ≡ Some Legal → IsLegal (map history result.services.items) }
+    ensures counted { (K.writes out.old).faults ≤ (K.writes out.new).faults }
+{
+    match alone(alloc, service) {
+        Some(services) => standing(status, services),
+        None => lacking(alloc, out),
+    }
+}
+
+// The end of a run whose services stand, at a line of the script that is refused.
+fn refused<K: Sink>(
+    alloc: Global,
+    services: Vec<Service>,
+    out: &mut K,
+    line: u64,
+    number: u64,
+) -> Ended
+    ensures ends { Closes (K.writes out.old) (K.writes out.new) (answer 3 services.items (Some (verdict services.items))) (refused_line line number) (answer result.status result.services.items result.verdict) }
+    ensures legal { result.verdict ≡ Some Legal → IsLegal (map history result.services.items) }
+    ensures counted { (K.writes out.old).faults ≤ (K.writes out.new).faults }
+{
+    match format!(in alloc; "script refused line {line} number {number}\n") {
+        Ok(text) => {
+            write_last(out, text.as_str());
+            standing(3, services)
+        }
+        Err(_) => lacking(alloc, out),
+    }
+}
+
+/// The end of a run at a line of the script that is refused: 3.
+pub fn refusal<K: Sink>(
+    alloc: Global,
+    service: Service,
+    out: &mut K,
+    line: u64,
+    number: u64,
+) -> Ended
+    ensures ends { Closes (K.writes out.old) (K.writes out.new) (of_service 3 service) (refused_line line number) (answer result.status result.services.items result.verdict) }
+    ensures legal { result.verdict ≡ Some Legal → IsLegal (map history result.services.items) }
+    ensures counted { (K.writes out.old).faults ≤ (K.writes out.new).faults }
+{
+    match alone(alloc, service) {
+        Some(services) => refused(alloc, services, out, line, number),
+        None => lacking(alloc, out),
+    }
+}
+
+/// The end of a run whose file or input can't be read: 4.
+pub fn unread<K: Sink>(alloc: Global, out: &mut K) -> Ended
+    ensures ends { Closes (K.writes out.old) (K.writes out.new) (nothing 4) unread_line (answer result.status result.services.items result.verdict) }
+    ensures legal { result.verdict ≡ Some Legal → IsLegal (map history result.services.items) }
+{
+    write_last(out, "read fault\n");
+    without(alloc, 4)
+}
+
+/// The end of a run whose words don't fit: 2.
+pub fn misused<K: Sink>(alloc: Global, out: &mut K, place: u64) -> Ended
+    ensures ends { Closes (K.writes out.old) (K.writes out.new) (nothing 2) (usage_line place) (answer result.status result.services.items result.verdict) }
+    ensures legal { result.verdict ≡ Some Legal → IsLegal (map history result.services.items) }
+{
+    match format!(in alloc; "usage: word {place}\n") {
+        Ok(text) => {
+            write_last(out, text.as_str());
+            without(alloc, 2)
+        }
+        Err(_) => lacking(alloc, out),
+    }
+}
+
+/// The end of a run whose world file is too long: 3.
+pub fn world_too_long<K: Sink>(alloc: Global, out: &mut K) -> Ended
+    ensures ends { Closes (K.writes out.old) (K.writes out.new) (nothing 3) (world_line (codes "8")) (answer result.status result.services.items result.verdict) }
+    ensures legal { result.verdict ≡ Some Legal → IsLegal (map history result.services.items) }
+{
+    write_last(out, "world refused 8\n");
+    without(alloc, 3)
+}
+
+/// The end of a run whose world file is refused: 3.
+pub fn world_refused<K: Sink>(alloc: Global, out: &mut K, why: &WorldRefused) -> Ended
+    ensures ends { Closes (K.writes out.old) (K.writes out.new) (nothing 3) (world_line (refusal_text why.now)) (answer result.status result.services.items result.verdict) }
+    ensures legal { result.verdict ≡ Some Legal → IsLegal (map history result.services.items) }
+{
+    match format!(in alloc; "world refused {why}\n") {
+        Ok(text) => {
+            write_last(out, text.as_str());
+            without(alloc, 3)
+        }
+        Err(_) => lacking(alloc, out),
+    }
+}
