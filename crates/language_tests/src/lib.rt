@@ -2,10 +2,10 @@
 #![tactic(auto)]
 
 #[cfg(test)]
+mod given;
+#[cfg(test)]
 mod programs;
 #[cfg(test)]
 mod runs;
 #[cfg(test)]
 mod tokens;
-#[cfg(test)]
-mod trees;

@@ -1,93 +1,68 @@
 // What handlers do, as their language says it.
 mod limits;
 mod rows;
-mod words;
 
+use crate::given::{name, same, text};
+use handler_lang::read_program;
 use handler_run::{Ran, RowsView, run};
 use lang_core::{
-    Answers, Cell, Cells, Inputs, Method, Name, Names, Program, Request, Response, Route, Routes,
-    Same, Setting, Text, Trace,
+    Answers, CallMade, Cell, Cells, Inputs, Method, Name, Names, Request, Response, Same, Setting,
+    Text, Trace,
 };
-use std::alloc::{AllocError, Global};
-use words::{Misfit, block_of, method_of, two_texts};
+use std::process::Abort;
 
-fn name(alloc: Global, text: &str) -> Result<Name, Misfit> {
-    match Name::new(Text::of(alloc, text)?) {
-        Ok(name) => Ok(name),
-        Err(_) => Err(Misfit::Word),
-    }
-}
-
-fn names(alloc: Global, text: &str) -> Result<Names, Misfit> {
-    let mut names = Names::new(alloc);
-    for word in text.split(' ') {
-        names.push(name(alloc, word)?)?;
-    }
-    Ok(names)
-}
-
-// A program of one route for each line: a method, a pattern and the words of a block, a tab between them.
-fn program(alloc: Global, routes: &str) -> Result<Program, Misfit> {
-    let mut list = Routes::new(alloc);
-    for line in routes.split('\n') {
-        list.push(route(alloc, line)?)?;
-    }
-    match Program::new(list) {
-        Ok(program) => Ok(program),
-        Err(_) => Err(Misfit::Word),
-    }
-}
-
-fn route(alloc: Global, line: &str) -> Result<Route, Misfit> {
-    let Some((word, rest)) = line.split_once('\t') else {
-        return Err(Misfit::Word);
-    };
-    let Some((pattern, words)) = rest.split_once('\t') else {
-        return Err(Misfit::Word);
-    };
-    let method = method_of(word)?;
-    let block = block_of(alloc, words)?;
-    let pattern = Text::of(alloc, pattern)?;
-    Ok(Route {
-        method,
-        pattern,
-        block,
-    })
-}
-
-fn setting(alloc: Global, me: Name, peers: Names, program: Program) -> Result<Setting, Misfit> {
+// A service of these peers.
+fn setting_of(rt: &(impl Abort + AllocGlobal), me: Name, peers: Names, routes: &str) -> Setting {
     for peer in peers.as_slice() {
-        if peer.is(&me) {
-            return Err(Misfit::Word);
-        }
+        assert!(rt; !peer.is(&me));
     }
-    Ok(Setting {
+    let program = read_program(rt.alloc(), routes).expect(rt, routes);
+    Setting {
         me,
         peers,
         program,
         weight: 1000,
-    })
+    }
 }
 
 // The service `shop`, which may call `bank` and `post`.
-fn shop(alloc: Global, routes: &str) -> Result<Setting, Misfit> {
-    let me = name(alloc, "shop")?;
-    let peers = names(alloc, "bank post")?;
-    setting(alloc, me, peers, program(alloc, routes)?)
+fn setting(rt: &(impl Abort + AllocGlobal), routes: &str) -> Setting {
+    let mut peers = Names::new(rt.alloc());
+    peers.push(name(rt, "bank")).expect(rt, "memory");
+    peers.push(name(rt, "post")).expect(rt, "memory");
+    setting_of(rt, name(rt, "shop"), peers, routes)
+}
+
+// The one route of these statements.
+fn route(rt: &(impl Abort + AllocGlobal), stmts: &str) -> String {
+    format!(in rt.alloc(); "route GET \"/n/*/*\" {{ {stmts} }}").expect(rt, "memory")
 }
 
 // A request of ann's that came by a call of `web`.
-fn request(alloc: Global, method: Method, path: &str, body: &str) -> Result<Request, Misfit> {
-    let chain = names(alloc, "web")?;
-    let who = Text::of(alloc, "ann")?;
-    let (path, body) = two_texts(alloc, path, body)?;
-    Ok(Request {
+fn request(rt: &(impl Abort + AllocGlobal), method: Method, path: &str, body: &str) -> Request {
+    let mut chain = Names::new(rt.alloc());
+    chain.push(name(rt, "web")).expect(rt, "memory");
+    Request {
         method,
-        path,
-        body,
-        who,
+        path: text(rt, path),
+        body: text(rt, body),
+        who: text(rt, "ann"),
         chain,
-    })
+    }
+}
+
+fn method_of(rt: &impl Abort, word: &str) -> Method {
+    match word {
+        "GET" => Method::Get,
+        "PUT" => Method::Put,
+        "POST" => Method::Post,
+        "DELETE" => Method::Delete,
+        _ => panic!(rt; "{word}"),
+    }
+}
+
+fn number(rt: &impl Abort, digits: &str) -> u32 {
+    digits.parse::<u32>().expect(rt, digits)
 }
 
 const INPUTS: Inputs = Inputs {
@@ -103,48 +78,51 @@ const INPUTS: Inputs = Inputs {
 };
 
 // Answers 200 `a0`, 201 `a1`, ..
-fn answers(alloc: Global, count: u16) -> Result<Answers, Misfit> {
-    let mut answers = Answers::new(alloc);
+fn answers(rt: &(impl Abort + AllocGlobal), count: u32) -> Answers {
+    let mut answers = Answers::new(rt.alloc());
     for i in 0..count {
-        let body = Text::from(format!(in alloc; "a{i}")?);
-        let status = i.saturating_add(200);
-        answers.push(Response { status, body })?;
+        let body = format!(in rt.alloc(); "a{i}").expect(rt, "memory");
+        let answer = Response {
+            status: u16::try_from(i.saturating_add(200)).expect(rt, "a status"),
+            body: Text::from(body),
+        };
+        answers.push(answer).expect(rt, "memory");
     }
-    Ok(answers)
+    answers
+}
+
+fn cell(rt: &(impl Abort + AllocGlobal), line: &str) -> Cell {
+    let (table, rest) = line.split_once(' ').expect(rt, line);
+    let (key, value) = rest.split_once(' ').expect(rt, line);
+    Cell {
+        table: text(rt, table),
+        key: text(rt, key),
+        text: text(rt, value),
+    }
 }
 
 // A cell for each line: its table, its key and its text, a space between them.
-fn cells(alloc: Global, lines: &str) -> Result<Cells, Misfit> {
-    let mut cells = Cells::new(alloc);
-    for line in lines.split('\n') {
-        cells.set(cell(alloc, line)?)?;
+fn cells(rt: &(impl Abort + AllocGlobal), lines: &str) -> Cells {
+    let mut cells = Cells::new(rt.alloc());
+    for line in lines.lines() {
+        cells.set(cell(rt, line)).expect(rt, "memory");
     }
-    Ok(cells)
+    cells
 }
 
-fn cell(alloc: Global, line: &str) -> Result<Cell, Misfit> {
-    let Some((table, rest)) = line.split_once(' ') else {
-        return Err(Misfit::Word);
-    };
-    let Some((key, text)) = rest.split_once(' ') else {
-        return Err(Misfit::Word);
-    };
-    let (table, key) = two_texts(alloc, table, key)?;
-    let text = Text::of(alloc, text)?;
-    Ok(Cell { table, key, text })
-}
-
-fn trace_line(alloc: Global, trace: &Trace) -> Result<String, AllocError> {
+fn told_trace(rt: &(impl Abort + AllocGlobal), trace: &Trace) -> String {
     let status = trace.response.status;
     let body = trace.response.body.as_str();
     let reads = trace.reads.len();
     let calls = trace.calls.len();
     let answers = trace.answers.len();
     let writes = trace.writes.len();
-    format!(in alloc; "{status} [{body}] r{reads} c{calls} a{answers} w{writes}")
+    format!(in rt.alloc(); "{status} [{body}] r{reads} c{calls} a{answers} w{writes}").expect(
+        rt, "memory",
+    )
 }
 
-fn method_text(method: Method) -> &'static str {
+fn method_word(method: Method) -> &'static str {
     match method {
         Method::Get => "GET",
         Method::Put => "PUT",
@@ -153,64 +131,48 @@ fn method_text(method: Method) -> &'static str {
     }
 }
 
-fn chain_text(alloc: Global, chain: &Names) -> Result<String, AllocError> {
-    let mut text = String::new(alloc);
+fn told_chain(rt: &(impl Abort + AllocGlobal), chain: &Names) -> String {
+    let mut told = String::new(rt.alloc());
     for name in chain.as_slice() {
-        text.push_str(",")?;
-        text.push_str(name.as_str())?;
+        told.push_str(",").expect(rt, "memory");
+        told.push_str(name.as_str()).expect(rt, "memory");
     }
-    Ok(text)
+    told
+}
+
+fn told_call(rt: &(impl Abort + AllocGlobal), call: &CallMade) -> String {
+    let dest = call.dest.as_str();
+    let method = method_word(call.request.method);
+    let path = call.request.path.as_str();
+    let body = call.request.body.as_str();
+    let who = call.request.who.as_str();
+    let chain = told_chain(rt, &call.request.chain);
+    format!(in rt.alloc(); "{dest} {method} {path} [{body}] {who} {chain}").expect(rt, "memory")
 }
 
 // What a run comes to, in one line.
-fn line_of(alloc: Global, ran: &Ran) -> Result<String, AllocError> {
+fn told(rt: &(impl Abort + AllocGlobal), ran: &Ran) -> String {
     match ran {
-        Ran::Done(trace) => trace_line(alloc, trace),
+        Ran::Done(trace) => told_trace(rt, trace),
         Ran::Wants { slot, calls, call } => {
-            let slot = *slot;
+            let call = told_call(rt, call);
             let made = calls.len();
-            let dest = call.dest.as_str();
-            let method = method_text(call.request.method);
-            let path = call.request.path.as_str();
-            let body = call.request.body.as_str();
-            let who = call.request.who.as_str();
-            let chain = chain_text(alloc, &call.request.chain)?;
-            format!(in alloc; "wants {slot} {dest} {method} {path} [{body}] {who} {chain} c{made}")
+            format!(in rt.alloc(); "wants {slot} {call} c{made}").expect(rt, "memory")
         }
     }
 }
 
-// A service, a request to it, and the answers of the request's first calls.
-#[derive(Drop)]
-struct Case {
-    setting: Setting,
-    request: Request,
-    answers: Answers,
-}
-
-// The one route of these words, which takes the request.
-fn case_of(alloc: Global, words: &str, count: u16, body: &str) -> Result<Case, Misfit> {
-    let request = request(alloc, Method::Get, "/n/x/y", body)?;
-    let answers = answers(alloc, count)?;
-    let routes = format!(in alloc; "GET\t/n/*/*\t{words}")?;
-    let setting = shop(alloc, routes.as_str())?;
-    Ok(Case {
-        setting,
-        request,
-        answers,
-    })
-}
-
-// What a case comes to on these rows.
-fn outcome(alloc: Global, case: &Case, cells: &Cells) -> Result<String, Misfit> {
+// A request, whose first calls get so many answers, comes to this on these rows.
+fn comes_to(
+    rt: &(impl Abort + AllocGlobal),
+    setting: &Setting,
+    request: &Request,
+    count: u32,
+    cells: &Cells,
+    want: &str,
+) {
+    let answers = answers(rt, count);
     let view = RowsView { cells };
-    let ran = run(
-        alloc,
-        &case.setting,
-        &case.request,
-        &INPUTS,
-        &case.answers,
-        &view,
-    )?;
-    Ok(line_of(alloc, &ran)?)
+    let ran = run(rt.alloc(), setting, request, &INPUTS, &answers, &view).expect(rt, "memory");
+    same(rt, told(rt, &ran).as_str(), want);
 }
