@@ -1,0 +1,203 @@
+// Requests, read.
+ghost use Rattle.std.specs.Prelude.{◌≡◌, false, IfOk};
+ghost use Rattle.aire_wire.specs.Incoming.{answer_answer, answer_refusal, call_answer, call_refusal, console_answer, console_refusal, incoming, lacks_memory, outside_answer, set_answer, set_refusal};
+ghost use Rattle.wire_fields.specs.Secrets.{peers_of};
+
+use crate::building::{
+    answer_message, call_message, console_request, outside_request, set_message,
+};
+use crate::refusals::{
+    answer_head_refusal, call_head_refusal, console_head_refusal, console_seal_refusal,
+    is_deletion, outside_refusal, seal_refusal, set_head_refusal, set_seal_refusal,
+};
+use http_front::WireRequest;
+use lang_core::{Name, NoMemory, Request, Text};
+use repair_messages::{AnswerMessage, SetMessage};
+use std::alloc::Global;
+use wire_fields::{
+    ANSWER_HEADERS, CALL_HEADERS, ConsoleRequest, ConsoleWord, RequestKind, Secrets, WireRefused,
+    request_kind,
+};
+
+/// What a request says to a service.
+#[derive(Drop)]
+pub enum Incoming {
+    /// A request from outside.
+    Outside(Request),
+    /// A peer's live call.
+    Live(SetMessage),
+    /// A version of a peer's call.
+    Set(SetMessage),
+    /// A peer's answer to a call.
+    Answer(AnswerMessage),
+    /// What an operator asks for.
+    Console(ConsoleRequest),
+}
+
+fn read_outside(alloc: Global, request: &WireRequest) -> Result<Incoming, WireRefused>
+    ensures { lacks_memory result ≡ false → result ≡ outside_answer request.now }
+{
+    if let Some(why) = outside_refusal(&request.head) {
+        return Err(why);
+    }
+    match outside_request(alloc, request) {
+        Ok(made) => Ok(Incoming::Outside(made)),
+        Err(_) => Err(WireRefused::NoMemory),
+    }
+}
+
+fn call_refusal(
+    alloc: Global,
+    me: &str,
+    peers: &Secrets,
+    request: &WireRequest,
+) -> Result<Option<WireRefused>, NoMemory>
+    ensures { IfOk result (λ refusal. refusal ≡ call_refusal me.now (peers_of peers.now) request.now) }
+{
+    match call_head_refusal(me, &request.head) {
+        Some(why) => Ok(Some(why)),
+        None => seal_refusal(alloc, peers, request, CALL_HEADERS.as_slice()),
+    }
+}
+
+fn read_call(
+    alloc: Global,
+    me: &str,
+    peers: &Secrets,
+    request: &WireRequest,
+) -> Result<Incoming, WireRefused>
+    ensures { lacks_memory result ≡ false → result ≡ call_answer me.now (peers_of peers.now) request.now }
+{
+    match call_refusal(alloc, me, peers, request) {
+        Err(_) => Err(WireRefused::NoMemory),
+        Ok(Some(why)) => Err(why),
+        Ok(None) => match call_message(alloc, request) {
+            Ok(message) => Ok(Incoming::Live(message)),
+            Err(_) => Err(WireRefused::NoMemory),
+        },
+    }
+}
+
+fn set_refusal(
+    alloc: Global,
+    me: &str,
+    peers: &Secrets,
+    request: &WireRequest,
+) -> Result<Option<WireRefused>, NoMemory>
+    ensures { IfOk result (λ refusal. refusal ≡ set_refusal me.now (peers_of peers.now) request.now) }
+{
+    match set_head_refusal(me, &request.head) {
+        Some(why) => Ok(Some(why)),
+        None => set_seal_refusal(alloc, is_deletion(&request.head), peers, request),
+    }
+}
+
+fn read_set(
+    alloc: Global,
+    me: &str,
+    peers: &Secrets,
+    request: &WireRequest,
+) -> Result<Incoming, WireRefused>
+    ensures { lacks_memory result ≡ false → result ≡ set_answer me.now (peers_of peers.now) request.now }
+{
+    match set_refusal(alloc, me, peers, request) {
+        Err(_) => Err(WireRefused::NoMemory),
+        Ok(Some(why)) => Err(why),
+        Ok(None) => match set_message(alloc, request) {
+            Ok(message) => Ok(Incoming::Set(message)),
+            Err(_) => Err(WireRefused::NoMemory),
+        },
+    }
+}
+
+fn answer_refusal(
+    alloc: Global,
+    me: &str,
+    peers: &Secrets,
+    request: &WireRequest,
+) -> Result<Option<WireRefused>, NoMemory>
+    ensures { IfOk result (λ refusal. refusal ≡ answer_refusal me.now (peers_of peers.now) request.now) }
+{
+    match answer_head_refusal(me, &request.head) {
+        Some(why) => Ok(Some(why)),
+        None => seal_refusal(alloc, peers, request, ANSWER_HEADERS.as_slice()),
+    }
+}
+
+fn read_answer(
+    alloc: Global,
+    me: &str,
+    peers: &Secrets,
+    request: &WireRequest,
+) -> Result<Incoming, WireRefused>
+    ensures { lacks_memory result ≡ false → result ≡ answer_answer me.now (peers_of peers.now) request.now }
+{
+    match answer_refusal(alloc, me, peers, request) {
+        Err(_) => Err(WireRefused::NoMemory),
+        Ok(Some(why)) => Err(why),
+        Ok(None) => match answer_message(alloc, request) {
+            Ok(message) => Ok(Incoming::Answer(message)),
+            Err(_) => Err(WireRefused::NoMemory),
+        },
+    }
+}
+
+fn console_refusal(
+    alloc: Global,
+    me: &str,
+    secret: &Text,
+    request: &WireRequest,
+) -> Result<Option<WireRefused>, NoMemory>
+    ensures { IfOk result (λ refusal. refusal ≡ console_refusal me.now secret.now request.now) }
+{
+    match console_head_refusal(me, &request.head) {
+        Some(why) => Ok(Some(why)),
+        None => console_seal_refusal(alloc, secret, request),
+    }
+}
+
+fn read_console(
+    alloc: Global,
+    me: &str,
+    secret: &Text,
+    word: ConsoleWord,
+    request: &WireRequest,
+) -> Result<Incoming, WireRefused>
+    ensures { lacks_memory result ≡ false → result ≡ console_answer me.now secret.now word request.now }
+{
+    match console_refusal(alloc, me, secret, request) {
+        Err(_) => Err(WireRefused::NoMemory),
+        Ok(Some(why)) => Err(why),
+        Ok(None) => match console_request(alloc, word, request) {
+            Ok(made) => Ok(Incoming::Console(made)),
+            Err(_) => Err(WireRefused::NoMemory),
+        },
+    }
+}
+
+/// The message that a request spells to the service `me`, whose peers have these secrets, or the first refusal: of its
+/// kind, of its header fields in the order of the table, of how they fit, of its seal. `NoMemory` may come in place of any.
+pub fn read_incoming(
+    alloc: Global,
+    me: &Name,
+    peers: &Secrets,
+    console: &Text,
+    request: &WireRequest,
+) -> Result<Incoming, WireRefused>
+    ensures { lacks_memory result ≡ false → result ≡ incoming me.now peers.now console.now request.now }
+{
+    match request_kind(request) {
+        None => Err(WireRefused::UnknownKind),
+        Some(RequestKind::Outside) => read_outside(alloc, request),
+        Some(RequestKind::Call) => read_call(alloc, me.as_str(), peers, request),
+        Some(RequestKind::Set) => read_set(alloc, me.as_str(), peers, request),
+        Some(RequestKind::Answer) => read_answer(alloc, me.as_str(), peers, request),
+        Some(RequestKind::Console(word)) => read_console(
+            alloc,
+            me.as_str(),
+            console,
+            word,
+            request,
+        ),
+    }
+}

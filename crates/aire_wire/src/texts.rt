@@ -1,0 +1,128 @@
+// Parts of the texts of header fields.
+ghost use Rattle.std.specs.Prelude.{◌≡◌, ◌==◌, map, IfOk};
+ghost use Rattle.std.specs.List.{slice_split};
+ghost use Rattle.request_names.specs.Numbers.{number_of};
+ghost use Rattle.wire_fields.specs.Forms.{status_of};
+ghost use Rattle.wire_fields.specs.Rows.{text_at};
+ghost use Rattle.aire_wire.specs.Incoming.{ends_with_name, is_behind_comma, names_in, number_in, or_get, or_zero, service_in, version_at, who_or_anyone};
+ghost use Rattle.http_front.specs.Methods.{method_named};
+
+use http_front::{AireHeader, method_named};
+use http_header::HeaderMap;
+use lang_core::{Method, Name, Names, NoMemory, Seq, Text};
+use request_names::read_number;
+use std::alloc::{AllocError, Global};
+use wire_fields::{id_of, status_of, text_at};
+
+/// The service of an id, empty where the text names none.
+pub fn service_in(text: &str) -> &str
+    ensures { result.now ≡ service_in text.now }
+{
+    match id_of(text) {
+        Some((service, _)) => service,
+        None => "",
+    }
+}
+
+/// The number of an id, 0 where the text names none.
+pub fn number_in(text: &str) -> u64
+    ensures { result ≡ number_in text.now }
+{
+    match id_of(text) {
+        Some((_, number)) => number,
+        None => 0,
+    }
+}
+
+/// The number in a field, 0 where there is none.
+pub fn version_at(head: &HeaderMap, header: AireHeader) -> u64
+    ensures { result ≡ version_at head.now header }
+{
+    match read_number(text_at(head, header)) {
+        Some(number) => number,
+        None => 0,
+    }
+}
+
+/// The number in a field, where there is one.
+pub fn number_at(head: &HeaderMap, header: AireHeader) -> Option<u64>
+    ensures { result ≡ number_of (text_at head.now header) }
+{
+    read_number(text_at(head, header))
+}
+
+/// The status in a text, 0 where there is none.
+pub fn status_in(text: &str) -> u16
+    ensures { result ≡ or_zero (status_of text.now) }
+{
+    match status_of(text) {
+        Some(status) => status,
+        None => 0,
+    }
+}
+
+/// The method of a word, GET where it names none.
+pub fn method_in(text: &str) -> Method
+    ensures { result ≡ or_get (method_named text.now) }
+{
+    match method_named(text.as_bytes()) {
+        Some(method) => method,
+        None => Method::Get,
+    }
+}
+
+/// The name of who asks from outside.
+pub fn who_or_anyone(who: &str) -> &str
+    ensures { result.now ≡ who_or_anyone who.now }
+{
+    if who.is_empty() { "anyone" } else { who }
+}
+
+fn is_behind_comma(front: &[u8]) -> bool
+    ensures { result ≡ is_behind_comma front.now }
+{
+    front.is_empty() || front.ends_with(b",")
+}
+
+/// Whether this is a chain's last name.
+pub fn ends_with_name(chain: &str, name: &str) -> bool
+    ensures { result ≡ ends_with_name chain.now name.now }
+{
+    let chain = chain.as_bytes();
+    let name = name.as_bytes();
+    chain.ends_with(name) && is_behind_comma(&chain[..chain.len() - name.len()])
+}
+
+/// The name with this text. Each text that comes here has the form of a name, so memory is all that can lack.
+pub fn name_of(alloc: Global, text: &str) -> Result<Name, NoMemory>
+    ensures { IfOk result (λ name. name ≡ text.now) }
+{
+    match Name::new(Text::of(alloc, text)?) {
+        Ok(name) => Ok(name),
+        Err(_) => Err(NoMemory),
+    }
+}
+
+fn pieces_of(alloc: Global, chain: &str) -> Result<Vec<&str>, AllocError>
+    ensures { IfOk result (λ pieces. map (λ x. x.now) pieces.items ≡ slice_split (λ b. b == 44) chain.now) }
+{
+    chain.split(',').collect(alloc)
+}
+
+fn names_of(alloc: Global, pieces: &[&str]) -> Result<Names, NoMemory>
+    ensures { IfOk result (λ names. names ≡ map (λ x. x.now) pieces.now) }
+{
+    let mut names = Seq::new(alloc);
+    for piece in pieces {
+        names.push(name_of(alloc, piece)?)?;
+    }
+    Ok(names)
+}
+
+/// The names of a chain.
+pub fn names_in(alloc: Global, chain: &str) -> Result<Names, NoMemory>
+    ensures { IfOk result (λ names. names ≡ names_in chain.now) }
+{
+    let pieces = pieces_of(alloc, chain)?;
+    names_of(alloc, &pieces)
+}
