@@ -30,7 +30,7 @@ passes_if : {X : Type 0} (p : X → Bool) (x y : X) (b : Bool) (o : Option X) �
 passes_if p x y true o h e more = let same : y ≡ x = cc in ap p (sym same) ∙ h
 passes_if p x y false o h e more = more e
 
-found_passes : {X : Type 0} (p : X → Bool) (xs : List X) (x : X) → find p xs ≡ Some x → p x ≡ true
+pub found_passes : {X : Type 0} (p : X → Bool) (xs : List X) (x : X) → find p xs ≡ Some x → p x ≡ true
 found_passes p [] x h = cc
 found_passes p (y ∷ ys) x h = passes_if p x y (p y) (find p ys) refl h (found_passes p ys x)
 

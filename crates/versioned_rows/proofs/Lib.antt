@@ -1,6 +1,9 @@
+pub mod CellLemmas
 pub mod EditLemmas
 pub mod GetLemmas
 pub mod IndexLemmas
+pub mod PrefixLemmas
+pub mod PutLemmas
 pub mod RisingLemmas
 pub mod RoomLemmas
 pub mod SeekLemmas

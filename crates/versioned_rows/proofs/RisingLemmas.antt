@@ -66,7 +66,7 @@ if_map f x xs true = refl
 if_map f x xs false = refl
 
 module _ {X : Type 0} (label : X → ℕ) (order : List ℕ) (p : X → Bool) where
-  before_kept : (n : ℕ) (xs : List X) → IsBeforeAll order n (map label xs) → IsBeforeAll order n (map label (filter p xs))
+  pub before_kept : (n : ℕ) (xs : List X) → IsBeforeAll order n (map label xs) → IsBeforeAll order n (map label (filter p xs))
   before_kept n [] all = tt
   before_kept n (x ∷ xs) all = rw (if_map label x (filter p xs) (p x)) (before_if order n (label x) (map label (filter p xs)) (p x) (λ _. all.0) (before_kept n xs all.1))
 

@@ -92,7 +92,7 @@ module _ {X : Type 0} (place : X → Place) (p : Place) where
   same_by : (y : X) (o : Ordering) → place_order p (place y) ≡ o → same_place (place y) p ≡ is_eq (ordering_reverse o)
   same_by y o e = same_order (place y) p ∙ ap is_eq (total.antisymm (place y) p ∙ ap ordering_reverse e)
 
-  none_above : (xs : List X) → IsBelowAll place p xs → find (λ x. same_place (place x) p) xs ≡ None
+  pub none_above : (xs : List X) → IsBelowAll place p xs → find (λ x. same_place (place x) p) xs ≡ None
   none_above [] all = refl
   none_above (x ∷ xs) all = let differs : same_place (place x) p ≡ false = same_by x Less all.0 in rw differs (none_above xs all.1)
 

@@ -100,6 +100,7 @@ pub(crate) fn put_in(
     requires room { vec_len places.old < vec_capacity places.old }
     requires spare { (t k : List ℕ) → is_written t k place.writes ≡ true → 0 < spare_in rows.old.items t k }
     ensures places { places.new.items ≡ with_place order.now.labels place places.old.items }
+    ensures rising { IsRising order.now.labels (map label_of places.new.items) }
     ensures indexed { IsIndexed places.new.items rows.new.items }
     ensures spare { (t k : List ℕ) → spare_in rows.old.items t k
         ≤ spare_in rows.new.items t k + (if is_written t k place.writes then 1 else 0) }

@@ -1,8 +1,11 @@
 // Versions: what each place wrote, and for each key the places that write it.
-ghost use Rattle.std.specs.Prelude.{ℕ, List, ◌≡◌, ◌++◌, ◌∷◌, [], length, map, IsTrue, IsOk, OnOk, OnErr};
+ghost use Rattle.std.specs.Prelude.{ℕ, List, ◌≡◌, ◌+◌, ◌≤◌, ◌++◌, false, ◌∷◌, [], length, map, IfOk, IsTrue, IsOk, OnOk, OnErr};
 ghost use Rattle.std.specs.List.{Contains};
 ghost use Rattle.std.specs.Option.{option_copied, ForSome};
-ghost use Rattle.lang_core.specs.Rows.{get};
+ghost use Rattle.lang_core.specs.Places.{IsOrdered};
+ghost use Rattle.lang_core.specs.Rows.{get, scan, kept_from, is_over};
+ghost use Rattle.versioned_rows.specs.Rows.{row_place};
+ghost use Rattle.versioned_rows.specs.Scans.{is_under, while, cell_at, row_cells};
 ghost use Rattle.call_room.specs.Room.{is_made, spend};
 ghost use Rattle.versioned_rows.specs.Rising.{IsRising};
 ghost use Rattle.versioned_rows.specs.Places.{label_of, rows_after, before, without, with_place};
@@ -12,7 +15,10 @@ use crate::labels::count_before;
 use crate::places::{PlaceWrites, find_place, put_in, take_out, text_at};
 use crate::room::{VersionsCall, ready_writes, take_writes};
 use crate::rows::{Row, labels_in};
-use lang_core::{NoMemory, Text, Writes};
+use crate::seeking::seek;
+use lang_core::{
+    Cell, Cells, Copied, MOST_SCAN_BYTES, MOST_SCAN_CELLS, NoMemory, Same, Text, Writes,
+};
 use place_order::Order;
 use std::alloc::Global;
 use std::marker::Model;
@@ -40,6 +46,31 @@ impl Model for Versions {
     ghost invariant = { λ v. IsIndexed v.places.items v.rows.items
         × (vec_len v.places + vec_len v.room ≤ vec_capacity v.places)
         × IsCovered v.room.items v.rows.items };
+}
+
+fn cell_of(alloc: Global, table: &Text, key: &Text, text: &Text) -> Result<Cell, NoMemory>
+    ensures { IfOk result (λ cell. cell ≡ record { table = table.now; key = key.now; text = text.now }) }
+{
+    let table = table.copied(alloc)?;
+    let key = key.copied(alloc)?;
+    let text = text.copied(alloc)?;
+    Ok(Cell { table, key, text })
+}
+
+fn is_under(row: &Row, table: &Text, prefix: &Text) -> bool
+    ensures { result ≡ is_under table.now prefix.now row.now }
+{
+    row.table.is(table) && row.key.begins_with(prefix)
+}
+
+// Whether so many cells are too many, or too large with a key and a text of these lengths.
+fn is_too_much(cells: u64, bytes: u64, key: u64, text: u64) -> bool
+    requires { bytes ≤ 262144 }
+    ensures over { result ≡ is_over cells (bytes + (key + text)) }
+    ensures few { result ≡ false → bytes + (key + text) ≤ 262144 }
+{
+    let room = MOST_SCAN_BYTES - bytes;
+    cells > MOST_SCAN_CELLS || key > room || text > room - key
 }
 
 impl Versions {
@@ -79,10 +110,84 @@ impl Versions {
         }
     }
 
+    fn cell_before(
+        &self,
+        alloc: Global,
+        order: &Order,
+        label: Option<u64>,
+        row: &Row,
+    ) -> Result<Option<Cell>, NoMemory>
+        requires rising { IsRising order.now.labels (map label_of self.now.versions) }
+        requires label { ForSome label (Contains order.now.labels) }
+        ensures { IfOk result (λ cell. cell ≡ cell_at (rows_after (before order.now.labels label self.now.versions)) row.now) }
+    {
+        match self.get_before(order, label, &row.table, &row.key) {
+            None => Ok(None),
+            Some(text) => Ok(Some(cell_of(alloc, &row.table, &row.key, text)?)),
+        }
+    }
+
+    // The cells at the keys of these rows, as long as they are under the prefix, and up to the one that is too much.
+    fn scanned(
+        &self,
+        alloc: Global,
+        order: &Order,
+        label: Option<u64>,
+        table: &Text,
+        prefix: &Text,
+        rows: &[Row],
+    ) -> Result<Cells, NoMemory>
+        requires rising { IsRising order.now.labels (map label_of self.now.versions) }
+        requires label { ForSome label (Contains order.now.labels) }
+        requires rows { IsOrdered row_place rows.now }
+        ensures { IfOk result (λ found. found ≡ kept_from 0 0 (row_cells (rows_after (before order.now.labels label self.now.versions))
+            (while (is_under table.now prefix.now) rows.now))) }
+    {
+        let mut kept = Cells::new(alloc);
+        let mut bytes = 0;
+        for row in rows {
+            if !is_under(row, table, prefix) {
+                return Ok(kept);
+            }
+            match self.cell_before(alloc, order, label, row)? {
+                None => {}
+                Some(cell) => {
+                    let key = cell.key.len();
+                    let text = cell.text.len();
+                    kept.push(cell)?;
+                    if is_too_much(kept.len(), bytes, key, text) {
+                        return Ok(kept);
+                    }
+                    bytes += key + text;
+                }
+            }
+        }
+        Ok(kept)
+    }
+
+    /// The cells of a table under a prefix in the rows that the writes of all places before this one make, or of all places
+    /// where there is none: those that `row_scan` gives on these rows.
+    pub fn scan_before(
+        &self,
+        alloc: Global,
+        order: &Order,
+        label: Option<u64>,
+        table: &Text,
+        prefix: &Text,
+    ) -> Result<Cells, NoMemory>
+        requires rising { IsRising order.now.labels (map label_of self.now.versions) }
+        requires label { ForSome label (Contains order.now.labels) }
+        ensures { IfOk result (λ found. found ≡ scan (rows_after (before order.now.labels label self.now.versions)) table.now prefix.now) }
+    {
+        let from = seek(&self.rows, table, prefix).0;
+        self.scanned(alloc, order, label, table, prefix, &self.rows[from..])
+    }
+
     /// Takes the writes of a place out, if it has some. No other place changes.
     pub fn take_back(&mut self, label: u64)
         ensures versions { self.new.versions ≡ without label self.old.versions }
         ensures room { self.new.room ≡ self.old.room }
+        ensures rising { (order : List ℕ) → IsRising order (map label_of self.old.versions) → IsRising order (map label_of self.new.versions) }
     {
         take_out(&mut self.places, &mut self.rows, label);
     }
@@ -100,6 +205,7 @@ impl Versions {
         requires label { Contains order.now.labels label }
         ensures ok { OnOk result (self.new.versions
             ≡ with_place order.now.labels (record { label = label; writes = writes.now }) (without label self.old.versions)) }
+        ensures rising { OnOk result (IsRising order.now.labels (map label_of self.new.versions)) }
         ensures err { OnErr result (self.new.versions ≡ self.old.versions) }
         ensures room { self.new.room ≡ spend call_code (write_call writes.now) self.old.room }
         ensures ready { IsTrue (is_made call_code (write_call writes.now) self.old.room) → IsOk result }

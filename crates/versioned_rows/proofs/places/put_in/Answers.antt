@@ -1,10 +1,12 @@
-use Rattle.std.proofs.Common.{◌≡◌, ◌∷◌, ◌++◌, take, drop, Some, filter, ℕ, List, sym, ap, ◌∙◌, subst}
+use Rattle.std.proofs.Common.{map, ◌≡◌, ◌∷◌, ◌++◌, take, drop, Some, filter, ℕ, List, sym, ap, ◌∙◌, subst}
 use Rattle.versioned_rows.specs.Rising.{IsRising, is_before}
 use Rattle.versioned_rows.specs.Places.{label_of, is_written}
 use Rattle.versioned_rows.specs.Places.{with_place}
 use Rattle.versioned_rows.proofs.RisingLemmas.{filter_rest, rising_kept}
 use Rattle.versioned_rows.proofs.EditLemmas.{ok_is}
 use Rattle.versioned_rows.proofs.IndexLemmas.{put_indexed}
+use Rattle.versioned_rows.proofs.PutLemmas.{rising_put}
+use Rattle.versioned_rows.specs.declared.places.PlaceWrites.{PlaceWrites}
 use Rattle.versioned_rows.proofs.places.put_in.Goals as goal
 
 pub put_labels-requires-clause-rising : goal.put_labels-requires-clause-rising
@@ -25,6 +27,23 @@ returns-clause-places c =
     ∙ ap (λ l. l ++ place ∷ drop n qs) (sym c.count_before-at.ensures.count)
     ∙ ap (λ l. filter (λ q. is_before order (Some (label_of place)) (label_of q)) qs ++ place ∷ l) (sym rest)
     ∙ ap (with_place order place) c.deref.ensures.value
+
+pub returns-clause-rising : goal.returns-clause-rising
+returns-clause-rising c =
+    let ps = c.args.places.now.items in
+    let qs = c.deref.result.now in
+    let n = c.count_before-at.result in
+    let order = c.args.order.now.labels in
+    let place = c.args.place in
+    let put : c.insert.new.self.items ≡ take n ps ++ place ∷ drop n ps = ok_is c.insert.result _ _ _ (c.insert.ensures.succeeds c.requires.room) c.insert.ensures.items in
+    let rest = filter_rest (λ q. is_before order (Some (label_of place)) (label_of q)) qs n c.count_before-at.ensures.within c.count_before-at.ensures.front c.count_before-at.ensures.rest in
+    let same : c.insert.new.self.items ≡ with_place order place ps =
+    put ∙ ap (λ l. take n l ++ place ∷ drop n l) (sym c.deref.ensures.value)
+    ∙ ap (λ l. l ++ place ∷ drop n qs) (sym c.count_before-at.ensures.count)
+    ∙ ap (λ l. filter (λ q. is_before order (Some (label_of place)) (label_of q)) qs ++ place ∷ l) (sym rest)
+    ∙ ap (with_place order place) c.deref.ensures.value in
+    let P : List PlaceWrites → Type 0 = λ l. IsRising order (map label_of l) in
+    subst P (sym same) (rising_put order place c.requires.label ps c.requires.rising c.requires.others)
 
 pub returns-clause-indexed : goal.returns-clause-indexed
 returns-clause-indexed c =

@@ -1,0 +1,83 @@
+use Rattle.std.proofs.Common.{◌≡◌, ◌<◌, ◌≤◌, ◌+◌, ◌++◌, ◌∷◌, [], true, false, Some, None, length, drop, sym, ap, ◌∙◌, arith, length-append}
+use Rattle.lang_core.specs.Rows.{is_over, cell_size, kept_from}
+use Rattle.lang_core.specs.declared.cells.Cell.{Cell}
+use Rattle.versioned_rows.specs.Places.{rows_after, before}
+use Rattle.versioned_rows.specs.Scans.{is_under, while, cell_at, row_cells}
+use Rattle.versioned_rows.proofs.CellLemmas.{next_ordered, last_cell, next_cell, no_cell, kept_ordered}
+use Rattle.versioned_rows.proofs.versions.Versions.scanned.Goals as goal
+use Rattle.versioned_rows.proofs.versions.Versions.scanned.Goals.{in-Some+in_ok-push-in-Some+else-is_too_much, in-None}
+
+pub push-requires : goal.push-requires
+push-requires c =
+    let t = c.args.table.now in
+    let prefix = c.args.prefix.now in
+    let cells = rows_after (before c.args.order.now.labels c.args.label c.args.self.now.versions) in
+    let rows = c.args.rows.now in
+    let r = c.row-item.result in
+    let i = c.loop-row.row-index in
+    let kept = c.loop-row.kept in
+    let bytes = c.loop-row.bytes in
+    let lt : i < length rows = omega arith in
+    let under : is_under t prefix r ≡ true = grind (arith, c.is_under.ensures, c.if-not-is_under.false) in
+    let made : Cell = c.in-Some.cell in
+    let cell : cell_at cells r ≡ Some made = sym c.in_ok-cell_before.ensures ∙ c.in-Some.is in
+    next_ordered t prefix cells rows i r lt c.row-item.is under kept _ bytes c.loop-row.invariant.rest made cell (kept_ordered t prefix cells rows c.requires.rows)
+
+pub returns-then-is_too_much : goal.returns-then-is_too_much
+returns-then-is_too_much c =
+    let t = c.args.table.now in
+    let prefix = c.args.prefix.now in
+    let cells = rows_after (before c.args.order.now.labels c.args.label c.args.self.now.versions) in
+    let rows = c.args.rows.now in
+    let r = c.row-item.result in
+    let i = c.loop-row.row-index in
+    let kept = c.loop-row.kept in
+    let bytes = c.loop-row.bytes in
+    let lt : i < length rows = omega arith in
+    let under : is_under t prefix r ≡ true = grind (arith, c.is_under.ensures, c.if-not-is_under.false) in
+    let made : Cell = c.in-Some.cell in
+    let cell : cell_at cells r ≡ Some made = sym c.in_ok-cell_before.ensures ∙ c.in-Some.is in
+    let grown : c.push.new.self ≡ kept ++ made ∷ [] = c.in_ok-push-in-Some.ensures.ok in
+    let count : c.len.result ≡ length kept + 1 = c.len.ensures ∙ ap length grown ∙ length-append kept (made ∷ []) in
+    let size : c.len-key.result + c.len-text.result ≡ cell_size made = ap (λ n. n + c.len-text.result) c.len-key.ensures ∙ ap (λ n. length made.key + n) c.len-text.ensures in
+    let over : is_over (length kept + 1) (bytes + cell_size made) ≡ true =
+    sym (c.is_too_much.ensures.over ∙ ap (λ n. is_over n (bytes + (c.len-key.result + c.len-text.result))) count ∙ ap (λ n. is_over (length kept + 1) (bytes + n)) size) ∙ c.if-is_too_much.true in
+    grown ∙ last_cell t prefix cells rows i r lt c.row-item.is under kept _ bytes c.loop-row.invariant.rest made cell over
+
+pub loop-row-preserved : goal.loop-row-preserved
+loop-row-preserved c =
+    let t = c.args.table.now in
+    let prefix = c.args.prefix.now in
+    let cells = rows_after (before c.args.order.now.labels c.args.label c.args.self.now.versions) in
+    let rows = c.args.rows.now in
+    let r = c.row-item.result in
+    let i = c.loop-row.row-index in
+    let kept = c.loop-row.kept in
+    let bytes = c.loop-row.bytes in
+    let lt : i < length rows = omega arith in
+    let under : is_under t prefix r ≡ true = grind (arith, c.is_under.ensures, c.if-not-is_under.false) in
+    let later = row_cells cells (while (is_under t prefix) (drop (i + 1) rows)) in
+    elim c.match-branch-2.branch [
+      | in-Some+in_ok-push-in-Some+else-is_too_much w ↦ (
+          let made : Cell = w.in-Some.cell in
+          let cell : cell_at cells r ≡ Some made = sym c.in_ok-cell_before.ensures ∙ w.in-Some.is in
+          let grown : w.push.new.self ≡ kept ++ made ∷ [] = w.in_ok-push-in-Some.ensures.ok in
+          let count : w.len.result ≡ length kept + 1 = w.len.ensures ∙ ap length grown ∙ length-append kept (made ∷ []) in
+          let size : w.len-key.result + w.len-text.result ≡ cell_size made = ap (λ n. n + w.len-text.result) w.len-key.ensures ∙ ap (λ n. length made.key + n) w.len-text.ensures in
+          let over : is_over (length kept + 1) (bytes + cell_size made) ≡ false =
+          sym (w.is_too_much.ensures.over ∙ ap (λ n. is_over n (bytes + (w.len-key.result + w.len-text.result))) count ∙ ap (λ n. is_over (length kept + 1) (bytes + n)) size) ∙ w.if-is_too_much.false in
+          let few = w.is_too_much.ensures.few w.if-is_too_much.false in
+          let now = w.bytes-is in
+          record {
+            few = omega arith;
+            rest = ap (λ k. k ++ kept_from (length k) c.match-branch-2.bytes later) (w.kept-is ∙ grown)
+                ∙ ap (λ b. (kept ++ made ∷ []) ++ kept_from (length (kept ++ made ∷ [])) b later) (w.bytes-is ∙ ap (λ n. bytes + n) size)
+                ∙ next_cell t prefix cells rows i r lt c.row-item.is under kept _ bytes c.loop-row.invariant.rest made cell over;
+          })
+      | in-None w ↦ (let now = w.bytes-is in let few = c.loop-row.invariant.few in record {
+        few = omega arith;
+        rest = ap (λ k. k ++ kept_from (length k) c.match-branch-2.bytes later) w.kept-is
+            ∙ ap (λ b. kept ++ kept_from (length kept) b later) w.bytes-is
+            ∙ no_cell t prefix cells rows i r lt c.row-item.is under kept _ bytes c.loop-row.invariant.rest (sym c.in_ok-cell_before.ensures ∙ w.in-None.is);
+      })
+    ]

@@ -1,0 +1,13 @@
+use Rattle.std.proofs.Common.{◌≡◌, List, map, sym, ap, ◌∙◌, subst}
+use Rattle.versioned_rows.specs.Rising.{IsRising}
+use Rattle.versioned_rows.specs.Places.{label_of, is_other, without}
+use Rattle.versioned_rows.specs.declared.places.PlaceWrites.{PlaceWrites}
+use Rattle.versioned_rows.proofs.RisingLemmas.{rising_kept}
+use Rattle.versioned_rows.proofs.versions.Versions.take_back.Goals as goal
+
+pub returns-clause-rising : goal.returns-clause-rising
+returns-clause-rising c = λ order rising.
+    let ps = c.self.inside.places.items in
+    let same : c.args.self.now.versions ≡ ps = sym (ap (λ v. v.versions) c.self.view_is) in
+    let P : List PlaceWrites → Type 0 = λ l. IsRising order (map label_of l) in
+    subst P (sym c.take_out.ensures.places) (rising_kept label_of order (λ p. is_other c.args.label (label_of p)) ps (subst P same rising))
