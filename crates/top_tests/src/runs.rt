@@ -2,7 +2,6 @@
 mod guestbook;
 mod loads;
 mod orders;
-mod programs;
 
 use aire_top::aire;
 use io_edge::{MemoryFile, MemoryFiles, MemorySink, MemorySource};
