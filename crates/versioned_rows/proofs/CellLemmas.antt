@@ -1,14 +1,14 @@
 -- Rows that have a key for each cell give all cells.
 use Rattle.std.proofs.Common.{◌≡◌, ℕ, zero, suc, ◌+◌, ◌-◌, ◌<◌, ◌≤◌, Bool, true, false, cond, List, [], ◌∷◌, ◌++◌, Option, Some, None, is_some, option_map, length, get_or, take, drop, map, fold, refl, sym, ap, ◌∙◌, subst, inl, inr, arith, add-one, length-append, length-drop, append_assoc}
 use Rattle.std.specs.declared.cmp.Ordering.TheVariants.{Less}
-use Rattle.std.specs.List.{filter, find, AllByRecursion}
+use Rattle.std.specs.List.{filter, find}
 use Rattle.std.specs.Option.{option_map_or}
 use Rattle.std.proofs.lemmas.Bool.{cases_Bool}
 use Rattle.lang_core.specs.Places.{Place, place_of, place_order, same_place, IsBelowAll, IsOrdered, rank}
 use Rattle.lang_core.specs.Rows.{get, apply, cell_place, cell_size, is_beneath, is_over, kept_from, scan}
 use Rattle.lang_core.specs.declared.cells.Cell.{Cell}
 use Rattle.lang_core.proofs.RowLemmas.{ordered-kept, ordered-apply}
-use Rattle.versioned_rows.specs.Rising.{IsRising, is_before}
+use Rattle.versioned_rows.specs.Rising.{IsRising}
 use Rattle.versioned_rows.specs.Places.{label_of, rows_after, before, writers}
 use Rattle.versioned_rows.specs.Rows.{row_place, labels_in}
 use Rattle.versioned_rows.specs.Versions.{IsIndexed}
@@ -16,7 +16,7 @@ use Rattle.versioned_rows.specs.Scans.{beneath, is_under, while, cell_at, with_c
 use Rattle.versioned_rows.specs.declared.rows.Row.{Row}
 use Rattle.versioned_rows.specs.declared.places.PlaceWrites.{PlaceWrites}
 use Rattle.versioned_rows.proofs.EditLemmas.{place_is, found_passes}
-use Rattle.versioned_rows.proofs.GetLemmas.{get_nothing, all_kept}
+use Rattle.versioned_rows.proofs.GetLemmas.{get_nothing}
 use Rattle.versioned_rows.proofs.PrefixLemmas.{under_together, same_ordered}
 
 -- the cell at a place

@@ -1,4 +1,4 @@
-use Rattle.std.proofs.Common.{◌≡◌, ◌<◌, ◌≤◌, ◌+◌, ◌++◌, ◌∷◌, [], true, false, Some, None, length, drop, sym, ap, ◌∙◌, arith, length-append}
+use Rattle.std.proofs.Common.{◌≡◌, ◌<◌, ◌+◌, ◌++◌, ◌∷◌, [], true, false, Some, length, drop, sym, ap, ◌∙◌, arith, length-append}
 use Rattle.lang_core.specs.Rows.{is_over, cell_size, kept_from}
 use Rattle.lang_core.specs.declared.cells.Cell.{Cell}
 use Rattle.versioned_rows.specs.Places.{rows_after, before}
