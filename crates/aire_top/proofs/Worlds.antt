@@ -1,8 +1,8 @@
 -- What is known of a world that is loaded.
 use Rattle.std.proofs.Common.{◌≡◌, ℕ, ◌<◌, ◌≤◌, List, [], ◌∷◌, ◌++◌, length, Option, Some, None, option_map, Ok, Err, Bool, true, false, cond, nat_lt, refl, ap, sym, ◌∙◌, rules, tests, codes}
 use Rattle.std.specs.Option.{ForSome}
-use Rattle.lang_base.specs.Texts.{same_text}
-use Rattle.world_file.specs.Notes.{built_in, notes_setup}
+use Rattle.world_file.proofs.Ones.{built_in_alone}
+use Rattle.world_file.specs.Notes.{built_in}
 use Rattle.world_file.specs.Worlds.{IsAlone, world_of}
 use Rattle.world_file.specs.declared.setup.Setup.{Setup}
 use Rattle.aire_top.specs.Top.{Is, WorldOrRefusal, file_world, path_unless, world_from, world_or, world_path, world_told, world_within}
@@ -13,24 +13,9 @@ last_alone [] last h = refl
 last_alone (one ∷ []) last h = absurd h
 last_alone (one ∷ other ∷ more) last h = absurd h
 
-no_list : {x : Setup} → Some (x ∷ []) ≡ Some [] → ⊥
-no_list h = cc
-
-long_list : {x y z : Setup} {more : List Setup} → Some (x ∷ []) ≡ Some (y ∷ z ∷ more) → ⊥
-long_list h = cc
-
-some_is : (setups : List Setup) → Some (notes_setup ∷ []) ≡ Some setups → IsAlone setups
-some_is (setup ∷ []) h = let e : notes_setup ≡ setup = cc in ap (λ (s : Setup). s.setting.peers) (sym e)
-some_is [] h = absurd (no_list h)
-some_is (setup ∷ other ∷ more) h = absurd (long_list h)
-
-by_word : (b : Bool) (setups : List Setup) → cond b (Some (notes_setup ∷ [])) None ≡ Some setups → IsAlone setups
-by_word true setups h = some_is setups h
-by_word false setups h = cc
-
 -- the worlds that come with the program
 pub standard_alone : (word : List ℕ) (setups : List Setup) → built_in word ≡ Some setups → IsAlone setups
-standard_alone word setups h = by_word (same_text word (codes "@notes")) setups h
+standard_alone word setups h = built_in_alone word setups h
 
 within-short : (bytes : List ℕ) → length bytes ≤ 4194304 → world_within bytes ≡ world_from (world_of bytes)
 within-short bytes short = let e : nat_lt 4194304 (length bytes) ≡ false = search (tests, rules) in rw e refl

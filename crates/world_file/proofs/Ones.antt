@@ -1,6 +1,7 @@
 -- A world that is read has one service, which has no peers.
-use Rattle.std.proofs.Common.{◌≡◌, ℕ, List, [], ◌∷◌, Option, Some, None, Result, Ok, Err, Bool, true, false, cond, refl, subst}
+use Rattle.std.proofs.Common.{◌≡◌, ℕ, List, [], ◌∷◌, Option, Some, None, Result, Ok, Err, Bool, true, false, cond, refl, subst, codes}
 use Rattle.std.specs.Str.{is_utf8}
+use Rattle.lang_base.specs.Texts.{same_text}
 use Rattle.lang_tree.specs.declared.program.Route.{Route}
 use Rattle.handler_lang.specs.Reading.{read_of}
 use Rattle.handler_lang.specs.declared.refused.ProgramRefused.{ProgramRefused}
@@ -11,6 +12,7 @@ use Rattle.world_file.specs.Fields.{Fields, Read, field_word, fields_in}
 use Rattle.world_file.specs.declared.field.Field.TheVariants as field
 use Rattle.world_file.specs.declared.setup.Setup.{Setup}
 use Rattle.world_file.specs.declared.refused.WorldRefused.TheVariants.{NotJson}
+use Rattle.world_file.specs.Notes.{built_in, notes_fields, notes_text, world_where}
 use Rattle.world_file.specs.Worlds.{IsAlone, alone, setup_of, with_fields, with_program, world_of, world_of_items, world_of_list, world_of_services, world_of_json}
 
 err_ok : {X E : Type 0} {x : X} {e : E} → Err e ≡ Ok x → ⊥
@@ -52,3 +54,18 @@ module _ (P : List Setup → Type 0) (each : (fields : Fields) (routes : List Ro
 
 pub world_alone : (bytes : List ℕ) (world : List Setup) → world_of bytes ≡ Ok world → IsAlone world
 world_alone bytes world h = of_world IsAlone (λ fields routes. refl) bytes world h
+
+-- ---- the worlds that come with the program
+
+where_alone : (fields : Fields) (program : Result (List Route) ProgramRefused) (world : List Setup) → world_where (with_program fields program) ≡ Some world → IsAlone world
+where_alone fields (Ok routes) world h = let e : setup_of fields routes ∷ [] ≡ world = cc in subst IsAlone e refl
+where_alone fields (Err refused) world h = cc
+
+by_word : (b : Bool) (world : List Setup) → cond b (world_where (with_program notes_fields (read_of notes_text))) None ≡ Some world → IsAlone world
+by_word true world h = where_alone notes_fields (read_of notes_text) world h
+by_word false world h = cc
+
+-- a world that comes with the program has one service, which has no peers
+pub built_in_alone : (word : List ℕ) (world : List Setup) → built_in word ≡ Some world → IsAlone world
+unfolding built_in
+built_in_alone word world h = by_word (same_text word (codes "@notes")) world h

@@ -1,6 +1,5 @@
 pub mod Fields
 pub mod Notes
 pub mod Numbers
-pub mod Pieces
 pub mod Spelled
 pub mod Worlds

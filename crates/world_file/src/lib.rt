@@ -1,7 +1,6 @@
 //! Worlds: which services there are, and how each is set up. A world is read from a file, or comes with the program.
 #![tactic(auto)]
 
-mod build;
 mod field;
 mod fields;
 mod refused;
@@ -13,5 +12,5 @@ pub use field::Field;
 pub use fields::MOST_WEIGHT;
 pub use refused::WorldRefused;
 pub use setup::Setup;
-pub use standard::{built_in, notes};
+pub use standard::built_in;
 pub use world::read_world;

@@ -37,8 +37,8 @@ fn set_up(alloc: Global, spelled: Spelled<'_>, program: Program) -> Result<Setup
     })
 }
 
-// The service with these fields, or why its program is none.
-fn with_program(alloc: Global, spelled: Spelled<'_>) -> Result<Setup, WorldRefused>
+/// The service with these fields, or why its program is none.
+pub fn with_program(alloc: Global, spelled: Spelled<'_>) -> Result<Setup, WorldRefused>
     ensures setup { IfOk result (λ setup.
         with_program (fields_of spelled.entry) (read_of spelled.entry.program.now) ≡ Ok setup) }
     ensures refused { IfErr result (λ why.
