@@ -1,0 +1,217 @@
+// What rows weigh, and what a journal says.
+use crate::given::{equal, fine, holds, name, put, same, text};
+use journal_rows::{
+    About, AckHow, AckedRow, AnsweredRow, AskedRow, Command, How, Mark, OrderedRow, Row, Rows,
+    SawAckRow, SawAnswerRow, SentRow, TookRow, WasConfirmedRow, last_answered, last_mark,
+    last_seen, last_sent, last_taken, ordered, seen_acked, weight,
+};
+use lang_core::{Copied, Inputs, Method, Origin, Same};
+use std::process::Abort;
+
+const INPUTS: Inputs = Inputs {
+    moment: 0,
+    w1: 0,
+    w2: 0,
+    w3: 0,
+    w4: 0,
+    w5: 0,
+    w6: 0,
+    w7: 0,
+    w8: 0,
+};
+
+// A row of this weight goes in last; its copy is equal to it.
+fn push(rt: &(impl Abort + AllocGlobal), rows: &mut Rows, row: Row, weighs: u64) {
+    equal(rt, weight(&row), weighs);
+    let copy = row.copied(rt.alloc()).expect(rt, "memory");
+    holds(rt, "copied", copy.is(&row));
+    holds(rt, "pushed", rows.push(row).is_ok());
+}
+
+fn asked(rt: &(impl Abort + AllocGlobal)) -> Row {
+    let request = put(rt, "ann", "/n/a", "hi");
+    Row::Asked(AskedRow {
+        id: 1,
+        origin: Origin::Outside,
+        request,
+        inputs: INPUTS,
+    })
+}
+
+fn answered(rt: &(impl Abort + AllocGlobal), answer_version: u64, body: &str, live: bool) -> Row {
+    let response = fine(rt, body);
+    Row::Answered(AnsweredRow {
+        id: 1,
+        origin: Origin::Outside,
+        answer_version,
+        version: 0,
+        response,
+        live,
+    })
+}
+
+fn took(rt: &(impl Abort + AllocGlobal), version: u64, body: &str) -> Row {
+    let caller = name(rt, "shop");
+    let desired = Some(put(rt, "shop", "/pay/x", body));
+    let who = text(rt, "ann");
+    Row::Took(TookRow {
+        caller,
+        number: 4,
+        version,
+        desired,
+        how: How::Message,
+        who,
+        rule: 1,
+    })
+}
+
+fn acked(rt: &(impl Abort + AllocGlobal)) -> Row {
+    Row::Acked(AckedRow {
+        caller: name(rt, "shop"),
+        number: 4,
+        version: 2,
+    })
+}
+
+fn confirmed(rt: &(impl Abort + AllocGlobal), answer_version: u64) -> Row {
+    Row::WasConfirmed(WasConfirmedRow {
+        caller: name(rt, "shop"),
+        number: 4,
+        answer_version,
+    })
+}
+
+fn sent(rt: &(impl Abort + AllocGlobal), number: u64, version: u64) -> Row {
+    let dest = name(rt, "bank");
+    Row::Sent(SentRow {
+        number,
+        dest,
+        version,
+        desired: None,
+    })
+}
+
+fn saw_ack(version: u64) -> Row {
+    Row::SawAck(SawAckRow {
+        number: 1,
+        version,
+        how: AckHow::ToPost,
+    })
+}
+
+fn saw_answer(rt: &(impl Abort + AllocGlobal), answer_version: u64) -> Row {
+    let response = fine(rt, "ok");
+    let who = text(rt, "bank");
+    Row::SawAnswer(SawAnswerRow {
+        number: 1,
+        answer_version,
+        version: 1,
+        response,
+        how: How::Live,
+        who,
+        rule: 0,
+    })
+}
+
+fn order(rt: &(impl Abort + AllocGlobal)) -> Row {
+    let token = text(rt, "t1");
+    let who = text(rt, "ann");
+    let path = text(rt, "/n/b");
+    let body = text(rt, "ho");
+    let original = Some(put(rt, "ann", "/n/a", "hi"));
+    let repaired = Some(put(rt, "ann", "/n/b", "ho"));
+    Row::Ordered(OrderedRow {
+        token,
+        command: Command::Replace {
+            id: 1,
+            method: Method::Put,
+            path,
+            body,
+        },
+        who,
+        rule: 1,
+        original,
+        repaired,
+        about: About::Request(1),
+    })
+}
+
+fn callee_rows(rt: &(impl Abort + AllocGlobal), rows: &mut Rows) {
+    push(rt, rows, took(rt, 1, "5"), 78);
+    push(rt, rows, took(rt, 2, "6"), 78);
+    push(rt, rows, acked(rt), 64);
+    let last = last_taken(rows.as_slice(), &name(rt, "shop"), 4).expect(rt, "taken");
+    equal(rt, last.version, 2);
+    holds(
+        rt,
+        "another caller",
+        last_taken(rows.as_slice(), &name(rt, "bank"), 4).is_none(),
+    );
+}
+
+fn marks(rt: &(impl Abort + AllocGlobal), rows: &mut Rows) {
+    let shop = name(rt, "shop");
+    holds(
+        rt,
+        "acknowledged",
+        last_mark(rows.as_slice(), 1, &shop, 4) == Mark::Unsettled,
+    );
+    push(rt, rows, confirmed(rt, 1), 64);
+    holds(
+        rt,
+        "confirmed",
+        last_mark(rows.as_slice(), 1, &shop, 4) == Mark::ConfirmedAt(1),
+    );
+    push(rt, rows, answered(rt, 2, "no", false), 66);
+    holds(
+        rt,
+        "new answer",
+        last_mark(rows.as_slice(), 1, &shop, 4) == Mark::Unsettled,
+    );
+    let last = last_answered(rows.as_slice(), 1).expect(rt, "answered");
+    same(rt, last.response.body.as_str(), "no");
+}
+
+fn caller_rows(rt: &(impl Abort + AllocGlobal), rows: &mut Rows) {
+    push(rt, rows, sent(rt, 1, 1), 64);
+    push(rt, rows, sent(rt, 2, 1), 64);
+    push(rt, rows, sent(rt, 1, 2), 64);
+    let last = last_sent(rows.as_slice(), 1).expect(rt, "sent");
+    equal(rt, last.version, 2);
+    holds(rt, "not sent", last_sent(rows.as_slice(), 3).is_none());
+    push(rt, rows, saw_ack(2), 64);
+    push(rt, rows, saw_ack(1), 64);
+    equal(rt, seen_acked(rows.as_slice(), 1), 2);
+    push(rt, rows, saw_answer(rt, 1), 70);
+    push(rt, rows, saw_answer(rt, 3), 70);
+    let last = last_seen(rows.as_slice(), 1).expect(rt, "seen");
+    equal(rt, last.answer_version, 3);
+}
+
+fn orders(rt: &(impl Abort + AllocGlobal), rows: &mut Rows) {
+    push(rt, rows, order(rt), 93);
+    let found = ordered(rows.as_slice(), &text(rt, "t1")).expect(rt, "ordered");
+    holds(rt, "about", found.about == About::Request(1));
+    holds(
+        rt,
+        "another token",
+        ordered(rows.as_slice(), &text(rt, "t2")).is_none(),
+    );
+}
+
+#[test]
+fn journals_weigh_and_say(rt: HostRuntime) {
+    let mut rows = Rows::new(rt.alloc());
+    push(&rt, &mut rows, asked(&rt), 73);
+    push(&rt, &mut rows, answered(&rt, 1, "", true), 64);
+    equal(&rt, rows.weight(), 137);
+    holds(&rt, "room", rows.reserve(20).is_ok());
+    callee_rows(&rt, &mut rows);
+    marks(&rt, &mut rows);
+    caller_rows(&rt, &mut rows);
+    orders(&rt, &mut rows);
+    let copy = rows.copied(rt.alloc()).expect(&rt, "memory");
+    equal(&rt, copy.len(), 15);
+    equal(&rt, copy.weight(), 1040);
+    holds(&rt, "past the end", copy.at(15).is_none());
+}

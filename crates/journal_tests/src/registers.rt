@@ -1,0 +1,142 @@
+// Registers through the life of two calls.
+ghost use Rattle.std.specs.Prelude.{IsTrue};
+ghost use Rattle.call_registers.specs.Registers.{IsThere, IsWanted};
+
+use crate::given::{equal, fine, holds, name, put, same, text};
+use call_registers::{Answer, Hold, Registers, Why};
+use std::process::Abort;
+
+fn is_there(registers: &Registers, number: u64) -> bool
+    ensures { IsTrue result → IsThere number registers.now.list }
+{
+    registers.get(number).is_some()
+}
+
+fn is_wanted(registers: &Registers, number: u64) -> bool
+    ensures { IsTrue result → IsWanted number registers.now.list }
+{
+    match registers.get(number) {
+        None => false,
+        Some(register) => register.desired.is_some(),
+    }
+}
+
+fn want(rt: &(impl Abort + AllocGlobal), registers: &mut Registers, body: &str, number: u64) {
+    let request = put(rt, "shop", "/pay/x", body);
+    let given = registers.want(rt.alloc(), &name(rt, "bank"), &request, 3);
+    holds(rt, "wanted", given == Ok(number));
+}
+
+fn replace(rt: &(impl Abort + AllocGlobal), registers: &mut Registers, number: u64, body: &str) {
+    let request = put(rt, "shop", "/pay/x", body);
+    assert!(rt; is_wanted(registers, number));
+    let done = registers.replace(rt.alloc(), number, &request, 9);
+    holds(rt, "replaced", done.is_ok());
+}
+
+fn hear(
+    rt: &(impl Abort + AllocGlobal),
+    registers: &mut Registers,
+    answer_version: u64,
+    version: u64,
+    body: &str,
+) {
+    let response = fine(rt, body);
+    let answer = Answer {
+        answer_version,
+        version,
+        response,
+    };
+    assert!(rt; is_there(registers, 1));
+    registers.saw_answer(1, answer);
+}
+
+// The first call consumes an answer with this body; the tentative one where it is `-`.
+fn consumes(rt: &(impl Abort + AllocGlobal), registers: &Registers, body: &str) {
+    match registers.consumed(1) {
+        None => same(rt, "-", body),
+        Some(response) => same(rt, response.body.as_str(), body),
+    }
+}
+
+fn acknowledged(rt: &(impl Abort + AllocGlobal), registers: &mut Registers, version: u64) -> u64 {
+    assert!(rt; is_there(registers, 1));
+    registers.saw_ack(1, version);
+    registers.get(1).expect(rt, "a register").acked
+}
+
+fn held(rt: &(impl Abort + AllocGlobal), registers: &mut Registers) {
+    assert!(rt; is_there(registers, 1));
+    registers.hold(1, Hold::Rule(2));
+    holds(
+        rt,
+        "held",
+        registers.get(1).expect(rt, "a register").held == Some(Hold::Rule(2)),
+    );
+}
+
+fn released(rt: &(impl Abort + AllocGlobal), registers: &mut Registers) {
+    let who = text(rt, "root");
+    assert!(rt; is_there(registers, 1));
+    registers.release(1, who);
+    let register = registers.get(1).expect(rt, "a register");
+    holds(rt, "not held", register.held.is_none());
+    same(rt, register.repair_who.as_str(), "root");
+}
+
+fn deleted(rt: &(impl Abort + AllocGlobal), registers: &mut Registers) {
+    assert!(rt; is_wanted(registers, 2));
+    registers.unwant(2, 12);
+    holds(rt, "deleted", !is_wanted(registers, 2));
+    let register = registers.get(2).expect(rt, "a register");
+    equal(rt, register.version, 2);
+    equal(rt, register.since, 12);
+    same(rt, register.repair_who.as_str(), "shop");
+}
+
+fn told(rt: &(impl Abort + AllocGlobal), registers: &mut Registers) {
+    assert!(rt; is_there(registers, 2));
+    registers.tell(2, Why::Changes);
+    let register = registers.get(2).expect(rt, "a register");
+    holds(rt, "told", register.told == Some(Why::Changes));
+}
+
+fn ready(rt: &(impl Abort + AllocGlobal), registers: &mut Registers) {
+    let request = put(rt, "shop", "/pay/y", "7");
+    let bank = name(rt, "bank");
+    let made = registers.ready_want(rt.alloc(), &bank, &request, 20);
+    holds(rt, "room", made.is_ok());
+    let given = registers.want(rt.alloc(), &bank, &request, 20);
+    holds(rt, "in room", given == Ok(3));
+}
+
+#[test]
+fn registers_follow_calls(rt: HostRuntime) {
+    let mut registers = Registers::new(rt.alloc());
+    want(&rt, &mut registers, "5", 1);
+    want(&rt, &mut registers, "6", 2);
+    consumes(&rt, &registers, "-");
+    hear(&rt, &mut registers, 1, 1, "ok 5");
+    consumes(&rt, &registers, "ok 5");
+    held(&rt, &mut registers);
+    replace(&rt, &mut registers, 1, "9");
+    holds(
+        &rt,
+        "a new version isn't held",
+        registers.get(1).expect(&rt, "a register").held.is_none(),
+    );
+    consumes(&rt, &registers, "-");
+    hear(&rt, &mut registers, 2, 2, "ok 9");
+    hear(&rt, &mut registers, 1, 2, "late");
+    consumes(&rt, &registers, "ok 9");
+    equal(&rt, acknowledged(&rt, &mut registers, 2), 2);
+    equal(&rt, acknowledged(&rt, &mut registers, 1), 2);
+    held(&rt, &mut registers);
+    released(&rt, &mut registers);
+    deleted(&rt, &mut registers);
+    told(&rt, &mut registers);
+    ready(&rt, &mut registers);
+    let copy = registers.copied(rt.alloc()).expect(&rt, "memory");
+    equal(&rt, copy.len(), 3);
+    holds(&rt, "none", copy.get(0).is_none() && copy.get(4).is_none());
+}
