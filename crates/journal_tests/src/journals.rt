@@ -20,12 +20,18 @@ const INPUTS: Inputs = Inputs {
     w8: 0,
 };
 
-// A row of this weight goes in last; its copy is equal to it.
-fn push(rt: &(impl Abort + AllocGlobal), rows: &mut Rows, row: Row, weighs: u64) {
-    equal(rt, weight(&row), weighs);
+// A row weighs this much, and is equal to its copy.
+fn looks(rt: &(impl Abort + AllocGlobal), row: &Row, weighs: u64) {
+    equal(rt, weight(row), weighs);
     let copy = row.copied(rt.alloc()).expect(rt, "memory");
-    holds(rt, "copied", copy.is(&row));
-    holds(rt, "pushed", rows.push(row).is_ok());
+    holds(rt, "copied", copy.is(row));
+}
+
+// A row of this weight goes in last.
+fn push(rt: &(impl Abort + AllocGlobal), rows: &mut Rows, row: Row, weighs: u64) {
+    looks(rt, &row, weighs);
+    let pushed = rows.push(row).is_ok();
+    holds(rt, "pushed", pushed);
 }
 
 fn asked(rt: &(impl Abort + AllocGlobal)) -> Row {
@@ -199,6 +205,13 @@ fn orders(rt: &(impl Abort + AllocGlobal), rows: &mut Rows) {
     );
 }
 
+fn more_rows(rt: &(impl Abort + AllocGlobal), rows: &mut Rows) {
+    callee_rows(rt, rows);
+    marks(rt, rows);
+    caller_rows(rt, rows);
+    orders(rt, rows);
+}
+
 #[test]
 fn journals_weigh_and_say(rt: HostRuntime) {
     let mut rows = Rows::new(rt.alloc());
@@ -206,10 +219,7 @@ fn journals_weigh_and_say(rt: HostRuntime) {
     push(&rt, &mut rows, answered(&rt, 1, "", true), 64);
     equal(&rt, rows.weight(), 137);
     holds(&rt, "room", rows.reserve(20).is_ok());
-    callee_rows(&rt, &mut rows);
-    marks(&rt, &mut rows);
-    caller_rows(&rt, &mut rows);
-    orders(&rt, &mut rows);
+    more_rows(&rt, &mut rows);
     let copy = rows.copied(rt.alloc()).expect(&rt, "memory");
     equal(&rt, copy.len(), 15);
     equal(&rt, copy.weight(), 1040);

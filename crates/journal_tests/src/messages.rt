@@ -30,25 +30,31 @@ fn copies<T: Copied + Same + Drop>(rt: &(impl Abort + AllocGlobal), value: &T) {
     holds(rt, "copied", copy.is(value));
 }
 
+fn ack(rt: &(impl Abort + AllocGlobal)) -> Ack {
+    let caller = name(rt, "shop");
+    let dest = name(rt, "bank");
+    Ack {
+        caller,
+        dest,
+        number: 1,
+        version: 2,
+    }
+}
+
+fn confirm(rt: &(impl Abort + AllocGlobal)) -> Confirm {
+    let caller = name(rt, "shop");
+    let callee = name(rt, "bank");
+    Confirm {
+        caller,
+        callee,
+        number: 1,
+        answer_version: 2,
+    }
+}
+
 fn small(rt: &(impl Abort + AllocGlobal)) {
-    copies(
-        rt,
-        &Ack {
-            caller: name(rt, "shop"),
-            dest: name(rt, "bank"),
-            number: 1,
-            version: 2,
-        },
-    );
-    copies(
-        rt,
-        &Confirm {
-            caller: name(rt, "shop"),
-            callee: name(rt, "bank"),
-            number: 1,
-            answer_version: 2,
-        },
-    );
+    copies(rt, &ack(rt));
+    copies(rt, &confirm(rt));
 }
 
 fn answer(rt: &(impl Abort + AllocGlobal)) -> AnswerMessage {
@@ -68,20 +74,29 @@ fn answer(rt: &(impl Abort + AllocGlobal)) -> AnswerMessage {
     }
 }
 
+// What a message asks of a receiver, and how it is spelled.
+fn asks(
+    rt: &(impl Abort + AllocGlobal),
+    message: SetMessage,
+    known: bool,
+    asked: Kind,
+    spelled: Kind,
+) {
+    let is_so = kind_of(&message, known) == asked && spelling(&message) == spelled;
+    holds(rt, "kind", is_so);
+}
+
+fn kinds(rt: &(impl Abort + AllocGlobal)) {
+    asks(rt, asking(rt, 1), false, Kind::Create, Kind::Create);
+    asks(rt, asking(rt, 1), true, Kind::Replace, Kind::Create);
+    asks(rt, asking(rt, 2), false, Kind::Create, Kind::Replace);
+    asks(rt, set(rt, 1, None), true, Kind::Delete, Kind::Delete);
+}
+
 #[test]
 fn names_kinds_and_copies(rt: HostRuntime) {
-    let create = asking(&rt, 1);
-    holds(&rt, "create", kind_of(&create, false) == Kind::Create);
-    holds(&rt, "known", kind_of(&create, true) == Kind::Replace);
-    holds(&rt, "as create", spelling(&create) == Kind::Create);
-    let replace = asking(&rt, 2);
-    holds(&rt, "unknown", kind_of(&replace, false) == Kind::Create);
-    holds(&rt, "as replace", spelling(&replace) == Kind::Replace);
-    let delete = set(&rt, 1, None);
-    holds(&rt, "delete", kind_of(&delete, true) == Kind::Delete);
-    holds(&rt, "as delete", spelling(&delete) == Kind::Delete);
-    holds(&rt, "differ", !create.is(&replace));
-    copies(&rt, &Post::Set(create));
+    kinds(&rt);
+    copies(&rt, &Post::Set(asking(&rt, 1)));
     copies(&rt, &Post::Answer(answer(&rt)));
     small(&rt);
 }

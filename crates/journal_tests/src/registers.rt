@@ -110,33 +110,46 @@ fn ready(rt: &(impl Abort + AllocGlobal), registers: &mut Registers) {
     holds(rt, "in room", given == Ok(3));
 }
 
+fn heard(rt: &(impl Abort + AllocGlobal), registers: &mut Registers) {
+    want(rt, registers, "5", 1);
+    want(rt, registers, "6", 2);
+    consumes(rt, registers, "-");
+    hear(rt, registers, 1, 1, "ok 5");
+    consumes(rt, registers, "ok 5");
+}
+
+fn renewed(rt: &(impl Abort + AllocGlobal), registers: &mut Registers) {
+    held(rt, registers);
+    replace(rt, registers, 1, "9");
+    let register = registers.get(1).expect(rt, "a register");
+    holds(rt, "a new version isn't held", register.held.is_none());
+    consumes(rt, registers, "-");
+    hear(rt, registers, 2, 2, "ok 9");
+    hear(rt, registers, 1, 2, "late");
+    consumes(rt, registers, "ok 9");
+}
+
+fn ended(rt: &(impl Abort + AllocGlobal), registers: &mut Registers) {
+    equal(rt, acknowledged(rt, registers, 2), 2);
+    equal(rt, acknowledged(rt, registers, 1), 2);
+    held(rt, registers);
+    released(rt, registers);
+    deleted(rt, registers);
+    told(rt, registers);
+    ready(rt, registers);
+}
+
+fn copied(rt: &(impl Abort + AllocGlobal), registers: &Registers) {
+    let copy = registers.copied(rt.alloc()).expect(rt, "memory");
+    let is_so = copy.len() == 3 && copy.get(0).is_none() && copy.get(4).is_none();
+    holds(rt, "copied", is_so);
+}
+
 #[test]
 fn registers_follow_calls(rt: HostRuntime) {
     let mut registers = Registers::new(rt.alloc());
-    want(&rt, &mut registers, "5", 1);
-    want(&rt, &mut registers, "6", 2);
-    consumes(&rt, &registers, "-");
-    hear(&rt, &mut registers, 1, 1, "ok 5");
-    consumes(&rt, &registers, "ok 5");
-    held(&rt, &mut registers);
-    replace(&rt, &mut registers, 1, "9");
-    holds(
-        &rt,
-        "a new version isn't held",
-        registers.get(1).expect(&rt, "a register").held.is_none(),
-    );
-    consumes(&rt, &registers, "-");
-    hear(&rt, &mut registers, 2, 2, "ok 9");
-    hear(&rt, &mut registers, 1, 2, "late");
-    consumes(&rt, &registers, "ok 9");
-    equal(&rt, acknowledged(&rt, &mut registers, 2), 2);
-    equal(&rt, acknowledged(&rt, &mut registers, 1), 2);
-    held(&rt, &mut registers);
-    released(&rt, &mut registers);
-    deleted(&rt, &mut registers);
-    told(&rt, &mut registers);
-    ready(&rt, &mut registers);
-    let copy = registers.copied(rt.alloc()).expect(&rt, "memory");
-    equal(&rt, copy.len(), 3);
-    holds(&rt, "none", copy.get(0).is_none() && copy.get(4).is_none());
+    heard(&rt, &mut registers);
+    renewed(&rt, &mut registers);
+    ended(&rt, &mut registers);
+    copied(&rt, &registers);
 }

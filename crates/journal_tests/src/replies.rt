@@ -2,7 +2,7 @@
 ghost use Rattle.std.specs.Prelude.{IsTrue};
 ghost use Rattle.call_registers.specs.Replies.{IsThere, IsAboveAll};
 
-use crate::given::{equal, holds, name, same, text};
+use crate::given::{holds, name, same, text};
 use call_registers::{Hold, Replies, Reply};
 use std::process::Abort;
 
@@ -70,7 +70,7 @@ fn released(rt: &(impl Abort + AllocGlobal), replies: &mut Replies) {
     same(rt, reply.repair_who.as_str(), "root");
 }
 
-fn two(rt: &(impl Abort + AllocGlobal)) -> Replies {
+fn one(rt: &(impl Abort + AllocGlobal)) -> Replies {
     let mut replies = Replies::new(rt.alloc());
     let first = reply(rt, 1);
     holds(rt, "room", replies.ready_add(&first).is_ok());
@@ -78,29 +78,45 @@ fn two(rt: &(impl Abort + AllocGlobal)) -> Replies {
     replies
 }
 
+fn settled(rt: &(impl Abort + AllocGlobal), replies: &mut Replies) {
+    due(rt, replies, false);
+    acknowledged(rt, replies);
+    due(rt, replies, true);
+    confirmed(rt, replies, 1);
+    due(rt, replies, false);
+}
+
+fn renewed(rt: &(impl Abort + AllocGlobal), replies: &mut Replies) {
+    held(rt, replies);
+    answered(rt, replies, 2);
+    due(rt, replies, true);
+    confirmed(rt, replies, 1);
+    due(rt, replies, true);
+    confirmed(rt, replies, 2);
+    due(rt, replies, false);
+}
+
+fn unwanted(rt: &(impl Abort + AllocGlobal), replies: &mut Replies) {
+    held(rt, replies);
+    released(rt, replies);
+    acknowledged(rt, replies);
+    taken(rt, replies, false);
+    due(rt, replies, false);
+    acknowledged(rt, replies);
+    due(rt, replies, false);
+}
+
+fn copied(rt: &(impl Abort + AllocGlobal), replies: &Replies) {
+    let copy = replies.copied(rt.alloc()).expect(rt, "memory");
+    let is_so = copy.len() == 1 && copy.get(4).is_none() && copy.at(1).is_none();
+    holds(rt, "copied", is_so);
+}
+
 #[test]
 fn replies_are_due_and_settled(rt: HostRuntime) {
-    let mut replies = two(&rt);
-    due(&rt, &replies, false);
-    acknowledged(&rt, &mut replies);
-    due(&rt, &replies, true);
-    confirmed(&rt, &mut replies, 1);
-    due(&rt, &replies, false);
-    held(&rt, &mut replies);
-    answered(&rt, &mut replies, 2);
-    due(&rt, &replies, true);
-    confirmed(&rt, &mut replies, 1);
-    due(&rt, &replies, true);
-    confirmed(&rt, &mut replies, 2);
-    due(&rt, &replies, false);
-    held(&rt, &mut replies);
-    released(&rt, &mut replies);
-    acknowledged(&rt, &mut replies);
-    taken(&rt, &mut replies, false);
-    due(&rt, &replies, false);
-    acknowledged(&rt, &mut replies);
-    due(&rt, &replies, false);
-    let copy = replies.copied(rt.alloc()).expect(&rt, "memory");
-    equal(&rt, copy.len(), 1);
-    holds(&rt, "none", copy.get(4).is_none() && copy.at(1).is_none());
+    let mut replies = one(&rt);
+    settled(&rt, &mut replies);
+    renewed(&rt, &mut replies);
+    unwanted(&rt, &mut replies);
+    copied(&rt, &replies);
 }

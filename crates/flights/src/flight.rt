@@ -1,0 +1,48 @@
+// A live request that waits, and what it does next.
+use lang_core::{Calls, Copied, Inputs, NoMemory, Origin, Request, Seq};
+use repair_messages::copied_pair;
+use std::alloc::Global;
+
+/// A live request that waits for the answer of a call. It has one number for each of its calls, and waits for the call
+/// that was named last.
+#[derive(Drop)]
+pub struct Flight {
+    /// Its number in the service, from 1; of those in flight at one time no two have one number.
+    pub id: u64,
+    pub origin: Origin,
+    pub request: Request,
+    pub inputs: Inputs,
+    /// Its calls so far, in the order of its slots.
+    pub calls: Calls,
+    /// The numbers of its calls.
+    pub numbers: Seq<u64>,
+    /// How often a run made another call than the one before it.
+    pub changes: u64,
+}
+
+/// What a flight does after a run.
+#[derive(Clone, Copy, PartialEq, Eq)]
+pub enum Move {
+    /// It is committed: the run ended.
+    Commit,
+    /// It names one more call.
+    Name,
+    /// It deletes the call of this slot and names another one there.
+    Change { slot: u64 },
+}
+
+impl Copied for Flight {
+    fn copied(&self, alloc: Global) -> Result<Flight, NoMemory> {
+        let (origin, request) = copied_pair(alloc, &self.origin, &self.request)?;
+        let (calls, numbers) = copied_pair(alloc, &self.calls, &self.numbers)?;
+        Ok(Flight {
+            id: self.id,
+            origin,
+            request,
+            inputs: self.inputs,
+            calls,
+            numbers,
+            changes: self.changes,
+        })
+    }
+}

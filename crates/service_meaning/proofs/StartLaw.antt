@@ -1,0 +1,33 @@
+-- A service without rows fits its journal.
+use Rattle.std.proofs.Common.{ℕ, ◌<◌, [], refl, arith}
+use Rattle.lang_core.specs.declared.setting.Setting.{Setting}
+use Rattle.service_meaning.specs.State.{Kept}
+use Rattle.service_meaning.specs.Fits.{Fits}
+
+abbrev pub fresh : Setting → Kept
+fresh setting = record { setting = setting; entries = []; flights = []; journal = []; registers = []; replies = [] }
+
+below_none : (k : ℕ) → k < 0 → ⊥
+below_none k h = omega (arith, h)
+
+pub fits_start : (setting : Setting) → Fits (fresh setting)
+fits_start setting =
+    record {
+      sent = record { rows = tt; registers = λ n. refl; count = refl; numbered = tt };
+      seen = record { rows = tt; registers = λ k d h. absurd (below_none k h); heard = λ n. omega arith };
+      taken = tt;
+      asked = record {
+        rows = tt;
+        count = refl;
+        distinct = tt;
+        entries = λ n. refl;
+        calls = λ c n. (λ t. t, λ t. t);
+        now = λ k d h. absurd (below_none k h);
+      };
+      runs = λ k d h. absurd (below_none k h);
+      answered = record { rows = tt; entries = λ k d h. absurd (below_none k h) };
+      replies = record { rows = tt; entries = λ k d h. absurd (below_none k h); others = λ k d h. absurd (below_none k h); rising = tt };
+      places = record { calls = λ k d h. absurd (below_none k h); once = λ n. refl };
+      flights = record { others = λ i j d h w. absurd (below_none j w); untaken = λ k d h. absurd (below_none k h) };
+      orders = tt;
+    }

@@ -1,0 +1,126 @@
+-- What a service keeps, and what an event leaves of it.
+use Rattle.std.specs.Prelude.{ℕ, ◌+◌, Bool, false, not, List, [], ◌∷◌, Option, Some, None, if◌then◌else◌, nat_eq, nat_lt, nat_le, length, find, filter, refl}
+use Rattle.std.specs.Coded.{Coded, code_by, coded×, coded_list}
+use Rattle.std.specs.List.{list_any}
+use Rattle.lang_core.specs.contracts.setting.Setting as setting
+use Rattle.lang_core.specs.declared.ids.Origin.{Origin}
+use Rattle.lang_core.specs.declared.ids.Origin.TheVariants.{Outside, Call}
+use Rattle.lang_core.specs.declared.setting.Setting.{Setting}
+use Rattle.request_log.specs.Entries.{is_call}
+use Rattle.request_log.specs.contracts.entry.Entry as entry
+use Rattle.request_log.specs.declared.entry.Entry.{Entry}
+use Rattle.local_repair.specs.Current.{Consumed}
+use Rattle.local_repair.specs.Steps.{answer_or_tentative}
+use Rattle.journal_rows.specs.Weights.{journal_weight}
+use Rattle.journal_rows.specs.contracts.row.Row as row
+use Rattle.journal_rows.specs.declared.row.Row.{Row}
+use Rattle.call_registers.specs.Registers.{consumed}
+use Rattle.call_registers.specs.contracts.register.Register as register
+use Rattle.call_registers.specs.contracts.reply.Reply as reply
+use Rattle.call_registers.specs.declared.register.Register.{Register}
+use Rattle.call_registers.specs.declared.reply.Reply.{Reply}
+use Rattle.flights.specs.contracts.flight.Flight as flight
+use Rattle.flights.specs.declared.flight.Flight.{Flight}
+
+-- what it is set to do, its entries in logged order, its flights in the order of their numbers, its journal, its registers and its replies
+pub record Kept : Type 0 where
+  pub setting : Setting
+  pub entries : List Entry
+  pub flights : List Flight
+  pub journal : List Row
+  pub registers : List Register
+  pub replies : List Reply
+
+-- by which a proof tells two of them apart
+abbrev pub kept_code : Coded Kept
+kept_code =
+    code_by (Setting × (List Entry × (List Flight × (List Row × (List Register × List Reply)))))
+    (coded× setting.the_row.coded
+    (coded× (coded_list entry.the_row.coded)
+    (coded× (coded_list flight.the_row.coded)
+    (coded× (coded_list row.the_row.coded) (coded× (coded_list register.the_row.coded) (coded_list reply.the_row.coded))))))
+    (λ s. (s.setting, (s.entries, (s.flights, (s.journal, (s.registers, s.replies))))))
+    (λ p. record {
+      setting = p.0;
+      entries = p.1.0;
+      flights = p.1.1.0;
+      journal = p.1.1.1.0;
+      registers = p.1.1.1.1.0;
+      replies = p.1.1.1.1.1;
+    })
+    (λ _. refl)
+
+-- what an event leaves, and what it answers
+pub record After (A : Type 0) : Type 0 where
+  pub service : Kept
+  pub answer : A
+
+abbrev pub after : {A : Type 0} → Kept → A → After A
+after s answer = record { service = s; answer = answer }
+
+abbrev pub me : Kept → List ℕ
+me s = s.setting.me
+
+-- what each number consumes
+abbrev pub answers : Kept → Consumed
+answers s number = answer_or_tentative (consumed number s.registers)
+
+-- numbers of entries count from 1 in the order in which entries are made
+abbrev pub next_id : Kept → ℕ
+next_id s = length s.entries + 1
+
+-- ---- limits
+
+abbrev pub in_all : Kept → ℕ
+in_all s = length s.entries + length s.flights
+
+-- how many entries and flights there are, where there is no place for one more
+abbrev pub is_crowded : Kept → Option ℕ
+is_crowded s = if nat_le 100000 (in_all s) then Some (in_all s) else None
+
+-- what the journal weighs, where that has reached what it may weigh
+abbrev pub is_heavy : Kept → Option ℕ
+is_heavy s = if nat_le s.setting.weight (journal_weight s.journal) then Some (journal_weight s.journal) else None
+
+abbrev pub or_else : {X : Type 0} → Option X → Option X → Option X
+or_else None other = other
+or_else (Some x) other = Some x
+
+abbrev pub where_needed : {X : Type 0} → Bool → Option X → Option X
+where_needed b o = if b then o else None
+
+-- ---- flights
+
+abbrev pub has_flight : ℕ → Flight → Bool
+has_flight id f = nat_eq f.id id
+
+abbrev pub flight_of : ℕ → Kept → Option Flight
+flight_of id s = find (has_flight id) s.flights
+
+abbrev pub same_call_origin : Origin → Origin → Bool
+same_call_origin Outside o = false
+same_call_origin (Call caller number) o = is_call caller number o
+
+-- whether a call with this origin is in flight
+abbrev pub is_in_flight : Origin → Kept → Bool
+is_in_flight origin s = list_any (λ (f : Flight). same_call_origin origin f.origin) s.flights
+
+abbrev pub without_flight : ℕ → List Flight → List Flight
+without_flight id flights = filter (λ f. not (has_flight id f)) flights
+
+-- before the first one of a greater number
+abbrev pub put_flight : Flight → List Flight → List Flight
+put_flight f [] = f ∷ []
+put_flight f (g ∷ gs) = if nat_lt f.id g.id then f ∷ g ∷ gs else g ∷ put_flight f gs
+
+-- in place of the one of its number, if there is one
+abbrev pub with_flight : Flight → List Flight → List Flight
+with_flight f flights = put_flight f (without_flight f.id flights)
+
+-- the least number from this one on that none of these, in the order of their numbers, has
+abbrev pub free_from : ℕ → List Flight → ℕ
+free_from id [] = id
+free_from id (f ∷ fs) = if nat_eq f.id id then free_from (id + 1) fs else id
+
+abbrev pub free_flight : Kept → ℕ
+free_flight s = free_from 1 s.flights

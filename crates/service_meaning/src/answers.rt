@@ -1,0 +1,74 @@
+// What events of a service answer.
+use journal_rows::About;
+use lang_core::FaultNote;
+use repair_messages::{Ack, AnswerMessage, Confirm, SetMessage};
+
+/// What became of a live request.
+#[derive(Drop)]
+pub enum Arrived {
+    /// It was committed as the entry of this number; its answer is the row of this index in the journal.
+    Done { index: u64, id: u64 },
+    /// It is a flight of this number, and this call is to be sent.
+    Call { flight: u64, set: SetMessage },
+    /// It is a call that has an entry, whose last answer this is.
+    Known(AnswerMessage),
+}
+
+/// A version of a call was acknowledged.
+#[derive(Drop)]
+pub struct Taken {
+    pub ack: Ack,
+    /// The number of the rule that allowed it; None where it was known, or one above it.
+    pub rule: Option<u32>,
+}
+
+/// An answer was confirmed.
+#[derive(Drop)]
+pub struct Heard {
+    pub confirm: Confirm,
+    /// The number of the rule that allowed it; None where it was known, or one above it.
+    pub rule: Option<u32>,
+}
+
+/// Why a receiver refused a post.
+#[derive(Clone, Copy, PartialEq, Eq)]
+pub enum PostWord {
+    NoMemory,
+    Full,
+    NotYet,
+    Denied,
+    Unknown,
+}
+
+/// What came back of a post.
+#[derive(Drop)]
+pub enum PostReply {
+    /// The version was acknowledged.
+    Acked(Ack),
+    /// The answer was confirmed.
+    Confirmed(Confirm),
+    /// The receiver refused it, with what its refusal carries.
+    Refused { word: PostWord, number: u64 },
+    /// The exchange failed.
+    Lost(FaultNote),
+}
+
+/// What became of a post.
+#[derive(Clone, Copy, PartialEq, Eq)]
+pub enum Posted {
+    /// The version was acknowledged.
+    Acked,
+    /// The answer was confirmed.
+    Confirmed,
+    /// It was refused, and isn't sent again before somebody retries it or it has a new version or answer.
+    Held,
+    /// It stays to be sent.
+    Left,
+}
+
+/// What an accepted order is about, and the rule that allowed it.
+#[derive(Clone, Copy, PartialEq, Eq)]
+pub struct Ordered {
+    pub about: About,
+    pub rule: u32,
+}

@@ -1,0 +1,13 @@
+//! What a service means: what it keeps, how that fits its journal, and what each event makes of it and answers.
+//!
+//! Each event is a function of the service and its arguments. It never wants memory: code that meets it either does just
+//! that, or wants memory and changes nothing.
+#![tactic(auto)]
+
+mod answers;
+mod refusals;
+
+pub use answers::{Arrived, Heard, Ordered, PostReply, PostWord, Posted, Taken};
+pub use refusals::{
+    AnswerRefused, ArriveRefused, CallRefused, OrderRefused, PostRefused, TakeRefused,
+};
