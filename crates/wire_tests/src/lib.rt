@@ -5,6 +5,8 @@
 #[cfg(test)]
 mod fields;
 #[cfg(test)]
+mod messages;
+#[cfg(test)]
 mod reading;
 #[cfg(test)]
 mod seals;
