@@ -1,11 +1,6 @@
-//! Tests of messages as bytes: seals against published vectors, heads and bodies with their refusals, what is written, and
-//! the header fields of messages between services.
+//! Tests of messages as bytes: seals against published vectors, heads and bodies with their refusals, and what is written.
 #![tactic(auto)]
 
-#[cfg(test)]
-mod fields;
-#[cfg(test)]
-mod messages;
 #[cfg(test)]
 mod reading;
 #[cfg(test)]
