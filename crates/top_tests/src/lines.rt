@@ -1,9 +1,9 @@
 // Lines written by hand, each with what it says or the number of its refusal.
-use lang_core::{Method, Name, NoMemory, Request, Text};
+use crate::given::{holds, same};
+use lang_core::{Method, Name, Request, Text};
 use script_run::{Line, read_line};
 use service_core::Command;
-use std::alloc::{AllocError, Global};
-use std::test::Fail;
+use std::process::Abort;
 
 fn method_word(method: Method) -> &'static str {
     match method {
@@ -14,63 +14,58 @@ fn method_word(method: Method) -> &'static str {
     }
 }
 
-fn push_asked(
-    text: &mut String,
-    method: Method,
-    path: &Text,
-    body: &Text,
-) -> Result<(), AllocError> {
+fn asked(rt: &(impl Abort + AllocGlobal), method: Method, path: &Text, body: &Text) -> String {
     let method = method_word(method);
     let path = path.as_str();
     let body = body.as_str();
-    write!(text, "[{method}][{path}][{body}]")
+    format!(in rt.alloc(); "[{method}][{path}][{body}]").expect(rt, "memory")
 }
 
-fn push_request(text: &mut String, request: &Request) -> Result<(), AllocError> {
+fn request(rt: &(impl Abort + AllocGlobal), request: &Request) -> String {
     let who = request.who.as_str();
+    let asked = asked(rt, request.method, &request.path, &request.body);
     let chain = request.chain.len();
-    write!(text, "[{who}]")?;
-    push_asked(text, request.method, &request.path, &request.body)?;
-    write!(text, "{chain}")
+    format!(in rt.alloc(); "[{who}]{asked}{chain}").expect(rt, "memory")
 }
 
-fn spelled_ask(alloc: Global, service: &Name, request: &Request) -> Result<String, AllocError> {
+fn ask(rt: &(impl Abort + AllocGlobal), service: &Name, asked: &Request) -> String {
     let service = service.as_str();
-    let mut text = format!(in alloc; "ask[{service}]")?;
-    push_request(&mut text, request)?;
-    Ok(text)
+    let request = request(rt, asked);
+    format!(in rt.alloc(); "ask[{service}]{request}").expect(rt, "memory")
 }
 
-fn push_neighbour(text: &mut String, neighbour: Option<u64>) -> Result<(), AllocError> {
+fn neighbour(rt: &(impl Abort + AllocGlobal), neighbour: Option<u64>) -> String {
     match neighbour {
-        Some(id) => write!(text, "[{id}]"),
-        None => text.push_str("[-]"),
+        Some(id) => format!(in rt.alloc(); "[{id}]").expect(rt, "memory"),
+        None => String::from_str(rt.alloc(), "[-]").expect(rt, "memory"),
     }
 }
 
-fn push_signed(text: &mut String, token: &Text, who: &Text) -> Result<(), AllocError> {
-    let token = token.as_str();
-    let who = who.as_str();
-    write!(text, "[{token}][{who}]")
+fn creation(
+    rt: &(impl Abort + AllocGlobal),
+    before: Option<u64>,
+    after: Option<u64>,
+    asked: &Request,
+) -> String {
+    let before = neighbour(rt, before);
+    let after = neighbour(rt, after);
+    let request = request(rt, asked);
+    format!(in rt.alloc(); "{before}{after}{request}").expect(rt, "memory")
 }
 
-fn spelled_order(
-    alloc: Global,
-    service: &Name,
+fn order(
+    rt: &(impl Abort + AllocGlobal),
+    service: &str,
     command: &Command,
-    token: &Text,
-    who: &Text,
-) -> Result<String, AllocError> {
-    let service = service.as_str();
-    let mut text = String::new(alloc);
+    token: &str,
+    who: &str,
+) -> String {
     match command {
         Command::Cancel(id) => {
-            write!(text, "cancel[{service}][{id}]")?;
-            push_signed(&mut text, token, who)?;
+            format!(in rt.alloc(); "cancel[{service}][{id}][{token}][{who}]").expect(rt, "memory")
         }
         Command::Restore(id) => {
-            write!(text, "restore[{service}][{id}]")?;
-            push_signed(&mut text, token, who)?;
+            format!(in rt.alloc(); "restore[{service}][{id}][{token}][{who}]").expect(rt, "memory")
         }
         Command::Replace {
             id,
@@ -78,63 +73,70 @@ fn spelled_order(
             path,
             body,
         } => {
-            write!(text, "replace[{service}][{id}]")?;
-            push_signed(&mut text, token, who)?;
-            push_asked(&mut text, *method, path, body)?;
+            let asked = asked(rt, *method, path, body);
+            format!(in rt.alloc(); "replace[{service}][{id}][{token}][{who}]{asked}").expect(
+                rt, "memory",
+            )
         }
         Command::Create {
             before,
             after,
             request,
         } => {
-            write!(text, "create[{service}]")?;
-            push_signed(&mut text, token, who)?;
-            push_neighbour(&mut text, *before)?;
-            push_neighbour(&mut text, *after)?;
-            push_request(&mut text, request)?;
+            let creation = creation(rt, *before, *after, request);
+            format!(in rt.alloc(); "create[{service}][{token}][{who}]{creation}").expect(
+                rt, "memory",
+            )
         }
     }
-    Ok(text)
 }
 
-fn spelled_name(alloc: Global, word: &str, service: &Name) -> Result<String, AllocError> {
+fn named(rt: &(impl Abort + AllocGlobal), word: &str, service: &Name) -> String {
     let service = service.as_str();
-    format!(in alloc; "{word}[{service}]")
+    format!(in rt.alloc(); "{word}[{service}]").expect(rt, "memory")
+}
+
+fn counted(rt: &(impl Abort + AllocGlobal), word: &str, number: u64) -> String {
+    format!(in rt.alloc(); "{word}[{number}]").expect(rt, "memory")
+}
+
+fn alone(rt: &(impl Abort + AllocGlobal), word: &str) -> String {
+    String::from_str(rt.alloc(), word).expect(rt, "memory")
 }
 
 // The word, and each part in brackets.
-fn spelled(alloc: Global, line: &Line) -> Result<String, AllocError> {
+fn spelled(rt: &(impl Abort + AllocGlobal), line: &Line) -> String {
     match line {
-        Line::Blank => String::from_str(alloc, "blank"),
-        Line::Ask { service, request } => spelled_ask(alloc, service, request),
+        Line::Blank => alone(rt, "blank"),
+        Line::Ask { service, request } => ask(rt, service, request),
         Line::Order {
             service,
             command,
             token,
             who,
-        } => spelled_order(alloc, service, command, token, who),
-        Line::Step { service } => spelled_name(alloc, "step", service),
-        Line::Rows { service } => spelled_name(alloc, "rows", service),
-        Line::Log { service } => spelled_name(alloc, "log", service),
-        Line::Audit => String::from_str(alloc, "audit"),
-        Line::Clock(moment) => format!(in alloc; "clock[{moment}]"),
-        Line::Seed(number) => format!(in alloc; "seed[{number}]"),
+        } => order(rt, service.as_str(), command, token.as_str(), who.as_str()),
+        Line::Step { service } => named(rt, "step", service),
+        Line::Rows { service } => named(rt, "rows", service),
+        Line::Log { service } => named(rt, "log", service),
+        Line::Audit => alone(rt, "audit"),
+        Line::Clock(moment) => counted(rt, "clock", *moment),
+        Line::Seed(number) => counted(rt, "seed", *number),
     }
 }
 
-fn said(alloc: Global, line: &[u8]) -> Result<String, NoMemory> {
-    match read_line(alloc, line)? {
-        Ok(line) => Ok(spelled(alloc, &line)?),
+fn says(rt: &(impl Abort + AllocGlobal), line: &[u8], want: &str) {
+    let said = match read_line(rt.alloc(), line).expect(rt, "memory") {
+        Ok(line) => spelled(rt, &line),
         Err(fault) => {
             let number = fault.number();
-            Ok(format!(in alloc; "{number}")?)
+            format!(in rt.alloc(); "{number}").expect(rt, "memory")
         }
-    }
+    };
+    same(rt, said.as_str(), want);
 }
 
 // What a line says, or the number of its refusal, and the line between two bars.
-const LINES: &str = r"
-blank||
+const LINES: &str = r"blank||
 blank|#|
 blank|# step shop|
 2| |
@@ -244,84 +246,65 @@ seed[0]|seed 0|
 seed[18446744073709551615]|seed 18446744073709551615|
 3|seed 18446744073709551616|
 3|seed -1|
-3|seed 1 2|
-";
+3|seed 1 2|";
 
-#[test]
-fn lines_are_read(rt: HostRuntime) -> Result<(), Fail> {
-    let mut count = 0u64;
-    for row in LINES.split('\n') {
-        let Some((want, line)) = row.split_once('|') else {
-            continue;
-        };
-        let line = line.strip_suffix('|').unwrap_or("no bar");
-        let said = said(rt.alloc(), line.as_bytes())?;
-        assert_eq!(rt; said.as_str(), want, "at {line}");
-        count = count.saturating_add(1);
-    }
-    assert_eq!(rt; count, 111);
-    Ok(())
+fn check_row(rt: &(impl Abort + AllocGlobal), row: &str) {
+    let (want, line) = row.split_once('|').expect(rt, row);
+    let line = line.strip_suffix('|').expect(rt, row);
+    says(rt, line.as_bytes(), want);
 }
 
-// A line that isn't UTF-8 is refused before its words are looked at; a comment isn't looked at, and a tab and a
-// carriage return are no spaces.
+// Behind the table: a line that isn't UTF-8 is refused before its words are looked at; a comment isn't looked at, and a tab
+// and a carriage return are no spaces.
 #[test]
-fn bytes_are_read(rt: HostRuntime) -> Result<(), Fail> {
-    for (line, want) in [
-        (b"#\xff\xfe".as_slice(), "blank"),
-        (b"\xff".as_slice(), "1"),
-        (b"shop \xc3".as_slice(), "1"),
-        (b"step \xff".as_slice(), "1"),
-        (b"ask notes ann GET /x \xed\xa0\x80".as_slice(), "1"),
-        (b"step\tshop".as_slice(), "2"),
-        (b"audit\r".as_slice(), "2"),
-        (b"step shop\r".as_slice(), "3"),
-        (
-            b"ask n a PUT /x \\na\\rb\\\\n\r".as_slice(),
-            "ask[n][a][PUT][/x][\na\rb\\n\r]0",
-        ),
-    ] {
-        assert_eq!(rt; said(rt.alloc(), line)?.as_str(), want);
+fn lines_are_read(rt: HostRuntime) {
+    for row in LINES.lines() {
+        check_row(&rt, row);
     }
-    Ok(())
+    says(&rt, b"#\xff\xfe", "blank");
+    says(&rt, b"\xff", "1");
+    says(&rt, b"shop \xc3", "1");
+    says(&rt, b"step \xff", "1");
+    says(&rt, b"ask notes ann GET /x \xed\xa0\x80", "1");
+    says(&rt, b"step\tshop", "2");
+    says(&rt, b"audit\r", "2");
+    says(&rt, b"step shop\r", "3");
+    says(
+        &rt,
+        b"ask n a PUT /x \\na\\rb\\\\n\r",
+        "ask[n][a][PUT][/x][\na\rb\\n\r]0",
+    );
 }
 
-fn filled(alloc: Global, front: &str, most: u64, back: &str) -> Result<String, AllocError> {
-    let mut line = String::from_str(alloc, front)?;
-    for _ in 0..most {
-        line.push_str("a")?;
+fn filled(rt: &(impl Abort + AllocGlobal), front: &str, count: u64, back: &str) -> String {
+    let mut line = String::from_str(rt.alloc(), front).expect(rt, "memory");
+    for _ in 0..count {
+        line.push_str("a").expect(rt, "memory");
     }
-    line.push_str(back)?;
-    Ok(line)
+    line.push_str(back).expect(rt, "memory");
+    line
 }
 
-// Each part at its longest, and with a byte more.
+// A part at its longest, and with a byte more.
+fn ends_at(rt: &(impl Abort + AllocGlobal), front: &str, most: u64, back: &str) {
+    let line = filled(rt, front, most, back);
+    let read = read_line(rt.alloc(), line.as_bytes()).expect(rt, "memory");
+    holds(rt, front, read.is_ok());
+    let line = filled(rt, front, most.saturating_add(1), back);
+    says(rt, line.as_bytes(), "3");
+}
+
 #[test]
-fn parts_have_limits(rt: HostRuntime) -> Result<(), Fail> {
-    for (front, most, back) in [
-        ("step ", 32, ""),
-        ("ask ", 32, " ann GET /x"),
-        ("ask notes ", 64, " GET /x"),
-        ("ask notes ann GET /", 1023, " body"),
-        ("ask notes ann GET /x ", 65536, ""),
-        ("ask notes ann GET /x ", 65535, "\\n"),
-        ("replace notes/7 t ann PUT /x ", 65536, ""),
-        ("create notes t ann - - ", 64, " GET /x"),
-        ("cancel ", 32, "/7 t ann"),
-        ("cancel notes/7 ", 64, " ann"),
-        ("cancel notes/7 t ", 64, ""),
-    ] {
-        let line = filled(rt.alloc(), front, most, back)?;
-        assert!(rt;
-            read_line(rt.alloc(), line.as_bytes())?.is_ok(),
-            "behind {front}"
-        );
-        let line = filled(rt.alloc(), front, most.saturating_add(1), back)?;
-        assert_eq!(rt;
-            said(rt.alloc(), line.as_bytes())?.as_str(),
-            "3",
-            "behind {front}"
-        );
-    }
-    Ok(())
+fn parts_have_limits(rt: HostRuntime) {
+    ends_at(&rt, "step ", 32, "");
+    ends_at(&rt, "ask ", 32, " ann GET /x");
+    ends_at(&rt, "ask notes ", 64, " GET /x");
+    ends_at(&rt, "ask notes ann GET /", 1023, " body");
+    ends_at(&rt, "ask notes ann GET /x ", 65536, "");
+    ends_at(&rt, "ask notes ann GET /x ", 65535, "\\n");
+    ends_at(&rt, "replace notes/7 t ann PUT /x ", 65536, "");
+    ends_at(&rt, "create notes t ann - - ", 64, " GET /x");
+    ends_at(&rt, "cancel ", 32, "/7 t ann");
+    ends_at(&rt, "cancel notes/7 ", 64, " ann");
+    ends_at(&rt, "cancel notes/7 t ", 64, "");
 }
