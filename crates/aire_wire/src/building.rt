@@ -30,14 +30,15 @@ fn sides_of(alloc: Global, head: &HeaderMap) -> Result<Sides, NoMemory>
     Ok(Sides { from, dest })
 }
 
-// Two texts.
+/// Two texts.
 #[derive(Drop)]
-struct Texts {
-    first: Text,
-    second: Text,
+pub struct Texts {
+    pub first: Text,
+    pub second: Text,
 }
 
-fn texts_of(alloc: Global, first: &str, second: &str) -> Result<Texts, NoMemory>
+/// Copies of both.
+pub fn texts_of(alloc: Global, first: &str, second: &str) -> Result<Texts, NoMemory>
     ensures first { IfOk result (λ texts. texts.first ≡ first.now) }
     ensures second { IfOk result (λ texts. texts.second ≡ second.now) }
 {

@@ -1,0 +1,139 @@
+-- The requests that are written for messages.
+use Rattle.std.specs.Prelude.{ℕ, List, [], ◌∷◌, ◌++◌, Option, Some, None, fold, codes, decimal}
+use Rattle.std.specs.List.{flat_map}
+use Rattle.lang_core.specs.declared.request.Request.{Request}
+use Rattle.lang_tree.specs.declared.method.Method.{Method}
+use Rattle.lang_tree.specs.declared.method.Method.TheVariants.{Post}
+use Rattle.http_header.specs.FieldValue.{FieldValue, plain_value}
+use Rattle.http_header.specs.HeaderMap.{Entries, append}
+use Rattle.http_header.specs.Token.{lowercase}
+use Rattle.http_front.specs.Methods.{method_word}
+use Rattle.http_front.specs.Table.{aire_headers, spelling}
+use Rattle.http_front.specs.declared.header.AireHeader.{AireHeader}
+use Rattle.http_front.specs.declared.header.AireHeader.TheVariants as headers
+use Rattle.http_front.specs.declared.message.WireRequest.{WireRequest}
+use Rattle.peer_seal.specs.Seal.{seal_digits}
+use Rattle.repair_messages.specs.Kinds.{spelling as message_kind}
+use Rattle.repair_messages.specs.declared.kinds.Kind.{Kind}
+use Rattle.repair_messages.specs.declared.kinds.Kind.TheVariants.{Create, Replace, Delete, ReplaceResponse, Retry}
+use Rattle.repair_messages.specs.declared.messages.AnswerMessage.{AnswerMessage}
+use Rattle.repair_messages.specs.declared.messages.SetMessage.{SetMessage}
+use Rattle.repair_messages.specs.declared.posts.Post.{Post as PostMessage}
+use Rattle.repair_messages.specs.declared.posts.Post.TheVariants as posts
+use Rattle.request_names.specs.Ids.{id_text}
+use Rattle.aire_wire.specs.Incoming.{sealed_bytes}
+
+-- ---- heads
+
+-- a header field and its text
+abbrev pub Field : Type 0
+Field = AireHeader × List ℕ
+
+abbrev pub with_field : Entries FieldValue → Field → Entries FieldValue
+with_field head field = append head (lowercase (spelling field.0)) (plain_value field.1)
+
+abbrev pub with_fields : Entries FieldValue → List Field → Entries FieldValue
+with_fields head fields = fold with_field head fields
+
+abbrev pub behind_comma : List ℕ → List ℕ
+behind_comma name = codes "," ++ name
+
+-- the names of a chain with commas between them
+abbrev pub chain_text : List (List ℕ) → List ℕ
+chain_text [] = []
+chain_text (name ∷ names) = name ++ flat_map behind_comma names
+
+-- ---- seals
+
+-- the request with one field more: the seal of all fields that it has
+abbrev pub sealed : List ℕ → WireRequest → WireRequest
+sealed secret request = record {
+  method = request.method;
+  path = request.path;
+  head = with_field request.head (headers.Seal, seal_digits secret (sealed_bytes request aire_headers));
+  body = request.body;
+}
+
+-- a request whose head has these fields and their seal
+abbrev pub sealed_with : List ℕ → Method → List ℕ → List Field → List ℕ → WireRequest
+sealed_with secret method path fields body =
+    sealed secret (record { method = method; path = path; head = with_fields [] fields; body = body })
+
+-- ---- live calls
+
+abbrev pub call_fields : SetMessage → Request → List ℕ → List Field
+call_fields set request notifier =
+    (headers.From, set.caller) ∷ (headers.Dest, set.dest) ∷ (headers.ResponseId, id_text set.caller set.number)
+    ∷ (headers.NotifierUrl, notifier) ∷ (headers.Who, request.who) ∷ (headers.Chain, chain_text request.chain) ∷ []
+
+abbrev pub call_asking : SetMessage → List ℕ → List ℕ → Request → WireRequest
+call_asking set notifier secret request = sealed_with secret request.method request.path (call_fields set request notifier) request.body
+
+-- ---- set messages
+
+abbrev pub kind_word : Kind → List ℕ
+kind_word Create = codes "create"
+kind_word Replace = codes "replace"
+kind_word Delete = codes "delete"
+kind_word ReplaceResponse = codes "replace_response"
+kind_word Retry = codes "retry"
+
+abbrev pub request_fields : Request → List Field
+request_fields request =
+    (headers.Method, method_word request.method) ∷ (headers.Path, request.path) ∷ (headers.RequestWho, request.who)
+    ∷ (headers.Chain, chain_text request.chain) ∷ []
+
+-- those of the desired request, where there is one
+abbrev pub desired_fields : Option Request → List Field
+desired_fields None = []
+desired_fields (Some request) = request_fields request
+
+-- that of a neighbour, where there is one
+abbrev pub neighbour_field : AireHeader → Option ℕ → List Field
+neighbour_field header None = []
+neighbour_field header (Some number) = (header, decimal number) ∷ []
+
+abbrev pub neighbour_fields : SetMessage → List Field
+neighbour_fields set = neighbour_field headers.Before set.before ++ neighbour_field headers.After set.after
+
+-- those that each has
+abbrev pub version_fields : SetMessage → List Field
+version_fields set =
+    (headers.From, set.caller) ∷ (headers.Dest, set.dest) ∷ (headers.ResponseId, id_text set.caller set.number)
+    ∷ (headers.Repair, kind_word (message_kind set)) ∷ (headers.Version, decimal set.version) ∷ (headers.Who, set.who) ∷ []
+
+abbrev pub set_message_fields : SetMessage → List Field
+set_message_fields set = version_fields set ++ (desired_fields set.desired ++ neighbour_fields set)
+
+abbrev pub body_of : Option Request → List ℕ
+body_of None = []
+body_of (Some request) = request.body
+
+abbrev pub written_set : SetMessage → List ℕ → WireRequest
+written_set set secret = sealed_with secret Post (codes "/aire/repair") (set_message_fields set) (body_of set.desired)
+
+-- a message without a request is no call, and is written as the deletion that it is
+abbrev pub call_or_deletion : SetMessage → List ℕ → List ℕ → Option Request → WireRequest
+call_or_deletion set notifier secret None = written_set set secret
+call_or_deletion set notifier secret (Some request) = call_asking set notifier secret request
+
+abbrev pub written_call : SetMessage → List ℕ → List ℕ → WireRequest
+written_call set notifier secret = call_or_deletion set notifier secret set.desired
+
+-- ---- response messages
+
+abbrev pub answer_fields : AnswerMessage → List Field
+answer_fields answer =
+    (headers.From, answer.callee) ∷ (headers.Dest, answer.caller) ∷ (headers.RequestId, id_text answer.callee answer.id)
+    ∷ (headers.ResponseId, id_text answer.caller answer.number) ∷ (headers.Repair, kind_word ReplaceResponse)
+    ∷ (headers.Version, decimal answer.version) ∷ (headers.AnswerVersion, decimal answer.answer_version)
+    ∷ (headers.Who, answer.who) ∷ (headers.Status, decimal answer.response.status) ∷ []
+
+abbrev pub written_answer : AnswerMessage → List ℕ → WireRequest
+written_answer answer secret = sealed_with secret Post (codes "/aire/response") (answer_fields answer) answer.response.body
+
+-- ---- posts
+
+abbrev pub written_post : PostMessage → List ℕ → WireRequest
+written_post (posts.Set set) secret = written_set set secret
+written_post (posts.Answer answer) secret = written_answer answer secret

@@ -1,0 +1,167 @@
+// Requests, written.
+ghost use Rattle.std.specs.Prelude.{◌≡◌, [], OnOk, IfOk};
+ghost use Rattle.aire_wire.specs.Written.{answer_fields, body_of, call_asking, call_fields, sealed, set_message_fields, with_fields, written_answer, written_call, written_post, written_set};
+
+use crate::building::texts_of;
+use crate::heads::{put, put_answer, put_call, put_set};
+use http_front::{AIRE_HEADERS, AireHeader, WireRequest};
+use http_header::HeaderMap;
+use lang_core::{Method, NoMemory, Request, Text};
+use peer_seal::seal_text;
+use repair_messages::{AnswerMessage, Post, SetMessage};
+use std::alloc::Global;
+use wire_fields::sealed_request;
+
+fn put_seal(alloc: Global, request: &mut WireRequest, secret: &Text) -> Result<(), NoMemory>
+    ensures { OnOk result (request.new ≡ sealed secret.now request.old) }
+{
+    let bytes = sealed_request(alloc, request, AIRE_HEADERS.as_slice())?;
+    let digits = seal_text(alloc, secret.as_bytes(), bytes.as_slice())?;
+    put(
+        alloc,
+        &mut request.head,
+        AireHeader::Seal,
+        digits.as_bytes(),
+    )
+}
+
+fn sealed(
+    alloc: Global,
+    method: Method,
+    path: &str,
+    body: &str,
+    head: HeaderMap,
+    secret: &Text,
+) -> Result<WireRequest, NoMemory>
+    ensures { IfOk result (λ request. request
+        ≡ sealed secret.now (record { method = method; path = path.now; head = head; body = body.now })) }
+{
+    let texts = texts_of(alloc, path, body)?;
+    let mut request = WireRequest {
+        method,
+        path: texts.first,
+        head,
+        body: texts.second,
+    };
+    match put_seal(alloc, &mut request, secret) {
+        Ok(()) => Ok(request),
+        Err(_) => Err(NoMemory),
+    }
+}
+
+fn call_head(
+    alloc: Global,
+    set: &SetMessage,
+    request: &Request,
+    notifier: &Text,
+) -> Result<HeaderMap, NoMemory>
+    ensures { IfOk result (λ head. head ≡ with_fields [] (call_fields set.now request.now notifier.now)) }
+{
+    let mut head = HeaderMap::new(alloc);
+    match put_call(alloc, &mut head, set, request, notifier.as_str()) {
+        Ok(()) => Ok(head),
+        Err(_) => Err(NoMemory),
+    }
+}
+
+fn call_asking(
+    alloc: Global,
+    set: &SetMessage,
+    request: &Request,
+    notifier: &Text,
+    secret: &Text,
+) -> Result<WireRequest, NoMemory>
+    ensures { IfOk result (λ written. written ≡ call_asking set.now notifier.now secret.now request.now) }
+{
+    let head = call_head(alloc, set, request, notifier)?;
+    let path = request.path.as_str();
+    sealed(
+        alloc,
+        request.method,
+        path,
+        request.body.as_str(),
+        head,
+        secret,
+    )
+}
+
+fn set_head(alloc: Global, set: &SetMessage) -> Result<HeaderMap, NoMemory>
+    ensures { IfOk result (λ head. head ≡ with_fields [] (set_message_fields set.now)) }
+{
+    let mut head = HeaderMap::new(alloc);
+    match put_set(alloc, &mut head, set) {
+        Ok(()) => Ok(head),
+        Err(_) => Err(NoMemory),
+    }
+}
+
+fn body_of(desired: &Option<Request>) -> &str
+    ensures { result.now ≡ body_of desired.now }
+{
+    match desired {
+        None => "",
+        Some(request) => request.body.as_str(),
+    }
+}
+
+fn write_set(alloc: Global, set: &SetMessage, secret: &Text) -> Result<WireRequest, NoMemory>
+    ensures { IfOk result (λ written. written ≡ written_set set.now secret.now) }
+{
+    let head = set_head(alloc, set)?;
+    let body = body_of(&set.desired);
+    sealed(alloc, Method::Post, "/aire/repair", body, head, secret)
+}
+
+fn answer_head(alloc: Global, answer: &AnswerMessage) -> Result<HeaderMap, NoMemory>
+    ensures { IfOk result (λ head. head ≡ with_fields [] (answer_fields answer.now)) }
+{
+    let mut head = HeaderMap::new(alloc);
+    match put_answer(alloc, &mut head, answer) {
+        Ok(()) => Ok(head),
+        Err(_) => Err(NoMemory),
+    }
+}
+
+fn write_answer(
+    alloc: Global,
+    answer: &AnswerMessage,
+    secret: &Text,
+) -> Result<WireRequest, NoMemory>
+    ensures { IfOk result (λ written. written ≡ written_answer answer.now secret.now) }
+{
+    let head = answer_head(alloc, answer)?;
+    let body = answer.response.body.as_str();
+    sealed(alloc, Method::Post, "/aire/response", body, head, secret)
+}
+
+/// The request that a live call is, with its caller's seal; `notifier` is `http://DOOR/aire/notify` of the caller's door. A
+/// message without a request is no call, and is written as the deletion that it is. A text that no header field can hold,
+/// such as a user with a line feed, is answered as memory that lacks.
+pub fn write_call(
+    alloc: Global,
+    set: &SetMessage,
+    notifier: &Text,
+    secret: &Text,
+) -> Result<WireRequest, NoMemory>
+    ensures written { IfOk result (λ written. written ≡ written_call set.now notifier.now secret.now) }
+{
+    match &set.desired {
+        None => write_set(alloc, set, secret),
+        Some(request) => call_asking(alloc, set, request, notifier, secret),
+    }
+}
+
+/// The request in which a service posts a message, with its seal. A text that no header field can hold is answered as
+/// memory that lacks.
+pub fn write_post_request(
+    alloc: Global,
+    post: &Post,
+    secret: &Text,
+) -> Result<WireRequest, NoMemory>
+    ensures written { IfOk result (λ written. written ≡ written_post post.now secret.now) }
+{
+    match post {
+        Post::Set(set) => write_set(alloc, set, secret),
+        Post::Answer(answer) => write_answer(alloc, answer, secret),
+    }
+}
