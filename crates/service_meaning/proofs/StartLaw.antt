@@ -14,7 +14,7 @@ pub fits_start : (setting : Setting) → Fits (fresh setting)
 fits_start setting =
     record {
       sent = record { rows = tt; registers = λ n. refl; count = refl; numbered = tt };
-      seen = record { rows = tt; registers = λ k d h. absurd (below_none k h); heard = λ n. omega arith };
+      seen = record { rows = tt; registers = λ n. tt; heard = λ n. omega arith };
       taken = tt;
       asked = record {
         rows = tt;
@@ -28,6 +28,6 @@ fits_start setting =
       answered = record { rows = tt; entries = λ k d h. absurd (below_none k h) };
       replies = record { rows = tt; entries = λ k d h. absurd (below_none k h); others = λ k d h. absurd (below_none k h); rising = tt };
       places = record { calls = λ k d h. absurd (below_none k h); once = λ n. refl };
-      flights = record { others = λ i j d h w. absurd (below_none j w); untaken = λ k d h. absurd (below_none k h) };
+      flights = record { numbered = λ k d h. absurd (below_none k h); others = λ i j d h w. absurd (below_none j w); untaken = λ k d h. absurd (below_none k h) };
       orders = tt;
     }

@@ -63,21 +63,23 @@ pub record FitsSent (journal : List Row) (kept : List Register) : Type 0 where
 -- what is seen is of a call that was sent, and answer versions rise
 abbrev pub SeesOn : List Row → Row → Type 0
 SeesOn before (SawAck a) = IsSome (last_sent a.number before)
-SeesOn before (SawAnswer a) = IsSome (last_sent a.number before) × (seen_version (last_seen a.number before) < a.answer_version)
+SeesOn before (SawAnswer a) =
+    IsSome (last_sent a.number before) × IfSome (last_seen a.number before) (λ last. last.answer_version < a.answer_version)
 SeesOn before (Confirmed c) = IsSome (last_sent c.number before)
 SeesOn before row = Unit {0}
 
 abbrev pub answer_of : SawAnswerRow → Answer
 answer_of a = record { answer_version = a.answer_version; version = a.version; response = a.response }
 
--- a register has the greatest version that was acknowledged and the last answer that was seen
-pub record HasSeen (journal : List Row) (r : Register) : Type 0 where
-  pub acked : r.acked ≡ seen_acked r.number journal
-  pub answer : r.answer ≡ option_map answer_of (last_seen r.number journal)
+-- a register has this greatest version that was acknowledged and this last answer
+pub record HasSeen (greatest : ℕ) (last : Option Answer) (r : Register) : Type 0 where
+  pub acked : r.acked ≡ greatest
+  pub answer : r.answer ≡ last
 
 pub record FitsSeen (journal : List Row) (kept : List Register) : Type 0 where
   pub rows : EachAfter SeesOn [] journal
-  pub registers : All (HasSeen journal) kept
+  pub registers : (number : ℕ)
+      → IfSome (register number kept) (HasSeen (seen_acked number journal) (option_map answer_of (last_seen number journal)))
   pub heard : (number : ℕ) → claimed number journal ≤ seen_version (last_seen number journal)
 
 -- ---- c. What was taken of other services' calls
@@ -256,8 +258,9 @@ pub record FitsPlaces (registers : List Register) (ps : List Place) : Type 0 whe
 abbrev pub AreOther : Flight → Flight → Type 0
 AreOther f g = (f.id < g.id) × (same_call_origin f.origin g.origin ≡ false)
 
--- flights stand in the order of their numbers, of no two is the origin one call, and none of these was taken
+-- flights stand in the order of their numbers, which are from 1 on, of no two is the origin one call, and none of these was taken
 pub record FitsFlights (journal : List Row) (flights : List Flight) : Type 0 where
+  pub numbered : All (λ (f : Flight). 1 ≤ f.id) flights
   pub others : AllPairs AreOther flights
   pub untaken : All (λ (f : Flight). last_taken_of f.origin journal ≡ None) flights
 
