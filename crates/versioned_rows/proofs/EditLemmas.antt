@@ -106,7 +106,7 @@ module _ (rows : List Row) (t k : List ℕ) (at : ℕ) (row : Row) (o : IsOrdere
     pub set_same : new.labels.items ≡ row.labels.items → (u v : List ℕ) → labels_in (set rows at new) u v ≡ labels_in rows u v
     set_same kept u v = set_labels u v ∙ sym (edits_nothing rows t k new.labels.items (labels_here ∙ sym kept) u v)
 
-    set_spare : (u v : List ℕ) → spare_in (set rows at new) u v ≡ cond (same_place (place_of t k) (place_of u v)) (spare_of new) (spare_in rows u v)
+    pub set_spare : (u v : List ℕ) → spare_in (set rows at new) u v ≡ cond (same_place (place_of t k) (place_of u v)) (spare_of new) (spare_in rows u v)
     set_spare u v = now_held spare_of 0 u v
 
     pub set_kept : spare_of row ≤ spare_of new → (u v : List ℕ) → spare_in rows u v ≤ spare_in (set rows at new) u v

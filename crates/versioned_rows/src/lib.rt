@@ -1,4 +1,6 @@
 //! Versions of rows: what each place of an order wrote, and what is read before a place, without a walk over the places.
+//!
+//! Rows of labels, in the order of table and key, are handed on: an index of readers keeps them too.
 #![tactic(auto)]
 
 mod labels;
@@ -8,6 +10,9 @@ mod rows;
 mod seeking;
 mod versions;
 
+pub use labels::Labelled;
 pub use places::PlaceWrites;
 pub use room::VersionsCall;
+pub use rows::{Row, drop_label, labels_at, labels_in, make_row};
+pub use seeking::seek;
 pub use versions::Versions;

@@ -8,12 +8,12 @@ ghost use Rattle.versioned_rows.specs.Places.{is_written, is_other, with_writer}
 ghost use Rattle.versioned_rows.specs.Rows.{row_place, labels_in, spare_of, spare_in, IsEdited};
 
 use crate::labels::count_before;
-use crate::seeking::seek;
+use crate::seeking::{seek, seek_bytes};
 use lang_core::{Copied, NoMemory, Placed, Text, Write};
 use place_order::Order;
 use std::alloc::Global;
 
-/// The labels of the places that write a key, in the order of the places. It may have none.
+/// The labels that stand at a key, as those of the places that write it. It may have none.
 #[derive(Drop)]
 pub struct Row {
     pub table: Text,
@@ -33,13 +33,21 @@ impl Placed for Row {
     }
 }
 
-/// The labels of the places that write a key.
-pub(crate) fn labels_in<'a>(rows: &'a [Row], table: &Text, key: &Text) -> &'a [u64]
+/// The labels in the row of a key with these bytes.
+pub fn labels_at<'a>(rows: &'a [Row], table: &Text, key: &[u8]) -> &'a [u64]
     requires { IsOrdered row_place rows.now }
     ensures { result.now ≡ labels_in rows.now table.now key.now }
 {
-    let (at, taken) = seek(rows, table, key);
+    let (at, taken) = seek_bytes(rows, table, key);
     if taken { &rows[at].labels } else { &[] }
+}
+
+/// The labels in the row of a key.
+pub fn labels_in<'a>(rows: &'a [Row], table: &Text, key: &Text) -> &'a [u64]
+    requires { IsOrdered row_place rows.now }
+    ensures { result.now ≡ labels_in rows.now table.now key.now }
+{
+    labels_at(rows, table, key.as_bytes())
 }
 
 fn empty_row(alloc: Global, table: &Text, key: &Text, spare: usize) -> Result<Row, NoMemory>
@@ -66,7 +74,7 @@ fn make_spare(labels: &mut Vec<u64>, spare: usize) -> Result<(), NoMemory>
 }
 
 /// Sees to it that a key has a row with places for so many labels more. No label changes.
-pub(crate) fn make_row(
+pub fn make_row(
     alloc: Global,
     rows: &mut Vec<Row>,
     table: &Text,
@@ -105,7 +113,7 @@ pub(crate) fn put_label(order: &Order, rows: &mut Vec<Row>, table: &Text, key: &
 }
 
 /// Takes a label out of the row of a key, if it is there.
-pub(crate) fn drop_label(rows: &mut Vec<Row>, table: &Text, key: &Text, label: u64)
+pub fn drop_label(rows: &mut Vec<Row>, table: &Text, key: &Text, label: u64)
     requires { IsOrdered row_place rows.old.items }
     ensures ordered { IsOrdered row_place rows.new.items }
     ensures edited { IsEdited table.now key.now (filter (is_other label) (labels_in rows.old.items table.now key.now)) rows.old.items rows.new.items }

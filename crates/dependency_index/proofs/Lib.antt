@@ -1,0 +1,6 @@
+pub mod IndexLemmas
+pub mod LoopLemmas
+pub mod NumberLemmas
+pub mod PutLemmas
+pub mod RoomLemmas
+pub mod ScanLemmas

@@ -1,0 +1,45 @@
+-- What it comes to for the places of rows that a label is put into one.
+use Rattle.std.proofs.Common.{◌≡◌, ℕ, ◌+◌, ◌<◌, ◌≤◌, Bool, true, false, cond, List, [], length, get_or, set, refl, ap, inl, inr, arith}
+use Rattle.std.specs.Option.{option_map_or}
+use Rattle.std.proofs.lemmas.Bool.{cases_Bool}
+use Rattle.lang_core.specs.Places.{Place, place_of, same_place, IsOrdered, rank, is_taken}
+use Rattle.versioned_rows.specs.Rows.{row_place, labels_in, spare_of, spare_in}
+use Rattle.versioned_rows.specs.declared.rows.Row.{Row}
+use Rattle.versioned_rows.proofs.EditLemmas.{place_is, labels_here, spare_here, set_labels, set_spare}
+use Rattle.versioned_rows.proofs.SeekLemmas.{find_none}
+use Rattle.dependency_index.specs.Numbers.{with_number}
+use Rattle.dependency_index.proofs.NumberLemmas.{not_empty}
+
+-- a key with a place for a label has a row
+pub row_there : (rows : List Row) (t k : List ℕ) (n : ℕ) → IsOrdered row_place rows → length (with_number n (labels_in rows t k)) ≤ length (labels_in rows t k) + spare_in rows t k
+    → is_taken row_place (place_of t k) rows ≡ true
+row_there rows t k n o fits = elim (cases_Bool (is_taken row_place (place_of t k) rows)) [
+  | inl e ↦ e
+  | inr free ↦ (let none = find_none row_place (place_of t k) rows o free in
+      let labels : labels_in rows t k ≡ [] = ap (λ o. option_map_or (λ (r : Row). r.labels.items) o []) none in
+      let spare : spare_in rows t k ≡ 0 = ap (λ o. option_map_or spare_of o 0) none in
+      let long = ap length labels in
+      let some = not_empty n (labels_in rows t k) in
+      absurd (omega arith))
+]
+
+kept_if : (b : Bool) (l m : List ℕ) (x y z : ℕ) → length l + x ≤ z → (b ≡ true → z ≤ length m + y) → length l + x ≤ length (cond b m l) + cond b y x
+kept_if true l m x y z h g = let a = g refl in omega arith
+kept_if false l m x y z h g = omega arith
+
+module _ (rows : List Row) (t k : List ℕ) (at : ℕ) (row : Row) (o : IsOrdered row_place rows) (rank_is : at ≡ rank row_place (place_of t k) rows)
+    (taken : is_taken row_place (place_of t k) rows ≡ true) (is : row ≡ get_or rows at row) (lt : at < length rows) (new : Row) (same : row_place new ≡ row_place row) where
+  -- no row has fewer places
+  pub places_kept : length row.labels.items + spare_of row ≤ length new.labels.items + spare_of new → (u v : List ℕ)
+      → length (labels_in rows u v) + spare_in rows u v ≤ length (labels_in (set rows at new) u v) + spare_in (set rows at new) u v
+  places_kept more u v =
+      let e = ap length (set_labels rows t k at row o rank_is taken is lt new same u v) in
+      let f = set_spare rows t k at row o rank_is taken is lt new same u v in
+      let m = kept_if (same_place (place_of t k) (place_of u v)) (labels_in rows u v) new.labels.items (spare_in rows u v) (spare_of new) (length (labels_in rows u v) + spare_in rows u v) (omega arith)
+      (λ s. let p = place_is (place_of t k) (place_of u v) s in
+      let a = ap (λ (q : Place). length (labels_in rows q.table q.key)) p in
+      let b = ap (λ (q : Place). spare_in rows q.table q.key) p in
+      let c = ap length (labels_here rows t k at row o rank_is taken is lt) in
+      let d = spare_here rows t k at row o rank_is taken is lt in
+      omega arith) in
+      omega arith

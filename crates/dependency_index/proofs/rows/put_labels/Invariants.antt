@@ -1,0 +1,14 @@
+use Rattle.std.proofs.Common.{ℕ, List, ◌≡◌, ◌≤◌, cond, take}
+use Rattle.std.specs.List.{list_any}
+use Rattle.dependency_index.specs.Numbers.{with_number}
+use Rattle.dependency_index.specs.Reads.{is_at}
+use Rattle.dependency_index.specs.Rows.{AreOrdered, labels_by, places_by}
+use Rattle.dependency_index.specs.declared.reads.ReadKind.{ReadKind}
+use Rattle.dependency_index.proofs.rows.put_labels.Given as goal
+
+abbrev pub invariant-loop-read : goal.invariant-loop-read
+invariant-loop-read l = record {
+  ordered : AreOrdered l.rows;
+  each : (kind : ReadKind) (t k : List ℕ) → labels_by l.rows kind t k ≡ cond (list_any (is_at kind t k) (take l.read-index l.reads)) (with_number l.label (labels_by l.initial.rows kind t k)) (labels_by l.initial.rows kind t k);
+  places : (kind : ReadKind) (t k : List ℕ) → places_by l.initial.rows kind t k ≤ places_by l.rows kind t k;
+}

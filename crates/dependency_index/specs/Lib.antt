@@ -1,0 +1,4 @@
+pub mod Index
+pub mod Numbers
+pub mod Reads
+pub mod Rows

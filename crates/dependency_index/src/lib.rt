@@ -1,0 +1,14 @@
+//! Which labels read a key, and which scan under a prefix of it, without a walk over all labels.
+#![tactic(auto)]
+
+mod index;
+mod noted;
+mod numbers;
+mod reads;
+mod room;
+mod rows;
+
+pub use index::{Index, Labels};
+pub use noted::Noted;
+pub use reads::{ReadAt, ReadKind, ReadsAt};
+pub use room::IndexCall;

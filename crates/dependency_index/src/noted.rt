@@ -1,0 +1,48 @@
+// What was noted of each label, in the order of the labels' numbers.
+ghost use Rattle.std.specs.Prelude.{◌≡◌, ◌+◌, ◌<◌, ◌≤◌, map, vec_len, vec_capacity};
+ghost use Rattle.dependency_index.specs.Numbers.{Rises};
+ghost use Rattle.dependency_index.specs.Reads.{label_of, with_noted, without};
+
+use crate::numbers::seek_number;
+use crate::reads::ReadsAt;
+use versioned_rows::Labelled;
+
+/// Where the reads of a label looked.
+#[derive(Drop)]
+pub struct Noted {
+    pub label: u64,
+    pub reads: ReadsAt,
+}
+
+impl Labelled for Noted {
+    ghost label = { λ n. n.label };
+
+    fn label(&self) -> u64 {
+        self.label
+    }
+}
+
+/// Notes a label's reads in place of those that it had, where there is room for one label more.
+pub(crate) fn set_noted(noted: &mut Vec<Noted>, own: Noted)
+    requires rising { Rises (map label_of noted.old.items) }
+    requires room { vec_len noted.old < vec_capacity noted.old }
+    ensures noted { noted.new.items ≡ with_noted own noted.old.items }
+    ensures len { vec_len noted.new ≤ vec_len noted.old + 1 }
+    ensures capacity { vec_capacity noted.old ≤ vec_capacity noted.new }
+{
+    let (at, taken) = seek_number(noted, own.label);
+    if taken {
+        noted[at] = own;
+        return;
+    }
+    let _ = noted.insert(at, own);
+}
+
+/// Takes a label's reads out.
+pub(crate) fn unset_noted(noted: &mut Vec<Noted>, label: u64)
+    ensures noted { noted.new.items ≡ without label noted.old.items }
+    ensures len { vec_len noted.new ≤ vec_len noted.old }
+    ensures capacity { vec_capacity noted.new ≡ vec_capacity noted.old }
+{
+    noted.retain(|other| other.label != label);
+}
