@@ -15,9 +15,10 @@ use Rattle.peer_seal.specs.Seal.{seal_digits}
 use Rattle.repair_messages.specs.declared.messages.AnswerMessage.{AnswerMessage}
 use Rattle.repair_messages.specs.declared.messages.SetMessage.{SetMessage}
 use Rattle.request_names.specs.Numbers.{number_of}
-use Rattle.wire_fields.specs.Forms.{id_of, status_of}
+use Rattle.wire_fields.specs.Fits.{bad_unless, dest_refusal, number_in, or_zero, service_in, side_refusal, version_at}
+use Rattle.wire_fields.specs.Forms.{status_of}
 use Rattle.wire_fields.specs.Kinds.{request_kind}
-use Rattle.wire_fields.specs.Rows.{answer_headers, call_headers, console_headers, desired_headers, first_of, first_refusal, neighbour_headers, set_headers, text_at}
+use Rattle.wire_fields.specs.Rows.{answer_headers, call_headers, console_headers, desired_headers, first_of, first_refusal, neighbour_headers, seal_header, set_headers, text_at}
 use Rattle.wire_fields.specs.Sealed.{sealed_request}
 use Rattle.wire_fields.specs.Secrets.{has_name, peers_of}
 use Rattle.wire_fields.specs.declared.console.ConsoleRequest.{ConsoleRequest}
@@ -25,7 +26,7 @@ use Rattle.wire_fields.specs.declared.console.ConsoleWord.{ConsoleWord}
 use Rattle.wire_fields.specs.declared.kinds.RequestKind.{RequestKind}
 use Rattle.wire_fields.specs.declared.kinds.RequestKind.TheVariants as kinds
 use Rattle.wire_fields.specs.declared.refused.WireRefused.{WireRefused}
-use Rattle.wire_fields.specs.declared.refused.WireRefused.TheVariants.{NoMemory, BadHeader, MissingHeader, UnknownKind, Seal}
+use Rattle.wire_fields.specs.declared.refused.WireRefused.TheVariants.{UnknownKind, Seal}
 use Rattle.wire_fields.specs.declared.secrets.Peer.{Peer}
 use Rattle.wire_fields.specs.declared.secrets.Secrets.{Secrets}
 use Rattle.aire_wire.specs.declared.incoming.Incoming.{Incoming}
@@ -33,42 +34,11 @@ use Rattle.aire_wire.specs.declared.incoming.Incoming.TheVariants.{Outside, Live
 
 -- ---- answers
 
-abbrev pub lacks_memory : {X : Type 0} → Result X WireRefused → Bool
-lacks_memory (Ok x) = false
-lacks_memory (Err NoMemory) = true
-lacks_memory (Err (MissingHeader header)) = false
-lacks_memory (Err (BadHeader header)) = false
-lacks_memory (Err UnknownKind) = false
-lacks_memory (Err Seal) = false
-
 abbrev pub unless_refused : Option WireRefused → Incoming → Result Incoming WireRefused
 unless_refused None message = Ok message
 unless_refused (Some why) message = Err why
 
-abbrev pub bad_unless : AireHeader → Bool → Option WireRefused
-bad_unless header fits = if fits then None else Some (BadHeader header)
-
 -- ---- parts of texts
-
-abbrev pub service_or_none : Option (List ℕ × ℕ) → List ℕ
-service_or_none None = []
-service_or_none (Some id) = id.0
-
--- the service of an id
-abbrev pub service_in : List ℕ → List ℕ
-service_in text = service_or_none (id_of text)
-
-abbrev pub number_or_zero : Option (List ℕ × ℕ) → ℕ
-number_or_zero None = 0
-number_or_zero (Some id) = id.1
-
--- the number of an id
-abbrev pub number_in : List ℕ → ℕ
-number_in text = number_or_zero (id_of text)
-
-abbrev pub or_zero : Option ℕ → ℕ
-or_zero None = 0
-or_zero (Some n) = n
 
 abbrev pub or_get : Option Method → Method
 or_get None = Get
@@ -86,20 +56,7 @@ ends_with_name chain name = ends_with nat_eq chain name && is_behind_comma (take
 abbrev pub names_in : List ℕ → List (List ℕ)
 names_in chain = slice_split (λ b. b == 44) chain
 
--- ---- how fields fit
-
--- the id in this field is one of the service that this other field names
-abbrev pub side_refusal : Entries FieldValue → AireHeader → AireHeader → Option WireRefused
-side_refusal head id side = bad_unless id (is_text (service_in (text_at head id)) (text_at head side))
-
--- the message is for this service
-abbrev pub dest_refusal : List ℕ → Entries FieldValue → Option WireRefused
-dest_refusal me head = bad_unless headers.Dest (is_text (text_at head headers.Dest) me)
-
 -- ---- seals
-
-abbrev pub seal_header : List AireHeader
-seal_header = headers.Seal ∷ []
 
 -- who sealed these bytes is this peer
 abbrev pub sealed_by : Option Peer → List ℕ → List ℕ → Option WireRefused
@@ -183,9 +140,6 @@ desired_refusal false head = first_refusal head true desired_headers
 abbrev pub set_word : Bool → ℕ → List ℕ
 set_word true version = codes "delete"
 set_word false version = if nat_eq version 1 then codes "create" else codes "replace"
-
-abbrev pub version_at : Entries FieldValue → AireHeader → ℕ
-version_at head header = or_zero (number_of (text_at head header))
 
 abbrev pub set_head_refusal : List ℕ → Entries FieldValue → Option WireRefused
 set_head_refusal me head =

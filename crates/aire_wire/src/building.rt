@@ -4,15 +4,13 @@ ghost use Rattle.aire_wire.specs.Incoming.{answer_message, call_message, call_re
 ghost use Rattle.wire_fields.specs.Rows.{text_at};
 
 use crate::refusals::is_deletion;
-use crate::texts::{
-    method_in, name_of, names_in, number_at, number_in, status_in, version_at, who_or_anyone,
-};
+use crate::texts::{method_in, names_in, number_at, status_in, who_or_anyone};
 use http_front::{AireHeader, WireRequest};
 use http_header::HeaderMap;
 use lang_core::{Method, Name, Names, NoMemory, Request, Response, Seq, Text};
 use repair_messages::{AnswerMessage, SetMessage};
 use std::alloc::Global;
-use wire_fields::{ConsoleRequest, ConsoleWord, text_at};
+use wire_fields::{ConsoleRequest, ConsoleWord, name_of, number_in, text_at, version_at};
 
 // Two services.
 #[derive(Drop)]

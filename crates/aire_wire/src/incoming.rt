@@ -1,6 +1,7 @@
 // Requests, read.
 ghost use Rattle.std.specs.Prelude.{◌≡◌, false, IfOk};
-ghost use Rattle.aire_wire.specs.Incoming.{answer_answer, answer_refusal, call_answer, call_refusal, console_answer, console_refusal, incoming, lacks_memory, outside_answer, set_answer, set_refusal};
+ghost use Rattle.aire_wire.specs.Incoming.{answer_answer, answer_refusal, call_answer, call_refusal, console_answer, console_refusal, incoming, outside_answer, set_answer, set_refusal};
+ghost use Rattle.wire_fields.specs.Fits.{lacks_memory};
 ghost use Rattle.wire_fields.specs.Secrets.{peers_of};
 
 use crate::building::{

@@ -1,11 +1,10 @@
 // What is wrong with a request's head, and with its seal.
 ghost use Rattle.std.specs.Prelude.{◌≡◌, IfOk};
 ghost use Rattle.std.specs.Option.{option_copied};
-ghost use Rattle.wire_fields.specs.Rows.{first_of};
 ghost use Rattle.wire_fields.specs.Secrets.{peers_of};
-ghost use Rattle.aire_wire.specs.Incoming.{answer_head_refusal, answer_sides, dest_refusal, says_replace_response, side_refusal, bad_unless, call_head_refusal, console_head_refusal, console_seal_refusal, desired_refusal, is_deletion, outside_refusal, seal_refusal, sealed_by, set_fields, set_head_refusal, set_word};
+ghost use Rattle.aire_wire.specs.Incoming.{answer_head_refusal, answer_sides, says_replace_response, call_head_refusal, console_head_refusal, console_seal_refusal, desired_refusal, is_deletion, outside_refusal, seal_refusal, sealed_by, set_fields, set_head_refusal, set_word};
 
-use crate::texts::{ends_with_name, service_in, version_at};
+use crate::texts::ends_with_name;
 use http_front::{AireHeader, WireRequest};
 use http_header::HeaderMap;
 use lang_core::{NoMemory, Text};
@@ -13,10 +12,9 @@ use peer_seal::check;
 use std::alloc::Global;
 use wire_fields::{
     ANSWER_HEADERS, CALL_HEADERS, CONSOLE_HEADERS, DESIRED_HEADERS, NEIGHBOUR_HEADERS, Peer,
-    SET_HEADERS, Secrets, WireRefused, first_refusal, sealed_request, text_at,
+    SEAL_HEADER, SET_HEADERS, Secrets, WireRefused, bad_unless, dest_refusal, first_of,
+    first_refusal, sealed_request, service_in, side_refusal, text_at, version_at,
 };
-
-const SEAL_HEADER: [AireHeader; 1] = [AireHeader::Seal];
 
 const WHO_HEADER: [AireHeader; 1] = [AireHeader::Who];
 
@@ -46,25 +44,6 @@ const SET_FIELDS: [AireHeader; 12] = [
     AireHeader::Before,
     AireHeader::After,
 ];
-
-fn first_of(first: Option<WireRefused>, second: Option<WireRefused>) -> Option<WireRefused>
-    ensures { result ≡ first_of first second }
-{
-    match first {
-        None => second,
-        Some(why) => Some(why),
-    }
-}
-
-fn bad_unless(header: AireHeader, fits: bool) -> Option<WireRefused>
-    ensures { result ≡ bad_unless header fits }
-{
-    if fits {
-        None
-    } else {
-        Some(WireRefused::BadHeader(header))
-    }
-}
 
 /// Of a request from outside.
 pub fn outside_refusal(head: &HeaderMap) -> Option<WireRefused>
@@ -144,18 +123,6 @@ pub fn set_head_refusal(me: &str, head: &HeaderMap) -> Option<WireRefused>
             first_of(neighbours, first_of(seal, first_of(dest, sides))),
         ),
     )
-}
-
-fn side_refusal(head: &HeaderMap, id: AireHeader, side: AireHeader) -> Option<WireRefused>
-    ensures { result ≡ side_refusal head.now id side }
-{
-    bad_unless(id, service_in(text_at(head, id)) == text_at(head, side))
-}
-
-fn dest_refusal(me: &str, head: &HeaderMap) -> Option<WireRefused>
-    ensures { result ≡ dest_refusal me.now head.now }
-{
-    bad_unless(AireHeader::Dest, text_at(head, AireHeader::Dest) == me)
 }
 
 #[tactic(auto, unfolding(crate::specs::Incoming::says_replace_response))]

@@ -2,47 +2,18 @@
 ghost use Rattle.std.specs.Prelude.{◌≡◌, ◌==◌, map, IfOk};
 ghost use Rattle.std.specs.List.{slice_split};
 ghost use Rattle.request_names.specs.Numbers.{number_of};
+ghost use Rattle.wire_fields.specs.Fits.{or_zero};
 ghost use Rattle.wire_fields.specs.Forms.{status_of};
 ghost use Rattle.wire_fields.specs.Rows.{text_at};
-ghost use Rattle.aire_wire.specs.Incoming.{ends_with_name, is_behind_comma, names_in, number_in, or_get, or_zero, service_in, version_at, who_or_anyone};
+ghost use Rattle.aire_wire.specs.Incoming.{ends_with_name, is_behind_comma, names_in, or_get, who_or_anyone};
 ghost use Rattle.http_front.specs.Methods.{method_named};
 
 use http_front::{AireHeader, method_named};
 use http_header::HeaderMap;
-use lang_core::{Method, Name, Names, NoMemory, Seq, Text};
+use lang_core::{Method, Names, NoMemory, Seq};
 use request_names::read_number;
 use std::alloc::{AllocError, Global};
-use wire_fields::{id_of, status_of, text_at};
-
-/// The service of an id, empty where the text names none.
-pub fn service_in(text: &str) -> &str
-    ensures { result.now ≡ service_in text.now }
-{
-    match id_of(text) {
-        Some((service, _)) => service,
-        None => "",
-    }
-}
-
-/// The number of an id, 0 where the text names none.
-pub fn number_in(text: &str) -> u64
-    ensures { result ≡ number_in text.now }
-{
-    match id_of(text) {
-        Some((_, number)) => number,
-        None => 0,
-    }
-}
-
-/// The number in a field, 0 where there is none.
-pub fn version_at(head: &HeaderMap, header: AireHeader) -> u64
-    ensures { result ≡ version_at head.now header }
-{
-    match read_number(text_at(head, header)) {
-        Some(number) => number,
-        None => 0,
-    }
-}
+use wire_fields::{name_of, status_of, text_at};
 
 /// The number in a field, where there is one.
 pub fn number_at(head: &HeaderMap, header: AireHeader) -> Option<u64>
@@ -91,16 +62,6 @@ pub fn ends_with_name(chain: &str, name: &str) -> bool
     let chain = chain.as_bytes();
     let name = name.as_bytes();
     chain.ends_with(name) && is_behind_comma(&chain[..chain.len() - name.len()])
-}
-
-/// The name with this text. Each text that comes here has the form of a name, so memory is all that can lack.
-pub fn name_of(alloc: Global, text: &str) -> Result<Name, NoMemory>
-    ensures { IfOk result (λ name. name ≡ text.now) }
-{
-    match Name::new(Text::of(alloc, text)?) {
-        Ok(name) => Ok(name),
-        Err(_) => Err(NoMemory),
-    }
 }
 
 fn pieces_of(alloc: Global, chain: &str) -> Result<Vec<&str>, AllocError>

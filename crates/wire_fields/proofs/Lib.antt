@@ -1,1 +1,4 @@
 mod ChainLemmas
+pub mod SealLemmas
+pub mod SpeltLemmas
+pub mod WordLemmas

@@ -1,5 +1,5 @@
 -- The forms of header fields.
-use Rattle.std.specs.Prelude.{ℕ, Bool, false, ◌&&◌, ◌||◌, List, Option, Some, None, codes, length, nat_eq, nat_le, ◌==◌, if◌then◌else◌}
+use Rattle.std.specs.Prelude.{ℕ, Bool, ◌&&◌, ◌||◌, List, Option, Some, None, codes, length, nat_eq, nat_le, ◌==◌, if◌then◌else◌}
 use Rattle.std.specs.List.{list_all, slice_split, starts_with, ends_with}
 use Rattle.std.specs.Option.{is_some}
 use Rattle.lang_core.specs.Names.{is_name, is_who}
@@ -11,6 +11,7 @@ use Rattle.repair_messages.specs.declared.kinds.Kind.TheVariants.{Create, Replac
 use Rattle.http_front.specs.Methods.{method_named}
 use Rattle.http_front.specs.declared.header.AireHeader.{AireHeader}
 use Rattle.http_front.specs.declared.header.AireHeader.TheVariants.{From, Dest, RequestId, ResponseId, NotifierUrl, Repair, Version, AnswerVersion, Who, Method, Path, RequestWho, Chain, Before, After, Status, Refused, Seal}
+use Rattle.wire_fields.specs.Words.{refusal_of}
 
 -- ---- ids: a service, a slash, and a number from 1
 
@@ -81,5 +82,5 @@ has_form Chain text = is_chain text
 has_form Before text = is_some (number_of text)
 has_form After text = is_some (number_of text)
 has_form Status text = is_some (status_of text)
-has_form Refused text = false
+has_form Refused text = is_some (refusal_of text)
 has_form Seal text = is_seal text

@@ -1,5 +1,7 @@
+pub mod Fits
 pub mod Forms
 pub mod Kinds
 pub mod Rows
 pub mod Sealed
 pub mod Secrets
+pub mod Words

@@ -6,7 +6,7 @@ use Rattle.http_header.specs.HeaderMap.{Entries, get, get_all}
 use Rattle.http_header.specs.Token.{lowercase}
 use Rattle.http_front.specs.Table.{spelling}
 use Rattle.http_front.specs.declared.header.AireHeader.{AireHeader}
-use Rattle.http_front.specs.declared.header.AireHeader.TheVariants.{From, Dest, RequestId, ResponseId, NotifierUrl, Repair, Version, AnswerVersion, Who, Method, Path, RequestWho, Chain, Before, After, Status}
+use Rattle.http_front.specs.declared.header.AireHeader.TheVariants.{From, Dest, RequestId, ResponseId, NotifierUrl, Repair, Version, AnswerVersion, Who, Method, Path, RequestWho, Chain, Before, After, Status, Refused, Seal}
 use Rattle.wire_fields.specs.Forms.{has_form}
 use Rattle.wire_fields.specs.declared.refused.WireRefused.{WireRefused}
 use Rattle.wire_fields.specs.declared.refused.WireRefused.TheVariants.{BadHeader, MissingHeader}
@@ -62,3 +62,21 @@ answer_headers = From ∷ Dest ∷ RequestId ∷ ResponseId ∷ Repair ∷ Versi
 
 abbrev pub console_headers : List AireHeader
 console_headers = Dest ∷ Who ∷ []
+
+-- the field that stands last in each kind of message between services
+abbrev pub seal_header : List AireHeader
+seal_header = Seal ∷ []
+
+-- ---- the fields of each kind of reply between services but its seal, in the order of the table
+
+abbrev pub live_reply_headers : List AireHeader
+live_reply_headers = From ∷ Dest ∷ RequestId ∷ ResponseId ∷ Version ∷ AnswerVersion ∷ []
+
+abbrev pub ack_headers : List AireHeader
+ack_headers = From ∷ Dest ∷ ResponseId ∷ Version ∷ []
+
+abbrev pub confirm_headers : List AireHeader
+confirm_headers = From ∷ Dest ∷ ResponseId ∷ AnswerVersion ∷ []
+
+abbrev pub refusal_headers : List AireHeader
+refusal_headers = From ∷ Dest ∷ Refused ∷ []

@@ -7,6 +7,7 @@ ghost use Rattle.lang_tree.specs.Forms.{is_path, is_visible};
 ghost use Rattle.request_names.specs.Ids.{parts_of};
 ghost use Rattle.wire_fields.specs.Forms.{has_form, id_of, is_chain, is_notifier, is_seal, is_seal_digit, kind_named, status_of};
 
+use crate::words::refusal_of;
 use http_front::{AireHeader, method_named};
 use lang_core::{LONGEST_NAME, LONGEST_PATH, LONGEST_WHO};
 use repair_messages::Kind;
@@ -152,7 +153,7 @@ pub fn has_form(header: AireHeader, text: &str) -> bool
         AireHeader::Path => is_path(text.as_bytes()),
         AireHeader::Chain => is_chain(text.as_bytes()),
         AireHeader::Status => status_of(text).is_some(),
-        AireHeader::Refused => false,
+        AireHeader::Refused => refusal_of(text).is_some(),
         AireHeader::Seal => is_seal(text.as_bytes()),
     }
 }

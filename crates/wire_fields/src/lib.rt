@@ -3,20 +3,27 @@
 #![tactic(auto)]
 
 mod console;
+mod fits;
 mod forms;
 mod kinds;
 mod refused;
 mod rows;
 mod sealed;
 mod secrets;
+mod words;
 
 pub use console::{ConsoleRequest, ConsoleWord, console_word};
+pub use fits::{
+    bad_unless, dest_refusal, first_of, name_of, number_in, service_in, side_refusal, version_at,
+};
 pub use forms::{has_form, id_of, is_name, kind_named, status_of};
 pub use kinds::{RequestKind, request_kind};
 pub use refused::WireRefused;
 pub use rows::{
-    ANSWER_HEADERS, CALL_HEADERS, CONSOLE_HEADERS, DESIRED_HEADERS, NEIGHBOUR_HEADERS, SET_HEADERS,
+    ACK_HEADERS, ANSWER_HEADERS, CALL_HEADERS, CONFIRM_HEADERS, CONSOLE_HEADERS, DESIRED_HEADERS,
+    LIVE_REPLY_HEADERS, NEIGHBOUR_HEADERS, REFUSAL_HEADERS, SEAL_HEADER, SET_HEADERS,
     first_refusal, text_at,
 };
 pub use sealed::{sealed_request, sealed_response};
 pub use secrets::{Peer, Secrets};
+pub use words::{refusal_of, refusal_status, refusal_text};

@@ -57,6 +57,42 @@ pub const ANSWER_HEADERS: [AireHeader; 9] = [
 /// The fields of what an operator sends, but its seal.
 pub const CONSOLE_HEADERS: [AireHeader; 2] = [AireHeader::Dest, AireHeader::Who];
 
+/// The field that stands last in each kind of message between services.
+pub const SEAL_HEADER: [AireHeader; 1] = [AireHeader::Seal];
+
+/// The fields of the reply to a live call, but its seal.
+pub const LIVE_REPLY_HEADERS: [AireHeader; 6] = [
+    AireHeader::From,
+    AireHeader::Dest,
+    AireHeader::RequestId,
+    AireHeader::ResponseId,
+    AireHeader::Version,
+    AireHeader::AnswerVersion,
+];
+
+/// The fields of an acknowledgement, but its seal.
+pub const ACK_HEADERS: [AireHeader; 4] = [
+    AireHeader::From,
+    AireHeader::Dest,
+    AireHeader::ResponseId,
+    AireHeader::Version,
+];
+
+/// The fields of a confirmation, but its seal.
+pub const CONFIRM_HEADERS: [AireHeader; 4] = [
+    AireHeader::From,
+    AireHeader::Dest,
+    AireHeader::ResponseId,
+    AireHeader::AnswerVersion,
+];
+
+/// The fields of a refusal, but its seal.
+pub const REFUSAL_HEADERS: [AireHeader; 3] = [
+    AireHeader::From,
+    AireHeader::Dest,
+    AireHeader::Refused,
+];
+
 // The bytes as a text, where they are UTF-8.
 fn utf8(bytes: &[u8]) -> Option<&str>
     ensures { option_map (λ text. text.now) result ≡ (if is_utf8 bytes.now then Some bytes.now else None) }
