@@ -1,6 +1,7 @@
 -- What is heard of own calls: acknowledgements, answers and confirmations keep what fits of calls.
 use Rattle.std.proofs.Common.{◌≡◌, ℕ, ◌+◌, ◌^◌, ◌<◌, ◌≤◌, true, false, List, [], ◌∷◌, ◌++◌, Option, Some, None, IsSome, IfSome, max, fold, length, nat_eq, option_map, refl, sym, ap, ◌∙◌, subst, inl, inr, arith, length-append, eqb-true, ltb-true, ltb-false}
 use Rattle.std.proofs.lemmas.Bool.{cases_Bool}
+use Rattle.std.specs.List.{list_any}
 use Rattle.std.proofs.lemmas.List.Sums.{fold_push, fold-append}
 use Rattle.journal_rows.specs.Words.{sent_step, last_sent, seen_acked, seen_step, last_seen, seen_version, claim_step, claimed}
 use Rattle.journal_rows.specs.declared.caller.AckHow.TheVariants.{WithAnswer}
@@ -12,10 +13,10 @@ use Rattle.call_registers.specs.declared.register.Answer.{Answer}
 use Rattle.call_registers.specs.declared.register.Register.{Register}
 use Rattle.service_meaning.specs.State.{Kept}
 use Rattle.service_meaning.specs.Calls.{noted, seen_answer, after_row, after_rows}
-use Rattle.service_meaning.specs.Fits.{EachAfter, SendsOn, sent_by, SeesOn, answer_of, HasSeen, Place, call_in, FitsPlaces, places}
+use Rattle.service_meaning.specs.Fits.{EachAfter, SendsOn, sent_by, SeesOn, answer_of, HasSeen, tells_heard, Place, call_in, FitsPlaces, places}
 use Rattle.call_laws.proofs.RowLemmas.{Each, kind_follows, IsUnsent, IsUntaken, IsUnordered}
 use Rattle.call_laws.proofs.SentLemmas.{fits_rows, ack_aside, answer_aside}
-use Rattle.call_laws.proofs.SeenLemmas.{sees_rows}
+use Rattle.call_laws.proofs.SeenLemmas.{sees_rows, answered_more}
 use Rattle.call_laws.proofs.PlaceLemmas.{places_aside}
 use Rattle.call_laws.proofs.FlightLemmas.{flies_from, flies_fit, flies_rows}
 use Rattle.call_laws.proofs.CallLaws.{FitsCalls, Goes, orders_unordered}
@@ -48,7 +49,12 @@ places_rows at now (row ∷ rows) ps h f = places_rows (at + 1) (after_row at no
 
 -- what rows claim and tell of a number
 abbrev pub HeardAfter : List Row → ℕ → List Row → Type 0
-HeardAfter journal n rows = fold (claim_step n) (claimed n journal) rows ≤ seen_version (fold (seen_step n) (last_seen n journal) rows)
+HeardAfter journal n rows =
+    (list_any (tells_heard n) rows ≡ true → IsSome (fold (seen_step n) (last_seen n journal) rows))
+    × (fold (claim_step n) (claimed n journal) rows ≤ seen_version (fold (seen_step n) (last_seen n journal) rows))
+
+pub never : false ≡ true → ⊥
+never h = cc
 
 -- rows that tell what was seen
 pub goes_heard : (s : Kept) (rows : List Row) → Each IsUnsent rows → Each IsUntaken rows → Each IsUnordered rows
@@ -65,7 +71,8 @@ goes_heard s rows unsent untaken unordered sees heard = record {
         seen = record {
           rows = seen.rows;
           registers = seen.registers;
-          heard = λ n. rw (fold-append (claim_step n) 0 s.journal rows, fold-append (seen_step n) None s.journal rows) (heard f n);
+          answered = λ n. answered_more s.journal rows n (f.seen.answered n) (heard f n).0;
+          heard = λ n. rw (fold-append (claim_step n) 0 s.journal rows, fold-append (seen_step n) None s.journal rows) (heard f n).1;
         };
         places = places_rows (length s.journal) s.registers rows (places s) unsent f.places;
         flights = flies_fit (s.journal ++ rows) s.flights (flies_rows s.journal rows s.flights untaken (flies_from s.journal s.flights f.flights));
@@ -109,6 +116,12 @@ as_new_by (Some x) v (Some l) e old =
     answer_is : (x y : Answer) → Some x ≡ Some y → x ≡ y
     answer_is x y e = cc
 
+-- one that isn't newer follows one that was seen
+pub seen_by : (o : Option Answer) (v : ℕ) (last : Option SawAnswerRow) → o ≡ option_map answer_of last → is_newer o v ≡ false → IsSome last
+seen_by None v last e old = cc
+seen_by (Some x) v None e old = cc
+seen_by (Some x) v (Some l) e old = refl
+
 pub claims_below : (c v : ℕ) (last : Option SawAnswerRow) → c ≤ seen_version last → IfSome last (λ l. l.answer_version < v) → max c v ≤ v
 claims_below c v None h new = omega (arith, h)
 claims_below c v (Some l) h new = omega (arith, h, new)
@@ -140,8 +153,8 @@ live_new s n v version a r an av found new =
           let R : ℕ → Type 0 = λ j. max (claimed j s.journal) v ≤ a.answer_version in
           let below = subst R (eqb-true n m is) (above k f) in
           let also : nat_eq a.number m ≡ true = ap (λ j. nat_eq j m) an ∙ is in
-          rw (is, also) below)
-      | inr differs ↦ (let also : nat_eq a.number m ≡ false = ap (λ j. nat_eq j m) an ∙ differs in rw (differs, also) (f.seen.heard m))
+          rw (is, also) ((λ told. refl), below))
+      | inr differs ↦ (let also : nat_eq a.number m ≡ false = ap (λ j. nat_eq j m) an ∙ differs in rw (differs, also) ((λ told. absurd (never told)), f.seen.heard m))
     ])
   where
     above : Known s n r → FitsCalls s → max (claimed n s.journal) v ≤ a.answer_version
@@ -158,8 +171,10 @@ live_old s n v version r found old =
     (λ f m. elim (cases_Bool (nat_eq n m)) [
       | inl is ↦ (let k = known s n r found f in
           let R : ℕ → Type 0 = λ j. max (claimed j s.journal) v ≤ seen_version (last_seen j s.journal) in
-          rw is (subst R (eqb-true n m is) (above k f)))
-      | inr differs ↦ rw differs (f.seen.heard m)
+          let S : ℕ → Type 0 = λ j. IsSome (last_seen j s.journal) in
+          let some = subst S (eqb-true n m is) (seen_by r.answer v (last_seen n s.journal) k.answer old) in
+          rw is ((λ told. some), subst R (eqb-true n m is) (above k f)))
+      | inr differs ↦ rw differs ((λ told. absurd (never told)), f.seen.heard m)
     ])
   where
     above : Known s n r → FitsCalls s → max (claimed n s.journal) v ≤ seen_version (last_seen n s.journal)

@@ -35,7 +35,7 @@ use Rattle.service_meaning.specs.declared.refusals.TakeRefused.TheVariants.{NotY
 use Rattle.service_meaning.specs.Fits.{OrdersOn, Fits, place_of_flight}
 use Rattle.call_laws.proofs.RowLemmas.{Each, kind_follows, IsPlain, IsUnseen, IsUnordered}
 use Rattle.call_laws.proofs.FlightLemmas.{LeavesOrigin, same_flips, any_none, flies_rows, flies_took}
-use Rattle.call_laws.proofs.HeardLemmas.{goes_heard, known, older_by, as_new_by, claims_below}
+use Rattle.call_laws.proofs.HeardLemmas.{goes_heard, never, seen_by, known, older_by, as_new_by, claims_below}
 use Rattle.call_laws.proofs.CallLaws.{FitsCalls, Goes, goes_same, goes_then, IsMinor, register_calls}
 use Rattle.call_laws.proofs.EntryPlaces.{found_stands, places_insert, places_with}
 use Rattle.call_laws.proofs.PlainLaws.{goes_entries, goes_plain}
@@ -135,8 +135,8 @@ heard_new s a r found new =
     (λ f. (let k = known s n r found f in
     ((k.sent, older_by r.answer v (last_seen n s.journal) k.answer new), (subst IsSome (sym (fold_push (sent_step n) None s.journal (seen_row a))) k.sent, tt))))
     (λ f m. elim (cases_Bool (nat_eq n m)) [
-      | inl is ↦ (let R : ℕ → Type 0 = λ j. max (claimed j s.journal) v ≤ v in rw is (subst R (eqb-true n m is) (above f)))
-      | inr differs ↦ rw differs (f.seen.heard m)
+      | inl is ↦ (let R : ℕ → Type 0 = λ j. max (claimed j s.journal) v ≤ v in rw is ((λ told. refl), subst R (eqb-true n m is) (above f)))
+      | inr differs ↦ rw differs ((λ told. absurd (never told)), f.seen.heard m)
     ])
   where
     above : FitsCalls s → max (claimed a.number s.journal) a.answer_version ≤ a.answer_version
@@ -152,8 +152,11 @@ heard_old s a r found old =
     let v = a.answer_version in
     goes_heard s (confirmed_row a ∷ []) (tt, tt) (tt, tt) (tt, tt) (λ f. ((known s n r found f).sent, tt))
     (λ f m. elim (cases_Bool (nat_eq n m)) [
-      | inl is ↦ (let R : ℕ → Type 0 = λ j. max (claimed j s.journal) v ≤ seen_version (last_seen j s.journal) in rw is (subst R (eqb-true n m is) (above f)))
-      | inr differs ↦ rw differs (f.seen.heard m)
+      | inl is ↦ (let R : ℕ → Type 0 = λ j. max (claimed j s.journal) v ≤ seen_version (last_seen j s.journal) in
+          let S : ℕ → Type 0 = λ j. IsSome (last_seen j s.journal) in
+          let some = seen_by r.answer v (last_seen n s.journal) (known s n r found f).answer old in
+          rw is ((λ told. subst S (eqb-true n m is) some), subst R (eqb-true n m is) (above f)))
+      | inr differs ↦ rw differs ((λ told. absurd (never told)), f.seen.heard m)
     ])
   where
     above : FitsCalls s → max (claimed a.number s.journal) a.answer_version ≤ seen_version (last_seen a.number s.journal)
@@ -209,8 +212,8 @@ acked_goes s (Set set) ack have reply =
     let parts = and_parts (same_text set.caller (me s)) (had_call set (register set.number s.registers)) have in
     (subst S (sym (number_of set ack reply)) (call_sent s set (register set.number s.registers) refl parts.1 f), tt)))
     (λ f m. elim (cases_Bool (nat_eq ack.number m)) [
-      | inl is ↦ rw is (f.seen.heard m)
-      | inr differs ↦ rw differs (f.seen.heard m)
+      | inl is ↦ rw is ((λ told. absurd (never told)), f.seen.heard m)
+      | inr differs ↦ rw differs ((λ told. absurd (never told)), f.seen.heard m)
     ])
   where
     number_by : (a b c d : Bool) → (a && b && c && d) ≡ true → c ≡ true

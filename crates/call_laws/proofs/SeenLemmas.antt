@@ -1,7 +1,8 @@
 -- Registers have what was seen of their calls, as rows come.
-use Rattle.std.proofs.Common.{◌≡◌, ℕ, ◌+◌, ◌^◌, ◌<◌, Bool, true, false, cond, List, [], ◌∷◌, ◌++◌, Option, Some, None, IsSome, IfSome, max, length, nat_eq, option_map, refl, sym, ap, ◌∙◌, subst, inl, inr, arith, append_assoc, append-nil, length-append, eqb-true, lt-ltb}
-use Rattle.std.proofs.lemmas.Bool.{cases_Bool}
-use Rattle.std.proofs.lemmas.List.Sums.{fold_push}
+use Rattle.std.proofs.Common.{◌≡◌, ℕ, ◌+◌, ◌^◌, ◌<◌, Bool, true, false, ◌||◌, ◌⊎◌, cond, fold, List, [], ◌∷◌, ◌++◌, Option, Some, None, IsSome, IfSome, max, length, nat_eq, option_map, refl, sym, ap, ◌∙◌, subst, inl, inr, arith, append_assoc, append-nil, length-append, eqb-true, lt-ltb}
+use Rattle.std.proofs.lemmas.Bool.{cases_Bool, or_cases, or_left, or_right}
+use Rattle.std.specs.List.{list_any}
+use Rattle.std.proofs.lemmas.List.Sums.{fold_push, fold-append}
 use Rattle.journal_rows.specs.Words.{sent_step, last_sent, ack_step, seen_acked, seen_step, last_seen, seen_version, claim_step}
 use Rattle.journal_rows.specs.declared.caller.SawAnswerRow.{SawAnswerRow}
 use Rattle.journal_rows.specs.declared.caller.SentRow.{SentRow}
@@ -11,7 +12,7 @@ use Rattle.call_registers.specs.Registers.{register, at_number, with_ack, with_a
 use Rattle.call_registers.specs.declared.register.Answer.{Answer}
 use Rattle.call_registers.specs.declared.register.Register.{Register}
 use Rattle.service_meaning.specs.Calls.{seen_answer, after_row, after_rows}
-use Rattle.service_meaning.specs.Fits.{EachAfter, SendsOn, FitsSent, sent_by, SeesOn, answer_of, HasSeen, FitsSeen}
+use Rattle.service_meaning.specs.Fits.{EachAfter, SendsOn, FitsSent, sent_by, SeesOn, answer_of, HasSeen, tells_heard, FitsSeen}
 use Rattle.call_laws.proofs.RowLemmas.{Each, EachAfter-append, go_on, kind_follows, word_same, IsUnseen}
 use Rattle.call_laws.proofs.RegisterLemmas.{find-change}
 use Rattle.call_laws.proofs.SentLemmas.{acked_in, answer_in, Put, put, fits_row, ack_aside, answer_aside}
@@ -176,6 +177,49 @@ unseen_answers : (n : ℕ) (last : Option SawAnswerRow) (row : Row) → IsUnseen
 unseen_answers n last (SawAnswer a) h = absurd h
 unseen_answers n last row h = refl
 
+-- ---- what tells that an answer was heard
+
+pub any_parts : (p : Row → Bool) (xs ys : List Row) → list_any p (xs ++ ys) ≡ true → (list_any p xs ≡ true) ⊎ (list_any p ys ≡ true)
+any_parts p [] ys h = inr h
+any_parts p (x ∷ xs) ys h = elim (or_cases (p x) (list_any p (xs ++ ys)) h) [
+  | inl here ↦ inl (or_left (p x) (list_any p xs) here)
+  | inr later ↦ elim (any_parts p xs ys later) [
+    | inl front ↦ inl (or_right (p x) (list_any p xs) front)
+    | inr back ↦ inr back
+  ]
+]
+
+-- an answer that was seen stays
+seen_one : (n : ℕ) (last : Option SawAnswerRow) (row : Row) → IsSome last → IsSome (seen_step n last row)
+seen_one n last (SawAnswer a) h = elim (cases_Bool (nat_eq a.number n)) [
+  | inl is ↦ rw is refl
+  | inr differs ↦ rw differs h
+]
+seen_one n last row h = h
+
+pub seen_stays : (n : ℕ) (rows : List Row) (last : Option SawAnswerRow) → IsSome last → IsSome (fold (seen_step n) last rows)
+seen_stays n [] last h = h
+seen_stays n (row ∷ rows) last h = seen_stays n rows (seen_step n last row) (seen_one n last row h)
+
+-- where rows come that tell of no answer but of one that was seen
+pub answered_more : (journal rows : List Row) (n : ℕ) → (list_any (tells_heard n) journal ≡ true → IsSome (last_seen n journal))
+    → (list_any (tells_heard n) rows ≡ true → IsSome (fold (seen_step n) (last_seen n journal) rows))
+    → list_any (tells_heard n) (journal ++ rows) ≡ true → IsSome (last_seen n (journal ++ rows))
+answered_more journal rows n before later told = rw (fold-append (seen_step n) None journal rows) (elim (any_parts (tells_heard n) journal rows told) [
+  | inl early ↦ seen_stays n rows (last_seen n journal) (before early)
+  | inr late ↦ later late
+])
+
+unseen_silent : (n : ℕ) (rows : List Row) → Each IsUnseen rows → list_any (tells_heard n) rows ≡ true → ⊥
+unseen_silent n [] h told = cc
+unseen_silent n (row ∷ rows) h told = unseen_silent n rows h.1 (one_silent n row (list_any (tells_heard n) rows) h.0 told)
+  where
+    one_silent : (n : ℕ) (row : Row) (b : Bool) → IsUnseen row → (tells_heard n row || b) ≡ true → b ≡ true
+    one_silent n (SawAck a) b h t = absurd h
+    one_silent n (SawAnswer a) b h t = absurd h
+    one_silent n (Confirmed c) b h t = absurd h
+    one_silent n row b h t = t
+
 pub seen_unseen : (rows journal : List Row) (now : List Register) → length journal + length rows < 2 ^ 64 → EachAfter SendsOn journal rows → Each IsUnseen rows
     → FitsSent journal now → FitsSeen journal now → FitsSeen (journal ++ rows) (after_rows (length journal) now rows)
 seen_unseen rows journal now few may unseen f h =
@@ -183,6 +227,7 @@ seen_unseen rows journal now few may unseen f h =
     record {
       rows = sees.rows;
       registers = sees.registers;
+      answered = λ n. answered_more journal rows n (h.answered n) (λ told. absurd (unseen_silent n rows unseen told));
       heard = λ n. (let a = word_same IsUnseen (claim_step n) (λ most row u. unseen_claims n most row u) 0 journal rows unseen in
           let b = ap seen_version (word_same IsUnseen (seen_step n) (λ last row u. unseen_answers n last row u) None journal rows unseen) in
           let c = h.heard n in omega (arith, a, b, c));
@@ -204,5 +249,6 @@ seen_aside journal now n f number same h = record {
   rows = h.rows;
   registers = λ m. (let P : Option Register → Type 0 = λ o. HasNow journal m o in
       subst P (sym (find-change n m f number now)) (aside_seen (nat_eq n m) f (register m now) (seen_acked m journal) (option_map answer_of (last_seen m journal)) same (h.registers m)));
+  answered = h.answered;
   heard = h.heard;
 }

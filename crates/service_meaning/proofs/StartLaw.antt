@@ -1,5 +1,5 @@
 -- A service without rows fits its journal.
-use Rattle.std.proofs.Common.{ℕ, ◌<◌, [], refl, arith}
+use Rattle.std.proofs.Common.{◌≡◌, true, false, ℕ, ◌<◌, [], refl, arith}
 use Rattle.lang_core.specs.declared.setting.Setting.{Setting}
 use Rattle.service_meaning.specs.State.{Kept}
 use Rattle.service_meaning.specs.Fits.{Fits}
@@ -10,11 +10,14 @@ fresh setting = record { setting = setting; entries = []; flights = []; journal 
 below_none : (k : ℕ) → k < 0 → ⊥
 below_none k h = omega (arith, h)
 
+never : false ≡ true → ⊥
+never h = cc
+
 pub fits_start : (setting : Setting) → Fits (fresh setting)
 fits_start setting =
     record {
       sent = record { rows = tt; registers = λ n. refl; count = refl; numbered = tt };
-      seen = record { rows = tt; registers = λ n. tt; heard = λ n. omega arith };
+      seen = record { rows = tt; registers = λ n. tt; answered = λ n told. absurd (never told); heard = λ n. omega arith };
       taken = tt;
       asked = record {
         rows = tt;

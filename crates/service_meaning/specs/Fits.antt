@@ -15,6 +15,8 @@ use Rattle.local_repair.specs.Steps.{calls_of_made}
 use Rattle.journal_rows.specs.Words.{last_sent, named, seen_acked, last_seen, seen_version, claimed, taken_version, taken_version_of, last_taken_of, is_version_of, wants, asked, asked_count, last_answered, given_version, request_now, is_struck, last_mark, settles, ordered, last_row}
 use Rattle.journal_rows.specs.declared.callee.AnsweredRow.{AnsweredRow}
 use Rattle.journal_rows.specs.declared.callee.AskedRow.{AskedRow}
+use Rattle.journal_rows.specs.declared.caller.AckHow.{AckHow}
+use Rattle.journal_rows.specs.declared.caller.AckHow.TheVariants.{WithAnswer, ToPost}
 use Rattle.journal_rows.specs.declared.caller.How.TheVariants.{Live, Message}
 use Rattle.journal_rows.specs.declared.caller.SawAnswerRow.{SawAnswerRow}
 use Rattle.journal_rows.specs.declared.caller.SentRow.{SentRow}
@@ -68,6 +70,10 @@ SeesOn before (SawAnswer a) =
 SeesOn before (Confirmed c) = IsSome (last_sent c.number before)
 SeesOn before row = Unit {0}
 
+abbrev pub is_with_answer : AckHow → Bool
+is_with_answer (WithAnswer answer_version) = true
+is_with_answer ToPost = false
+
 abbrev pub answer_of : SawAnswerRow → Answer
 answer_of a = record { answer_version = a.answer_version; version = a.version; response = a.response }
 
@@ -76,10 +82,17 @@ pub record HasSeen (greatest : ℕ) (last : Option Answer) (r : Register) : Type
   pub acked : r.acked ≡ greatest
   pub answer : r.answer ≡ last
 
+-- the row says that an answer to the call of this number was heard
+abbrev pub tells_heard : ℕ → Row → Bool
+tells_heard number (SawAck a) = nat_eq a.number number && is_with_answer a.how
+tells_heard number (Confirmed c) = nat_eq c.number number
+tells_heard number row = false
+
 pub record FitsSeen (journal : List Row) (kept : List Register) : Type 0 where
   pub rows : EachAfter SeesOn [] journal
   pub registers : (number : ℕ)
       → IfSome (register number kept) (HasSeen (seen_acked number journal) (option_map answer_of (last_seen number journal)))
+  pub answered : (number : ℕ) → list_any (tells_heard number) journal ≡ true → IsSome (last_seen number journal)
   pub heard : (number : ℕ) → claimed number journal ≤ seen_version (last_seen number journal)
 
 -- ---- c. What was taken of other services' calls
