@@ -1,3 +1,4 @@
+pub mod AgreeLemmas
 pub mod CellLemmas
 pub mod EditLemmas
 pub mod GetLemmas

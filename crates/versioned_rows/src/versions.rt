@@ -1,9 +1,10 @@
 // Versions: what each place wrote, and for each key the places that write it.
-ghost use Rattle.std.specs.Prelude.{ℕ, List, ◌≡◌, ◌+◌, ◌≤◌, ◌++◌, false, ◌∷◌, [], length, map, IfOk, IsTrue, IsOk, OnOk, OnErr};
+ghost use Rattle.std.specs.Prelude.{ℕ, List, ◌≡◌, ◌↔◌, ◌+◌, ◌<◌, ◌≤◌, slice_index_or, ◌++◌, false, ◌∷◌, [], length, map, IfOk, IsTrue, IsOk, OnOk, OnErr};
 ghost use Rattle.std.specs.List.{Contains};
 ghost use Rattle.std.specs.Option.{option_copied, ForSome};
 ghost use Rattle.lang_core.specs.Places.{IsOrdered};
 ghost use Rattle.lang_core.specs.Rows.{get, scan, kept_from, is_over};
+ghost use Rattle.lang_core.specs.declared.cells.Cell.{Cell};
 ghost use Rattle.versioned_rows.specs.Rows.{row_place};
 ghost use Rattle.versioned_rows.specs.Scans.{is_under, while, cell_at, row_cells};
 ghost use Rattle.call_room.specs.Room.{is_made, spend};
@@ -61,6 +62,23 @@ fn is_under(row: &Row, table: &Text, prefix: &Text) -> bool
     ensures { result ≡ is_under table.now prefix.now row.now }
 {
     row.table.is(table) && row.key.begins_with(prefix)
+}
+
+fn is_cell(cell: &Cell, row: &Row, text: &Text) -> bool
+    ensures { IsTrue result ↔ (cell.now ≡ record { table = row.now.table; key = row.now.key; text = text.now }) }
+{
+    cell.table.is(&row.table) && cell.key.is(&row.key) && cell.text.is(text)
+}
+
+// Whether the cell at a place is the one with the key of a row and this text.
+fn is_next(cells: &[Cell], at: usize, row: &Row, text: &Text) -> bool
+    requires { at ≤ length cells.now }
+    ensures { IsTrue result ↔ ((at < length cells.now) × ((d : Cell) → slice_index_or cells.now at d ≡ record { table = row.now.table; key = row.now.key; text = text.now })) }
+{
+    if at == cells.len() {
+        return false;
+    }
+    is_cell(&cells[at], row, text)
 }
 
 // Whether so many cells are too many, or too large with a key and a text of these lengths.
@@ -181,6 +199,69 @@ impl Versions {
     {
         let from = seek(&self.rows, table, prefix).0;
         self.scanned(alloc, order, label, table, prefix, &self.rows[from..])
+    }
+
+    // Whether these are the cells at the keys of these rows, as long as they are under the prefix, and up to the one that is
+    // too much.
+    fn agrees(
+        &self,
+        order: &Order,
+        label: Option<u64>,
+        table: &Text,
+        prefix: &Text,
+        rows: &[Row],
+        found: &[Cell],
+    ) -> bool
+        requires rising { IsRising order.now.labels (map label_of self.now.versions) }
+        requires label { ForSome label (Contains order.now.labels) }
+        ensures { IsTrue result ↔ (found.now ≡ kept_from 0 0 (row_cells (rows_after (before order.now.labels label self.now.versions))
+            (while (is_under table.now prefix.now) rows.now))) }
+    {
+        let mut n = 0;
+        let mut bytes = 0;
+        for row in rows {
+            if !is_under(row, table, prefix) {
+                return n == found.len();
+            }
+            match self.get_before(order, label, &row.table, &row.key) {
+                None => {}
+                Some(text) => {
+                    if !is_next(found, n, row, text) {
+                        return false;
+                    }
+                    n += 1;
+                    if is_too_much(n as u64, bytes, row.key.len(), text.len()) {
+                        return n == found.len();
+                    }
+                    bytes += row.key.len() + text.len();
+                }
+            }
+        }
+        n == found.len()
+    }
+
+    /// Whether these cells are what `scan_before` gives, told without memory.
+    pub fn scan_is(
+        &self,
+        order: &Order,
+        label: Option<u64>,
+        table: &Text,
+        prefix: &Text,
+        found: &Cells,
+    ) -> bool
+        requires rising { IsRising order.now.labels (map label_of self.now.versions) }
+        requires label { ForSome label (Contains order.now.labels) }
+        ensures { IsTrue result ↔ (found.now ≡ scan (rows_after (before order.now.labels label self.now.versions)) table.now prefix.now) }
+    {
+        let from = seek(&self.rows, table, prefix).0;
+        self.agrees(
+            order,
+            label,
+            table,
+            prefix,
+            &self.rows[from..],
+            found.as_slice(),
+        )
     }
 
     /// Takes the writes of a place out, if it has some. No other place changes.
