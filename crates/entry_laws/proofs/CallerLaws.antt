@@ -1,5 +1,5 @@
 -- Rows on a service's own calls say nothing of its entries.
-use Rattle.std.proofs.Common.{◌≡◌, ℕ, ◌+◌, Bool, true, false, ◌&&◌, ◌||◌, List, [], ◌∷◌, ◌++◌, Option, Some, None, find, length, All, refl, sym, ap, ◌∙◌, nat_eq}
+use Rattle.std.proofs.Common.{◌≡◌, ℕ, ◌+◌, Bool, true, false, ◌||◌, List, [], ◌∷◌, ◌++◌, Option, None, find, length, All, refl, ◌∙◌}
 use Rattle.std.specs.Cmp.{nat_eq_equiv}
 use Rattle.std.specs.List.{AllByRecursion as Each, list_any}
 use Rattle.std.proofs.lemmas.List.Elements.{All-nil, All-cons, All-weaker}
@@ -8,7 +8,7 @@ use Rattle.lang_core.specs.declared.ids.Origin.{Origin}
 use Rattle.lang_core.specs.declared.ids.Origin.TheVariants.{Outside, Call}
 use Rattle.request_log.specs.Entries.{has_id, has_origin, find_call}
 use Rattle.request_log.specs.declared.entry.Entry.{Entry}
-use Rattle.journal_rows.specs.Words.{asked_step, asked, count_step, asked_count, taken_step, last_taken, last_taken_of}
+use Rattle.journal_rows.specs.Words.{asked_step, count_step, taken_step, last_taken_of}
 use Rattle.journal_rows.specs.declared.callee.AskedRow.{AskedRow}
 use Rattle.journal_rows.specs.declared.callee.TookRow.{TookRow}
 use Rattle.journal_rows.specs.declared.row.Row.{Row}
@@ -18,7 +18,7 @@ use Rattle.service_meaning.specs.Fits.{EachAfter, TakesOn, AsksOn, AnswersOn, Co
 use Rattle.service_meaning.specs.State.{same_call_origin}
 use Rattle.entry_laws.proofs.FreshLemmas.{unfound}
 use Rattle.entry_laws.proofs.LogLemmas.{IsOther}
-use Rattle.entry_laws.proofs.PartLemmas.{IsLogged, MayCome, IsOfNone, logged_none}
+use Rattle.entry_laws.proofs.PartLemmas.{IsLogged, MayCome, logged_none}
 use Rattle.entry_laws.proofs.RowLemmas.{IsOf, SaysSame, says_same, word_same}
 use Rattle.entry_laws.proofs.SearchLemmas.{none_first}
 

@@ -1,5 +1,5 @@
 -- A commit: an entry comes last, with its record, its first answer and, where a call asked for it, its reply.
-use Rattle.std.proofs.Common.{◌≡◌, ℕ, ◌+◌, ◌<◌, ◌≤◌, Bool, true, false, ◌&&◌, cond, List, [], ◌∷◌, ◌++◌, Option, Some, None, IsSome, IsSomeAnd, IfSome, find, length, All, option_map, refl, sym, ap, ◌∙◌, subst, nat_eq, arith, append_assoc, append-nil, length-append, eq-eqb, fold, drop}
+use Rattle.std.proofs.Common.{◌≡◌, ℕ, ◌+◌, true, false, cond, List, [], ◌∷◌, ◌++◌, Option, Some, None, IsSome, IsSomeAnd, IfSome, find, length, option_map, refl, sym, ap, ◌∙◌, subst, nat_eq, arith, append_assoc, append-nil, length-append, eq-eqb, drop}
 use Rattle.std.specs.List.{AllByRecursion as Each, list_any}
 use Rattle.std.proofs.lemmas.Bool.{cond-true, or_right}
 use Rattle.std.proofs.lemmas.List.Elements.{All-push}
@@ -7,37 +7,33 @@ use Rattle.std.proofs.lemmas.List.Folds.{list_any-append}
 use Rattle.std.proofs.lemmas.List.Sums.{fold_push, fold-append}
 use Rattle.lang_core.specs.declared.ids.Origin.{Origin}
 use Rattle.lang_core.specs.declared.ids.Origin.TheVariants.{Outside, Call}
-use Rattle.lang_core.specs.declared.inputs.Inputs.{Inputs}
-use Rattle.lang_core.specs.declared.request.Request.{Request}
 use Rattle.lang_core.specs.declared.trace.CallMade.{CallMade}
 use Rattle.lang_core.specs.declared.trace.Trace.{Trace}
-use Rattle.request_log.specs.Entries.{has_id, is_call, find_call}
+use Rattle.request_log.specs.Entries.{has_id, is_call}
 use Rattle.request_log.specs.declared.entry.Entry.{Entry}
-use Rattle.journal_rows.specs.Words.{first_asked, asked_step, asked, count_step, asked_count, taken_step, last_taken, last_taken_of, version_in, taken_version, taken_version_of, wants, request_step, request_now, struck_step, is_struck, answered_step, last_answered, given_version, mark_step, last_mark, settles, last_step, last_row}
+use Rattle.journal_rows.specs.Words.{first_asked, asked_step, asked, count_step, taken_step, last_taken, last_taken_of, version_in, taken_version, request_step, request_now, struck_step, answered_step, last_answered, given_version, mark_step, last_mark, last_step}
 use Rattle.journal_rows.specs.declared.callee.AnsweredRow.{AnsweredRow}
 use Rattle.journal_rows.specs.declared.callee.AskedRow.{AskedRow}
 use Rattle.journal_rows.specs.declared.callee.TookRow.{TookRow}
 use Rattle.journal_rows.specs.declared.caller.How.TheVariants.{Live}
 use Rattle.journal_rows.specs.declared.row.Row.{Row}
 use Rattle.journal_rows.specs.declared.row.Row.TheVariants.{Asked, Took, Answered}
-use Rattle.journal_rows.specs.declared.words.Mark.{Mark}
 use Rattle.journal_rows.specs.declared.words.Mark.TheVariants.{Unsettled, AnsweredLive}
-use Rattle.call_registers.specs.Replies.{has_entry, reply, IsRising}
+use Rattle.call_registers.specs.Replies.{reply}
 use Rattle.call_registers.specs.declared.register.Register.{Register}
 use Rattle.call_registers.specs.declared.reply.Reply.{Reply}
 use Rattle.call_registers.proofs.ReplyLemmas.{rising_push}
 use Rattle.flights.specs.declared.flight.Flight.{Flight}
-use Rattle.service_meaning.specs.Calls.{deleted, all_deleted}
-use Rattle.service_meaning.specs.Fits.{EachAfter, TakesOn, AsksOn, AnswersOn, ConfirmsOn, IsAsNow, HasAnswered, HasReply, IsReply, IsTakenLive, made_as, asked_as, answer_given, takes_request}
-use Rattle.service_meaning.specs.Flying.{live_version, took_rows, surplus_rows, before_answer, live_answer, committed_entry, live_replies, answer_index, committed}
+use Rattle.service_meaning.specs.Calls.{all_deleted}
+use Rattle.service_meaning.specs.Fits.{IsAsNow, HasAnswered, IsReply, IsTakenLive, asked_as, answer_given, takes_request}
+use Rattle.service_meaning.specs.Flying.{took_rows, surplus_rows, live_answer, committed_entry, live_replies, answer_index, committed}
 use Rattle.service_meaning.specs.State.{Kept, me, next_id}
 use Rattle.entry_laws.proofs.CallerLaws.{IsCallerRow, callers_logged, callers_taken}
-use Rattle.entry_laws.proofs.FreshLemmas.{unmade, unfound, unanswered, unstruck, asks_as_made, unreplied, below_next, is_new, untaken_of, still_found}
+use Rattle.entry_laws.proofs.FreshLemmas.{unmade, unanswered, unstruck, asks_as_made, unreplied, below_next, is_new, untaken_of, still_found}
 use Rattle.entry_laws.proofs.JournalLemmas.{IsUntaken}
-use Rattle.entry_laws.proofs.LogLemmas.{itself, IsWith, with_push}
-use Rattle.entry_laws.proofs.PartLemmas.{IsLogged, MayCome, Owes, logged_one}
+use Rattle.entry_laws.proofs.LogLemmas.{itself, with_push}
+use Rattle.entry_laws.proofs.PartLemmas.{IsLogged, MayCome, logged_one}
 use Rattle.entry_laws.proofs.ReplyLemmas.{push_own, push_other, above_all}
-use Rattle.entry_laws.proofs.RowLemmas.{IsOf}
 
 -- the rows of a commit behind those of the calls too many
 abbrev pub commit_rows : Kept → Flight → Trace → List Row

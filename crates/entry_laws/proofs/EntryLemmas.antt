@@ -1,5 +1,5 @@
 -- An entry of a log: what follows from the journal of it.
-use Rattle.std.proofs.Common.{◌≡◌, ℕ, ◌+◌, ◌<◌, ◌≤◌, Bool, true, false, ◌&&◌, ◌||◌, not, cond, List, [], ◌∷◌, ◌++◌, Option, Some, None, IsSome, IsSomeAnd, find, length, All, is_some, option_map, refl, sym, ap, ◌∙◌, subst, nat_eq, arith, eqb-true, eq-eqb}
+use Rattle.std.proofs.Common.{◌≡◌, ℕ, Bool, true, false, ◌&&◌, ◌||◌, not, List, [], ◌∷◌, ◌++◌, Option, Some, None, IsSomeAnd, find, is_some, option_map, refl, sym, ap, ◌∙◌, subst, eqb-true, eq-eqb}
 use Rattle.std.specs.List.{list_any}
 use Rattle.std.proofs.lemmas.Bool.{or_left}
 use Rattle.std.proofs.lemmas.List.Folds.{list_any-append}
@@ -10,17 +10,14 @@ use Rattle.lang_core.specs.declared.inputs.Inputs.{Inputs}
 use Rattle.request_log.specs.Entries.{has_id, has_origin, is_call, find_call, IsDistinct}
 use Rattle.request_log.specs.declared.entry.Entry.{Entry}
 use Rattle.request_log.specs.declared.entry.Made.{Made}
-use Rattle.journal_rows.specs.Words.{asked_step, asked, taken_step, last_taken, last_taken_of, request_step, struck_step, last_answered, given_version}
-use Rattle.journal_rows.specs.declared.callee.AckedRow.{AckedRow}
+use Rattle.journal_rows.specs.Words.{asked_step, taken_step, last_taken_of, request_step, struck_step, last_answered, given_version}
 use Rattle.journal_rows.specs.declared.callee.AnsweredRow.{AnsweredRow}
 use Rattle.journal_rows.specs.declared.callee.AskedRow.{AskedRow}
-use Rattle.journal_rows.specs.declared.callee.WasConfirmedRow.{WasConfirmedRow}
 use Rattle.journal_rows.specs.declared.row.Row.{Row}
 use Rattle.journal_rows.specs.declared.row.Row.TheVariants.{Acked, Answered, WasConfirmed}
 use Rattle.call_registers.specs.declared.reply.Reply.{Reply}
-use Rattle.service_meaning.specs.Fits.{made_as, asked_as, answer_given, answer_made, takes_request, HasAnswered}
+use Rattle.service_meaning.specs.Fits.{asked_as, answer_given, takes_request, HasAnswered}
 use Rattle.call_registers.specs.declared.register.Answer.{Answer}
-use Rattle.entry_laws.proofs.JournalLemmas.{few_answers}
 use Rattle.entry_laws.proofs.LogLemmas.{call_is, itself, front_id, found_call}
 use Rattle.entry_laws.proofs.PartLemmas.{IsLogged}
 use Rattle.entry_laws.proofs.RowLemmas.{AsksSame}

@@ -1,7 +1,5 @@
 -- The next number is that of no entry, and nothing was said of it.
-use Rattle.std.proofs.Common.{◌≡◌, ℕ, ◌+◌, ◌<◌, ◌≤◌, Bool, true, false, cond, List, [], ◌∷◌, ◌++◌, Option, Some, None, IsSome, find, length, All, is_some, option_map, refl, sym, ap, ◌∙◌, subst, inl, inr, nat_eq, arith, eqb-true}
-use Rattle.std.specs.List.{list_any}
-use Rattle.std.proofs.lemmas.Bool.{cases_Bool}
+use Rattle.std.proofs.Common.{◌≡◌, ◌+◌, ◌<◌, ◌≤◌, Bool, true, false, cond, List, Option, Some, None, IsSome, find, length, All, is_some, option_map, refl, sym, ap, ◌∙◌, subst, inl, inr, nat_eq, arith, eqb-true}
 use Rattle.std.proofs.lemmas.List.Elements.{All-weaker}
 use Rattle.lang_core.specs.declared.ids.Origin.{Origin}
 use Rattle.lang_core.specs.declared.ids.Origin.TheVariants.{Outside, Call}
@@ -12,7 +10,7 @@ use Rattle.journal_rows.specs.Words.{asked, asked_count, last_taken_of, request_
 use Rattle.journal_rows.specs.declared.row.Row.{Row}
 use Rattle.call_registers.specs.Replies.{has_entry, reply}
 use Rattle.call_registers.specs.declared.reply.Reply.{Reply}
-use Rattle.service_meaning.specs.Fits.{made_as, asked_as, takes_request}
+use Rattle.service_meaning.specs.Fits.{made_as, asked_as}
 use Rattle.entry_laws.proofs.JournalLemmas.{not_made, made_within, not_struck, IsUntaken, not_asked_anew, no_answer, untaken}
 use Rattle.entry_laws.proofs.LogLemmas.{IsWith}
 use Rattle.entry_laws.proofs.PartLemmas.{IsLogged}

@@ -1,5 +1,5 @@
 -- A reply that is held or released: what follows from the journal of it stays.
-use Rattle.std.proofs.Common.{◌≡◌, ℕ, Bool, true, false, not, ◌&&◌, cond, List, Option, Some, None, IsSome, IsSomeAnd, find, All, option_map, refl, sym, ap, ◌∙◌, subst, inl, inr, nat_eq, eqb-true}
+use Rattle.std.proofs.Common.{◌≡◌, ℕ, false, List, Option, Some, None, IsSome, IsSomeAnd, find, option_map, sym, ap, ◌∙◌, subst, inl, inr, nat_eq, eqb-true}
 use Rattle.std.proofs.lemmas.Bool.{cases_Bool}
 use Rattle.std.proofs.lemmas.List.Elements.{All-weaker}
 use Rattle.lang_core.specs.declared.ids.Origin.{Origin}

@@ -1,14 +1,13 @@
 -- What follows of a journal whose rows may stand after one another.
-use Rattle.std.proofs.Common.{◌≡◌, ℕ, suc, ◌+◌, ◌<◌, ◌≤◌, Bool, true, false, ◌&&◌, ◌||◌, cond, List, [], ◌∷◌, ◌++◌, Option, Some, None, IsSome, IfSome, IsSomeAnd, MatchOption, fold, length, is_some, refl, sym, ap, ◌∙◌, subst, inl, inr, nat_eq, arith, append_assoc, append-nil, length-append, eqb-true}
+use Rattle.std.proofs.Common.{◌≡◌, ℕ, ◌+◌, ◌<◌, ◌≤◌, Bool, true, false, ◌&&◌, ◌||◌, cond, List, [], ◌∷◌, ◌++◌, Option, Some, None, IsSome, IfSome, IsSomeAnd, MatchOption, length, is_some, refl, sym, ap, ◌∙◌, subst, inl, inr, nat_eq, arith, append_assoc, append-nil, length-append, eqb-true}
 use Rattle.std.specs.List.{list_any}
-use Rattle.std.proofs.lemmas.Bool.{cases_Bool, or_parts, and_parts}
+use Rattle.std.proofs.lemmas.Bool.{cases_Bool, or_parts}
 use Rattle.std.proofs.lemmas.List.Folds.{list_any-append}
 use Rattle.std.proofs.lemmas.List.Sums.{fold_push}
 use Rattle.lang_core.specs.declared.ids.Origin.{Origin}
 use Rattle.lang_core.specs.declared.ids.Origin.TheVariants.{Outside, Call}
 use Rattle.lang_core.specs.declared.request.Request.{Request}
 use Rattle.journal_rows.specs.Words.{first_asked, asked_step, asked, count_step, asked_count, taken_step, last_taken, request_step, request_now, struck_step, is_struck, struck_by, replaced_by, answered_step, last_answered, given_version, is_about, comes_from, or_before, is_version_of}
-use Rattle.journal_rows.specs.declared.callee.AnsweredRow.{AnsweredRow}
 use Rattle.journal_rows.specs.declared.callee.AskedRow.{AskedRow}
 use Rattle.journal_rows.specs.declared.callee.TookRow.{TookRow}
 use Rattle.journal_rows.specs.declared.orders.About.{About}

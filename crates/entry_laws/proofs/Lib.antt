@@ -16,5 +16,9 @@ pub mod PostedLaw
 pub mod OrderLaw
 pub mod RunLemmas
 pub mod RepairRuns
+pub mod GrowthLemmas
+pub mod OwnLemmas
+pub mod AloftLemmas
+pub mod LiveRuns
 pub mod LiveEvents
 pub mod RepairEvents

@@ -1,6 +1,6 @@
 -- The events of live requests keep how entries and replies follow from the journal.
-use Rattle.std.proofs.Common.{◌≡◌, ℕ, zero, suc, ◌+◌, ◌≤◌, Bool, true, false, ◌&&◌, cond, List, [], ◌∷◌, ◌++◌, Option, Some, None, IsSome, Result, Ok, Err, find, length, All, is_some, nat_le, nat_eq, slice_get, refl, sym, ap, ◌∙◌, subst, inl, inr}
-use Rattle.std.specs.List.{AllByRecursion as Each, list_any}
+use Rattle.std.proofs.Common.{◌≡◌, ℕ, zero, suc, Bool, true, false, cond, List, [], ◌∷◌, ◌++◌, Option, Some, None, IsSome, Result, Err, is_some, nat_le, nat_eq, slice_get, refl, ap, ◌∙◌}
+use Rattle.std.specs.List.{AllByRecursion as Each}
 use Rattle.std.proofs.lemmas.Bool.{cond_both}
 use Rattle.lang_core.specs.declared.ids.Origin.{Origin}
 use Rattle.lang_core.specs.declared.ids.Origin.TheVariants.{Outside, Call}
@@ -18,7 +18,6 @@ use Rattle.journal_rows.specs.Words.{last_taken, last_taken_of}
 use Rattle.journal_rows.specs.declared.callee.TookRow.{TookRow}
 use Rattle.journal_rows.specs.declared.row.Row.{Row}
 use Rattle.call_registers.specs.Registers.{next_number, register}
-use Rattle.call_registers.specs.declared.register.Register.{Register}
 use Rattle.call_registers.specs.declared.register.Why.{Why}
 use Rattle.call_registers.specs.declared.reply.Reply.{Reply}
 use Rattle.flights.specs.Moves.{calls_in, next_move}
@@ -26,8 +25,8 @@ use Rattle.flights.specs.declared.flight.Flight.{Flight}
 use Rattle.flights.specs.declared.flight.Move.{Move}
 use Rattle.flights.specs.declared.flight.Move.TheVariants.{Commit, Name, Change}
 use Rattle.service_meaning.specs.Arriving.{accepted, new_flight, admitted, arrives, known_by, arrives_or_known, by_version, unless_gone, arrive_event, is_for, heard_rows, is_new_to, seen_live, answered_flight, call_answered_event, told, failed_flight, call_failed_event, abandoned, abandon_event}
-use Rattle.service_meaning.specs.Calls.{noted, named, deleted, all_deleted}
-use Rattle.service_meaning.specs.Fits.{Fits, FitsFlights}
+use Rattle.service_meaning.specs.Calls.{noted, named, all_deleted}
+use Rattle.service_meaning.specs.Fits.{FitsFlights}
 use Rattle.service_meaning.specs.Flying.{flight_run, awaited, committed, with_slot, with_change, deletion, change_rows, waits, call_or_none, wanted_of, named_unsent, changed_unsent, completing, completed, changed, moved, goes_on}
 use Rattle.service_meaning.specs.State.{Kept, After, after, or_else, is_crowded, is_heavy, is_in_flight, has_flight, flight_of}
 use Rattle.service_meaning.specs.declared.answers.Arrived.{Arrived}

@@ -1,9 +1,7 @@
 -- Logs that get an entry more, or another one in the place of one.
-use Rattle.std.proofs.Common.{◌≡◌, ℕ, zero, suc, ◌+◌, Bool, true, false, ◌&&◌, cond, List, [], ◌∷◌, ◌++◌, map, length, set, slice_get, Option, Some, None, IsSome, find, insert, All, refl, sym, ap, ◌∙◌, subst, inl, inr, nat_eq, arith, eqb-true, eq-eqb, ne_eqb, if◌then◌else◌}
-use Rattle.std.specs.List.{position_or_len}
+use Rattle.std.proofs.Common.{◌≡◌, ℕ, Bool, true, false, List, [], ◌∷◌, ◌++◌, length, set, Some, None, find, insert, All, refl, sym, ap, ◌∙◌, subst, inl, inr, nat_eq, eqb-true, eq-eqb, ne_eqb, if◌then◌else◌}
 use Rattle.std.proofs.lemmas.Bool.{cases_Bool, and_parts, and_from}
 use Rattle.std.specs.Cmp.Lexicographic.{nat_list_eq_equiv}
-use Rattle.std.proofs.lemmas.List.{map-append}
 use Rattle.std.proofs.lemmas.List.Edits.{insert_end}
 use Rattle.std.proofs.lemmas.List.Elements.{All-cons, All-nil}
 use Rattle.lang_base.specs.Texts.{same_text}

@@ -1,6 +1,6 @@
 -- Orders of operators keep how entries and replies follow from the journal.
-use Rattle.std.proofs.Common.{◌≡◌, ℕ, ◌+◌, ◌<◌, ◌≤◌, Bool, true, false, not, ◌&&◌, ◌||◌, cond, List, [], ◌∷◌, ◌++◌, map, Option, Some, None, IsSome, IfSome, IsSomeAnd, Result, Ok, Err, find, insert, length, All, is_some, option_map, refl, sym, ap, ◌∙◌, subst, inl, inr, nat_eq, arith, eqb-true, eq-eqb}
-use Rattle.std.specs.List.{AllByRecursion as Each, list_any}
+use Rattle.std.proofs.Common.{◌≡◌, ℕ, ◌+◌, Bool, true, false, not, ◌&&◌, ◌||◌, cond, List, [], ◌∷◌, ◌++◌, Option, Some, None, IsSome, IsSomeAnd, Result, Ok, find, insert, length, is_some, option_map, refl, sym, ap, ◌∙◌, subst, nat_eq, eq-eqb}
+use Rattle.std.specs.List.{list_any}
 use Rattle.std.specs.Option.{option_map_or}
 use Rattle.std.proofs.lemmas.Bool.{cond-true}
 use Rattle.std.proofs.lemmas.List.{length-map}
@@ -11,15 +11,14 @@ use Rattle.lang_core.specs.declared.ids.Origin.TheVariants.{Outside, Call}
 use Rattle.lang_core.specs.declared.inputs.Inputs.{Inputs}
 use Rattle.lang_core.specs.declared.request.Request.{Request}
 use Rattle.lang_tree.specs.declared.method.Method.{Method}
-use Rattle.request_log.specs.Entries.{has_id, is_call, find_call}
+use Rattle.request_log.specs.Entries.{has_id}
 use Rattle.request_log.specs.declared.entry.Entry.{Entry}
 use Rattle.repair_messages.specs.declared.posts.PostName.{PostName}
 use Rattle.repair_messages.specs.declared.posts.PostName.TheVariants.{Call as OfCall, Reply as OfReply}
 use Rattle.create_placement.specs.Placement.{place_of}
-use Rattle.journal_rows.specs.Words.{first_asked, asked_step, asked, count_step, asked_count, taken_step, last_taken, last_taken_of, version_in, wants, request_step, request_now, struck_by, struck_step, is_struck, replaced_by, answered_step, last_answered, mark_step, last_mark, ordered, or_before, is_about, settles}
+use Rattle.journal_rows.specs.Words.{first_asked, asked_step, asked, count_step, taken_step, last_taken_of, version_in, wants, request_step, request_now, struck_by, struck_step, is_struck, replaced_by, answered_step, mark_step, ordered, or_before, is_about, settles}
 use Rattle.journal_rows.specs.declared.callee.TookRow.{TookRow}
 use Rattle.journal_rows.specs.declared.callee.AskedRow.{AskedRow}
-use Rattle.journal_rows.specs.declared.orders.About.{About}
 use Rattle.journal_rows.specs.declared.orders.About.TheVariants.{Request as AboutRequest, Post as AboutPost}
 use Rattle.journal_rows.specs.declared.orders.Command.{Command}
 use Rattle.journal_rows.specs.declared.orders.Command.TheVariants.{Cancel, Restore, Replace, Create, Retry}
@@ -27,25 +26,25 @@ use Rattle.journal_rows.specs.declared.orders.OrderedRow.{OrderedRow}
 use Rattle.journal_rows.specs.declared.row.Row.{Row}
 use Rattle.journal_rows.specs.declared.row.Row.TheVariants.{Asked, Ordered as OrderedAs}
 use Rattle.journal_rows.specs.declared.words.Mark.TheVariants.{Unsettled}
-use Rattle.call_registers.specs.Replies.{reply, at_entry, released as released_reply}
+use Rattle.call_registers.specs.Replies.{reply, released as released_reply}
 use Rattle.call_registers.specs.declared.reply.Reply.{Reply}
 use Rattle.service_meaning.specs.Calls.{noted}
-use Rattle.service_meaning.specs.Fits.{EachAfter, AsksOn, IsOrderAbout, IsAsNow, HasAnswered, HasReply, IsReply, made_as, asked_as, answer_given, takes_request}
+use Rattle.service_meaning.specs.Fits.{IsOrderAbout, IsAsNow, HasAnswered, HasReply, IsReply, made_as, asked_as, answer_given, takes_request}
 use Rattle.service_meaning.specs.Messages.{rule}
-use Rattle.service_meaning.specs.Orders.{entry_of, unless_there, unless_outside, unless_replaced, misnamed, is_too_much, refused, with_call, at_id, struck_as, asking, created, about, request_of, original, repaired, asked_rows, order_rows, released_post, carried_out, order_by, order_where, order_event}
-use Rattle.service_meaning.specs.State.{Kept, After, after, next_id, or_else}
+use Rattle.service_meaning.specs.Orders.{entry_of, unless_there, unless_outside, unless_replaced, misnamed, is_too_much, refused, with_call, at_id, struck_as, asking, created, about, request_of, order_rows, released_post, carried_out, order_by, order_where, order_event}
+use Rattle.service_meaning.specs.State.{Kept, after, next_id, or_else}
 use Rattle.service_meaning.specs.declared.answers.Ordered.{Ordered}
 use Rattle.service_meaning.specs.declared.refusals.OrderRefused.{OrderRefused}
 use Rattle.entry_laws.proofs.CallerLaws.{all_same}
-use Rattle.entry_laws.proofs.CommitLaw.{some_and, if_some}
+use Rattle.entry_laws.proofs.CommitLaw.{if_some}
 use Rattle.entry_laws.proofs.EntryLemmas.{made_from, found_itself, still_called}
 use Rattle.entry_laws.proofs.FreshLemmas.{unmade, unfound, unanswered, unstruck, asks_as_made, unreplied, is_new, still_found}
 use Rattle.entry_laws.proofs.HoldLaw.{replies_changed}
 use Rattle.entry_laws.proofs.LiveLaws.{LeavesLogged}
 use Rattle.entry_laws.proofs.LogLemmas.{IsWith, with_insert, with_changed}
-use Rattle.entry_laws.proofs.PartLemmas.{IsLogged, MayCome, IsOfNone, logged_none, Owes, logged_one, request_same}
+use Rattle.entry_laws.proofs.PartLemmas.{IsLogged, logged_none, logged_one, request_same}
 use Rattle.entry_laws.proofs.RowLemmas.{IsAboutEntry}
-use Rattle.entry_laws.proofs.SearchLemmas.{some_or_none, found_all, length_insert}
+use Rattle.entry_laws.proofs.SearchLemmas.{found_all, length_insert}
 
 -- ---- an order about an entry, which changes what is asked of it or strikes it
 

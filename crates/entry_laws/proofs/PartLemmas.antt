@@ -1,23 +1,20 @@
 -- Entries and replies follow from the journal as rows come: rows that speak of no entry, and rows that speak of one.
-use Rattle.std.proofs.Common.{◌≡◌, ℕ, ◌+◌, ◌<◌, ◌≤◌, ◌↔◌, Bool, true, false, not, ◌&&◌, cond, List, [], ◌∷◌, ◌++◌, Option, Some, None, IsSome, IfSome, IsSomeAnd, find, length, All, is_some, option_map, refl, sym, ap, ◌∙◌, subst, inl, inr, nat_eq, arith, eqb-true}
+use Rattle.std.proofs.Common.{◌≡◌, ℕ, ◌↔◌, true, false, not, ◌&&◌, List, [], ◌++◌, Option, Some, None, IsSome, IfSome, IsSomeAnd, find, length, All, is_some, option_map, refl, sym, ap, ◌∙◌, subst, inl, inr, nat_eq, eqb-true}
 use Rattle.std.specs.List.{AllByRecursion as Each, list_any}
 use Rattle.std.proofs.lemmas.Bool.{cases_Bool, cond-true, cond-false}
-use Rattle.std.proofs.lemmas.List.Elements.{All-weaker}
 use Rattle.lang_core.specs.declared.ids.Origin.{Origin}
 use Rattle.lang_core.specs.declared.ids.Origin.TheVariants.{Outside, Call}
-use Rattle.request_log.specs.Entries.{has_id, is_call, find_call, IsNew, IsDistinct}
+use Rattle.request_log.specs.Entries.{has_id, is_call, find_call}
 use Rattle.request_log.specs.declared.entry.Entry.{Entry}
-use Rattle.journal_rows.specs.Words.{asked, asked_count, last_taken_of, taken_version_of, version_in, wants, request_now, is_struck, last_answered, last_mark, settles}
+use Rattle.journal_rows.specs.Words.{asked, asked_count, last_taken_of, version_in, wants, request_now, last_mark, settles}
 use Rattle.journal_rows.specs.declared.callee.AskedRow.{AskedRow}
-use Rattle.journal_rows.specs.declared.callee.TookRow.{TookRow}
 use Rattle.journal_rows.specs.declared.row.Row.{Row}
-use Rattle.call_registers.specs.Replies.{has_entry, reply, IsRising}
+use Rattle.call_registers.specs.Replies.{reply, IsRising}
 use Rattle.call_registers.specs.declared.reply.Reply.{Reply}
 use Rattle.service_meaning.specs.Fits.{EachAfter, TakesOn, AsksOn, AnswersOn, ConfirmsOn, FitsAsked, FitsAnswered, FitsReplies, Fits, IsAsNow, HasAnswered, HasReply, IsReply, made_as, asked_as, answer_given, takes_request}
-use Rattle.service_meaning.specs.State.{Kept as Service, same_call_origin}
-use Rattle.entry_laws.proofs.LogLemmas.{IsOther, IsWith, all_with, call_is}
+use Rattle.service_meaning.specs.State.{Kept as Service}
+use Rattle.entry_laws.proofs.LogLemmas.{IsWith, all_with, call_is}
 use Rattle.entry_laws.proofs.RowLemmas.{EachAfter-append, IsOf, AsksSame, SaysSame, says_same, made_same, calls_same}
-use Rattle.entry_laws.proofs.SearchLemmas.{some_or_none, found_all}
 
 -- the log and its replies follow from the journal, in all but that records are what runs gave
 pub record IsLogged (journal : List Row) (log : List Entry) (kept : List Reply) : Type 0 where

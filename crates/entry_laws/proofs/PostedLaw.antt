@@ -1,6 +1,5 @@
 -- What comes back of a post, and an answer that is heard, keep how entries and replies follow from the journal.
-use Rattle.std.proofs.Common.{◌≡◌, ℕ, ◌+◌, ◌<◌, ◌≤◌, Bool, true, false, not, ◌&&◌, cond, List, [], ◌∷◌, ◌++◌, Option, Some, None, IsSome, IsSomeAnd, Result, Ok, Err, find, length, All, option_map, refl, sym, ap, ◌∙◌, subst, inl, inr, nat_eq, nat_le, arith, eqb-true, leb-true}
-use Rattle.std.specs.List.{AllByRecursion as Each}
+use Rattle.std.proofs.Common.{◌≡◌, ℕ, ◌≤◌, true, not, ◌&&◌, cond, List, [], ◌∷◌, ◌++◌, Option, Some, None, IsSome, IsSomeAnd, Ok, Err, find, length, option_map, refl, sym, ap, ◌∙◌, subst, nat_eq, nat_le, arith, eqb-true, leb-true}
 use Rattle.std.proofs.lemmas.Bool.{cond_both, cond-true, and_parts}
 use Rattle.std.proofs.lemmas.List.Sums.{fold_push}
 use Rattle.lang_base.specs.Texts.{same_text}
@@ -8,15 +7,12 @@ use Rattle.lang_core.specs.declared.ids.Origin.{Origin}
 use Rattle.lang_core.specs.declared.ids.Origin.TheVariants.{Outside, Call}
 use Rattle.request_log.specs.Entries.{has_id, is_call}
 use Rattle.request_log.specs.declared.entry.Entry.{Entry}
-use Rattle.repair_messages.specs.declared.messages.Ack.{Ack}
 use Rattle.repair_messages.specs.declared.messages.AnswerMessage.{AnswerMessage}
 use Rattle.repair_messages.specs.declared.messages.Confirm.{Confirm}
-use Rattle.repair_messages.specs.declared.messages.SetMessage.{SetMessage}
 use Rattle.repair_messages.specs.declared.posts.Post.{Post}
 use Rattle.repair_messages.specs.declared.posts.Post.TheVariants.{Set, Answer}
-use Rattle.journal_rows.specs.Words.{asked, count_step, answered_step, last_answered, given_version, mark_step, last_mark, settles}
+use Rattle.journal_rows.specs.Words.{asked, count_step, answered_step, mark_step, last_mark, settles}
 use Rattle.journal_rows.specs.declared.row.Row.{Row}
-use Rattle.journal_rows.specs.declared.row.Row.TheVariants.{WasConfirmed}
 use Rattle.journal_rows.specs.declared.words.Mark.TheVariants.{Unsettled, ConfirmedAt}
 use Rattle.call_registers.specs.Registers.{register, is_newer}
 use Rattle.call_registers.specs.Replies.{has_entry, reply, at_entry, with_confirm, with_hold}
@@ -24,25 +20,22 @@ use Rattle.call_registers.specs.declared.register.Hold.{Hold}
 use Rattle.call_registers.specs.declared.register.Register.{Register}
 use Rattle.call_registers.specs.declared.reply.Reply.{Reply}
 use Rattle.service_meaning.specs.Calls.{noted}
-use Rattle.service_meaning.specs.Fits.{IsAsNow, HasAnswered, HasReply, IsReply, WasGiven, made_as, asked_as, answer_given}
-use Rattle.service_meaning.specs.Messages.{rule, heard, seen_row, confirmed_row, heard_by, heard_where, take_answer_event, is_version, had_answer, is_confirm_of, replies_to, had, is_now, hold_of, held_back, held_where, saw_ack_row, was_confirmed_row, confirmed_reply, posted, posted_event}
-use Rattle.service_meaning.specs.State.{Kept, After, after, me}
-use Rattle.service_meaning.specs.declared.answers.Heard.{Heard}
+use Rattle.service_meaning.specs.Fits.{IsAsNow, HasAnswered, HasReply, IsReply, made_as, asked_as, answer_given}
+use Rattle.service_meaning.specs.Messages.{rule, heard, seen_row, confirmed_row, heard_by, heard_where, take_answer_event, is_version, had_answer, is_confirm_of, replies_to, had, is_now, hold_of, held_back, held_where, saw_ack_row, was_confirmed_row, posted, posted_event}
+use Rattle.service_meaning.specs.State.{Kept, after, me}
 use Rattle.service_meaning.specs.declared.answers.PostReply.{PostReply}
 use Rattle.service_meaning.specs.declared.answers.PostReply.TheVariants.{Acked as WasAcked, Confirmed as WasHeard, Refused, Lost}
-use Rattle.service_meaning.specs.declared.answers.Posted.{Posted}
 use Rattle.service_meaning.specs.declared.answers.Posted.TheVariants.{Held, Left}
 use Rattle.service_meaning.specs.declared.refusals.AnswerRefused.{AnswerRefused}
-use Rattle.service_meaning.specs.declared.refusals.PostRefused.{PostRefused}
 use Rattle.service_meaning.specs.declared.refusals.PostRefused.TheVariants.{Foreign}
 use Rattle.entry_laws.proofs.CallerLaws.{callers_logged}
 use Rattle.entry_laws.proofs.EntryLemmas.{asks_same_after, made_from, version_given, still_called, found_itself}
 use Rattle.entry_laws.proofs.LiveLaws.{LeavesLogged}
 use Rattle.entry_laws.proofs.LogLemmas.{itself, with_same}
-use Rattle.entry_laws.proofs.PartLemmas.{IsLogged, Owes, logged_one, as_now_same}
+use Rattle.entry_laws.proofs.PartLemmas.{IsLogged, logged_one, as_now_same}
 use Rattle.entry_laws.proofs.ReplyLemmas.{change_own, change_other, rising_change, all_change}
 use Rattle.entry_laws.proofs.HoldLaw.{replies_changed}
-use Rattle.entry_laws.proofs.SearchLemmas.{some_or_none, splits, found_all, text_is}
+use Rattle.entry_laws.proofs.SearchLemmas.{splits, found_all, text_is}
 
 -- ---- an answer is heard
 

@@ -1,22 +1,19 @@
 -- What messages, steps and orders leave of entries: part by part.
 use Rattle.std.proofs.Common.{ℕ, ◌<◌, List, [], length}
-use Rattle.lang_core.specs.declared.ids.Origin.{Origin}
 use Rattle.lang_core.specs.declared.inputs.Inputs.{Inputs}
-use Rattle.lang_core.specs.declared.request.Request.{Request}
 use Rattle.local_repair.specs.Current.{AllRuns}
 use Rattle.repair_messages.specs.declared.messages.AnswerMessage.{AnswerMessage}
 use Rattle.repair_messages.specs.declared.messages.SetMessage.{SetMessage}
 use Rattle.repair_messages.specs.declared.posts.Post.{Post}
 use Rattle.journal_rows.specs.declared.orders.Command.{Command}
-use Rattle.call_registers.specs.declared.register.Why.{Why}
 use Rattle.service_meaning.specs.Fits.{EachAfter, TakesOn, FitsAsked, FitsAnswered, FitsReplies, Fits}
-use Rattle.service_meaning.specs.State.{Kept, After}
+use Rattle.service_meaning.specs.State.{Kept}
 use Rattle.service_meaning.specs.declared.answers.PostReply.{PostReply}
 use Rattle.service_meaning.specs.Messages.{take_event, take_answer_event, posted_event}
 use Rattle.service_meaning.specs.Orders.{order_event}
 use Rattle.service_meaning.specs.Steps.{step_event}
 use Rattle.entry_laws.proofs.OrderLaw.{order_logged}
-use Rattle.entry_laws.proofs.PartLemmas.{IsLogged, logged}
+use Rattle.entry_laws.proofs.PartLemmas.{logged}
 use Rattle.entry_laws.proofs.PostedLaw.{take_answer_logged, posted_logged}
 use Rattle.entry_laws.proofs.RepairRuns.{take_runs, take_answer_runs, posted_runs, step_runs, order_runs}
 use Rattle.entry_laws.proofs.StepLaw.{step_logged}

@@ -1,18 +1,15 @@
 -- Steps, messages and orders keep that records are what runs gave.
-use Rattle.std.proofs.Common.{◌≡◌, ℕ, ◌+◌, Bool, true, false, ◌&&◌, not, cond, List, [], ◌∷◌, ◌++◌, Option, Some, None, Result, Ok, Err, find, length, refl, sym, ap, ◌∙◌, subst, nat_eq}
+use Rattle.std.proofs.Common.{◌≡◌, ℕ, true, false, ◌&&◌, not, cond, List, [], ◌∷◌, Option, Some, None, Ok, Err, refl}
 use Rattle.std.proofs.lemmas.Bool.{cond_both}
 use Rattle.lang_base.specs.Texts.{same_text}
-use Rattle.lang_core.specs.declared.ids.Origin.TheVariants.{Call}
 use Rattle.lang_core.specs.declared.inputs.Inputs.{Inputs}
 use Rattle.lang_core.specs.declared.request.Request.{Request}
-use Rattle.request_log.specs.Entries.{has_id, has_origin, find_call}
+use Rattle.request_log.specs.Entries.{has_origin, find_call}
 use Rattle.request_log.specs.declared.entry.Entry.{Entry}
-use Rattle.request_log.specs.declared.entry.Made.{Made}
 use Rattle.repair_messages.specs.declared.messages.AnswerMessage.{AnswerMessage}
 use Rattle.repair_messages.specs.declared.messages.SetMessage.{SetMessage}
 use Rattle.repair_messages.specs.declared.posts.Post.{Post}
 use Rattle.repair_messages.specs.declared.posts.Post.TheVariants.{Set, Answer}
-use Rattle.repair_messages.specs.declared.posts.PostName.{PostName}
 use Rattle.repair_messages.specs.declared.posts.PostName.TheVariants.{Call as OfCall, Reply as OfReply}
 use Rattle.local_repair.specs.Current.{AllRuns}
 use Rattle.local_repair.specs.Steps.{remade}
@@ -26,14 +23,11 @@ use Rattle.call_registers.specs.declared.register.Register.{Register}
 use Rattle.create_placement.specs.Placement.{place_of}
 use Rattle.service_meaning.specs.Calls.{noted}
 use Rattle.service_meaning.specs.Messages.{rule, taken, origin_of, is_known, is_too_much, acked_again, created_entry, created_place, at_version, taken_by, take_admitted, take_event, heard, seen_row, confirmed_row, heard_by, heard_where, take_answer_event, replies_to, had, is_now, hold_of, held_back, held_where, posted, posted_event}
-use Rattle.service_meaning.specs.Orders.{refused, at_id, struck_as, asking, created, about, order_rows, carried_out, order_by, order_where, order_event}
+use Rattle.service_meaning.specs.Orders.{refused, struck_as, asking, created, carried_out, order_by, order_where, order_event}
 use Rattle.service_meaning.specs.State.{Kept, After, after, answers, next_id, is_in_flight}
-use Rattle.service_meaning.specs.Steps.{new_record, new_numbers, stepped, Stale, stale_in, step_by, step_event}
-use Rattle.service_meaning.specs.declared.answers.Heard.{Heard}
-use Rattle.service_meaning.specs.declared.answers.Ordered.{Ordered}
+use Rattle.service_meaning.specs.Steps.{new_record, new_numbers, Stale, stale_in, step_by, step_event}
 use Rattle.service_meaning.specs.declared.answers.PostReply.{PostReply}
 use Rattle.service_meaning.specs.declared.answers.PostReply.TheVariants.{Acked as WasAcked, Confirmed as WasHeard, Refused, Lost}
-use Rattle.service_meaning.specs.declared.answers.Posted.{Posted}
 use Rattle.service_meaning.specs.declared.answers.Posted.TheVariants.{Held, Left}
 use Rattle.service_meaning.specs.declared.refusals.AnswerRefused.{AnswerRefused}
 use Rattle.service_meaning.specs.declared.refusals.OrderRefused.{OrderRefused}

@@ -1,10 +1,8 @@
 -- Replies that get one more, or one of which is changed.
-use Rattle.std.proofs.Common.{◌≡◌, ℕ, ◌+◌, ◌<◌, ◌≤◌, Bool, true, false, cond, List, [], ◌∷◌, ◌++◌, length, Option, Some, None, IsSome, find, All, option_map, refl, sym, ap, ◌∙◌, subst, inl, inr, nat_eq, arith, eqb-true}
-use Rattle.std.specs.Option.{option_or}
+use Rattle.std.proofs.Common.{◌≡◌, ℕ, ◌<◌, Bool, true, false, cond, List, [], ◌∷◌, ◌++◌, Some, None, All, option_map, refl, sym, ap, ◌∙◌, subst, inl, inr, nat_eq, eqb-true}
 use Rattle.std.proofs.lemmas.Bool.{cases_Bool, cond-true, cond-false}
-use Rattle.std.proofs.lemmas.List.Elements.{All-cons, All-nil, All-head, All-tail}
+use Rattle.std.proofs.lemmas.List.Elements.{All-cons, All-head, All-tail}
 use Rattle.std.proofs.lemmas.List.Folds.{find-append}
-use Rattle.call_registers.specs.Changes.{change}
 use Rattle.call_registers.specs.Replies.{has_entry, reply, IsAboveAll, IsBelowAll, IsRising, at_entry}
 use Rattle.call_registers.specs.declared.reply.Reply.{Reply}
 

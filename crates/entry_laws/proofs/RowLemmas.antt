@@ -1,5 +1,5 @@
 -- Rows that speak of one entry at most: what a journal says of all others stays.
-use Rattle.std.proofs.Common.{◌≡◌, ℕ, ◌+◌, Bool, true, false, ◌&&◌, ◌||◌, cond, List, [], ◌∷◌, ◌++◌, Option, Some, None, fold, is_some, refl, sym, ap, ◌∙◌, subst, nat_eq, append_assoc, append-nil}
+use Rattle.std.proofs.Common.{◌≡◌, ℕ, Bool, true, false, ◌&&◌, ◌||◌, List, [], ◌∷◌, ◌++◌, Option, None, fold, is_some, refl, sym, ap, ◌∙◌, subst, nat_eq, append_assoc, append-nil}
 use Rattle.std.specs.Cmp.{nat_eq_equiv}
 use Rattle.std.specs.Cmp.Lexicographic.{nat_list_eq_equiv}
 use Rattle.std.specs.List.{AllByRecursion as Each, list_any}
@@ -11,14 +11,14 @@ use Rattle.lang_core.specs.declared.ids.Origin.{Origin}
 use Rattle.lang_core.specs.declared.ids.Origin.TheVariants.{Outside, Call}
 use Rattle.lang_core.specs.declared.request.Request.{Request}
 use Rattle.request_log.specs.Entries.{is_call}
-use Rattle.journal_rows.specs.Words.{asked_step, asked, count_step, asked_count, taken_step, last_taken, last_taken_of, request_step, request_now, struck_step, is_struck, answered_step, last_answered, mark_step, last_mark, is_about, comes_from}
+use Rattle.journal_rows.specs.Words.{asked_step, asked, taken_step, last_taken_of, request_step, request_now, struck_step, is_struck, answered_step, last_answered, mark_step, last_mark, is_about, comes_from}
 use Rattle.journal_rows.specs.declared.callee.AnsweredRow.{AnsweredRow}
 use Rattle.journal_rows.specs.declared.callee.AskedRow.{AskedRow}
 use Rattle.journal_rows.specs.declared.callee.TookRow.{TookRow}
 use Rattle.journal_rows.specs.declared.orders.About.{About}
 use Rattle.journal_rows.specs.declared.orders.About.TheVariants.{Request as OfRequest, Post as OfPost}
 use Rattle.journal_rows.specs.declared.row.Row.{Row}
-use Rattle.journal_rows.specs.declared.row.Row.TheVariants.{Asked, Took, Acked, Answered, WasConfirmed, Sent, SawAck, SawAnswer, Confirmed, Ordered}
+use Rattle.journal_rows.specs.declared.row.Row.TheVariants.{Asked, Took, Acked, Answered, WasConfirmed, Ordered}
 use Rattle.journal_rows.specs.declared.words.Mark.{Mark}
 use Rattle.journal_rows.specs.declared.words.Mark.TheVariants.{Unsettled}
 use Rattle.service_meaning.specs.Fits.{EachAfter, takes_request}

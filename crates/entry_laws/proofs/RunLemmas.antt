@@ -1,7 +1,7 @@
 -- Records are what runs gave: what was run, and what is made of logs.
-use Rattle.std.proofs.Common.{◌≡◌, ℕ, zero, suc, ◌+◌, ◌<◌, ◌≤◌, Bool, true, false, cond, List, [], ◌∷◌, ◌++◌, map, take, drop, Option, Some, None, IfSome, find, insert, length, All, refl, sym, ap, ◌∙◌, subst, inl, inr, arith, append-nil, length-append}
+use Rattle.std.proofs.Common.{◌≡◌, ℕ, zero, suc, ◌+◌, ◌≤◌, Bool, true, false, cond, List, [], ◌∷◌, ◌++◌, take, drop, IfSome, insert, length, refl, sym, ap, ◌∙◌, arith, append-nil, length-append}
 use Rattle.std.specs.List.{position_or_len}
-use Rattle.std.proofs.lemmas.Bool.{cases_Bool, cond-true, cond-false, cond_both}
+use Rattle.std.proofs.lemmas.Bool.{cond_both}
 use Rattle.std.proofs.lemmas.List.Elements.{All-append, All-cons, All-take, All-drop, All-set, All-map, All-weaker}
 use Rattle.lang_core.specs.Traces.{dead_trace}
 use Rattle.lang_core.specs.declared.cells.Cell.{Cell}
@@ -16,14 +16,12 @@ use Rattle.handler_run.specs.declared.state.Ran.{Ran}
 use Rattle.handler_run.specs.declared.state.Ran.TheVariants.{Done, Wants}
 use Rattle.request_log.specs.Entries.{has_id, is_alive, with_entry}
 use Rattle.request_log.specs.declared.entry.Entry.{Entry}
-use Rattle.request_log.specs.declared.entry.Made.{Made}
 use Rattle.local_repair.specs.Current.{IsRun, AllRuns}
-use Rattle.local_repair.specs.Steps.{calls_of_made, answer_at, remade}
+use Rattle.local_repair.specs.Steps.{calls_of_made, answer_at}
 use Rattle.local_repair.proofs.HandlerLemmas.{handler}
 use Rattle.service_meaning.specs.Orders.{at_id}
 use Rattle.service_meaning.specs.State.{Kept, answers}
 use Rattle.service_meaning.specs.Steps.{ended_or, rerun, new_trace, new_record}
-use Rattle.entry_laws.proofs.SearchLemmas.{found_all}
 
 -- what a run that ended gave is a record
 pub record_is_run : (setting : Setting) (q : Request) (i : Inputs) (xs : List Response) (rows : List Cell) (t : Trace) (version : ℕ) → run_of setting q i xs rows ≡ Done t

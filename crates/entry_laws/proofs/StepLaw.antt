@@ -1,5 +1,5 @@
 -- A repair step keeps how entries and replies follow from the journal: the entry that ran again has another record, and perhaps a new answer.
-use Rattle.std.proofs.Common.{◌≡◌, ℕ, ◌+◌, ◌<◌, ◌≤◌, min, Bool, true, false, not, ◌&&◌, cond, List, [], ◌∷◌, ◌++◌, Option, Some, None, IsSome, IsSomeAnd, find, length, All, option_map, refl, sym, ap, ◌∙◌, subst, inl, inr, nat_eq, arith, append_assoc, append-nil, eqb-true, eq-eqb, length-set}
+use Rattle.std.proofs.Common.{◌≡◌, ℕ, ◌+◌, ◌<◌, ◌≤◌, Bool, true, false, not, ◌&&◌, cond, List, [], ◌∷◌, ◌++◌, Option, Some, None, IsSome, IsSomeAnd, find, length, option_map, refl, sym, ap, ◌∙◌, subst, inl, inr, nat_eq, arith, append_assoc, append-nil, eqb-true, eq-eqb, length-set}
 use Rattle.std.specs.List.{AllByRecursion as Each, position_or_len}
 use Rattle.std.proofs.lemmas.Bool.{cases_Bool, cond_both, cond-true, and_parts, not-false}
 use Rattle.std.proofs.lemmas.List.Sums.{fold_push}
@@ -17,8 +17,7 @@ use Rattle.request_log.specs.declared.entry.Made.{Made}
 use Rattle.local_repair.specs.Current.{Consumed, after_entry}
 use Rattle.local_repair.specs.Steps.{same_call, calls_of_made, is_new_answer, remade, raised, raised_if}
 use Rattle.local_repair.specs.Tests.{is_current}
-use Rattle.local_repair.specs.declared.stepped.Stepped.{Stepped}
-use Rattle.journal_rows.specs.Words.{asked, count_step, asked_count, last_answered, given_version, mark_step, last_mark, settles}
+use Rattle.journal_rows.specs.Words.{asked, count_step, asked_count, mark_step, last_mark, settles}
 use Rattle.journal_rows.specs.declared.callee.AnsweredRow.{AnsweredRow}
 use Rattle.journal_rows.specs.declared.row.Row.{Row}
 use Rattle.journal_rows.specs.declared.row.Row.TheVariants.{Answered}
@@ -28,18 +27,18 @@ use Rattle.call_registers.specs.Replies.{reply, at_entry, with_answer}
 use Rattle.call_registers.specs.declared.register.Answer.{Answer}
 use Rattle.call_registers.specs.declared.register.Register.{Register}
 use Rattle.call_registers.specs.declared.reply.Reply.{Reply}
-use Rattle.service_meaning.specs.Calls.{replaced, deleted, named, all_deleted, slot_rows, next_after, settling_rows}
-use Rattle.service_meaning.specs.Fits.{IsAsNow, HasAnswered, HasReply, IsReply, made_as, asked_as, answer_given, answer_made}
-use Rattle.service_meaning.specs.State.{Kept, After, answers}
+use Rattle.service_meaning.specs.Calls.{replaced, deleted, named, slot_rows, next_after, settling_rows}
+use Rattle.service_meaning.specs.Fits.{IsAsNow, HasAnswered, HasReply, IsReply, made_as, asked_as, answer_given}
+use Rattle.service_meaning.specs.State.{Kept, answers}
 use Rattle.service_meaning.specs.Steps.{new_record, new_numbers, sent_rows, answer_rows, answered_replies, stepped, Stale, stale_in, step_by, step_event}
 use Rattle.entry_laws.proofs.CallerLaws.{IsCallerRow, each_append, callers_logged}
 use Rattle.entry_laws.proofs.CommitLaw.{answered_here, deleted_callers}
-use Rattle.entry_laws.proofs.EntryLemmas.{asks_same_after, made_from, version_given, found_itself, still_called, and_always}
+use Rattle.entry_laws.proofs.EntryLemmas.{asks_same_after, made_from, version_given, still_called, and_always}
 use Rattle.entry_laws.proofs.FreshLemmas.{still_found}
 use Rattle.entry_laws.proofs.JournalLemmas.{few_answers}
 use Rattle.entry_laws.proofs.LiveLaws.{LeavesLogged}
 use Rattle.entry_laws.proofs.LogLemmas.{front_id, IsWith, with_entry_is}
-use Rattle.entry_laws.proofs.PartLemmas.{IsLogged, MayCome, Owes, logged_one, as_now_same}
+use Rattle.entry_laws.proofs.PartLemmas.{IsLogged, MayCome, logged_one, as_now_same}
 use Rattle.entry_laws.proofs.ReplyLemmas.{change_own, change_other, rising_change, all_change}
 use Rattle.entry_laws.proofs.SearchLemmas.{found_all, found_behind}
 

@@ -1,43 +1,39 @@
 -- A version of a call that a message brings is taken, and entries and replies still follow from the journal.
-use Rattle.std.proofs.Common.{◌≡◌, ℕ, ◌+◌, ◌<◌, ◌≤◌, Bool, true, false, not, ◌&&◌, ◌||◌, cond, List, [], ◌∷◌, ◌++◌, Option, Some, None, IsSome, IfSome, IsSomeAnd, Result, Ok, Err, find, insert, length, All, is_some, option_map, refl, sym, ap, ◌∙◌, subst, inl, inr, nat_eq, nat_le, arith, eqb-true, eq-eqb, length-set, leb-true, leb-false}
-use Rattle.std.specs.List.{AllByRecursion as Each, position_or_len, list_any}
+use Rattle.std.proofs.Common.{◌≡◌, ℕ, ◌+◌, ◌<◌, ◌≤◌, Bool, true, false, not, ◌&&◌, ◌||◌, List, [], ◌∷◌, ◌++◌, Option, Some, None, IsSome, IsSomeAnd, Ok, Err, find, insert, length, is_some, option_map, refl, sym, ap, ◌∙◌, subst, nat_eq, arith, eq-eqb, length-set, leb-true, leb-false}
+use Rattle.std.specs.List.{position_or_len, list_any}
 use Rattle.std.specs.Option.{option_map_or}
 use Rattle.std.proofs.lemmas.Bool.{cond_both, cond-true, or_right}
 use Rattle.std.proofs.lemmas.List.Elements.{All-push}
 use Rattle.std.proofs.lemmas.List.Folds.{list_any-append}
 use Rattle.std.proofs.lemmas.List.Sums.{fold_push, fold-append}
-use Rattle.lang_core.specs.declared.ids.Origin.{Origin}
-use Rattle.lang_core.specs.declared.ids.Origin.TheVariants.{Outside, Call}
+use Rattle.lang_core.specs.declared.ids.Origin.TheVariants.{Call}
 use Rattle.lang_core.specs.declared.inputs.Inputs.{Inputs}
 use Rattle.lang_core.specs.declared.request.Request.{Request}
 use Rattle.request_log.specs.Entries.{has_id, is_call, find_call, with_entry}
 use Rattle.request_log.specs.declared.entry.Entry.{Entry}
 use Rattle.repair_messages.specs.declared.messages.SetMessage.{SetMessage}
-use Rattle.journal_rows.specs.Words.{first_asked, asked_step, asked, count_step, asked_count, taken_step, last_taken, last_taken_of, version_in, taken_version, taken_version_of, wants, request_step, request_now, struck_step, is_struck, answered_step, last_answered, mark_step, last_mark, settles, or_before}
+use Rattle.journal_rows.specs.Words.{first_asked, asked_step, asked, count_step, taken_step, last_taken, version_in, taken_version, taken_version_of, wants, request_step, request_now, struck_step, answered_step, mark_step, last_mark, settles, or_before}
 use Rattle.journal_rows.specs.declared.callee.AskedRow.{AskedRow}
 use Rattle.journal_rows.specs.declared.callee.TookRow.{TookRow}
 use Rattle.journal_rows.specs.declared.caller.How.TheVariants.{Message}
 use Rattle.journal_rows.specs.declared.row.Row.{Row}
-use Rattle.journal_rows.specs.declared.row.Row.TheVariants.{Asked, Took, Acked}
+use Rattle.journal_rows.specs.declared.row.Row.TheVariants.{Asked}
 use Rattle.journal_rows.specs.declared.words.Mark.TheVariants.{Unsettled}
 use Rattle.call_registers.specs.Replies.{reply, at_entry, with_taken, made_due}
 use Rattle.call_registers.specs.declared.reply.Reply.{Reply}
 use Rattle.call_registers.proofs.ReplyLemmas.{rising_push}
 use Rattle.service_meaning.specs.Fits.{IsAsNow, HasAnswered, HasReply, IsReply, made_as, asked_as, answer_given, takes_request}
 use Rattle.service_meaning.specs.Messages.{rule, taken, origin_of, is_known, is_too_much, acked_row, took_row, acked_again, at_reply_of, created_entry, created_reply, created_place, at_version, taken_by, take_admitted, take_event}
-use Rattle.service_meaning.specs.State.{Kept, After, after, next_id, me, is_in_flight}
-use Rattle.service_meaning.specs.declared.answers.Taken.{Taken}
+use Rattle.service_meaning.specs.State.{Kept, after, next_id, is_in_flight}
 use Rattle.service_meaning.specs.declared.refusals.TakeRefused.{TakeRefused}
 use Rattle.entry_laws.proofs.CallerLaws.{all_same}
-use Rattle.entry_laws.proofs.CommitLaw.{made_here, took_here, some_and, if_some}
+use Rattle.entry_laws.proofs.CommitLaw.{took_here, some_and, if_some}
 use Rattle.entry_laws.proofs.EntryLemmas.{asks_same_after, found_by_call, still_called, and_always}
-use Rattle.entry_laws.proofs.FreshLemmas.{unmade, unfound, unanswered, unstruck, asks_as_made, unreplied, below_next, is_new, still_found}
-use Rattle.entry_laws.proofs.JournalLemmas.{IsUntaken}
+use Rattle.entry_laws.proofs.FreshLemmas.{unmade, unfound, unanswered, unstruck, unreplied, below_next, is_new, still_found}
 use Rattle.entry_laws.proofs.LiveLaws.{LeavesLogged}
-use Rattle.entry_laws.proofs.LogLemmas.{itself, IsWith, with_insert, with_same, with_entry_is}
-use Rattle.entry_laws.proofs.PartLemmas.{IsLogged, MayCome, IsOfNone, logged_none, Owes, logged_one, as_now_same, request_same}
+use Rattle.entry_laws.proofs.LogLemmas.{itself, with_insert, with_same, with_entry_is}
+use Rattle.entry_laws.proofs.PartLemmas.{IsLogged, MayCome, logged_none, logged_one, as_now_same, request_same}
 use Rattle.entry_laws.proofs.ReplyLemmas.{push_own, push_other, above_all, change_own, change_other, rising_change, all_change}
-use Rattle.entry_laws.proofs.RowLemmas.{IsOf, calls_same}
 use Rattle.entry_laws.proofs.SearchLemmas.{found_all, length_insert}
 
 or_none : (a b : Bool) → b ≡ false → (a || b) ≡ a
