@@ -1,5 +1,5 @@
 -- Registers: which call has a number, what it consumes, and what each change makes of them.
-use Rattle.std.specs.Prelude.{ℕ, ◌≡◌, ◌+◌, ◌≤◌, Bool, true, List, [], ◌∷◌, ◌++◌, Option, Some, None, IsSome, IsSomeAnd, if◌then◌else◌, nat_eq, nat_lt, max, length, find}
+use Rattle.std.specs.Prelude.{ℕ, ◌≡◌, ◌+◌, ◌≤◌, Bool, true, List, [], ◌∷◌, ◌++◌, Option, Some, None, IsSome, if◌then◌else◌, nat_eq, nat_lt, max, length, find}
 use Rattle.lang_core.specs.declared.request.Request.{Request}
 use Rattle.lang_core.specs.declared.request.Response.{Response}
 use Rattle.call_registers.specs.Changes.{change, raised}
@@ -27,10 +27,6 @@ register number registers = find (has_number number) registers
 
 abbrev pub IsThere : ℕ → List Register → Type 0
 IsThere number registers = IsSome (register number registers)
-
--- it is there, and wants its call
-abbrev pub IsWanted : ℕ → List Register → Type 0
-IsWanted number registers = IsSomeAnd (register number registers) (λ r. IsSome r.desired)
 
 -- numbers rise by 1, beginning with this
 abbrev pub CountFrom : ℕ → List Register → Type 0

@@ -2,7 +2,7 @@
 ghost use Rattle.std.specs.Prelude.{◌≡◌, ◌+◌, ◌<◌, [], ◌∷◌, ◌++◌, length, slice_get, IfOk, IsOk, OnOk, OnErr, IsTrue, vec_len, vec_capacity};
 ghost use Rattle.std.specs.Option.{option_copied};
 ghost use Rattle.call_room.specs.Room.{is_made, spend};
-ghost use Rattle.call_registers.specs.Registers.{register, IsThere, IsWanted, IsNumbered, consumed, answer_to, next_number, with_call, at_number, sent_anew, with_ack, with_answer, with_cause, with_hold, released, changed, want_call, replace_call};
+ghost use Rattle.call_registers.specs.Registers.{register, IsThere, IsNumbered, consumed, answer_to, next_number, with_call, at_number, sent_anew, with_ack, with_answer, with_cause, with_hold, released, changed, want_call, replace_call};
 ghost use Rattle.call_registers.specs.Rooms.{call_code};
 ghost use Rattle.call_registers.specs.declared.register.Change.{Change};
 
@@ -166,10 +166,10 @@ impl Registers {
         self.change(number, Change::Tell(why));
     }
 
-    /// A call that is there and wanted is to have no effect, from this index of the journal on and for good: its version
-    /// rises, and nothing holds it.
+    /// A call that is there is to have no effect, from this index of the journal on and for good: its version rises, and
+    /// nothing holds it.
     pub fn unwant(&mut self, number: u64, since: u64)
-        requires { IsWanted number self.old.list }
+        requires { IsThere number self.old.list }
         ensures list { self.new.list ≡ at_number number (sent_anew None since) self.old.list }
         ensures room { self.new.room ≡ self.old.room }
     {
@@ -278,8 +278,8 @@ impl Registers {
         )
     }
 
-    /// A call that is there and wanted asks another request, from this index of the journal on: its version rises, and
-    /// nothing holds it. Refused, the registers stay.
+    /// A call that is there asks another request, from this index of the journal on: its version rises, and nothing holds
+    /// it. Refused, the registers stay.
     pub fn replace(
         &mut self,
         alloc: Global,
@@ -287,7 +287,7 @@ impl Registers {
         request: &Request,
         since: u64,
     ) -> Result<(), NoMemory>
-        requires { IsWanted number self.old.list }
+        requires { IsThere number self.old.list }
         ensures ok { OnOk result (self.new.list ≡ at_number number (sent_anew (Some request.now) since) self.old.list) }
         ensures err { OnErr result (self.new.list ≡ self.old.list) }
         ensures room { self.new.room ≡ spend call_code (replace_call number request.now since) self.old.room }

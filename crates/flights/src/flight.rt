@@ -1,4 +1,7 @@
 // A live request that waits, and what it does next.
+ghost use Rattle.std.specs.Prelude.{◌≡◌};
+ghost use Rattle.flights.specs.Numbers.{awaited};
+
 use lang_core::{Calls, Copied, Inputs, NoMemory, Origin, Request, Seq};
 use repair_messages::copied_pair;
 use std::alloc::Global;
@@ -18,6 +21,18 @@ pub struct Flight {
     pub numbers: Seq<u64>,
     /// How often a run made another call than the one before it.
     pub changes: u64,
+}
+
+impl Flight {
+    /// The number of the call for which it waits: the one that was named last.
+    pub fn awaited(&self) -> u64
+        ensures { result ≡ awaited self.now }
+    {
+        self.numbers
+            .as_slice()
+            .iter()
+            .fold(0, |last, number| last.max(*number))
+    }
 }
 
 /// What a flight does after a run.

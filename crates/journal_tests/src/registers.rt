@@ -1,6 +1,6 @@
 // Registers through the life of two calls.
 ghost use Rattle.std.specs.Prelude.{IsTrue};
-ghost use Rattle.call_registers.specs.Registers.{IsThere, IsWanted};
+ghost use Rattle.call_registers.specs.Registers.{IsThere};
 
 use crate::given::{equal, fine, holds, name, put, same, text};
 use call_registers::{Answer, Hold, Registers, Why};
@@ -12,15 +12,6 @@ fn is_there(registers: &Registers, number: u64) -> bool
     registers.get(number).is_some()
 }
 
-fn is_wanted(registers: &Registers, number: u64) -> bool
-    ensures { IsTrue result → IsWanted number registers.now.list }
-{
-    match registers.get(number) {
-        None => false,
-        Some(register) => register.desired.is_some(),
-    }
-}
-
 fn want(rt: &(impl Abort + AllocGlobal), registers: &mut Registers, body: &str, number: u64) {
     let request = put(rt, "shop", "/pay/x", body);
     let given = registers.want(rt.alloc(), &name(rt, "bank"), &request, 3);
@@ -29,7 +20,7 @@ fn want(rt: &(impl Abort + AllocGlobal), registers: &mut Registers, body: &str, 
 
 fn replace(rt: &(impl Abort + AllocGlobal), registers: &mut Registers, number: u64, body: &str) {
     let request = put(rt, "shop", "/pay/x", body);
-    assert!(rt; is_wanted(registers, number));
+    assert!(rt; is_there(registers, number));
     let done = registers.replace(rt.alloc(), number, &request, 9);
     holds(rt, "replaced", done.is_ok());
 }
@@ -85,10 +76,10 @@ fn released(rt: &(impl Abort + AllocGlobal), registers: &mut Registers) {
 }
 
 fn deleted(rt: &(impl Abort + AllocGlobal), registers: &mut Registers) {
-    assert!(rt; is_wanted(registers, 2));
+    assert!(rt; is_there(registers, 2));
     registers.unwant(2, 12);
-    holds(rt, "deleted", !is_wanted(registers, 2));
     let register = registers.get(2).expect(rt, "a register");
+    holds(rt, "deleted", register.desired.is_none());
     equal(rt, register.version, 2);
     equal(rt, register.since, 12);
     same(rt, register.repair_who.as_str(), "shop");

@@ -1,5 +1,5 @@
 -- What a live request does after a run: it is committed, or it names or changes a call and waits.
-use Rattle.std.specs.Prelude.{ℕ, suc, zero, ◌+◌, true, false, List, [], ◌∷◌, ◌++◌, Option, Some, None, if◌then◌else◌, nat_le, length, map, take, drop, fold, max, slice_set, slice_get}
+use Rattle.std.specs.Prelude.{ℕ, suc, zero, ◌+◌, true, false, List, [], ◌∷◌, ◌++◌, Option, Some, None, if◌then◌else◌, nat_le, length, map, take, drop, slice_set, slice_get}
 use Rattle.lang_core.specs.Traces.{dead_trace}
 use Rattle.lang_core.specs.declared.ids.Origin.{Origin}
 use Rattle.lang_core.specs.declared.ids.Origin.TheVariants.{Outside, Call}
@@ -20,6 +20,7 @@ use Rattle.call_registers.specs.Registers.{next_number, at_number, with_cause}
 use Rattle.call_registers.specs.declared.register.Why.TheVariants.{Changes}
 use Rattle.call_registers.specs.declared.reply.Reply.{Reply}
 use Rattle.flights.specs.Moves.{calls_in, next_move}
+pub use Rattle.flights.specs.Numbers.{awaited}
 use Rattle.flights.specs.declared.flight.Flight.{Flight}
 use Rattle.flights.specs.declared.flight.Move.{Move}
 use Rattle.flights.specs.declared.flight.Move.TheVariants.{Commit, Name, Change}
@@ -31,10 +32,6 @@ use Rattle.service_meaning.specs.declared.answers.Arrived.TheVariants.{Done as C
 -- its run on the rows at the end of the log, with the answers that its calls consume now
 abbrev pub flight_run : Kept → Flight → Ran
 flight_run s f = run_of s.setting f.request f.inputs (map (answers s) f.numbers) (rows_of s.entries)
-
--- the number of the call for which it waits: the one that was named last
-abbrev pub awaited : Flight → ℕ
-awaited f = fold max 0 f.numbers
 
 -- ---- the commit
 

@@ -1,12 +1,9 @@
 -- What a service keeps, and what an event leaves of it.
-use Rattle.std.specs.Prelude.{ℕ, ◌+◌, Bool, false, not, List, [], ◌∷◌, Option, Some, None, if◌then◌else◌, nat_eq, nat_lt, nat_le, length, find, filter, refl}
+use Rattle.std.specs.Prelude.{ℕ, ◌+◌, Bool, List, Option, Some, None, if◌then◌else◌, nat_le, length, refl}
 use Rattle.std.specs.Coded.{Coded, code_by, coded×, coded_list}
-use Rattle.std.specs.List.{list_any}
 use Rattle.lang_core.specs.contracts.setting.Setting as setting
 use Rattle.lang_core.specs.declared.ids.Origin.{Origin}
-use Rattle.lang_core.specs.declared.ids.Origin.TheVariants.{Outside, Call}
 use Rattle.lang_core.specs.declared.setting.Setting.{Setting}
-use Rattle.request_log.specs.Entries.{is_call}
 use Rattle.request_log.specs.contracts.entry.Entry as entry
 use Rattle.request_log.specs.declared.entry.Entry.{Entry}
 use Rattle.local_repair.specs.Current.{Consumed}
@@ -20,6 +17,8 @@ use Rattle.call_registers.specs.contracts.reply.Reply as reply
 use Rattle.call_registers.specs.declared.register.Register.{Register}
 use Rattle.call_registers.specs.declared.reply.Reply.{Reply}
 use Rattle.flights.specs.contracts.flight.Flight as flight
+pub use Rattle.flights.specs.Numbers.{has_flight, without_flight, put_flight, with_flight, free_from, same_call_origin}
+use Rattle.flights.specs.Numbers.{flight_in, is_flying}
 use Rattle.flights.specs.declared.flight.Flight.{Flight}
 
 -- what it is set to do, its entries in logged order, its flights in the order of their numbers, its journal, its registers and its replies
@@ -91,36 +90,12 @@ where_needed b o = if b then o else None
 
 -- ---- flights
 
-abbrev pub has_flight : ℕ → Flight → Bool
-has_flight id f = nat_eq f.id id
-
 abbrev pub flight_of : ℕ → Kept → Option Flight
-flight_of id s = find (has_flight id) s.flights
-
-abbrev pub same_call_origin : Origin → Origin → Bool
-same_call_origin Outside o = false
-same_call_origin (Call caller number) o = is_call caller number o
+flight_of id s = flight_in id s.flights
 
 -- whether a call with this origin is in flight
 abbrev pub is_in_flight : Origin → Kept → Bool
-is_in_flight origin s = list_any (λ (f : Flight). same_call_origin origin f.origin) s.flights
-
-abbrev pub without_flight : ℕ → List Flight → List Flight
-without_flight id flights = filter (λ f. not (has_flight id f)) flights
-
--- before the first one of a greater number
-abbrev pub put_flight : Flight → List Flight → List Flight
-put_flight f [] = f ∷ []
-put_flight f (g ∷ gs) = if nat_lt f.id g.id then f ∷ g ∷ gs else g ∷ put_flight f gs
-
--- in place of the one of its number, if there is one
-abbrev pub with_flight : Flight → List Flight → List Flight
-with_flight f flights = put_flight f (without_flight f.id flights)
-
--- the least number from this one on that none of these, in the order of their numbers, has
-abbrev pub free_from : ℕ → List Flight → ℕ
-free_from id [] = id
-free_from id (f ∷ fs) = if nat_eq f.id id then free_from (id + 1) fs else id
+is_in_flight origin s = is_flying origin s.flights
 
 abbrev pub free_flight : Kept → ℕ
 free_flight s = free_from 1 s.flights
