@@ -1,5 +1,5 @@
 -- The commit of a flight keeps what fits of calls.
-use Rattle.std.proofs.Common.{◌≡◌, false, List, [], ◌∷◌, ◌++◌, map, take, drop, length, refl, sym, subst, arith, append_assoc, length-append}
+use Rattle.std.proofs.Common.{◌≡◌, ℕ, false, List, [], ◌∷◌, ◌++◌, map, take, drop, length, refl, sym, ap, ◌∙◌, subst, arith, append_assoc, length-append}
 use Rattle.lang_core.specs.declared.ids.Origin.{Origin}
 use Rattle.lang_core.specs.declared.trace.CallMade.{CallMade}
 use Rattle.lang_core.specs.declared.trace.Trace.{Trace}
@@ -10,14 +10,15 @@ use Rattle.flights.specs.declared.flight.Flight.{Flight}
 use Rattle.service_meaning.specs.State.{Kept, next_id, same_call_origin, without_flight, with_flight}
 use Rattle.service_meaning.specs.Calls.{noted}
 use Rattle.service_meaning.specs.Flying.{surplus_rows, took_rows, before_answer, live_answer, committed_entry, live_replies, answer_index, committed}
-use Rattle.service_meaning.specs.Fits.{FitsPlaces, Place, place_of_entry, place_of_flight}
+use Rattle.call_registers.specs.Registers.{register}
+use Rattle.service_meaning.specs.Fits.{FitsPlaces, Place, count, place_of_entry, place_of_flight}
 use Rattle.call_laws.proofs.RowLemmas.{Each, each_append, each_weaker, IsSending, IsUnseen, IsUntaken, IsUnordered, IsPlain, sending_unseen, sending_untaken, sending_unordered}
 use Rattle.call_laws.proofs.PlaceLemmas.{place, parted_at}
-use Rattle.call_laws.proofs.FittingLemmas.{entered, HasRoom, room_first, room_then, Fitting, fitting_then, fitting_plain}
-use Rattle.call_laws.proofs.SettleLemmas.{fitting_by, fitting_swap, same_versions, delete_all}
+use Rattle.call_laws.proofs.FittingLemmas.{Book, entered, entered-append, HasRoom, room_first, room_then, Fitting, fitting_then, plain_rows, fitting_plain}
+use Rattle.call_laws.proofs.SettleLemmas.{fitting_by, fitting_swap, same_versions, Deleted, delete_all}
 use Rattle.call_laws.proofs.FlightLemmas.{LeavesOrigin, untaken_leaves, Flies, flies_from, flies_fit, flies_took, flies_drop, others_of}
 use Rattle.call_laws.proofs.KindLemmas.{sends_deleted, took_plain, took_unseen, took_unordered, took_leaves}
-use Rattle.call_laws.proofs.CallLaws.{FitsCalls, Goes, book, noted_calls}
+use Rattle.call_laws.proofs.CallLaws.{FitsCalls, IsFew, Goes, book, noted_calls}
 use Rattle.call_laws.proofs.FlightLaws.{flying, around, to_entry, flown, fitting_at}
 
 module _ (s : Kept) (f : Flight) (t : Trace) where
@@ -65,18 +66,40 @@ module _ (s : Kept) (f : Flight) (t : Trace) where
       (each_append (LeavesOrigin g.origin) surplus behind (sends_leave g.origin) (behind_leaves g.origin apart.0), all_leave gs apart.1)
 
   -- the calls that the last run made stand at the entry, and the others are deleted
+  commit_deletes : (ps : List Place) → HasRoom (book s) (surplus ++ behind) → Fitting (book s) (place_of_flight f ∷ ps)
+      → Deleted (book s) surplus (drop (length t.calls) f.numbers) (place (take (length t.calls) f.numbers) (take (length t.calls) f.calls) ∷ ps)
+  commit_deletes ps few h =
+      let k = length t.calls in
+      let made = place (take k f.numbers) (take k f.calls) in
+      let over = place (drop k f.numbers) (drop k f.calls) in
+      let two = fitting_by (book s) (place_of_flight f ∷ ps) (made ∷ (over ∷ ps)) (parted_at s.registers k f.numbers f.calls ps) h in
+      delete_all s.registers (drop k f.numbers) (drop k f.calls) (book s) (made ∷ ps) (room_first (book s) surplus behind few)
+      (same_versions s.registers (drop k f.numbers)) (fitting_swap (book s) made over ps two)
+
   commit_fits : (ps : List Place) → t.calls ≡ take (length t.calls) f.calls → HasRoom (book s) (surplus ++ behind)
       → Fitting (book s) (place_of_flight f ∷ ps) → Fitting (entered (surplus ++ behind) (book s)) (place_of_entry entry ∷ ps)
   commit_fits ps same few h =
       let k = length t.calls in
       let made = place (take k f.numbers) (take k f.calls) in
-      let over = place (drop k f.numbers) (drop k f.calls) in
-      let two = fitting_by (book s) (place_of_flight f ∷ ps) (made ∷ (over ∷ ps)) (parted_at s.registers k f.numbers f.calls ps) h in
-      let left = delete_all s.registers (drop k f.numbers) (drop k f.calls) (book s) (made ∷ ps) (room_first (book s) surplus behind few)
-      (same_versions s.registers (drop k f.numbers)) (fitting_swap (book s) made over ps two) in
-      let all = fitting_plain behind (entered surplus (book s)) (made ∷ ps) (room_then (book s) surplus behind few) behind_plain left in
+      let left = commit_deletes ps few h in
+      let all = fitting_plain behind (entered surplus (book s)) (made ∷ ps) (room_then (book s) surplus behind few) behind_plain left.fits in
       let P : List CallMade → Type 0 = λ cs. Fitting (entered (surplus ++ behind) (book s)) (place (take k f.numbers) cs ∷ ps) in
       subst P (sym same) (fitting_then surplus behind (book s) (made ∷ ps) all)
+
+  -- the registers of calls that aren't deleted stay
+  pub commit_keeps : FitsCalls (flying s f) → IsFew (committed s f t).service → (m : ℕ) → count m (drop (length t.calls) f.numbers) ≡ 0
+      → register m (committed s f t).service.registers ≡ register m s.registers
+  commit_keeps h few m none =
+      let rows = before_answer s f t ++ live_answer s f t ∷ [] in
+      let w = flown s f in
+      let sum = length-append s.journal rows in
+      let room : HasRoom (book s) rows = record { counts = omega (arith, few, sum) } in
+      let R : List Row → Type 0 = λ r. HasRoom (book s) r in
+      let left = commit_deletes (around s.entries w.lows w.highs) (subst R whole_is room) (fitting_at s f w h) in
+      let same : (entered rows (book s)).registers ≡ (entered surplus (book s)).registers =
+      ap (λ r. (entered r (book s)).registers) whole_is ∙ ap (λ (x : Book). x.registers) (entered-append surplus behind (book s))
+      ∙ plain_rows (length (entered surplus (book s)).journal) (entered surplus (book s)).registers behind behind_plain in
+      ap (register m) same ∙ left.others m none
 
   pub goes_committed : (FitsCalls (flying s f) → t.calls ≡ take (length t.calls) f.calls) → Goes (flying s f) (committed s f t).service
   goes_committed same =

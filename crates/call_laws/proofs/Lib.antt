@@ -10,6 +10,7 @@ pub mod KindLemmas
 pub mod CallLaws
 pub mod FlightLaws
 pub mod CommitLaws
+pub mod CurrentLaws
 pub mod GoingLaws
 pub mod HeardLemmas
 pub mod LiveLaws

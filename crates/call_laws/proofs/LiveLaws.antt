@@ -227,7 +227,7 @@ goes_without s f =
           let old = subst F (w.put f refl) (flies_from s.journal (with_flight f s.flights) h.flights) in
           noted_calls (flying s f) s.entries fs s.replies rows room
           (each_weaker IsSending IsUnseen sending_unseen rows sending) (each_weaker IsSending IsUnordered sending_unordered rows sending) h
-          (record { sent = gone.sent; places = subst P (sym w.without) (to_rest end s.entries w.lows w.highs gone.places) })
+          (record { sent = gone.fits.sent; places = subst P (sym w.without) (to_rest end s.entries w.lows w.highs gone.fits.places) })
           (flies_fit (s.journal ++ rows) fs
           (flies_rows s.journal rows fs (each_weaker IsSending IsUntaken sending_untaken rows sending) (subst F (sym w.without) (flies_drop s.journal w.lows f w.highs old)))));
     }

@@ -1,5 +1,6 @@
 -- The calls of one run in place of those of another.
-use Rattle.std.proofs.Common.{◌≡◌, ℕ, ◌+◌, ◌≤◌, Bool, true, false, ◌||◌, List, [], ◌∷◌, ◌++◌, Option, Some, None, nat_eq, refl, sym, ap, ◌∙◌, subst, arith, if◌then◌else◌}
+use Rattle.std.proofs.Common.{◌≡◌, ℕ, ◌+◌, ◌≤◌, Bool, true, false, ◌||◌, List, [], ◌∷◌, ◌++◌, Option, Some, None, nat_eq, refl, sym, ap, ◌∙◌, subst, inl, inr, arith, if◌then◌else◌}
+use Rattle.std.proofs.lemmas.Bool.{cases_Bool}
 use Rattle.std.specs.Option.{option_map_or}
 use Rattle.std.specs.Cmp.Lexicographic.{same_text as text_is}
 use Rattle.lang_base.proofs.EqualLemmas.{equal-true}
@@ -11,7 +12,7 @@ use Rattle.journal_rows.specs.declared.row.Row.{Row}
 use Rattle.call_registers.specs.Registers.{register, next_number}
 use Rattle.call_registers.specs.declared.register.Register.{Register}
 use Rattle.service_meaning.specs.Calls.{named as named_row, replaced, deleted, version_of, all_deleted, slot_rows, slot_number, next_after, settling_rows, settling_numbers}
-use Rattle.service_meaning.specs.Fits.{Place, wanted_call, WantsItsCalls, FitsPlaces}
+use Rattle.service_meaning.specs.Fits.{count, Place, wanted_call, WantsItsCalls, FitsPlaces}
 use Rattle.call_laws.proofs.RowLemmas.{Each, each_of_all}
 use Rattle.call_laws.proofs.RegisterLemmas.{flip_false, next_none}
 use Rattle.call_laws.proofs.PlaceLemmas.{one_if, place, no_place, not_counted, count_self, rearrange, swapped, with_none, without_none, parted, joined}
@@ -70,9 +71,21 @@ rest_versions b before n o ns os ps end others f same =
     one_most None = omega arith
     one_most (Some c) = omega arith
 
+-- what the deletion of all calls of a place leaves: their registers alone change
+pub record Deleted (b : Book) (rows : List Row) (ns : List ℕ) (ps : List Place) : Type 0 where
+  pub fits : Fitting (entered rows b) ps
+  pub others : (m : ℕ) → count m ns ≡ 0 → register m (entered rows b).registers ≡ register m b.registers
+
+count_parts : (n m : ℕ) (ns : List ℕ) → count m (n ∷ ns) ≡ 0 → (nat_eq n m ≡ false) × (count m ns ≡ 0)
+count_parts n m ns h = elim (cases_Bool (nat_eq n m)) [
+  | inl is ↦ absurd (let more : count m (n ∷ ns) ≡ 1 + count m ns = rw is refl in omega (arith, more, h))
+  | inr differs ↦ (let more : count m (n ∷ ns) ≡ 0 + count m ns = rw differs refl in (differs, omega (arith, more, h)))
+]
+
 pub delete_all : (before : List Register) (ns : List ℕ) (os : List CallMade) (b : Book) (ps : List Place) → HasRoom b (all_deleted before ns os)
-    → SameVersions before b.registers ns → Fitting b (place ns os ∷ ps) → Fitting (entered (all_deleted before ns os) b) ps
-delete_all before [] [] b ps few same f = fitting_nil b ps (fitting_by b (no_place ∷ ps) ps (without_none b.registers ps) f)
+    → SameVersions before b.registers ns → Fitting b (place ns os ∷ ps) → Deleted b (all_deleted before ns os) ns ps
+delete_all before [] [] b ps few same f =
+    record { fits = fitting_nil b ps (fitting_by b (no_place ∷ ps) ps (without_none b.registers ps) f); others = λ m none. refl }
 delete_all before [] (o ∷ os) b ps few same f = (let w = (each_of_all (WantsItsCalls b.registers) (place [] (o ∷ os) ∷ ps) f.places.calls).0 in cc)
 delete_all before (n ∷ ns) [] b ps few same f = (let w = (each_of_all (WantsItsCalls b.registers) (place (n ∷ ns) [] ∷ ps) f.places.calls).0 in cc)
 delete_all before (n ∷ ns) (o ∷ os) b ps few same f =
@@ -82,8 +95,12 @@ delete_all before (n ∷ ns) (o ∷ os) b ps few same f =
     let gone = delete_call b before n o (place ns os ∷ ps) (room_first b (row ∷ []) rows few) same.0 apart in
     let mid = entered (row ∷ []) b in
     let left = fitting_by mid (no_place ∷ (place ns os ∷ ps)) (place ns os ∷ ps) (without_none mid.registers (place ns os ∷ ps)) gone.fits in
-    fitting_then (row ∷ []) rows b ps
-    (delete_all before ns os mid ps (room_then b (row ∷ []) rows few) (rest_versions b before n o ns os ps mid.registers gone.others apart same.1) left)
+    let rest = delete_all before ns os mid ps (room_then b (row ∷ []) rows few) (rest_versions b before n o ns os ps mid.registers gone.others apart same.1) left in
+    record {
+      fits = fitting_then (row ∷ []) rows b ps rest.fits;
+      others = λ m none. (let parts = count_parts n m ns none in
+          ap (λ (x : Book). register m x.registers) (entered-append (row ∷ []) rows b) ∙ rest.others m parts.1 ∙ gone.others m parts.0);
+    }
 
 -- ---- one slot
 
@@ -159,7 +176,7 @@ settle_all before [] [] (c ∷ cs) b next ps few is same f =
     (fitting_join (entered rows mid) (next ∷ []) ks (c ∷ []) cs ps (fitting_swap (entered rows mid) (place ks cs) (place (next ∷ []) (c ∷ [])) ps rest))
 settle_all before (n ∷ ns) (o ∷ os) [] b next ps few is same f =
     fitting_by (entered (all_deleted before (n ∷ ns) (o ∷ os)) b) ps (no_place ∷ ps) (with_none (entered (all_deleted before (n ∷ ns) (o ∷ os)) b).registers ps)
-    (delete_all before (n ∷ ns) (o ∷ os) b ps few same f)
+    (delete_all before (n ∷ ns) (o ∷ os) b ps few same f).fits
 settle_all before (n ∷ ns) (o ∷ os) (c ∷ cs) b next ps few is same f =
     let first = slot_rows before next n o c in
     let number = slot_number next n o c in
