@@ -13,7 +13,8 @@ use Rattle.lang_tree.specs.declared.expr.Expr.TheOpen.{Expr-F}
 use Rattle.lang_tree.specs.declared.expr.Expr.TheFolds.{ind-Expr}
 use Rattle.handler_reader.specs.declared.stop.Stop.{Stop}
 use Rattle.handler_grammar.specs.Grammar.{expr_tokens, op_token, segment}
-use Rattle.handler_reader.specs.Readers.{◌>>=◌, expr_at, expr_in, number_in, op_at, pair_in, part_in, path_in, right_at, segment_at, text_in}
+use Rattle.reader_laws.specs.Reading.{◌>>=◌}
+use Rattle.handler_reader.specs.Readers.{expr_at, expr_in, number_in, op_at, pair_in, part_in, path_in, right_at, segment_at, text_in}
 use Rattle.handler_reader.proofs.Binds.{both}
 use Rattle.handler_lang.proofs.Conjuncts.{three}
 use Rattle.handler_grammar.proofs.Layers.{expr_layer, expr_layer_fits, expr_layer_tokens}

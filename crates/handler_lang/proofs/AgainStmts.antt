@@ -15,7 +15,8 @@ use Rattle.lang_tree.specs.declared.stmt.Stmt.TheFolds.{ind-Block}
 use Rattle.lang_tree.specs.declared.stmt.Block.{Block, roll-Block}
 use Rattle.lang_tree.specs.declared.program.Route.{Route}
 use Rattle.handler_grammar.specs.Grammar.{block_tokens, expr_tokens, joined, program_tokens, route_tokens, stmt_tokens}
-use Rattle.handler_reader.specs.Readers.{◌>>=◌, Read, block_at, block_in, call_in, close_at, drop_in, each_in, else_in, expr_at, get_in, if_in, let_in, most, now_in, pattern_at, put_in, random_in, reply_in, route_at, route_in, routes_in, stmt_in, stmts_in}
+use Rattle.reader_laws.specs.Reading.{◌>>=◌}
+use Rattle.handler_reader.specs.Readers.{Read, block_at, block_in, call_in, close_at, drop_in, each_in, else_in, expr_at, get_in, if_in, let_in, most, now_in, pattern_at, put_in, random_in, reply_in, route_at, route_in, routes_in, stmt_in, stmts_in}
 use Rattle.handler_reader.proofs.Binds.{both}
 use Rattle.handler_lang.proofs.Conjuncts.{five, three}
 use Rattle.handler_grammar.proofs.Layers.{block_layer, block_of, stmt_layer, stmt_layer_fits, stmt_layer_tokens}

@@ -10,7 +10,7 @@ use Rattle.handler_lang.specs.declared.refused.ProgramRefused.{ProgramRefused}
 use Rattle.handler_lang.specs.declared.refused.ProgramRefused.TheVariants as refusal
 use Rattle.handler_lang.specs.Reading.{Answers, placed, read_of}
 use Rattle.handler_lang.specs.Spelled.{Spells}
-use Rattle.handler_lang.proofs.ExactStmts.{routes_exact}
+use Rattle.handler_laws.proofs.StmtLaws.{routes_exact}
 use Rattle.handler_lang.proofs.Spelled.{read_only}
 
 placed_ok : (total : ℕ) (ats : List ℕ) (r : Result (List Route) Stop) (rs : List Route) → placed total ats r ≡ Ok rs → r ≡ Ok rs

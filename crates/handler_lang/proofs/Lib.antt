@@ -1,17 +1,8 @@
 pub mod AgainExprs
 pub mod AgainStmts
-pub mod Begun
-pub mod BegunExprs
-pub mod BegunStmts
 pub mod Conjuncts
-pub mod Exact
-pub mod ExactExprs
-pub mod ExactStmts
 pub mod Found
 pub mod MisfitLemmas
 pub mod Spelled
 pub mod SpelledLemmas
-pub mod Steady
-pub mod SteadyExprs
-pub mod SteadyStmts
 pub mod Texts

@@ -1,5 +1,5 @@
 -- Refusals of texts stand at their first misfit.
-use Rattle.std.proofs.Common.{◌≡◌, ℕ, suc, ◌-◌, ◌≤◌, Bool, true, false, cond, List, ◌∷◌, ◌++◌, length, drop, Result, Ok, Err, refl, sym, ap, subst, ◌∙◌, inl, inr, arith}
+use Rattle.std.proofs.Common.{◌≡◌, ℕ, suc, ◌-◌, ◌≤◌, Bool, true, false, cond, List, [], ◌∷◌, ◌++◌, length, drop, Result, Ok, Err, refl, sym, ap, subst, ◌∙◌, inl, inr, arith}
 use Rattle.std.specs.Prelude.{nat_lt}
 use Rattle.std.proofs.lemmas.Bool.Decides.{nat_tests}
 use Rattle.std.proofs.lemmas.List.{drop_all, length-append, length-map}
@@ -13,11 +13,11 @@ use Rattle.handler_reader.specs.Readers.{most, program_of}
 use Rattle.handler_grammar.specs.Grammar.{program_tokens}
 use Rattle.handler_lang.specs.declared.refused.ProgramRefused.{ProgramRefused}
 use Rattle.handler_lang.specs.declared.refused.ProgramRefused.TheVariants as refusal
-use Rattle.handler_lang.specs.Misfits.{BeginsProgram, StandsFirst, StopsFirst, place_at}
+use Rattle.handler_lang.specs.Misfits.{BeginsProgram, StandsFirst, place_at}
 use Rattle.handler_lang.specs.Reading.{Answers, first_or, place_left, placed, read_of, refusal_at}
-use Rattle.handler_lang.proofs.Begun.{Begun}
-use Rattle.handler_lang.proofs.BegunStmts.{routes_begun}
-use Rattle.handler_lang.proofs.SteadyStmts.{routes_refuse}
+use Rattle.handler_laws.proofs.StmtLaws.{routes_begun, routes_refuse}
+use Rattle.handler_laws.proofs.TokenLaws.{by_tokens}
+use Rattle.reader_laws.proofs.Laws.{Begun, StopsFirst}
 
 abbrev refusing : ProgramRefused → Result (List Route) ProgramRefused
 refusing r = Err r
@@ -87,7 +87,7 @@ refused_at other front more first why small same stops =
     ∙ ap (placed (length other) (places (lex other))) (ap program_of same ∙ stops)
     ∙ ap (λ (n : ℕ). refusing (refusal_at why (first_or (length other) (drop n (places (lex other)))))) count
 
-misfit_by : (text : List ℕ) (s : Stop) → StopsFirst program_of (tokens (lex text)) s → StandsFirst text s.cause (place_left (length text) (places (lex text)) s.left)
+misfit_by : (text : List ℕ) (s : Stop) → StopsFirst by_tokens program_of (tokens (lex text)) s → StandsFirst text s.cause (place_left (length text) (places (lex text)) s.left)
 misfit_by text s (inl e) = inl (ap (place_left (length text) (places (lex text))) e ∙ at_the_end (length text) (places (lex text)))
 misfit_by text s (inr a) = inr (record {
   front = a.front;
@@ -97,11 +97,11 @@ misfit_by text s (inr a) = inr (record {
   always = λ other more small same. refused_at other a.front more a.first s.cause small same (a.always more);
 })
 
-begins_by : (text : List ℕ) (s : Stop) → Begun program_tokens (tokens (lex text)) s → BeginsProgram text (place_left (length text) (places (lex text)) s.left)
+begins_by : (text : List ℕ) (s : Stop) → Begun by_tokens [] program_tokens (tokens (lex text)) s → BeginsProgram text (place_left (length text) (places (lex text)) s.left)
 begins_by text s b =
-    let count : length (places (lex text)) - s.left ≡ length b.front = omega (arith, as_many text, ap length b.is, length-append b.front b.back, b.left) in
+    let count : length (places (lex text)) - s.left ≡ length b.begun = omega (arith, as_many text, ap length b.is, length-append b.begun b.back, b.left) in
     record {
-      front = b.front;
+      front = b.begun;
       back = b.back;
       more = b.more;
       whole = b.whole;

@@ -5,7 +5,7 @@ use Rattle.handler_tokens.proofs.KeptLemmas.{lex_kept}
 use Rattle.lang_tree.specs.Depths.{routes_fit}
 use Rattle.lang_tree.specs.declared.program.Route.{Route}
 use Rattle.handler_reader.specs.Readers.{most, program_of}
-use Rattle.handler_reader.proofs.FittingStmts.{routes_read_fit}
+use Rattle.handler_laws.proofs.StmtLaws.{routes_read_fit}
 
 pub read_fits : (text : List ℕ) (rs : List Route) → length text ≤ 65536 → program_of (tokens (lex text)) ≡ Ok rs → routes_fit rs ≡ true
 read_fits text rs small e = routes_read_fit most (tokens (lex text)) rs (lex_kept text small) e

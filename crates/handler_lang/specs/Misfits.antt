@@ -1,26 +1,12 @@
 -- A refusal stands at the first token with which no program goes on: it depends on the tokens up to that one, and on
 -- no other.
-use Rattle.std.specs.Prelude.{◌≡◌, ◌≤◌, ℕ, suc, List, ◌∷◌, ◌++◌, length, drop, Result, Err, ◌⊎◌}
+use Rattle.std.specs.Prelude.{◌≡◌, ◌≤◌, ℕ, List, ◌∷◌, ◌++◌, length, drop, Err, ◌⊎◌}
 use Rattle.handler_tokens.specs.declared.token.Token.{Token}
 use Rattle.handler_tokens.specs.Lexing.{lex, places, tokens}
 use Rattle.lang_tree.specs.declared.program.Route.{Route}
 use Rattle.handler_grammar.specs.Grammar.{program_tokens}
 use Rattle.handler_reader.specs.declared.stop.Cause.{Cause}
-use Rattle.handler_reader.specs.declared.stop.Stop.{Stop}
 use Rattle.handler_lang.specs.Reading.{first_or, read_of, refusal_at}
-
--- whatever stands behind the refused token, reading stops there, and so
-pub record Stops {A : Type 0} (read : List Token → Result A Stop) (ts : List Token) (s : Stop) : Type 0 where
-  pub front : List Token
-  pub first : Token
-  pub back : List Token
-  pub is : ts ≡ front ++ (first ∷ back)
-  pub left : s.left ≡ suc (length back)
-  pub always : (more : List Token) → read (front ++ (first ∷ more)) ≡ Err (record { cause = s.cause; left = suc (length more) })
-
--- the same, or it stops at the end
-abbrev pub StopsFirst : {A : Type 0} → (List Token → Result A Stop) → List Token → Stop → Type 0
-StopsFirst read ts s = (s.left ≡ 0) ⊎ Stops read ts s
 
 -- the place of a text's token, counted from 0, or the text's end
 abbrev pub place_at : List ℕ → ℕ → ℕ

@@ -8,7 +8,8 @@ use Rattle.lang_tree.specs.declared.program.Route.{Route}
 use Rattle.handler_reader.specs.declared.stop.Stop.{Stop}
 use Rattle.handler_reader.specs.declared.stop.ReadFailed.{ReadFailed}
 use Rattle.handler_reader.specs.declared.stop.ReadFailed.TheVariants as failed
-use Rattle.handler_reader.specs.Readers.{◌>>=◌, Fails, Read, refused, close_at, stmts_in, route_at, routes_in}
+use Rattle.reader_laws.specs.Reading.{◌>>=◌}
+use Rattle.handler_reader.specs.Readers.{Fails, Read, refused, close_at, stmts_in, route_at, routes_in}
 
 -- what was read before, and what is still read
 abbrev pub with_stmts : List Stmt → Read (List Stmt) → Read (List Stmt)

@@ -7,7 +7,8 @@ use Rattle.lang_tree.specs.declared.stmt.Stmt.TheVariants as stmt
 use Rattle.lang_tree.specs.declared.stmt.Block.{Block}
 use Rattle.handler_reader.specs.declared.stop.Stop.{Stop}
 use Rattle.handler_reader.specs.Pieces.{in_turn, with_mark}
-use Rattle.handler_reader.specs.Readers.{◌>>=◌, Read, call_in, comma_at, drop_in, each_in, else_in, equals_at, get_in, if_in, in_at, left_at, let_in, method_at, number_in, op_at, pair_in, part_in, put_in, reply_in, right_at, semicolon_at, text_in, word_at}
+use Rattle.reader_laws.specs.Reading.{◌>>=◌}
+use Rattle.handler_reader.specs.Readers.{Read, call_in, comma_at, drop_in, each_in, else_in, equals_at, get_in, if_in, in_at, left_at, let_in, method_at, number_in, op_at, pair_in, part_in, put_in, reply_in, right_at, semicolon_at, text_in, word_at}
 
 abbrev Reads : Type 0 → Type 0
 Reads A = List Token → Read A

@@ -2,7 +2,8 @@
 use Rattle.std.specs.Prelude.{List, Result, Ok}
 use Rattle.handler_tokens.specs.declared.token.Token.{Token}
 use Rattle.handler_reader.specs.declared.stop.Stop.{Stop}
-use Rattle.handler_reader.specs.Readers.{◌>>=◌, Read}
+use Rattle.reader_laws.specs.Reading.{◌>>=◌}
+use Rattle.handler_reader.specs.Readers.{Read}
 
 -- a part, and a mark behind it
 unfoldable pub with_mark : {A : Type 0} → (List Token → Read A) → (List Token → Result (List Token) Stop) → List Token → Read A

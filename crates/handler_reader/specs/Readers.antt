@@ -1,6 +1,7 @@
 -- Reading tokens from left to right: what is read and the tokens behind it, or where reading stops and why. Where a
 -- part may be of several forms, its first token decides.
 use Rattle.std.specs.Prelude.{◌≡◌, ℕ, ℤ, zero, suc, pos, negsuc, Bool, true, false, ◌&&◌, List, [], ◌∷◌, length, Option, Some, None, Result, Ok, Err, nat_le, if◌then◌else◌}
+use Rattle.reader_laws.specs.Reading.{◌>>=◌}
 use Rattle.handler_tokens.specs.declared.token.Token.{Token}
 use Rattle.handler_tokens.specs.declared.token.Token.TheVariants as token
 use Rattle.lang_tree.specs.Forms.{is_path}
@@ -18,11 +19,6 @@ use Rattle.handler_reader.specs.declared.stop.Cause.TheVariants as cause
 use Rattle.handler_reader.specs.declared.stop.Stop.{Stop}
 use Rattle.handler_reader.specs.declared.stop.ReadFailed.{ReadFailed}
 use Rattle.handler_reader.specs.declared.stop.ReadFailed.TheVariants as failed
-
-infixl 10 ◌>>=◌
-abbrev pub ◌>>=◌ : {A B : Type 0} → Result A Stop → (A → Result B Stop) → Result B Stop
-(Ok x) >>= f = f x
-(Err e) >>= f = Err e
 
 -- what a function answered is what reading gives, unless memory ran out
 abbrev pub Fails : {Y : Type 0} → ReadFailed → Result Y Stop → Type 0

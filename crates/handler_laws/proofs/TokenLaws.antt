@@ -1,0 +1,231 @@
+-- The laws of readers of a single token.
+use Rattle.std.proofs.Common.{◌≡◌, ℕ, pos, negsuc, suc, Bool, true, false, List, [], ◌∷◌, length, Result, Ok, Err, refl, sym, ap, subst, ◌∙◌, inl, inr}
+use Rattle.std.specs.Prelude.{nat_le, ◌&&◌}
+use Rattle.reader_laws.specs.Reading.{Reader}
+use Rattle.reader_laws.proofs.Laws.{Stopping, Completes, IsMark, LawsAt, Stops, StopsFirst, err_is, laws_end, laws_one, laws_stop, ok_is}
+use Rattle.reader_laws.proofs.Laws as laws
+use Rattle.handler_tokens.specs.declared.token.Token.{Token}
+use Rattle.handler_tokens.specs.declared.token.Token.TheVariants as token
+use Rattle.handler_tokens.proofs.KeptLemmas.{AreKept}
+use Rattle.handler_grammar.specs.Grammar.{op_token, segment}
+use Rattle.lang_tree.specs.Forms.{is_path, is_word}
+use Rattle.lang_tree.specs.declared.method.Method.{Method}
+use Rattle.lang_tree.specs.declared.method.Method.TheVariants as methods
+use Rattle.lang_tree.specs.declared.expr.Op.{Op}
+use Rattle.lang_tree.specs.declared.expr.Op.TheVariants as op
+use Rattle.handler_reader.specs.declared.stop.Cause.TheVariants as cause
+use Rattle.handler_reader.specs.declared.stop.Stop.{Stop}
+use Rattle.handler_reader.specs.Readers.{comma_at, equals_at, in_at, left_at, method_at, misfit, op_at, pattern_at, refused, right_at, segment_at, semicolon_at, stop, word_at}
+use Rattle.handler_reader.proofs.Binds.{both}
+
+-- a stop is moved to where another number of tokens is left
+abbrev pub by_tokens : Stopping Stop
+by_tokens = record { left = λ s. s.left; moved = λ s n. record { cause = s.cause; left = n }; leaves = λ s n. refl; moves = λ s m n. refl }
+
+abbrev pub Reads : {B : Type 0} → List Token → Reader Token Stop B → (B → List Token) → (B → Type 0) → Type 0
+Reads front read all Holds = laws.Reads by_tokens AreKept front read all Holds
+
+abbrev pub At : {B : Type 0} → Reader Token Stop B → (B → List Token) → (B → Type 0) → List Token → Type 0
+At read all Holds ts = LawsAt by_tokens AreKept [] read all Holds ts
+
+abbrev pub Marks : (List Token → Result (List Token) Stop) → Token → Type 0
+Marks m t = IsMark by_tokens AreKept m t
+
+pub kept_behind : (t : Token) (ts : List Token) → AreKept (t ∷ ts) → AreKept ts
+kept_behind t ts kept = kept.1
+
+same_misfit : (t : Token) (ts : List Token) → misfit (t ∷ ts) ≡ misfit (t ∷ [])
+same_misfit token.BadNumber ts = refl
+same_misfit token.BadString ts = refl
+same_misfit _ ts = refl
+
+-- the stop at a token that doesn't fit, whatever stands behind it
+abbrev pub refused_at : Token → Stop
+refused_at t = stop (misfit (t ∷ [])) []
+
+pub refused_is : (t : Token) (ts : List Token) → refused (t ∷ ts) ≡ by_tokens.moved (refused_at t) (suc (length ts))
+refused_is t ts = rw (same_misfit t ts) refl
+
+pub laws_refused : {B : Type 0} {read : Reader Token Stop B} {all : B → List Token} {Holds : B → Type 0} (t : Token) → Completes [] all → ((ts : List Token) → read (t ∷ ts) ≡ Err (refused (t ∷ ts))) → (ts : List Token) → At read all Holds (t ∷ ts)
+laws_refused t some stops ts = laws_stop t (refused_at t) some (λ us. stops us ∙ ap (λ s. Err s) (refused_is t us)) ts
+
+-- something that is spelled so at all
+pub there_is : {B : Type 0} (x : B) (all : B → List Token) → Completes [] all
+there_is x all = record { more = all x; whole = x; spelled = refl }
+
+abbrev pub Always : {A : Type 0} → A → Type 0
+Always x = Unit {0}
+
+-- ---- words, methods, operators
+
+abbrev pub word_spells : List ℕ → List Token
+word_spells w = token.Word w ∷ []
+
+abbrev pub IsWord : List ℕ → Type 0
+IsWord w = is_word w ≡ true
+
+pub word_reads : Reads [] word_at word_spells IsWord
+word_reads = record { at = go; some = some } where
+  some : Completes [] word_spells
+  some = there_is (97 ∷ []) word_spells
+
+  go : (ts : List Token) → At word_at word_spells IsWord ts
+  go [] = laws_end (refused []) some refl refl
+  go (token.Word w ∷ ts) = laws_one (token.Word w) w (λ us. refl) refl (λ us kept. kept) ts
+  go (t ∷ ts) = laws_refused t some (λ us. refl) ts
+
+abbrev pub method_spells : Method → List Token
+method_spells m = token.Method m ∷ []
+
+pub method_reads : Reads [] method_at method_spells Always
+method_reads = record { at = go; some = some } where
+  some : Completes [] method_spells
+  some = there_is methods.Get method_spells
+
+  go : (ts : List Token) → At method_at method_spells Always ts
+  go [] = laws_end (refused []) some refl refl
+  go (token.Method m ∷ ts) = laws_one (token.Method m) m (λ us. refl) refl (λ us kept. kept) ts
+  go (t ∷ ts) = laws_refused t some (λ us. refl) ts
+
+abbrev pub op_spells : Op → List Token
+op_spells o = op_token o ∷ []
+
+pub op_reads : Reads [] op_at op_spells Always
+op_reads = record { at = go; some = some } where
+  some : Completes [] op_spells
+  some = there_is op.Add op_spells
+
+  go : (ts : List Token) → At op_at op_spells Always ts
+  go [] = laws_end (refused []) some refl refl
+  go (token.Plus ∷ ts) = laws_one token.Plus op.Add (λ us. refl) refl (λ us kept. kept) ts
+  go (token.Minus ∷ ts) = laws_one token.Minus op.Sub (λ us. refl) refl (λ us kept. kept) ts
+  go (token.Star ∷ ts) = laws_one token.Star op.Mul (λ us. refl) refl (λ us kept. kept) ts
+  go (token.Equals ∷ ts) = laws_one token.Equals op.Equal (λ us. refl) refl (λ us kept. kept) ts
+  go (token.Less ∷ ts) = laws_one token.Less op.Less (λ us. refl) refl (λ us kept. kept) ts
+  go (token.Join ∷ ts) = laws_one token.Join op.Join (λ us. refl) refl (λ us kept. kept) ts
+  go (t ∷ ts) = laws_refused t some (λ us. refl) ts
+
+-- ---- the integer of `path`, and patterns
+
+abbrev pub segment_spells : ℕ → List Token
+segment_spells n = token.Integer (segment n) ∷ []
+
+abbrev pub IsSegment : ℕ → Type 0
+IsSegment n = nat_le 1 n && nat_le n 32 ≡ true
+
+some_segment : Completes [] segment_spells
+some_segment = there_is 1 segment_spells
+
+segment_laws : (k : ℕ) (b : Bool) → nat_le 1 k && nat_le k 32 ≡ b → (ts : List Token) → At segment_at segment_spells IsSegment (token.Integer (pos k) ∷ ts)
+segment_laws k true fits ts =
+    let small : nat_le k 32 ≡ true = (both (nat_le 1 k) (nat_le k 32) fits).1 in
+    let is : segment_spells k ≡ token.Integer (pos k) ∷ [] = rw small refl in
+    laws_one (token.Integer (pos k)) k (λ us. rw fits refl) is (λ us kept. (fits, kept.1)) ts
+segment_laws k false fits ts = laws_stop (token.Integer (pos k)) (stop cause.BadNumber []) some_segment (λ us. rw fits refl) ts
+
+pub segment_reads : Reads [] segment_at segment_spells IsSegment
+segment_reads = record { at = go; some = some_segment } where
+  go : (ts : List Token) → At segment_at segment_spells IsSegment ts
+  go [] = laws_end (refused []) some_segment refl refl
+  go (token.Integer (pos k) ∷ ts) = segment_laws k (nat_le 1 k && nat_le k 32) refl ts
+  go (token.Integer (negsuc k) ∷ ts) = laws_stop (token.Integer (negsuc k)) (stop cause.BadNumber []) some_segment (λ us. refl) ts
+  go (t ∷ ts) = laws_refused t some_segment (λ us. refl) ts
+
+abbrev pub pattern_spells : List ℕ → List Token
+pattern_spells text = token.Str text ∷ []
+
+abbrev pub IsPattern : List ℕ → Type 0
+IsPattern text = is_path text ≡ true
+
+some_pattern : Completes [] pattern_spells
+some_pattern = there_is (47 ∷ []) pattern_spells
+
+pattern_laws : (text : List ℕ) (b : Bool) → is_path text ≡ b → (ts : List Token) → At pattern_at pattern_spells IsPattern (token.Str text ∷ ts)
+pattern_laws text true fits ts = laws_one (token.Str text) text (λ us. rw fits refl) refl (λ us kept. (fits, kept.1)) ts
+pattern_laws text false fits ts = laws_stop (token.Str text) (stop cause.BadPattern []) some_pattern (λ us. rw fits refl) ts
+
+pub pattern_reads : Reads [] pattern_at pattern_spells IsPattern
+pattern_reads = record { at = go; some = some_pattern } where
+  go : (ts : List Token) → At pattern_at pattern_spells IsPattern ts
+  go [] = laws_end (refused []) some_pattern refl refl
+  go (token.Str text ∷ ts) = pattern_laws text (is_path text) refl ts
+  go (t ∷ ts) = laws_refused t some_pattern (λ us. refl) ts
+
+-- ---- marks
+
+abbrev Stays : (List Token → Result (List Token) Stop) → List Token → Stop → Type 0
+Stays m ts s = StopsFirst by_tokens m ts s × (s.left ≡ length ts)
+
+mark_ends : (m : List Token → Result (List Token) Stop) (s : Stop) → m [] ≡ Err (refused []) → m [] ≡ Err s → Stays m [] s
+mark_ends m s ends h = subst (λ z. Stays m [] z) (err_is {A = List Token} (refused []) s (sym ends ∙ h)) (inl refl, refl)
+
+mark_refused : (m : List Token → Result (List Token) Stop) (t : Token) (ts : List Token) (s : Stop) → ((us : List Token) → m (t ∷ us) ≡ Err (refused (t ∷ us))) → m (t ∷ ts) ≡ Err s → Stays m (t ∷ ts) s
+mark_refused m t ts s stops h =
+    let this : Stops by_tokens m (t ∷ ts) (refused (t ∷ ts)) = record { front = []; first = t; back = ts; is = refl; left = refl; always = λ more. stops more ∙ ap (λ z. Err z) (refused_is t more ∙ ap (λ c. record { cause = c; left = suc (length more) }) (sym (same_misfit t ts))) } in
+    subst (λ z. Stays m (t ∷ ts) z) (err_is {A = List Token} (refused (t ∷ ts)) s (sym (stops ts) ∙ h)) (inr this, refl)
+
+pub equals_mark : Marks equals_at token.Equals
+equals_mark = record { here = λ ts. refl; took = good; stopped = bad; kept = kept_behind token.Equals } where
+  good : (ts rest : List Token) → equals_at ts ≡ Ok rest → ts ≡ token.Equals ∷ rest
+  good (token.Equals ∷ ts) rest h = ap (λ us. token.Equals ∷ us) (ok_is {E = Stop} ts rest h)
+  good _ rest h = absurd cc
+
+  bad : (ts : List Token) (s : Stop) → equals_at ts ≡ Err s → Stays equals_at ts s
+  bad [] s h = mark_ends equals_at s refl h
+  bad (token.Equals ∷ ts) s h = absurd cc
+  bad (t ∷ ts) s h = mark_refused equals_at t ts s (λ us. refl) h
+
+pub semicolon_mark : Marks semicolon_at token.Semicolon
+semicolon_mark = record { here = λ ts. refl; took = good; stopped = bad; kept = kept_behind token.Semicolon } where
+  good : (ts rest : List Token) → semicolon_at ts ≡ Ok rest → ts ≡ token.Semicolon ∷ rest
+  good (token.Semicolon ∷ ts) rest h = ap (λ us. token.Semicolon ∷ us) (ok_is {E = Stop} ts rest h)
+  good _ rest h = absurd cc
+
+  bad : (ts : List Token) (s : Stop) → semicolon_at ts ≡ Err s → Stays semicolon_at ts s
+  bad [] s h = mark_ends semicolon_at s refl h
+  bad (token.Semicolon ∷ ts) s h = absurd cc
+  bad (t ∷ ts) s h = mark_refused semicolon_at t ts s (λ us. refl) h
+
+pub comma_mark : Marks comma_at token.Comma
+comma_mark = record { here = λ ts. refl; took = good; stopped = bad; kept = kept_behind token.Comma } where
+  good : (ts rest : List Token) → comma_at ts ≡ Ok rest → ts ≡ token.Comma ∷ rest
+  good (token.Comma ∷ ts) rest h = ap (λ us. token.Comma ∷ us) (ok_is {E = Stop} ts rest h)
+  good _ rest h = absurd cc
+
+  bad : (ts : List Token) (s : Stop) → comma_at ts ≡ Err s → Stays comma_at ts s
+  bad [] s h = mark_ends comma_at s refl h
+  bad (token.Comma ∷ ts) s h = absurd cc
+  bad (t ∷ ts) s h = mark_refused comma_at t ts s (λ us. refl) h
+
+pub in_mark : Marks in_at token.In
+in_mark = record { here = λ ts. refl; took = good; stopped = bad; kept = kept_behind token.In } where
+  good : (ts rest : List Token) → in_at ts ≡ Ok rest → ts ≡ token.In ∷ rest
+  good (token.In ∷ ts) rest h = ap (λ us. token.In ∷ us) (ok_is {E = Stop} ts rest h)
+  good _ rest h = absurd cc
+
+  bad : (ts : List Token) (s : Stop) → in_at ts ≡ Err s → Stays in_at ts s
+  bad [] s h = mark_ends in_at s refl h
+  bad (token.In ∷ ts) s h = absurd cc
+  bad (t ∷ ts) s h = mark_refused in_at t ts s (λ us. refl) h
+
+pub left_mark : Marks left_at token.Left
+left_mark = record { here = λ ts. refl; took = good; stopped = bad; kept = kept_behind token.Left } where
+  good : (ts rest : List Token) → left_at ts ≡ Ok rest → ts ≡ token.Left ∷ rest
+  good (token.Left ∷ ts) rest h = ap (λ us. token.Left ∷ us) (ok_is {E = Stop} ts rest h)
+  good _ rest h = absurd cc
+
+  bad : (ts : List Token) (s : Stop) → left_at ts ≡ Err s → Stays left_at ts s
+  bad [] s h = mark_ends left_at s refl h
+  bad (token.Left ∷ ts) s h = absurd cc
+  bad (t ∷ ts) s h = mark_refused left_at t ts s (λ us. refl) h
+
+pub right_mark : Marks right_at token.Right
+right_mark = record { here = λ ts. refl; took = good; stopped = bad; kept = kept_behind token.Right } where
+  good : (ts rest : List Token) → right_at ts ≡ Ok rest → ts ≡ token.Right ∷ rest
+  good (token.Right ∷ ts) rest h = ap (λ us. token.Right ∷ us) (ok_is {E = Stop} ts rest h)
+  good _ rest h = absurd cc
+
+  bad : (ts : List Token) (s : Stop) → right_at ts ≡ Err s → Stays right_at ts s
+  bad [] s h = mark_ends right_at s refl h
+  bad (token.Right ∷ ts) s h = absurd cc
+  bad (t ∷ ts) s h = mark_refused right_at t ts s (λ us. refl) h
