@@ -1,7 +1,7 @@
 -- The laws of reading an expression, form by form.
-use Rattle.std.proofs.Common.{◌≡◌, ℕ, zero, suc, Bool, true, false, List, [], ◌∷◌, ◌++◌, length, Ok, Err, refl, sym, ap, ◌∙◌, append_assoc}
+use Rattle.std.proofs.Common.{◌≡◌, ℕ, zero, suc, Bool, true, false, List, [], ◌∷◌, ◌++◌, length, Ok, Err, refl, ap, ◌∙◌, append_assoc}
 use Rattle.std.specs.Prelude.{◌&&◌, if◌then◌else◌}
-use Rattle.reader_laws.specs.Reading.{Reader, bound, gives, marked}
+use Rattle.reader_laws.specs.Reading.{gives}
 use Rattle.reader_laws.proofs.Laws.{Completes, laws_end, laws_head, laws_one, laws_stop, reads_bound, reads_given, reads_marked}
 use Rattle.handler_tokens.specs.declared.token.Token.{Token}
 use Rattle.handler_tokens.specs.declared.token.Token.TheVariants as token
@@ -12,13 +12,13 @@ use Rattle.lang_tree.specs.declared.expr.Expr.{Expr, roll-Expr}
 use Rattle.lang_tree.specs.declared.expr.Expr.TheVariants as expr
 use Rattle.lang_tree.specs.declared.expr.Expr.TheVariants.{rolls-Integer, rolls-Str, rolls-Nothing, rolls-Body, rolls-Who, rolls-Var, rolls-Path, rolls-Part, rolls-Number, rolls-AsText, rolls-Pair}
 use Rattle.lang_tree.specs.declared.expr.Expr.TheOpen.{Expr-F}
-use Rattle.handler_grammar.specs.Grammar.{expr_tokens, op_token, segment}
+use Rattle.handler_grammar.specs.Grammar.{expr_tokens, op_token}
 use Rattle.handler_grammar.proofs.Layers.{expr_layer, expr_layer_fits, expr_layer_tokens}
 use Rattle.handler_reader.specs.declared.stop.Cause.TheVariants as cause
 use Rattle.handler_reader.specs.declared.stop.Stop.{Stop}
-use Rattle.handler_reader.specs.Readers.{begins_expr, comma_at, deep_expr, expr_at, expr_in, left_at, number_in, op_at, pair_in, part_in, path_in, refused, right_at, segment_at, stop, text_in}
-use Rattle.handler_reader.proofs.Binds.{and_true}
-use Rattle.handler_laws.proofs.TokenLaws.{Always, At, IsSegment, Reads, by_tokens, comma_mark, kept_behind, laws_refused, left_mark, op_reads, refused_at, refused_is, right_mark, segment_reads, there_is}
+use Rattle.handler_reader.specs.Readers.{begins_expr, expr_at, expr_in, number_in, pair_in, part_in, path_in, refused, stop, text_in}
+use Rattle.std.proofs.lemmas.Bool.{and_from}
+use Rattle.handler_laws.proofs.TokenLaws.{At, Reads, by_tokens, comma_mark, kept_behind, laws_refused, left_mark, op_reads, refused_at, refused_is, right_mark, segment_reads, there_is}
 
 -- it fits where so many levels are left
 abbrev pub ExprFits : ℕ → Expr → Type 0
@@ -72,7 +72,7 @@ pair_reads n inner =
     reads_bound inner (λ r.
     reads_marked right_mark
     (made (Expr-F.Pair l o r) (rolls-Pair l o r) (pair_regroup (expr_tokens l) (expr_tokens r) o)
-    (λ rf of lf. fits (Expr-F.Pair l o r) n (rolls-Pair l o r) (and_true (expr_within l n) (expr_within r n) lf rf))))))
+    (λ rf of lf. fits (Expr-F.Pair l o r) n (rolls-Pair l o r) (and_from (expr_within l n) (expr_within r n) lf rf))))))
 
 part_regroup : (a b c : List Token) → token.Part ∷ (token.Left ∷ (a ++ (token.Comma ∷ (b ++ (token.Comma ∷ (c ++ (token.Right ∷ [])))))))
     ≡ (((((((token.Part ∷ []) ++ (token.Left ∷ [])) ++ a) ++ (token.Comma ∷ [])) ++ b) ++ (token.Comma ∷ [])) ++ c) ++ (token.Right ∷ [])
@@ -89,7 +89,7 @@ part_reads n inner =
     (reads_bound inner (λ c.
     reads_marked right_mark
     (made (Expr-F.Part a b c) (rolls-Part a b c) (part_regroup (expr_tokens a) (expr_tokens b) (expr_tokens c))
-    (λ cf bf af. fits (Expr-F.Part a b c) n (rolls-Part a b c) (and_true (expr_within a n && expr_within b n) (expr_within c n) (and_true (expr_within a n) (expr_within b n) af bf) cf)))))))))
+    (λ cf bf af. fits (Expr-F.Part a b c) n (rolls-Part a b c) (and_from (expr_within a n && expr_within b n) (expr_within c n) (and_from (expr_within a n) (expr_within b n) af bf) cf)))))))))
 
 -- ---- any expression
 

@@ -1,8 +1,8 @@
 -- The laws of reading statements, blocks and routes, form by form.
-use Rattle.std.proofs.Common.{◌≡◌, ℕ, zero, suc, true, List, [], ◌∷◌, ◌++◌, map, Option, Some, None, Result, Ok, Err, refl, sym, ap, subst, ◌∙◌, append_assoc, inl, inr}
+use Rattle.std.proofs.Common.{◌≡◌, ℕ, zero, suc, true, List, [], ◌∷◌, ◌++◌, map, Option, Some, None, Result, Ok, Err, refl, ap, subst, ◌∙◌, append_assoc, inl, inr}
 use Rattle.std.specs.Prelude.{◌&&◌}
 use Rattle.std.proofs.lemmas.List.{append-nil}
-use Rattle.reader_laws.specs.Reading.{◌>>=◌, Reader, bound, gives, marked}
+use Rattle.reader_laws.specs.Reading.{◌>>=◌, bound, gives}
 use Rattle.reader_laws.proofs.Laws.{Begun, Completes, SameFirst, StopsFirst, laws_as, laws_end, laws_head, laws_none, laws_none_left, laws_one, laws_stop, reads_bound, reads_given, reads_marked}
 use Rattle.handler_tokens.specs.declared.token.Token.{Token}
 use Rattle.handler_tokens.specs.declared.token.Token.TheVariants as token
@@ -23,7 +23,7 @@ use Rattle.handler_grammar.proofs.Layers.{block_layer, block_of, stmt_layer, stm
 use Rattle.handler_reader.specs.declared.stop.Cause.TheVariants as cause
 use Rattle.handler_reader.specs.declared.stop.Stop.{Stop}
 use Rattle.handler_reader.specs.Readers.{Read, block_at, block_in, call_in, close_at, drop_in, each_in, else_in, expr_at, get_in, if_in, let_in, most, now_in, put_in, random_in, refused, reply_in, route_at, route_in, routes_in, stmt_in, stmts_in, stop}
-use Rattle.handler_reader.proofs.Binds.{and_true}
+use Rattle.std.proofs.lemmas.Bool.{and_from}
 use Rattle.handler_reader.proofs.Loops.{stmts_next}
 use Rattle.handler_laws.proofs.TokenLaws.{At, Reads, by_tokens, comma_mark, equals_mark, in_mark, kept_behind, laws_refused, method_reads, pattern_reads, semicolon_mark, there_is, word_reads}
 use Rattle.handler_laws.proofs.ExprLaws.{expr_reads}
@@ -74,7 +74,7 @@ let_reads n =
     (reads_bound (expr_reads 32) (λ x.
     reads_marked semicolon_mark
     (made (Stmt-F.Let v x) (rolls-Let v x) (let_regroup v (expr_tokens x))
-    (λ xf vf. fits (Stmt-F.Let v x) n (rolls-Let v x) (and_true (is_word v) (expr_within x 32) vf xf))))))
+    (λ xf vf. fits (Stmt-F.Let v x) n (rolls-Let v x) (and_from (is_word v) (expr_within x 32) vf xf))))))
 
 get_regroup : (v t : List ℕ) (ks : List Token) → token.Get ∷ (token.Word v ∷ (token.Equals ∷ (token.Word t ∷ (ks ++ (token.Semicolon ∷ [])))))
     ≡ (((((token.Get ∷ []) ++ (token.Word v ∷ [])) ++ (token.Equals ∷ [])) ++ (token.Word t ∷ [])) ++ ks) ++ (token.Semicolon ∷ [])
@@ -89,7 +89,7 @@ get_reads n =
     reads_bound (expr_reads 32) (λ k.
     reads_marked semicolon_mark
     (made (Stmt-F.Get v t k) (rolls-Get v t k) (get_regroup v t (expr_tokens k))
-    (λ kf tf vf. fits (Stmt-F.Get v t k) n (rolls-Get v t k) (and_true (is_word v && is_word t) (expr_within k 32) (and_true (is_word v) (is_word t) vf tf) kf)))))))
+    (λ kf tf vf. fits (Stmt-F.Get v t k) n (rolls-Get v t k) (and_from (is_word v && is_word t) (expr_within k 32) (and_from (is_word v) (is_word t) vf tf) kf)))))))
 
 put_regroup : (t : List ℕ) (ks xs : List Token) → token.Put ∷ (token.Word t ∷ (ks ++ (token.Equals ∷ (xs ++ (token.Semicolon ∷ [])))))
     ≡ (((((token.Put ∷ []) ++ (token.Word t ∷ [])) ++ ks) ++ (token.Equals ∷ [])) ++ xs) ++ (token.Semicolon ∷ [])
@@ -104,7 +104,7 @@ put_reads n =
     (reads_bound (expr_reads 32) (λ x.
     reads_marked semicolon_mark
     (made (Stmt-F.Put t k x) (rolls-Put t k x) (put_regroup t (expr_tokens k) (expr_tokens x))
-    (λ xf kf tf. fits (Stmt-F.Put t k x) n (rolls-Put t k x) (and_true (is_word t && expr_within k 32) (expr_within x 32) (and_true (is_word t) (expr_within k 32) tf kf) xf)))))))
+    (λ xf kf tf. fits (Stmt-F.Put t k x) n (rolls-Put t k x) (and_from (is_word t && expr_within k 32) (expr_within x 32) (and_from (is_word t) (expr_within k 32) tf kf) xf)))))))
 
 drop_regroup : (t : List ℕ) (ks : List Token) → token.Drop ∷ (token.Word t ∷ (ks ++ (token.Semicolon ∷ []))) ≡ (((token.Drop ∷ []) ++ (token.Word t ∷ [])) ++ ks) ++ (token.Semicolon ∷ [])
 drop_regroup t ks = simp append_assoc
@@ -116,7 +116,7 @@ drop_reads n =
     reads_bound (expr_reads 32) (λ k.
     reads_marked semicolon_mark
     (made (Stmt-F.Drop t k) (rolls-Drop t k) (drop_regroup t (expr_tokens k))
-    (λ kf tf. fits (Stmt-F.Drop t k) n (rolls-Drop t k) (and_true (is_word t) (expr_within k 32) tf kf)))))
+    (λ kf tf. fits (Stmt-F.Drop t k) n (rolls-Drop t k) (and_from (is_word t) (expr_within k 32) tf kf)))))
 
 each_regroup : (k x t : List ℕ) (ps bs : List Token) → token.Each ∷ (token.Word k ∷ (token.Comma ∷ (token.Word x ∷ (token.In ∷ (token.Word t ∷ (ps ++ bs))))))
     ≡ (((((((token.Each ∷ []) ++ (token.Word k ∷ [])) ++ (token.Comma ∷ [])) ++ (token.Word x ∷ [])) ++ (token.In ∷ [])) ++ (token.Word t ∷ [])) ++ ps) ++ bs
@@ -134,8 +134,8 @@ each_reads n inner =
     reads_bound inner (λ b.
     made (Stmt-F.Each k x t p b) (rolls-Each k x t p b) (each_regroup k x t (expr_tokens p) (block_tokens b))
     (λ bf pf tf xf kf. fits (Stmt-F.Each k x t p b) n (rolls-Each k x t p b)
-    (and_true (is_word k && is_word x && is_word t && expr_within p 32) (block_fits b n)
-    (and_true (is_word k && is_word x && is_word t) (expr_within p 32) (and_true (is_word k && is_word x) (is_word t) (and_true (is_word k) (is_word x) kf xf) tf) pf) bf)))))))))
+    (and_from (is_word k && is_word x && is_word t && expr_within p 32) (block_fits b n)
+    (and_from (is_word k && is_word x && is_word t) (expr_within p 32) (and_from (is_word k && is_word x) (is_word t) (and_from (is_word k) (is_word x) kf xf) tf) pf) bf)))))))))
 
 if_regroup : (xs bs os : List Token) → token.If ∷ (xs ++ (bs ++ os)) ≡ (((token.If ∷ []) ++ xs) ++ bs) ++ os
 if_regroup xs bs os = simp append_assoc
@@ -155,7 +155,7 @@ if_reads n inner =
     reads_bound inner (λ b.
     reads_bound (else_reads n inner) (λ o.
     if_made x b o (if_regroup (expr_tokens x) (block_tokens b) (other_tokens o))
-    (λ of bf xf. if_fits x b o n (and_true (expr_within x 32 && block_fits b n) (other_fits o n) (and_true (expr_within x 32) (block_fits b n) xf bf) of)))))
+    (λ of bf xf. if_fits x b o n (and_from (expr_within x 32 && block_fits b n) (other_fits o n) (and_from (expr_within x 32) (block_fits b n) xf bf) of)))))
 
 call_regroup : (s a : List ℕ) (m : Method) (ds ps bs : List Token)
     → token.Call ∷ (token.Word s ∷ (token.Comma ∷ (token.Word a ∷ (token.Equals ∷ (ds ++ (token.Method m ∷ (ps ++ (bs ++ (token.Semicolon ∷ [])))))))))
@@ -176,8 +176,8 @@ call_reads n =
     reads_marked semicolon_mark
     (made (Stmt-F.Call s a d m p b) (rolls-Call s a d m p b) (call_regroup s a m (expr_tokens d) (expr_tokens p) (expr_tokens b))
     (λ bf pf mf df af sf. fits (Stmt-F.Call s a d m p b) n (rolls-Call s a d m p b)
-    (and_true (is_word s && is_word a && expr_within d 32 && expr_within p 32) (expr_within b 32)
-    (and_true (is_word s && is_word a && expr_within d 32) (expr_within p 32) (and_true (is_word s && is_word a) (expr_within d 32) (and_true (is_word s) (is_word a) sf af) df) pf) bf)))))))))))
+    (and_from (is_word s && is_word a && expr_within d 32 && expr_within p 32) (expr_within b 32)
+    (and_from (is_word s && is_word a && expr_within d 32) (expr_within p 32) (and_from (is_word s && is_word a) (expr_within d 32) (and_from (is_word s) (is_word a) sf af) df) pf) bf)))))))))))
 
 now_reads : (n : ℕ) → Reads (token.Now ∷ []) now_in stmt_tokens (StmtFits n)
 unfolding now_in
@@ -197,7 +197,7 @@ reply_reads n =
     reads_bound (expr_reads 32) (λ b.
     reads_marked semicolon_mark
     (made (Stmt-F.Reply s b) (rolls-Reply s b) (reply_regroup (expr_tokens s) (expr_tokens b))
-    (λ bf sf. fits (Stmt-F.Reply s b) n (rolls-Reply s b) (and_true (expr_within s 32) (expr_within b 32) sf bf)))))
+    (λ bf sf. fits (Stmt-F.Reply s b) n (rolls-Reply s b) (and_from (expr_within s 32) (expr_within b 32) sf bf)))))
 
 abbrev one : ℕ → List Token → Read Stmt
 one n = stmt_in (expr_at 32) (block_at n)
@@ -241,7 +241,7 @@ more_reads k n inner next =
     reads_bound (one_reads n inner) (λ s.
     reads_bound next (λ more.
     reads_given (append_assoc (stmt_tokens s) (joined (map stmt_tokens more)) (token.Close ∷ []))
-    (λ mf sf. and_true (stmt_fits s n) (all_fit (map stmt_fits more) n) sf mf)))
+    (λ mf sf. and_from (stmt_fits s n) (all_fit (map stmt_fits more) n) sf mf)))
 
 close_head : (t : Token) (ts us : List Token) → close_at (t ∷ ts) ≡ None → close_at (t ∷ us) ≡ None
 close_head token.Close ts us e = absurd cc
@@ -310,7 +310,7 @@ body_reads =
     reads_bound method_reads (λ m.
     reads_bound pattern_reads (λ p.
     reads_bound (block_reads 32) (λ b.
-    reads_given {y = route_of m p b} refl (λ bf pf mf. and_true (is_path p) (block_fits b 32) pf bf))))
+    reads_given {y = route_of m p b} refl (λ bf pf mf. and_from (is_path p) (block_fits b 32) pf bf))))
 
 route_reads : Reads [] route_at route_tokens RouteFits
 unfolding route_at
@@ -356,7 +356,7 @@ routes_more : (k : ℕ) → Reads [] (all_routes k) program_tokens RoutesFit →
 routes_more k next =
     reads_bound route_reads (λ r.
     reads_bound next (λ more.
-    reads_given refl (λ mf rf. and_true (is_path r.pattern && block_fits r.block 32) (routes_fit more) rf mf)))
+    reads_given refl (λ mf rf. and_from (is_path r.pattern && block_fits r.block 32) (routes_fit more) rf mf)))
 
 no_route : (ts : List Token) → At (all_routes zero) program_tokens RoutesFit ts
 unfolding routes_in

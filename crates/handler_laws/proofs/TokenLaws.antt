@@ -16,7 +16,7 @@ use Rattle.lang_tree.specs.declared.expr.Op.TheVariants as op
 use Rattle.handler_reader.specs.declared.stop.Cause.TheVariants as cause
 use Rattle.handler_reader.specs.declared.stop.Stop.{Stop}
 use Rattle.handler_reader.specs.Readers.{comma_at, equals_at, in_at, left_at, method_at, misfit, op_at, pattern_at, refused, right_at, segment_at, semicolon_at, stop, word_at}
-use Rattle.handler_reader.proofs.Binds.{both}
+use Rattle.std.proofs.lemmas.Bool.{and_parts}
 
 -- a stop is moved to where another number of tokens is left
 abbrev pub by_tokens : Stopping Stop
@@ -118,7 +118,7 @@ some_segment = there_is 1 segment_spells
 
 segment_laws : (k : ℕ) (b : Bool) → nat_le 1 k && nat_le k 32 ≡ b → (ts : List Token) → At segment_at segment_spells IsSegment (token.Integer (pos k) ∷ ts)
 segment_laws k true fits ts =
-    let small : nat_le k 32 ≡ true = (both (nat_le 1 k) (nat_le k 32) fits).1 in
+    let small : nat_le k 32 ≡ true = (and_parts (nat_le 1 k) (nat_le k 32) fits).1 in
     let is : segment_spells k ≡ token.Integer (pos k) ∷ [] = rw small refl in
     laws_one (token.Integer (pos k)) k (λ us. rw fits refl) is (λ us kept. (fits, kept.1)) ts
 segment_laws k false fits ts = laws_stop (token.Integer (pos k)) (stop cause.BadNumber []) some_segment (λ us. rw fits refl) ts
