@@ -1,5 +1,5 @@
 -- What messages, steps and orders leave of entries: part by part.
-use Rattle.std.proofs.Common.{ℕ, ◌<◌, List, [], length}
+use Rattle.std.proofs.Common.{ℕ, List, []}
 use Rattle.lang_core.specs.declared.inputs.Inputs.{Inputs}
 use Rattle.local_repair.specs.Current.{AllRuns}
 use Rattle.repair_messages.specs.declared.messages.AnswerMessage.{AnswerMessage}
@@ -16,7 +16,7 @@ use Rattle.entry_laws.proofs.OrderLaw.{order_logged}
 use Rattle.entry_laws.proofs.PartLemmas.{logged}
 use Rattle.entry_laws.proofs.PostedLaw.{take_answer_logged, posted_logged}
 use Rattle.entry_laws.proofs.RepairRuns.{take_runs, take_answer_runs, posted_runs, step_runs, order_runs}
-use Rattle.entry_laws.proofs.StepLaw.{step_logged}
+use Rattle.entry_laws.proofs.StepLaw.{IsFew, step_logged}
 use Rattle.entry_laws.proofs.TakeLaw.{take_logged}
 
 module _ (s : Kept) (h : Fits s) where
@@ -65,19 +65,19 @@ module _ (s : Kept) (h : Fits s) where
   pub posted_keeps_replies : (post : Post) (answer : PostReply) → FitsReplies ((posted_event s post answer).service).journal ((posted_event s post answer).service).entries ((posted_event s post answer).service).replies
   posted_keeps_replies post answer = (posted_logged s (logged s h) post answer).replies
 
-  pub step_keeps_taken : (few : length s.journal < 18446744073709551615) → EachAfter TakesOn [] ((step_event s).service).journal
+  pub step_keeps_taken : IsFew (step_event s).service → EachAfter TakesOn [] ((step_event s).service).journal
   step_keeps_taken few = (step_logged s (logged s h) few).taken
 
-  pub step_keeps_asked : (few : length s.journal < 18446744073709551615) → FitsAsked ((step_event s).service).journal ((step_event s).service).entries
+  pub step_keeps_asked : IsFew (step_event s).service → FitsAsked ((step_event s).service).journal ((step_event s).service).entries
   step_keeps_asked few = (step_logged s (logged s h) few).asked
 
-  pub step_keeps_runs : (few : length s.journal < 18446744073709551615) → AllRuns ((step_event s).service).setting ((step_event s).service).entries
+  pub step_keeps_runs : IsFew (step_event s).service → AllRuns ((step_event s).service).setting ((step_event s).service).entries
   step_keeps_runs few = step_runs s h.runs
 
-  pub step_keeps_answered : (few : length s.journal < 18446744073709551615) → FitsAnswered ((step_event s).service).journal ((step_event s).service).entries
+  pub step_keeps_answered : IsFew (step_event s).service → FitsAnswered ((step_event s).service).journal ((step_event s).service).entries
   step_keeps_answered few = (step_logged s (logged s h) few).answered
 
-  pub step_keeps_replies : (few : length s.journal < 18446744073709551615) → FitsReplies ((step_event s).service).journal ((step_event s).service).entries ((step_event s).service).replies
+  pub step_keeps_replies : IsFew (step_event s).service → FitsReplies ((step_event s).service).journal ((step_event s).service).entries ((step_event s).service).replies
   step_keeps_replies few = (step_logged s (logged s h) few).replies
 
   pub order_keeps_taken : (command : Command) (token who : List ℕ) (i : Inputs) → EachAfter TakesOn [] ((order_event s command token who i).service).journal

@@ -1,5 +1,5 @@
 -- A repair step keeps how entries and replies follow from the journal: the entry that ran again has another record, and perhaps a new answer.
-use Rattle.std.proofs.Common.{◌≡◌, ℕ, ◌+◌, ◌<◌, ◌≤◌, Bool, true, false, not, ◌&&◌, cond, List, [], ◌∷◌, ◌++◌, Option, Some, None, IsSome, IsSomeAnd, find, length, option_map, refl, sym, ap, ◌∙◌, subst, inl, inr, nat_eq, arith, append_assoc, append-nil, eqb-true, eq-eqb, length-set}
+use Rattle.std.proofs.Common.{◌≡◌, ℕ, ◌+◌, ◌<◌, ◌≤◌, ◌^◌, Bool, true, false, not, ◌&&◌, cond, List, [], ◌∷◌, ◌++◌, Option, Some, None, IsSome, IsSomeAnd, find, length, option_map, refl, sym, ap, ◌∙◌, subst, inl, inr, nat_eq, arith, append_assoc, length-append, append-nil, eqb-true, eq-eqb, length-set}
 use Rattle.std.specs.List.{AllByRecursion as Each, position_or_len}
 use Rattle.std.proofs.lemmas.Bool.{cases_Bool, cond_both, cond-true, and_parts, not-false}
 use Rattle.std.proofs.lemmas.List.Sums.{fold_push}
@@ -82,8 +82,7 @@ below_most n many h l = omega (arith, h, l)
 -- ---- the entry
 
 -- what is known of an entry that stands in a log which follows from its journal
-module _ (j : List Row) (log : List Entry) (kept : List Reply) (h : IsLogged j log kept) (e : Entry) (found : find (has_id e.id) log ≡ Some e) (m : Made) (version : m.version ≡ e.version) (slots : List ℕ)
-    (few : e.answer_version < 18446744073709551615) where
+module _ (j : List Row) (log : List Entry) (kept : List Reply) (h : IsLogged j log kept) (e : Entry) (found : find (has_id e.id) log ≡ Some e) (m : Made) (version : m.version ≡ e.version) (slots : List ℕ) where
   abbrev answer : AnsweredRow
   answer = record { id = e.id; origin = e.origin; answer_version = raised e.answer_version; version = e.version; response = m.trace.response; live = false }
 
@@ -119,8 +118,8 @@ module _ (j : List Row) (log : List Entry) (kept : List Reply) (h : IsLogged j l
   abbrev rows : List Row
   rows = Answered (record { id = e.id; origin = e.origin; answer_version = raised e.answer_version; version = e.version; response = m.trace.response; live = false }) ∷ []
 
-  new_may : MayCome j rows
-  new_may = record {
+  new_may : e.answer_version < 18446744073709551615 → MayCome j rows
+  new_may few = record {
     takes = (now_is.version, tt);
     asks = (tt, tt);
     answers = (
@@ -164,14 +163,14 @@ module _ (j : List Row) (log : List Entry) (kept : List Reply) (h : IsLogged j l
       subst (λ o. IsSomeAnd o (IsReply (j ++ rows) c n (remade e m slots))) (sym (change_own e.id (with_answer (raised e.answer_version) e.version since) (λ p. refl) kept))
       (new_reply c n since is (reply e.id kept) r)
 
-  pub answered_anew : (since : ℕ) → is_new_answer e.made m ≡ true
+  pub answered_anew : (since : ℕ) → is_new_answer e.made m ≡ true → e.answer_version < 18446744073709551615
       → IsLogged (j ++ rows) (with_entry (remade e m slots) log) (at_entry e.id (with_answer (raised e.answer_version) e.version since) kept)
-  answered_anew since is =
+  answered_anew since is few =
       let f = with_answer (raised e.answer_version) e.version since in
       let log' = with_entry (remade e m slots) log in
       logged_one j rows log log' kept (at_entry e.id f kept) (remade e m slots)
       (record {
-        may = new_may;
+        may = new_may few;
         only = (refl, tt);
         whole = whole;
         count = length-set log (position_or_len (has_id e.id) log) (remade e m slots) ∙ h.asked.count ∙ sym (fold_push count_step 0 j (Answered answer));
@@ -254,38 +253,50 @@ stands_found log x s apart =
     subst (λ l. find (has_id (x.entry).id) l ≡ Some x.entry) (sym s.is)
     (found_behind (has_id (x.entry).id) s.before x.entry s.rest (front_id s.before x.entry s.rest (subst IsDistinct s.is apart)) (eq-eqb (x.entry).id (x.entry).id refl))
 
-module _ (s : Kept) (h : IsLogged s.journal s.entries s.replies) (few : length s.journal < 18446744073709551615) where
-  stepped_logged : (e : Entry) (m : Made) → find (has_id e.id) s.entries ≡ Some e → m.version ≡ e.version → LeavesLogged (stepped s e m)
-  stepped_logged e m found version =
+-- a journal has fewer rows than a number of 64 bits counts
+abbrev pub IsFew : Kept → Type 0
+IsFew s = length s.journal < 2 ^ 64
+
+module _ (s : Kept) (h : IsLogged s.journal s.entries s.replies) where
+  small : (e : Entry) (m : Made) → is_new_answer e.made m ≡ true → e.answer_version ≤ length s.journal → length (s.journal ++ (sent_rows s e m ++ answer_rows e m)) < 2 ^ 64
+      → e.answer_version < 18446744073709551615
+  small e m is most few =
+      let one : length (answer_rows e m) ≡ 1 = ap (λ b. length (cond b (Answered (record { id = e.id; origin = e.origin; answer_version = raised e.answer_version; version = e.version; response = m.trace.response; live = false }) ∷ []) [])) is in
+      let whole = length-append s.journal (sent_rows s e m ++ answer_rows e m) in
+      let behind = length-append (sent_rows s e m) (answer_rows e m) in
+      omega (arith, most, few, one, whole, behind)
+
+  -- what it leaves where the answer is a new one, and where it isn't
+  abbrev outcome : Entry → Made → Bool → Type 0
+  outcome e m b =
+      IsLogged ((s.journal ++ sent_rows s e m)
+      ++ cond b (Answered (record { id = e.id; origin = e.origin; answer_version = raised e.answer_version; version = e.version; response = m.trace.response; live = false }) ∷ []) [])
+      (with_entry (remade e m (new_numbers s e m)) s.entries)
+      (cond b (at_entry e.id (with_answer (raised e.answer_version) e.version (length s.journal + length (sent_rows s e m))) s.replies) s.replies)
+
+  either : (e : Entry) (m : Made) (b : Bool) → is_new_answer e.made m ≡ b → IsLogged (s.journal ++ sent_rows s e m) s.entries s.replies → (is_new_answer e.made m ≡ true → e.answer_version < 18446744073709551615)
+      → find (has_id e.id) s.entries ≡ Some e → m.version ≡ e.version
+      → IsLogged ((s.journal ++ sent_rows s e m) ++ answer_rows e m) (with_entry (remade e m (new_numbers s e m)) s.entries) (answered_replies s e m)
+  either e m true is before few found version =
+      subst (outcome e m) (sym is)
+      (answered_anew (s.journal ++ sent_rows s e m) s.entries s.replies before e found m version (new_numbers s e m) (length s.journal + length (sent_rows s e m)) is (few is))
+  either e m false is before few found version =
+      subst (outcome e m) (sym is) (answered_as_before (s.journal ++ sent_rows s e m) s.entries s.replies before e found m version (new_numbers s e m) is)
+
+  stepped_logged : (e : Entry) (m : Made) → find (has_id e.id) s.entries ≡ Some e → m.version ≡ e.version → IsFew (stepped s e m).service → LeavesLogged (stepped s e m)
+  stepped_logged e m found version few =
       let sent = sent_rows s e m in
-      let slots = new_numbers s e m in
       let before = callers_logged s.journal sent s.entries s.replies (settling_callers s.registers e.slots (calls_of_made e.made) m.trace.calls (next_number s.registers)) h in
       let given = version_given s.journal e (found_all (HasAnswered s.journal) (has_id e.id) s.entries e h.answered.entries found) in
-      let most = few_answers s.journal h.answered.rows e.id in
-      let small : e.answer_version < 18446744073709551615 = omega (arith, given, most, few) in
-      subst (λ j. IsLogged j (with_entry (remade e m slots) s.entries) (answered_replies s e m)) (append_assoc s.journal sent (answer_rows e m))
-      (either e m (is_new_answer e.made m) refl before small found version)
-    where
-      outcome : (e : Entry) (m : Made) → Bool → Type 0
-      outcome e m b =
-          IsLogged ((s.journal ++ sent_rows s e m)
-          ++ cond b (Answered (record { id = e.id; origin = e.origin; answer_version = raised e.answer_version; version = e.version; response = m.trace.response; live = false }) ∷ []) [])
-          (with_entry (remade e m (new_numbers s e m)) s.entries)
-          (cond b (at_entry e.id (with_answer (raised e.answer_version) e.version (length s.journal + length (sent_rows s e m))) s.replies) s.replies)
+      let rows = few_answers s.journal h.answered.rows e.id in
+      let most : e.answer_version ≤ length s.journal = omega (arith, given, rows) in
+      subst (λ j. IsLogged j (with_entry (remade e m (new_numbers s e m)) s.entries) (answered_replies s e m)) (append_assoc s.journal sent (answer_rows e m))
+      (either e m (is_new_answer e.made m) refl before (λ is. small e m is most few) found version)
 
-      either : (e : Entry) (m : Made) (b : Bool) → is_new_answer e.made m ≡ b → IsLogged (s.journal ++ sent_rows s e m) s.entries s.replies → e.answer_version < 18446744073709551615
-          → find (has_id e.id) s.entries ≡ Some e → m.version ≡ e.version
-          → IsLogged ((s.journal ++ sent_rows s e m) ++ answer_rows e m) (with_entry (remade e m (new_numbers s e m)) s.entries) (answered_replies s e m)
-      either e m true is before small found version =
-          subst (outcome e m) (sym is)
-          (answered_anew (s.journal ++ sent_rows s e m) s.entries s.replies before e found m version (new_numbers s e m) small (length s.journal + length (sent_rows s e m)) is)
-      either e m false is before small found version =
-          subst (outcome e m) (sym is) (answered_as_before (s.journal ++ sent_rows s e m) s.entries s.replies before e found m version (new_numbers s e m) small is)
+  step_by_logged : (o : Option Stale) → stale_in (answers s) [] s.entries ≡ o → IsFew (step_by s o).service → LeavesLogged (step_by s o)
+  step_by_logged None is few = h
+  step_by_logged (Some x) is few =
+      stepped_logged x.entry (new_record s x.rows x.entry) (stands_found s.entries x (stale_stands (answers s) [] s.entries x is) h.asked.distinct) refl few
 
-  step_by_logged : (o : Option Stale) → stale_in (answers s) [] s.entries ≡ o → LeavesLogged (step_by s o)
-  step_by_logged None is = h
-  step_by_logged (Some x) is =
-      stepped_logged x.entry (new_record s x.rows x.entry) (stands_found s.entries x (stale_stands (answers s) [] s.entries x is) h.asked.distinct) refl
-
-  pub step_logged : LeavesLogged (step_event s)
-  step_logged = step_by_logged (stale_in (answers s) [] s.entries) refl
+  pub step_logged : IsFew (step_event s).service → LeavesLogged (step_event s)
+  step_logged few = step_by_logged (stale_in (answers s) [] s.entries) refl few

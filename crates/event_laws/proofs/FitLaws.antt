@@ -89,17 +89,17 @@ abandon_fits s id f few =
     }
 
 -- a repair step
-pub step_fits : (s : Kept) → Fits s → length s.journal < 18446744073709551615 → IsFew (step_event s).service → Fits (step_event s).service
-step_fits s f less few =
+pub step_fits : (s : Kept) → Fits s → IsFew (step_event s).service → Fits (step_event s).service
+step_fits s f few =
     let calls = step_keeps s f few in
     record {
       sent = calls.sent;
       seen = calls.seen;
-      taken = step_keeps_taken s f less;
-      asked = step_keeps_asked s f less;
-      runs = step_keeps_runs s f less;
-      answered = step_keeps_answered s f less;
-      replies = step_keeps_replies s f less;
+      taken = step_keeps_taken s f few;
+      asked = step_keeps_asked s f few;
+      runs = step_keeps_runs s f few;
+      answered = step_keeps_answered s f few;
+      replies = step_keeps_replies s f few;
       places = calls.places;
       flights = calls.flights;
       orders = calls.orders;
