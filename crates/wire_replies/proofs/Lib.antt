@@ -1,2 +1,3 @@
 mod Accepted
+mod KnownKinds
 mod RoundTrip

@@ -1,5 +1,5 @@
 // Replies, read.
-ghost use Rattle.std.specs.Prelude.{◌≡◌, false};
+ghost use Rattle.std.specs.Prelude.{◌≡◌, false, IsErrOf};
 ghost use Rattle.wire_fields.specs.Fits.{lacks_memory};
 ghost use Rattle.wire_replies.specs.Reading.{replied, reply_of};
 
@@ -35,7 +35,8 @@ fn read_kind(
 /// What `peer`, which seals with this secret, replies to what the service `me` asked, or the first refusal: of the
 /// header fields in the order of the table, of how they fit, of the seal. A reply with `Aire-Refused` is a refusal,
 /// whatever was asked. The status of an acknowledgement, a confirmation or a refusal and the body of any of them aren't looked at, but
-/// for the seal. `NoMemory` may come in place of any.
+/// for the seal. `NoMemory` may come in place of any, and `UnknownKind`
+/// never comes.
 pub fn read_reply(
     alloc: Global,
     me: &Name,
@@ -44,8 +45,9 @@ pub fn read_reply(
     asked: &Asking,
     response: &WireResponse,
 ) -> Result<Outgoing, WireRefused>
-    ensures { lacks_memory result ≡ false
+    ensures reply { lacks_memory result ≡ false
         → result ≡ replied me.now peer.now secret.now asked.now response.now }
+    ensures known { ¬ (IsErrOf result WireRefused.UnknownKind) }
 {
     let kind = reply_kind(*asked, &response.head);
     read_kind(alloc, me, peer, secret, kind, response)
