@@ -1,9 +1,10 @@
 -- A flight is committed with what its last run did, and the committed entry isn't stale.
-use Rattle.std.proofs.Common.{◌≡◌, ℕ, zero, suc, ◌+◌, ◌<◌, ◌≤◌, List, [], ◌∷◌, ◌++◌, Option, Some, None, map, take, drop, length, refl, sym, ap, ◌∙◌, arith, take-append-drop, eq-eqb}
+use Rattle.std.proofs.Common.{◌≡◌, ℕ, zero, suc, ◌+◌, ◌<◌, ◌≤◌, List, [], ◌∷◌, ◌++◌, Option, Some, None, map, take, drop, length, refl, sym, ap, ◌∙◌, arith, take-append-drop, eq-eqb, append-nil}
 use Rattle.lang_core.specs.declared.trace.CallMade.{CallMade}
 use Rattle.lang_core.specs.declared.trace.Trace.{Trace}
 use Rattle.handler_run.specs.declared.state.Ran.TheVariants.{Done}
-use Rattle.handler_run.proofs.RunLaws.{takes_done, counts_done, reads_done}
+use Rattle.handler_run.specs.Handlers.{run_of}
+use Rattle.handler_run.proofs.RunLaws.{takes_done, counts_done, reads_done, same_done}
 use Rattle.local_repair.specs.Current.{IsCurrent, rows_of}
 use Rattle.local_repair.specs.Steps.{answer_or_tentative}
 use Rattle.call_registers.specs.Registers.{register, consumed_in}
@@ -78,3 +79,14 @@ committed_current s f t h few done = record {
   reads = reads_done s.setting f.request f.inputs (map (answers s) f.numbers) (rows_of s.entries) t done;
   answers = commit_answers s f t h few done;
 }
+
+-- and its record is the run on these rows, with what its calls consume
+pub committed_ran : (s : Kept) (f : Flight) (t : Trace) → FitsCalls (flying s f) → IsFew (committed s f t).service → flight_run s f ≡ Done t
+    → run_of s.setting f.request f.inputs (map (answers (committed s f t).service) (take (length t.calls) f.numbers)) (rows_of s.entries) ≡ Done t
+committed_ran s f t h few done =
+    let given = map (answers s) f.numbers in
+    let rows = rows_of s.entries in
+    let gives = reads_done s.setting f.request f.inputs given rows t done in
+    let again = same_done s.setting f.request f.inputs given rows t done rows gives [] in
+    let answers_are = append-nil t.answers ∙ commit_answers s f t h few done in
+    ap (λ xs. run_of s.setting f.request f.inputs xs rows) (sym answers_are) ∙ again

@@ -115,13 +115,13 @@ goes_call s (Some d) c go never e h = (let P : CallMade → Type 0 = λ x. Goes 
     call_is : (a b : CallMade) → Some a ≡ Some b → a ≡ b
     call_is a b e = cc
 
-goes_named_unsent : (s : Kept) (f : Flight) (c : CallMade) → Goes (flying s f) (flying (named_unsent s c) (with_slot (next_number s.registers) c f))
+pub goes_named_unsent : (s : Kept) (f : Flight) (c : CallMade) → Goes (flying s f) (flying (named_unsent s c) (with_slot (next_number s.registers) c f))
 goes_named_unsent s f c =
     let g = with_slot (next_number s.registers) c f in
     let mid = flying (noted (named (next_number s.registers) c ∷ []) s) g in
     goes_then (flying s f) mid (flying (named_unsent s c) g) (goes_named s f c) (goes_untold mid (next_number s.registers) Changes)
 
-goes_changed_unsent : (s : Kept) (f : Flight) (k : ℕ) (c : CallMade) → k < length f.calls
+pub goes_changed_unsent : (s : Kept) (f : Flight) (k : ℕ) (c : CallMade) → k < length f.calls
     → Goes (flying s f) (flying (changed_unsent s f k c) (with_change k (next_number s.registers) c f))
 goes_changed_unsent s f k c within =
     let g = with_change k (next_number s.registers) c f in

@@ -41,7 +41,7 @@ use Rattle.call_laws.proofs.GoingLaws.{goes_on_goes}
 -- ---- an arrival
 
 -- a flight that begins, of an origin that none has
-begins : (s : Kept) (o : Origin) (q : Request) (i : Inputs) → is_in_flight o s ≡ false → last_taken_of o s.journal ≡ None → Goes s (flying s (new_flight s o q i))
+pub begins : (s : Kept) (o : Origin) (q : Request) (i : Inputs) → is_in_flight o s ≡ false → last_taken_of o s.journal ≡ None → Goes s (flying s (new_flight s o q i))
 begins s o q i apart free = record {
   longer = omega arith;
   keeps = λ few h. (
@@ -70,7 +70,7 @@ arrives_goes s o q i None apart free =
     let f = new_flight s o q i in
     goes_then s (flying s f) (goes_on s f).service (begins s o q i apart free) (goes_on_goes s f)
 
-outside_apart : (fs : List Flight) → list_any (λ (f : Flight). same_call_origin Outside f.origin) fs ≡ false
+pub outside_apart : (fs : List Flight) → list_any (λ (f : Flight). same_call_origin Outside f.origin) fs ≡ false
 outside_apart [] = refl
 outside_apart (f ∷ fs) = outside_apart fs
 
@@ -107,7 +107,7 @@ is_asked : (c : List ℕ) (n : ℕ) (j : List Row) → IsAsked c n j
 is_asked c n j = go_on (λ _ _. Unit {0}) (IsAsked c n)
     (λ before row _ h. rw (fold_push (taken_step c n) None before row) (asked_stays c n before row h)) j [] (all_follow j []) tt
 
-has_entry : (s : Kept) (c : List ℕ) (n : ℕ) (t : TookRow) (q : Request) → Fits s → last_taken c n s.journal ≡ Some t → t.desired ≡ Some q
+pub has_entry : (s : Kept) (c : List ℕ) (n : ℕ) (t : TookRow) (q : Request) → Fits s → last_taken c n s.journal ≡ Some t → t.desired ≡ Some q
     → find_call (Call c n) s.entries ≡ None → ⊥
 has_entry s c n t q f last asks none =
     let P : Option TookRow → Type 0 = λ o. IfSome o (λ t. is_some t.desired ≡ true → list_any (takes_request c n) s.journal ≡ true) in
@@ -145,7 +145,7 @@ arrive_goes s (Call c n) q i f =
 -- ---- a flight that is there
 
 -- the flight of a number is put in its own place
-flies_known : (s : Kept) (id : ℕ) (f : Flight) → flight_of id s ≡ Some f → Goes s (flying s f)
+pub flies_known : (s : Kept) (id : ℕ) (f : Flight) → flight_of id s ≡ Some f → Goes s (flying s f)
 flies_known s id f found = record {
   longer = omega arith;
   keeps = λ few h. (
@@ -157,11 +157,11 @@ flies_known s id f found = record {
 -- ---- a call's answer
 
 -- the register of the call that is answered
-record IsAnswered (s : Kept) (a : AnswerMessage) : Type 0 where
+pub record IsAnswered (s : Kept) (a : AnswerMessage) : Type 0 where
   pub made : Register
   pub found : register a.number s.registers ≡ Some made
 
-answered_by : (s : Kept) (a : AnswerMessage) (o : Option Register) → register a.number s.registers ≡ o → answers_register a o ≡ true → IsAnswered s a
+pub answered_by : (s : Kept) (a : AnswerMessage) (o : Option Register) → register a.number s.registers ≡ o → answers_register a o ≡ true → IsAnswered s a
 answered_by s a None is h = cc
 answered_by s a (Some r) is h = record { made = r; found = is }
 
@@ -170,7 +170,7 @@ heard_by_goes : (s : Kept) (a : AnswerMessage) (r : Register) (b : Bool) → reg
 heard_by_goes s a r true found is = live_new s a.number a.answer_version a.version ((record { number = a.number; answer_version = a.answer_version; version = a.version; response = a.response; how = Live; who = a.who; rule = 0 })) r refl refl found is
 heard_by_goes s a r false found is = live_old s a.number a.answer_version a.version r found is
 
-heard_goes : (s : Kept) (a : AnswerMessage) (r : Register) → register a.number s.registers ≡ Some r → Goes s (noted (heard_rows s a) s)
+pub heard_goes : (s : Kept) (a : AnswerMessage) (r : Register) → register a.number s.registers ≡ Some r → Goes s (noted (heard_rows s a) s)
 heard_goes s a r found =
     let P : Option Register → Type 0 = λ o. Goes s (noted (SawAck (record { number = a.number; version = a.version; how = WithAnswer a.answer_version }) ∷ (if is_new_to a o then seen_live a ∷ [] else [])) s) in
     subst P (sym found) (heard_by_goes s a r (is_newer r.answer a.answer_version) found refl)

@@ -14,7 +14,7 @@ use Rattle.call_registers.specs.declared.register.Why.{Why}
 use Rattle.call_registers.proofs.ChangeLemmas.{there_within}
 use Rattle.flights.specs.declared.flight.Flight.{Flight}
 use Rattle.service_meaning.specs.Calls.{version_of, first_sent, put_sent, after_rows, named}
-use Rattle.service_meaning.specs.Fits.{Fits, Place, place_of_entry, place_of_flight, call_in, wanted_call, count, stands, WantsItsCalls}
+use Rattle.service_meaning.specs.Fits.{Fits, Place, place_of_entry, place_of_flight, call_in, wanted_call, count, stands, WantsItsCalls, FitsPlaces, places}
 use Rattle.service_meaning.specs.Flying.{deletion}
 use Rattle.service_meaning.specs.State.{Kept, has_flight, flight_of}
 use Rattle.entry_laws.proofs.OwnLemmas.{numbered_changed, length_changed, consumed_changed, consumed_other, consumed_named, next_free, numbered_named, length_named, IsNone, AreApart, AreWithin, within_more, within_push, within_set, above_none, apart_push, apart_set}
@@ -203,20 +203,24 @@ within_wanted rs (n ∷ ns) (c ∷ cs) h e =
     let most = w.1 in
     (omega (arith, most), within_wanted rs ns cs h (tail_is (wanted_call rs) n (Some c) ns (map Some cs) e))
 
-pub aloft_of : (s : Kept) (id : ℕ) (f : Flight) → Fits s → flight_of id s ≡ Some f → IsAloft s.registers f.numbers f.calls
-aloft_of s id f h found =
+pub aloft_by : (s : Kept) (id : ℕ) (f : Flight) → IsNumbered s.registers → FitsPlaces s.registers (places s) → flight_of id s ≡ Some f
+    → IsAloft s.registers f.numbers f.calls
+aloft_by s id f numbered fits found =
     let front = map place_of_entry s.entries in
     let wants : WantsItsCalls s.registers (place_of_flight f) =
-    found_place (WantsItsCalls s.registers) (has_flight id) s.flights f (all_behind (WantsItsCalls s.registers) front (map place_of_flight s.flights) h.places.calls) found in
+    found_place (WantsItsCalls s.registers) (has_flight id) s.flights f (all_behind (WantsItsCalls s.registers) front (map place_of_flight s.flights) fits.calls) found in
     record {
-      numbered = h.sent.numbered;
+      numbered = numbered;
       apart = apart_of f.numbers (λ n. (
-          let once = h.places.once n in
+          let once = fits.once n in
           let most = one_most (wanted_call s.registers n) in
           let more = stands_more n front (map place_of_flight s.flights) in
           let mine = stands_found n (has_flight id) s.flights f found in
           omega (arith, once, most, more, mine)
           ));
-      within = within_wanted s.registers f.numbers f.calls h.sent.numbered wants;
+      within = within_wanted s.registers f.numbers f.calls numbered wants;
       many = sym (length-map f.numbers (wanted_call s.registers)) ∙ ap length wants ∙ length-map f.calls Some;
     }
+
+pub aloft_of : (s : Kept) (id : ℕ) (f : Flight) → Fits s → flight_of id s ≡ Some f → IsAloft s.registers f.numbers f.calls
+aloft_of s id f h found = aloft_by s id f h.sent.numbered h.places found

@@ -137,10 +137,10 @@ pub record Completes (s : Kept) (f : Flight) (k : ℕ) : Type 0 where
   pub follows : Follows (runs_of s f) k (given s f) f.calls
   pub runs : AllRuns s.setting s.entries
 
-grows : (s : Kept) (f : Flight) → IsGrowing (runs_of s f)
+pub grows : (s : Kept) (f : Flight) → IsGrowing (runs_of s f)
 grows s f = growing s.setting f.request f.inputs (rows_of s.entries)
 
-name_completes : (s : Kept) (f : Flight) (k : ℕ) (slot : ℕ) (made : List CallMade) (call : CallMade) → flight_run s f ≡ Wants slot made call
+pub name_completes : (s : Kept) (f : Flight) (k : ℕ) (slot : ℕ) (made : List CallMade) (call : CallMade) → flight_run s f ≡ Wants slot made call
     → first_other f.calls (calls_in (flight_run s f)) ≡ None → Completes s f k → Completes (named_unsent s call) (with_slot (next_number s.registers) call f) (k + 1)
 name_completes s f k slot made call is none c = record {
   aloft = named_aloft s f call c.aloft;
@@ -149,7 +149,7 @@ name_completes s f k slot made call is none c = record {
   runs = c.runs;
 }
 
-change_completes : (s : Kept) (f : Flight) (k : ℕ) (slot : ℕ) (call : CallMade) → first_other f.calls (calls_in (flight_run s f)) ≡ Some slot → slice_get (calls_in (flight_run s f)) slot ≡ Some call
+pub change_completes : (s : Kept) (f : Flight) (k : ℕ) (slot : ℕ) (call : CallMade) → first_other f.calls (calls_in (flight_run s f)) ≡ Some slot → slice_get (calls_in (flight_run s f)) slot ≡ Some call
     → Completes s f k → Completes (changed_unsent s f slot call) (with_change slot (next_number s.registers) call f) (k + 1)
 change_completes s f k slot call first at c = record {
   aloft = changed_aloft s f slot call c.aloft;
