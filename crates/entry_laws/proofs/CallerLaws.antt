@@ -1,5 +1,5 @@
 -- Rows on a service's own calls say nothing of its entries.
-use Rattle.std.proofs.Common.{◌≡◌, ℕ, ◌+◌, Bool, true, false, ◌||◌, List, [], ◌∷◌, ◌++◌, Option, None, find, length, All, refl, ◌∙◌}
+use Rattle.std.proofs.Common.{◌≡◌, ℕ, ◌+◌, Bool, false, List, [], ◌∷◌, ◌++◌, Option, None, find, length, All, refl, ◌∙◌}
 use Rattle.std.specs.Cmp.{nat_eq_equiv}
 use Rattle.std.specs.List.{AllByRecursion as Each, list_any}
 use Rattle.std.proofs.lemmas.List.Elements.{All-nil, All-cons, All-weaker}
@@ -20,7 +20,7 @@ use Rattle.entry_laws.proofs.FreshLemmas.{unfound}
 use Rattle.entry_laws.proofs.LogLemmas.{IsOther}
 use Rattle.entry_laws.proofs.PartLemmas.{IsLogged, MayCome, logged_none}
 use Rattle.entry_laws.proofs.RowLemmas.{IsOf, SaysSame, says_same, word_same}
-use Rattle.entry_laws.proofs.SearchLemmas.{none_first}
+use Rattle.entry_laws.proofs.SearchLemmas.{none_first, or_none}
 
 -- a row on an own call
 abbrev pub IsCallerRow : Row → Type 0
@@ -76,10 +76,6 @@ takes_caller c n row h = absurd h
 any_caller : (c : List ℕ) (n : ℕ) (rows : List Row) → Each IsCallerRow rows → list_any (takes_request c n) rows ≡ false
 any_caller c n [] h = refl
 any_caller c n (row ∷ rows) h = rw (takes_caller c n row h.0) (any_caller c n rows h.1)
-
-or_false : (b c : Bool) → c ≡ false → (b || c) ≡ b
-or_false true c h = refl
-or_false false c h = h
 
 each_after : (Follows : List Row → Row → Type 0) → ((before : List Row) (row : Row) → IsCallerRow row → Follows before row) → (rows before : List Row)
     → Each IsCallerRow rows → EachAfter Follows before rows
@@ -153,7 +149,7 @@ callers_logged j rows log kept callers h = logged_none j rows log kept
       may = callers_may j rows callers;
       count = word_same IsCallerRow count_step count_caller 0 j rows callers;
       made = λ id. word_same IsCallerRow (asked_step id) (made_caller id) None j rows callers;
-      calls = λ c n. list_any-append (takes_request c n) j rows ∙ or_false (list_any (takes_request c n) j) (list_any (takes_request c n) rows) (any_caller c n rows callers);
+      calls = λ c n. list_any-append (takes_request c n) j rows ∙ or_none (list_any (takes_request c n) j) (list_any (takes_request c n) rows) (any_caller c n rows callers);
       same = all_same (length log + 1) Outside j rows log (each_weaker IsCallerRow (IsOf (length log + 1) Outside) (caller_of (length log + 1) Outside) rows callers)
           (unfound j log kept h) refl;
     })

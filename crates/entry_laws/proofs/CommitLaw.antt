@@ -1,5 +1,5 @@
 -- A commit: an entry comes last, with its record, its first answer and, where a call asked for it, its reply.
-use Rattle.std.proofs.Common.{◌≡◌, ℕ, ◌+◌, true, false, cond, List, [], ◌∷◌, ◌++◌, Option, Some, None, IsSome, IsSomeAnd, IfSome, find, length, option_map, refl, sym, ap, ◌∙◌, subst, nat_eq, arith, append_assoc, append-nil, length-append, eq-eqb, drop}
+use Rattle.std.proofs.Common.{◌≡◌, ℕ, ◌+◌, true, false, cond, List, [], ◌∷◌, ◌++◌, Some, None, IsSome, find, length, option_map, refl, sym, ap, ◌∙◌, subst, nat_eq, arith, append_assoc, append-nil, length-append, eq-eqb, drop}
 use Rattle.std.specs.List.{AllByRecursion as Each, list_any}
 use Rattle.std.proofs.lemmas.Bool.{cond-true, or_right}
 use Rattle.std.proofs.lemmas.List.Elements.{All-push}
@@ -34,6 +34,7 @@ use Rattle.entry_laws.proofs.JournalLemmas.{IsUntaken}
 use Rattle.entry_laws.proofs.LogLemmas.{itself, with_push}
 use Rattle.entry_laws.proofs.PartLemmas.{IsLogged, MayCome, logged_one}
 use Rattle.entry_laws.proofs.ReplyLemmas.{push_own, push_other, above_all}
+use Rattle.entry_laws.proofs.SearchLemmas.{some_and, if_some}
 
 -- the rows of a commit behind those of the calls too many
 abbrev pub commit_rows : Kept → Flight → Trace → List Row
@@ -62,14 +63,6 @@ mark_live id c n j a same live =
 pub answered_here : (id : ℕ) (j : List Row) (a : AnsweredRow) → a.id ≡ id → last_answered id (j ++ Answered a ∷ []) ≡ Some a
 answered_here id j a same =
     fold_push (answered_step id) None j (Answered a) ∙ cond-true (nat_eq a.id id) (Some a) (last_answered id j) (eq-eqb a.id id same)
-
-pub some_and : {X : Type 0} (o : Option X) (x : X) (P : X → Type 0) → o ≡ Some x → P x → IsSomeAnd o P
-some_and None x P e p = cc
-some_and (Some y) x P e p = (let is : y ≡ x = cc in subst P (sym is) p)
-
-pub if_some : {X : Type 0} (o : Option X) (x : X) (P : X → Type 0) → o ≡ Some x → P x → IfSome o P
-if_some None x P e p = tt
-if_some (Some y) x P e p = (let is : y ≡ x = cc in subst P (sym is) p)
 
 -- ---- a request from outside
 

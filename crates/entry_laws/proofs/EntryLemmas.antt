@@ -1,5 +1,5 @@
 -- An entry of a log: what follows from the journal of it.
-use Rattle.std.proofs.Common.{◌≡◌, ℕ, Bool, true, false, ◌&&◌, ◌||◌, not, List, [], ◌∷◌, ◌++◌, Option, Some, None, IsSomeAnd, find, is_some, option_map, refl, sym, ap, ◌∙◌, subst, eqb-true, eq-eqb}
+use Rattle.std.proofs.Common.{◌≡◌, ℕ, Bool, true, false, ◌&&◌, not, List, [], ◌∷◌, ◌++◌, Option, Some, None, IsSomeAnd, find, is_some, option_map, refl, sym, ap, ◌∙◌, subst, eqb-true, eq-eqb}
 use Rattle.std.specs.List.{list_any}
 use Rattle.std.proofs.lemmas.Bool.{or_left}
 use Rattle.std.proofs.lemmas.List.Folds.{list_any-append}
@@ -85,9 +85,6 @@ version_made v (Some m) (Some a) e first =
 pub version_given : (j : List Row) (e : Entry) → HasAnswered j e → e.answer_version ≡ given_version (last_answered e.id j)
 version_given j e h = version_made e.answer_version e.made (last_answered e.id j) h.answer h.first
 
-or_still : (a b : Bool) → a ≡ true → (a || b) ≡ true
-or_still a b h = or_left a b h
-
 pub found_itself : (log : List Entry) (id : ℕ) (e : Entry) → find (has_id id) log ≡ Some e → e.id ≡ id
 found_itself log id e found = eqb-true e.id id (splits (has_id id) log e found).passes
 
@@ -107,7 +104,7 @@ pub still_called : (j rows : List Row) (log : List Entry) (kept : List Reply) (e
 still_called j rows log kept e h found c n from =
     let there = found_call log e.id e c n found (ap (is_call c n) from ∙ itself c n) h.asked.distinct in
     list_any-append (takes_request c n) j rows
-    ∙ or_still (list_any (takes_request c n) j) (list_any (takes_request c n) rows) ((h.asked.calls c n).0 (ap is_some there))
+    ∙ or_left (list_any (takes_request c n) j) (list_any (takes_request c n) rows) ((h.asked.calls c n).0 (ap is_some there))
 
 pub and_always : (b : Bool) → b ≡ (b && not false)
 and_always true = refl

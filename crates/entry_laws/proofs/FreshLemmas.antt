@@ -14,7 +14,7 @@ use Rattle.service_meaning.specs.Fits.{made_as, asked_as}
 use Rattle.entry_laws.proofs.JournalLemmas.{not_made, made_within, not_struck, IsUntaken, not_asked_anew, no_answer, untaken}
 use Rattle.entry_laws.proofs.LogLemmas.{IsWith}
 use Rattle.entry_laws.proofs.PartLemmas.{IsLogged}
-use Rattle.entry_laws.proofs.SearchLemmas.{some_or_none, splits, found_all}
+use Rattle.entry_laws.proofs.SearchLemmas.{some_or_none, splits, found_all, some_none}
 
 none_mapped : {X Y Z : Type 0} (f : X → Z) (g : Y → Z) (o : Option X) (p : Option Y) → option_map f o ≡ option_map g p → p ≡ None → o ≡ None
 none_mapped f g None p e n = refl
@@ -25,10 +25,6 @@ some_mapped : {X Y Z : Type 0} (f : X → Z) (g : Y → Z) (o : Option X) (p : O
 some_mapped f g None p e some = cc
 some_mapped f g (Some x) None e some = cc
 some_mapped f g (Some x) (Some y) e some = refl
-
-no_both : {X : Type 0} (o : Option X) → IsSome o → o ≡ None → ⊥
-no_both None some none = cc
-no_both (Some x) some none = cc
 
 module _ (j : List Row) (log : List Entry) (kept : List Reply) (h : IsLogged j log kept) where
   pub unmade : asked (length log + 1) j ≡ None
@@ -51,7 +47,7 @@ module _ (j : List Row) (log : List Entry) (kept : List Reply) (h : IsLogged j l
     | inl none ↦ none
     | inr some ↦ (let there : IsSome (find (has_id (some.0).id) log) = found_all (λ (p : Reply). IsSome (find (has_id p.id) log)) (has_entry (length log + 1)) kept some.0 h.replies.others some.1 in
         let is : (some.0).id ≡ length log + 1 = eqb-true (some.0).id (length log + 1) (splits (has_entry (length log + 1)) kept some.0 some.1).passes in
-        absurd (no_both (find (has_id (some.0).id) log) there (ap (λ k. find (has_id k) log) is ∙ unfound)))
+        absurd (some_none (find (has_id (some.0).id) log) there (ap (λ k. find (has_id k) log) is ∙ unfound)))
   ]
 
   pub below_next : All (λ (p : Reply). p.id < length log + 1) kept

@@ -18,6 +18,7 @@ use Rattle.journal_rows.specs.declared.orders.OrderedRow.{OrderedRow}
 use Rattle.journal_rows.specs.declared.row.Row.{Row}
 use Rattle.journal_rows.specs.declared.row.Row.TheVariants.{Asked, Took, Answered, Ordered}
 use Rattle.service_meaning.specs.Fits.{EachAfter, AsksOn, AnswersOn, IsOrderOn, IsOrderAbout, takes_request}
+use Rattle.entry_laws.proofs.SearchLemmas.{some_none}
 
 -- what holds at the start, and is kept by each row that may follow, holds at the end
 go_on : (Follows : List Row → Row → Type 0) (Q : List Row → Type 0)
@@ -40,14 +41,14 @@ made_more : (o : Option AskedRow) (id many : ℕ) → IfSome o (λ _. id ≤ man
 made_more None id many h = tt
 made_more (Some a) id many h = omega (arith, h)
 
-if_some : {X : Type 0} (o : Option X) (P : Type 0) → P → IfSome o (λ _. P)
-if_some None P p = tt
-if_some (Some x) P p = p
+if_any : {X : Type 0} (o : Option X) (P : Type 0) → P → IfSome o (λ _. P)
+if_any None P p = tt
+if_any (Some x) P p = p
 
 made_stays : (before : List Row) (row : Row) → AsksOn before row → IsMade before → (id : ℕ)
     → IfSome (asked_step id (asked id before) row) (λ _. id ≤ count_step (asked_count before) row)
 made_stays before (Asked a) may h id = elim (cases_Bool (nat_eq a.id id)) [
-  | inl is ↦ rw is (let same = eqb-true a.id id is in if_some _ (id ≤ asked_count before + 1) (omega (arith, same, may)))
+  | inl is ↦ rw is (let same = eqb-true a.id id is in if_any _ (id ≤ asked_count before + 1) (omega (arith, same, may)))
   | inr differs ↦ rw differs (made_more (asked id before) id (asked_count before) (h id))
 ]
 made_stays before row may h id = h id
@@ -84,10 +85,6 @@ earlier_made id before row h = here row (rw (fold_push (asked_step id) None befo
     here row h = h
 
 -- ---- nothing was ordered about an entry that wasn't made
-
-some_none : {X : Type 0} (o : Option X) → IsSome o → o ≡ None → ⊥
-some_none None h e = cc
-some_none (Some x) h e = cc
 
 and_none : {X : Type 0} (o : Option X) (P : X → Type 0) → IsSomeAnd o P → o ≡ None → ⊥
 and_none None P h e = h

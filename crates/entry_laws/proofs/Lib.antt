@@ -2,6 +2,7 @@ pub mod SearchLemmas
 pub mod LogLemmas
 pub mod RowLemmas
 pub mod JournalLemmas
+pub mod KeyLemmas
 pub mod ReplyLemmas
 pub mod PartLemmas
 pub mod FreshLemmas

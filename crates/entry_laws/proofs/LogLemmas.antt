@@ -1,6 +1,6 @@
 -- Logs that get an entry more, or another one in the place of one.
-use Rattle.std.proofs.Common.{◌≡◌, ℕ, Bool, true, false, List, [], ◌∷◌, ◌++◌, length, set, Some, None, find, insert, All, refl, sym, ap, ◌∙◌, subst, inl, inr, nat_eq, eqb-true, eq-eqb, ne_eqb, if◌then◌else◌}
-use Rattle.std.proofs.lemmas.Bool.{cases_Bool, and_parts, and_from}
+use Rattle.std.proofs.Common.{◌≡◌, ℕ, true, false, List, [], ◌∷◌, ◌++◌, length, set, Some, None, find, insert, All, refl, sym, ap, ◌∙◌, subst, inl, inr, nat_eq, eqb-true, eq-eqb, ne_eqb, if◌then◌else◌}
+use Rattle.std.proofs.lemmas.Bool.{cases_Bool, and_parts, and_from, both_ways, false_from_ne_true}
 use Rattle.std.specs.Cmp.Lexicographic.{nat_list_eq_equiv}
 use Rattle.std.proofs.lemmas.List.Edits.{insert_end}
 use Rattle.std.proofs.lemmas.List.Elements.{All-cons, All-nil}
@@ -36,28 +36,20 @@ pub behind_new : (xs : List Entry) (x : Entry) (ys : List Entry) → IsDistinct 
 behind_new [] x ys h = h.0
 behind_new (z ∷ xs) x ys h = behind_new xs x ys h.1
 
-differs : (b : Bool) → b ≡ true → b ≡ false → ⊥
-differs true t f = cc
-differs false t f = cc
-
 pub front_id : (xs : List Entry) (x : Entry) (ys : List Entry) → IsDistinct (xs ++ x ∷ ys) → find (has_id x.id) xs ≡ None
 front_id [] x ys h = refl
 front_id (z ∷ xs) x ys h =
-    let other : has_id x.id z ≡ false = ne_eqb z.id x.id (λ e. differs (nat_eq x.id z.id) (eq-eqb x.id z.id (sym e)) (none_mid (has_id z.id) xs x ys h.0.id)) in
+    let other : has_id x.id z ≡ false = ne_eqb z.id x.id (λ e. both_ways (nat_eq x.id z.id) (none_mid (has_id z.id) xs x ys h.0.id) (eq-eqb x.id z.id (sym e))) in
     rw other (front_id xs x ys h.1)
-
-not_first : (b : Bool) → (b ≡ true → ⊥) → b ≡ false
-not_first true h = absurd (h refl)
-not_first false h = refl
 
 front_call : (c : List ℕ) (n : ℕ) (xs : List Entry) (x : Entry) (ys : List Entry) → IsDistinct (xs ++ x ∷ ys) → has_origin c n x ≡ true
     → find (has_origin c n) xs ≡ None
 front_call c n [] x ys h is = refl
 front_call c n (z ∷ xs) x ys h is =
-    let other : has_origin c n z ≡ false = not_first (has_origin c n z) (λ t.
+    let other : has_origin c n z ≡ false = false_from_ne_true (has_origin c n z) (λ t.
     let from : z.origin ≡ Call c n = call_is c n z.origin t in
     let none : find (has_origin c n) (xs ++ x ∷ ys) ≡ None = subst (λ o. find_call o (xs ++ x ∷ ys) ≡ None) from h.0.origin in
-    differs (has_origin c n x) is (none_mid (has_origin c n) xs x ys none)) in
+    both_ways (has_origin c n x) (none_mid (has_origin c n) xs x ys none) is) in
     rw other (front_call c n xs x ys h.1 is)
 
 -- ---- a log with this entry: one more, or in place of the one of its number
@@ -158,13 +150,13 @@ clash x e log' id Outside is apart mine found other same = cc
 clash x e log' id (Call c n) is apart mine found other same =
     let this : Some x ≡ Some e = sym (mine c n (ap (is_call c n) is ∙ itself c n)) ∙ found_call log' id e c n found same apart in
     let one : x ≡ e = cc in
-    differs (nat_eq x.id e.id) (eq-eqb x.id e.id (ap (λ (v : Entry). v.id) one)) other
+    both_ways (nat_eq x.id e.id) other (eq-eqb x.id e.id (ap (λ (v : Entry). v.id) one))
 
 pub other_entry : (x : Entry) (log log' : List Entry) (id : ℕ) (e : Entry) → IsWith x log log' → find (has_id id) log' ≡ Some e → nat_eq x.id e.id ≡ false
     → IsOther x.id x.origin e.id e.origin
 other_entry x log log' id e w found other = record {
   number = other;
-  call = not_first (same_call_origin x.origin e.origin)
+  call = false_from_ne_true (same_call_origin x.origin e.origin)
       (λ t. clash x e log' id x.origin refl w.distinct (λ c n from. w.calls c n ∙ rw from refl) found other t);
 }
 

@@ -1,5 +1,5 @@
 -- Orders of operators keep how entries and replies follow from the journal.
-use Rattle.std.proofs.Common.{◌≡◌, ℕ, ◌+◌, Bool, true, false, not, ◌&&◌, ◌||◌, cond, List, [], ◌∷◌, ◌++◌, Option, Some, None, IsSome, IsSomeAnd, Result, Ok, find, insert, length, is_some, option_map, refl, sym, ap, ◌∙◌, subst, nat_eq, eq-eqb}
+use Rattle.std.proofs.Common.{◌≡◌, ℕ, ◌+◌, true, false, not, ◌&&◌, cond, List, [], ◌∷◌, ◌++◌, Option, Some, None, IsSome, IsSomeAnd, Result, Ok, find, insert, length, is_some, option_map, refl, sym, ap, ◌∙◌, subst, nat_eq, eq-eqb}
 use Rattle.std.specs.List.{list_any}
 use Rattle.std.specs.Option.{option_map_or}
 use Rattle.std.proofs.lemmas.Bool.{cond-true}
@@ -36,7 +36,6 @@ use Rattle.service_meaning.specs.State.{Kept, after, next_id, or_else}
 use Rattle.service_meaning.specs.declared.answers.Ordered.{Ordered}
 use Rattle.service_meaning.specs.declared.refusals.OrderRefused.{OrderRefused}
 use Rattle.entry_laws.proofs.CallerLaws.{all_same}
-use Rattle.entry_laws.proofs.CommitLaw.{if_some}
 use Rattle.entry_laws.proofs.EntryLemmas.{made_from, found_itself, still_called}
 use Rattle.entry_laws.proofs.FreshLemmas.{unmade, unfound, unanswered, unstruck, asks_as_made, unreplied, is_new, still_found}
 use Rattle.entry_laws.proofs.HoldLaw.{replies_changed}
@@ -44,7 +43,7 @@ use Rattle.entry_laws.proofs.LiveLaws.{LeavesLogged}
 use Rattle.entry_laws.proofs.LogLemmas.{IsWith, with_insert, with_changed}
 use Rattle.entry_laws.proofs.PartLemmas.{IsLogged, logged_none, logged_one, request_same}
 use Rattle.entry_laws.proofs.RowLemmas.{IsAboutEntry}
-use Rattle.entry_laws.proofs.SearchLemmas.{found_all, length_insert}
+use Rattle.entry_laws.proofs.SearchLemmas.{found_all, length_insert, if_some, or_none}
 
 -- ---- an order about an entry, which changes what is asked of it or strikes it
 
@@ -149,14 +148,10 @@ module _ (s : Kept) (h : IsLogged s.journal s.entries s.replies) where
         may = record { takes = (tt, tt); asks = (subst (λ a. IsOrderAbout a o.command s.journal) (sym is) tt, tt); answers = (tt, tt); confirms = (tt, tt) };
         count = fold_push count_step 0 s.journal (OrderedAs o);
         made = λ id. fold_push (asked_step id) None s.journal (OrderedAs o);
-        calls = λ c n. list_any-append (takes_request c n) s.journal (OrderedAs o ∷ []) ∙ or_none (list_any (takes_request c n) s.journal);
+        calls = λ c n. list_any-append (takes_request c n) s.journal (OrderedAs o ∷ []) ∙ or_none (list_any (takes_request c n) s.journal) (list_any (takes_request c n) (OrderedAs o ∷ [])) refl;
         same = all_same (length s.entries + 1) Outside s.journal (OrderedAs o ∷ []) s.entries (subst (IsAboutEntry (length s.entries + 1)) (sym is) tt, tt) (unfound s.journal s.entries s.replies h) refl;
       })
       h
-    where
-      or_none : (b : Bool) → (b || (false || false)) ≡ b
-      or_none true = refl
-      or_none false = refl
 
   retried : (j : List Row) (who : List ℕ) (name : PostName) → IsLogged j s.entries s.replies → IsLogged j (released_post who name s).entries (released_post who name s).replies
   retried j who (OfCall number) l = l

@@ -1,35 +1,25 @@
 -- A flight's numbers are its own: each is that of a register, and none stands twice; what they consume stays as another one changes.
-use Rattle.std.proofs.Common.{◌≡◌, ℕ, zero, suc, ◌+◌, ◌<◌, ◌≤◌, Bool, true, false, cond, List, [], ◌∷◌, ◌++◌, map, length, take, set, slice_get, Option, Some, None, IsSome, option_map, nat_eq, refl, sym, ap, ◌∙◌, subst, inl, inr, arith, eqb-true, eq-eqb, ne_eqb, length-append}
+use Rattle.std.proofs.Common.{◌≡◌, ℕ, zero, suc, ◌+◌, ◌<◌, ◌≤◌, Bool, true, false, cond, List, [], ◌∷◌, ◌++◌, map, length, take, set, slice_get, Option, Some, None, IsSome, option_map, nat_eq, refl, sym, ap, ◌∙◌, subst, inl, inr, arith, eqb-true, ne_eqb, length-append}
+use Rattle.std.specs.Cmp.{nat_eq_equiv}
 use Rattle.std.specs.Option.{option_or}
-use Rattle.std.proofs.lemmas.Bool.{cases_Bool, cond-true, cond-false}
+use Rattle.std.proofs.lemmas.Bool.{cases_Bool}
 use Rattle.std.proofs.lemmas.List.Folds.{find-append}
 use Rattle.lang_core.specs.declared.request.Request.{Request}
 use Rattle.lang_core.specs.declared.request.Response.{Response}
 use Rattle.call_registers.specs.Registers.{has_number, register, CountFrom, IsNumbered, consumed_in, consumed, first_register, next_number, with_call, at_number}
 use Rattle.call_registers.specs.declared.register.Register.{Register}
 use Rattle.call_registers.proofs.ChangeLemmas.{there_within, numbered_push}
+use Rattle.entry_laws.proofs.KeyLemmas.{change_own, change_other, length_change}
 use Rattle.entry_laws.proofs.SearchLemmas.{some_or_none}
 
 -- ---- a register changed
 
 module _ (n : ℕ) (f : Register → Register) (same : (r : Register) → (f r).number ≡ r.number) where
-  own_first : (r : Register) (rs : List Register) (b : Bool) → has_number n r ≡ b → register n (at_number n f rs) ≡ option_map f (register n rs)
-      → register n (cond b (f r ∷ rs) (r ∷ at_number n f rs)) ≡ option_map f (cond b (Some r) (register n rs))
-  own_first r rs true is more = cond-true (has_number n (f r)) (Some (f r)) (register n rs) (ap (λ k. nat_eq k n) (same r) ∙ is)
-  own_first r rs false is more = cond-false (has_number n r) (Some r) (register n (at_number n f rs)) is ∙ more
-
   pub at_own : (rs : List Register) → register n (at_number n f rs) ≡ option_map f (register n rs)
-  at_own [] = refl
-  at_own (r ∷ rs) = own_first r rs (has_number n r) refl (at_own rs)
+  at_own rs = change_own (λ (r : Register). r.number) n f same rs
 
   pub at_other : (k : ℕ) → nat_eq n k ≡ false → (rs : List Register) → register k (at_number n f rs) ≡ register k rs
-  at_other k h [] = refl
-  at_other k h (r ∷ rs) = elim (cases_Bool (has_number n r)) [
-    | inl is ↦ (let old : has_number k r ≡ false = ap (λ m. nat_eq m k) (eqb-true r.number n is) ∙ h in
-        let new : has_number k (f r) ≡ false = ap (λ m. nat_eq m k) (same r) ∙ old in
-        rw is (rw (new, old) refl))
-    | inr other ↦ rw other (ap (λ o. cond (has_number k r) (Some r) o) (at_other k h rs))
-  ]
+  at_other k h rs = change_other (λ (r : Register). r.number) n f same k h rs
 
   count_changed : (m : ℕ) (rs : List Register) → CountFrom m rs → CountFrom m (at_number n f rs)
   count_changed m [] h = tt
@@ -42,11 +32,7 @@ module _ (n : ℕ) (f : Register → Register) (same : (r : Register) → (f r).
   numbered_changed rs h = count_changed 1 rs h
 
   pub length_changed : (rs : List Register) → length (at_number n f rs) ≡ length rs
-  length_changed [] = refl
-  length_changed (r ∷ rs) = elim (cases_Bool (has_number n r)) [
-    | inl is ↦ rw is refl
-    | inr other ↦ rw other (ap suc (length_changed rs))
-  ]
+  length_changed rs = length_change (λ (r : Register). r.number) n f same rs
 
 -- ---- what a number consumes
 
@@ -138,11 +124,7 @@ none_set n (k ∷ ks) zero m h other = (other, h.1)
 none_set n (k ∷ ks) (suc i) m h other = (h.0, none_set n ks i m h.1 other)
 
 flip : (a b : ℕ) → nat_eq a b ≡ false → nat_eq b a ≡ false
-flip a b h = ne_eqb b a (λ e. both (nat_eq a b) h (eq-eqb a b (sym e)))
-  where
-    both : (b : Bool) → b ≡ false → b ≡ true → ⊥
-    both true h e = cc
-    both false h e = cc
+flip a b h = nat_eq_equiv.symm b a ∙ h
 
 pub apart_push : (ns : List ℕ) (n : ℕ) → IsNone n ns → AreApart ns → AreApart (ns ++ n ∷ [])
 apart_push [] n none h = (tt, tt)

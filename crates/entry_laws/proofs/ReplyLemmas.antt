@@ -1,10 +1,11 @@
 -- Replies that get one more, or one of which is changed.
-use Rattle.std.proofs.Common.{◌≡◌, ℕ, ◌<◌, Bool, true, false, cond, List, [], ◌∷◌, ◌++◌, Some, None, All, option_map, refl, sym, ap, ◌∙◌, subst, inl, inr, nat_eq, eqb-true}
-use Rattle.std.proofs.lemmas.Bool.{cases_Bool, cond-true, cond-false}
+use Rattle.std.proofs.Common.{◌≡◌, ℕ, ◌<◌, true, false, cond, List, [], ◌∷◌, ◌++◌, Some, None, All, option_map, refl, sym, ap, ◌∙◌, subst, inl, inr, nat_eq}
+use Rattle.std.proofs.lemmas.Bool.{cases_Bool}
 use Rattle.std.proofs.lemmas.List.Elements.{All-cons, All-head, All-tail}
 use Rattle.std.proofs.lemmas.List.Folds.{find-append}
 use Rattle.call_registers.specs.Replies.{has_entry, reply, IsAboveAll, IsBelowAll, IsRising, at_entry}
 use Rattle.call_registers.specs.declared.reply.Reply.{Reply}
+use Rattle.entry_laws.proofs.KeyLemmas.{change_own as change_own_at, change_other as change_other_at}
 
 -- ---- one more
 
@@ -23,23 +24,11 @@ above_all id (p ∷ ps) h =
 -- ---- one changed
 
 module _ (id : ℕ) (f : Reply → Reply) (same : (p : Reply) → (f p).id ≡ p.id) where
-  own_first : (p : Reply) (ps : List Reply) (b : Bool) → has_entry id p ≡ b → reply id (at_entry id f ps) ≡ option_map f (reply id ps)
-      → reply id (cond b (f p ∷ ps) (p ∷ at_entry id f ps)) ≡ option_map f (cond b (Some p) (reply id ps))
-  own_first p ps true is more = cond-true (has_entry id (f p)) (Some (f p)) (reply id ps) (ap (λ k. nat_eq k id) (same p) ∙ is)
-  own_first p ps false is more = cond-false (has_entry id p) (Some p) (reply id (at_entry id f ps)) is ∙ more
-
   pub change_own : (ps : List Reply) → reply id (at_entry id f ps) ≡ option_map f (reply id ps)
-  change_own [] = refl
-  change_own (p ∷ ps) = own_first p ps (has_entry id p) refl (change_own ps)
+  change_own ps = change_own_at (λ (p : Reply). p.id) id f same ps
 
   pub change_other : (k : ℕ) → nat_eq id k ≡ false → (ps : List Reply) → reply k (at_entry id f ps) ≡ reply k ps
-  change_other k h [] = refl
-  change_other k h (p ∷ ps) = elim (cases_Bool (has_entry id p)) [
-    | inl is ↦ (let old : has_entry k p ≡ false = ap (λ m. nat_eq m k) (eqb-true p.id id is) ∙ h in
-        let new : has_entry k (f p) ≡ false = ap (λ m. nat_eq m k) (same p) ∙ old in
-        rw is (rw (new, old) refl))
-    | inr other ↦ rw other (ap (λ o. cond (has_entry k p) (Some p) o) (change_other k h ps))
-  ]
+  change_other k h ps = change_other_at (λ (p : Reply). p.id) id f same k h ps
 
   below_change : (n : ℕ) (ps : List Reply) → IsBelowAll n ps → IsBelowAll n (at_entry id f ps)
   below_change n [] h = tt

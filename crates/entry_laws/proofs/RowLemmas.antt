@@ -1,5 +1,5 @@
 -- Rows that speak of one entry at most: what a journal says of all others stays.
-use Rattle.std.proofs.Common.{◌≡◌, ℕ, Bool, true, false, ◌&&◌, ◌||◌, List, [], ◌∷◌, ◌++◌, Option, None, fold, is_some, refl, sym, ap, ◌∙◌, subst, nat_eq, append_assoc, append-nil}
+use Rattle.std.proofs.Common.{◌≡◌, ℕ, Bool, false, ◌&&◌, List, [], ◌∷◌, ◌++◌, Option, None, fold, is_some, refl, sym, ap, ◌∙◌, subst, nat_eq, append_assoc, append-nil}
 use Rattle.std.specs.Cmp.{nat_eq_equiv}
 use Rattle.std.specs.Cmp.Lexicographic.{nat_list_eq_equiv}
 use Rattle.std.specs.List.{AllByRecursion as Each, list_any}
@@ -24,6 +24,7 @@ use Rattle.journal_rows.specs.declared.words.Mark.TheVariants.{Unsettled}
 use Rattle.service_meaning.specs.Fits.{EachAfter, takes_request}
 use Rattle.service_meaning.specs.State.{same_call_origin}
 use Rattle.entry_laws.proofs.LogLemmas.{IsOther}
+use Rattle.entry_laws.proofs.SearchLemmas.{or_none}
 
 -- ---- rows that may stand after those before them
 
@@ -122,10 +123,6 @@ word_same P step same start journal rows h =
 any_none : (P : Row → Type 0) (test : Row → Bool) → ((row : Row) → P row → test row ≡ false) → (rows : List Row) → Each P rows → list_any test rows ≡ false
 any_none P test none [] h = refl
 any_none P test none (row ∷ rows) h = rw (none row h.0) (any_none P test none rows h.1)
-
-or_none : (a b : Bool) → b ≡ false → (a || b) ≡ a
-or_none true b h = refl
-or_none false b h = h
 
 -- two journals say the same of how an entry was made, and of what is asked of it
 pub record AsksSame (j j' : List Row) (id : ℕ) (origin : Origin) : Type 0 where

@@ -1,5 +1,5 @@
 -- Searches in lists that get an element more, or another one in the place of one.
-use Rattle.std.proofs.Common.{◌≡◌, ℕ, zero, suc, ◌+◌, Bool, true, false, cond, List, [], ◌∷◌, ◌++◌, map, length, set, slice_get, Option, Some, None, find, insert, All, refl, sym, ap, ◌∙◌, subst, inl, inr, ◌⊎◌, nat_eq, arith}
+use Rattle.std.proofs.Common.{◌≡◌, ℕ, zero, suc, ◌+◌, Bool, true, false, cond, List, [], ◌∷◌, ◌++◌, map, length, set, slice_get, Option, Some, None, IsSome, IfSome, IsSomeAnd, ◌||◌, find, insert, All, refl, sym, ap, ◌∙◌, subst, inl, inr, ◌⊎◌, nat_eq, arith}
 use Rattle.std.specs.List.{position_or_len}
 use Rattle.std.proofs.lemmas.Bool.{cases_Bool, and_parts, eqb-true}
 use Rattle.std.proofs.lemmas.List.Elements.{All-head, All-tail}
@@ -18,6 +18,22 @@ text_is (x ∷ xs) (y ∷ ys) h =
 pub some_or_none : {X : Type 0} (o : Option X) → (o ≡ None) ⊎ ((x : X) × (o ≡ Some x))
 some_or_none None = inl refl
 some_or_none (Some x) = inr (x, refl)
+
+pub some_none : {X : Type 0} (o : Option X) → IsSome o → o ≡ None → ⊥
+some_none None some none = cc
+some_none (Some x) some none = cc
+
+pub some_and : {X : Type 0} (o : Option X) (x : X) (P : X → Type 0) → o ≡ Some x → P x → IsSomeAnd o P
+some_and None x P e p = cc
+some_and (Some y) x P e p = (let is : y ≡ x = cc in subst P (sym is) p)
+
+pub if_some : {X : Type 0} (o : Option X) (x : X) (P : X → Type 0) → o ≡ Some x → P x → IfSome o P
+if_some None x P e p = tt
+if_some (Some y) x P e p = (let is : y ≡ x = cc in subst P (sym is) p)
+
+pub or_none : (a b : Bool) → b ≡ false → (a || b) ≡ a
+or_none true b h = refl
+or_none false b h = h
 
 pub none_first : {X : Type 0} (b : Bool) (x : X) (o : Option X) → cond b (Some x) o ≡ None → (b ≡ false) × (o ≡ None)
 none_first true x o e = cc

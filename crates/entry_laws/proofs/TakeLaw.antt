@@ -2,7 +2,7 @@
 use Rattle.std.proofs.Common.{◌≡◌, ℕ, ◌+◌, ◌<◌, ◌≤◌, Bool, true, false, not, ◌&&◌, ◌||◌, List, [], ◌∷◌, ◌++◌, Option, Some, None, IsSome, IsSomeAnd, Ok, Err, find, insert, length, is_some, option_map, refl, sym, ap, ◌∙◌, subst, nat_eq, arith, eq-eqb, length-set, leb-true, leb-false}
 use Rattle.std.specs.List.{position_or_len, list_any}
 use Rattle.std.specs.Option.{option_map_or}
-use Rattle.std.proofs.lemmas.Bool.{cond_both, cond-true, or_right}
+use Rattle.std.proofs.lemmas.Bool.{cond_both, cond-true, or_right, false_from_ne_true}
 use Rattle.std.proofs.lemmas.List.Elements.{All-push}
 use Rattle.std.proofs.lemmas.List.Folds.{list_any-append}
 use Rattle.std.proofs.lemmas.List.Sums.{fold_push, fold-append}
@@ -27,20 +27,22 @@ use Rattle.service_meaning.specs.Messages.{rule, taken, origin_of, is_known, is_
 use Rattle.service_meaning.specs.State.{Kept, after, next_id, is_in_flight}
 use Rattle.service_meaning.specs.declared.refusals.TakeRefused.{TakeRefused}
 use Rattle.entry_laws.proofs.CallerLaws.{all_same}
-use Rattle.entry_laws.proofs.CommitLaw.{took_here, some_and, if_some}
+use Rattle.entry_laws.proofs.CommitLaw.{took_here}
 use Rattle.entry_laws.proofs.EntryLemmas.{asks_same_after, found_by_call, still_called, and_always}
 use Rattle.entry_laws.proofs.FreshLemmas.{unmade, unfound, unanswered, unstruck, unreplied, below_next, is_new, still_found}
 use Rattle.entry_laws.proofs.LiveLaws.{LeavesLogged}
 use Rattle.entry_laws.proofs.LogLemmas.{itself, with_insert, with_same, with_entry_is}
 use Rattle.entry_laws.proofs.PartLemmas.{IsLogged, MayCome, logged_none, logged_one, as_now_same, request_same}
 use Rattle.entry_laws.proofs.ReplyLemmas.{push_own, push_other, above_all, change_own, change_other, rising_change, all_change}
-use Rattle.entry_laws.proofs.SearchLemmas.{found_all, length_insert}
-
-or_none : (a b : Bool) → b ≡ false → (a || b) ≡ a
-or_none true b h = refl
-or_none false b h = h
+use Rattle.entry_laws.proofs.SearchLemmas.{found_all, length_insert, some_and, if_some, or_none, some_none}
 
 module _ (s : Kept) (h : IsLogged s.journal s.entries s.replies) (set : SetMessage) where
+  abbrev two : List Row
+  two = took_row set ∷ (acked_row set ∷ [])
+
+  abbrev told : TookRow
+  told = record { caller = set.caller; number = set.number; version = set.version; desired = set.desired; how = Message; who = set.who; rule = 1 }
+
   -- ---- a version that is known is acknowledged again
 
   known_may : is_known s set ≡ true → MayCome s.journal (acked_row set ∷ [])
@@ -115,19 +117,19 @@ module _ (s : Kept) (h : IsLogged s.journal s.entries s.replies) (set : SetMessa
   above new = leb-false set.version (taken_version set.caller set.number s.journal) new
 
   took_last : last_taken set.caller set.number (s.journal ++ took_row set ∷ [])
-      ≡ Some (record { caller = set.caller; number = set.number; version = set.version; desired = set.desired; how = Message; who = set.who; rule = 1 })
+      ≡ Some told
   took_last = took_here set.caller set.number s.journal
-      (record { caller = set.caller; number = set.number; version = set.version; desired = set.desired; how = Message; who = set.who; rule = 1 }) refl refl
+      told refl refl
 
   within : set.version ≤ taken_version set.caller set.number (s.journal ++ took_row set ∷ [])
   within = (let is : taken_version set.caller set.number (s.journal ++ took_row set ∷ []) ≡ set.version = ap version_in took_last in omega (arith, is))
 
-  two_may : is_known s set ≡ false → MayCome s.journal (took_row set ∷ (acked_row set ∷ []))
+  two_may : is_known s set ≡ false → MayCome s.journal two
   two_may new = record { takes = ((above new, tt), (within, tt)); asks = (tt, (tt, tt)); answers = (tt, (tt, tt)); confirms = (tt, (tt, tt)) }
 
-  took_none : is_known s set ≡ false → set.desired ≡ None → find_call (Call set.caller set.number) s.entries ≡ None → IsLogged (s.journal ++ took_row set ∷ (acked_row set ∷ [])) s.entries s.replies
+  took_none : is_known s set ≡ false → set.desired ≡ None → find_call (Call set.caller set.number) s.entries ≡ None → IsLogged (s.journal ++ two) s.entries s.replies
   took_none new gone none =
-      let rows = took_row set ∷ (acked_row set ∷ []) in
+      let rows = two in
       logged_none s.journal rows s.entries s.replies
       (record {
         may = two_may new;
@@ -138,7 +140,7 @@ module _ (s : Kept) (h : IsLogged s.journal s.entries s.replies) (set : SetMessa
       })
       h
     where
-      no_request : (d : List ℕ) (m : ℕ) → set.desired ≡ None → list_any (takes_request d m) (took_row set ∷ (acked_row set ∷ [])) ≡ false
+      no_request : (d : List ℕ) (m : ℕ) → set.desired ≡ None → list_any (takes_request d m) two ≡ false
       no_request d m gone = rw gone (none_and (is_call d m (Call set.caller set.number)))
         where
           none_and : (b : Bool) → ((b && false) || (false || false)) ≡ false
@@ -148,51 +150,45 @@ module _ (s : Kept) (h : IsLogged s.journal s.entries s.replies) (set : SetMessa
   -- ---- it is of an entry
 
   module _ (new : is_known s set ≡ false) (e : Entry) (found : find (has_id e.id) s.entries ≡ Some e) (from : e.origin ≡ Call set.caller set.number) where
-    abbrev rows : List Row
-    rows = took_row set ∷ (acked_row set ∷ [])
-
-    abbrev x : Entry
-    x = at_version set e
-
     abbrev f : Reply → Reply
     f = λ p. made_due (length s.journal + 1) (with_taken set.version (is_some set.desired) p)
 
     old : IsAsNow s.journal e
     old = found_all (IsAsNow s.journal) (has_id e.id) s.entries e h.asked.now found
 
-    same_made : asked e.id (s.journal ++ (took_row set ∷ (acked_row set ∷ []))) ≡ asked e.id s.journal
-    same_made = fold-append (asked_step e.id) None s.journal (took_row set ∷ (acked_row set ∷ []))
+    same_made : asked e.id (s.journal ++ two) ≡ asked e.id s.journal
+    same_made = fold-append (asked_step e.id) None s.journal two
 
-    last : last_taken set.caller set.number (s.journal ++ (took_row set ∷ (acked_row set ∷ [])))
-        ≡ Some (record { caller = set.caller; number = set.number; version = set.version; desired = set.desired; how = Message; who = set.who; rule = 1 })
-    last = fold-append (taken_step set.caller set.number) None s.journal (took_row set ∷ (acked_row set ∷ []))
+    last : last_taken set.caller set.number (s.journal ++ two)
+        ≡ Some told
+    last = fold-append (taken_step set.caller set.number) None s.journal two
         ∙ cond-true (is_call set.caller set.number (Call set.caller set.number))
-        (Some (record { caller = set.caller; number = set.number; version = set.version; desired = set.desired; how = Message; who = set.who; rule = 1 }))
+        (Some told)
         (last_taken set.caller set.number s.journal) (itself set.caller set.number)
 
-    asks_anew : (first : Request) → request_now e.id (Call set.caller set.number) first (s.journal ++ (took_row set ∷ (acked_row set ∷ []))) ≡ or_before (request_now e.id (Call set.caller set.number) first s.journal) set.desired
-    asks_anew first = fold-append (request_step e.id (Call set.caller set.number)) first s.journal (took_row set ∷ (acked_row set ∷ []))
+    asks_anew : (first : Request) → request_now e.id (Call set.caller set.number) first (s.journal ++ two) ≡ or_before (request_now e.id (Call set.caller set.number) first s.journal) set.desired
+    asks_anew first = fold-append (request_step e.id (Call set.caller set.number)) first s.journal two
         ∙ cond-true (is_call set.caller set.number (Call set.caller set.number)) (or_before (request_now e.id (Call set.caller set.number) first s.journal) set.desired)
         (request_now e.id (Call set.caller set.number) first s.journal) (itself set.caller set.number)
 
-    now_is : IsAsNow (s.journal ++ (took_row set ∷ (acked_row set ∷ []))) (at_version set e)
+    now_is : IsAsNow (s.journal ++ two) (at_version set e)
     now_is = record {
-      version = sym (ap (λ o. taken_version_of o (s.journal ++ (took_row set ∷ (acked_row set ∷ [])))) from ∙ ap version_in last);
-      wanted = sym (ap (λ o. wants o (s.journal ++ (took_row set ∷ (acked_row set ∷ [])))) from ∙ ap (λ o. option_map_or (λ (t : TookRow). is_some t.desired) o false) last);
-      request = request_same (asked e.id s.journal) (asked e.id (s.journal ++ (took_row set ∷ (acked_row set ∷ [])))) (λ a. e.request ≡ request_now e.id e.origin a.request s.journal)
-          (λ a. or_before e.request set.desired ≡ request_now e.id e.origin a.request (s.journal ++ (took_row set ∷ (acked_row set ∷ [])))) same_made
+      version = sym (ap (λ o. taken_version_of o (s.journal ++ two)) from ∙ ap version_in last);
+      wanted = sym (ap (λ o. wants o (s.journal ++ two)) from ∙ ap (λ o. option_map_or (λ (t : TookRow). is_some t.desired) o false) last);
+      request = request_same (asked e.id s.journal) (asked e.id (s.journal ++ two)) (λ a. e.request ≡ request_now e.id e.origin a.request s.journal)
+          (λ a. or_before e.request set.desired ≡ request_now e.id e.origin a.request (s.journal ++ two)) same_made
           (λ a is. ap (λ q. or_before q set.desired) (is ∙ ap (λ o. request_now e.id o a.request s.journal) from)
-          ∙ sym (ap (λ o. request_now e.id o a.request (s.journal ++ (took_row set ∷ (acked_row set ∷ [])))) from ∙ asks_anew a.request)) old.request;
-      struck = old.struck ∙ sym (fold-append (struck_step e.id) false s.journal (took_row set ∷ (acked_row set ∷ [])));
+          ∙ sym (ap (λ o. request_now e.id o a.request (s.journal ++ two)) from ∙ asks_anew a.request)) old.request;
+      struck = old.struck ∙ sym (fold-append (struck_step e.id) false s.journal two);
     }
 
-    mark : last_mark e.id set.caller set.number (s.journal ++ (took_row set ∷ (acked_row set ∷ []))) ≡ Unsettled
-    mark = fold-append (mark_step e.id set.caller set.number) Unsettled s.journal (took_row set ∷ (acked_row set ∷ []))
+    mark : last_mark e.id set.caller set.number (s.journal ++ two) ≡ Unsettled
+    mark = fold-append (mark_step e.id set.caller set.number) Unsettled s.journal two
         ∙ cond-true (is_call set.caller set.number (Call set.caller set.number)) Unsettled (last_mark e.id set.caller set.number s.journal) (itself set.caller set.number)
 
     taken_reply : (o : Option Reply) → IsSomeAnd o (IsReply s.journal set.caller set.number e)
         → IsSomeAnd (option_map (λ p. made_due (length s.journal + 1) (with_taken set.version (is_some set.desired) p)) o)
-        (IsReply (s.journal ++ (took_row set ∷ (acked_row set ∷ []))) set.caller set.number (at_version set e))
+        (IsReply (s.journal ++ two) set.caller set.number (at_version set e))
     taken_reply None r = r
     taken_reply (Some p) r = record {
       caller = r.caller;
@@ -203,25 +199,25 @@ module _ (s : Kept) (h : IsLogged s.journal s.entries s.replies) (set : SetMessa
       due = and_always (is_some set.desired) ∙ ap (λ k. is_some set.desired && not (settles e.answer_version k)) (sym mark);
     }
 
-    pub took_some : IsLogged (s.journal ++ (took_row set ∷ (acked_row set ∷ []))) (with_entry (at_version set e) s.entries)
+    pub took_some : IsLogged (s.journal ++ two) (with_entry (at_version set e) s.entries)
         (at_entry e.id (λ p. made_due (length s.journal + 1) (with_taken set.version (is_some set.desired) p)) s.replies)
     took_some =
         let x = at_version set e in
         let log' = with_entry x s.entries in
         let whole = with_entry_is s.entries x e found refl h.asked.distinct in
-        logged_one s.journal rows s.entries log' s.replies (at_entry e.id f s.replies) x
+        logged_one s.journal two s.entries log' s.replies (at_entry e.id f s.replies) x
         (record {
           may = two_may new;
           only = (from, (from, tt));
           whole = whole;
-          count = length-set s.entries (position_or_len (has_id e.id) s.entries) x ∙ h.asked.count ∙ sym (fold-append count_step 0 s.journal rows);
+          count = length-set s.entries (position_or_len (has_id e.id) s.entries) x ∙ h.asked.count ∙ sym (fold-append count_step 0 s.journal two);
           made = sym (ap (option_map made_as) found) ∙ h.asked.entries e.id ∙ ap (option_map asked_as) (sym same_made);
-          called = still_called s.journal rows s.entries s.replies e h found;
+          called = still_called s.journal two s.entries s.replies e h found;
           now = now_is;
           answered = (let before = found_all (HasAnswered s.journal) (has_id e.id) s.entries e h.answered.entries found in
-              record { answer = before.answer ∙ ap (option_map answer_given) (sym (fold-append (answered_step e.id) None s.journal rows)); first = before.first });
-          replied = subst (λ o. HasReply (s.journal ++ rows) (at_entry e.id f s.replies) x o) (sym from)
-              (subst (λ o. IsSomeAnd o (IsReply (s.journal ++ rows) set.caller set.number x)) (sym (change_own e.id f (λ p. refl) s.replies))
+              record { answer = before.answer ∙ ap (option_map answer_given) (sym (fold-append (answered_step e.id) None s.journal two)); first = before.first });
+          replied = subst (λ o. HasReply (s.journal ++ two) (at_entry e.id f s.replies) x o) (sym from)
+              (subst (λ o. IsSomeAnd o (IsReply (s.journal ++ two) set.caller set.number x)) (sym (change_own e.id f (λ p. refl) s.replies))
               (taken_reply (reply e.id s.replies) (replied_by e found from)));
           others = λ id other. change_other e.id f (λ p. refl) id other s.replies;
           theirs = all_change e.id f (λ p. refl) (λ k. IsSome (find (has_id k) log')) s.replies (still_found x s.entries log' s.replies whole h.replies.others);
@@ -242,15 +238,7 @@ module _ (s : Kept) (h : IsLogged s.journal s.entries s.replies) (set : SetMessa
     own = eq-eqb (next_id s) (next_id s) refl
 
     untaken : list_any (takes_request set.caller set.number) s.journal ≡ false
-    untaken = nothing (list_any (takes_request set.caller set.number) s.journal) (λ t. gone (find_call (Call set.caller set.number) s.entries) ((h.asked.calls set.caller set.number).1 t) none)
-      where
-        nothing : (b : Bool) → (b ≡ true → ⊥) → b ≡ false
-        nothing true h = absurd (h refl)
-        nothing false h = refl
-
-        gone : (o : Option Entry) → IsSome o → o ≡ None → ⊥
-        gone None some none = cc
-        gone (Some e) some none = cc
+    untaken = false_from_ne_true (list_any (takes_request set.caller set.number) s.journal) (λ t. some_none (find_call (Call set.caller set.number) s.entries) ((h.asked.calls set.caller set.number).1 t) none)
 
     three_made : asked (next_id s) (s.journal ++ three) ≡ Some asks
     three_made = fold-append (asked_step (next_id s)) None s.journal three
@@ -258,10 +246,10 @@ module _ (s : Kept) (h : IsLogged s.journal s.entries s.replies) (set : SetMessa
         ∙ ap (λ o. first_asked o asks) (unmade s.journal s.entries s.replies h)
 
     three_last : last_taken set.caller set.number (s.journal ++ three)
-        ≡ Some (record { caller = set.caller; number = set.number; version = set.version; desired = set.desired; how = Message; who = set.who; rule = 1 })
+        ≡ Some told
     three_last = fold-append (taken_step set.caller set.number) None s.journal three
         ∙ cond-true (is_call set.caller set.number (Call set.caller set.number))
-        (Some (record { caller = set.caller; number = set.number; version = set.version; desired = set.desired; how = Message; who = set.who; rule = 1 }))
+        (Some told)
         (last_taken set.caller set.number s.journal) (itself set.caller set.number)
 
     three_asks : request_now (next_id s) (Call set.caller set.number) q (s.journal ++ three) ≡ q
