@@ -1,2 +1,3 @@
 pub mod Incoming
+pub mod ReadBack
 pub mod Written

@@ -1,5 +1,6 @@
 // Requests, written.
 ghost use Rattle.std.specs.Prelude.{◌≡◌, [], OnOk, IfOk};
+ghost use Rattle.aire_wire.specs.ReadBack.{CallReadsBack, PostReadsBack};
 ghost use Rattle.aire_wire.specs.Written.{answer_fields, body_of, call_asking, call_fields, sealed, set_message_fields, with_fields, written_answer, written_call, written_post, written_set};
 
 use crate::building::texts_of;
@@ -144,6 +145,7 @@ pub fn write_call(
     secret: &Text,
 ) -> Result<WireRequest, NoMemory>
     ensures written { IfOk result (λ written. written ≡ written_call set.now notifier.now secret.now) }
+    ensures reads_back { IfOk result (CallReadsBack set.now notifier.now secret.now) }
 {
     match &set.desired {
         None => write_set(alloc, set, secret),
@@ -159,6 +161,7 @@ pub fn write_post_request(
     secret: &Text,
 ) -> Result<WireRequest, NoMemory>
     ensures written { IfOk result (λ written. written ≡ written_post post.now secret.now) }
+    ensures reads_back { IfOk result (PostReadsBack post.now secret.now) }
 {
     match post {
         Post::Set(set) => write_set(alloc, set, secret),

@@ -1,0 +1,92 @@
+-- What is written for a message is read as that message, where its parts have their forms.
+use Rattle.std.specs.Prelude.{◌≡◌, ℕ, ◌<◌, ◌^◌, true, false, List, [], ◌∷◌, ◌++◌, Some, None, Ok, codes, find, length, nat_eq}
+use Rattle.std.specs.List.{list_all, starts_with}
+use Rattle.std.specs.Option.{ForSome}
+use Rattle.lang_core.specs.Names.{is_name, is_who}
+use Rattle.lang_core.specs.declared.request.Request.{Request}
+use Rattle.lang_tree.specs.Forms.{is_path}
+use Rattle.http_front.specs.declared.header.AireHeader.TheVariants.{NotifierUrl}
+use Rattle.http_front.specs.declared.message.WireRequest.{WireRequest}
+use Rattle.repair_messages.specs.declared.messages.AnswerMessage.{AnswerMessage}
+use Rattle.repair_messages.specs.declared.messages.SetMessage.{SetMessage}
+use Rattle.repair_messages.specs.declared.posts.Post.{Post}
+use Rattle.repair_messages.specs.declared.posts.Post.TheVariants as posts
+use Rattle.wire_fields.specs.Rows.{is_spelt}
+use Rattle.wire_fields.specs.Secrets.{has_name, peers_of}
+use Rattle.wire_fields.specs.declared.secrets.Secrets.{Secrets}
+use Rattle.aire_wire.specs.Incoming.{incoming}
+use Rattle.aire_wire.specs.declared.incoming.Incoming.{Incoming}
+use Rattle.aire_wire.specs.declared.incoming.Incoming.TheVariants.{Live, Set, Answer}
+
+-- a service of this name is a peer, with this secret
+abbrev pub IsPeer : Secrets → List ℕ → List ℕ → Type 0
+IsPeer peers name secret = find (has_name name) (peers_of peers) ≡ Some (record { name = name; secret = secret })
+
+-- a service reads the request as this message, where its sender is a peer with this secret
+abbrev pub IsReadAs : List ℕ → List ℕ → List ℕ → WireRequest → Incoming → Type 0
+IsReadAs me sender secret request message =
+    (peers : Secrets) (console : List ℕ) → IsPeer peers sender secret → incoming me peers console request ≡ Ok message
+
+-- a number of 64 bits, and one from 1
+abbrev pub IsNumber : ℕ → Type 0
+IsNumber n = n < 2 ^ 64
+
+abbrev pub IsFromOne : ℕ → Type 0
+IsFromOne n = (0 < n) × IsNumber n
+
+-- a request for which services called
+pub record IsCalled (request : Request) : Type 0 where
+  pub path : is_path request.path ≡ true
+  pub who : is_who request.who ≡ true
+  pub chain : list_all is_name request.chain ≡ true
+  pub some : 0 < length request.chain
+
+-- a version of a call, between two services
+pub record IsSent (set : SetMessage) : Type 0 where
+  pub caller : is_name set.caller ≡ true
+  pub dest : is_name set.dest ≡ true
+  pub who : is_who set.who ≡ true
+  pub number : IsFromOne set.number
+  pub version : IsNumber set.version
+  pub before : ForSome set.before IsNumber
+  pub after : ForSome set.after IsNumber
+  pub desired : ForSome set.desired IsCalled
+
+-- a first version that names no neighbours, with a request that its caller makes on its user's behalf, to a handler
+pub record IsLive (set : SetMessage) (request : Request) : Type 0 where
+  pub desired : set.desired ≡ Some request
+  pub version : set.version ≡ 1
+  pub before : set.before ≡ None
+  pub after : set.after ≡ None
+  pub who : set.who ≡ request.who
+  pub last : (front : List (List ℕ)) × (request.chain ≡ front ++ set.caller ∷ [])
+  pub handled : starts_with nat_eq request.path (codes "/aire/") ≡ false
+
+-- a live call
+abbrev pub CallReadsBack : SetMessage → List ℕ → List ℕ → WireRequest → Type 0
+CallReadsBack set notifier secret written =
+    (request : Request) → IsSent set → IsLive set request → is_spelt NotifierUrl notifier ≡ true → IsReadAs set.dest set.caller secret written (Live set)
+
+-- a set message
+abbrev pub SetReadsBack : SetMessage → List ℕ → WireRequest → Type 0
+SetReadsBack set secret written = IsSent set → IsReadAs set.dest set.caller secret written (Set set)
+
+-- an answer of a callee's entry to a caller
+pub record IsAnswered (answer : AnswerMessage) : Type 0 where
+  pub caller : is_name answer.caller ≡ true
+  pub callee : is_name answer.callee ≡ true
+  pub who : is_who answer.who ≡ true
+  pub id : IsFromOne answer.id
+  pub number : IsFromOne answer.number
+  pub version : IsNumber answer.version
+  pub answer_version : IsNumber answer.answer_version
+  pub status : answer.response.status < 2 ^ 16
+
+-- a response message
+abbrev pub AnswerReadsBack : AnswerMessage → List ℕ → WireRequest → Type 0
+AnswerReadsBack answer secret written = IsAnswered answer → IsReadAs answer.caller answer.callee secret written (Answer answer)
+
+-- a post
+abbrev pub PostReadsBack : Post → List ℕ → WireRequest → Type 0
+PostReadsBack (posts.Set set) secret written = SetReadsBack set secret written
+PostReadsBack (posts.Answer answer) secret written = AnswerReadsBack answer secret written
