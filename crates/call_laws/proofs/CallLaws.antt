@@ -1,5 +1,5 @@
 -- What fits of a service's calls, and what keeps it.
-use Rattle.std.proofs.Common.{◌≡◌, ℕ, ◌^◌, ◌<◌, ◌≤◌, List, [], ◌++◌, Some, map, length, arith}
+use Rattle.std.proofs.Common.{◌≡◌, ℕ, ◌^◌, ◌<◌, ◌≤◌, List, [], ◌++◌, Some, map, length, arith, append-nil, append_assoc, sym, ap, ◌∙◌, length-append, refl}
 use Rattle.request_log.specs.declared.entry.Entry.{Entry}
 use Rattle.journal_rows.specs.declared.row.Row.{Row}
 use Rattle.journal_rows.specs.declared.row.Row.TheVariants.{Ordered}
@@ -31,18 +31,34 @@ calls_of_fits s f = record { sent = f.sent; seen = f.seen; places = f.places; fl
 abbrev pub IsFew : Kept → Type 0
 IsFew s = length s.journal < 2 ^ 64
 
+-- rows come behind those of the journal, and what the service is set to do stays
+pub record Grows (s t : Kept) : Type 0 where
+  pub rows : List Row
+  pub is : t.journal ≡ s.journal ++ rows
+  pub setting : t.setting ≡ s.setting
+
 -- the journal grows, and what fits of calls is kept where its rows can be counted
 pub record Goes (s t : Kept) : Type 0 where
-  pub longer : length s.journal ≤ length t.journal
+  pub grows : Grows s t
   pub keeps : IsFew t → FitsCalls s → FitsCalls t
 
+pub goes_longer : (s t : Kept) → Goes s t → length s.journal ≤ length t.journal
+goes_longer s t g = (let size = ap length g.grows.is ∙ length-append s.journal g.grows.rows in omega (arith, size))
+
 pub goes_same : (s : Kept) → Goes s s
-goes_same s = record { longer = omega arith; keeps = λ few f. f }
+goes_same s = record { grows = record { rows = []; is = sym (append-nil s.journal); setting = refl }; keeps = λ few f. f }
 
 pub goes_then : (s t u : Kept) → Goes s t → Goes t u → Goes s u
 goes_then s t u a b =
-    let first = a.longer in let second = b.longer in
-    record { longer = omega (arith, first, second); keeps = λ few f. b.keeps few (a.keeps (omega (arith, few, second)) f) }
+    let second = goes_longer t u b in
+    record {
+      grows = record {
+        rows = a.grows.rows ++ b.grows.rows;
+        is = b.grows.is ∙ ap (λ j. j ++ b.grows.rows) a.grows.is ∙ append_assoc s.journal a.grows.rows b.grows.rows;
+        setting = b.grows.setting ∙ a.grows.setting;
+      };
+      keeps = λ few f. b.keeps few (a.keeps (omega (arith, few, second)) f);
+    }
 
 abbrev pub book : Kept → Book
 book s = record { journal = s.journal; registers = s.registers }

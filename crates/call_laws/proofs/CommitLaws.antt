@@ -105,7 +105,7 @@ module _ (s : Kept) (f : Flight) (t : Trace) where
   goes_committed same =
       let rows = before_answer s f t ++ live_answer s f t ∷ [] in
       record {
-        longer = (let sum = length-append s.journal rows in omega (arith, sum));
+        grows = record { rows = rows; is = refl; setting = refl };
         keeps = λ few h. (
             let w = flown s f in
             let sum = length-append s.journal rows in

@@ -15,7 +15,7 @@ use Rattle.service_meaning.specs.Messages.{take_event, take_answer_event, posted
 use Rattle.service_meaning.specs.Orders.{order_event}
 use Rattle.service_meaning.specs.declared.answers.PostReply.{PostReply}
 use Rattle.service_meaning.specs.Fits.{EachAfter, FitsSent, FitsSeen, FitsPlaces, FitsFlights, OrdersOn, Fits, places}
-use Rattle.call_laws.proofs.CallLaws.{FitsCalls, calls_of_fits, IsFew}
+use Rattle.call_laws.proofs.CallLaws.{FitsCalls, calls_of_fits, IsFew, Grows}
 use Rattle.call_laws.proofs.LiveLaws.{arrive_goes, call_answered_goes, call_failed_goes, abandon_goes}
 use Rattle.call_laws.proofs.StepLaws.{step_goes}
 use Rattle.call_laws.proofs.MessageLaws.{take_goes, take_answer_goes, posted_event_goes}
@@ -200,3 +200,32 @@ order_keeps_flights s command token who i f few = (order_keeps s command token w
 
 pub order_keeps_orders : (s : Kept) (command : Command) (token who : List ℕ) (i : Inputs) → Fits s → IsFew (order_event s command token who i).service → EachAfter OrdersOn [] (order_event s command token who i).service.journal
 order_keeps_orders s command token who i f few = (order_keeps s command token who i f few).orders
+
+-- ---- each event lets the journal grow
+
+pub arrive_grows : (s : Kept) (o : Origin) (q : Request) (i : Inputs) → Fits s → Grows s (arrive_event s o q i).service
+arrive_grows s o q i f = (arrive_goes s o q i f).grows
+
+pub call_answered_grows : (s : Kept) (id : ℕ) (a : AnswerMessage) → Grows s (call_answered_event s id a).service
+call_answered_grows s id a = (call_answered_goes s id a).grows
+
+pub call_failed_grows : (s : Kept) (id number : ℕ) (why : Why) → Grows s (call_failed_event s id number why).service
+call_failed_grows s id number why = (call_failed_goes s id number why).grows
+
+pub abandon_grows : (s : Kept) (id : ℕ) → Grows s (abandon_event s id).service
+abandon_grows s id = (abandon_goes s id).grows
+
+pub step_grows : (s : Kept) → Fits s → Grows s (step_event s).service
+step_grows s f = (step_goes s f).grows
+
+pub take_grows : (s : Kept) (set : SetMessage) (i : Inputs) → Fits s → Grows s (take_event s set i).service
+take_grows s set i f = (take_goes s set i f).grows
+
+pub take_answer_grows : (s : Kept) (a : AnswerMessage) → Grows s (take_answer_event s a).service
+take_answer_grows s a = (take_answer_goes s a).grows
+
+pub posted_grows : (s : Kept) (post : Post) (answer : PostReply) → Grows s (posted_event s post answer).service
+posted_grows s post answer = (posted_event_goes s post answer).grows
+
+pub order_grows : (s : Kept) (command : Command) (token who : List ℕ) (i : Inputs) → Grows s (order_event s command token who i).service
+order_grows s command token who i = (order_goes s command token who i).grows

@@ -1,5 +1,5 @@
 -- A flight names a call, changes one, is committed or abandoned: what fits of calls is kept.
-use Rattle.std.proofs.Common.{◌≡◌, ℕ, zero, suc, ◌<◌, List, [], ◌∷◌, ◌++◌, Option, Some, None, map, length, slice_get, slice_set, refl, sym, ap, ◌∙◌, subst, arith, append_assoc, length-append}
+use Rattle.std.proofs.Common.{◌≡◌, ℕ, zero, suc, ◌<◌, List, [], ◌∷◌, ◌++◌, Option, Some, None, map, length, slice_get, slice_set, refl, sym, ap, ◌∙◌, subst, arith, append_assoc, length-append, append-nil}
 use Rattle.std.proofs.lemmas.List.{map-append}
 use Rattle.lang_core.specs.declared.trace.CallMade.{CallMade}
 use Rattle.request_log.specs.declared.entry.Entry.{Entry}
@@ -104,7 +104,7 @@ pub goes_moves : (s : Kept) (f g : Flight) (rows : List Row) → g.id ≡ f.id �
     → ((ps : List Place) → HasRoom (book s) rows → Fitting (book s) (place_of_flight f ∷ ps) → Fitting (entered rows (book s)) (place_of_flight g ∷ ps))
     → Goes (flying s f) (flying (noted rows s) g)
 goes_moves s f g rows id origin sending moves = record {
-  longer = (let sum = length-append s.journal rows in omega (arith, sum));
+  grows = record { rows = rows; is = refl; setting = refl };
   keeps = λ few h. (
       let w = flown s f in
       let sum = length-append s.journal rows in
@@ -222,4 +222,4 @@ pub minor_cause : (why : Why) → IsMinor (with_cause why)
 minor_cause why = record { aside = record { number = λ r. refl; sent = λ r. refl }; seen = λ r. (refl, refl); wants = λ r. refl }
 
 pub goes_untold : (s : Kept) (n : ℕ) (why : Why) → Goes s (at_register n (with_cause why) s)
-goes_untold s n why = record { longer = omega arith; keeps = λ few h. register_calls s n (with_cause why) (minor_cause why) h }
+goes_untold s n why = record { grows = record { rows = []; is = sym (append-nil s.journal); setting = refl }; keeps = λ few h. register_calls s n (with_cause why) (minor_cause why) h }

@@ -60,7 +60,7 @@ never h = cc
 pub goes_heard : (s : Kept) (rows : List Row) → Each IsUnsent rows → Each IsUntaken rows → Each IsUnordered rows
     → (FitsCalls s → EachAfter SeesOn s.journal rows) → (FitsCalls s → (n : ℕ) → HeardAfter s.journal n rows) → Goes s (noted rows s)
 goes_heard s rows unsent untaken unordered sees heard = record {
-  longer = (let sum = length-append s.journal rows in omega (arith, sum));
+  grows = record { rows = rows; is = refl; setting = refl };
   keeps = λ few f. (
       let sum = length-append s.journal rows in
       let room : length s.journal + length rows < 2 ^ 64 = omega (arith, few, sum) in

@@ -1,5 +1,5 @@
 -- Events of live requests keep what fits of calls: an arrival, the answer or the failure of a call, an abandonment.
-use Rattle.std.proofs.Common.{◌≡◌, ℕ, Bool, true, false, ◌&&◌, List, [], ◌∷◌, ◌++◌, Option, Some, None, Err, IsSome, IfSome, map, nat_eq, is_some, refl, sym, ap, ◌∙◌, subst, inl, inr, arith, length-append, if◌then◌else◌}
+use Rattle.std.proofs.Common.{◌≡◌, ℕ, Bool, true, false, ◌&&◌, List, [], ◌∷◌, ◌++◌, Option, Some, None, Err, IsSome, IfSome, map, nat_eq, is_some, refl, sym, ap, ◌∙◌, subst, inl, inr, arith, length-append, if◌then◌else◌, append-nil}
 use Rattle.std.proofs.lemmas.Bool.{cases_Bool, and_parts, and_from, or_left, or_right}
 use Rattle.std.proofs.lemmas.List.Sums.{fold_push}
 use Rattle.std.specs.List.{list_any}
@@ -43,7 +43,7 @@ use Rattle.call_laws.proofs.GoingLaws.{goes_on_goes}
 -- a flight that begins, of an origin that none has
 pub begins : (s : Kept) (o : Origin) (q : Request) (i : Inputs) → is_in_flight o s ≡ false → last_taken_of o s.journal ≡ None → Goes s (flying s (new_flight s o q i))
 begins s o q i apart free = record {
-  longer = omega arith;
+  grows = record { rows = []; is = sym (append-nil s.journal); setting = refl };
   keeps = λ few h. (
       let f = new_flight s o q i in
       let old = flies_from s.journal s.flights h.flights in
@@ -147,7 +147,7 @@ arrive_goes s (Call c n) q i f =
 -- the flight of a number is put in its own place
 pub flies_known : (s : Kept) (id : ℕ) (f : Flight) → flight_of id s ≡ Some f → Goes s (flying s f)
 flies_known s id f found = record {
-  longer = omega arith;
+  grows = record { rows = []; is = sym (append-nil s.journal); setting = refl };
   keeps = λ few h. (
       let same = with_known id s.flights f found (flies_from s.journal s.flights h.flights).others in
       let P : List Flight → Type 0 = λ fs. FitsCalls (record s { flights = fs }) in
@@ -214,7 +214,7 @@ goes_without s f =
     let rows = all_deleted s.registers f.numbers f.calls in
     let sending = sends_deleted s.registers f.numbers f.calls in
     record {
-      longer = (let sum = length-append s.journal rows in omega (arith, sum));
+      grows = record { rows = rows; is = refl; setting = refl };
       keeps = λ few h. (
           let w = flown s f in
           let sum = length-append s.journal rows in

@@ -1,5 +1,5 @@
 -- Events of repair messages keep what fits of calls: a version is taken, an answer is heard, something comes back of a post.
-use Rattle.std.proofs.Common.{◌≡◌, ℕ, ◌+◌, ◌≤◌, Bool, true, false, not, ◌&&◌, List, [], ◌∷◌, ◌++◌, Option, Some, None, Ok, Err, IsSome, max, map, length, insert, nat_eq, is_some, refl, sym, ap, ◌∙◌, subst, inl, inr, arith, eqb-true, if◌then◌else◌}
+use Rattle.std.proofs.Common.{◌≡◌, ℕ, ◌+◌, ◌≤◌, Bool, true, false, not, ◌&&◌, List, [], ◌∷◌, ◌++◌, Option, Some, None, Ok, Err, IsSome, max, map, length, insert, nat_eq, is_some, refl, sym, ap, ◌∙◌, subst, inl, inr, arith, eqb-true, if◌then◌else◌, append-nil}
 use Rattle.std.proofs.lemmas.Bool.{cases_Bool, and_parts}
 use Rattle.std.proofs.lemmas.List.Sums.{fold_push}
 use Rattle.lang_base.specs.Texts.{same_text}
@@ -188,7 +188,7 @@ pub minor_hold : (hold : Hold) → IsMinor (with_hold hold)
 minor_hold hold = record { aside = record { number = λ r. refl; sent = λ r. refl }; seen = λ r. (refl, refl); wants = λ r. refl }
 
 goes_held_back : (s : Kept) (post : Post) (hold : Hold) → Goes s (held_back s post hold)
-goes_held_back s (Set set) hold = record { longer = omega arith; keeps = λ few h. register_calls s set.number (with_hold hold) (minor_hold hold) h }
+goes_held_back s (Set set) hold = record { grows = record { rows = []; is = sym (append-nil s.journal); setting = refl }; keeps = λ few h. register_calls s set.number (with_hold hold) (minor_hold hold) h }
 goes_held_back s (Answer a) hold = goes_entries s s.entries (held_back s (Answer a) hold).replies (λ h. h)
 
 held_goes : (s : Kept) (post : Post) (hold : Option Hold) → Goes s (held_where s post hold).service

@@ -1,5 +1,5 @@
 -- An order keeps what fits of calls.
-use Rattle.std.proofs.Common.{◌≡◌, ℕ, true, false, List, [], ◌∷◌, ◌++◌, Option, Some, None, map, insert, refl, sym, subst, inl, inr, arith, if◌then◌else◌}
+use Rattle.std.proofs.Common.{◌≡◌, ℕ, true, false, List, [], ◌∷◌, ◌++◌, Option, Some, None, map, insert, refl, sym, subst, inl, inr, if◌then◌else◌, append-nil}
 use Rattle.std.proofs.lemmas.Bool.{cases_Bool}
 use Rattle.lang_core.specs.declared.inputs.Inputs.{Inputs}
 use Rattle.request_log.specs.Entries.{has_id}
@@ -45,7 +45,7 @@ pub minor_released : (who : List ℕ) → IsMinor (released who)
 minor_released who = record { aside = record { number = λ r. refl; sent = λ r. refl }; seen = λ r. (refl, refl); wants = λ r. refl }
 
 goes_released : (s : Kept) (who : List ℕ) (name : PostName) → Goes s (released_post who name s)
-goes_released s who (OfCall n) = record { longer = omega arith; keeps = λ few h. register_calls s n (released who) (minor_released who) h }
+goes_released s who (OfCall n) = record { grows = record { rows = []; is = sym (append-nil s.journal); setting = refl }; keeps = λ few h. register_calls s n (released who) (minor_released who) h }
 goes_released s who (OfReply id) = goes_entries s s.entries (released_post who (OfReply id) s).replies (λ h. h)
 
 goes_carried_out : (s : Kept) (command : Command) (who : List ℕ) (i : Inputs) → Goes s (carried_out s command who i)

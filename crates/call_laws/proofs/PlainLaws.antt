@@ -1,5 +1,5 @@
 -- Events that change no call: entries and replies change, and rows come that change no register.
-use Rattle.std.proofs.Common.{◌+◌, ◌^◌, ◌<◌, List, [], ◌++◌, map, length, arith, length-append}
+use Rattle.std.proofs.Common.{◌+◌, ◌^◌, ◌<◌, List, [], ◌++◌, map, length, arith, length-append, append-nil, sym, refl}
 use Rattle.request_log.specs.declared.entry.Entry.{Entry}
 use Rattle.journal_rows.specs.declared.row.Row.{Row}
 use Rattle.call_registers.specs.declared.reply.Reply.{Reply}
@@ -17,14 +17,14 @@ pub goes_entries : (s : Kept) (es : List Entry) (ps : List Reply)
     → (FitsPlaces s.registers (places s) → FitsPlaces s.registers (map place_of_entry es ++ map place_of_flight s.flights))
     → Goes s (record s { entries = es; replies = ps })
 goes_entries s es ps same = record {
-  longer = omega arith;
+  grows = record { rows = []; is = sym (append-nil s.journal); setting = refl };
   keeps = λ few h. record { sent = h.sent; seen = h.seen; places = same h.places; flights = h.flights; orders = h.orders };
 }
 
 pub goes_plain : (s : Kept) (rows : List Row) → Each IsPlain rows → Each IsUnseen rows → (EachAfter OrdersOn [] s.journal → EachAfter OrdersOn s.journal rows)
     → (Flies s.journal s.flights → Flies (s.journal ++ rows) s.flights) → Goes s (noted rows s)
 goes_plain s rows plain unseen orders flies = record {
-  longer = (let sum = length-append s.journal rows in omega (arith, sum));
+  grows = record { rows = rows; is = refl; setting = refl };
   keeps = λ few h. (
       let sum = length-append s.journal rows in
       let room : length s.journal + length rows < 2 ^ 64 = omega (arith, few, sum) in

@@ -62,7 +62,7 @@ goes_stepped s e m st distinct =
     let b = is_new_answer e.made m in
     let sends = sends_settled s.registers e.slots (calls_of_made e.made) m.trace.calls (next_number s.registers) in
     record {
-      longer = (let sum = length-append s.journal rows in omega (arith, sum));
+      grows = record { rows = rows; is = refl; setting = refl };
       keeps = λ few h. (
           let sum = length-append s.journal rows in
           let room : HasRoom (book s) rows = record { counts = omega (arith, few, sum) } in

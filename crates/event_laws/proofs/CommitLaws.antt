@@ -35,7 +35,7 @@ use Rattle.service_meaning.specs.declared.answers.Arrived.TheVariants.{Done as C
 use Rattle.entry_laws.proofs.AloftLemmas.{IsAloft, aloft_by}
 use Rattle.entry_laws.proofs.GrowthLemmas.{follows_none, few_calls}
 use Rattle.entry_laws.proofs.LiveRuns.{runs_of, given, grows, changed_aloft, Completes, name_completes, change_completes}
-use Rattle.call_laws.proofs.CallLaws.{FitsCalls, calls_of_fits, IsFew, Goes, goes_same, goes_then}
+use Rattle.call_laws.proofs.CallLaws.{FitsCalls, calls_of_fits, IsFew, Goes, goes_same, goes_then, goes_longer}
 use Rattle.call_laws.proofs.CurrentLaws.{committed_current, committed_ran}
 use Rattle.call_laws.proofs.FlightLaws.{flying, goes_untold}
 use Rattle.call_laws.proofs.GoingLaws.{is_other, goes_named_unsent, goes_changed_unsent, goes_on_goes}
@@ -189,7 +189,7 @@ admitted_commits s o q i None calls runs apart free few =
     let first = begins s o q i apart free in
     let later = goes_on_goes s f in
     goes_on_comes s f (record { numbered = calls.sent.numbered; apart = tt; within = tt; many = refl }) runs
-    (first.keeps (let longer = later.longer in omega (arith, few, longer)) calls) few
+    (first.keeps (let longer = goes_longer (flying s f) (goes_on s f).service later in omega (arith, few, longer)) calls) few
 
 known_commits : (s : Kept) (c : List ℕ) (n : ℕ) (e : Entry) (m : Option Made)
     → CommitsUnlessRefused s (known_by s c n e m).service (known_by s c n e m).answer
@@ -227,7 +227,7 @@ known_comes : (s : Kept) (id : ℕ) (f : Flight) → flight_of id s ≡ Some f �
 known_comes s id f found calls runs few =
     let later = goes_on_goes s f in
     let flies = flies_known s id f found in
-    let longer = later.longer in
+    let longer = goes_longer (flying s f) (goes_on s f).service later in
     goes_on_comes s f (aloft_by s id f calls.sent.numbered calls.places found) runs (flies.keeps (omega (arith, few, longer)) calls) few
 
 answered_commits : (s : Kept) (id : ℕ) (a : AnswerMessage) (o : Option Flight) → flight_of id s ≡ o → Fits s → IsFew (answered_flight s id a o).service
@@ -245,7 +245,7 @@ answered_commits s id a (Some g) is f few = by_test (is_for s a g) refl few
         let r = answered_by s a (register a.number s.registers) refl parts.1 in
         let t = noted (heard_rows s a) s in
         let later = goes_on_goes t g in
-        let longer = later.longer in
+        let longer = goes_longer (flying t g) (goes_on t g).service later in
         let heard = heard_goes s a r.made r.found in
         known_comes t id g is (heard.keeps (omega (arith, few, longer)) (calls_of_fits s f)) f.runs few
 
@@ -265,7 +265,7 @@ failed_commits s id number why (Some g) is f few = by_test (nat_eq (awaited g) n
     by_test true few =
         let t = told number why s in
         let later = goes_on_goes t g in
-        let longer = later.longer in
+        let longer = goes_longer (flying t g) (goes_on t g).service later in
         let first = goes_untold s number why in
         known_comes t id g is (first.keeps (omega (arith, few, longer)) (calls_of_fits s f)) f.runs few
 

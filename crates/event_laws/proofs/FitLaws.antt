@@ -1,5 +1,5 @@
 -- A service that fits its journal fits it after each event, where the journal after it has fewer rows than a number of 64 bits counts.
-use Rattle.std.proofs.Common.{ℕ, ◌<◌, List, length}
+use Rattle.std.proofs.Common.{ℕ, List}
 use Rattle.lang_core.specs.declared.ids.Origin.{Origin}
 use Rattle.lang_core.specs.declared.inputs.Inputs.{Inputs}
 use Rattle.lang_core.specs.declared.request.Request.{Request}
