@@ -11,6 +11,7 @@ pub mod EntryLemmas
 pub mod CommitLaw
 pub mod LiveLaws
 pub mod StepLaw
+pub mod StepForms
 pub mod TakeLaw
 pub mod HoldLaw
 pub mod PostedLaw

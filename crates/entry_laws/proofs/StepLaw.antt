@@ -16,7 +16,7 @@ use Rattle.request_log.specs.declared.entry.Entry.{Entry}
 use Rattle.request_log.specs.declared.entry.Made.{Made}
 use Rattle.local_repair.specs.Current.{Consumed, after_entry}
 use Rattle.local_repair.specs.Steps.{same_call, calls_of_made, is_new_answer, remade, raised, raised_if}
-use Rattle.local_repair.specs.Tests.{is_current}
+use Rattle.local_repair.specs.Tests.{is_current, step_with}
 use Rattle.journal_rows.specs.Words.{asked, count_step, asked_count, mark_step, last_mark, settles}
 use Rattle.journal_rows.specs.declared.callee.AnsweredRow.{AnsweredRow}
 use Rattle.journal_rows.specs.declared.row.Row.{Row}
@@ -232,24 +232,25 @@ module _ (j : List Row) (log : List Entry) (kept : List Reply) (h : IsLogged j l
 
 -- ---- the step
 
--- the entry that a step takes stands in the log
-pub record StandsIn (log : List Entry) (x : Stale) : Type 0 where
+-- the entry that a step takes stands in the log, and a step of local repair puts what it makes of it in its place
+pub record StepsAt (consumed : Consumed) (rows : List Cell) (log : List Entry) (x : Stale) : Type 0 where
   pub before : List Entry
   pub rest : List Entry
   pub is : log ≡ before ++ x.entry ∷ rest
+  pub step : (remake : List Cell → Entry → Entry) → step_with consumed remake rows log ≡ before ++ remake x.rows x.entry ∷ rest
 
-pub stale_stands : (consumed : Consumed) (rows : List Cell) (log : List Entry) (x : Stale) → stale_in consumed rows log ≡ Some x → StandsIn log x
-stale_stands consumed rows [] x e = cc
-stale_stands consumed rows (y ∷ ys) x e = elim (cases_Bool (is_current consumed rows y)) [
-  | inl current ↦ (let s = stale_stands consumed (after_entry rows y) ys x (rw current at e) in
-      record { before = y ∷ s.before; rest = s.rest; is = ap (λ zs. y ∷ zs) s.is })
+pub steps_at : (consumed : Consumed) (rows : List Cell) (log : List Entry) (x : Stale) → stale_in consumed rows log ≡ Some x → StepsAt consumed rows log x
+steps_at consumed rows [] x e = cc
+steps_at consumed rows (y ∷ ys) x e = elim (cases_Bool (is_current consumed rows y)) [
+  | inl current ↦ (let s = steps_at consumed (after_entry rows y) ys x (rw current at e) in
+      record { before = y ∷ s.before; rest = s.rest; is = ap (λ zs. y ∷ zs) s.is; step = λ remake. rw current (ap (λ zs. y ∷ zs) (s.step remake)) })
   | inr stale ↦ (let here : Some (record { entry = y; rows = rows }) ≡ Some x = rw stale at e in
       let same : record { entry = y; rows = rows } ≡ x = cc in
-      record { before = []; rest = ys; is = ap (λ (z : Stale). z.entry ∷ ys) same })
+      record { before = []; rest = ys; is = ap (λ (z : Stale). z.entry ∷ ys) same; step = λ remake. rw stale (ap (λ (z : Stale). remake z.rows z.entry ∷ ys) same) })
 ]
 
-pub stands_found : (log : List Entry) (x : Stale) → StandsIn log x → IsDistinct log → find (has_id (x.entry).id) log ≡ Some x.entry
-stands_found log x s apart =
+pub stands_found : (consumed : Consumed) (log : List Entry) (x : Stale) → StepsAt consumed [] log x → IsDistinct log → find (has_id (x.entry).id) log ≡ Some x.entry
+stands_found consumed log x s apart =
     subst (λ l. find (has_id (x.entry).id) l ≡ Some x.entry) (sym s.is)
     (found_behind (has_id (x.entry).id) s.before x.entry s.rest (front_id s.before x.entry s.rest (subst IsDistinct s.is apart)) (eq-eqb (x.entry).id (x.entry).id refl))
 
@@ -296,7 +297,7 @@ module _ (s : Kept) (h : IsLogged s.journal s.entries s.replies) where
   step_by_logged : (o : Option Stale) → stale_in (answers s) [] s.entries ≡ o → IsFew (step_by s o).service → LeavesLogged (step_by s o)
   step_by_logged None is few = h
   step_by_logged (Some x) is few =
-      stepped_logged x.entry (new_record s x.rows x.entry) (stands_found s.entries x (stale_stands (answers s) [] s.entries x is) h.asked.distinct) refl few
+      stepped_logged x.entry (new_record s x.rows x.entry) (stands_found (answers s) s.entries x (steps_at (answers s) [] s.entries x is) h.asked.distinct) refl few
 
   pub step_logged : IsFew (step_event s).service → LeavesLogged (step_event s)
   step_logged few = step_by_logged (stale_in (answers s) [] s.entries) refl few
