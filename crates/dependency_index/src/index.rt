@@ -16,7 +16,8 @@ use crate::noted::{Noted, set_noted, unset_noted};
 use crate::numbers::{put_number, seek_number};
 use crate::reads::ReadsAt;
 use crate::room::{IndexCall, ready_reads, take_reads};
-use crate::rows::{ReadRows, drop_labels, put_labels};
+use crate::rows::{ReadRows, copied_reads, drop_labels, put_labels};
+use lang_base::copied_items;
 use lang_core::{NoMemory, Reads, Seq, Text};
 use place_order::Order;
 use std::alloc::Global;
@@ -179,6 +180,19 @@ impl Index {
             },
             room: Vec::new(alloc),
         }
+    }
+
+    /// An index with the same reads noted, without room.
+    pub fn copied(&self, alloc: Global) -> Result<Index, NoMemory>
+        ensures { IfOk result (λ copy. copy.reads ≡ self.now.reads) }
+    {
+        let noted = copied_items(alloc, &self.noted)?;
+        let rows = copied_reads(alloc, &self.rows)?;
+        Ok(Index {
+            noted,
+            rows,
+            room: Vec::new(alloc),
+        })
     }
 
     /// Notes where a label's reads looked, in place of those that it had. Refused, nothing changes.

@@ -5,6 +5,8 @@ ghost use Rattle.dependency_index.specs.Reads.{label_of, with_noted, without};
 
 use crate::numbers::seek_number;
 use crate::reads::ReadsAt;
+use lang_core::{Copied, NoMemory};
+use std::alloc::Global;
 use versioned_rows::Labelled;
 
 /// Where the reads of a label looked.
@@ -12,6 +14,16 @@ use versioned_rows::Labelled;
 pub struct Noted {
     pub label: u64,
     pub reads: ReadsAt,
+}
+
+impl Copied for Noted {
+    fn copied(&self, alloc: Global) -> Result<Noted, NoMemory> {
+        let reads = self.reads.copied(alloc)?;
+        Ok(Noted {
+            label: self.label,
+            reads,
+        })
+    }
 }
 
 impl Labelled for Noted {

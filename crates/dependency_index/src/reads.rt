@@ -23,6 +23,12 @@ pub struct ReadAt {
     pub key: Text,
 }
 
+impl Copied for ReadAt {
+    fn copied(&self, alloc: Global) -> Result<ReadAt, NoMemory> {
+        place(alloc, self.kind, &self.table, &self.key)
+    }
+}
+
 /// Where reads looked, in the order in which they were made.
 pub type ReadsAt = Seq<ReadAt>;
 

@@ -1,5 +1,5 @@
 // Rows of labels: by key those that read it, by prefix those that scan it.
-ghost use Rattle.std.specs.Prelude.{ℕ, List, ◌≡◌, ◌+◌, ◌≤◌, true, filter, length, OnOk, if◌then◌else◌};
+ghost use Rattle.std.specs.Prelude.{ℕ, List, ◌≡◌, ◌+◌, ◌≤◌, true, filter, length, IfOk, OnOk, if◌then◌else◌};
 ghost use Rattle.std.specs.List.{list_any};
 ghost use Rattle.lang_core.specs.Places.{IsOrdered};
 ghost use Rattle.versioned_rows.specs.Places.{is_other};
@@ -13,13 +13,24 @@ use crate::numbers::put_reserved;
 use crate::reads::{ReadAt, ReadKind};
 use lang_core::{NoMemory, Text};
 use std::alloc::Global;
-use versioned_rows::{Row, drop_label, make_row, seek};
+use versioned_rows::{Row, copied_rows, drop_label, make_row, seek};
 
 /// For each key and each prefix that was ever read, the labels that read it now, in the order of their numbers.
 #[derive(Drop)]
 pub struct ReadRows {
     pub keys: Vec<Row>,
     pub scans: Vec<Row>,
+}
+
+/// Rows with the same labels.
+pub(crate) fn copied_reads(alloc: Global, rows: &ReadRows) -> Result<ReadRows, NoMemory>
+    requires { AreOrdered rows.now }
+    ensures ordered { IfOk result AreOrdered }
+    ensures each { IfOk result (λ copies. (kind : ReadKind) (t k : List ℕ) → labels_by copies kind t k ≡ labels_by rows.now kind t k) }
+{
+    let keys = copied_rows(alloc, &rows.keys)?;
+    let scans = copied_rows(alloc, &rows.scans)?;
+    Ok(ReadRows { keys, scans })
 }
 
 // Puts a label into the row of a key, if it isn't there yet.

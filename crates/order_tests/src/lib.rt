@@ -1,6 +1,8 @@
-//! Tests of labels in an order, and of versions of rows.
+//! Tests of labels in an order, of versions of rows, and of the index of who reads what.
 #![tactic(auto)]
 
+#[cfg(test)]
+mod index;
 #[cfg(test)]
 mod labels;
 #[cfg(test)]

@@ -1,7 +1,7 @@
 ghost use Rattle.std.specs.Prelude.{map, IfSome, OnOk};
 ghost use Rattle.std.specs.List.{Contains};
 ghost use Rattle.std.specs.Option.{ForSome};
-ghost use Rattle.versioned_rows.specs.Rising.{IsRising};
+ghost use Rattle.place_order.specs.Rising.{IsRising};
 ghost use Rattle.versioned_rows.specs.Places.{label_of};
 
 use lang_core::{Copied, NoMemory, Text, Write, Writes};
@@ -57,21 +57,66 @@ fn stands(
 }
 
 // The second place writes first, then the first one.
-fn two_places(alloc: Global, order: &Order, a: u64, b: u64) -> Result<bool, NoMemory>
+fn two_places(
+    alloc: Global,
+    order: &Order,
+    versions: &mut Versions,
+    a: u64,
+    b: u64,
+) -> Result<bool, NoMemory>
+    requires rising { IsRising order.now.labels (map label_of versions.old.versions) }
     requires a { Contains order.now.labels a }
     requires b { Contains order.now.labels b }
+    ensures { OnOk result (IsRising order.now.labels (map label_of versions.new.versions)) }
 {
-    let mut versions = Versions::new(alloc);
-    put(alloc, order, &mut versions, b, Some("two"))?;
-    put(alloc, order, &mut versions, a, Some("one"))?;
-    let all = stands(alloc, order, &versions, None, "two")?;
-    let between = stands(alloc, order, &versions, Some(b), "one")?;
-    let first = stands(alloc, order, &versions, Some(a), "nothing")?;
-    put(alloc, order, &mut versions, b, None)?;
-    let dropped = stands(alloc, order, &versions, None, "nothing")?;
+    put(alloc, order, versions, b, Some("two"))?;
+    put(alloc, order, versions, a, Some("one"))?;
+    let all = stands(alloc, order, versions, None, "two")?;
+    let between = stands(alloc, order, versions, Some(b), "one")?;
+    let first = stands(alloc, order, versions, Some(a), "nothing")?;
+    Ok(all && between && first)
+}
+
+// The second one drops the key, and is then taken back.
+fn dropped(alloc: Global, order: &Order, versions: &mut Versions, b: u64) -> Result<bool, NoMemory>
+    requires rising { IsRising order.now.labels (map label_of versions.old.versions) }
+    requires b { Contains order.now.labels b }
+    ensures { OnOk result (IsRising order.now.labels (map label_of versions.new.versions)) }
+{
+    put(alloc, order, versions, b, None)?;
+    let dropped = stands(alloc, order, versions, None, "nothing")?;
     versions.take_back(b);
-    let back = stands(alloc, order, &versions, None, "one")?;
-    Ok(all && between && first && dropped && back)
+    let back = stands(alloc, order, versions, None, "one")?;
+    Ok(dropped && back)
+}
+
+// One cell is under the prefix at the end, and none before the first place.
+fn one_scanned(
+    alloc: Global,
+    order: &Order,
+    versions: &Versions,
+    a: u64,
+    table: &Text,
+    prefix: &Text,
+) -> Result<bool, NoMemory>
+    requires rising { IsRising order.now.labels (map label_of versions.now.versions) }
+    requires a { Contains order.now.labels a }
+{
+    let found = versions.scan_before(alloc, order, None, table, prefix)?;
+    Ok(
+        found.len() == 1
+            && versions.scan_is(order, None, table, prefix, &found)
+            && !versions.scan_is(order, Some(a), table, prefix, &found),
+    )
+}
+
+fn scanned(alloc: Global, order: &Order, versions: &Versions, a: u64) -> Result<bool, NoMemory>
+    requires rising { IsRising order.now.labels (map label_of versions.now.versions) }
+    requires a { Contains order.now.labels a }
+{
+    let table = Text::of(alloc, "notes")?;
+    let prefix = Text::of(alloc, "")?;
+    one_scanned(alloc, order, versions, a, &table, &prefix)
 }
 
 fn first_of(order: &mut Order) -> Option<u64>
@@ -97,5 +142,9 @@ fn versions_by_place(rt: HostRuntime) {
     let mut order = Order::new(alloc);
     let a = first_of(&mut order).expect(&rt, "a label");
     let b = after(&mut order, a).expect(&rt, "a label");
-    assert!(rt; two_places(alloc, &order, a, b).expect(&rt, "memory"));
+    let mut versions = Versions::new(alloc);
+    assert!(rt; two_places(alloc, &order, &mut versions, a, b).expect(&rt, "memory"));
+    assert!(rt; dropped(alloc, &order, &mut versions, b).expect(&rt, "memory"));
+    let copy = versions.copied(alloc).expect(&rt, "memory");
+    assert!(rt; scanned(alloc, &order, &copy, a).expect(&rt, "memory"));
 }

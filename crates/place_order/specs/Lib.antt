@@ -1,3 +1,4 @@
 pub mod Labels
+pub mod Rising
 pub mod Rooms
 pub mod Tags

@@ -1,9 +1,10 @@
 // The order: labels in a list, each with a tag.
-ghost use Rattle.std.specs.Prelude.{◌≡◌, ◌↔◌, ◌+◌, ◌≤◌, ◌<◌, [], ◌∷◌, ◌++◌, Err, length, insert, drop, IfOk, OnOk, OnErr, IsTrue, vec_len, vec_capacity};
+ghost use Rattle.std.specs.Prelude.{ℕ, List, ◌≡◌, ◌↔◌, ◌+◌, ◌≤◌, ◌<◌, [], ◌∷◌, ◌++◌, Err, length, insert, drop, IfOk, OnOk, OnErr, IsTrue, vec_len, vec_capacity};
 ghost use Rattle.std.specs.List.{Contains};
 ghost use Rattle.std.specs.Ordering.{nat_cmp};
 ghost use Rattle.call_room.specs.Room.{is_made, spend};
 ghost use Rattle.place_order.specs.Labels.{place_in, IsNew};
+ghost use Rattle.place_order.specs.Rising.{IsRising};
 ghost use Rattle.place_order.specs.Tags.{IsTagged};
 ghost use Rattle.place_order.specs.Rooms.{call_code};
 ghost use Rattle.place_order.specs.declared.room.OrderCall.{OrderCall};
@@ -98,9 +99,23 @@ impl Order {
         }
     }
 
+    /// An order with the same labels, without room.
+    pub fn copied(&self, alloc: Global) -> Result<Order, NoMemory>
+        ensures { IfOk result (λ copy. copy.labels ≡ self.now.labels) }
+    {
+        let labels = Vec::from_slice(alloc, &self.labels)?;
+        let tags = Vec::from_slice(alloc, &self.tags)?;
+        Ok(Order {
+            labels,
+            tags,
+            room: Vec::new(alloc),
+        })
+    }
+
     fn make(&mut self, call: OrderCall, at: usize) -> Result<u64, OrderFull>
         requires { at ≤ length self.old.labels }
         ensures ok { IfOk result (λ label. IsNew label self.old.labels × (self.new.labels ≡ insert self.old.labels at label)) }
+        ensures rising { OnOk result ((labels : List ℕ) → IsRising self.old.labels labels → IsRising self.new.labels labels) }
         ensures full { (result ≡ Err OrderFull.Full) ↔ (length self.old.labels ≡ MOST_LABELS) }
         ensures err { OnErr result (self.new.labels ≡ self.old.labels) }
         ensures room { self.new.room ≡ spend call_code call self.old.room }
@@ -134,6 +149,7 @@ impl Order {
     /// A new label at the end: Full exactly where there are 100,000. Refused, the labels stay as they were.
     pub fn append(&mut self) -> Result<u64, OrderFull>
         ensures ok { IfOk result (λ label. IsNew label self.old.labels × (self.new.labels ≡ self.old.labels ++ label ∷ [])) }
+        ensures rising { OnOk result ((labels : List ℕ) → IsRising self.old.labels labels → IsRising self.new.labels labels) }
         ensures full { (result ≡ Err OrderFull.Full) ↔ (length self.old.labels ≡ MOST_LABELS) }
         ensures err { OnErr result (self.new.labels ≡ self.old.labels) }
         ensures room { self.new.room ≡ spend call_code OrderCall.Append self.old.room }
@@ -157,6 +173,7 @@ impl Order {
     pub fn insert_before(&mut self, label: u64) -> Result<u64, OrderFull>
         requires { Contains self.old.labels label }
         ensures ok { IfOk result (λ made. IsNew made self.old.labels × (self.new.labels ≡ insert self.old.labels (place_in self.old.labels label) made)) }
+        ensures rising { OnOk result ((labels : List ℕ) → IsRising self.old.labels labels → IsRising self.new.labels labels) }
         ensures full { (result ≡ Err OrderFull.Full) ↔ (length self.old.labels ≡ MOST_LABELS) }
         ensures err { OnErr result (self.new.labels ≡ self.old.labels) }
         ensures room { self.new.room ≡ spend call_code OrderCall.InsertBefore self.old.room }
@@ -180,6 +197,7 @@ impl Order {
     pub fn insert_after(&mut self, label: u64) -> Result<u64, OrderFull>
         requires { Contains self.old.labels label }
         ensures ok { IfOk result (λ made. IsNew made self.old.labels × (self.new.labels ≡ insert self.old.labels (place_in self.old.labels label + 1) made)) }
+        ensures rising { OnOk result ((labels : List ℕ) → IsRising self.old.labels labels → IsRising self.new.labels labels) }
         ensures full { (result ≡ Err OrderFull.Full) ↔ (length self.old.labels ≡ MOST_LABELS) }
         ensures err { OnErr result (self.new.labels ≡ self.old.labels) }
         ensures room { self.new.room ≡ spend call_code OrderCall.InsertAfter self.old.room }

@@ -8,7 +8,7 @@ use Rattle.lang_core.specs.Places.{Place, place_of, place_order, same_place, IsB
 use Rattle.lang_core.specs.Rows.{get, apply, cell_place, cell_size, is_beneath, is_over, kept_from, scan}
 use Rattle.lang_core.specs.declared.cells.Cell.{Cell}
 use Rattle.lang_core.proofs.RowLemmas.{ordered-kept, ordered-apply}
-use Rattle.versioned_rows.specs.Rising.{IsRising}
+use Rattle.place_order.specs.Rising.{IsRising}
 use Rattle.versioned_rows.specs.Places.{label_of, rows_after, before, writers}
 use Rattle.versioned_rows.specs.Rows.{row_place, labels_in}
 use Rattle.versioned_rows.specs.Versions.{IsIndexed}

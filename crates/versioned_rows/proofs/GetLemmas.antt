@@ -11,7 +11,7 @@ use Rattle.lang_core.specs.declared.cells.Cell.{Cell}
 use Rattle.lang_core.specs.declared.writes.Write.{Write}
 use Rattle.lang_core.proofs.RowLemmas.{ordered-apply}
 use Rattle.lang_core.proofs.ReadLemmas.{get-apply}
-use Rattle.versioned_rows.specs.Rising.{IsBeforeAll, IsRising, is_before}
+use Rattle.place_order.specs.Rising.{IsBeforeAll, IsRising, is_before}
 use Rattle.versioned_rows.specs.Places.{label_of, rows_after, before, is_written, writers}
 use Rattle.versioned_rows.specs.declared.places.PlaceWrites.{PlaceWrites}
 

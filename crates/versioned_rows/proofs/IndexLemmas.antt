@@ -6,7 +6,7 @@ use Rattle.std.proofs.lemmas.List.{map-append}
 use Rattle.std.proofs.lemmas.List.Elements.{filter-append}
 use Rattle.lang_core.specs.Places.{IsOrdered}
 use Rattle.lang_core.specs.Rows.{write_place}
-use Rattle.versioned_rows.specs.Rising.{IsBeforeAll, IsRising, is_before}
+use Rattle.place_order.specs.Rising.{IsBeforeAll, IsRising, is_before}
 use Rattle.versioned_rows.specs.Places.{label_of, is_written, writers, is_other, without, with_writer, with_place}
 use Rattle.versioned_rows.specs.Rows.{labels_in, row_place}
 use Rattle.versioned_rows.specs.Versions.{IsApart, IsIndexed}

@@ -1,5 +1,6 @@
 pub mod AgreeLemmas
 pub mod CellLemmas
+pub mod CopyLemmas
 pub mod EditLemmas
 pub mod GetLemmas
 pub mod IndexLemmas

@@ -4,7 +4,7 @@ use Rattle.std.specs.List.{filter, Contains, AllByRecursion}
 use Rattle.std.proofs.lemmas.Bool.{ltb-true, ltb-false}
 use Rattle.std.proofs.lemmas.List.{get_or_default, map-append}
 use Rattle.place_order.specs.Labels.{place_in}
-use Rattle.versioned_rows.specs.Rising.{IsBeforeAll, IsRising, is_before}
+use Rattle.place_order.specs.Rising.{IsBeforeAll, IsRising, is_before}
 use Rattle.versioned_rows.specs.Places.{label_of, is_other, with_place}
 use Rattle.versioned_rows.specs.declared.places.PlaceWrites.{PlaceWrites}
 use Rattle.versioned_rows.proofs.RisingLemmas.{before_kept, not_before_later}

@@ -4,7 +4,7 @@ use Rattle.std.specs.List.{filter, find, Contains}
 use Rattle.std.proofs.lemmas.Bool.{ne_eqb, cases_order, cases_lt, ltb-true, lt-ltb, le-ltb, ltb-false}
 use Rattle.std.proofs.lemmas.List.{get_or-map, length-map}
 use Rattle.place_order.specs.Labels.{place_in}
-use Rattle.versioned_rows.specs.Rising.{IsBeforeAll, IsRising, is_before}
+use Rattle.place_order.specs.Rising.{IsBeforeAll, IsRising, is_before}
 
 -- what passes is the front of a list, where what passes stands before what doesn't
 pub filter_front : {X : Type 0} (p : X → Bool) (xs : List X) (n : ℕ) → n ≤ length xs

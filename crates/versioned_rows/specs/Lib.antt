@@ -1,5 +1,4 @@
 pub mod Places
-pub mod Rising
 pub mod Rows
 pub mod Scans
 pub mod Versions

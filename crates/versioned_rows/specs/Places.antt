@@ -5,7 +5,7 @@ use Rattle.lang_core.specs.Places.{place_of, same_place}
 use Rattle.lang_core.specs.Rows.{apply, write_place}
 use Rattle.lang_core.specs.declared.cells.Cell.{Cell}
 use Rattle.lang_core.specs.declared.writes.Write.{Write}
-use Rattle.versioned_rows.specs.Rising.{is_before}
+use Rattle.place_order.specs.Rising.{is_before}
 use Rattle.versioned_rows.specs.declared.places.PlaceWrites.{PlaceWrites}
 
 abbrev pub label_of : PlaceWrites → ℕ

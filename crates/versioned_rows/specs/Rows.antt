@@ -27,3 +27,8 @@ spare_in rows t k = held spare_of 0 rows t k
 abbrev pub IsEdited : List ℕ → List ℕ → List ℕ → List Row → List Row → Type 0
 IsEdited t k labels old new =
     (u v : List ℕ) → labels_in new u v ≡ (if same_place (place_of t k) (place_of u v) then labels else labels_in old u v)
+
+-- a row of the same key, with the same labels
+pub record IsCopy (row copy : Row) : Type 0 where
+  pub place : row_place copy ≡ row_place row
+  pub labels : copy.labels.items ≡ row.labels.items

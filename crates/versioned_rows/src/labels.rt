@@ -2,7 +2,7 @@
 ghost use Rattle.std.specs.Prelude.{ℕ, ◌≡◌, ◌<◌, ◌≤◌, length, filter, map, take, true, false, slice_index_or};
 ghost use Rattle.std.specs.List.{Contains};
 ghost use Rattle.std.specs.Option.{ForSome};
-ghost use Rattle.versioned_rows.specs.Rising.{IsRising, is_before};
+ghost use Rattle.place_order.specs.Rising.{IsRising, is_before};
 
 use place_order::Order;
 

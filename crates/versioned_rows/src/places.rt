@@ -4,21 +4,32 @@ ghost use Rattle.std.specs.List.{Contains, AllByRecursion};
 ghost use Rattle.std.specs.Option.{option_copied};
 ghost use Rattle.lang_core.specs.Places.{IsOrdered};
 ghost use Rattle.lang_core.specs.Rows.{written, write_place};
-ghost use Rattle.versioned_rows.specs.Rising.{IsRising};
+ghost use Rattle.place_order.specs.Rising.{IsRising};
 ghost use Rattle.versioned_rows.specs.Places.{label_of, is_other, is_written, without, with_place};
 ghost use Rattle.versioned_rows.specs.Rows.{spare_in};
 ghost use Rattle.versioned_rows.specs.Versions.{IsIndexed};
 
 use crate::labels::{Labelled, count_before};
 use crate::rows::{Row, drop_labels, put_labels};
-use lang_core::{Text, Writes};
+use lang_core::{Copied, NoMemory, Text, Writes};
 use place_order::Order;
+use std::alloc::Global;
 
 /// What the place of a label wrote.
 #[derive(Drop)]
 pub struct PlaceWrites {
     pub label: u64,
     pub writes: Writes,
+}
+
+impl Copied for PlaceWrites {
+    fn copied(&self, alloc: Global) -> Result<PlaceWrites, NoMemory> {
+        let writes = self.writes.copied(alloc)?;
+        Ok(PlaceWrites {
+            label: self.label,
+            writes,
+        })
+    }
 }
 
 impl Labelled for PlaceWrites {

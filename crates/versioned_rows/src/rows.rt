@@ -3,9 +3,9 @@ ghost use Rattle.std.specs.Prelude.{ℕ, List, ◌≡◌, ◌+◌, ◌<◌, ◌�
 ghost use Rattle.std.specs.List.{Contains};
 ghost use Rattle.lang_core.specs.Places.{IsOrdered, place_of, same_place};
 ghost use Rattle.lang_core.specs.Rows.{write_place};
-ghost use Rattle.versioned_rows.specs.Rising.{IsRising};
+ghost use Rattle.place_order.specs.Rising.{IsRising};
 ghost use Rattle.versioned_rows.specs.Places.{is_written, is_other, with_writer};
-ghost use Rattle.versioned_rows.specs.Rows.{row_place, labels_in, spare_of, spare_in, IsEdited};
+ghost use Rattle.versioned_rows.specs.Rows.{row_place, labels_in, spare_of, spare_in, IsCopy, IsEdited};
 
 use crate::labels::count_before;
 use crate::seeking::{seek, seek_bytes};
@@ -94,6 +94,28 @@ pub fn make_row(
     let row = empty_row(alloc, table, key, spare)?;
     rows.insert(at, row)?;
     Ok(())
+}
+
+fn copied_row(alloc: Global, row: &Row) -> Result<Row, NoMemory>
+    ensures { IfOk result (IsCopy row.now) }
+{
+    let labels = Vec::from_slice(alloc, &row.labels)?;
+    let table = row.table.copied(alloc)?;
+    let key = row.key.copied(alloc)?;
+    Ok(Row { table, key, labels })
+}
+
+/// Rows with the same labels.
+pub fn copied_rows(alloc: Global, rows: &[Row]) -> Result<Vec<Row>, NoMemory>
+    requires { IsOrdered row_place rows.now }
+    ensures ordered { IfOk result (λ copies. IsOrdered row_place copies.items) }
+    ensures each { IfOk result (λ copies. (t k : List ℕ) → labels_in copies.items t k ≡ labels_in rows.now t k) }
+{
+    let mut copies = Vec::new(alloc);
+    for row in rows {
+        copies.push(copied_row(alloc, row)?)?;
+    }
+    Ok(copies)
 }
 
 /// Puts a label into the row of a key, which has a place for it.

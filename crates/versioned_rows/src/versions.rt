@@ -8,15 +8,16 @@ ghost use Rattle.lang_core.specs.declared.cells.Cell.{Cell};
 ghost use Rattle.versioned_rows.specs.Rows.{row_place};
 ghost use Rattle.versioned_rows.specs.Scans.{is_under, while, cell_at, row_cells};
 ghost use Rattle.call_room.specs.Room.{is_made, spend};
-ghost use Rattle.versioned_rows.specs.Rising.{IsRising};
+ghost use Rattle.place_order.specs.Rising.{IsRising};
 ghost use Rattle.versioned_rows.specs.Places.{label_of, rows_after, before, without, with_place};
 ghost use Rattle.versioned_rows.specs.Versions.{call_code, write_call, IsIndexed, IsCovered};
 
 use crate::labels::count_before;
 use crate::places::{PlaceWrites, find_place, put_in, take_out, text_at};
 use crate::room::{VersionsCall, ready_writes, take_writes};
-use crate::rows::{Row, labels_in};
+use crate::rows::{Row, copied_rows, labels_in};
 use crate::seeking::seek;
+use lang_base::copied_items;
 use lang_core::{
     Cell, Cells, Copied, MOST_SCAN_BYTES, MOST_SCAN_CELLS, NoMemory, Same, Text, Writes,
 };
@@ -102,6 +103,19 @@ impl Versions {
             rows: Vec::new(alloc),
             room: Vec::new(alloc),
         }
+    }
+
+    /// Equal versions, without room.
+    pub fn copied(&self, alloc: Global) -> Result<Versions, NoMemory>
+        ensures { IfOk result (λ copy. copy.versions ≡ self.now.versions) }
+    {
+        let places = copied_items(alloc, &self.places)?;
+        let rows = copied_rows(alloc, &self.rows)?;
+        Ok(Versions {
+            places,
+            rows,
+            room: Vec::new(alloc),
+        })
     }
 
     /// The text at a key of a table in the rows that the writes of all places before this one make, or of all places where

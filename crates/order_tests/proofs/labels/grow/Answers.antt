@@ -1,4 +1,4 @@
-use Rattle.order_tests.proofs.InsertLemmas.{put_there, still_there}
+use Rattle.place_order.proofs.InsertLemmas.{put_there, still_there}
 use Rattle.place_order.specs.Labels.{place_in}
 use Rattle.order_tests.proofs.labels.grow.Goals as goal
 

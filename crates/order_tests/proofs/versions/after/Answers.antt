@@ -1,5 +1,5 @@
 use Rattle.std.proofs.Common.{◌+◌}
-use Rattle.order_tests.proofs.InsertLemmas.{put_there, still_there}
+use Rattle.place_order.proofs.InsertLemmas.{put_there, still_there}
 use Rattle.place_order.specs.Labels.{place_in}
 use Rattle.order_tests.proofs.versions.after.Goals as goal
 

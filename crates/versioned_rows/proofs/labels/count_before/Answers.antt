@@ -1,7 +1,7 @@
 use Rattle.std.proofs.Common.{◌<◌, ◌+◌, ◌-◌, ◌/◌, length, sym, ap, ◌∙◌, subst, ℕ, arith}
 use Rattle.std.specs.List.{Contains}
 use Rattle.std.proofs.lemmas.List.{get_or_read}
-use Rattle.versioned_rows.specs.Rising.{is_before}
+use Rattle.place_order.specs.Rising.{is_before}
 use Rattle.versioned_rows.proofs.RisingLemmas.{filter_front, known, earlier, later}
 use Rattle.versioned_rows.proofs.labels.count_before.Goals as goal
 

@@ -1,5 +1,5 @@
 use Rattle.std.proofs.Common.{ℕ, ◌-◌, ◌≡◌, ◌<◌, ◌≤◌, true, false, length, get_or}
-use Rattle.versioned_rows.specs.Rising.{is_before}
+use Rattle.place_order.specs.Rising.{is_before}
 use Rattle.versioned_rows.proofs.labels.count_before.Given as goal
 
 abbrev pub invariant-loop-low : goal.invariant-loop-low

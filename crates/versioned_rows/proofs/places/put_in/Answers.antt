@@ -1,5 +1,5 @@
 use Rattle.std.proofs.Common.{map, ◌≡◌, ◌∷◌, ◌++◌, take, drop, Some, filter, ℕ, List, sym, ap, ◌∙◌, subst}
-use Rattle.versioned_rows.specs.Rising.{IsRising, is_before}
+use Rattle.place_order.specs.Rising.{IsRising, is_before}
 use Rattle.versioned_rows.specs.Places.{label_of, is_written}
 use Rattle.versioned_rows.specs.Places.{with_place}
 use Rattle.versioned_rows.proofs.RisingLemmas.{filter_rest, rising_kept}

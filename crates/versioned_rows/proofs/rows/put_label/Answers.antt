@@ -1,7 +1,7 @@
 use Rattle.std.proofs.Common.{◌≡◌, ◌<◌, ◌+◌, ℕ, true, List, ◌∷◌, ◌++◌, Some, not, length, get_or, filter, take, drop, sym, ap, ◌∙◌, refl, subst, vec_len, vec_capacity, arith}
 use Rattle.std.proofs.lemmas.List.{get_or_read, map-id}
 use Rattle.lang_core.specs.Places.{place_of, rank, is_taken}
-use Rattle.versioned_rows.specs.Rising.{IsRising, is_before}
+use Rattle.place_order.specs.Rising.{IsRising, is_before}
 use Rattle.versioned_rows.specs.Rows.{row_place, labels_in}
 use Rattle.versioned_rows.specs.Places.{with_writer}
 use Rattle.versioned_rows.specs.declared.rows.Row.{Row}

@@ -1,5 +1,5 @@
 use Rattle.std.proofs.Common.{◌<◌, ℕ, List, length, sym, subst, arith}
-use Rattle.versioned_rows.specs.Rising.{IsRising}
+use Rattle.place_order.specs.Rising.{IsRising}
 use Rattle.versioned_rows.specs.Places.{with_writer}
 use Rattle.versioned_rows.proofs.WriteLemmas.{unedited, edit_more, spare_less, spare_left}
 use Rattle.versioned_rows.proofs.rows.put_labels.Goals as goal

@@ -2,7 +2,7 @@ use Rattle.std.proofs.Common.{◌≡◌, ◌≤◌, ◌<◌, ◌-◌, ℕ, List,
 use Rattle.std.specs.Option.{option_copied}
 use Rattle.std.specs.List.{find}
 use Rattle.std.proofs.lemmas.List.{map-id}
-use Rattle.versioned_rows.specs.Rising.{IsRising}
+use Rattle.place_order.specs.Rising.{IsRising}
 use Rattle.versioned_rows.specs.Places.{label_of, writers, is_written}
 use Rattle.versioned_rows.specs.Rows.{labels_in}
 use Rattle.versioned_rows.proofs.RisingLemmas.{rising_kept, known_at}

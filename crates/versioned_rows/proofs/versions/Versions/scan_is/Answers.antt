@@ -1,7 +1,7 @@
 use Rattle.std.proofs.Common.{◌≡◌, ◌-◌, length, map, take, drop, sym, ap, ◌∙◌}
 use Rattle.lang_core.specs.Places.{place_of, rank}
 use Rattle.lang_core.specs.Rows.{kept_from, scan}
-use Rattle.versioned_rows.specs.Rising.{IsRising}
+use Rattle.place_order.specs.Rising.{IsRising}
 use Rattle.versioned_rows.specs.Places.{label_of, rows_after, before}
 use Rattle.versioned_rows.specs.Rows.{row_place}
 use Rattle.versioned_rows.specs.Scans.{is_under, while, row_cells}

@@ -1,5 +1,5 @@
 use Rattle.std.proofs.Common.{◌≡◌, List, map, sym, ap, subst}
-use Rattle.versioned_rows.specs.Rising.{IsRising}
+use Rattle.place_order.specs.Rising.{IsRising}
 use Rattle.versioned_rows.specs.Places.{label_of, is_other}
 use Rattle.versioned_rows.specs.declared.places.PlaceWrites.{PlaceWrites}
 use Rattle.versioned_rows.proofs.RisingLemmas.{rising_kept}

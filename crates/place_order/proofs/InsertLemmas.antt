@@ -1,5 +1,5 @@
 -- What a list holds into which something was put.
-use Rattle.std.proofs.Common.{◌≡◌, ℕ, List, [], ◌∷◌, ◌++◌, take, drop, sym, subst, inl, inr, refl, arith}
+use Rattle.std.proofs.Common.{ℕ, List, [], ◌∷◌, take, drop, sym, subst, inl, inr, refl, arith}
 use Rattle.std.specs.List.{Contains, insert}
 use Rattle.std.proofs.lemmas.List.{take-append-drop}
 use Rattle.std.proofs.lemmas.List.Elements.{Contains-append_left, Contains-append_right, Contains-append_cases}
