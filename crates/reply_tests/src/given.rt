@@ -1,5 +1,23 @@
 // Replies as bytes, of the service `bank` to the service `shop`, whose secret is `s`. The seals are those that
 // `openssl dgst -sha256 -hmac s` prints for the sealed bytes.
+use lang_core::{Name, NoMemory, Text};
+use std::alloc::Global;
+use wire_fields::name_of;
+
+/// The two services, and the secret of both.
+#[derive(Drop)]
+pub struct Services {
+    pub bank: Name,
+    pub shop: Name,
+    pub secret: Text,
+}
+
+pub fn bank_and_shop(alloc: Global) -> Result<Services, NoMemory> {
+    let bank = name_of(alloc, "bank")?;
+    let shop = name_of(alloc, "shop")?;
+    let secret = Text::of(alloc, "s")?;
+    Ok(Services { bank, shop, secret })
+}
 
 pub const LIVE: &str =
     "HTTP/1.1 200 OK\r\nAire-From: bank\r\nAire-Dest: shop\r\nAire-Request-Id: bank/1\r\nAire-Response-Id: shop/3\r\nAire-Version: 1\r\nAire-Answer-Version: 2\r\nAire-Seal: 3660387fc0003cb7f26883f3ed0200ddd5215f80919ef12fca5e5ad75be63bac\r\nContent-Type: text/plain; charset=utf-8\r\nContent-Length: 4\r\nConnection: close\r\n\r\nok 5";

@@ -1,28 +1,23 @@
 // Replies, written by their bytes.
-ghost use Rattle.std.specs.Prelude.{Some, None};
+ghost use Rattle.std.specs.Prelude.{◌≡◌, Some, None, IfOk};
 ghost use Rattle.wire_replies.specs.Writing.{IsFor};
 
-use crate::given::{ACK, CONFIRM, DENIED, FULL, LIVE, NOT_FOUND, NOT_HELD};
+use crate::given::{
+    ACK, CONFIRM, DENIED, FULL, LIVE, NOT_FOUND, NOT_HELD, Services, bank_and_shop,
+};
 use http_front::{WireResponse, write_response};
 use io_edge::MemorySink;
-use lang_core::{Copied, Name, NoMemory, RequestId, Response, Text};
-use repair_messages::{Ack, AnswerMessage, Confirm};
+use lang_core::{Copied, NoMemory, RequestId, Response, Text};
+use repair_messages::{Ack, AnswerMessage, Confirm, copied_pair};
 use std::alloc::Global;
 use wire_fields::name_of;
 use wire_replies::{Outgoing, write_reply};
 
-#[derive(Drop)]
-struct Services {
-    bank: Name,
-    shop: Name,
-    secret: Text,
-}
-
-fn bank_and_shop(alloc: Global) -> Result<Services, NoMemory> {
-    let bank = name_of(alloc, "bank")?;
-    let shop = name_of(alloc, "shop")?;
-    let secret = Text::of(alloc, "s")?;
-    Ok(Services { bank, shop, secret })
+fn holds(answer: Result<bool, NoMemory>) -> bool {
+    match answer {
+        Ok(yes) => yes,
+        Err(_) => false,
+    }
 }
 
 fn bytes_are(alloc: Global, response: &WireResponse, text: &str) -> bool {
@@ -45,39 +40,58 @@ fn is_written(alloc: Global, services: &Services, reply: &Outgoing, text: &str) 
     }
 }
 
-fn live_is(
-    alloc: Global,
-    services: &Services,
-    response: Response,
-    who: Text,
-    text: &str,
-) -> Result<bool, NoMemory> {
-    let caller = services.shop.copied(alloc)?;
-    let callee = services.bank.copied(alloc)?;
-    let answer = AnswerMessage {
+fn response(alloc: Global) -> Result<Response, NoMemory> {
+    let body = Text::of(alloc, "ok 5")?;
+    Ok(Response { status: 200, body })
+}
+
+fn answer(alloc: Global, services: &Services) -> Result<AnswerMessage, NoMemory>
+    ensures callee { IfOk result (λ answer. answer.callee ≡ services.now.bank) }
+    ensures caller { IfOk result (λ answer. answer.caller ≡ services.now.shop) }
+{
+    let (caller, callee) = copied_pair(alloc, &services.shop, &services.bank)?;
+    let response = response(alloc)?;
+    let who = Text::of(alloc, "bank")?;
+    Ok(AnswerMessage {
         caller,
         callee,
         id: 1,
         number: 3,
         answer_version: 2,
         version: 1,
-        response: response.copied(alloc)?,
+        response,
         who,
-    };
+    })
+}
+
+fn live_with(
+    alloc: Global,
+    services: &Services,
+    answer: AnswerMessage,
+    text: &str,
+) -> Result<bool, NoMemory>
+    requires callee { answer.callee ≡ services.now.bank }
+    requires caller { answer.caller ≡ services.now.shop }
+{
+    let service = services.bank.copied(alloc)?;
+    let response = response(alloc)?;
     let reply = Outgoing::Answered {
-        id: RequestId {
-            service: services.bank.copied(alloc)?,
-            number: 1,
-        },
+        id: RequestId { service, number: 1 },
         answer: Some(answer),
         response,
     };
     Ok(is_written(alloc, services, &reply, text))
 }
 
+fn live_is(alloc: Global, services: &Services, text: &str) -> Result<bool, NoMemory> {
+    match answer(alloc, services) {
+        Ok(answer) => live_with(alloc, services, answer, text),
+        Err(why) => Err(why),
+    }
+}
+
 fn ack_is(alloc: Global, services: &Services, text: &str) -> Result<bool, NoMemory> {
-    let caller = services.shop.copied(alloc)?;
-    let dest = services.bank.copied(alloc)?;
+    let (caller, dest) = copied_pair(alloc, &services.shop, &services.bank)?;
     let reply = Outgoing::Ack(Ack {
         caller,
         dest,
@@ -88,8 +102,7 @@ fn ack_is(alloc: Global, services: &Services, text: &str) -> Result<bool, NoMemo
 }
 
 fn confirm_is(alloc: Global, services: &Services, text: &str) -> Result<bool, NoMemory> {
-    let caller = services.bank.copied(alloc)?;
-    let callee = services.shop.copied(alloc)?;
+    let (caller, callee) = copied_pair(alloc, &services.bank, &services.shop)?;
     let reply = Outgoing::Confirm(Confirm {
         caller,
         callee,
@@ -115,21 +128,11 @@ fn refusal_is(
 fn replies_to_services(rt: HostRuntime) {
     let alloc = rt.alloc();
     let services = bank_and_shop(alloc).expect(&rt, "memory");
-    let response = Response {
-        status: 200,
-        body: Text::of(alloc, "ok 5").expect(&rt, "memory"),
-    };
-    let who = Text::of(alloc, "bank").expect(&rt, "memory");
-    let live = live_is(alloc, &services, response, who, LIVE).expect(&rt, "memory");
-    assert!(rt; live);
-    let ack = ack_is(alloc, &services, ACK).expect(&rt, "memory");
-    assert!(rt; ack);
-    let confirm = confirm_is(alloc, &services, CONFIRM).expect(&rt, "memory");
-    assert!(rt; confirm);
-    let denied = refusal_is(alloc, &services, "denied", 2, DENIED).expect(&rt, "memory");
-    assert!(rt; denied);
-    let not_held = refusal_is(alloc, &services, "notheld", 0, NOT_HELD).expect(&rt, "memory");
-    assert!(rt; not_held);
+    assert!(rt; holds(live_is(alloc, &services, LIVE)));
+    assert!(rt; holds(ack_is(alloc, &services, ACK)));
+    assert!(rt; holds(confirm_is(alloc, &services, CONFIRM)));
+    assert!(rt; holds(refusal_is(alloc, &services, "denied", 2, DENIED)));
+    assert!(rt; holds(refusal_is(alloc, &services, "notheld", 0, NOT_HELD)));
 }
 
 // To another client, whose replies have no seal.
@@ -163,8 +166,6 @@ fn full_is(alloc: Global, services: &Services, text: &str) -> Result<bool, NoMem
 fn replies_to_others(rt: HostRuntime) {
     let alloc = rt.alloc();
     let services = bank_and_shop(alloc).expect(&rt, "memory");
-    let not_found = not_found_is(alloc, &services, NOT_FOUND).expect(&rt, "memory");
-    assert!(rt; not_found);
-    let full = full_is(alloc, &services, FULL).expect(&rt, "memory");
-    assert!(rt; full);
+    assert!(rt; holds(not_found_is(alloc, &services, NOT_FOUND)));
+    assert!(rt; holds(full_is(alloc, &services, FULL)));
 }
