@@ -205,7 +205,7 @@ change_fits s f k c ps within few h =
     subst W (sym is) (subst Q (sym to)
     (change_at (book s) ns.front ns.here ns.back cs.front cs.here cs.back c ps (ns.before ∙ sym cs.before) (subst R is few) (subst P at h)))
 
-sends_change : (s : Kept) (n : Option ℕ) (o : Option CallMade) (next : ℕ) (c : CallMade) → Each IsSending (deletion s n o ++ named next c ∷ [])
+pub sends_change : (s : Kept) (n : Option ℕ) (o : Option CallMade) (next : ℕ) (c : CallMade) → Each IsSending (deletion s n o ++ named next c ∷ [])
 sends_change s (Some n) (Some o) next c = (tt, (tt, tt))
 sends_change s (Some n) None next c = (tt, tt)
 sends_change s None o next c = (tt, tt)

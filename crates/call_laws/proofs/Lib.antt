@@ -7,6 +7,7 @@ pub mod FittingLemmas
 pub mod SettleLemmas
 pub mod FlightLemmas
 pub mod KindLemmas
+pub mod LiveRows
 pub mod CallLaws
 pub mod FlightLaws
 pub mod CommitLaws

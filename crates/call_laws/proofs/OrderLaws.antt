@@ -58,7 +58,7 @@ goes_carried_out s (Create before after q) who i =
 goes_carried_out s (Retry name) who i = goes_released s who name
 
 -- the journal isn't changed before the rows come
-same_journal : (s : Kept) (command : Command) (who : List ℕ) (i : Inputs) → (carried_out s command who i).journal ≡ s.journal
+pub same_journal : (s : Kept) (command : Command) (who : List ℕ) (i : Inputs) → (carried_out s command who i).journal ≡ s.journal
 same_journal s (Cancel id) who i = refl
 same_journal s (Restore id) who i = refl
 same_journal s (Replace id method path body) who i = refl
