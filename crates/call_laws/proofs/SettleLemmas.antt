@@ -1,5 +1,5 @@
 -- The calls of one run in place of those of another.
-use Rattle.std.proofs.Common.{◌≡◌, ℕ, ◌+◌, ◌≤◌, Bool, true, false, ◌||◌, List, [], ◌∷◌, ◌++◌, Option, Some, None, nat_eq, refl, sym, ap, ◌∙◌, subst, inl, inr, arith, if◌then◌else◌}
+use Rattle.std.proofs.Common.{◌≡◌, ℕ, ◌+◌, ◌≤◌, Bool, true, false, ◌||◌, List, [], ◌∷◌, ◌++◌, Option, Some, None, nat_eq, refl, sym, ap, ◌∙◌, subst, inl, inr, arith, if◌then◌else◌, ne_eqb, length}
 use Rattle.std.proofs.lemmas.Bool.{cases_Bool}
 use Rattle.std.specs.Option.{option_map_or}
 use Rattle.std.specs.Cmp.Lexicographic.{same_text as text_is}
@@ -11,7 +11,7 @@ use Rattle.local_repair.specs.Steps.{same_call}
 use Rattle.journal_rows.specs.declared.row.Row.{Row}
 use Rattle.call_registers.specs.Registers.{register, next_number}
 use Rattle.call_registers.specs.declared.register.Register.{Register}
-use Rattle.service_meaning.specs.Calls.{named as named_row, replaced, deleted, version_of, all_deleted, slot_rows, slot_number, next_after, settling_rows, settling_numbers}
+use Rattle.service_meaning.specs.Calls.{named as named_row, replaced, deleted, version_of, all_deleted, slot_rows, slot_number, next_after, settling_rows, settling_numbers, keeps_number}
 use Rattle.service_meaning.specs.Fits.{count, Place, wanted_call, WantsItsCalls, FitsPlaces}
 use Rattle.call_laws.proofs.RowLemmas.{Each, each_of_all}
 use Rattle.call_laws.proofs.RegisterLemmas.{flip_false, next_none}
@@ -158,12 +158,24 @@ module _ (before : List Register) (b : Book) (n next : ℕ) (o c : CallMade) (ps
 
 -- ---- all slots
 
+-- what settling leaves: the registers of the old numbers and of new ones change, and no other
+pub record Settled (b : Book) (rows : List Row) (ns ks : List ℕ) (cs : List CallMade) (ps : List Place) : Type 0 where
+  pub fits : Fitting (entered rows b) (place ks cs ∷ ps)
+  pub others : (m : ℕ) → count m ns ≡ 0 → m ≤ length b.registers → register m (entered rows b).registers ≡ register m b.registers
+
+next_rises : (next : ℕ) (o c : CallMade) → next ≤ next_after next o c
+next_rises next o c = by_test (keeps_number o c)
+  where
+    by_test : (b : Bool) → next ≤ (if b then next else next + 1)
+    by_test true = omega arith
+    by_test false = omega arith
+
 pub settle_all : (before : List Register) (ns : List ℕ) (os cs : List CallMade) (b : Book) (next : ℕ) (ps : List Place)
     → HasRoom b (settling_rows before next ns os cs) → next ≡ next_number b.registers → SameVersions before b.registers ns → Fitting b (place ns os ∷ ps)
-    → Fitting (entered (settling_rows before next ns os cs) b) (place (settling_numbers next ns os cs) cs ∷ ps)
+    → Settled b (settling_rows before next ns os cs) ns (settling_numbers next ns os cs) cs ps
 settle_all before [] (o ∷ os) cs b next ps few is same f = (let w = (each_of_all (WantsItsCalls b.registers) (place [] (o ∷ os) ∷ ps) f.places.calls).0 in cc)
 settle_all before (n ∷ ns) [] cs b next ps few is same f = (let w = (each_of_all (WantsItsCalls b.registers) (place (n ∷ ns) [] ∷ ps) f.places.calls).0 in cc)
-settle_all before [] [] [] b next ps few is same f = fitting_nil b (no_place ∷ ps) f
+settle_all before [] [] [] b next ps few is same f = record { fits = fitting_nil b (no_place ∷ ps) f; others = λ m none within. refl }
 settle_all before [] [] (c ∷ cs) b next ps few is same f =
     let row = named_row next c in
     let rows = settling_rows before (next + 1) [] [] cs in
@@ -172,11 +184,20 @@ settle_all before [] [] (c ∷ cs) b next ps few is same f =
     let mid = entered (row ∷ []) b in
     let rest = settle_all before [] [] cs mid (next + 1) (place (next ∷ []) (c ∷ []) ∷ ps) (room_then b (row ∷ []) rows few) new.later tt
     (fitting_swap mid (place (next ∷ []) (c ∷ [])) no_place ps new.fits) in
-    fitting_then (row ∷ []) rows b (place (next ∷ ks) (c ∷ cs) ∷ ps)
-    (fitting_join (entered rows mid) (next ∷ []) ks (c ∷ []) cs ps (fitting_swap (entered rows mid) (place ks cs) (place (next ∷ []) (c ∷ [])) ps rest))
+    let later = new.later in
+    record {
+      fits = fitting_then (row ∷ []) rows b (place (next ∷ ks) (c ∷ cs) ∷ ps)
+          (fitting_join (entered rows mid) (next ∷ []) ks (c ∷ []) cs ps (fitting_swap (entered rows mid) (place ks cs) (place (next ∷ []) (c ∷ [])) ps rest.fits));
+      others = λ m none within.
+          ap (λ (x : Book). register m x.registers) (entered-append (row ∷ []) rows b) ∙ rest.others m refl (omega (arith, within, is, later))
+          ∙ new.others m (ne_eqb next m (λ e. omega (arith, is, e, within)));
+    }
 settle_all before (n ∷ ns) (o ∷ os) [] b next ps few is same f =
-    fitting_by (entered (all_deleted before (n ∷ ns) (o ∷ os)) b) ps (no_place ∷ ps) (with_none (entered (all_deleted before (n ∷ ns) (o ∷ os)) b).registers ps)
-    (delete_all before (n ∷ ns) (o ∷ os) b ps few same f).fits
+    let gone = delete_all before (n ∷ ns) (o ∷ os) b ps few same f in
+    record {
+      fits = fitting_by (entered (all_deleted before (n ∷ ns) (o ∷ os)) b) ps (no_place ∷ ps) (with_none (entered (all_deleted before (n ∷ ns) (o ∷ os)) b).registers ps) gone.fits;
+      others = λ m none within. gone.others m none;
+    }
 settle_all before (n ∷ ns) (o ∷ os) (c ∷ cs) b next ps few is same f =
     let first = slot_rows before next n o c in
     let number = slot_number next n o c in
@@ -196,8 +217,16 @@ settle_all before (n ∷ ns) (o ∷ os) (c ∷ cs) b next ps few is same f =
     let versions = versions_kept before b.registers mid.registers n next slot.others ns away fresh same.1 in
     let rest = settle_all before ns os cs mid later (place (number ∷ []) (c ∷ []) ∷ ps) (room_then b first rows few) slot.follows versions
     (fitting_swap mid (place (number ∷ []) (c ∷ [])) (place ns os) ps slot.fits) in
-    fitting_then first rows b (place (number ∷ ks) (c ∷ cs) ∷ ps)
-    (fitting_join (entered rows mid) (number ∷ []) ks (c ∷ []) cs ps (fitting_swap (entered rows mid) (place ks cs) (place (number ∷ []) (c ∷ [])) ps rest))
+    let rises = next_rises next o c in
+    let follows = slot.follows in
+    record {
+      fits = fitting_then first rows b (place (number ∷ ks) (c ∷ cs) ∷ ps)
+          (fitting_join (entered rows mid) (number ∷ []) ks (c ∷ []) cs ps (fitting_swap (entered rows mid) (place ks cs) (place (number ∷ []) (c ∷ [])) ps rest.fits));
+      others = λ m none within. (
+          let parts = count_parts n m ns none in
+          ap (λ (x : Book). register m x.registers) (entered-append first rows b) ∙ rest.others m parts.1 (omega (arith, within, is, rises, follows))
+          ∙ slot.others m parts.0 (ne_eqb next m (λ e. omega (arith, is, e, within))));
+    }
   where
     one_most : (c : Option CallMade) → one_if c ≤ 1
     one_most None = omega arith

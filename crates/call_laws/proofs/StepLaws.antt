@@ -1,24 +1,24 @@
 -- A repair step keeps what fits of calls.
-use Rattle.std.proofs.Common.{◌≡◌, Bool, true, false, List, [], ◌∷◌, ◌++◌, Option, Some, None, map, refl, sym, ap, ◌∙◌, subst, inl, inr, arith, length-append, if◌then◌else◌}
+use Rattle.std.proofs.Common.{◌≡◌, Bool, true, false, List, [], ◌∷◌, ◌++◌, Option, Some, None, map, refl, sym, ap, ◌∙◌, subst, inl, inr, arith, length-append, if◌then◌else◌, ℕ, ◌≤◌, length}
 use Rattle.std.proofs.lemmas.Bool.{cases_Bool}
 use Rattle.lang_core.specs.declared.cells.Cell.{Cell}
 use Rattle.request_log.specs.Entries.{IsDistinct, with_entry}
 use Rattle.request_log.specs.declared.entry.Entry.{Entry}
 use Rattle.request_log.specs.declared.entry.Made.{Made}
 use Rattle.local_repair.specs.Current.{Consumed, after_entry}
-use Rattle.local_repair.specs.Steps.{calls_of_made, is_new_answer, remade, raised}
+use Rattle.local_repair.specs.Steps.{calls_of_made, is_new_answer, remade, raised, answer_or_tentative}
 use Rattle.local_repair.specs.Tests.{is_current}
 use Rattle.journal_rows.specs.declared.row.Row.TheVariants.{Answered}
-use Rattle.call_registers.specs.Registers.{next_number}
+use Rattle.call_registers.specs.Registers.{next_number, register, consumed_in}
 use Rattle.service_meaning.specs.State.{Kept, answers}
 use Rattle.service_meaning.specs.Steps.{new_record, new_numbers, sent_rows, answer_rows, answered_replies, stepped, Stale, stale_in, step_by, step_event}
-use Rattle.service_meaning.specs.Fits.{Fits, FitsPlaces, place_of_entry, place_of_flight}
+use Rattle.service_meaning.specs.Fits.{Fits, FitsPlaces, place_of_entry, place_of_flight, count}
 use Rattle.call_laws.proofs.RowLemmas.{Each, each_append, each_weaker, IsSending, IsUnseen, IsUntaken, IsUnordered, IsPlain, sending_unseen, sending_untaken, sending_unordered}
-use Rattle.call_laws.proofs.FittingLemmas.{entered, HasRoom, room_first, room_then, Fitting, fitting_then, fitting_plain}
+use Rattle.call_laws.proofs.FittingLemmas.{entered, HasRoom, room_first, room_then, Fitting, fitting_then, fitting_plain, Book, entered-append, plain_rows}
 use Rattle.call_laws.proofs.SettleLemmas.{same_versions, settle_all}
 use Rattle.call_laws.proofs.FlightLemmas.{flies_from, flies_fit, flies_rows}
 use Rattle.call_laws.proofs.KindLemmas.{sends_settled}
-use Rattle.call_laws.proofs.CallLaws.{Goes, goes_same, book, noted_calls}
+use Rattle.call_laws.proofs.CallLaws.{Goes, goes_same, book, noted_calls, FitsCalls, IsFew}
 use Rattle.call_laws.proofs.EntryPlaces.{Stands, with_entry_at, others, entry_to_head, entry_from_head}
 
 -- the first stale entry is one of the entries
@@ -73,7 +73,7 @@ goes_stepped s e m st distinct =
           let settled = settle_all s.registers e.slots (calls_of_made e.made) m.trace.calls (book s) (next_number s.registers) away
           (room_first (book s) first last room) refl (same_versions s.registers e.slots) at in
           let whole = fitting_then first last (book s) (place_of_entry new ∷ away)
-          (fitting_plain last (entered first (book s)) (place_of_entry new ∷ away) (room_then (book s) first last room) (answer_plain e m b) settled) in
+          (fitting_plain last (entered first (book s)) (place_of_entry new ∷ away) (room_then (book s) first last room) (answer_plain e m b) settled.fits) in
           let end = (entered rows (book s)).registers in
           let D : List Entry → Type 0 = λ xs. IsDistinct xs in
           let is : es ≡ st.before ++ new ∷ st.rest = ap (with_entry new) st.is ∙ with_entry_at st.before e new st.rest refl (subst D st.is distinct) in
@@ -94,3 +94,23 @@ goes_step_by s (Some x) is distinct =
 
 pub step_goes : (s : Kept) → Fits s → Goes s (step_event s).service
 step_goes s f = goes_step_by s (stale_in (answers s) [] s.entries) refl f.asked.distinct
+
+-- a step leaves what the calls of all other entries and of flights consume
+pub stepped_others : (s : Kept) (e : Entry) (m : Made) → Stands s.entries e → FitsCalls s → IsFew (stepped s e m).service
+    → (n : ℕ) → count n e.slots ≡ 0 → n ≤ length s.registers → answers (stepped s e m).service n ≡ answers s n
+stepped_others s e m st h few n none within =
+    let first = sent_rows s e m in
+    let last = answer_rows e m in
+    let rows = first ++ last in
+    let sum = length-append s.journal rows in
+    let room : HasRoom (book s) rows = record { counts = omega (arith, few, sum) } in
+    let fs = map place_of_flight s.flights in
+    let away = others st.before st.rest fs in
+    let E : List Entry → Type 0 = λ xs. FitsPlaces s.registers (map place_of_entry xs ++ fs) in
+    let at : Fitting (book s) (place_of_entry e ∷ away) = record { sent = h.sent; places = entry_to_head s.registers st.before e st.rest fs (subst E st.is h.places) } in
+    let settled = settle_all s.registers e.slots (calls_of_made e.made) m.trace.calls (book s) (next_number s.registers) away
+    (room_first (book s) first last room) refl (same_versions s.registers e.slots) at in
+    let mid = entered first (book s) in
+    let same : (entered rows (book s)).registers ≡ mid.registers =
+    ap (λ (x : Book). x.registers) (entered-append first last (book s)) ∙ plain_rows (length mid.journal) mid.registers last (answer_plain e m (is_new_answer e.made m)) in
+    ap (λ rs. answer_or_tentative (consumed_in (register n rs))) same ∙ ap (λ o. answer_or_tentative (consumed_in o)) (settled.others n none within)
