@@ -2,7 +2,7 @@
 use Rattle.std.proofs.Common.{◌≡◌, ℕ, suc, ◌<◌, Bool, true, false, cond, List, [], ◌∷◌, ◌++◌, nat_lt, length, get_or, take, drop, map, refl, sym, ap, ◌∙◌, subst}
 use Rattle.std.specs.List.{filter, list_any, All, AllByRecursion}
 use Rattle.std.proofs.lemmas.List.{map-append}
-use Rattle.std.proofs.lemmas.List.Elements.{filter-append, All-from_recursion, recursion_from_All}
+use Rattle.std.proofs.lemmas.List.Elements.{filter-append, All-append, All-cons, All-filter, All-from_recursion, recursion_from_All}
 use Rattle.versioned_rows.specs.Places.{is_other}
 use Rattle.versioned_rows.proofs.GetLemmas.{filter_filter, filter-map}
 use Rattle.dependency_index.specs.Numbers.{Rises, with_number}
@@ -107,16 +107,32 @@ module _ (test : ReadAt → Bool) where
       by false e = sym (others (label_of own) (labels_with test ns) (labels_rise ns r))
 
 -- the labels of all that is noted
-pub noted_rise : (own : Noted) (ns : List Noted) → Rises (map label_of ns) → Rises (map label_of (with_noted own ns))
-noted_rise own ns r =
+labels_anew : (own : Noted) (ns : List Noted) → map label_of (with_noted own ns) ≡ with_number (label_of own) (map label_of ns)
+labels_anew own ns =
     let l = label_of own in
     let xs = filter (λ n. nat_lt (label_of n) l) ns in
     let ys = filter (λ n. nat_lt l (label_of n)) ns in
-    let P : List ℕ → Type 0 = λ m. Rises m in
-    let e : map label_of (with_noted own ns) ≡ with_number l (map label_of ns) =
     map-append label_of xs (own ∷ ys) ∙ ap (λ m. m ++ l ∷ map label_of ys) (sym (filter-map label_of (λ x. nat_lt x l) ns))
-    ∙ ap (λ m. filter (λ x. nat_lt x l) (map label_of ns) ++ l ∷ m) (sym (filter-map label_of (λ x. nat_lt l x) ns)) in
-    subst P (sym e) (rises_put l (map label_of ns) r)
+    ∙ ap (λ m. filter (λ x. nat_lt x l) (map label_of ns) ++ l ∷ m) (sym (filter-map label_of (λ x. nat_lt l x) ns))
+
+pub noted_rise : (own : Noted) (ns : List Noted) → Rises (map label_of ns) → Rises (map label_of (with_noted own ns))
+noted_rise own ns r =
+    let P : List ℕ → Type 0 = λ m. Rises m in
+    subst P (sym (labels_anew own ns)) (rises_put (label_of own) (map label_of ns) r)
+
+pub noted_all : (P : ℕ → Type 0) (own : Noted) (ns : List Noted) → All P (map label_of ns) → P (label_of own) → All P (map label_of (with_noted own ns))
+noted_all P own ns all here =
+    let l = label_of own in
+    let xs = map label_of ns in
+    let Q : List ℕ → Type 0 = λ m. All P m in
+    subst Q (sym (labels_anew own ns))
+    (All-append P (filter (λ x. nat_lt x l) xs) (l ∷ filter (λ x. nat_lt l x) xs) (All-filter (λ x. nat_lt x l) P xs all)
+    (All-cons P l (filter (λ x. nat_lt l x) xs) here (All-filter (λ x. nat_lt l x) P xs all)))
+
+pub left_all : (P : ℕ → Type 0) (label : ℕ) (ns : List Noted) → All P (map label_of ns) → All P (map label_of (without label ns))
+left_all P label ns all =
+    let Q : List ℕ → Type 0 = λ m. All P m in
+    subst Q (filter-map label_of (is_other label) ns) (All-filter (is_other label) P (map label_of ns) all)
 
 pub left_rise : (label : ℕ) (ns : List Noted) → Rises (map label_of ns) → Rises (map label_of (without label ns))
 left_rise label ns r =

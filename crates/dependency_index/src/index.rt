@@ -198,6 +198,8 @@ impl Index {
     /// Notes where a label's reads looked, in place of those that it had. Refused, nothing changes.
     pub fn note_reads(&mut self, alloc: Global, label: u64, reads: &Reads) -> Result<(), NoMemory>
         ensures ok { OnOk result (self.new.reads ≡ with_noted (record { label = label; reads = map read_at reads.now }) self.old.reads) }
+        ensures known { OnOk result ((order : List ℕ) → All (Contains order) (map label_of self.old.reads) → Contains order label
+            → All (Contains order) (map label_of self.new.reads)) }
         ensures err { OnErr result (self.new.reads ≡ self.old.reads) }
         ensures room { self.new.room ≡ spend call_code (note_call reads.now) self.old.room }
         ensures ready { IsTrue (is_made call_code (note_call reads.now) self.old.room) → IsOk result }
@@ -231,6 +233,7 @@ impl Index {
     /// Takes out what was noted of a label, if anything was.
     pub fn forget(&mut self, label: u64)
         ensures reads { self.new.reads ≡ without label self.old.reads }
+        ensures known { (order : List ℕ) → All (Contains order) (map label_of self.old.reads) → All (Contains order) (map label_of self.new.reads) }
         ensures room { self.new.room ≡ self.old.room }
     {
         unnote(&mut self.noted, &mut self.rows, label);
