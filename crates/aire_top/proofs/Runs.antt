@@ -9,16 +9,16 @@ use Rattle.io_edge.proofs.Pieces.{front_whole, wrote_more}
 use Rattle.journal_rows.specs.declared.verdict.Verdict.{Verdict}
 use Rattle.journal_rows.specs.declared.verdict.Verdict.TheVariants.{Legal, Forged, Unsettled}
 use Rattle.service_core.specs.Events.{Kept}
-use Rattle.world_core.specs.Verdicts.{IsLegalIf, verdict}
+use Rattle.world_core.specs.Verdicts.{IsLegalIf}
 use Rattle.world_core.specs.Worlds.{World}
 use Rattle.script_run.specs.Plays.{Played, played, run_of_script}
 use Rattle.script_run.specs.Stops.{DoesAll, IsRefusedAt, StopsEarly, StopsInLine}
-use Rattle.script_run.proofs.Playing.{early_front, line_early}
+use Rattle.script_run.proofs.Playing.{early_front}
 use Rattle.world_file.specs.Numbers.{refusal_text}
 use Rattle.world_file.specs.declared.setup.Setup.{Setup}
 use Rattle.aire_top.specs.Causes.{what_of}
 use Rattle.aire_top.specs.Closings.{Closes, ClosesWorldless, IsGot, RunsIn}
-use Rattle.aire_top.specs.Endings.{Answer, Asked, ByScript, EndsWith, IsGoodRun, LacksInScript, LacksMemory, Outside, RunEnds, ScriptEnds, Untouched, answer, lacking_line, nothing, of_service, outside, refused_line, unread_line, usage_line, world_line}
+use Rattle.aire_top.specs.Endings.{Answer, Asked, ByScript, EndsWith, IsGoodRun, LacksInScript, LacksMemory, Outside, RunEnds, ScriptEnds, Untouched, lacking_line, nothing, of_services, outside, refused_line, unread_line, usage_line, world_line}
 use Rattle.aire_top.specs.Top.{Is, WorldOrRefusal, Words, fitting, fresh, is_input, misfit, script_told, script_word, words_of, world_path, world_told, world_word}
 use Rattle.aire_top.specs.declared.loading.NoWorld.{NoWorld}
 use Rattle.aire_top.specs.declared.loading.NoWorld.TheVariants.{NoMemory, Failed as LoadFailed, TooLong, Refused}
@@ -64,17 +64,6 @@ last_ends a b line (Err e) whole short fails = record { front = short.0; of_line
 pub ends_now : (a : Writes) → EndsWith a a [] []
 ends_now a = record { front = []; of_line = ([], refl); wrote = λ all told. told ∙ ap Some (sym (append-nil all)); whole = inl refl }
 
--- the services are that of a world of one
-pub closes_alone : (service : Kept) (services : List Kept) (a b : Writes) (line : List ℕ) (ans : Answer) → services ≡ service ∷ [] → Closes a b (answer 3 services (Some (verdict services))) line ans → Closes a b (of_service 3 service) line ans
-closes_alone service services a b line ans alone ends =
-    let P : List Kept → Type 0 = λ x. Closes a b (answer 3 x (Some (verdict x))) line ans in
-    subst P alone ends
-
-pub closed_alone : (status : ℕ) (service : Kept) (services : List Kept) (a : Writes) (ans : Answer) → services ≡ service ∷ [] → ans ≡ answer status services (Some (verdict services)) → Closes a a (of_service status service) [] ans
-closed_alone status service services a ans alone is =
-    let P : List Kept → Type 0 = λ x. ans ≡ answer status x (Some (verdict x)) in
-    inl (subst P alone is, ends_now a)
-
 -- ---- a script in a world
 
 run_of-long : (start : World) (script : List ℕ) → 16777216 < length script → run_of_script start script ≡ record { world = start; out = []; refused = Some (0, 7) }
@@ -83,8 +72,8 @@ run_of-long start script long = let e : nat_lt 16777216 (length script) ≡ true
 run_of-short : (start : World) (script : List ℕ) → length script ≤ 16777216 → run_of_script start script ≡ played start script
 run_of-short start script short = let e : nat_lt 16777216 (length script) ≡ false = search (tests, rules) in rw e refl
 
-service_of : (p q : Played) (world : World) (service : Kept) → p ≡ q → world ≡ q.world → service ≡ world.service → service ≡ p.world.service
-service_of p q world service same done is = is ∙ ap (λ (w : World). w.service) (done ∙ sym (ap (λ (x : Played). x.world) same))
+services_of : (p q : Played) (world : World) (services : List Kept) → p ≡ q → world ≡ q.world → services ≡ world.services → services ≡ p.world.services
+services_of p q world services same done is = is ∙ ap (λ (w : World). w.services) (done ∙ sym (ap (λ (x : Played). x.world) same))
 
 -- memory is wanting when some of what the script prints is written
 lacks_behind : (start : World) (script : List ℕ) (a b c : Writes) (ans : Answer) → length script ≤ 16777216 → WroteFront a b (played start script).out → a.faults ≤ b.faults → LacksMemory b c ans
@@ -99,52 +88,38 @@ lacks_behind start script a b c ans short f h lacks =
     }
 
 -- all lines are done
-pub all_done : (start : World) (script : List ℕ) (world : World) (service : Kept) (a b c : Writes) (ans : Answer) → length script ≤ 16777216 → DoesAll (played start script) world a b → (played start script).refused ≡ None → a.faults ≤ b.faults
-    → service ≡ world.service → Closes b c (of_service 0 service) [] ans → ScriptEnds start script a c ans
-all_done start script world service a b c ans short does goes h is (inl good) =
+pub all_done : (start : World) (script : List ℕ) (world : World) (services : List Kept) (a b : Writes) (ans : Answer) → length script ≤ 16777216 → DoesAll (played start script) world a b → (played start script).refused ≡ None
+    → services ≡ world.services → ans ≡ of_services 0 services → ScriptEnds start script a b ans
+all_done start script world services a b ans short does goes is good =
     let p = run_of-short start script short in
-    let W : Played → Type 0 = λ q. Wrote a c q.out in
+    let W : Played → Type 0 = λ q. Wrote a b q.out in
     inl (record {
       not_refused = ap (λ (q : Played). q.refused) p ∙ goes;
-      answered = good.0 ∙ ap (of_service 0) (service_of _ _ world service p does.same_world is);
-      wrote = subst W (sym p) (nothing_more a b c _ does.wrote good.1);
+      answered = good ∙ ap (of_services 0) (services_of _ _ world services p does.same_world is);
+      wrote = subst W (sym p) does.wrote;
     })
-all_done start script world service a b c ans short does goes h is (inr lacks) =
-    inr (inr (inr (lacks_behind start script a b c ans short (front_whole a b _ does.wrote) h lacks)))
 
 -- a line is refused
-pub at_line : (start : World) (script : List ℕ) (line number : ℕ) (world : World) (service : Kept) (a b c : Writes) (ans : Answer) → length script ≤ 16777216 → DoesAll (played start script) world a b → IsRefusedAt line number (played start script)
-    → a.faults ≤ b.faults → service ≡ world.service → Closes b c (of_service 3 service) (refused_line line number) ans → ScriptEnds start script a c ans
-at_line start script line number world service a b c ans short does at h is (inl good) =
+pub at_line : (start : World) (script : List ℕ) (line number : ℕ) (world : World) (services : List Kept) (a b c : Writes) (ans : Answer) → length script ≤ 16777216 → DoesAll (played start script) world a b → IsRefusedAt line number (played start script)
+    → a.faults ≤ b.faults → services ≡ world.services → Closes b c (of_services 3 services) (refused_line line number) ans → ScriptEnds start script a c ans
+at_line start script line number world services a b c ans short does at h is (inl good) =
     let p = run_of-short start script short in
     let E : Played → Type 0 = λ q. EndsWith a c q.out (refused_line line number) in
     inr (inl (record {
       line = line;
       number = number;
       at_line = ap (λ (q : Played). q.refused) p ∙ at;
-      answered = good.0 ∙ ap (of_service 3) (service_of _ _ world service p does.same_world is);
+      answered = good.0 ∙ ap (of_services 3) (services_of _ _ world services p does.same_world is);
       ends = subst E (sym p) (ends_behind a b c _ _ does.wrote h good.1);
     }))
-at_line start script line number world service a b c ans short does at h is (inr lacks) =
+at_line start script line number world services a b c ans short does at h is (inr lacks) =
     inr (inr (inr (lacks_behind start script a b c ans short (front_whole a b _ does.wrote) h lacks)))
 
 -- a write failed in a line
-pub cut_short : (start : World) (script : List ℕ) (world : World) (service : Kept) (a b c : Writes) (ans : Answer) → length script ≤ 16777216 → StopsInLine start script world a b → WriteFails a b → a.faults ≤ b.faults → b.faults ≤ c.faults
-    → service ≡ world.service → Closes b c (of_service 5 service) [] ans → ScriptEnds start script a c ans
-cut_short start script world service a b c ans short stops fails h more is (inl good) =
-    inr (inr (inl (record {
-      world = world;
-      answered = good.0 ∙ ap (of_service 5) is;
-      in_line = record {
-        lines = stops.lines;
-        not_refused = stops.not_refused;
-        same_world = stops.same_world;
-        wrote = (stops.wrote.0, stops.wrote.1, stops.wrote.2, stops.wrote.3, nothing_more a b c _ stops.wrote.4 good.1);
-      };
-      fault = fails_until a b c more fails;
-    })))
-cut_short start script world service a b c ans short stops fails h more is (inr lacks) =
-    inr (inr (inr (lacks_behind start script a b c ans short (early_front start script world a b (line_early start script world a b stops)) h lacks)))
+pub cut_short : (start : World) (script : List ℕ) (world : World) (services : List Kept) (a b : Writes) (ans : Answer) → StopsInLine start script world a b → WriteFails a b
+    → services ≡ world.services → ans ≡ of_services 5 services → ScriptEnds start script a b ans
+cut_short start script world services a b ans stops fails is good =
+    inr (inr (inl (record { world = world; answered = good ∙ ap (of_services 5) is; in_line = stops; fault = fails })))
 
 -- memory was wanting
 pub lacked : (start : World) (script : List ℕ) (world : World) (a b c : Writes) (ans : Answer) → length script ≤ 16777216 → StopsEarly start script world a b → a.faults ≤ b.faults → LacksMemory b c ans → ScriptEnds start script a c ans
@@ -154,19 +129,19 @@ lacked start script world a b c ans short early h lacks =
 -- ---- a script that a word names
 
 -- a script that isn't too long
-pub in_script : (setup : Setup) (word : List ℕ) (before now : Outside) (world : World) (bytes script : List ℕ) (ans : Answer) → IsGot word before.loads now.loads before.reads now.reads script → world ≡ fresh setup → bytes ≡ script
-    → ScriptEnds world bytes before.writes now.writes ans → RunsIn setup word before now ans
-in_script setup word before now world bytes script ans got start same ends =
+pub in_script : (setups : List Setup) (word : List ℕ) (before now : Outside) (world : World) (bytes script : List ℕ) (ans : Answer) → IsGot word before.loads now.loads before.reads now.reads script → world ≡ fresh setups → bytes ≡ script
+    → ScriptEnds world bytes before.writes now.writes ans → RunsIn setups word before now ans
+in_script setups word before now world bytes script ans got start same ends =
     let W : World → Type 0 = λ w. ScriptEnds w bytes before.writes now.writes ans in
-    let B : List ℕ → Type 0 = λ b. ScriptEnds (fresh setup) b before.writes now.writes ans in
+    let B : List ℕ → Type 0 = λ b. ScriptEnds (fresh setups) b before.writes now.writes ans in
     inl (record { script = script; got = got; ended = subst B same (subst W start ends) })
 
 -- a script that is too long
-pub too_long : (setup : Setup) (word : List ℕ) (before now : Outside) (service : Kept) (ans : Answer) → service ≡ (fresh setup).service
-    → ((script : List ℕ) × IsGot word before.loads now.loads before.reads now.reads script × (16777216 < length script)) → Closes before.writes now.writes (of_service 3 service) (refused_line 0 7) ans
-    → RunsIn setup word before now ans
-too_long setup word before now service ans is got (inl good) =
-    let p = run_of-long (fresh setup) got.0 got.2 in
+pub too_long : (setups : List Setup) (word : List ℕ) (before now : Outside) (services : List Kept) (ans : Answer) → services ≡ (fresh setups).services
+    → ((script : List ℕ) × IsGot word before.loads now.loads before.reads now.reads script × (16777216 < length script)) → Closes before.writes now.writes (of_services 3 services) (refused_line 0 7) ans
+    → RunsIn setups word before now ans
+too_long setups word before now services ans is got (inl good) =
+    let p = run_of-long (fresh setups) got.0 got.2 in
     let E : Played → Type 0 = λ q. EndsWith before.writes now.writes q.out (refused_line 0 7) in
     inl (record {
       script = got.0;
@@ -175,11 +150,11 @@ too_long setup word before now service ans is got (inl good) =
         line = 0;
         number = 7;
         at_line = ap (λ (q : Played). q.refused) p;
-        answered = good.0 ∙ ap (of_service 3) (service_of _ _ (fresh setup) service p refl is);
+        answered = good.0 ∙ ap (of_services 3) (services_of _ _ (fresh setups) services p refl is);
         ends = subst E (sym p) good.1;
       }));
     })
-too_long setup word before now service ans is got (inr lacks) = inr (inr lacks)
+too_long setups word before now services ans is got (inr lacks) = inr (inr lacks)
 
 -- ---- a run of the program
 
@@ -194,13 +169,13 @@ script_since true a b c reads now h fails = fails
 script_since false a b c reads now h fails = (loads_since a b c h fails.0, fails.1)
 
 -- the world stands, and a script is run in it, or can't be read
-pub in_world : (world script : List ℕ) (setup : Setup) (loads mid : Loads) (reads : Reads) (writes : Writes) (now : Outside) (ans : Answer) → Is (world_told loads.files world) (Ok (setup ∷ [])) → mid.files ≡ loads.files → Asked loads mid (world_path world)
-    → loads.faults ≤ mid.faults → RunsIn setup script (outside mid reads writes) now ans → RunEnds (fitting world script) (outside loads reads writes) now ans
-in_world world script setup loads mid reads writes now ans stands same asked h (inl run) =
+pub in_world : (world script : List ℕ) (setups : List Setup) (loads mid : Loads) (reads : Reads) (writes : Writes) (now : Outside) (ans : Answer) → Is (world_told loads.files world) (Ok setups) → mid.files ≡ loads.files → Asked loads mid (world_path world)
+    → loads.faults ≤ mid.faults → RunsIn setups script (outside mid reads writes) now ans → RunEnds (fitting world script) (outside loads reads writes) now ans
+in_world world script setups loads mid reads writes now ans stands same asked h (inl run) =
     let T : Option (List ℕ → Option (List ℕ)) → Type 0 = λ files. Is (script_told files reads.left script) run.script in
     inl (record {
       fit = refl;
-      setup = setup;
+      setups = setups;
       world = stands;
       script = run.script;
       of_word = subst T same run.got.of_word;
@@ -209,20 +184,20 @@ in_world world script setup loads mid reads writes now ans stands same asked h (
       read = run.got.read;
       ended = run.ended;
     })
-in_world world script setup loads mid reads writes now ans stands same asked h (inr (inl (lost, inl good))) =
+in_world world script setups loads mid reads writes now ans stands same asked h (inr (inl (lost, inl good))) =
     inr (inr (inr (inl (record {
       fit = refl;
       answered = good.0;
       ends = good.1;
       cause = inr (record {
-        setup = setup;
+        setups = setups;
         world = stands;
         asked = asked_more loads mid now.loads _ _ asked lost.asked;
         fault = script_since (is_input script) loads mid now.loads reads now.reads h lost.fault;
       });
     }))))
-in_world world script setup loads mid reads writes now ans stands same asked h (inr (inl (lost, inr lacks))) = inr (inr (inr (inr lacks)))
-in_world world script setup loads mid reads writes now ans stands same asked h (inr (inr lacks)) = inr (inr (inr (inr lacks)))
+in_world world script setups loads mid reads writes now ans stands same asked h (inr (inl (lost, inr lacks))) = inr (inr (inr (inr lacks)))
+in_world world script setups loads mid reads writes now ans stands same asked h (inr (inr lacks)) = inr (inr (inr (inr lacks)))
 
 world_refused : (world script what : List ℕ) (loads mid : Loads) (reads : Reads) (writes now : Writes) (ans : Answer) → Is (world_told loads.files world) (Err what) → Asked loads mid (world_path world) → Closes writes now (nothing 3) (world_line what) ans
     → RunEnds (fitting world script) (outside loads reads writes) (outside mid reads now) ans
@@ -236,12 +211,12 @@ world_unread world script loads mid reads writes now ans fails asked (inl good) 
     inr (inr (inr (inl (record { fit = refl; answered = good.0; ends = good.1; cause = inl (record { asked = asked; input = refl; fault = fails }) }))))
 world_unread world script loads mid reads writes now ans fails asked (inr lacks) = inr (inr (inr (inr lacks)))
 
-abbrev pub NotFor : NoWorld → NoWorld → Type 0
-NotFor why other = ◌≡◌ {A = Result Setup NoWorld} (Err why) (Err other)
+abbrev pub IsFor : Type 0 → NoWorld → NoWorld → Type 0
+IsFor X why other = ◌≡◌ {A = Result X NoWorld} (Err why) (Err other)
 
 -- no world stands
-pub no_world : (why : NoWorld) (world script : List ℕ) (loads mid : Loads) (reads : Reads) (writes now : Writes) (ans : Answer) → ForSome (what_of why) (λ what. Is (world_told loads.files world) (Err what))
-    → (¬ (NotFor why NoMemory) → Asked loads mid (world_path world)) → (NotFor why LoadFailed → LoadFails loads mid) → ClosesWorldless why writes now ans → RunEnds (fitting world script) (outside loads reads writes) (outside mid reads now) ans
+pub no_world : {X : Type 0} (why : NoWorld) (world script : List ℕ) (loads mid : Loads) (reads : Reads) (writes now : Writes) (ans : Answer) → ForSome (what_of why) (λ what. Is (world_told loads.files world) (Err what))
+    → (¬ (IsFor X why NoMemory) → Asked loads mid (world_path world)) → (IsFor X why LoadFailed → LoadFails loads mid) → ClosesWorldless why writes now ans → RunEnds (fitting world script) (outside loads reads writes) (outside mid reads now) ans
 no_world NoMemory world script loads mid reads writes now ans is asked fails ends = inr (inr (inr (inr ends)))
 no_world LoadFailed world script loads mid reads writes now ans is asked fails ends = world_unread world script loads mid reads writes now ans (fails refl) (asked (λ e. cc)) ends
 no_world TooLong world script loads mid reads writes now ans is asked fails ends = world_refused world script (codes "8") loads mid reads writes now ans (is (codes "8") refl) (asked (λ e. cc)) ends
@@ -274,10 +249,10 @@ neither : (input : Bool) (a c : Loads) (reads now : Reads) → ¬ (LoadFails a c
 neither true a c reads now loads rest fails = rest fails
 neither false a c reads now loads rest fails = loads fails.0
 
-same_setup : (a b : Setup) (x y : WorldOrRefusal) → x ≡ Ok (a ∷ []) → y ≡ Ok (b ∷ []) → Some x ≡ Some y → a ≡ b
-same_setup a b x y is other e = let same : x ≡ y = cc in cc
+same_setups : (a b : List Setup) (x y : WorldOrRefusal) → x ≡ Ok a → y ≡ Ok b → Some x ≡ Some y → a ≡ b
+same_setups a b x y is other e = let same : x ≡ y = cc in cc
 
-stands_refused : (a : Setup) (what : List ℕ) (x y : WorldOrRefusal) → x ≡ Ok (a ∷ []) → y ≡ Err what → Some x ≡ Some y → ⊥
+stands_refused : (a : List Setup) (what : List ℕ) (x y : WorldOrRefusal) → x ≡ Ok a → y ≡ Err what → Some x ≡ Some y → ⊥
 stands_refused a what x y is other e = let same : x ≡ y = cc in cc
 
 script_well : (start : World) (script : List ℕ) (before now : Writes) (ans : Answer) → (run_of_script start script).refused ≡ None → ¬ (WriteFails before now) → ScriptEnds start script before now ans → (ans.status ≡ 0) ⊎ (ans.status ≡ 6)
@@ -288,13 +263,13 @@ script_well start script before now ans lines writes (inr (inr (inr lacks))) = i
 
 pub ends_well : (words : Words) (before now : Outside) (ans : Answer) → IsGoodRun words before now → RunEnds words before now ans → (ans.status ≡ 0) ⊎ (ans.status ≡ 6)
 ends_well words before now ans good (inl run) =
-    let setup = same_setup good.setup run.setup (Ok (good.setup ∷ [])) (Ok (run.setup ∷ [])) refl refl (run.world (Some (Ok (good.setup ∷ []))) good.world) in
+    let setups = same_setups good.setups run.setups (Ok good.setups) (Ok run.setups) refl refl (run.world (Some (Ok good.setups)) good.world) in
     let script : good.script ≡ run.script = let e = run.of_word (Some good.script) good.of_word in cc in
-    let P : Setup → Type 0 = λ s. (run_of_script (fresh s) good.script).refused ≡ None in
-    let Q : List ℕ → Type 0 = λ s. (run_of_script (fresh run.setup) s).refused ≡ None in
-    script_well (fresh run.setup) run.script before.writes now.writes ans (subst Q script (subst P setup good.lines)) good.writes run.ended
+    let P : List Setup → Type 0 = λ s. (run_of_script (fresh s) good.script).refused ≡ None in
+    let Q : List ℕ → Type 0 = λ s. (run_of_script (fresh run.setups) s).refused ≡ None in
+    script_well (fresh run.setups) run.script before.writes now.writes ans (subst Q script (subst P setups good.lines)) good.writes run.ended
 ends_well words before now ans good (inr (inl misused)) = absurd (some_none words.misfit misused.place good.fit misused.at_word)
-ends_well words before now ans good (inr (inr (inl none))) = absurd (stands_refused good.setup none.what (Ok (good.setup ∷ [])) (Err none.what) refl refl (none.refused (Some (Ok (good.setup ∷ []))) good.world))
+ends_well words before now ans good (inr (inr (inl none))) = absurd (stands_refused good.setups none.what (Ok good.setups) (Err none.what) refl refl (none.refused (Some (Ok good.setups)) good.world))
 ends_well words before now ans good (inr (inr (inr (inl unread)))) =
     elim unread.cause as (λ _. (ans.status ≡ 0) ⊎ (ans.status ≡ 6)) [
       | inl lost ↦ absurd (good.loads lost.fault)

@@ -33,15 +33,15 @@ pub record IsNotGot (word : List ℕ) (loads loads_now : Loads) (reads reads_now
   pub asked : Asked loads loads_now (script_path word)
   pub fault : ScriptFails word loads loads_now reads reads_now
 
--- the script of a word was run in a new world of this service
-pub record IsRun (setup : Setup) (word : List ℕ) (before now : Outside) (a : Answer) : Type 0 where
+-- the script of a word was run in a new world of these services
+pub record IsRun (setups : List Setup) (word : List ℕ) (before now : Outside) (a : Answer) : Type 0 where
   pub script : List ℕ
   pub got : IsGot word before.loads now.loads before.reads now.reads script
-  pub ended : ScriptEnds (fresh setup) script before.writes now.writes a
+  pub ended : ScriptEnds (fresh setups) script before.writes now.writes a
 
 -- how that ends, where it may not be read
-abbrev pub RunsIn : Setup → List ℕ → Outside → Outside → Answer → Type 0
-RunsIn setup word before now a =
-    IsRun setup word before now a
+abbrev pub RunsIn : List Setup → List ℕ → Outside → Outside → Answer → Type 0
+RunsIn setups word before now a =
+    IsRun setups word before now a
     ⊎ ((IsNotGot word before.loads now.loads before.reads now.reads × Closes before.writes now.writes (nothing 4) unread_line a)
     ⊎ LacksMemory before.writes now.writes a)

@@ -1,5 +1,5 @@
 -- How a run of the program ends.
-use Rattle.std.specs.Prelude.{◌≡◌, ◌⊎◌, ℕ, ◌≤◌, Bool, true, false, List, [], ◌∷◌, ◌++◌, length, Option, Some, None, Ok, Err, codes, decimal}
+use Rattle.std.specs.Prelude.{◌≡◌, ◌⊎◌, ℕ, ◌≤◌, Bool, true, false, List, [], ◌++◌, length, Option, Some, None, Ok, Err, codes, decimal}
 use Rattle.io_edge.specs.Edge.{IsAtEnd, IsFront, ReadFails, Reads, WriteFails, Writes, Wrote}
 use Rattle.io_edge.specs.Files.{LoadFails, Loads}
 use Rattle.journal_rows.specs.declared.verdict.Verdict.{Verdict}
@@ -35,13 +35,13 @@ answer status services told = record { status = status; services = services; ver
 abbrev pub nothing : ℕ → Answer
 nothing status = answer status [] None
 
--- this service, and the verdict over it
-abbrev pub of_service : ℕ → Kept → Answer
-of_service status service = answer status (service ∷ []) (Some (verdict (service ∷ [])))
+-- these services, and the verdict over them
+abbrev pub of_services : ℕ → List Kept → Answer
+of_services status services = answer status services (Some (verdict services))
 
--- the service of this world, and the verdict over it
+-- the services of this world, and the verdict over them
 abbrev pub standing : ℕ → World → Answer
-standing status world = of_service status world.service
+standing status world = of_services status world.services
 
 -- ---- what is written last
 
@@ -130,14 +130,14 @@ ScriptFails word loads loads_now reads reads_now =
 -- input is read to its end, if it isn't longer than a script may be, and is as it was beside a file.
 pub record HasRun (words : Words) (before now : Outside) (a : Answer) : Type 0 where
   pub fit : words.misfit ≡ None
-  pub setup : Setup
-  pub world : Is (world_told before.loads.files words.world) (Ok (setup ∷ []))
+  pub setups : List Setup
+  pub world : Is (world_told before.loads.files words.world) (Ok setups)
   pub script : List ℕ
   pub of_word : Is (script_told before.loads.files before.reads.left words.script) script
   pub asked : Asked before.loads now.loads (world_path words.world ++ script_path words.script)
   pub beside : is_input words.script ≡ false → Untouched before.reads now.reads
   pub read : is_input words.script ≡ true → length script ≤ 16777216 → IsAtEnd now.reads
-  pub ended : ScriptEnds (fresh setup) script before.writes now.writes a
+  pub ended : ScriptEnds (fresh setups) script before.writes now.writes a
 
 -- 2: the words don't fit; nothing was asked for or read
 pub record IsMisused (words : Words) (before now : Outside) (a : Answer) : Type 0 where
@@ -166,8 +166,8 @@ pub record WorldUnread (words : Words) (before now : Outside) : Type 0 where
 
 -- the world stands, and the load of the script failed, or a read of the input where that is the script
 pub record ScriptUnread (words : Words) (before now : Outside) : Type 0 where
-  pub setup : Setup
-  pub world : Is (world_told before.loads.files words.world) (Ok (setup ∷ []))
+  pub setups : List Setup
+  pub world : Is (world_told before.loads.files words.world) (Ok setups)
   pub asked : Asked before.loads now.loads (world_path words.world ++ script_path words.script)
   pub fault : ScriptFails words.script before.loads now.loads before.reads now.reads
 
@@ -195,11 +195,11 @@ RunEnds words before now a =
 -- The words fit, world and script are there, no line of the script is refused, and no count rose.
 pub record IsGoodRun (words : Words) (before now : Outside) : Type 0 where
   pub fit : words.misfit ≡ None
-  pub setup : Setup
-  pub world : world_told before.loads.files words.world ≡ Some (Some (Ok (setup ∷ [])))
+  pub setups : List Setup
+  pub world : world_told before.loads.files words.world ≡ Some (Some (Ok setups))
   pub script : List ℕ
   pub of_word : script_told before.loads.files before.reads.left words.script ≡ Some (Some script)
-  pub lines : (run_of_script (fresh setup) script).refused ≡ None
+  pub lines : (run_of_script (fresh setups) script).refused ≡ None
   pub loads : ¬ (LoadFails before.loads now.loads)
   pub reads : ¬ (ReadFails before.reads now.reads)
   pub writes : ¬ (WriteFails before.writes now.writes)

@@ -1,8 +1,9 @@
 -- What the command words mean and name.
-use Rattle.std.specs.Prelude.{◌≡◌, ℕ, ◌+◌, Bool, not, ◌||◌, List, [], ◌∷◌, length, Option, Some, None, option_map, Result, Ok, Err, if◌then◌else◌, nat_eq, nat_lt, codes}
+use Rattle.std.specs.Prelude.{◌≡◌, ℕ, ◌+◌, Bool, not, ◌||◌, List, [], ◌∷◌, length, Option, Some, None, option_map, Result, Ok, Err, map, if◌then◌else◌, nat_eq, nat_lt, codes}
 use Rattle.std.specs.List.{starts_with}
 use Rattle.std.specs.Option.{ForSome}
 use Rattle.lang_base.specs.Texts.{same_text}
+use Rattle.service_core.specs.Events.{Kept}
 use Rattle.world_core.specs.Worlds.{World, fresh_world}
 use Rattle.world_file.specs.declared.setup.Setup.{Setup}
 use Rattle.world_file.specs.declared.refused.WorldRefused.{WorldRefused}
@@ -113,6 +114,14 @@ script_path word = if is_input word then [] else word ∷ []
 
 -- ---- the world that is run
 
--- a new world of a service that is set up so
-abbrev pub fresh : Setup → World
-fresh setup = fresh_world (record { setting = setup.setting; entries = []; accepted = [] })
+-- it calls no other service
+abbrev pub HasNoPeers : Setup → Type 0
+HasNoPeers setup = setup.setting.peers ≡ []
+
+-- a new service that is set up so
+abbrev pub fresh_service : Setup → Kept
+fresh_service setup = record { setting = setup.setting; entries = []; accepted = [] }
+
+-- a new world of services that are set up so
+abbrev pub fresh : List Setup → World
+fresh setups = fresh_world (map fresh_service setups)

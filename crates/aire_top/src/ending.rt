@@ -1,19 +1,17 @@
 // How a run ends.
-ghost use Rattle.std.specs.Prelude.{◌≡◌, ◌≤◌, [], ◌∷◌, Some, map, codes};
-ghost use Rattle.std.specs.Option.{ForSome};
+ghost use Rattle.std.specs.Prelude.{◌≡◌, ◌≤◌, [], Some, map, codes};
 ghost use Rattle.execution.specs.Executions.{IsLegal};
 ghost use Rattle.journal_rows.specs.declared.verdict.Verdict.TheVariants.{Legal};
 ghost use Rattle.service_core.specs.Events.{history};
-ghost use Rattle.world_core.specs.Verdicts.{verdict};
 ghost use Rattle.world_file.specs.Numbers.{refusal_text};
 ghost use Rattle.aire_top.specs.Closings.{Closes};
-ghost use Rattle.aire_top.specs.Endings.{LacksMemory, answer, nothing, of_service, refused_line, unread_line, usage_line, world_line};
+ghost use Rattle.aire_top.specs.Endings.{LacksMemory, answer, nothing, of_services, refused_line, unread_line, usage_line, world_line};
 
 use crate::last::{lacking_status, write_last};
 use io_edge::Sink;
 use service_core::Service;
 use std::alloc::Global;
-use world_core::{Verdict, audit_services};
+use world_core::{Verdict, audit};
 use world_file::WorldRefused;
 
 /// How a run ended: its status, the services of its last world, and the verdict over them. There are no services and
@@ -47,13 +45,12 @@ pub fn lacking<K: Sink>(alloc: Global, out: &mut K) -> Ended
     without(alloc, status)
 }
 
-// The end of a run whose services stand.
-fn standing(status: u8, services: Vec<Service>) -> Ended
-    ensures answer { answer result.status result.services.items result.verdict
-        ≡ answer status services.items (Some (verdict services.items)) }
+/// The end of a run whose services stand, with nothing more to write.
+pub fn standing(status: u8, services: Vec<Service>) -> Ended
+    ensures answer { answer result.status result.services.items result.verdict ≡ of_services status services.items }
     ensures legal { result.verdict ≡ Some Legal → IsLegal (map history result.services.items) }
 {
-    let verdict = Some(audit_services(&services));
+    let verdict = Some(audit(&services));
     Ended {
         status,
         services,
@@ -61,38 +58,15 @@ fn standing(status: u8, services: Vec<Service>) -> Ended
     }
 }
 
-// The services of a world of one, if there is memory to name them together.
-fn alone(alloc: Global, service: Service) -> Option<Vec<Service>>
-    ensures { ForSome result (λ services. services.items ≡ service ∷ []) }
-{
-    let mut services = Vec::new(alloc);
-    match services.push(service) {
-        Ok(()) => Some(services),
-        Err(_) => None,
-    }
-}
-
-/// The end of a run whose service stands, with nothing more to write.
-pub fn closed<K: Sink>(alloc: Global, status: u8, service: Service, out: &mut K) -> Ended
-    ensures ends { Closes (K.writes out.old) (K.writes out.new) (of_service status service) [] (answer result.status result.services.items result.verdict) }
-    ensures legal { result.verdict ≡ Some Legal → IsLegal (map history result.services.items) }
-    ensures counted { (K.writes out.old).faults ≤ (K.writes out.new).faults }
-{
-    match alone(alloc, service) {
-        Some(services) => standing(status, services),
-        None => lacking(alloc, out),
-    }
-}
-
-// The end of a run whose services stand, at a line of the script that is refused.
-fn refused<K: Sink>(
+/// The end of a run whose services stand, at a line of the script that is refused: 3.
+pub fn refusal<K: Sink>(
     alloc: Global,
     services: Vec<Service>,
     out: &mut K,
     line: u64,
     number: u64,
 ) -> Ended
-    ensures ends { Closes (K.writes out.old) (K.writes out.new) (answer 3 services.items (Some (verdict services.items))) (refused_line line number) (answer result.status result.services.items result.verdict) }
+    ensures ends { Closes (K.writes out.old) (K.writes out.new) (of_services 3 services.items) (refused_line line number) (answer result.status result.services.items result.verdict) }
     ensures legal { result.verdict ≡ Some Legal → IsLegal (map history result.services.items) }
     ensures counted { (K.writes out.old).faults ≤ (K.writes out.new).faults }
 {
@@ -102,24 +76,6 @@ fn refused<K: Sink>(
             standing(3, services)
         }
         Err(_) => lacking(alloc, out),
-    }
-}
-
-/// The end of a run at a line of the script that is refused: 3.
-pub fn refusal<K: Sink>(
-    alloc: Global,
-    service: Service,
-    out: &mut K,
-    line: u64,
-    number: u64,
-) -> Ended
-    ensures ends { Closes (K.writes out.old) (K.writes out.new) (of_service 3 service) (refused_line line number) (answer result.status result.services.items result.verdict) }
-    ensures legal { result.verdict ≡ Some Legal → IsLegal (map history result.services.items) }
-    ensures counted { (K.writes out.old).faults ≤ (K.writes out.new).faults }
-{
-    match alone(alloc, service) {
-        Some(services) => refused(alloc, services, out, line, number),
-        None => lacking(alloc, out),
     }
 }
 

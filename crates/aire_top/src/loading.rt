@@ -34,29 +34,15 @@ pub enum NoWorld {
     Refused(WorldRefused),
 }
 
-// The one service of a world.
-#[tactic(auto, using(crate::proofs::Worlds::last_alone))]
-fn only(setups: Vec<Setup>) -> Setup
-    requires { IsAlone setups.items }
-    ensures only { setups.items ≡ result ∷ [] }
-    ensures alone { result.setting.peers ≡ [] }
-{
-    let mut setups = setups;
-    match setups.pop() {
-        Some(setup) => setup,
-        None => unreachable!(),
-    }
-}
-
-// The service of the world that these bytes spell.
-fn world_from(alloc: Global, bytes: &[u8]) -> Result<Setup, NoWorld>
-    ensures world { IfOk result (λ setup. world_from (world_of bytes.now) ≡ Ok (setup ∷ [])) }
-    ensures alone { IfOk result (λ setup. setup.setting.peers ≡ []) }
+// The world that these bytes spell.
+fn world_from(alloc: Global, bytes: &[u8]) -> Result<Vec<Setup>, NoWorld>
+    ensures world { IfOk result (λ setups. world_from (world_of bytes.now) ≡ Ok setups.items) }
+    ensures alone { IfOk result (λ setups. IsAlone setups.items) }
     ensures refused { IfErr result (λ why. ForSome (what_of why) (λ what. world_from (world_of bytes.now) ≡ Err what)) }
     ensures cause { ¬ (IsErrOf result NoWorld.Failed) }
 {
     match read_world(alloc, bytes) {
-        Ok(setups) => Ok(only(setups)),
+        Ok(setups) => Ok(setups),
         Err(WorldRefused::NoMemory) => Err(NoWorld::NoMemory),
         Err(why) => Err(NoWorld::Refused(why)),
     }
@@ -64,9 +50,9 @@ fn world_from(alloc: Global, bytes: &[u8]) -> Result<Setup, NoWorld>
 
 // The world of a file.
 #[tactic(auto, using(crate::proofs::Worlds::short_file, crate::proofs::Worlds::long_file))]
-fn load_file<F: Files>(alloc: Global, path: &str, files: &mut F) -> Result<Setup, NoWorld>
-    ensures world { IfOk result (λ setup. Is (file_world (F.loads files.old).files path.now) (Ok (setup ∷ []))) }
-    ensures alone { IfOk result (λ setup. setup.setting.peers ≡ []) }
+fn load_file<F: Files>(alloc: Global, path: &str, files: &mut F) -> Result<Vec<Setup>, NoWorld>
+    ensures world { IfOk result (λ setups. Is (file_world (F.loads files.old).files path.now) (Ok setups.items)) }
+    ensures alone { IfOk result (λ setups. IsAlone setups.items) }
     ensures refused { IfErr result (λ why. ForSome (what_of why) (λ what. Is (file_world (F.loads files.old).files path.now) (Err what))) }
     ensures files { (F.loads files.new).files ≡ (F.loads files.old).files }
     ensures asked { ¬ (IsErrOf result NoWorld.NoMemory) → Asked (F.loads files.old) (F.loads files.new) (path.now ∷ []) }
@@ -81,11 +67,11 @@ fn load_file<F: Files>(alloc: Global, path: &str, files: &mut F) -> Result<Setup
     }
 }
 
-/// The service of the world that a word names: one that comes with the program, or that of a file.
+/// The world that a word names: one that comes with the program, or that of a file.
 #[tactic(auto, using(crate::proofs::Worlds::standard_alone, crate::proofs::Worlds::standard_told, crate::proofs::Worlds::other_told))]
-pub fn load_world<F: Files>(alloc: Global, word: &str, files: &mut F) -> Result<Setup, NoWorld>
-    ensures world { IfOk result (λ setup. Is (world_told (F.loads files.old).files word.now) (Ok (setup ∷ []))) }
-    ensures alone { IfOk result (λ setup. setup.setting.peers ≡ []) }
+pub fn load_world<F: Files>(alloc: Global, word: &str, files: &mut F) -> Result<Vec<Setup>, NoWorld>
+    ensures world { IfOk result (λ setups. Is (world_told (F.loads files.old).files word.now) (Ok setups.items)) }
+    ensures alone { IfOk result (λ setups. IsAlone setups.items) }
     ensures refused { IfErr result (λ why. ForSome (what_of why) (λ what. Is (world_told (F.loads files.old).files word.now) (Err what))) }
     ensures files { (F.loads files.new).files ≡ (F.loads files.old).files }
     ensures asked { ¬ (IsErrOf result NoWorld.NoMemory) → Asked (F.loads files.old) (F.loads files.new) (world_path word.now) }
@@ -93,7 +79,7 @@ pub fn load_world<F: Files>(alloc: Global, word: &str, files: &mut F) -> Result<
     ensures failed { IsErrOf result NoWorld.Failed → LoadFails (F.loads files.old) (F.loads files.new) }
 {
     match built_in(alloc, word) {
-        Ok(Some(setups)) => Ok(only(setups)),
+        Ok(Some(setups)) => Ok(setups),
         Ok(None) => load_file(alloc, word, files),
         Err(_) => Err(NoWorld::NoMemory),
     }

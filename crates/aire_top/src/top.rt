@@ -1,18 +1,20 @@
 // The top call.
-ghost use Rattle.std.specs.Prelude.{◌≡◌, ◌⊎◌, ◌≤◌, [], Some, map, string_bytes, length};
+ghost use Rattle.std.specs.Prelude.{◌≡◌, ◌⊎◌, ◌≤◌, All, IfOk, Some, map, string_bytes, length};
 ghost use Rattle.execution.specs.Executions.{IsLegal};
 ghost use Rattle.journal_rows.specs.declared.verdict.Verdict.TheVariants.{Legal};
 ghost use Rattle.service_core.specs.Events.{history};
+ghost use Rattle.world_file.specs.Worlds.{IsAlone};
 ghost use Rattle.aire_top.specs.Closings.{ClosesWorldless, RunsIn};
 ghost use Rattle.aire_top.specs.Endings.{IsGoodRun, RunEnds, ScriptEnds, answer, outside};
-ghost use Rattle.aire_top.specs.Top.{fitting, fresh, words_of};
+ghost use Rattle.aire_top.specs.Top.{fitting, fresh, fresh_service, words_of, HasNoPeers};
 
 use crate::ending::{
-    Ended, closed, lacking, misused, refusal, unread, world_refused, world_too_long,
+    Ended, lacking, misused, refusal, standing, unread, world_refused, world_too_long,
 };
 use crate::loading::{LONGEST_SCRIPT, NoWorld, load_script, load_world};
 use crate::words::named;
 use io_edge::{Files, ReadRefused, Sink, Source};
+use lang_core::{Copied, NoMemory};
 use script_run::{ScriptRefused, run_script};
 use service_core::Service;
 use std::alloc::Global;
@@ -40,45 +42,62 @@ fn play<K: Sink>(alloc: Global, world: World, script: &[u8], out: &mut K) -> End
 {
     let mut world = world;
     match run_script(alloc, &mut world, script, out) {
-        Ok(()) => closed(alloc, 0, world.into_service(), out),
-        Err(ScriptRefused::WriteFault) => closed(alloc, 5, world.into_service(), out),
+        Ok(()) => standing(0, world.into_services()),
+        Err(ScriptRefused::WriteFault) => standing(5, world.into_services()),
         Err(ScriptRefused::Refused(line, fault)) => {
-            refusal(alloc, world.into_service(), out, line, fault.number())
+            refusal(alloc, world.into_services(), out, line, fault.number())
         }
         Err(ScriptRefused::NoMemory) => lacking(alloc, out),
     }
 }
 
-// A new world of a service that is set up so.
-fn started(alloc: Global, setup: Setup) -> World
-    requires { setup.setting.peers ≡ [] }
-    ensures { result ≡ fresh setup }
+// New services that are set up so.
+fn services_of(alloc: Global, setups: &[Setup]) -> Result<Vec<Service>, NoMemory>
+    requires { All HasNoPeers setups.now }
+    ensures { IfOk result (λ services. services.items ≡ map fresh_service setups.now) }
 {
-    World::new(Service::new(alloc, setup.setting))
+    let mut services = Vec::new(alloc);
+    for setup in setups {
+        let setting = setup.setting.copied(alloc)?;
+        services.push(Service::new(alloc, setting))?;
+    }
+    Ok(services)
 }
 
-// Runs the script that a word names in a new world of this service.
+// A new world of services that are set up so.
+#[tactic(auto, using(crate::proofs::Worlds::none_has_peers, crate::proofs::Worlds::names_differ))]
+fn started(alloc: Global, setups: &[Setup]) -> Result<World, NoMemory>
+    requires { IsAlone setups.now }
+    ensures { IfOk result (λ world. world ≡ fresh setups.now) }
+{
+    let services = services_of(alloc, setups)?;
+    Ok(World::new(services))
+}
+
+// Runs the script that a word names in a new world of these services.
 fn run_in<F: Files, S: Source, K: Sink>(
     alloc: Global,
-    setup: Setup,
+    setups: Vec<Setup>,
     script: &str,
     files: &mut F,
     input: &mut S,
     out: &mut K,
 ) -> Ended
-    requires { setup.setting.peers ≡ [] }
-    ensures ends { RunsIn setup script.now
+    requires { IsAlone setups.items }
+    ensures ends { RunsIn setups.items script.now
         (outside (F.loads files.old) (S.reads input.old) (K.writes out.old))
         (outside (F.loads files.new) (S.reads input.new) (K.writes out.new))
         (answer result.status result.services.items result.verdict) }
     ensures legal { result.verdict ≡ Some Legal → IsLegal (map history result.services.items) }
 {
-    let world = started(alloc, setup);
+    let Ok(world) = started(alloc, &setups) else {
+        return lacking(alloc, out);
+    };
     match load_script(alloc, script, files, input) {
         Ok(script) => play(alloc, world, script.as_slice(), out),
         Err(ReadRefused::NoMemory) => lacking(alloc, out),
         Err(ReadRefused::Fault) => unread(alloc, out),
-        Err(ReadRefused::TooLong) => refusal(alloc, world.into_service(), out, 0, 7),
+        Err(ReadRefused::TooLong) => refusal(alloc, world.into_services(), out, 0, 7),
     }
 }
 
@@ -98,7 +117,7 @@ fn run<F: Files, S: Source, K: Sink>(
     ensures legal { result.verdict ≡ Some Legal → IsLegal (map history result.services.items) }
 {
     match load_world(alloc, world, files) {
-        Ok(setup) => run_in(alloc, setup, script, files, input, out),
+        Ok(setups) => run_in(alloc, setups, script, files, input, out),
         Err(why) => worldless(alloc, why, out),
     }
 }

@@ -1,5 +1,5 @@
 pub mod EscapeLemmas
-pub mod Ordering
 pub mod Outcomes
 pub mod Playing
 pub mod PrintedBodies
+pub mod Telling

@@ -1,5 +1,5 @@
 -- The lines of a script, one after another.
-use Rattle.std.proofs.Common.{Bor, option_map, ◌≡◌, ℕ, ◌+◌, ◌<◌, ◌≤◌, Bool, true, false, cond, List, [], ◌∷◌, ◌++◌, Option, Some, None, Ok, Err, length, take, drop, ltb, suc, ◌==◌, ◌⊎◌, inl, inr, add-zero, length-drop, refl, ap, sym, ◌∙◌, subst, append_assoc, arith}
+use Rattle.std.proofs.Common.{Bor, option_map, ◌≡◌, ℕ, ◌+◌, ◌<◌, ◌≤◌, Bool, true, false, cond, List, [], ◌∷◌, ◌++◌, Option, Some, None, Ok, Err, length, take, drop, ltb, suc, ◌==◌, add-zero, length-drop, refl, ap, sym, ◌∙◌, subst, append_assoc, arith}
 use Rattle.std.specs.List.{position, position_or_len}
 use Rattle.std.proofs.lemmas.List.Splits.{slice_split_first, slice_split_none}
 use Rattle.std.proofs.lemmas.Bool.Decides.{nat_tests}
@@ -8,14 +8,13 @@ use Rattle.std.proofs.lemmas.List.Sums.{fails_before_first}
 use Rattle.std.proofs.Math.Seq.{take-add}
 use Rattle.std.proofs.lemmas.List.{append-nil, drop-drop, length-take, take-append-drop}
 use Rattle.io_edge.specs.Edge.{IsFront, Writes, Wrote, WroteFront, WroteShort}
-use Rattle.io_edge.proofs.Pieces.{front_of, front_whole, wrote_more}
+use Rattle.io_edge.proofs.Pieces.{wrote_more}
 use Rattle.world_core.specs.Worlds.{World}
-use Rattle.script_run.specs.declared.line.Line.{Line}
 use Rattle.script_run.specs.declared.line.LineFault.{LineFault}
 use Rattle.script_run.specs.Faults.{fault_number}
 use Rattle.script_run.specs.Lines.{Read}
-use Rattle.script_run.specs.Plays.{after, behind, first_lines, line_for, lines_left, lines_of, Played, played, played_from, printed, with_line}
-use Rattle.script_run.specs.Stops.{DoesAll, IsRefusedAt, StopsEarly, StopsInLine}
+use Rattle.script_run.specs.Plays.{after, behind, events_for, events_in, first_lines, line_for, lines_left, lines_of, Played, played, played_from, printed, text_for, with_line, world_for}
+use Rattle.script_run.specs.Stops.{DoesAll, HappenedFirst, IsRefusedAt, StopsEarly, StopsInLine}
 
 -- ---- where the first line ends
 
@@ -69,13 +68,31 @@ played_append n s (x ∷ xs) ys e =
 take_line : (lines rest : List (List ℕ)) (n : ℕ) (line : List ℕ) → drop n lines ≡ line ∷ rest → take (n + 1) lines ≡ take n lines ++ line ∷ []
 take_line lines rest n line e = take-add n 1 lines ∙ ap (λ (x : List (List ℕ)). take n lines ++ take 1 x) e
 
+-- a line that prints this is good
+with_good : (n : ℕ) (s : World) (r : Read) (text : List ℕ) (rest : World → Played) → text_for s r ≡ Ok text → with_line n s r rest ≡ behind text (rest (world_for s r))
+with_good n s (Ok line) text rest e = let same : printed s line ≡ text = cc in ap (λ (x : List ℕ). behind x (rest (after s line))) same
+with_good n s (Err fault) text rest e = cc
+
+-- and one that is refused so isn't
+pub bad_line : (s : World) (r : Read) (fault : LineFault) → text_for s r ≡ Err fault → r ≡ Err fault
+bad_line s (Ok line) fault e = cc
+bad_line s (Err other) fault e = cc
+
+pub no_events : (s : World) (r : Read) (fault : LineFault) → text_for s r ≡ Err fault → world_for s r ≡ s
+no_events s (Ok line) fault e = cc
+no_events s (Err other) fault e = refl
+
 -- one line more
-pub next_line : (n : ℕ) (s : World) (script line : List ℕ) (rest : List (List ℕ)) (said : Line) → drop n (lines_of script) ≡ line ∷ rest → (first_lines n s script).refused ≡ None → line_for (first_lines n s script).world line ≡ Ok said
-    → first_lines (n + 1) s script ≡ record { world = after (first_lines n s script).world said; out = (first_lines n s script).out ++ printed (first_lines n s script).world said; refused = None }
-next_line n s script line rest said d goes says =
+pub next_line : (n : ℕ) (s : World) (script line : List ℕ) (rest : List (List ℕ)) (text : List ℕ) → drop n (lines_of script) ≡ line ∷ rest → (first_lines n s script).refused ≡ None
+    → text_for (first_lines n s script).world (line_for (first_lines n s script).world line) ≡ Ok text
+    → first_lines (n + 1) s script ≡ record { world = world_for (first_lines n s script).world (line_for (first_lines n s script).world line); out = (first_lines n s script).out ++ text; refused = None }
+next_line n s script line rest text d goes says =
+    let w = (first_lines n s script).world in
+    let place = 1 + length (take n (lines_of script)) in
     ap (played_from 1 s) (take_line (lines_of script) rest n line d)
     ∙ played_append 1 s (take n (lines_of script)) (line ∷ []) goes
-    ∙ rw (says, append-nil) refl
+    ∙ ap (behind (first_lines n s script).out) (with_good place w (line_for w line) text (λ next. played_from (place + 1) next []) says)
+    ∙ rw append-nil refl
 
 -- the lines are all done
 pub all_lines : (n : ℕ) (s : World) (script : List ℕ) → drop n (lines_of script) ≡ [] → first_lines n s script ≡ played s script
@@ -98,50 +115,45 @@ refused_line n s script line rest fault d goes says =
 
 -- ---- how things stand before a line is done
 
-pub record Stands (n : ℕ) (before : World) (script line : List ℕ) (rest : List (List ℕ)) (said : Line) (now : World) : Type 0 where
+pub record Stands (n : ℕ) (before : World) (script line : List ℕ) (rest : List (List ℕ)) (text : List ℕ) (now : World) : Type 0 where
   pub left : drop n (lines_of script) ≡ line ∷ rest
   pub goes : (first_lines n before script).refused ≡ None
-  pub says : line_for now line ≡ Ok said
+  pub says : text_for now (line_for now line) ≡ Ok text
   pub world : now ≡ (first_lines n before script).world
 
-stands_next : {n : ℕ} {before : World} {script line : List ℕ} {rest : List (List ℕ)} {said : Line} {now : World} → Stands n before script line rest said now
-    → first_lines (n + 1) before script ≡ record { world = after now said; out = (first_lines n before script).out ++ printed now said; refused = None }
-stands_next {n} {before} {script} {line} {rest} {said} {now} s =
-    next_line n before script line rest said s.left s.goes (ap (λ (k : World). line_for k line) (sym s.world) ∙ s.says)
-    ∙ ap (λ (k : World). record { world = after k said; out = (first_lines n before script).out ++ printed k said; refused = None }) (sym s.world)
+stands_next : {n : ℕ} {before : World} {script line : List ℕ} {rest : List (List ℕ)} {text : List ℕ} {now : World} → Stands n before script line rest text now
+    → first_lines (n + 1) before script ≡ record { world = world_for now (line_for now line); out = (first_lines n before script).out ++ text; refused = None }
+stands_next {n} {before} {script} {line} {rest} {text} {now} s =
+    next_line n before script line rest text s.left s.goes (ap (λ (k : World). text_for k (line_for k line)) (sym s.world) ∙ s.says)
+    ∙ ap (λ (k : World). record { world = world_for k (line_for k line); out = (first_lines n before script).out ++ text; refused = None }) (sym s.world)
 
-pub done_goes : {n : ℕ} {before : World} {script line : List ℕ} {rest : List (List ℕ)} {said : Line} {now : World} → Stands n before script line rest said now → (first_lines (n + 1) before script).refused ≡ None
+pub done_goes : {n : ℕ} {before : World} {script line : List ℕ} {rest : List (List ℕ)} {text : List ℕ} {now : World} → Stands n before script line rest text now → (first_lines (n + 1) before script).refused ≡ None
 done_goes s = ap (λ (q : Played). q.refused) (stands_next s)
 
-pub done_world : {n : ℕ} {before : World} {script line : List ℕ} {rest : List (List ℕ)} {said : Line} {now : World} (next : World) → Stands n before script line rest said now → next ≡ after now said → next ≡ (first_lines (n + 1) before script).world
+pub done_world : {n : ℕ} {before : World} {script line : List ℕ} {rest : List (List ℕ)} {text : List ℕ} {now : World} (next : World) → Stands n before script line rest text now → next ≡ world_for now (line_for now line) → next ≡ (first_lines (n + 1) before script).world
 done_world next s e = e ∙ sym (ap (λ (q : Played). q.world) (stands_next s))
 
-done_out : {n : ℕ} {before : World} {script line : List ℕ} {rest : List (List ℕ)} {said : Line} {now : World} → Stands n before script line rest said now → (first_lines (n + 1) before script).out ≡ (first_lines n before script).out ++ printed now said
+done_out : {n : ℕ} {before : World} {script line : List ℕ} {rest : List (List ℕ)} {text : List ℕ} {now : World} → Stands n before script line rest text now → (first_lines (n + 1) before script).out ≡ (first_lines n before script).out ++ text
 done_out s = ap (λ (q : Played). q.out) (stands_next s)
 
-pub done_wrote : {n : ℕ} {before : World} {script line : List ℕ} {rest : List (List ℕ)} {said : Line} {now : World} (a b c : Writes) → Stands n before script line rest said now
-    → Wrote a b (first_lines n before script).out → Wrote b c (printed now said) → Wrote a c (first_lines (n + 1) before script).out
+pub done_wrote : {n : ℕ} {before : World} {script line : List ℕ} {rest : List (List ℕ)} {text : List ℕ} {now : World} (a b c : Writes) → Stands n before script line rest text now
+    → Wrote a b (first_lines n before script).out → Wrote b c text → Wrote a c (first_lines (n + 1) before script).out
 done_wrote {n} {before} {script} a b c s f g = let W : List ℕ → Type 0 = λ x. Wrote a c x in subst W (sym (done_out s)) (wrote_more a b c (first_lines n before script).out _ f g)
-
-pub done_unwritten : {n : ℕ} {before : World} {script line : List ℕ} {rest : List (List ℕ)} {said : Line} {now : World} (a b : Writes) → Stands n before script line rest said now
-    → Wrote a b (first_lines n before script).out → WroteFront a b (first_lines (n + 1) before script).out
-done_unwritten {n} {before} {script} a b s f = let W : List ℕ → Type 0 = λ x. WroteFront a b x in subst W (sym (done_out s)) (front_of a b (first_lines n before script).out _ f)
 
 -- ---- where a run stops
 
--- the lines before are done, and no more
-pub stopped_before : (n : ℕ) (before : World) (script : List ℕ) (now : World) (a b : Writes) → (first_lines n before script).refused ≡ None → now ≡ (first_lines n before script).world → Wrote a b (first_lines n before script).out → StopsEarly before script now a b
-stopped_before n before script now a b goes same f = record { lines = n; not_refused = goes; same_world = same; wrote = front_whole a b _ f }
-
--- a line is done or it isn't, and what it prints isn't written, for want of memory
-pub stopped : {n : ℕ} {before : World} {script line : List ℕ} {rest : List (List ℕ)} {said : Line} {now : World} (next : World) (a b : Writes) → Stands n before script line rest said now
-    → Wrote a b (first_lines n before script).out → (next ≡ now) ⊎ (next ≡ after now said) → StopsEarly before script next a b
-stopped {n} {before} {script} next a b s f (inl same) = stopped_before n before script next a b s.goes (same ∙ s.world) f
-stopped {n} next a b s f (inr done) = record { lines = n + 1; not_refused = done_goes s; same_world = done_world next s done; wrote = done_unwritten a b s f }
+-- some first events of the next line happened, and nothing that it prints is written, for want of memory
+pub stopped : (n : ℕ) (before : World) (script line : List ℕ) (rest : List (List ℕ)) (now next : World) (a b : Writes) → drop n (lines_of script) ≡ line ∷ rest → (first_lines n before script).refused ≡ None → now ≡ (first_lines n before script).world
+    → Wrote a b (first_lines n before script).out → HappenedFirst now (events_for now (line_for now line)) next → StopsEarly before script next a b
+stopped n before script line rest now next a b left goes world f first =
+    let w = (first_lines n before script).world in
+    let here : HappenedFirst w (events_for w (line_for w line)) next = (let H : World → Type 0 = λ k. HappenedFirst k (events_for k (line_for k line)) next in subst H world first) in
+    let L : List (List ℕ) → Type 0 = λ lines. HappenedFirst w (events_in w lines) next in
+    record { lines = n; not_refused = goes; happened = subst L (sym left) here; wrote = f }
 
 -- a line is done, and not all that it prints is written
-pub cut_short : {n : ℕ} {before : World} {script line : List ℕ} {rest : List (List ℕ)} {said : Line} {now : World} (next : World) (a b c : Writes) → Stands n before script line rest said now
-    → Wrote a b (first_lines n before script).out → next ≡ after now said → WroteShort b c (printed now said) → StopsInLine before script next a c
+pub cut_short : {n : ℕ} {before : World} {script line : List ℕ} {rest : List (List ℕ)} {text : List ℕ} {now : World} (next : World) (a b c : Writes) → Stands n before script line rest text now
+    → Wrote a b (first_lines n before script).out → next ≡ world_for now (line_for now line) → WroteShort b c text → StopsInLine before script next a c
 cut_short {n} {before} {script} next a b c s f done short = record {
   lines = n;
   not_refused = done_goes s;
@@ -188,20 +200,13 @@ lines_front n start script goes =
 
 -- where a run stops for want of memory, a front of what the script prints was written
 pub early_front : (start : World) (script : List ℕ) (world : World) (a b : Writes) → StopsEarly start script world a b → WroteFront a b (played start script).out
-early_front start script world a b early =
-    let front = early.wrote in
-    let more = front.1 in
-    let lines = lines_front early.lines start script early.not_refused in
-    (front.0, (more.0 ++ lines.0, lines.1 ∙ ap (λ (x : List ℕ). x ++ lines.0) more.1 ∙ append_assoc front.0 more.0 lines.0), front.2)
+early_front start script world a b early = ((first_lines early.lines start script).out, lines_front early.lines start script early.not_refused, early.wrote)
 
--- a run that stops in a line stops early
-pub line_early : (start : World) (script : List ℕ) (world : World) (a b : Writes) → StopsInLine start script world a b → StopsEarly start script world a b
-line_early start script world a b stops =
+-- and where it stops in a line
+pub line_front : (start : World) (script : List ℕ) (world : World) (a b : Writes) → StopsInLine start script world a b → WroteFront a b (played start script).out
+line_front start script world a b stops =
     let into = stops.wrote in
     let first = (first_lines stops.lines start script).out in
-    record {
-      lines = stops.lines + 1;
-      not_refused = stops.not_refused;
-      same_world = stops.same_world;
-      wrote = (first ++ into.0, (into.1, into.2 ∙ sym (append_assoc first into.0 into.1)), into.4);
-    }
+    let lines = lines_front (stops.lines + 1) start script stops.not_refused in
+    let whole : (first_lines (stops.lines + 1) start script).out ≡ (first ++ into.0) ++ into.1 = into.2 ∙ sym (append_assoc first into.0 into.1) in
+    (first ++ into.0, (into.1 ++ lines.0, lines.1 ∙ ap (λ (x : List ℕ). x ++ lines.0) whole ∙ append_assoc (first ++ into.0) into.1 lines.0), into.4)

@@ -1,8 +1,9 @@
 -- Where a run of a script stops.
-use Rattle.std.specs.Prelude.{◌≡◌, ◌≢◌, ℕ, ◌+◌, List, [], ◌++◌, Some, None}
-use Rattle.io_edge.specs.Edge.{Writes, Wrote, WroteFront}
-use Rattle.world_core.specs.Worlds.{World}
-use Rattle.script_run.specs.Plays.{Played, first_lines}
+use Rattle.std.specs.Prelude.{◌≡◌, ◌≢◌, ℕ, ◌+◌, List, [], ◌++◌, Some, None, take}
+use Rattle.io_edge.specs.Edge.{Writes, Wrote}
+use Rattle.world_core.specs.Worlds.{World, after_events}
+use Rattle.world_core.specs.declared.event.Event.{Event}
+use Rattle.script_run.specs.Plays.{Played, events_behind, first_lines}
 
 -- all that was played is done and written
 pub record DoesAll (p : Played) (world : World) (before now : Writes) : Type 0 where
@@ -13,12 +14,17 @@ pub record DoesAll (p : Played) (world : World) (before now : Writes) : Type 0 w
 abbrev pub IsRefusedAt : ℕ → ℕ → Played → Type 0
 IsRefusedAt line number p = p.refused ≡ Some (line, number)
 
--- some first lines are done, and a front of what they print was written
+-- some first of these events happened
+abbrev pub HappenedFirst : World → List Event → World → Type 0
+HappenedFirst start events world = (n : ℕ) × (world ≡ after_events start (take n events))
+
+-- Some first lines are done, and what they print is written; of the line behind them some first events happened, and
+-- nothing of it is written.
 pub record StopsEarly (start : World) (script : List ℕ) (world : World) (before now : Writes) : Type 0 where
   pub lines : ℕ
   pub not_refused : (first_lines lines start script).refused ≡ None
-  pub same_world : world ≡ (first_lines lines start script).world
-  pub wrote : WroteFront before now (first_lines lines start script).out
+  pub happened : HappenedFirst (first_lines lines start script).world (events_behind lines start script) world
+  pub wrote : Wrote before now (first_lines lines start script).out
 
 -- All of the first text was written, and of the whole, which goes on behind it, not all.
 abbrev pub WroteInto : Writes → Writes → List ℕ → List ℕ → Type 0

@@ -1,17 +1,17 @@
 // A script, line by line.
-ghost use Rattle.std.specs.Prelude.{◌≡◌, ◌==◌, ◌≤◌, ℕ, ◌∷◌, IfOk, OnOk, IsErrOf, None, option_map, length, position};
+ghost use Rattle.std.specs.Prelude.{◌≡◌, ◌==◌, ◌≤◌, ℕ, ◌∷◌, IfOk, OnOk, OnErr, IsErrOf, None, option_map, length, position};
 ghost use Rattle.io_edge.specs.Edge.{WriteFails};
 ghost use Rattle.script_run.specs.Faults.{fault_number};
-ghost use Rattle.script_run.specs.Plays.{is_about, line_for, lines_of, lines_left, bytes_left, played};
-ghost use Rattle.script_run.specs.Stops.{DoesAll, IsRefusedAt, StopsEarly, StopsInLine};
+ghost use Rattle.script_run.specs.Plays.{bytes_left, events_for, line_for, lines_left, lines_of, played, text_for, world_for};
+ghost use Rattle.script_run.specs.Stops.{DoesAll, HappenedFirst, IsRefusedAt, StopsEarly, StopsInLine};
 ghost use Rattle.script_run.specs.declared.line.LineFault.{LineFault};
 ghost use Rattle.script_run.specs.declared.script.ScriptRefused.TheVariants.{Refused, NoMemory, WriteFault};
 
 use crate::acting::act;
-use crate::line::{Line, LineFault};
+use crate::line::LineFault;
 use crate::read::read_line;
 use io_edge::{Failed, Sink, write_all};
-use lang_core::{Name, NoMemory as LacksMemory, Same};
+use lang_core::{NoMemory as LacksMemory, Text};
 use std::alloc::Global;
 use world_core::World;
 
@@ -42,43 +42,18 @@ impl From<Failed> for ScriptRefused {
     }
 }
 
-fn is_about(me: &Name, line: &Line) -> bool
-    ensures { result ≡ is_about me.now line.now }
-{
-    match line {
-        Line::Blank | Line::Audit | Line::Clock(_) | Line::Seed(_) => true,
-        Line::Ask {
-            service,
-            request: _,
-        } => service.text().is(me.text()),
-        Line::Order {
-            service,
-            command: _,
-            token: _,
-            who: _,
-        } => service.text().is(me.text()),
-        Line::Step { service } | Line::Rows { service } | Line::Log { service } => service
-            .text()
-            .is(me.text()),
-    }
-}
-
-// What a line says to this world.
-fn line_for(
+// Does what the bytes of a line say, and answers what it prints, or why it is refused.
+fn play_line(
     alloc: Global,
-    world: &World,
+    world: &mut World,
     bytes: &[u8],
-) -> Result<Result<Line, LineFault>, LacksMemory>
-    ensures { IfOk result (λ read. read ≡ line_for world.now bytes.now) }
+) -> Result<Result<Text, LineFault>, LacksMemory>
+    ensures said { IfOk result (λ said. said ≡ text_for world.old (line_for world.old bytes.now)) }
+    ensures after { OnOk result (world.new ≡ world_for world.old (line_for world.old bytes.now)) }
+    ensures early { OnErr result (HappenedFirst world.old (events_for world.old (line_for world.old bytes.now)) world.new) }
 {
     match read_line(alloc, bytes)? {
-        Ok(line) => {
-            if is_about(&world.service().setting().me, &line) {
-                Ok(Ok(line))
-            } else {
-                Ok(Err(LineFault::Service))
-            }
-        }
+        Ok(line) => act(alloc, world, line),
         Err(fault) => Ok(Err(fault)),
     }
 }
@@ -102,7 +77,7 @@ fn cut_line(bytes: &[u8]) -> (&[u8], Option<&[u8]>)
 
 /// Does a script's lines in order, and writes what each prints before the next is done. On an error the lines before it
 /// are done and written. A line that can't be written is done, and not all that it prints was written. For want of
-/// memory the line may be done too, and nothing that it prints was written.
+/// memory some first events of the line happened, and nothing that it prints was written.
 pub fn run_script<K: Sink>(
     alloc: Global,
     world: &mut World,
@@ -124,11 +99,10 @@ pub fn run_script<K: Sink>(
     while let Some(rest) = left {
         let (bytes, more) = cut_line(rest);
         number += 1;
-        let line = match line_for(alloc, world, bytes)? {
-            Ok(line) => line,
+        let text = match play_line(alloc, world, bytes)? {
+            Ok(text) => text,
             Err(fault) => return Err(ScriptRefused::Refused(number, fault)),
         };
-        let text = act(alloc, world, line)?;
         write_all(out, text.as_bytes())?;
         left = more;
     }

@@ -1,9 +1,12 @@
-//! A world: its service, the events that change it, and the verdict over services.
+//! A world: its services, the events that change them, and the verdict over services.
 #![tactic(auto)]
 
-mod audit;
+mod event;
+mod turns;
+mod verdicts;
 mod world;
 
-pub use audit::{audit_service, audit_services};
+pub use event::{Event, Happened, Refusal, WorldStepRefused};
 pub use journal_rows::{Outstanding, Verdict};
-pub use world::World;
+pub use verdicts::audit;
+pub use world::{World, world_step};

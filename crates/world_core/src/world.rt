@@ -1,123 +1,161 @@
 // A world: services, and what their requests are given from outside.
-ghost use Rattle.std.specs.Prelude.{◌≡◌, [], length, Ok, IfSome, OnErr};
-ghost use Rattle.local_repair.specs.Current.{AllCurrent};
-ghost use Rattle.service_core.specs.Events.{unanswered, IsStep, SettlesWithin};
-ghost use Rattle.service_core.specs.Orders.{given};
-ghost use Rattle.world_core.specs.Worlds.{fresh_world, once_drawn, with_moment, with_seed, IsCommand, IsRequest};
+ghost use Rattle.std.specs.Prelude.{◌≡◌, ◌≢◌, Err, map, option_map};
+ghost use Rattle.world_core.specs.Worlds.{after_event, answer_to, fresh_world, service_of, setting_of, Comes, IsSure, NamesDiffer, StaysIfRefused, StepsEnd};
+ghost use Rattle.world_core.specs.declared.event.WorldStepRefused.TheVariants.{NoMemory};
 
-use lang_core::{LAST_MOMENT, NoMemory, Request, Text};
+use crate::event::{Event, Happened, WorldStepRefused};
+use crate::turns::{arrive, order, step};
+use lang_core::{LAST_MOMENT, Name, Request, Same, Text};
 use recorded_inputs::{ScriptClock, ScriptWords, draw_script};
-use service_core::{ArriveRefused, Arrived, Command, OrderRefused, Ordered, Service, Stepped};
+use service_core::{Command, Service};
 use std::alloc::Global;
 use std::marker::Model;
 
-/// A world of one service, with the clock and the random words from which its requests and orders draw.
+/// A world: its services, whose names differ, with the clock and the random words from which their requests and orders
+/// draw.
 #[derive(Drop)]
 pub struct World {
-    service: Service,
+    services: Vec<Service>,
     clock: ScriptClock,
     words: ScriptWords,
 }
 
 impl Model for World {
-    ghost use Rattle.world_core.specs.Worlds.{World, world_code};
+    ghost use Rattle.world_core.specs.Worlds.{World, NamesDiffer, world_code};
 
     ghost Value = { World };
 
     ghost coded = { world_code };
 
-    ghost view = { λ w. record { service = w.service; moment = w.clock.moment; x = w.words.x } };
+    ghost view = { λ w. record { services = w.services.items; moment = w.clock.moment; x = w.words.x } };
+
+    ghost invariant = { λ w. NamesDiffer w.services.items };
 }
 
 impl World {
-    /// The world of this service, at moment 0 and with the word 1 before the first.
-    pub fn new(service: Service) -> World
-        ensures { result ≡ fresh_world service }
+    /// The world of these services, at moment 0 and with the word 1 before the first.
+    pub fn new(services: Vec<Service>) -> World
+        requires { NamesDiffer services.items }
+        ensures { result ≡ fresh_world services.items }
     {
         World {
-            service,
+            services,
             clock: ScriptClock::new(),
             words: ScriptWords::new(),
         }
     }
 
-    /// Its service.
-    pub fn service(&self) -> &Service
-        ensures { result.now ≡ self.now.service }
+    /// Its services, in order.
+    pub fn services(&self) -> &[Service]
+        ensures { result.now ≡ self.now.services }
     {
-        &self.service
+        &self.services
     }
 
-    /// Its service, for good.
-    pub fn into_service(self) -> Service
-        ensures { result ≡ self.service }
+    /// Its services, for good.
+    pub fn into_services(self) -> Vec<Service>
+        ensures { result.items ≡ self.services }
     {
-        self.service
+        self.services
     }
 
-    /// Sets the moment that the clock tells; one later than 9,223,372,036,854,775,807 is that one.
-    pub fn set_clock(&mut self, moment: u64)
-        ensures { self.new ≡ with_moment self.old moment }
+    /// The service of this name, if there is one.
+    pub fn service(&self, name: &Name) -> Option<&Service>
+        ensures { option_map (λ s. s.now) result ≡ service_of name.now self.now.services }
     {
-        self.clock.set(moment.min(LAST_MOMENT));
+        self.services
+            .iter()
+            .find(|service| service.setting().me.text().is(name.text()))
     }
+}
 
-    /// Goes on with the words behind `n` modulo 65,537.
-    pub fn seed(&mut self, n: u64)
-        ensures { self.new ≡ with_seed self.old n }
-    {
-        self.words.seed(n);
-    }
-
-    /// A request from outside, which draws its inputs even where it is refused, but for want of memory.
-    pub fn arrive(&mut self, alloc: Global, request: Request) -> Result<Arrived, ArriveRefused>
-        ensures request { IsRequest self.old request result self.new }
-        ensures refused { OnErr result (self.new.service ≡ self.old.service) }
-        ensures setting { self.new.service.setting ≡ self.old.service.setting }
-    {
-        let last = self.words.last();
-        let inputs = draw_script(&mut self.clock, &mut self.words);
-        match self.service.arrive(alloc, request, inputs) {
-            Err(ArriveRefused::NoMemory) => {
-                self.words.seed(last);
-                Err(ArriveRefused::NoMemory)
-            }
-            answer => answer,
+// A request from outside comes to the service of this name, and draws its inputs.
+fn world_arrive(
+    alloc: Global,
+    world: &mut World,
+    name: Name,
+    request: Request,
+) -> Result<Happened, WorldStepRefused>
+    ensures comes { Comes (answer_to world.old (Event.Arrive name request)) (after_event world.old (Event.Arrive name request)) world.old result world.new }
+    ensures refused { StaysIfRefused result world.old.services world.new.services }
+    ensures settings { map setting_of world.new.services ≡ map setting_of world.old.services }
+    ensures sure { IsSure world.old (Event.Arrive name request) → result ≢ Err NoMemory }
+{
+    let last = world.words.last();
+    let inputs = draw_script(&mut world.clock, &mut world.words);
+    match arrive(alloc, &mut world.services, name, request, inputs) {
+        Ok(happened) => Ok(happened),
+        Err(why) => {
+            world.words.seed(last);
+            Err(why)
         }
     }
+}
 
-    /// An order of an operator, which draws inputs even where it is refused or repeated, but for want of memory. A
-    /// repeated one takes no memory.
-    pub fn order(
-        &mut self,
-        alloc: Global,
-        command: Command,
-        token: Text,
-    ) -> Result<Ordered, OrderRefused>
-        ensures order { IsCommand self.old command token result self.new }
-        ensures repeated { IfSome (given token self.old.service.accepted)
-            (λ ordered. (result ≡ Ok ordered) × (self.new ≡ once_drawn self.old self.old.service)) }
-        ensures refused { OnErr result (self.new.service ≡ self.old.service) }
-        ensures setting { self.new.service.setting ≡ self.old.service.setting }
-    {
-        let last = self.words.last();
-        let inputs = draw_script(&mut self.clock, &mut self.words);
-        match self.service.order(alloc, command, token, inputs) {
-            Err(OrderRefused::NoMemory) => {
-                self.words.seed(last);
-                Err(OrderRefused::NoMemory)
-            }
-            answer => answer,
+// An operator gives an order to the service of this name, which draws inputs.
+fn world_order(
+    alloc: Global,
+    world: &mut World,
+    name: Name,
+    command: Command,
+    token: Text,
+) -> Result<Happened, WorldStepRefused>
+    ensures comes { Comes (answer_to world.old (Event.Order name command token)) (after_event world.old (Event.Order name command token)) world.old result world.new }
+    ensures refused { StaysIfRefused result world.old.services world.new.services }
+    ensures settings { map setting_of world.new.services ≡ map setting_of world.old.services }
+    ensures sure { IsSure world.old (Event.Order name command token) → result ≢ Err NoMemory }
+{
+    let last = world.words.last();
+    let inputs = draw_script(&mut world.clock, &mut world.words);
+    match order(alloc, &mut world.services, name, command, token, inputs) {
+        Ok(happened) => Ok(happened),
+        Err(why) => {
+            world.words.seed(last);
+            Err(why)
         }
     }
+}
 
-    /// A repair step of its service, which draws nothing. Where no entry is stale it takes no memory.
-    pub fn repair_step(&mut self, alloc: Global) -> Result<Stepped, NoMemory>
-        ensures step { IsStep self.old.service result self.new.service }
-        ensures rest { self.new ≡ record self.old { service = self.new.service } }
-        ensures bound { SettlesWithin (length self.old.service.entries) self.old.service }
-        ensures idle { AllCurrent unanswered [] self.old.service.entries → (result ≡ Ok Stepped.Idle) × (self.new ≡ self.old) }
-    {
-        self.service.repair_step(alloc)
+// The service of this name makes a repair step, which draws nothing.
+fn world_repair(alloc: Global, world: &mut World, name: Name) -> Result<Happened, WorldStepRefused>
+    ensures comes { Comes (answer_to world.old (Event.Step name)) (after_event world.old (Event.Step name)) world.old result world.new }
+    ensures refused { StaysIfRefused result world.old.services world.new.services }
+    ensures settings { map setting_of world.new.services ≡ map setting_of world.old.services }
+    ensures sure { IsSure world.old (Event.Step name) → result ≢ Err NoMemory }
+    ensures bound { StepsEnd world.old (Event.Step name) }
+{
+    step(alloc, &mut world.services, name)
+}
+
+/// An event happens: the world after it and what happened are those of the event, unless memory is wanting, and then
+/// nothing is changed. An arrival and an order draw inputs even where they are refused, but for a service that isn't
+/// in the world.
+pub fn world_step(
+    alloc: Global,
+    world: &mut World,
+    event: Event,
+) -> Result<Happened, WorldStepRefused>
+    ensures comes { Comes (answer_to world.old event) (after_event world.old event) world.old result world.new }
+    ensures refused { StaysIfRefused result world.old.services world.new.services }
+    ensures settings { map setting_of world.new.services ≡ map setting_of world.old.services }
+    ensures sure { IsSure world.old event → result ≢ Err NoMemory }
+    ensures bound { StepsEnd world.old event }
+{
+    match event {
+        Event::Arrive { service, request } => world_arrive(alloc, world, service, request),
+        Event::Order {
+            service,
+            command,
+            token,
+        } => world_order(alloc, world, service, command, token),
+        Event::Step { service } => world_repair(alloc, world, service),
+        Event::Clock(moment) => {
+            world.clock.set(moment.min(LAST_MOMENT));
+            Ok(Happened::Set)
+        }
+        Event::Seed(n) => {
+            world.words.seed(n);
+            Ok(Happened::Set)
+        }
     }
 }

@@ -1,6 +1,5 @@
-use Rattle.std.proofs.Common.{refl}
-use Rattle.aire_top.proofs.Runs.{closes_alone}
+use Rattle.std.proofs.Common.{inl, ◌∙◌}
 use Rattle.aire_top.proofs.ending.refusal.Goals as goal
 
-pub returns-in-Some-clause-ends : goal.returns-in-Some-clause-ends
-returns-in-Some-clause-ends g c = closes_alone c.args.service _ (g.K.Sink.writes c.args.out.now) (g.K.Sink.writes c.refused.new.out) _ _ (c.in-Some.ensures c.in-Some.services refl) c.refused.ensures.ends
+pub returns-in-Ok-clause-ends : goal.returns-in-Ok-clause-ends
+returns-in-Ok-clause-ends g c = let e = c.as_str.ensures.value ∙ c.in-Ok.ensures.ok in inl (c.standing.ensures.answer, rw e at c.write_last.ensures.ends)

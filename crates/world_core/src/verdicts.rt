@@ -1,5 +1,5 @@
 // The audit: whether services are settled.
-ghost use Rattle.std.specs.Prelude.{◌≡◌, ◌+◌, ◌<◌, ◌^◌, ◌≤◌, length, map, [], ◌∷◌};
+ghost use Rattle.std.specs.Prelude.{◌≡◌, ◌+◌, ◌<◌, ◌^◌, ◌≤◌, length, map};
 ghost use Rattle.execution.specs.Executions.{IsLegal};
 ghost use Rattle.service_core.specs.Events.{history};
 ghost use Rattle.world_core.specs.Verdicts.{verdict, IsLegalIf};
@@ -9,7 +9,7 @@ use service_core::Service;
 
 /// The verdict over services: the first stale entry, by service and then in logged order; or Legal exactly where
 /// there is none, and then all logs and rows are one legal execution of the surviving requests.
-pub fn audit_services(services: &[Service]) -> Verdict
+pub fn audit(services: &[Service]) -> Verdict
     ensures verdict { result ≡ verdict services.now }
     ensures legal { IsLegalIf result (map history services.now) }
 {
@@ -22,18 +22,4 @@ pub fn audit_services(services: &[Service]) -> Verdict
         }
     }
     Verdict::Legal
-}
-
-/// The verdict over one service alone.
-pub fn audit_service(service: &Service) -> Verdict
-    ensures verdict { result ≡ verdict (service.now ∷ []) }
-    ensures legal { IsLegalIf result (history service.now ∷ []) }
-{
-    match service.first_stale() {
-        Some(id) => Verdict::Unsettled {
-            at: 0,
-            what: Outstanding::Stale(id),
-        },
-        None => Verdict::Legal,
-    }
 }

@@ -1,7 +1,7 @@
 use Rattle.std.proofs.Common.{◌≡◌, None, sym, ◌∙◌}
 use Rattle.service_core.specs.Events.{Kept, stale_id}
 use Rattle.world_core.proofs.VerdictLemmas.{verdict_more, legal_more}
-use Rattle.world_core.proofs.audit.audit_services.Goals as goal
+use Rattle.world_core.proofs.verdicts.audit.Goals as goal
 
 pub loop-at-preserved : goal.loop-at-preserved
 loop-at-preserved c =
