@@ -1,5 +1,8 @@
 -- Registers and places as versions are sent: a call is named, replaced, deleted.
-use Rattle.std.proofs.Common.{◌≡◌, ℕ, ◌+◌, ◌^◌, ◌<◌, ◌≤◌, false, cond, List, [], ◌∷◌, ◌++◌, Option, Some, None, IsSome, max, length, nat_eq, option_map, refl, sym, ap, ◌∙◌, subst, arith, append_assoc, append-nil, length-append, eq-eqb}
+use Rattle.lang_core.specs.declared.request.Response.{Response}
+use Rattle.local_repair.specs.Steps.{tentative, answer_or_tentative}
+use Rattle.call_registers.specs.declared.register.Answer.{Answer}
+use Rattle.std.proofs.Common.{◌≡◌, ℕ, ◌+◌, ◌^◌, ◌<◌, ◌≤◌, false, cond, List, [], ◌∷◌, ◌++◌, Option, Some, None, IsSome, max, length, nat_eq, option_map, refl, sym, ap, ◌∙◌, subst, arith, append_assoc, append-nil, length-append, eq-eqb, IfSome, ne_eqb, true, Bool}
 use Rattle.std.specs.Option.{option_map_or}
 use Rattle.lang_core.specs.declared.request.Request.{Request}
 use Rattle.lang_core.specs.declared.trace.CallMade.{CallMade}
@@ -8,13 +11,13 @@ use Rattle.journal_rows.specs.declared.caller.SentRow.{SentRow}
 use Rattle.journal_rows.specs.declared.row.Row.{Row}
 use Rattle.journal_rows.specs.declared.row.Row.TheVariants.{Sent, SawAck, SawAnswer}
 use Rattle.call_registers.specs.Changes.{raised}
-use Rattle.call_registers.specs.Registers.{register, next_number}
+use Rattle.call_registers.specs.Registers.{register, next_number, answer_to, consumed_in}
 use Rattle.call_registers.specs.declared.register.Register.{Register}
 use Rattle.service_meaning.specs.Calls.{after_row, after_rows, named as named_row, replaced, deleted, version_of}
 use Rattle.service_meaning.specs.Fits.{EachAfter, SendsOn, FitsSent, sent_by, Place, call_to, call_in, wanted_call, count, stands, WantsItsCalls, FitsPlaces}
 use Rattle.call_laws.proofs.RowLemmas.{Each, each_of_all, kind_follows, IsPlain}
 use Rattle.call_laws.proofs.RegisterLemmas.{next_none, found_within, some_is}
-use Rattle.call_laws.proofs.SentLemmas.{MaySend, not_sent, version_within, put, fits_row, fits_rows}
+use Rattle.call_laws.proofs.SentLemmas.{MaySend, not_sent, version_within, put, fits_row, fits_rows, answer_in, Put}
 use Rattle.call_laws.proofs.PlaceLemmas.{one_if, place, no_place, head_of, count_self, count_other, with_none, step_places}
 
 -- ---- a journal and its registers
@@ -96,6 +99,7 @@ pub record Went (b : Book) (s : SentRow) (p : Place) (ps : List Place) : Type 0 
   pub fits : Fitting (entered (Sent s ∷ []) b) (p ∷ ps)
   pub others : (m : ℕ) → nat_eq s.number m ≡ false → register m (entered (Sent s ∷ []) b).registers ≡ register m b.registers
   pub count : length (entered (Sent s ∷ []) b).registers ≡ max (length b.registers) s.number
+  pub made : Put b.journal b.registers s (entered (Sent s ∷ []) b).registers
 
 send : (b : Book) (s : SentRow) (p q : Place) (ps : List Place) → HasRoom b (Sent s ∷ []) → SendsOn b.journal (Sent s)
     → ((m : ℕ) → nat_eq s.number m ≡ false → (count m p.numbers ≡ 0) × (count m q.numbers ≡ 0))
@@ -117,7 +121,44 @@ send b s p q ps few may away none here wants f =
       };
       others = others;
       count = made.count ∙ ap (λ k. max k s.number) (sym f.sent.count);
+      made = made;
     }
+
+-- ---- what calls consume
+
+-- what the call of a number consumes
+abbrev pub answered : List Register → ℕ → Response
+answered now n = answer_or_tentative (consumed_in (register n now))
+
+-- no answer is held for a later version than its register's
+abbrev pub IsOnTime : Option Register → Type 0
+IsOnTime o = IfSome o (λ r. IfSome r.answer (λ a. a.version ≤ r.version))
+
+abbrev pub IsTimely : List Register → Type 0
+IsTimely now = (n : ℕ) → IsOnTime (register n now)
+
+on_time_one : (m : ℕ) (b : Bool) (made : Register) (o : Option Register) → (b ≡ true → IsOnTime (Some made)) → IsOnTime o → IsOnTime (cond b (Some made) o)
+on_time_one m true made o this other = this refl
+on_time_one m false made o this other = other
+
+-- where the register that a sent version makes is on time, all stay so
+timely_put : (b : Book) (s : SentRow) (p : Put b.journal b.registers s (entered (Sent s ∷ []) b).registers) → IsOnTime (Some p.made) → IsTimely b.registers
+    → IsTimely (entered (Sent s ∷ []) b).registers
+timely_put b s p this timely m =
+    subst IsOnTime (sym (p.found m)) (on_time_one m (nat_eq s.number m) p.made (register m b.registers) (λ is. this) (timely m))
+
+put_here : (b : Book) (s : SentRow) (p : Put b.journal b.registers s (entered (Sent s ∷ []) b).registers) → register s.number (entered (Sent s ∷ []) b).registers ≡ Some p.made
+put_here b s p = p.found s.number ∙ ap (λ c. cond c (Some p.made) (register s.number b.registers)) (eq-eqb s.number s.number refl)
+
+no_answer : (v : ℕ) (o : Option Answer) → o ≡ None → (answer_or_tentative (answer_to v o) ≡ tentative) × IfSome o (λ a. a.version ≤ v)
+no_answer v None e = (refl, tt)
+no_answer v (Some a) e = cc
+
+not_yet : (v was : ℕ) (o : Option Answer) → IfSome o (λ a. a.version ≤ was) → v ≡ was + 1 → (answer_or_tentative (answer_to v o) ≡ tentative) × IfSome o (λ a. a.version ≤ v)
+not_yet v was None h e = (refl, tt)
+not_yet v was (Some a) h e =
+    let differs : nat_eq a.version v ≡ false = ne_eqb a.version v (λ same. omega (arith, same, h, e)) in
+    (rw differs refl, omega (arith, h, e))
 
 -- ---- a call is named
 
@@ -131,6 +172,8 @@ pub record Named (b : Book) (next : ℕ) (c : CallMade) (ps : List Place) : Type
   pub fits : Fitting (entered (named_row next c ∷ []) b) (place (next ∷ []) (c ∷ []) ∷ ps)
   pub others : (m : ℕ) → nat_eq next m ≡ false → register m (entered (named_row next c ∷ []) b).registers ≡ register m b.registers
   pub later : next + 1 ≡ next_number (entered (named_row next c ∷ []) b).registers
+  pub consumes : answered (entered (named_row next c ∷ []) b).registers next ≡ tentative
+  pub timely : IsTimely b.registers → IsTimely (entered (named_row next c ∷ []) b).registers
 
 pub name_call : (b : Book) (next : ℕ) (c : CallMade) (ps : List Place) → HasRoom b (named_row next c ∷ []) → next ≡ next_number b.registers → Fitting b ps
     → Named b next c ps
@@ -142,7 +185,14 @@ name_call b next c ps few is f =
     (may_by b.journal s None unsent ((let count = f.sent.count in omega (arith, is, count)), refl, refl))
     (λ m differs. (refl, count_other next m differs)) (next_unwanted b.registers ps next gone f.places) (count_self next) (λ end wanted. ap (λ o. o ∷ []) wanted)
     (record { sent = f.sent; places = with_none b.registers ps f.places }) in
-    record { fits = went.fits; others = went.others; later = (let count = went.count in omega (arith, count, is)) }
+    let none = no_answer went.made.made.version went.made.made.answer (went.made.answer ∙ ap answer_in gone) in
+    record {
+      fits = went.fits;
+      others = went.others;
+      later = (let count = went.count in omega (arith, count, is));
+      consumes = ap (λ o. answer_or_tentative (consumed_in o)) (put_here b s went.made) ∙ none.0;
+      timely = λ timely. timely_put b s went.made none.1 timely;
+    }
 
 -- ---- a call is replaced or deleted
 
@@ -172,6 +222,8 @@ pub record Resent (b : Book) (s : SentRow) (p : Place) (ps : List Place) : Type 
   pub fits : Fitting (entered (Sent s ∷ []) b) (p ∷ ps)
   pub others : (m : ℕ) → nat_eq s.number m ≡ false → register m (entered (Sent s ∷ []) b).registers ≡ register m b.registers
   pub next : next_number b.registers ≡ next_number (entered (Sent s ∷ []) b).registers
+  pub consumes : IsTimely b.registers → answered (entered (Sent s ∷ []) b).registers s.number ≡ tentative
+  pub timely : IsTimely b.registers → IsTimely (entered (Sent s ∷ []) b).registers
 
 abbrev pub again : ℕ → List ℕ → ℕ → Option Request → SentRow
 again n dest version d = record { number = n; dest = dest; version = version; desired = d }
@@ -196,7 +248,21 @@ resend b n o version d q ps few is away here wants f =
     (may_by b.journal (again n o.dest version d) (Some (sent_by w.made)) last (sym w.dest, next, some_there w.made.desired o.request w.desired))
     (λ m differs. (count_other n m differs, away m differs)) alone here wants f in
     let below = found_within n b.registers w.made f.sent.numbered w.found in
-    record { fits = went.fits; others = went.others; next = (let count = went.count in omega (arith, count, below)) }
+    let s = again n o.dest version d in
+    let made = went.made.made in
+    let same : made.answer ≡ w.made.answer = went.made.answer ∙ ap answer_in w.found in
+    let rises : made.version ≡ w.made.version + 1 = ap (λ (x : SentRow). x.version) went.made.sent ∙ next in
+    let later : IsTimely b.registers → (answer_or_tentative (answer_to made.version made.answer) ≡ tentative) × IfSome made.answer (λ a. a.version ≤ made.version) =
+    λ timely. (let held : IsOnTime (Some w.made) = subst IsOnTime w.found (timely n) in
+    let H : Option Answer → Type 0 = λ x. IfSome x (λ a. a.version ≤ w.made.version) in
+    not_yet made.version w.made.version made.answer (subst H (sym same) held) rises) in
+    record {
+      fits = went.fits;
+      others = went.others;
+      next = (let count = went.count in omega (arith, count, below));
+      consumes = λ timely. ap (λ x. answer_or_tentative (consumed_in x)) (put_here b s went.made) ∙ (later timely).0;
+      timely = λ timely. timely_put b s went.made (later timely).1 timely;
+    }
   where
     one_most : (c : Option CallMade) → one_if c ≤ 1
     one_most None = omega arith

@@ -6,16 +6,17 @@ use Rattle.request_log.specs.Entries.{IsDistinct, with_entry}
 use Rattle.request_log.specs.declared.entry.Entry.{Entry}
 use Rattle.request_log.specs.declared.entry.Made.{Made}
 use Rattle.local_repair.specs.Current.{Consumed, after_entry}
-use Rattle.local_repair.specs.Steps.{calls_of_made, is_new_answer, remade, raised, answer_or_tentative}
+use Rattle.local_repair.specs.Steps.{calls_of_made, is_new_answer, remade, raised, answer_or_tentative, answers_for}
 use Rattle.local_repair.specs.Tests.{is_current}
+use Rattle.journal_rows.specs.declared.row.Row.{Row}
 use Rattle.journal_rows.specs.declared.row.Row.TheVariants.{Answered}
-use Rattle.call_registers.specs.Registers.{next_number, register, consumed_in}
+use Rattle.call_registers.specs.Registers.{next_number, consumed_in}
 use Rattle.service_meaning.specs.State.{Kept, answers}
 use Rattle.service_meaning.specs.Steps.{new_record, new_numbers, sent_rows, answer_rows, answered_replies, stepped, Stale, stale_in, step_by, step_event}
 use Rattle.service_meaning.specs.Fits.{Fits, FitsPlaces, place_of_entry, place_of_flight, count}
 use Rattle.call_laws.proofs.RowLemmas.{Each, each_append, each_weaker, IsSending, IsUnseen, IsUntaken, IsUnordered, IsPlain, sending_unseen, sending_untaken, sending_unordered}
-use Rattle.call_laws.proofs.FittingLemmas.{entered, HasRoom, room_first, room_then, Fitting, fitting_then, fitting_plain, Book, entered-append, plain_rows}
-use Rattle.call_laws.proofs.SettleLemmas.{same_versions, settle_all}
+use Rattle.call_laws.proofs.FittingLemmas.{entered, HasRoom, room_first, room_then, Fitting, fitting_then, fitting_plain, Book, entered-append, plain_rows, answered, IsTimely}
+use Rattle.call_laws.proofs.SettleLemmas.{same_versions, settle_all, Settled}
 use Rattle.call_laws.proofs.FlightLemmas.{flies_from, flies_fit, flies_rows}
 use Rattle.call_laws.proofs.KindLemmas.{sends_settled}
 use Rattle.call_laws.proofs.CallLaws.{Goes, goes_same, book, noted_calls, FitsCalls, IsFew}
@@ -95,22 +96,43 @@ goes_step_by s (Some x) is distinct =
 pub step_goes : (s : Kept) → Fits s → Goes s (step_event s).service
 step_goes s f = goes_step_by s (stale_in (answers s) [] s.entries) refl f.asked.distinct
 
--- a step leaves what the calls of all other entries and of flights consume
-pub stepped_others : (s : Kept) (e : Entry) (m : Made) → Stands s.entries e → FitsCalls s → IsFew (stepped s e m).service
-    → (n : ℕ) → count n e.slots ≡ 0 → n ≤ length s.registers → answers (stepped s e m).service n ≡ answers s n
-stepped_others s e m st h few n none within =
-    let first = sent_rows s e m in
-    let last = answer_rows e m in
-    let rows = first ++ last in
-    let sum = length-append s.journal rows in
-    let room : HasRoom (book s) rows = record { counts = omega (arith, few, sum) } in
-    let fs = map place_of_flight s.flights in
-    let away = others st.before st.rest fs in
-    let E : List Entry → Type 0 = λ xs. FitsPlaces s.registers (map place_of_entry xs ++ fs) in
-    let at : Fitting (book s) (place_of_entry e ∷ away) = record { sent = h.sent; places = entry_to_head s.registers st.before e st.rest fs (subst E st.is h.places) } in
-    let settled = settle_all s.registers e.slots (calls_of_made e.made) m.trace.calls (book s) (next_number s.registers) away
-    (room_first (book s) first last room) refl (same_versions s.registers e.slots) at in
-    let mid = entered first (book s) in
-    let same : (entered rows (book s)).registers ≡ mid.registers =
-    ap (λ (x : Book). x.registers) (entered-append first last (book s)) ∙ plain_rows (length mid.journal) mid.registers last (answer_plain e m (is_new_answer e.made m)) in
-    ap (λ rs. answer_or_tentative (consumed_in (register n rs))) same ∙ ap (λ o. answer_or_tentative (consumed_in o)) (settled.others n none within)
+-- ---- what calls consume after a step
+
+module _ (s : Kept) (e : Entry) (m : Made) (st : Stands s.entries e) (h : FitsCalls s) (few : IsFew (stepped s e m).service) where
+  abbrev first : List Row
+  first = sent_rows s e m
+
+  abbrev last : List Row
+  last = answer_rows e m
+
+  abbrev mid : Book
+  mid = entered first (book s)
+
+  step_room : HasRoom (book s) (first ++ last)
+  step_room = record { counts = (let sum = length-append s.journal (first ++ last) in omega (arith, few, sum)) }
+
+  step_settles : Settled (book s) first e.slots (new_numbers s e m) (calls_of_made e.made) m.trace.calls (others st.before st.rest (map place_of_flight s.flights))
+  step_settles =
+      let fs = map place_of_flight s.flights in
+      let E : List Entry → Type 0 = λ xs. FitsPlaces s.registers (map place_of_entry xs ++ fs) in
+      settle_all s.registers e.slots (calls_of_made e.made) m.trace.calls (book s) (next_number s.registers) (others st.before st.rest fs)
+      (room_first (book s) first last step_room) refl (same_versions s.registers e.slots)
+      (record { sent = h.sent; places = entry_to_head s.registers st.before e st.rest fs (subst E st.is h.places) })
+
+  step_registers : (entered (first ++ last) (book s)).registers ≡ mid.registers
+  step_registers =
+      ap (λ (x : Book). x.registers) (entered-append first last (book s)) ∙ plain_rows (length mid.journal) mid.registers last (answer_plain e m (is_new_answer e.made m))
+
+  -- a step leaves what the calls of all other entries and of flights consume
+  pub stepped_others : (n : ℕ) → count n e.slots ≡ 0 → n ≤ length s.registers → answers (stepped s e m).service n ≡ answers s n
+  stepped_others n none within =
+      ap (λ rs. answered rs n) step_registers ∙ ap (λ o. answer_or_tentative (consumed_in o)) (step_settles.others n none within)
+
+  -- in a service on time, the entry's calls consume what its old slots gave where they are the old calls, and else the tentative answer
+  pub stepped_consumes : IsTimely s.registers
+      → map (answers (stepped s e m).service) (new_numbers s e m) ≡ answers_for (answers s) (calls_of_made e.made) e.slots m.trace.calls
+  stepped_consumes timely = ap (λ rs. map (answered rs) (new_numbers s e m)) step_registers ∙ step_settles.consumes timely
+
+  -- and the service stays on time
+  pub stepped_timely : IsTimely s.registers → IsTimely (stepped s e m).service.registers
+  stepped_timely timely = subst IsTimely (sym step_registers) (step_settles.timely timely)
