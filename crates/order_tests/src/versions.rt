@@ -119,13 +119,38 @@ fn scanned(alloc: Global, order: &Order, versions: &Versions, a: u64) -> Result<
     one_scanned(alloc, order, versions, a, &table, &prefix)
 }
 
-fn first_of(order: &mut Order) -> Option<u64>
+fn copied(alloc: Global, order: &Order, versions: &Versions, a: u64) -> Result<bool, NoMemory>
+    requires rising { IsRising order.now.labels (map label_of versions.now.versions) }
+    requires a { Contains order.now.labels a }
+{
+    let copy = versions.copied(alloc)?;
+    scanned(alloc, order, &copy, a)
+}
+
+fn whole(
+    alloc: Global,
+    order: &Order,
+    versions: &mut Versions,
+    a: u64,
+    b: u64,
+) -> Result<bool, NoMemory>
+    requires rising { IsRising order.now.labels (map label_of versions.old.versions) }
+    requires a { Contains order.now.labels a }
+    requires b { Contains order.now.labels b }
+{
+    let placed = two_places(alloc, order, versions, a, b)?;
+    let dropped = dropped(alloc, order, versions, b)?;
+    let copied = copied(alloc, order, versions, a)?;
+    Ok(placed && dropped && copied)
+}
+
+pub(crate) fn first_of(order: &mut Order) -> Option<u64>
     ensures { IfSome result (Contains order.new.labels) }
 {
     order.append().ok()
 }
 
-fn after(order: &mut Order, label: u64) -> Option<u64>
+pub(crate) fn after(order: &mut Order, label: u64) -> Option<u64>
     requires { Contains order.old.labels label }
     ensures still { IfSome result (λ _. Contains order.new.labels label) }
     ensures made { IfSome result (Contains order.new.labels) }
@@ -143,8 +168,5 @@ fn versions_by_place(rt: HostRuntime) {
     let a = first_of(&mut order).expect(&rt, "a label");
     let b = after(&mut order, a).expect(&rt, "a label");
     let mut versions = Versions::new(alloc);
-    assert!(rt; two_places(alloc, &order, &mut versions, a, b).expect(&rt, "memory"));
-    assert!(rt; dropped(alloc, &order, &mut versions, b).expect(&rt, "memory"));
-    let copy = versions.copied(alloc).expect(&rt, "memory");
-    assert!(rt; scanned(alloc, &order, &copy, a).expect(&rt, "memory"));
+    assert!(rt; whole(alloc, &order, &mut versions, a, b).expect(&rt, "memory"));
 }
