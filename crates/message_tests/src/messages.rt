@@ -1,11 +1,8 @@
-// Which message a request spells to the service `bank`, whose one peer `shop` has the secret `s`, and whose console has `c`.
-// The seals are those that `openssl dgst -sha256 -hmac` prints for the sealed bytes.
-use aire_wire::{Incoming, read_incoming};
-use http_front::{AireHeader, read_request};
-use io_edge::MemorySource;
-use lang_core::{Method, Name, Request, Text};
+// Which message a request spells to the service `bank`, and what it is refused for. The seals are those that
+// `openssl dgst -sha256 -hmac` prints for the sealed bytes.
+use crate::given::{Reader, bank, holds, is_told, reads, request_of};
 use std::alloc::Global;
-use wire_fields::{ConsoleWord, Secrets, WireRefused};
+use std::process::Abort;
 
 const CALL: &str =
     "POST /pay/1 HTTP/1.1\r\nAire-From: shop\r\nAire-Dest: bank\r\nAire-Response-Id: shop/3\r\nAire-Notifier-URL: http://127.0.0.1:8101/aire/notify\r\nAire-Who: shop\r\nAire-Chain: shop\r\nAire-Seal: c7d9c240871868fc290607283eb1c02ae682ea2885a77a88b38d44ba16d0c401\r\nContent-Length: 1\r\n\r\n5";
@@ -22,281 +19,199 @@ const ANSWER: &str =
 const CONSOLE: &str =
     "POST /aire/console/log HTTP/1.1\r\nAire-Dest: bank\r\nAire-Who: root\r\nAire-Seal: cb35b0d2048058ff47273ef41edcfb1e5202247e6ae23fda0e8e77896942ff92\r\nContent-Length: 2\r\n\r\n{}";
 
-fn read(alloc: Global, text: &str) -> Option<Result<Incoming, WireRefused>> {
-    let bytes = text.as_bytes().to_vec(alloc).ok()?;
-    let mut source = MemorySource::new(bytes, Vec::new(alloc));
-    let request = read_request(alloc, &mut source).ok()?;
-    let me = Name::new(Text::of(alloc, "bank").ok()?).ok()?;
-    let shop = Name::new(Text::of(alloc, "shop").ok()?).ok()?;
-    let mut peers = Secrets::new(alloc);
-    peers.add(shop, Text::of(alloc, "s").ok()?).ok()?;
-    let console = Text::of(alloc, "c").ok()?;
-    Some(read_incoming(alloc, &me, &peers, &console, &request))
-}
-
-fn refused(alloc: Global, text: &str, why: WireRefused) -> bool {
-    match read(alloc, text) {
-        Some(Err(found)) => found == why,
-        _ => false,
-    }
-}
-
-// Whether the text with one part put in place of another is refused so.
-fn refused_with(alloc: Global, text: &str, old: &str, new: &str, why: WireRefused) -> bool {
-    match text.split_once(old) {
-        Some((front, rest)) => match format!(in alloc; "{front}{new}{rest}") {
-            Ok(changed) => refused(alloc, &changed, why),
-            Err(_) => false,
-        },
-        None => false,
-    }
-}
-
-fn is_the_call(alloc: Global) -> bool {
-    match read(alloc, CALL) {
-        Some(Ok(Incoming::Live(call))) => {
-            call.caller.as_str() == "shop"
-                && call.dest.as_str() == "bank"
-                && call.number == 3
-                && call.version == 1
-        }
-        _ => false,
-    }
-}
-
-fn is_the_request(desired: Option<&Request>) -> bool {
-    match desired {
-        Some(desired) => {
-            desired.method == Method::Put
-                && desired.path.as_str() == "/pay/1"
-                && desired.body.as_str() == "5"
-                && desired.who.as_str() == "ann"
-                && desired.chain.len() == 2
-        }
-        None => false,
-    }
-}
-
-fn is_the_set_message(alloc: Global) -> bool {
-    match read(alloc, SET) {
-        Some(Ok(Incoming::Set(set))) => {
-            set.number == 3
-                && set.version == 1
-                && set.before.is_none()
-                && set.after == Some(2)
-                && is_the_request(set.desired.as_ref())
-        }
-        _ => false,
-    }
-}
-
-fn is_the_deletion(alloc: Global) -> bool {
-    match read(alloc, DELETION) {
-        Some(Ok(Incoming::Set(set))) => set.desired.is_none() && set.version == 2,
-        _ => false,
-    }
-}
-
-fn is_the_answer(alloc: Global) -> bool {
-    match read(alloc, ANSWER) {
-        Some(Ok(Incoming::Answer(answer))) => {
-            answer.caller.as_str() == "bank"
-                && answer.callee.as_str() == "shop"
-                && answer.id == 9
-                && answer.number == 4
-                && answer.answer_version == 3
-                && answer.version == 2
-                && answer.response.status == 201
-        }
-        _ => false,
-    }
-}
-
-fn is_the_console(alloc: Global) -> bool {
-    match read(alloc, CONSOLE) {
-        Some(Ok(Incoming::Console(console))) => {
-            console.word == ConsoleWord::Log
-                && console.who.as_str() == "root"
-                && console.body.as_str() == "{}"
-        }
-        _ => false,
-    }
-}
-
-fn is_from_outside(alloc: Global) -> bool {
-    match read(alloc, "GET /n/a HTTP/1.1\r\nHost: 127.0.0.1:8101\r\n\r\n") {
-        Some(Ok(Incoming::Outside(outside))) => {
-            outside.path.as_str() == "/n/a"
-                && outside.who.as_str() == "anyone"
-                && outside.chain.len() == 0
-        }
-        _ => false,
-    }
-}
+const OUTSIDE: &str = "GET /n/a HTTP/1.1\r\nHost: 127.0.0.1:8101\r\n\r\n";
 
 #[test]
 fn messages_are_read(rt: HostRuntime) {
-    let alloc = rt.alloc();
-    assert!(rt; is_the_call(alloc));
-    assert!(rt; is_the_set_message(alloc));
-    assert!(rt; is_the_deletion(alloc));
-    assert!(rt; is_the_answer(alloc));
-    assert!(rt; is_the_console(alloc));
-    assert!(rt; is_from_outside(alloc));
+    reads(
+        &rt,
+        CALL,
+        " live shop bank 3 1 - - shop shop asked POST /pay/1 shop 5",
+    );
+    reads(
+        &rt,
+        SET,
+        " set shop bank 3 1 - 2 shop web shop asked PUT /pay/1 ann 5",
+    );
+    reads(&rt, DELETION, " set shop bank 3 2 - - shop nothing");
+    reads(&rt, ANSWER, " answer bank shop 9 4 3 2 201 ok shop");
+    reads(&rt, CONSOLE, " console log root {}");
+    reads(&rt, OUTSIDE, " outside asked GET /n/a anyone ");
+}
+
+// Whether the text, with one part put in place of another, is refused so. A row is the old part, the new one and what is
+// told, with `|` between them.
+fn is_refused(alloc: Global, bank: &Reader, text: &str, row: &str) -> bool {
+    let Some((old, rest)) = row.split_once('|') else {
+        return false;
+    };
+    let (Some((new, told)), Some((front, back))) = (rest.split_once('|'), text.split_once(old))
+    else {
+        return false;
+    };
+    match format!(in alloc; "{front}{new}{back}") {
+        Ok(changed) => is_told(alloc, bank, changed.as_bytes(), told),
+        Err(_) => false,
+    }
+}
+
+fn all_refused(rt: &(impl Abort + AllocGlobal), text: &str, rows: &[&str]) {
+    let bank = bank(rt);
+    for row in rows {
+        holds(rt, row, is_refused(rt.alloc(), &bank, text, row));
+    }
 }
 
 #[test]
-fn messages_are_refused(rt: HostRuntime) {
+fn calls_are_refused(rt: HostRuntime) {
+    all_refused(
+        &rt,
+        CALL,
+        &[
+            "POST /pay/1|POST /aire/pay| kind",
+            "POST /pay/1|PUT /aire/repair| kind",
+            "POST /pay/1|POST /aire/console/pay| kind",
+            "Aire-From: shop\r\n|| missing Aire-From",
+            "Aire-Dest: bank\r\n|| missing Aire-Dest",
+            "Aire-Notifier-URL: http://127.0.0.1:8101/aire/notify\r\n|| missing Aire-Notifier-URL",
+            "Aire-Who: shop\r\n|| missing Aire-Who",
+            "Aire-Chain: shop\r\n|| missing Aire-Chain",
+            "Aire-Seal: c7|Aire-Zeal: c7| missing Aire-Seal",
+            "Aire-From: shop|Aire-From: shop\r\naire-from: shop| bad Aire-From",
+            "Aire-Dest: bank|AIRE-DEST: bank\r\nAire-Dest: bank| bad Aire-Dest",
+            "Aire-Response-Id: shop/3|Aire-Response-Id: shop/3\r\nAire-Response-Id: shop/3| bad Aire-Response-Id",
+            "Aire-Who: shop|Aire-Who: shop\r\nAire-Who: shop| bad Aire-Who",
+            "Aire-Chain: shop|Aire-Chain: shop\r\nAire-Chain: shop| bad Aire-Chain",
+            "Aire-Seal: c7|Aire-Seal: c7\r\nAire-Seal: c7| bad Aire-Seal",
+            "Aire-From: shop|Aire-From: Shop| bad Aire-From",
+            "Aire-Dest: bank|Aire-Dest: a bank| bad Aire-Dest",
+            "Aire-Response-Id: shop/3|Aire-Response-Id: shop/0| bad Aire-Response-Id",
+            "Aire-Response-Id: shop/3|Aire-Response-Id: shop/03| bad Aire-Response-Id",
+            "http://127|https://127| bad Aire-Notifier-URL",
+            "Aire-Who: shop|Aire-Who:| bad Aire-Who",
+            "Aire-Chain: shop|Aire-Chain: Web,shop| bad Aire-Chain",
+            "Aire-Chain: shop|Aire-Chain: web,,shop| bad Aire-Chain",
+            "Aire-Seal: c|Aire-Seal: C| bad Aire-Seal",
+            "Aire-Seal: c7|Aire-Seal: c| bad Aire-Seal",
+            "Aire-Dest: bank|Aire-Dest: shop| bad Aire-Dest",
+            "Aire-From: shop|Aire-From: desk| bad Aire-Response-Id",
+            "Aire-Response-Id: shop/3|Aire-Response-Id: desk/3| bad Aire-Response-Id",
+            "Aire-Chain: shop|Aire-Chain: shop,web| bad Aire-Chain",
+            "Aire-Chain: shop|Aire-Chain: eshop| bad Aire-Chain",
+            "Aire-Chain: shop|Aire-Chain: web,shop| seal",
+            "Aire-Who: shop|Aire-Who: ann| seal",
+            "Aire-Response-Id: shop/3|Aire-Response-Id: shop/4| seal",
+            "POST /pay/1|PUT /pay/1| seal",
+            "POST /pay/1|POST /pay/2| seal",
+            "\r\n\r\n5|\r\n\r\n6| seal",
+            "Aire-Seal: c7|Aire-Seal: c8| seal",
+        ],
+    );
+}
+
+#[test]
+fn set_messages_are_refused(rt: HostRuntime) {
+    all_refused(
+        &rt,
+        SET,
+        &[
+            "Aire-Repair: create\r\n|| missing Aire-Repair",
+            "Aire-Version: 1\r\n|| missing Aire-Version",
+            "Aire-Path: /pay/1\r\n|| missing Aire-Path",
+            "Aire-Chain: web,shop\r\n|| missing Aire-Chain",
+            "Aire-Repair: create|Aire-Repair: retry| bad Aire-Repair",
+            "Aire-Version: 1|Aire-Version: 01| bad Aire-Version",
+            "Aire-Method: PUT|Aire-Method: put| bad Aire-Method",
+            "Aire-Path: /pay/1|Aire-Path: pay/1| bad Aire-Path",
+            "Aire-Chain: web,shop|Aire-Chain: web, shop| bad Aire-Chain",
+            "Aire-After: 2|Aire-After: x| bad Aire-After",
+            "Aire-After: 2|Aire-After: 2\r\nAire-After: 2| bad Aire-After",
+            "Aire-Repair: create|Aire-Repair: replace| bad Aire-Repair",
+            "Aire-Repair: create|Aire-Repair: replace_response| bad Aire-Repair",
+            "Aire-Version: 1|Aire-Version: 2| bad Aire-Repair",
+            "Aire-From: shop|Aire-From: desk| bad Aire-Response-Id",
+            "Aire-Repair: create|Aire-Repair: delete| seal",
+            "Aire-After: 2|Aire-Before: 2| seal",
+            "Aire-After: 2\r\n|| seal",
+            "Aire-Request-Who: ann|Aire-Request-Who: bob| seal",
+        ],
+    );
+    all_refused(
+        &rt,
+        DELETION,
+        &[
+            "Aire-Version: 2|Aire-Version: 3| seal",
+            "Aire-Repair: delete|Aire-Repair: replace| missing Aire-Method",
+            "Aire-Who: shop|Aire-Who: shop\r\nAire-Before: 1| seal",
+        ],
+    );
+}
+
+#[test]
+fn answers_are_refused(rt: HostRuntime) {
+    all_refused(
+        &rt,
+        ANSWER,
+        &[
+            "Aire-Status: 201\r\n|| missing Aire-Status",
+            "Aire-Answer-Version: 3\r\n|| missing Aire-Answer-Version",
+            "Aire-Status: 201|Aire-Status: 65536| bad Aire-Status",
+            "Aire-Dest: bank|Aire-Dest: desk| bad Aire-Dest",
+            "replace_response|replace| bad Aire-Repair",
+            "Aire-Request-Id: shop|Aire-Request-Id: bank| bad Aire-Request-Id",
+            "Aire-Response-Id: bank|Aire-Response-Id: shop| bad Aire-Response-Id",
+            "Aire-Version: 2|Aire-Version: 3| seal",
+            "Aire-Answer-Version: 3|Aire-Answer-Version: 2| seal",
+        ],
+    );
+    all_refused(
+        &rt,
+        CONSOLE,
+        &[
+            "console/log|console/halt| kind",
+            "POST|GET| kind",
+            "Aire-Who: root\r\n|| missing Aire-Who",
+            "Aire-Dest: bank|Aire-Dest: shop| bad Aire-Dest",
+            "root|rooz| seal",
+            "console/log|console/stop| seal",
+            "{}|[]| seal",
+        ],
+    );
+    all_refused(
+        &rt,
+        OUTSIDE,
+        &[
+            "GET /n/a|GET /aire/repair| kind",
+            "Host: 127|Aire-Who: a b\r\nHost: 127| bad Aire-Who",
+            "Host: 127|Aire-Who: a\r\nAire-Who: a\r\nHost: 127| bad Aire-Who",
+        ],
+    );
+}
+
+// A front of the call, and the call with two lengths that differ, another coding, or a body that is no text.
+#[test]
+fn requests_that_are_none(rt: HostRuntime) {
     let alloc = rt.alloc();
-    assert!(rt;
-        refused(
-            alloc,
-            "GET /aire/repair HTTP/1.1\r\n\r\n",
-            WireRefused::UnknownKind
-        )
-    );
-    assert!(rt;
-        refused(
-            alloc,
-            "GET / HTTP/1.1\r\nAire-Who: a b\r\n\r\n",
-            WireRefused::BadHeader(AireHeader::Who)
-        )
-    );
-    assert!(rt; refused_with(alloc, CALL, "\r\n\r\n5", "\r\n\r\n6", WireRefused::Seal));
-    assert!(rt;
-        refused_with(
-            alloc,
-            CALL,
-            "Aire-From: shop",
-            "Aire-From: desk",
-            WireRefused::BadHeader(AireHeader::ResponseId)
-        )
-    );
-    assert!(rt;
-        refused_with(
-            alloc,
-            CALL,
-            "Aire-Dest: bank",
-            "Aire-Dest: shop",
-            WireRefused::BadHeader(AireHeader::Dest)
-        )
-    );
-    assert!(rt;
-        refused_with(
-            alloc,
-            CALL,
-            "Aire-Chain: shop",
-            "Aire-Chain: shop,web",
-            WireRefused::BadHeader(AireHeader::Chain)
-        )
-    );
-    assert!(rt;
-        refused_with(
-            alloc,
-            CALL,
-            "Aire-Chain: shop",
-            "Aire-Chain: eshop",
-            WireRefused::BadHeader(AireHeader::Chain)
-        )
-    );
-    assert!(rt;
-        refused_with(
-            alloc,
-            CALL,
-            "Aire-Chain: shop",
-            "Aire-Chain: web,shop",
-            WireRefused::Seal
-        )
-    );
-    assert!(rt;
-        refused_with(
-            alloc,
-            CALL,
-            "Aire-Who: shop\r\n",
-            "",
-            WireRefused::MissingHeader(AireHeader::Who)
-        )
-    );
-    assert!(rt;
-        refused_with(
-            alloc,
-            SET,
-            "Aire-Repair: create",
-            "Aire-Repair: replace",
-            WireRefused::BadHeader(AireHeader::Repair)
-        )
-    );
-    assert!(rt;
-        refused_with(
-            alloc,
-            SET,
-            "Aire-Repair: create",
-            "Aire-Repair: retry",
-            WireRefused::BadHeader(AireHeader::Repair)
-        )
-    );
-    assert!(rt;
-        refused_with(
-            alloc,
-            SET,
-            "Aire-After: 2",
-            "Aire-After: x",
-            WireRefused::BadHeader(AireHeader::After)
-        )
-    );
-    assert!(rt;
-        refused_with(
-            alloc,
-            SET,
-            "Aire-Path: /pay/1\r\n",
-            "",
-            WireRefused::MissingHeader(AireHeader::Path)
-        )
-    );
-    assert!(rt;
-        refused_with(
-            alloc,
-            SET,
-            "Aire-After: 2",
-            "Aire-Before: 2",
-            WireRefused::Seal
-        )
-    );
-    assert!(rt;
-        refused_with(
-            alloc,
-            DELETION,
-            "Aire-Version: 2",
-            "Aire-Version: 3",
-            WireRefused::Seal
-        )
-    );
-    assert!(rt;
-        refused_with(
-            alloc,
-            ANSWER,
-            "Aire-Request-Id: shop",
-            "Aire-Request-Id: bank",
-            WireRefused::BadHeader(AireHeader::RequestId)
-        )
-    );
-    assert!(rt;
-        refused_with(
-            alloc,
-            ANSWER,
-            "Aire-Response-Id: bank",
-            "Aire-Response-Id: shop",
-            WireRefused::BadHeader(AireHeader::ResponseId)
-        )
-    );
-    assert!(rt;
-        refused_with(
-            alloc,
-            ANSWER,
-            "replace_response",
-            "replace",
-            WireRefused::BadHeader(AireHeader::Repair)
-        )
-    );
-    assert!(rt; refused_with(alloc, CONSOLE, "root", "rooz", WireRefused::Seal));
+    let whole = CALL.as_bytes();
+    for end in 0..whole.len() {
+        holds(&rt, "cut", request_of(alloc, &whole[..end]).is_none());
+    }
+    for text in [
+        "Content-Length: 1\r\nContent-Length: 01",
+        "Content-Length: 1\r\nTransfer-Encoding: chunked",
+        "Content-Length: one",
+        "Content-Length: 2",
+    ] {
+        holds(&rt, text, changed_is_none(alloc, text));
+    }
+}
+
+fn changed_is_none(alloc: Global, lengths: &str) -> bool {
+    let Some((front, back)) = CALL.split_once("Content-Length: 1") else {
+        return false;
+    };
+    match format!(in alloc; "{front}{lengths}{back}") {
+        Ok(changed) => request_of(alloc, changed.as_bytes()).is_none(),
+        Err(_) => false,
+    }
 }
