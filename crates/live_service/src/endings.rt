@@ -1,0 +1,31 @@
+// How an event of a live request ends.
+use call_registers::Reply;
+use flights::Flight;
+use repair_messages::SetMessage;
+use request_log::Entry;
+
+/// How an event of a live request ends, beside the rows that it notes.
+#[derive(Drop)]
+pub enum Ending {
+    /// The flight of this number, if there is one, is the last entry of the log. Its answer has this index in the journal.
+    Commits {
+        flight: u64,
+        entry: Entry,
+        reply: Option<Reply>,
+        index: u64,
+    },
+    /// The flight waits for the answer of this call.
+    Waits {
+        flight: Flight,
+        set: SetMessage,
+    },
+}
+
+/// What one run of a flight that is completed leads to.
+#[derive(Drop)]
+pub enum Step {
+    /// It ends so.
+    Ends(Ending),
+    /// The flight runs again.
+    Goes(Flight),
+}
