@@ -7,11 +7,12 @@ use Rattle.wire_fields.specs.Forms.{kind_named}
 use Rattle.lang_core.specs.declared.request.Request.{Request}
 use Rattle.lang_tree.specs.declared.method.Method.{Method}
 use Rattle.lang_tree.specs.declared.method.Method.TheVariants.{Get, Put, Post, Delete as DeleteMethod}
-use Rattle.lang_tree.specs.Forms.{is_text, is_visible}
+use Rattle.lang_base.specs.Characters.{is_visible}
+use Rattle.lang_tree.specs.Forms.{is_text}
 use Rattle.http_header.specs.FieldValue.{FieldValue}
 use Rattle.http_header.specs.HeaderMap.{Entries, get_all}
 use Rattle.http_header.specs.Token.{lowercase}
-use Rattle.http_front.specs.Methods.{method_named, method_word}
+use Rattle.lang_tree.specs.Methods.{method_named, method_word}
 use Rattle.http_front.specs.Table.{aire_headers, spelling}
 use Rattle.http_front.specs.declared.header.AireHeader.TheVariants as headers
 use Rattle.http_front.specs.declared.message.WireRequest.{WireRequest}

@@ -10,7 +10,8 @@ use Rattle.std.proofs.lemmas.List.Splits.{slice_split_at, slice_split_none}
 use Rattle.std.proofs.lemmas.Str.{IsAscii-append}
 use Rattle.std.proofs.lemmas.Str.Ascii.{IsAscii-nil, IsAscii-cons}
 use Rattle.lang_core.specs.Names.{is_name, is_name_byte, is_who}
-use Rattle.lang_tree.specs.Forms.{is_visible, is_path}
+use Rattle.lang_base.specs.Characters.{is_visible}
+use Rattle.lang_tree.specs.Forms.{is_path}
 use Rattle.wire_fields.proofs.SealLemmas.{same_text}
 use Rattle.wire_fields.proofs.SpeltLemmas.{ascii_by, both_hold, name_ascii, utf8_of_ascii}
 use Rattle.aire_wire.specs.Incoming.{ends_with_name, is_behind_comma, names_in}

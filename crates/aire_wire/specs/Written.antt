@@ -7,7 +7,7 @@ use Rattle.lang_tree.specs.declared.method.Method.TheVariants.{Post}
 use Rattle.http_header.specs.FieldValue.{FieldValue, plain_value}
 use Rattle.http_header.specs.HeaderMap.{Entries, append}
 use Rattle.http_header.specs.Token.{lowercase}
-use Rattle.http_front.specs.Methods.{method_word}
+use Rattle.lang_tree.specs.Methods.{method_word}
 use Rattle.http_front.specs.Table.{aire_headers, spelling}
 use Rattle.http_front.specs.declared.header.AireHeader.{AireHeader}
 use Rattle.http_front.specs.declared.header.AireHeader.TheVariants as headers

@@ -5,9 +5,9 @@ ghost use Rattle.repair_messages.specs.Kinds.{spelling as message_kind};
 ghost use Rattle.request_names.specs.Ids.{id_text};
 ghost use Rattle.aire_wire.specs.Written.{answer_fields, behind_comma, call_fields, chain_text, desired_fields, kind_word, neighbour_field, neighbour_fields, request_fields, set_message_fields, version_fields, with_field, with_fields};
 
-use http_front::{AireHeader, method_word};
+use http_front::AireHeader;
 use http_header::{HeaderMap, HeaderName, HeaderValue};
-use lang_core::{Name, Names, NoMemory, Request};
+use lang_core::{Name, Names, NoMemory, Request, method_word};
 use repair_messages::{AnswerMessage, Kind, SetMessage, spelling};
 use std::alloc::{AllocError, Global};
 

@@ -6,11 +6,11 @@ ghost use Rattle.wire_fields.specs.Fits.{or_zero};
 ghost use Rattle.wire_fields.specs.Forms.{status_of};
 ghost use Rattle.wire_fields.specs.Rows.{text_at};
 ghost use Rattle.aire_wire.specs.Incoming.{ends_with_name, is_behind_comma, names_in, or_get, who_or_anyone};
-ghost use Rattle.http_front.specs.Methods.{method_named};
+ghost use Rattle.lang_tree.specs.Methods.{method_named};
 
-use http_front::{AireHeader, method_named};
+use http_front::AireHeader;
 use http_header::HeaderMap;
-use lang_core::{Method, Names, NoMemory, Seq};
+use lang_core::{Method, Names, NoMemory, Seq, method_named};
 use request_names::read_number;
 use std::alloc::{AllocError, Global};
 use wire_fields::{name_of, status_of, text_at};

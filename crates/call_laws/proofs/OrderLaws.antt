@@ -4,7 +4,7 @@ use Rattle.std.proofs.lemmas.Bool.{cases_Bool}
 use Rattle.lang_core.specs.declared.inputs.Inputs.{Inputs}
 use Rattle.request_log.specs.Entries.{has_id}
 use Rattle.request_log.specs.declared.entry.Entry.{Entry}
-use Rattle.create_placement.specs.Placement.{place_of}
+use Rattle.create_placement.specs.Placement.{place_between}
 use Rattle.repair_messages.specs.declared.posts.PostName.{PostName}
 use Rattle.repair_messages.specs.declared.posts.PostName.TheVariants.{Call as OfCall, Reply as OfReply}
 use Rattle.journal_rows.specs.Words.{ordered}
@@ -53,8 +53,8 @@ goes_carried_out s (Cancel id) who i = goes_at_id s id (struck_as true) (λ e. r
 goes_carried_out s (Restore id) who i = goes_at_id s id (struck_as false) (λ e. refl)
 goes_carried_out s (Replace id method path body) who i = goes_at_id s id (asking method path body) (λ e. refl)
 goes_carried_out s (Create before after q) who i =
-    goes_entries s (insert s.entries (place_of before after s.entries) (created (next_id s) q i)) s.replies
-    (places_insert s.registers s.entries (place_of before after s.entries) (created (next_id s) q i) (map place_of_flight s.flights) refl)
+    goes_entries s (insert s.entries (place_between before after s.entries) (created (next_id s) q i)) s.replies
+    (places_insert s.registers s.entries (place_between before after s.entries) (created (next_id s) q i) (map place_of_flight s.flights) refl)
 goes_carried_out s (Retry name) who i = goes_released s who name
 
 -- the journal isn't changed before the rows come

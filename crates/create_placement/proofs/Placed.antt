@@ -7,7 +7,7 @@ use Rattle.std.proofs.lemmas.Bool.Decides.{nat_tests}
 use Rattle.std.proofs.lemmas.Option.{slice_get_within}
 use Rattle.request_log.specs.Entries.{has_id}
 use Rattle.request_log.specs.declared.entry.Entry.{Entry}
-use Rattle.create_placement.specs.Placement.{known_place, behind_or, place_of, named, StandsBefore, StandsBehind, IsPlaced}
+use Rattle.create_placement.specs.Placement.{known_place, behind_or, place_between, named, StandsBefore, StandsBehind, IsPlaced}
 
 none_past : {P : Type 0} (entries : List Entry) (at : ℕ) → nat_lt at (length entries) ≡ true → None ≡ slice_get entries at → P
 none_past [] at within none = grind (arith, nat_tests)
@@ -71,6 +71,6 @@ by_place entries None (Some at) None None there and = absurd and
 by_place entries None None None (Some last) there and = absurd and
 by_place entries None None None None there and = λ entry. insert_end entries entry
 
-pub is_placed : (before after : Option ℕ) (entries : List Entry) (at : ℕ) → at ≡ place_of before after entries → IsPlaced (named before entries) (named after entries) at entries
+pub is_placed : (before after : Option ℕ) (entries : List Entry) (at : ℕ) → at ≡ place_between before after entries → IsPlaced (named before entries) (named after entries) at entries
 is_placed before after entries at is =
     rw is (by_place entries (known_place before entries) (known_place after entries) (named before entries) (named after entries) (known_at before entries) (known_at after entries))

@@ -14,8 +14,8 @@ behind_or None end = end
 behind_or (Some at) end = at + 1
 
 -- at the entry `before` where it is known, else behind the entry `after` where that is known, else at the end
-abbrev pub place_of : Option ℕ → Option ℕ → List Entry → ℕ
-place_of before after entries = unwrap_or (known_place before entries) (behind_or (known_place after entries) (length entries))
+abbrev pub place_between : Option ℕ → Option ℕ → List Entry → ℕ
+place_between before after entries = unwrap_or (known_place before entries) (behind_or (known_place after entries) (length entries))
 
 -- ---- the same, by what stands beside the entry that is put there
 

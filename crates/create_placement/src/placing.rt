@@ -1,6 +1,6 @@
 // The place of a created entry.
 ghost use Rattle.std.specs.Prelude.{◌≡◌, ◌<◌, ◌≤◌, length, IfSome};
-ghost use Rattle.create_placement.specs.Placement.{IsPlaced, known_place, named, place_of};
+ghost use Rattle.create_placement.specs.Placement.{IsPlaced, known_place, named, place_between};
 
 use request_log::Log;
 
@@ -14,8 +14,8 @@ fn known_place(log: &Log, id: Option<u64>) -> Option<u64>
     }
 }
 
-fn place_of(log: &Log, before: Option<u64>, after: Option<u64>) -> u64
-    ensures place { result ≡ place_of before after log.now.entries }
+fn place_between(log: &Log, before: Option<u64>, after: Option<u64>) -> u64
+    ensures place { result ≡ place_between before after log.now.entries }
     ensures within { result ≤ length log.now.entries }
 {
     let end = log.len();
@@ -32,10 +32,10 @@ fn place_of(log: &Log, before: Option<u64>, after: Option<u64>) -> u64
 /// number `before` where the log has it, else directly behind the entry of the number `after` where it has that, else
 /// at the end.
 pub fn place(log: &Log, before: Option<u64>, after: Option<u64>) -> u64
-    ensures place { result ≡ place_of before after log.now.entries }
+    ensures place { result ≡ place_between before after log.now.entries }
     ensures within { result ≤ length log.now.entries }
     ensures stands { let entries = log.now.entries in
         IsPlaced (named before entries) (named after entries) result entries }
 {
-    place_of(log, before, after)
+    place_between(log, before, after)
 }

@@ -15,7 +15,7 @@ use Rattle.request_log.specs.Entries.{has_id}
 use Rattle.request_log.specs.declared.entry.Entry.{Entry}
 use Rattle.repair_messages.specs.declared.posts.PostName.{PostName}
 use Rattle.repair_messages.specs.declared.posts.PostName.TheVariants.{Call as OfCall, Reply as OfReply}
-use Rattle.create_placement.specs.Placement.{place_of}
+use Rattle.create_placement.specs.Placement.{place_between}
 use Rattle.journal_rows.specs.Words.{first_asked, asked_step, asked, count_step, taken_step, last_taken_of, version_in, wants, request_step, request_now, struck_by, struck_step, is_struck, replaced_by, answered_step, mark_step, ordered, or_before, is_about, settles}
 use Rattle.journal_rows.specs.declared.callee.TookRow.{TookRow}
 use Rattle.journal_rows.specs.declared.callee.AskedRow.{AskedRow}
@@ -273,7 +273,7 @@ module _ (s : Kept) (h : IsLogged s.journal s.entries s.replies) where
       (with_changed s.entries id (asking m p b) at.0 at.1 refl refl h.asked.distinct) (length-map s.entries (λ e. cond (has_id id e) (asking m p b e) e)))
   ordered_logged_by (Create before after q) token who i full ok =
       ordered_new
-      (record { token = token; command = Create before after q; who = who; rule = rule; original = None; repaired = Some q; about = AboutRequest (next_id s) }) q i (place_of before after s.entries) refl tt (λ r. refl) refl
+      (record { token = token; command = Create before after q; who = who; rule = rule; original = None; repaired = Some q; about = AboutRequest (next_id s) }) q i (place_between before after s.entries) refl tt (λ r. refl) refl
   ordered_logged_by (Retry name) token who i full ok =
       retried (s.journal ++ order_rows s (Retry name) token who i) who name
       (post_ordered (record { token = token; command = Retry name; who = who; rule = rule; original = None; repaired = None; about = AboutPost name }) name refl)

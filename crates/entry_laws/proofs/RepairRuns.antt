@@ -20,7 +20,7 @@ use Rattle.journal_rows.specs.declared.orders.OrderedRow.{OrderedRow}
 use Rattle.call_registers.specs.Registers.{register, is_newer}
 use Rattle.call_registers.specs.declared.register.Hold.{Hold}
 use Rattle.call_registers.specs.declared.register.Register.{Register}
-use Rattle.create_placement.specs.Placement.{place_of}
+use Rattle.create_placement.specs.Placement.{place_between}
 use Rattle.service_meaning.specs.Calls.{noted}
 use Rattle.service_meaning.specs.Messages.{rule, taken, origin_of, is_known, is_too_much, acked_again, created_entry, created_place, at_version, taken_by, take_admitted, take_event, heard, seen_row, confirmed_row, heard_by, heard_where, take_answer_event, replies_to, had, is_now, hold_of, held_back, held_where, posted, posted_event}
 use Rattle.service_meaning.specs.Orders.{refused, struck_as, asking, created, carried_out, order_by, order_where, order_event}
@@ -115,7 +115,7 @@ module _ (s : Kept) (h : AllRuns s.setting s.entries) where
   carried_runs (Cancel id) who i = runs_changed s.setting s.entries id (struck_as true) (λ e here. here) h
   carried_runs (Restore id) who i = runs_changed s.setting s.entries id (struck_as false) (λ e here. here) h
   carried_runs (Replace id m p b) who i = runs_changed s.setting s.entries id (asking m p b) (λ e here. here) h
-  carried_runs (Create before after q) who i = runs_insert s.setting s.entries (place_of before after s.entries) (created (next_id s) q i) tt h
+  carried_runs (Create before after q) who i = runs_insert s.setting s.entries (place_between before after s.entries) (created (next_id s) q i) tt h
   carried_runs (Retry (OfCall n)) who i = h
   carried_runs (Retry (OfReply n)) who i = h
 

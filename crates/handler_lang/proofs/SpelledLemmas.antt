@@ -6,7 +6,8 @@ use Rattle.handler_tokens.specs.declared.token.Token.{Token}
 use Rattle.handler_tokens.specs.declared.token.Token.TheVariants as token
 use Rattle.handler_tokens.specs.Spelling.{IsSpelled}
 use Rattle.lang_tree.specs.Depths.{all_fit, block_fits, expr_within, is_natural, routes_fit, stmt_fits}
-use Rattle.lang_tree.specs.Forms.{is_literal, is_literal_byte, is_path, is_visible, is_word}
+use Rattle.lang_base.specs.Characters.{is_visible}
+use Rattle.lang_tree.specs.Forms.{is_literal, is_literal_byte, is_path, is_word}
 use Rattle.lang_tree.specs.declared.expr.Op.{Op}
 use Rattle.lang_tree.specs.declared.expr.Op.TheVariants as op
 use Rattle.lang_tree.specs.declared.expr.Expr.{Expr, roll-Expr, map-Expr}

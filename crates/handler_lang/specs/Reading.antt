@@ -1,5 +1,6 @@
 -- Which program a text is read as, or which refusal stands where.
-use Rattle.std.specs.Prelude.{◌≡◌, ℕ, ◌-◌, List, [], ◌∷◌, length, drop, Result, Ok, Err, nat_lt, if◌then◌else◌}
+use Rattle.std.specs.Prelude.{◌≡◌, ℕ, ◌-◌, Bool, true, false, List, [], ◌∷◌, length, drop, Result, Ok, Err, nat_lt, if◌then◌else◌}
+use Rattle.lang_base.specs.Memory.{Unless, lacks}
 use Rattle.handler_tokens.specs.Lexing.{lex, places, tokens}
 use Rattle.lang_tree.specs.declared.program.Route.{Route}
 use Rattle.handler_reader.specs.declared.stop.Cause.{Cause}
@@ -36,11 +37,10 @@ read_of text =
     if nat_lt 65536 (length text) then Err (refusal.TooLong 65536)
     else placed (length text) (places (lex text)) (program_of (tokens (lex text)))
 
--- what a function answered is the program or the refusal, unless memory ran out
-abbrev pub Refuses : ProgramRefused → Result (List Route) ProgramRefused → Type 0
-Refuses refusal.NoMemory read = Unit {0}
-Refuses refused read = read ≡ Err refused
+abbrev pub is_memory : ProgramRefused → Bool
+is_memory refusal.NoMemory = true
+is_memory refused = false
 
+-- what a function answered is the program or the refusal, unless memory is wanting
 abbrev pub Answers : Result (List Route) ProgramRefused → Result (List Route) ProgramRefused → Type 0
-Answers (Ok routes) read = read ≡ Ok routes
-Answers (Err refused) read = Refuses refused read
+Answers answer read = Unless (lacks is_memory answer) (read ≡ answer) (Unit {0})

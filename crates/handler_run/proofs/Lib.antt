@@ -1,4 +1,3 @@
-pub mod BindLemmas
 pub mod BlockLaws
 pub mod BlockLemmas
 pub mod EachLemmas

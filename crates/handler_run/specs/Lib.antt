@@ -2,4 +2,3 @@ pub mod Handlers
 pub mod Laws
 pub mod Reads
 pub mod Runs
-pub mod Sizes

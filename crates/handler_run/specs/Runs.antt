@@ -22,13 +22,13 @@ use Rattle.lang_core.specs.declared.trace.Read.{Read}
 use Rattle.lang_core.specs.declared.trace.Read.TheVariants.{Key, Scan}
 use Rattle.lang_core.specs.declared.value.Value.{Value}
 use Rattle.lang_core.specs.declared.value.Value.TheVariants.{Int, Str, Nothing}
-use Rattle.handler_run.specs.Sizes.{read_size}
+use Rattle.handler_values.specs.Sizes.{read_size}
 use Rattle.handler_values.specs.Values.{Outcome, value_of, text_or_nothing}
+use Rattle.handler_values.specs.Variables.{bind}
 use Rattle.handler_values.specs.declared.given.Fault.{Fault}
 use Rattle.handler_values.specs.declared.given.Fault.TheVariants.{Steps, Kind, Limit, Words}
 use Rattle.handler_run.specs.declared.state.Flow.{Flow}
 use Rattle.handler_run.specs.declared.state.Flow.TheVariants.{GoesOn, Replied, Wants, Faulted}
-use Rattle.handler_values.specs.declared.given.Binding.{Binding}
 use Rattle.handler_values.specs.declared.given.Given.{Given}
 use Rattle.handler_run.specs.declared.state.State.{State}
 
@@ -88,10 +88,6 @@ abbrev pub within : Bool → State → Ended → Ended
 within ok s next = if ok then next else faulted Limit s
 
 -- a variable gets a value
-abbrev pub bind : List ℕ → Value → List Binding → List Binding
-bind x v [] = record { name = x; value = v } ∷ []
-bind x v (b ∷ bs) = if same_text b.name x then record { name = x; value = v } ∷ bs else b ∷ bind x v bs
-
 abbrev pub set_var : List ℕ → Value → State → State
 set_var x v s = record s { vars = bind x v s.vars }
 

@@ -10,11 +10,9 @@ ghost use Rattle.handler_run.specs.Reads.{GivesAll};
 ghost use Rattle.handler_run.specs.declared.state.Ran.TheVariants.{Done};
 
 use crate::blocks::run_block;
-use crate::recorded::Recorded;
 use crate::state::{Flow, Ran, State};
-use crate::variables::Variables;
 use crate::view::View;
-use handler_values::{Fault, Given, route_of, segments_of};
+use handler_values::{Fault, Given, Recorded, Variables, route_of, segments_of};
 use lang_base::both;
 use lang_core::{
     Answers, Block, Calls, Copied, Inputs, Method, NoMemory, Reads, Request, Response, Route,

@@ -5,15 +5,12 @@ mod blocks;
 mod calls;
 mod handler;
 mod reads;
-mod recorded;
 mod state;
 mod statements;
 mod steps;
-mod variables;
 mod view;
 
 pub use handler::run;
-pub use handler_values::Fault;
-pub use recorded::MOST_READ_BYTES;
+pub use handler_values::{Fault, MOST_READ_BYTES};
 pub use state::Ran;
 pub use view::{RowsView, View};

@@ -1,7 +1,5 @@
 // What a run has so far, and what it comes to.
-use crate::recorded::Recorded;
-use crate::variables::Variables;
-use handler_values::Fault;
+use handler_values::{Fault, Recorded, Variables};
 use lang_core::{Answers, CallMade, Calls, Response, Trace, Writes};
 
 /// What a run has so far: its variables, its own writes, the reads that it recorded, its calls and the

@@ -7,6 +7,7 @@ use Rattle.std.specs.Str.{is_utf8}
 use Rattle.std.specs.Str.Parse.{digits_value}
 use Rattle.std.proofs.lemmas.Bool.Decides.{nat_tests}
 use Rattle.std.proofs.lemmas.List.{length-drop}
+use Rattle.std.proofs.lemmas.Bool.{and_from}
 use Rattle.lang_tree.specs.Depths.{is_natural}
 use Rattle.lang_tree.specs.Forms.{begins_with_digit, is_literal, is_literal_byte, is_reserved, is_text, is_word, is_word_byte}
 use Rattle.lang_tree.specs.declared.method.Method.TheVariants as methods
@@ -24,10 +25,6 @@ Kept _ = Unit {0}
 
 abbrev pub AreKept : List Token → Type 0
 AreKept ts = AllByRecursion Kept ts
-
-and_true : (a b : Bool) → a ≡ true → b ≡ true → a && b ≡ true
-and_true true b h g = g
-and_true false b h g = absurd cc
 
 -- a token that stands in front of these bytes, and what stands behind it
 record IsCut (t : Token × List ℕ) (bs : List ℕ) : Type 0 where
@@ -136,7 +133,7 @@ Within bs (Some x) = (list_all is_literal_byte x.0 ≡ true) × (length x.0 ≤ 
 
 front_within : (b : ℕ) (bs more : List ℕ) (o : Option (List ℕ × List ℕ)) → is_literal_byte b ≡ true → length bs < length more → Within bs o → Within more (in_front b o)
 front_within b bs more None lit lt w = tt
-front_within b bs more (Some x) lit lt w = (and_true (is_literal_byte b) (list_all is_literal_byte x.0) lit w.0, omega (arith, w.1), omega (arith, w.2))
+front_within b bs more (Some x) lit lt w = (and_from (is_literal_byte b) (list_all is_literal_byte x.0) lit w.0, omega (arith, w.1), omega (arith, w.2))
 
 abbrev LiteralOr : Option ℕ → Type 0
 LiteralOr None = Unit {0}
@@ -179,7 +176,7 @@ text_cut : (text rest bs : List ℕ) (b : Bool) → length bs ≤ 65536 → list
 text_cut text rest bs true small lit le lf =
     let most : length text ≤ 65536 = omega arith in
     let fits : nat_le (length text) 65536 ≡ true = grind (arith, nat_tests) in
-    record { kept = and_true (nat_le (length text) 65536) (list_all is_literal_byte text) fits lit; short = lf }
+    record { kept = and_from (nat_le (length text) 65536) (list_all is_literal_byte text) fits lit; short = lf }
 text_cut text rest bs false small lit le lf = record { kept = tt; short = omega arith }
 
 string_cut_by : (bs : List ℕ) (o : Option (List ℕ × List ℕ)) → length bs ≤ 65536 → Within bs o → IsCut (string_token o) bs

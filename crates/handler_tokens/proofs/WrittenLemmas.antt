@@ -6,7 +6,7 @@ use Rattle.std.specs.Fmt.{decimal}
 use Rattle.std.specs.List.{AllByRecursion, flat_map, list_all, prefix_len}
 use Rattle.std.specs.Str.{is_utf8}
 use Rattle.std.specs.Str.Parse.{digits_value}
-use Rattle.std.proofs.lemmas.Bool.{lt-ltb, ltb-true}
+use Rattle.std.proofs.lemmas.Bool.{and_parts, lt-ltb, ltb-true}
 use Rattle.std.proofs.lemmas.Bool.Decides.{nat_tests}
 use Rattle.std.proofs.lemmas.Fmt.{decimal_digit, decimal_nonempty, digits_decimal, digits_value-decimal, first_decimal}
 use Rattle.std.proofs.lemmas.List.{drop_at, length-append, take_at}
@@ -61,10 +61,6 @@ word_no_gap : (b : ℕ) → is_word_part b ≡ true → (is_blank b ≡ false) �
 unfolding is_word_part
 word_no_gap b h = (grind (arith, nat_tests), grind (arith, nat_tests))
 
-both : (a b : Bool) → a && b ≡ true → (a ≡ true) × (b ≡ true)
-both true b h = (refl, h)
-both false b h = absurd cc
-
 not_is : (t : Bool) → not t ≡ true → t ≡ false
 not_is true h = absurd cc
 not_is false h = refl
@@ -78,10 +74,10 @@ record IsName (w : List ℕ) : Type 0 where
 
 name_of : (w : List ℕ) → is_word w ≡ true → IsName w
 name_of w h =
-    let a = both (not (nat_eq (length w) 0) && nat_le (length w) 32 && list_all is_word_byte w && not (begins_with_digit w)) (not (is_reserved w)) h in
-    let b = both (not (nat_eq (length w) 0) && nat_le (length w) 32 && list_all is_word_byte w) (not (begins_with_digit w)) a.0 in
-    let c = both (not (nat_eq (length w) 0) && nat_le (length w) 32) (list_all is_word_byte w) b.0 in
-    let d = both (not (nat_eq (length w) 0)) (nat_le (length w) 32) c.0 in
+    let a = and_parts (not (nat_eq (length w) 0) && nat_le (length w) 32 && list_all is_word_byte w && not (begins_with_digit w)) (not (is_reserved w)) h in
+    let b = and_parts (not (nat_eq (length w) 0) && nat_le (length w) 32 && list_all is_word_byte w) (not (begins_with_digit w)) a.0 in
+    let c = and_parts (not (nat_eq (length w) 0) && nat_le (length w) 32) (list_all is_word_byte w) b.0 in
+    let d = and_parts (not (nat_eq (length w) 0)) (nat_le (length w) 32) c.0 in
     let e : nat_eq (length w) 0 ≡ false = not_is (nat_eq (length w) 0) d.0 in
     let le : nat_le (length w) 32 ≡ true = d.1 in
     record {
@@ -264,7 +260,7 @@ found : (t : Token) (rest : List ℕ) → IsSpelled t → is_held t ≡ true →
 unfolding token_at mark_at quoted run is_word_part
 found (token.Integer (pos n)) rest h u = found_number n rest (ltb-true _ _ u)
 found (token.Integer (negsuc n)) rest h u = absurd (let k = h in cc)
-found (token.Str text) rest h u = found_text text rest (both (nat_le (length text) 65536) (list_all is_literal_byte text) h).1 u
+found (token.Str text) rest h u = found_text text rest (and_parts (nat_le (length text) 65536) (list_all is_literal_byte text) h).1 u
 found (token.Word w) rest h u = found_name w rest (name_of w h)
 found token.BadNumber rest h u = absurd h
 found token.BadString rest h u = absurd h
@@ -340,7 +336,7 @@ lexed_again : (ts : List Token) (n total : ℕ) → AllByRecursion IsSpelled ts 
 lexed_again [] n total h u le = printed_nothing n total
 lexed_again (t ∷ ts) zero total h u le = absurd (omega arith)
 lexed_again (t ∷ ts) (suc n) total h u le =
-    let k = both (is_held t) (list_all is_held ts) u in
+    let k = and_parts (is_held t) (list_all is_held ts) u in
     found_first t n total (printed ts) (found t (printed ts) h.0 k.0) ∙ ap (λ (us : List Token). t ∷ us) (lexed_again ts n total h.1 k.1 (omega arith))
 
 length_printed : (ts : List Token) → length ts ≤ length (printed ts)

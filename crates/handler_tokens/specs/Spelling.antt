@@ -5,20 +5,13 @@ use Rattle.std.specs.List.{flat_map}
 use Rattle.std.specs.Str.{is_utf8}
 use Rattle.lang_tree.specs.Depths.{is_natural}
 use Rattle.lang_tree.specs.Forms.{is_literal, is_word}
-use Rattle.lang_tree.specs.declared.method.Method.{Method}
-use Rattle.lang_tree.specs.declared.method.Method.TheVariants as methods
+use Rattle.lang_tree.specs.Methods.{method_word}
 use Rattle.handler_tokens.specs.declared.token.Token.{Token}
 use Rattle.handler_tokens.specs.declared.token.Token.TheVariants as token
 
 -- a byte of a string's text: `"`, the backslash and the line feed behind a backslash, another as it is
 abbrev pub escaped : ℕ → List ℕ
 escaped b = if b == 34 then 92 ∷ 34 ∷ [] else (if b == 92 then 92 ∷ 92 ∷ [] else (if b == 10 then 92 ∷ 110 ∷ [] else b ∷ []))
-
-abbrev pub method_spelling : Method → List ℕ
-method_spelling methods.Get = codes "GET"
-method_spelling methods.Put = codes "PUT"
-method_spelling methods.Post = codes "POST"
-method_spelling methods.Delete = codes "DELETE"
 
 -- the words and the marks of the language itself
 abbrev pub plain : Token → List ℕ
@@ -60,7 +53,7 @@ abbrev pub spelling : Token → List ℕ
 spelling (token.Integer n) = signed_decimal n
 spelling (token.Str text) = codes "\"" ++ (flat_map escaped text ++ codes "\"")
 spelling (token.Word name) = name
-spelling (token.Method m) = method_spelling m
+spelling (token.Method m) = method_word m
 spelling t = plain t
 
 -- a line ends behind it

@@ -3,11 +3,11 @@ ghost use Rattle.std.specs.Prelude.{◌≡◌, ◌∷◌, [], ◌++◌, true, en
 ghost use Rattle.std.specs.Fmt.{signed_decimal};
 ghost use Rattle.std.specs.List.{list_all};
 ghost use Rattle.std.specs.String.{string_bytes};
-ghost use Rattle.handler_tokens.specs.Spelling.{ends_line, escaped, gap, is_held, is_small, method_spelling, plain, printed, spelling, written};
+ghost use Rattle.handler_tokens.specs.Spelling.{ends_line, escaped, gap, is_held, is_small, plain, printed, spelling, written};
 
 use crate::token::Token;
 use lang_base::{NoMemory, Text};
-use lang_tree::Method;
+use lang_tree::method_word;
 use std::alloc::Global;
 
 fn ends_line(token: &Token) -> bool
@@ -45,17 +45,6 @@ fn put_characters(out: &mut String, text: &str) -> Result<(), NoMemory>
         put_character(out, character)?;
     }
     Ok(())
-}
-
-fn method_spelling(method: Method) -> &'static str
-    ensures { result.now ≡ method_spelling method }
-{
-    match method {
-        Method::Get => "GET",
-        Method::Put => "PUT",
-        Method::Post => "POST",
-        Method::Delete => "DELETE",
-    }
 }
 
 fn plain(token: &Token) -> &'static str
@@ -121,7 +110,7 @@ fn put_spelling(alloc: Global, out: &mut String, token: &Token) -> Result<(), No
             out.push_str("\"")?;
         }
         Token::Word(name) => out.push_str(name.as_str())?,
-        Token::Method(method) => out.push_str(method_spelling(*method))?,
+        Token::Method(method) => out.push_str(method_word(*method))?,
         other => out.push_str(plain(other))?,
     }
     Ok(())

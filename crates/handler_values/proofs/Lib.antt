@@ -1,2 +1,3 @@
+pub mod BindLemmas
 pub mod CutLemmas
 pub mod PathLemmas

@@ -1,4 +1,6 @@
 pub mod Numbers
 pub mod Parts
 pub mod Paths
+pub mod Sizes
 pub mod Values
+pub mod Variables

@@ -1,7 +1,7 @@
 -- Numbers as texts, and texts as numbers.
-use Rattle.std.specs.Prelude.{ℕ, ℤ, pos, negsuc, suc, zero, ◌+◌, ◌-◌, ◌*◌, ◌^◌, Bool, ◌&&◌, not, List, [], ◌∷◌, ◌++◌, Option, Some, None, if◌then◌else◌, nat_eq, nat_lt, length, codes, decimal, fold}
+use Rattle.std.specs.Prelude.{ℕ, ℤ, pos, negsuc, suc, zero, ◌+◌, ◌^◌, Bool, ◌&&◌, not, List, [], ◌∷◌, ◌++◌, Option, Some, None, if◌then◌else◌, nat_eq, nat_lt, length, codes, decimal}
 use Rattle.std.specs.List.{list_all}
-use Rattle.lang_tree.specs.Forms.{is_digit}
+use Rattle.lang_base.specs.Characters.{digits_value, is_digit}
 
 -- a signed number of 64 bits
 abbrev pub fits_i64 : ℤ → Bool
@@ -12,10 +12,6 @@ fits_i64 (negsuc n) = nat_lt n (2 ^ 63)
 abbrev pub signed_text : ℤ → List ℕ
 signed_text (pos n) = decimal n
 signed_text (negsuc n) = codes "-" ++ decimal (n + 1)
-
--- the number that decimal digits spell
-abbrev pub digits_value : List ℕ → ℕ
-digits_value digits = fold (λ n b. n * 10 + (b - 48)) 0 digits
 
 -- at least one digit and nothing else
 abbrev pub is_digits : List ℕ → Bool

@@ -1,9 +1,9 @@
 // Numbers as texts, and texts as numbers.
 ghost use Rattle.std.specs.Prelude.{◌≡◌, pos, min, IfOk};
-ghost use Rattle.std.specs.List.{list_all};
-ghost use Rattle.lang_tree.specs.Forms.{is_digit};
-ghost use Rattle.handler_values.specs.Numbers.{signed_text, digits_value, is_digits, negative, in_i64, signed_number};
+ghost use Rattle.lang_base.specs.Characters.{digits_value};
+ghost use Rattle.handler_values.specs.Numbers.{signed_text, is_digits, negative, in_i64, signed_number};
 
+use lang_base::all_digits;
 use lang_core::{NoMemory, Text};
 use std::alloc::Global;
 
@@ -15,18 +15,6 @@ pub fn signed_text(alloc: Global, n: i64) -> Result<Text, NoMemory>
 {
     let text = format!(in alloc; "{n}")?;
     Ok(Text::from(text))
-}
-
-fn is_digit(byte: u8) -> bool
-    ensures { result ≡ is_digit byte }
-{
-    byte.is_ascii_digit()
-}
-
-fn all_digits(text: &[u8]) -> bool
-    ensures { result ≡ list_all is_digit text.now }
-{
-    text.iter().all(|b| is_digit(*b))
 }
 
 fn is_digits(text: &[u8]) -> bool

@@ -1,7 +1,8 @@
 -- What the fields of a head say of its body.
-use Rattle.std.specs.Prelude.{ℕ, ◌+◌, ◌-◌, ◌*◌, Bool, ◌&&◌, List, [], ◌∷◌, Option, Some, None, Result, Ok, Err, length, codes, nat_lt, nat_le, if◌then◌else◌, fold}
+use Rattle.std.specs.Prelude.{ℕ, Bool, ◌&&◌, List, [], ◌∷◌, Option, Some, None, Result, Ok, Err, length, codes, nat_lt, nat_le, if◌then◌else◌}
 use Rattle.std.specs.List.{list_all}
-use Rattle.lang_tree.specs.Forms.{is_digit, is_text}
+use Rattle.lang_base.specs.Characters.{digits_value, is_digit}
+use Rattle.lang_tree.specs.Forms.{is_text}
 use Rattle.http_header.specs.FieldValue.{FieldValue}
 use Rattle.http_header.specs.HeaderMap.{Entries, get, get_all}
 use Rattle.http_front.specs.declared.message.FrontRefused.{FrontRefused}
@@ -10,10 +11,6 @@ use Rattle.http_front.specs.declared.message.FrontRefused.TheVariants.{BadLength
 -- 1 to 19 digits, so that the number is one of 64 bits
 abbrev pub is_length : List ℕ → Bool
 is_length text = nat_lt 0 (length text) && nat_le (length text) 19 && list_all is_digit text
-
--- the number that decimal digits spell
-abbrev pub digits_value : List ℕ → ℕ
-digits_value digits = fold (λ n digit. n * 10 + (digit - 48)) 0 digits
 
 -- the value has these bytes
 abbrev pub is_value : List ℕ → FieldValue → Bool

@@ -2,7 +2,6 @@ pub mod Answers
 pub mod Ends
 pub mod Fields
 pub mod Lengths
-pub mod Methods
 pub mod Reading
 pub mod Requests
 pub mod Responses

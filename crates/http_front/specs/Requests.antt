@@ -7,7 +7,7 @@ use Rattle.http_header.specs.FieldValue.{FieldValue}
 use Rattle.http_header.specs.HeaderMap.{Entries}
 use Rattle.http_front.specs.Fields.{head_of}
 use Rattle.http_front.specs.Lengths.{body_length}
-use Rattle.http_front.specs.Methods.{method_named}
+use Rattle.lang_tree.specs.Methods.{method_named}
 use Rattle.http_front.specs.declared.message.FrontRefused.{FrontRefused}
 use Rattle.http_front.specs.declared.message.FrontRefused.TheVariants.{BadHead, Method as OtherMethod}
 use Rattle.http_front.specs.declared.request_head.RequestStart.{RequestStart}

@@ -5,7 +5,7 @@ use Rattle.http.specs.StatusCode.{reason_phrase}
 use Rattle.http_header.specs.Token.{lowercase}
 use Rattle.http_header.specs.FieldValue.{FieldValue}
 use Rattle.http_header.specs.HeaderMap.{Entries, get}
-use Rattle.http_front.specs.Methods.{method_word}
+use Rattle.lang_tree.specs.Methods.{method_word}
 use Rattle.http_front.specs.Table.{aire_headers, spelling}
 use Rattle.http_front.specs.declared.header.AireHeader.{AireHeader}
 use Rattle.http_front.specs.declared.message.WireRequest.{WireRequest}

@@ -1,21 +1,16 @@
 // The length of a body.
 ghost use Rattle.std.specs.Prelude.{◌≡◌, ◌≤◌, codes, length, IsErrOf, IsTrue};
 ghost use Rattle.std.specs.List.{list_all};
-ghost use Rattle.lang_tree.specs.Forms.{is_digit};
+ghost use Rattle.lang_base.specs.Characters.{digits_value, is_digit};
 ghost use Rattle.http_header.specs.HeaderMap.{get_all};
-ghost use Rattle.http_front.specs.Lengths.{digits_value, is_length, length_given, body_length, is_value, within_limit};
+ghost use Rattle.http_front.specs.Lengths.{is_length, length_given, body_length, is_value, within_limit};
 
 use crate::message::FrontRefused;
 use http_header::{HeaderMap, HeaderValue, ValueIter};
+use lang_base::all_digits;
 
 /// The most bytes of a body.
 pub const LONGEST_BODY: u64 = 65536;
-
-fn all_digits(bytes: &[u8]) -> bool
-    ensures { result ≡ list_all is_digit bytes.now }
-{
-    bytes.iter().all(|byte| byte.is_ascii_digit())
-}
 
 fn is_length(text: &[u8]) -> bool
     ensures { result ≡ is_length text.now }

@@ -10,13 +10,12 @@ ghost use Rattle.http_front.specs.Requests.{IsRequestHeadOf, StartsRequest, star
 use crate::fields::map_of;
 use crate::length::body_length;
 use crate::message::FrontRefused;
-use crate::method::method_named;
 use crate::texts::known_text;
 use http_header::HeaderMap;
 use httparse::Status;
 use httparse::spans::{EMPTY_HEADER_SPAN, HeaderSpan, RequestSpans, parse_request};
 use lang_base::Text;
-use lang_tree::{Method, is_path};
+use lang_tree::{Method, is_path, method_named};
 use std::alloc::Global;
 
 /// The most fields of a head.

@@ -1,16 +1,15 @@
 // Requests and responses, written.
 ghost use Rattle.std.specs.Prelude.{◌≡◌, ◌≤◌, ◌++◌, codes, decimal, IfOk, OnOk, OnErr, IsErrOf};
 ghost use Rattle.io_edge.specs.Edge.{Wrote, WroteFront, WriteFails};
-ghost use Rattle.http_front.specs.Methods.{method_word};
+ghost use Rattle.lang_tree.specs.Methods.{method_word};
 ghost use Rattle.http_front.specs.Writing.{phrase, request_bytes, response_bytes};
 
 use crate::lines::{put, put_aire, put_body, put_first, put_type};
 use crate::message::{WireRequest, WireResponse, WriteRefused};
-use crate::method::method_word;
 use http::StatusCode;
 use io_edge::{Sink, write_all};
 use lang_base::{Bytes, NoMemory, Text};
-use lang_tree::Method;
+use lang_tree::{Method, method_word};
 use std::alloc::{AllocError, Global};
 
 fn put_request_line(

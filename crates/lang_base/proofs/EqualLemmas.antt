@@ -1,15 +1,8 @@
 -- The test of equality says what it should.
 use Rattle.std.proofs.Common.{◌≡◌, ◌↔◌, Bool, true, false, ◌&&◌, IsTrue, ℕ, nat_eq, refl, sym, ap, subst, eqb-true, eq-eqb}
+use Rattle.std.proofs.lemmas.Bool.{and_from, and_parts}
 use base.Stored.{Coded, Gv, gnil, gnum, gcons}
 use Rattle.lang_base.specs.Equal.{equal_codes, equal}
-
-both_true : (a b : Bool) → a && b ≡ true → (a ≡ true) × (b ≡ true)
-both_true true true h = (refl, refl)
-both_true true false h = cc
-both_true false b h = cc
-
-and_true : (a b : Bool) → a ≡ true → b ≡ true → a && b ≡ true
-and_true a b g h = rw (g, h) refl
 
 nat_same : (n : ℕ) → nat_eq n n ≡ true
 nat_same n = eq-eqb n n refl
@@ -24,7 +17,7 @@ codes-true (gnum m) (gcons c d) h = cc
 codes-true (gcons a b) gnil h = cc
 codes-true (gcons a b) (gnum n) h = cc
 codes-true (gcons a b) (gcons c d) h =
-    let p = both_true (equal_codes a c) (equal_codes b d) h in
+    let p = and_parts (equal_codes a c) (equal_codes b d) h in
     let e = codes-true a c p.0 in
     let f = codes-true b d p.1 in
     cc
@@ -32,7 +25,7 @@ codes-true (gcons a b) (gcons c d) h =
 codes-same : (a : Gv) → equal_codes a a ≡ true
 codes-same gnil = refl
 codes-same (gnum n) = nat_same n
-codes-same (gcons a b) = and_true (equal_codes a a) (equal_codes b b) (codes-same a) (codes-same b)
+codes-same (gcons a b) = and_from (equal_codes a a) (equal_codes b b) (codes-same a) (codes-same b)
 
 pub equal-true : {X : Type 0} (c : Coded X) (x y : X) → equal c x y ≡ true → x ≡ y
 unfolding equal

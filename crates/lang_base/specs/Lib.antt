@@ -1,2 +1,4 @@
+pub mod Characters
 pub mod Equal
+pub mod Memory
 pub mod Texts

@@ -1,10 +1,11 @@
-//! What every crate stands on: want of memory, text, bytes, lists, and notes of faults.
+//! What every crate stands on: want of memory, text, bytes, lists, tests of characters, and notes of faults.
 //!
 //! Each type here is seen by contracts as the plain value that it stands for, a text as its bytes and a list as its
 //! elements, so that a copy is equal to what it was copied from.
 #![tactic(auto)]
 
 mod bytes;
+mod characters;
 mod fault;
 mod memory;
 mod seq;
@@ -12,6 +13,7 @@ mod text;
 mod values;
 
 pub use bytes::Bytes;
+pub use characters::{all_digits, all_visible};
 pub use fault::FaultNote;
 pub use memory::{Copied, NoMemory, Same, both};
 pub use seq::{Seq, all_same, copied_items};

@@ -1,9 +1,12 @@
 -- What is read at a place after a change at a place.
-use Rattle.std.proofs.Common.{◌≡◌, ℕ, Bool, true, false, cond, ◌&&◌, List, [], ◌∷◌, Option, Some, None, find, option_map, refl, sym, ap, ◌∙◌}
+use Rattle.std.proofs.Common.{◌≡◌, ℕ, Bool, true, false, cond, ◌&&◌, List, [], ◌∷◌, Option, Some, None, find, option_map, refl, sym, ap, ◌∙◌, subst}
 use Rattle.std.specs.declared.cmp.Ordering.{Ordering}
 use Rattle.std.specs.declared.cmp.Ordering.TheVariants.{Less, Equal, Greater}
 use Rattle.std.specs.Ordering.{ordering_reverse, ordering_then, is_eq}
 use Rattle.std.specs.Cmp.{Equal-is}
+use Rattle.std.specs.Cmp.Lexicographic.{same_text as text_is}
+use Rattle.std.proofs.lemmas.Bool.{and_from, and_parts}
+use Rattle.std.proofs.lemmas.Cmp.{nat_list_eq_equiv}
 use Rattle.std.proofs.lemmas.Map.Text.{is_eq-slice_cmp}
 use Rattle.lang_base.specs.Texts.{same_text, text_order}
 use Rattle.lang_core.specs.Places.{Place, place_of, place_order, same_place, IsBelowAll, IsOrdered, set_in, unset_in}
@@ -23,15 +26,33 @@ is_eq-reverse Less = refl
 is_eq-reverse Equal = refl
 is_eq-reverse Greater = refl
 
-both : (a b c d : Bool) → a ≡ b → c ≡ d → (a && c) ≡ (b && d)
-both a b c d e f = rw (e, f) refl
+alike : (a b c d : Bool) → a ≡ b → c ≡ d → (a && c) ≡ (b && d)
+alike a b c d e f = rw (e, f) refl
 
 -- two places are the same exactly where neither is below the other
 same-order : (p q : Place) → same_place p q ≡ is_eq (place_order p q)
 same-order p q =
-    both (same_text p.table q.table) (is_eq (text_order p.table q.table)) (same_text p.key q.key) (is_eq (text_order p.key q.key))
+    alike (same_text p.table q.table) (is_eq (text_order p.table q.table)) (same_text p.key q.key) (is_eq (text_order p.key q.key))
     (sym (is_eq-slice_cmp p.table q.table)) (sym (is_eq-slice_cmp p.key q.key))
     ∙ sym (is_eq-then (text_order p.table q.table) (text_order p.key q.key))
+
+pub place_is : (p q : Place) → same_place p q ≡ true → p ≡ q
+place_is p q h =
+    let both = and_parts (same_text p.table q.table) (same_text p.key q.key) h in
+    let t : p.table ≡ q.table = text_is p.table q.table (sym both.0) in
+    let k : p.key ≡ q.key = text_is p.key q.key (sym both.1) in
+    λ i. record { table = t i; key = k i }
+
+pub place_same : (p q : Place) → p ≡ q → same_place p q ≡ true
+place_same p q e =
+    let P : Place → Type 0 = λ z. same_place p z ≡ true in
+    subst P e (and_from (same_text p.table p.table) (same_text p.key p.key) (nat_list_eq_equiv.refl p.table) (nat_list_eq_equiv.refl p.key))
+
+pub other_place : (p q : Place) (o : Ordering) → place_order p q ≡ o → is_eq o ≡ false → same_place p q ≡ false
+other_place p q o e h = same-order p q ∙ ap is_eq e ∙ h
+
+pub not_less_twice : (p q : Place) → place_order p q ≡ Less → place_order q p ≡ Less → ⊥
+not_less_twice p q e f = let a = total.antisymm p q in cc
 
 equal_order : (p q : Place) → same_place p q ≡ true → place_order p q ≡ Equal
 equal_order p q h = (Equal-is (place_order p q)).0 (sym (same-order p q) ∙ h)
@@ -112,7 +133,7 @@ none_if true o = refl
 none_if false o = refl
 
 -- what is read after a write is what it wrote at its place, and what stood there at any other
-get-with_text : (wt wk t k : List ℕ) (text : Option (List ℕ)) (cs : List Cell) → IsOrdered cell_place cs
+pub get-with_text : (wt wk t k : List ℕ) (text : Option (List ℕ)) (cs : List Cell) → IsOrdered cell_place cs
     → get (with_text wt wk text cs) t k ≡ cond (same_place (place_of wt wk) (place_of t k)) text (get cs t k)
 get-with_text wt wk t k None cs o =
     ap (option_map (λ (c : Cell). c.text)) (find-unset_in cell_place (place_of t k) (place_of wt wk) cs o)

@@ -27,7 +27,8 @@ impl Model for Name {
     ghost invariant = { λ name. IsTrue (is_name name.text) };
 }
 
-fn is_name_byte(byte: u8) -> bool
+/// Whether a name may have this byte.
+pub fn is_name_byte(byte: u8) -> bool
     ensures { result ≡ is_name_byte byte }
 {
     byte.is_ascii_lowercase() || byte.is_ascii_digit() || byte == b'_'
@@ -39,11 +40,11 @@ fn all_name_bytes(bytes: &[u8]) -> bool
     bytes.iter().all(|b| is_name_byte(*b))
 }
 
-fn is_name(text: &Text) -> bool
-    ensures { result ≡ is_name text.now }
+/// Whether these bytes are the name of a service.
+pub fn is_name(bytes: &[u8]) -> bool
+    ensures { result ≡ is_name bytes.now }
 {
-    let bytes = text.as_bytes();
-    !bytes.is_empty() && text.len() <= LONGEST_NAME && all_name_bytes(bytes)
+    !bytes.is_empty() && bytes.len() as u64 <= LONGEST_NAME && all_name_bytes(bytes)
 }
 
 impl Name {
@@ -51,7 +52,7 @@ impl Name {
     pub fn new(text: Text) -> Result<Name, Text>
         ensures { result ≡ (if is_name text then Ok text else Err text) }
     {
-        if is_name(&text) {
+        if is_name(text.as_bytes()) {
             Ok(Name { text })
         } else {
             Err(text)

@@ -1,22 +1,14 @@
 // Requests and responses.
 ghost use Rattle.std.specs.Prelude.{◌≡◌};
-ghost use Rattle.std.specs.List.{list_all};
-ghost use Rattle.lang_tree.specs.Forms.{is_visible};
 ghost use Rattle.lang_core.specs.Names.{is_who};
 
 use crate::ids::Names;
-use lang_base::{Copied, NoMemory, Same, Seq, Text, both};
+use lang_base::{Copied, NoMemory, Same, Seq, Text, all_visible, both};
 use lang_tree::Method;
 use std::alloc::Global;
 
 /// The most bytes of a user's name or a token.
 pub const LONGEST_WHO: u64 = 64;
-
-fn all_visible(bytes: &[u8]) -> bool
-    ensures { result ≡ list_all is_visible bytes.now }
-{
-    bytes.iter().all(|b| (0x21..=0x7e).contains(b))
-}
 
 /// Whether a text may name a user or be a token: from 1 to 64 visible ASCII characters.
 pub fn is_who(text: &Text) -> bool

@@ -2,23 +2,11 @@
 use Rattle.std.specs.Prelude.{ℕ, Bool, false, ◌&&◌, ◌||◌, not, List, [], ◌∷◌, nat_eq, nat_le, ◌==◌, length, codes}
 use Rattle.std.specs.List.{list_all, starts_with}
 use Rattle.std.specs.Cmp.Lexicographic.{pointwise}
-
--- a visible ASCII character, the space not among them
-abbrev pub is_visible : ℕ → Bool
-is_visible b = nat_le 0x21 b && nat_le b 0x7e
+use Rattle.lang_base.specs.Characters.{is_digit, is_lower, is_upper, is_visible}
 
 -- a path: 1 to 1,024 visible characters, the first a slash
 abbrev pub is_path : List ℕ → Bool
 is_path text = starts_with nat_eq text (codes "/") && nat_le (length text) 1024 && list_all is_visible text
-
-abbrev pub is_lower : ℕ → Bool
-is_lower b = nat_le 97 b && nat_le b 122
-
-abbrev pub is_upper : ℕ → Bool
-is_upper b = nat_le 65 b && nat_le b 90
-
-abbrev pub is_digit : ℕ → Bool
-is_digit b = nat_le 48 b && nat_le b 57
 
 abbrev pub is_word_byte : ℕ → Bool
 is_word_byte b = is_lower b || is_upper b || is_digit b || b == 95

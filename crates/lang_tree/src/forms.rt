@@ -1,9 +1,9 @@
 // The forms that texts of a program have.
 ghost use Rattle.std.specs.Prelude.{◌≡◌};
 ghost use Rattle.std.specs.List.{list_all};
-ghost use Rattle.lang_tree.specs.Forms.{is_visible, is_word_byte, begins_with_digit, is_reserved, is_word, is_path, is_literal_byte, is_literal};
+ghost use Rattle.lang_tree.specs.Forms.{is_word_byte, begins_with_digit, is_reserved, is_word, is_path, is_literal_byte, is_literal};
 
-use lang_base::Text;
+use lang_base::{Text, all_visible};
 
 /// The most bytes of a path.
 pub const LONGEST_PATH: u64 = 1024;
@@ -13,18 +13,6 @@ pub const LONGEST_WORD: u64 = 32;
 
 /// The most bytes of a body, a row or a text of a handler.
 pub const LONGEST_TEXT: u64 = 65536;
-
-fn is_visible(byte: u8) -> bool
-    ensures { result ≡ is_visible byte }
-{
-    0x21 <= byte && byte <= 0x7e
-}
-
-fn all_visible(bytes: &[u8]) -> bool
-    ensures { result ≡ list_all is_visible bytes.now }
-{
-    bytes.iter().all(|b| is_visible(*b))
-}
 
 /// Whether a text is a path: from 1 to 1,024 visible ASCII characters, the first a slash.
 pub fn is_path(text: &Text) -> bool

@@ -9,7 +9,7 @@ mod stmt;
 
 pub use expr::{Expr, Op};
 pub use forms::{LONGEST_PATH, LONGEST_TEXT, LONGEST_WORD, is_literal, is_path, is_word};
-pub use method::Method;
+pub use method::{Method, method_named, method_word};
 pub use program::{MOST_DEPTH, MOST_SEGMENTS, Program, Route, Routes};
 pub use sqlite_items::{Boxed, Items};
 pub use stmt::{Block, Stmt};

@@ -19,7 +19,7 @@ use Rattle.local_repair.specs.Current.{writes_of, rows_of}
 use Rattle.local_repair.specs.Earlier.{fit_from, is_full, is_past, is_after, is_write_beneath, is_accounted, all_accounted, IsThere}
 use Rattle.local_repair.specs.declared.fit.Fit.{Fit}
 use Rattle.local_repair.specs.declared.fit.Fit.TheVariants.{Past}
-use Rattle.local_repair.proofs.FindLemmas.{place_is}
+use Rattle.lang_core.proofs.ReadLemmas.{place_is}
 use Rattle.local_repair.proofs.KeyLemmas.{rows_of-ordered}
 use Rattle.local_repair.proofs.MemberLemmas.{In, all_in, passes_in, found_in, in_filter, filter_in, in_found, written}
 use Rattle.local_repair.proofs.ScanLemmas.{IsAfterAll, IsCovered, kept_is, kept_in, kept_fits, kept_covers}

@@ -6,32 +6,18 @@ use Rattle.lang_core.specs.Places.{place_of, same_place, IsOrdered}
 use Rattle.lang_core.specs.Rows.{get, cell_place, with_text, after_write, apply}
 use Rattle.lang_core.specs.declared.cells.Cell.{Cell}
 use Rattle.lang_core.specs.declared.writes.Write.{Write}
+use Rattle.lang_core.proofs.ReadLemmas.{get-with_text}
 use Rattle.lang_core.proofs.RowLemmas.{ordered-apply}
 use Rattle.request_log.specs.declared.entry.Entry.{Entry}
 use Rattle.local_repair.specs.Current.{writes_of, after_entry, rows_after, rows_of}
 use Rattle.local_repair.specs.Earlier.{text_from}
 use Rattle.local_repair.proofs.CurrentLemmas.{rows_more}
-use Rattle.local_repair.proofs.FindLemmas.{find-set, find-unset}
-
-mapped : (a : Bool) (x y : Option Cell) → option_map (λ (c : Cell). c.text) (cond a x y) ≡ cond a (option_map (λ (c : Cell). c.text) x) (option_map (λ (c : Cell). c.text) y)
-mapped true x y = refl
-mapped false x y = refl
-
-get-with : (t k t' k' : List ℕ) (o : Option (List ℕ)) (rows : List Cell) → IsOrdered cell_place rows
-    → get (with_text t' k' o rows) t k ≡ cond (same_place (place_of t' k') (place_of t k)) o (get rows t k)
-get-with t k t' k' None rows o =
-    ap (λ f. option_map (λ (c : Cell). c.text) f) (find-unset cell_place (place_of t k) (place_of t' k') rows o)
-    ∙ mapped (same_place (place_of t' k') (place_of t k)) None (find (λ c. same_place (cell_place c) (place_of t k)) rows)
-get-with t k t' k' (Some x) rows o =
-    let cell : Cell = record { table = t'; key = k'; text = x } in
-    ap (λ f. option_map (λ (c : Cell). c.text) f) (find-set cell_place (place_of t k) cell rows)
-    ∙ mapped (same_place (place_of t' k') (place_of t k)) (Some cell) (find (λ c. same_place (cell_place c) (place_of t k)) rows)
 
 -- a key's text after writes
 get-apply : (t k : List ℕ) (ws : List Write) (rows : List Cell) → IsOrdered cell_place rows → get (apply rows ws) t k ≡ text_from t k (get rows t k) ws
 get-apply t k [] rows o = refl
 get-apply t k (w ∷ ws) rows o =
-    get-apply t k ws (after_write rows w) (ordered-apply rows (w ∷ []) o) ∙ ap (λ b. text_from t k b ws) (get-with t k w.table w.key w.text rows o)
+    get-apply t k ws (after_write rows w) (ordered-apply rows (w ∷ []) o) ∙ ap (λ b. text_from t k b ws) (get-with_text w.table w.key t k w.text rows o)
 
 -- the rows are in order
 pub rows_after-ordered : (es : List Entry) (rows : List Cell) → IsOrdered cell_place rows → IsOrdered cell_place (rows_after rows es)

@@ -2,7 +2,6 @@ pub mod AloneLemmas
 pub mod CallsLemmas
 pub mod CurrentLemmas
 pub mod EarlierLemmas
-pub mod FindLemmas
 pub mod HandlerLemmas
 pub mod KeyLemmas
 pub mod MemberLemmas

@@ -11,7 +11,7 @@ use Rattle.lang_core.specs.declared.cells.Cell.{Cell}
 use Rattle.lang_core.specs.declared.writes.Write.{Write}
 use Rattle.request_log.specs.declared.entry.Entry.{Entry}
 use Rattle.local_repair.specs.Current.{writes_of, after_entry, rows_after}
-use Rattle.local_repair.proofs.FindLemmas.{place_same, other_place}
+use Rattle.lang_core.proofs.ReadLemmas.{place_same, other_place}
 
 -- x is one of these
 abbrev pub In : {X : Type 0} → X → List X → Type 0

@@ -7,7 +7,7 @@ use Rattle.lang_core.specs.declared.cells.Cell.{Cell}
 use Rattle.local_repair.specs.Earlier.{full_if, fit_from, is_full, is_past}
 use Rattle.local_repair.specs.declared.fit.Fit.{Fit}
 use Rattle.local_repair.specs.declared.fit.Fit.TheVariants.{Within, Past}
-use Rattle.local_repair.proofs.FindLemmas.{not_less_twice}
+use Rattle.lang_core.proofs.ReadLemmas.{not_less_twice}
 use Rattle.local_repair.proofs.MemberLemmas.{In, below_in}
 
 -- the cell stands after each of these

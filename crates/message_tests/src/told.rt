@@ -1,7 +1,6 @@
 // Messages and refusals in words, one space before each part.
 use aire_wire::Incoming;
-use http_front::method_word;
-use lang_core::{Names, Request};
+use lang_core::{Names, Request, method_word};
 use repair_messages::{AnswerMessage, SetMessage};
 use std::alloc::Global;
 use wire_fields::{ConsoleRequest, ConsoleWord, WireRefused};

@@ -1,13 +1,13 @@
 -- Rows, logs, answers and verdicts as texts.
 use Rattle.std.specs.Prelude.{ℕ, ◌<◌, ◌++◌, Bool, true, false, List, [], ◌∷◌, Option, Some, None, if◌then◌else◌, nat_eq, codes, decimal, slice_index_or}
 use Rattle.std.specs.List.{flat_map}
-use Rattle.lang_tree.specs.declared.method.Method.{Method}
-use Rattle.lang_tree.specs.declared.method.Method.TheVariants.{Get, Put, Post, Delete}
+use Rattle.lang_tree.specs.Methods.{method_word}
 use Rattle.lang_core.specs.declared.cells.Cell.{Cell}
 use Rattle.lang_core.specs.declared.ids.Origin.{Origin}
 use Rattle.lang_core.specs.declared.ids.Origin.TheVariants.{Outside, Call}
 use Rattle.lang_core.specs.declared.request.Request.{Request}
 use Rattle.lang_core.specs.declared.request.Response.{Response}
+use Rattle.request_names.specs.Ids.{id_text}
 use Rattle.request_log.specs.Entries.{is_alive}
 use Rattle.request_log.specs.declared.entry.Entry.{Entry}
 use Rattle.request_log.specs.declared.entry.Made.{Made}
@@ -49,16 +49,6 @@ or_none (b ∷ bs) = b ∷ bs
 abbrev pub rows_text : List Cell → List ℕ
 rows_text cells = or_none (flat_map cell_line cells)
 
--- `S/N`
-abbrev pub id_text : List ℕ → ℕ → List ℕ
-id_text service number = service ++ (codes "/" ++ decimal number)
-
-abbrev pub method_text : Method → List ℕ
-method_text Get = codes "GET"
-method_text Put = codes "PUT"
-method_text Post = codes "POST"
-method_text Delete = codes "DELETE"
-
 -- `out:WHO` or `call:S/N`
 abbrev pub origin_text : Origin → List ℕ → List ℕ
 origin_text Outside who = codes "out:" ++ who
@@ -79,7 +69,7 @@ made_text (Some m) = response_text m.trace.response
 
 -- `METHOD PATH`
 abbrev pub asked_text : Request → List ℕ
-asked_text r = method_text r.method ++ (codes " " ++ r.path)
+asked_text r = method_word r.method ++ (codes " " ++ r.path)
 
 -- ` vV alive rR `
 abbrev pub state_text : Entry → List ℕ

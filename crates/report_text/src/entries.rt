@@ -1,24 +1,13 @@
 // Entries of a log and answers as texts.
 ghost use Rattle.std.specs.Prelude.{◌≡◌, ◌++◌, IfOk, OnOk, codes, string_bytes};
-ghost use Rattle.report_text.specs.Reports.{alive_text, answer_line, asked_text, entry_line, log_text, made_text, method_text, origin_text, response_text, state_text};
+ghost use Rattle.report_text.specs.Reports.{alive_text, answer_line, asked_text, entry_line, log_text, made_text, origin_text, response_text, state_text};
 
 use crate::escapes::push_body_behind;
-use crate::ids::push_id;
 use crate::rows::or_none;
-use lang_core::{Method, Name, NoMemory, Origin, Request, Response, Text};
+use lang_core::{Name, NoMemory, Origin, Request, Response, Text, method_word};
 use request_log::{Entry, Log, Made};
+use request_names::push_id;
 use std::alloc::Global;
-
-fn method_text(method: Method) -> &'static str
-    ensures { result.now ≡ method_text method }
-{
-    match method {
-        Method::Get => "GET",
-        Method::Put => "PUT",
-        Method::Post => "POST",
-        Method::Delete => "DELETE",
-    }
-}
 
 fn alive_text(alive: bool) -> &'static str
     ensures { result.now ≡ alive_text alive }
@@ -74,7 +63,7 @@ fn push_outcome(text: &mut String, made: &Option<Made>) -> Result<(), NoMemory>
 fn push_asked(text: &mut String, request: &Request) -> Result<(), NoMemory>
     ensures { OnOk result (string_bytes text.new ≡ string_bytes text.old ++ asked_text request.now) }
 {
-    let method = method_text(request.method);
+    let method = method_word(request.method);
     let path = request.path.as_str();
     write!(text, "{method} {path}")?;
     Ok(())

@@ -1,13 +1,13 @@
-//! Rows, logs, answers and verdicts as texts.
+//! Rows, logs, answers and verdicts as texts, and bodies read from such texts.
 #![tactic(auto)]
 
 mod entries;
 mod escapes;
-mod ids;
+mod reading;
 mod rows;
 mod verdicts;
 
 pub use entries::{answer_line, log_text};
-pub use ids::push_id;
+pub use reading::unescaped;
 pub use rows::rows_text;
 pub use verdicts::verdict_text;

@@ -2,9 +2,9 @@
 ghost use Rattle.std.specs.Prelude.{◌≡◌, ◌++◌, OnOk, IfOk, length, string_bytes};
 ghost use Rattle.report_text.specs.Reports.{IsVerdictOver, outstanding_text, verdict_text};
 
-use crate::ids::push_id;
 use journal_rows::{Outstanding, Verdict};
 use lang_core::{Name, Names, NoMemory, Text};
+use request_names::push_id;
 use std::alloc::Global;
 
 fn push_outstanding(text: &mut String, service: &Name, what: Outstanding) -> Result<(), NoMemory>

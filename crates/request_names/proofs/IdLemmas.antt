@@ -3,15 +3,17 @@ use Rattle.std.proofs.Common.{◌≡◌, ℕ, ◌+◌, ◌<◌, ◌^◌, Bool, t
 use Rattle.std.specs.Char.{is_ascii_digit}
 use Rattle.std.specs.List.{list_all, position_from, position_or_len, before_first, after_first}
 use Rattle.std.proofs.Math.Seq.{take-append_seam, drop-append-add}
+use Rattle.std.proofs.lemmas.Bool.{and_parts}
 use Rattle.std.proofs.lemmas.Bool.Decides.{nat_tests}
 use Rattle.std.proofs.lemmas.Fmt.{decimal_nonempty, digits_decimal, digits_value-decimal, decimal-digits_value, first_decimal}
 use Rattle.std.proofs.lemmas.Iterator.Adapters.{position_from-zero}
 use Rattle.std.proofs.lemmas.List.Sums.{split_at_first, passes_at_first}
+use Rattle.lang_base.specs.Characters.{digits_value}
 use Rattle.lang_core.specs.Names.{is_name, is_name_byte}
 use Rattle.request_names.proofs.Parsed.{own, not_empty}
 use Rattle.request_names.specs.Ids.{parts_of, from_one, pair_of, parts_at, id_at, id_text}
 use Rattle.request_names.specs.Names.{bad_byte, refusal}
-use Rattle.request_names.specs.Numbers.{begins_well, digits_value, in_u64, number_of}
+use Rattle.request_names.specs.Numbers.{begins_well, in_u64, number_of}
 use Rattle.request_names.specs.declared.names.NameRefused.{NameRefused}
 use Rattle.request_names.specs.declared.names.NameRefused.TheVariants.{Empty, BadNumber}
 
@@ -43,14 +45,10 @@ unrefused name is =
     let good : bad_byte name ≡ None = position_from-zero (λ b. not (is_name_byte b)) name ∙ none_fails is_name_byte 0 name parts.2 in
     rw (some, short, good) refl
 
-both_hold : (a b : Bool) → a && b ≡ true → (a ≡ true) × (b ≡ true)
-both_hold true b h = (refl, h)
-both_hold false b h = cc
-
 first_slash : (name digits : List ℕ) → list_all is_name_byte name ≡ true → position_or_len (λ b. b == 47) (name ++ 47 ∷ digits) ≡ length name
 first_slash [] digits all = refl
 first_slash (b ∷ bs) digits all =
-    let both = both_hold (is_name_byte b) (list_all is_name_byte bs) all in
+    let both = and_parts (is_name_byte b) (list_all is_name_byte bs) all in
     let other : (b == 47) ≡ false = no_slash b both.0 in
     rw (other, first_slash bs digits both.1) (omega arith)
 

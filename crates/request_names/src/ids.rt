@@ -1,5 +1,5 @@
 // Names of requests and calls.
-ghost use Rattle.std.specs.Prelude.{◌≡◌, ◌<◌, Ok, OnErr, IfOk, IfErr, IsOk};
+ghost use Rattle.std.specs.Prelude.{◌≡◌, ◌<◌, ◌++◌, Ok, OnOk, OnErr, IfOk, IfErr, IsOk, string_bytes};
 ghost use Rattle.std.specs.Option.{option_map};
 ghost use Rattle.request_names.specs.Ids.{from_one, id_at, id_text, parts_of};
 ghost use Rattle.request_names.specs.Numbers.{number_of};
@@ -64,6 +64,15 @@ pub fn read_call_id(alloc: Global, text: &str) -> Result<CallId, NameRefused>
 {
     let (service, number) = read_id(alloc, text)?;
     Ok(CallId { service, number })
+}
+
+/// Puts a request's or a call's name last in a text.
+pub fn push_id(text: &mut String, service: &Name, number: u64) -> Result<(), NoMemory>
+    ensures { OnOk result (string_bytes text.new ≡ string_bytes text.old ++ id_text service.now number) }
+{
+    let service = service.as_str();
+    write!(text, "{service}/{number}")?;
+    Ok(())
 }
 
 fn print_id(alloc: Global, service: &Name, number: u64) -> Result<Text, NoMemory>

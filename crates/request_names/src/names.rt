@@ -1,10 +1,9 @@
 // Names of services.
 ghost use Rattle.std.specs.Prelude.{◌≡◌, None, OnErr, IfOk, IfSome};
 ghost use Rattle.std.specs.List.{position};
-ghost use Rattle.lang_core.specs.Names.{is_name_byte};
 ghost use Rattle.request_names.specs.Names.{bad_byte, refusal};
 
-use lang_core::{LONGEST_NAME, Name, NoMemory, Text};
+use lang_core::{LONGEST_NAME, Name, NoMemory, Text, is_name_byte};
 use std::alloc::Global;
 
 /// Why a text is read as no name, or as no name of a request or a call. Such a text is first tested for being empty,
@@ -33,12 +32,6 @@ impl From<NoMemory> for NameRefused {
     fn from(_: NoMemory) -> NameRefused {
         NameRefused::NoMemory
     }
-}
-
-fn is_name_byte(byte: u8) -> bool
-    ensures { result ≡ is_name_byte byte }
-{
-    byte.is_ascii_lowercase() || byte.is_ascii_digit() || byte == b'_'
 }
 
 fn bad_byte(bytes: &[u8]) -> Option<usize>

@@ -1,5 +1,3 @@
-pub mod EscapeLemmas
 pub mod Outcomes
 pub mod Playing
-pub mod PrintedBodies
 pub mod Telling

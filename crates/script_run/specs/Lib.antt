@@ -1,4 +1,3 @@
-pub mod Escapes
 pub mod Faults
 pub mod Lines
 pub mod Plays

@@ -4,14 +4,14 @@ use Rattle.std.specs.List.{position_or_len, before_first, after_first, starts_wi
 use Rattle.std.specs.Str.{is_utf8}
 use Rattle.lang_base.specs.Texts.{same_text}
 use Rattle.lang_tree.specs.Forms.{is_path}
+use Rattle.lang_tree.specs.Methods.{method_named}
 use Rattle.lang_tree.specs.declared.method.Method.{Method}
-use Rattle.lang_tree.specs.declared.method.Method.TheVariants.{Get, Put, Post, Delete}
 use Rattle.lang_core.specs.Names.{is_name, is_who}
 use Rattle.lang_core.specs.declared.request.Request.{Request}
 use Rattle.request_names.specs.Numbers.{number_of}
 use Rattle.service_core.specs.declared.answers.Command.{Command}
 use Rattle.service_core.specs.declared.answers.Command.TheVariants.{Cancel, Restore, Replace, Create}
-use Rattle.script_run.specs.Escapes.{body_of}
+use Rattle.report_text.specs.Escapes.{unescaped}
 use Rattle.script_run.specs.declared.line.Line.{Line}
 use Rattle.script_run.specs.declared.line.Line.TheVariants.{Blank, Ask, Order, Step, Rows, Log, Audit, Clock, Seed}
 use Rattle.script_run.specs.declared.line.LineFault.{LineFault}
@@ -24,6 +24,15 @@ abbrev pub cut_at : ℕ → List ℕ → List ℕ × Option (List ℕ)
 cut_at sep text =
     if nat_lt (position_or_len (λ b. b == sep) text) (length text)
     then (before_first (λ b. b == sep) text, Some (after_first (λ b. b == sep) text)) else (text, None)
+
+-- at most 65,536 bytes
+abbrev pub short_enough : Option (List ℕ) → Option (List ℕ)
+short_enough None = None
+short_enough (Some text) = if nat_le (length text) 65536 then Some text else None
+
+-- what a body stands for, within its limit
+abbrev pub body_of : List ℕ → Option (List ℕ)
+body_of body = short_enough (unescaped body)
 
 -- goes on with a part
 abbrev pub with_part : {X Y : Type 0} → Option X → (X → Option Y) → Option Y
@@ -52,15 +61,6 @@ name_part word = where_good (is_name word) (Some word)
 abbrev pub who_part : List ℕ → Option (List ℕ)
 who_part word = where_good (is_who word) (Some word)
 
--- the method of this name
-abbrev pub method_of : List ℕ → Option Method
-method_of word =
-    if same_text word (codes "GET") then Some Get
-    else (if same_text word (codes "PUT") then Some Put
-    else (if same_text word (codes "POST") then Some Post
-    else (if same_text word (codes "DELETE") then Some Delete
-    else None)))
-
 -- a service and a number, with a slash between
 abbrev pub numbered_at : List ℕ × Option (List ℕ) → Option (List ℕ × ℕ)
 numbered_at parts = with_part parts.1 (λ digits. with_part (number_of digits) (λ n. Some (parts.0, n)))
@@ -84,7 +84,7 @@ rest_or_empty (Some rest) = rest
 
 -- `METHOD PATH BODY`
 unfoldable pub asked : Option (List ℕ) → Option (Method × List ℕ × List ℕ)
-asked rest = with_word rest (λ word rest. with_part (method_of word) (λ method.
+asked rest = with_word rest (λ word rest. with_part (method_named word) (λ method.
     with_word rest (λ path rest. where_good (is_asked_path path)
     (with_part (body_of (rest_or_empty rest)) (λ body. Some (method, path, body))))))
 

@@ -1,7 +1,8 @@
 -- What a script does, and what it writes.
 use Rattle.std.specs.Prelude.{ℕ, ◌+◌, Bool, true, List, [], ◌∷◌, ◌++◌, Option, Some, None, Result, Ok, Err, ◌==◌, codes, length, decimal, if◌then◌else◌, is_some, map, nat_lt, take, drop}
 use Rattle.std.specs.List.{slice_split}
-use Rattle.report_text.specs.Reports.{answer_line, id_text, log_text, rows_text, verdict_text}
+use Rattle.request_names.specs.Ids.{id_text}
+use Rattle.report_text.specs.Reports.{answer_line, log_text, rows_text, verdict_text}
 use Rattle.service_core.specs.Events.{Kept}
 use Rattle.local_repair.specs.Current.{rows_of}
 use Rattle.world_core.specs.Verdicts.{verdict}

@@ -8,7 +8,8 @@ ghost use Rattle.script_run.specs.Stops.{HappenedFirst};
 
 use crate::line::{Line, LineFault};
 use lang_core::{Copied, Name, Names, NoMemory, Text};
-use report_text::{answer_line, log_text, push_id, rows_text, verdict_text};
+use report_text::{answer_line, log_text, rows_text, verdict_text};
+use request_names::push_id;
 use service_core::{Command, Service};
 use std::alloc::Global;
 use world_core::{Event, Happened, Refusal, World, WorldStepRefused, audit, world_step};

@@ -2,7 +2,6 @@
 #![tactic(auto)]
 
 mod acting;
-mod escapes;
 mod line;
 mod parts;
 mod read;

@@ -1,11 +1,10 @@
 // The parts of a line.
 ghost use Rattle.std.specs.Prelude.{◌≡◌, IfOk, Some, None, if◌then◌else◌};
 ghost use Rattle.std.specs.Option.{option_map};
-ghost use Rattle.script_run.specs.Escapes.{body_of};
-ghost use Rattle.script_run.specs.Lines.{cut_at, is_asked_path, method_of, name_part, neighbour, numbered, rest_or_empty, who_part};
+ghost use Rattle.script_run.specs.Lines.{body_of, cut_at, is_asked_path, name_part, neighbour, numbered, rest_or_empty, who_part};
 
-use crate::escapes::unescaped;
-use lang_core::{LONGEST_TEXT, Method, Name, NoMemory, Text, is_path, is_who};
+use lang_core::{LONGEST_TEXT, Name, NoMemory, Text, is_path, is_who};
+use report_text::unescaped;
 use request_names::read_number;
 use std::alloc::Global;
 
@@ -46,19 +45,6 @@ pub fn who_part(alloc: Global, word: &str) -> Result<Option<Text>, NoMemory>
         return Ok(None);
     }
     Ok(Some(who))
-}
-
-/// The method of this name, if there is one.
-pub fn method_part(word: &str) -> Option<Method>
-    ensures { result ≡ method_of word.now }
-{
-    match word {
-        "GET" => Some(Method::Get),
-        "PUT" => Some(Method::Put),
-        "POST" => Some(Method::Post),
-        "DELETE" => Some(Method::Delete),
-        _ => None,
-    }
 }
 
 /// A path that a script may ask, if the word is one.

@@ -6,9 +6,9 @@ ghost use Rattle.script_run.specs.Lines.{ask_at, asked, at_end, clock_at, create
 
 use crate::line::{Line, LineFault};
 use crate::parts::{
-    body_part, cut_word, method_part, name_part, neighbour_part, numbered_part, path_part, who_part,
+    body_part, cut_word, name_part, neighbour_part, numbered_part, path_part, who_part,
 };
-use lang_core::{LAST_MOMENT, Method, Name, NoMemory, Request, Seq, Text};
+use lang_core::{LAST_MOMENT, Method, Name, NoMemory, Request, Seq, Text, method_named};
 use request_names::read_number;
 use service_core::Command;
 use std::alloc::Global;
@@ -22,7 +22,7 @@ fn read_asked(alloc: Global, rest: Option<&str>) -> Result<Option<(Method, Text,
         return Ok(None);
     };
     let (word, rest) = cut_word(rest);
-    let Some(method) = method_part(word) else {
+    let Some(method) = method_named(word.as_bytes()) else {
         return Ok(None);
     };
     let Some(rest) = rest else {

@@ -1,5 +1,5 @@
 -- What a service keeps, and what each event makes of it.
-use Rattle.std.specs.Prelude.{ℕ, ◌+◌, ◌≡◌, ◌↔◌, Bool, true, false, List, [], ◌∷◌, ◌++◌, Option, Some, None, Result, Ok, Err, if◌then◌else◌, map, length, take, nat_le, All, refl}
+use Rattle.std.specs.Prelude.{ℕ, ◌+◌, ◌≡◌, ◌↔◌, Bool, true, false, List, [], ◌∷◌, ◌++◌, Option, Some, None, Result, Ok, Err, IfOk, is_err, if◌then◌else◌, map, length, take, nat_le, All, refl}
 use Rattle.std.specs.Fn.{iterate}
 use Rattle.std.specs.List.{range_with_len}
 use Rattle.std.specs.List.Sorted.{IsPermutation}
@@ -19,6 +19,7 @@ use Rattle.local_repair.specs.Alone.{remade_on, trace_on}
 use Rattle.local_repair.specs.Repairs.{stale_id as first_stale_id}
 use Rattle.local_repair.specs.Steps.{calls_of_made, tentative}
 use Rattle.local_repair.specs.Tests.{step_with}
+use Rattle.lang_base.specs.Memory.{Unless, lacks}
 use Rattle.lang_base.specs.declared.memory.NoMemory.{NoMemory as LacksMemory}
 use Rattle.local_repair.specs.declared.stepped.Stepped.{Stepped}
 use Rattle.local_repair.specs.declared.stepped.Stepped.TheVariants.{Idle, Ran}
@@ -139,12 +140,23 @@ ReplaysBefore s place =
 
 -- ---- what a call may answer, and what it leaves: that of the event, or nothing changed for want of memory
 
+abbrev pub arrive_memory : ArriveRefused → Bool
+arrive_memory NoMemory = true
+arrive_memory (Full n) = false
+
 abbrev pub IsArrival : Kept → Request → Inputs → Result Arrived ArriveRefused → Kept → Type 0
-IsArrival s request inputs (Err NoMemory) s' = s' ≡ s
-IsArrival s request inputs (Err (Full n)) s' = (Err (Full n) ≡ arrival_answer s request inputs) × (s' ≡ after_arrival s request inputs)
-IsArrival s request inputs (Ok a) s' = (Ok a ≡ arrival_answer s request inputs) × (s' ≡ after_arrival s request inputs)
+IsArrival s request inputs result s' =
+    Unless (lacks arrive_memory result)
+    ((result ≡ arrival_answer s request inputs) × (s' ≡ after_arrival s request inputs))
+    (s' ≡ s)
+
+-- the number of the entry that a step ran, if it ran one
+abbrev pub ran_id : Stepped → Option ℕ
+ran_id Idle = None
+ran_id (Ran id answered) = Some id
 
 abbrev pub IsStep : Kept → Result Stepped LacksMemory → Kept → Type 0
-IsStep s (Err e) s' = s' ≡ s
-IsStep s (Ok Idle) s' = (None ≡ stale_id s) × (s' ≡ after_step s)
-IsStep s (Ok (Ran id answered)) s' = (Some id ≡ stale_id s) × (s' ≡ after_step s)
+IsStep s result s' =
+    Unless (is_err result)
+    (IfOk result (λ stepped. ran_id stepped ≡ stale_id s) × (s' ≡ after_step s))
+    (s' ≡ s)

@@ -1,12 +1,13 @@
 -- What an order answers, and what it makes of a service.
 use Rattle.std.specs.Prelude.{ℕ, ◌≡◌, Bool, true, false, List, [], ◌∷◌, ◌++◌, Option, Some, None, Result, Ok, Err, if◌then◌else◌, length, find, insert, is_some, option_map}
+use Rattle.lang_base.specs.Memory.{Unless, lacks}
 use Rattle.lang_base.specs.Texts.{same_text}
 use Rattle.lang_core.specs.declared.ids.Origin.TheVariants.{Outside}
 use Rattle.lang_core.specs.declared.inputs.Inputs.{Inputs}
 use Rattle.lang_core.specs.declared.request.Request.{Request}
 use Rattle.request_log.specs.Entries.{changed, has_id, mark, replace}
 use Rattle.request_log.specs.declared.entry.Entry.{Entry}
-use Rattle.create_placement.specs.Placement.{place_of}
+use Rattle.create_placement.specs.Placement.{place_between}
 use Rattle.service_core.specs.Events.{Kept, is_full, next_id}
 use Rattle.service_core.specs.declared.answers.Command.{Command}
 use Rattle.service_core.specs.declared.answers.Command.TheVariants.{Cancel, Restore, Replace, Create}
@@ -75,7 +76,7 @@ ordered_entries s (Cancel id) inputs = changed id (mark true) s.entries
 ordered_entries s (Restore id) inputs = changed id (mark false) s.entries
 ordered_entries s (Replace id method path body) inputs = changed id (replace method path body) s.entries
 ordered_entries s (Create before after request) inputs =
-    insert s.entries (place_of before after s.entries) (created (next_id s) request inputs)
+    insert s.entries (place_between before after s.entries) (created (next_id s) request inputs)
 
 -- the service after such an order, which is noted where it was accepted
 abbrev pub after_new : Kept → Command → List ℕ → Inputs → Result Ordered OrderRefused → Kept
@@ -101,27 +102,24 @@ after_order s command token inputs =
     kept_or (given token s.accepted) s (after_new s command token inputs (new_answer s command))
 
 -- what an order may answer, and what it leaves: that of the event, or nothing changed for want of memory
+abbrev pub order_memory : OrderRefused → Bool
+order_memory NoMemory = true
+order_memory (NoSuchRequest id) = false
+order_memory (Full n) = false
+
 abbrev pub IsOrder : Kept → Command → List ℕ → Inputs → Result Ordered OrderRefused → Kept → Type 0
-IsOrder s command token inputs (Err NoMemory) s' = s' ≡ s
-IsOrder s command token inputs (Err (NoSuchRequest id)) s' =
-    (Err (NoSuchRequest id) ≡ order_answer s command token) × (s' ≡ after_order s command token inputs)
-IsOrder s command token inputs (Err (Full n)) s' =
-    (Err (Full n) ≡ order_answer s command token) × (s' ≡ after_order s command token inputs)
-IsOrder s command token inputs (Ok o) s' = (Ok o ≡ order_answer s command token) × (s' ≡ after_order s command token inputs)
+IsOrder s command token inputs result s' =
+    Unless (lacks order_memory result)
+    ((result ≡ order_answer s command token) × (s' ≡ after_order s command token inputs))
+    (s' ≡ s)
 
 -- what a call may answer of an order about an entry: what is so, or want of memory
 abbrev pub IsAbout : ℕ → List Entry → Result Ordered OrderRefused → Type 0
-IsAbout id entries (Err NoMemory) = Unit {0}
-IsAbout id entries (Err (NoSuchRequest n)) = Err (NoSuchRequest n) ≡ about_entry id entries
-IsAbout id entries (Err (Full n)) = Err (Full n) ≡ about_entry id entries
-IsAbout id entries (Ok o) = Ok o ≡ about_entry id entries
+IsAbout id entries result = Unless (lacks order_memory result) (result ≡ about_entry id entries) (Unit {0})
 
 -- the same of an order whose token is new
 abbrev pub IsNewOrder : Kept → Command → List ℕ → Inputs → Result Ordered OrderRefused → Kept → Type 0
-IsNewOrder s command token inputs (Err NoMemory) s' = s' ≡ s
-IsNewOrder s command token inputs (Err (NoSuchRequest id)) s' =
-    (Err (NoSuchRequest id) ≡ new_answer s command) × (s' ≡ after_new s command token inputs (new_answer s command))
-IsNewOrder s command token inputs (Err (Full n)) s' =
-    (Err (Full n) ≡ new_answer s command) × (s' ≡ after_new s command token inputs (new_answer s command))
-IsNewOrder s command token inputs (Ok o) s' =
-    (Ok o ≡ new_answer s command) × (s' ≡ after_new s command token inputs (new_answer s command))
+IsNewOrder s command token inputs result s' =
+    Unless (lacks order_memory result)
+    ((result ≡ new_answer s command) × (s' ≡ after_new s command token inputs (new_answer s command)))
+    (s' ≡ s)

@@ -7,7 +7,7 @@ use Rattle.lang_core.specs.declared.inputs.Inputs.{Inputs}
 use Rattle.lang_core.specs.declared.request.Request.{Request}
 use Rattle.request_log.specs.Entries.{find_call, has_origin, with_entry}
 use Rattle.request_log.specs.declared.entry.Entry.{Entry}
-use Rattle.create_placement.specs.Placement.{place_of}
+use Rattle.create_placement.specs.Placement.{place_between}
 use Rattle.repair_messages.specs.declared.messages.Ack.{Ack}
 use Rattle.repair_messages.specs.declared.messages.AnswerMessage.{AnswerMessage}
 use Rattle.repair_messages.specs.declared.messages.Confirm.{Confirm}
@@ -131,7 +131,7 @@ neighbour s caller None = None
 neighbour s caller (Some number) = option_map (λ (e : Entry). e.id) (find (has_origin caller number) s.entries)
 
 abbrev pub created_place : Kept → SetMessage → ℕ
-created_place s set = place_of (neighbour s set.caller set.before) (neighbour s set.caller set.after) s.entries
+created_place s set = place_between (neighbour s set.caller set.before) (neighbour s set.caller set.after) s.entries
 
 -- an entry with this version of its call
 abbrev pub at_version : SetMessage → Entry → Entry

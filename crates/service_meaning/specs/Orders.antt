@@ -8,7 +8,7 @@ use Rattle.lang_core.specs.declared.inputs.Inputs.{Inputs}
 use Rattle.lang_core.specs.declared.request.Request.{Request}
 use Rattle.request_log.specs.Entries.{has_id}
 use Rattle.request_log.specs.declared.entry.Entry.{Entry}
-use Rattle.create_placement.specs.Placement.{place_of}
+use Rattle.create_placement.specs.Placement.{place_between}
 use Rattle.repair_messages.specs.declared.posts.PostName.{PostName}
 use Rattle.repair_messages.specs.declared.posts.PostName.TheVariants.{Call as OfCall, Reply as OfReply}
 use Rattle.journal_rows.specs.Words.{ordered}
@@ -157,7 +157,7 @@ carried_out s (Cancel id) who i = record s { entries = at_id id (struck_as true)
 carried_out s (Restore id) who i = record s { entries = at_id id (struck_as false) s.entries }
 carried_out s (Replace id method path body) who i = record s { entries = at_id id (asking method path body) s.entries }
 carried_out s (Create before after q) who i =
-    record s { entries = insert s.entries (place_of before after s.entries) (created (next_id s) q i) }
+    record s { entries = insert s.entries (place_between before after s.entries) (created (next_id s) q i) }
 carried_out s (Retry name) who i = released_post who name s
 
 abbrev pub order_by : Kept → Command → List ℕ → List ℕ → Inputs → Option OrderRefused → After (Result Ordered OrderRefused)

@@ -11,7 +11,8 @@ use Rattle.std.proofs.lemmas.Str.Ascii.{IsAscii-cons, IsAscii-nil}
 use Rattle.lang_core.specs.Names.{is_name, is_name_byte}
 use Rattle.request_names.proofs.Parsed.{own}
 use Rattle.request_names.specs.Ids.{id_text, parts_of}
-use Rattle.request_names.specs.Numbers.{begins_well, digits_value, number_of}
+use Rattle.lang_base.specs.Characters.{digits_value}
+use Rattle.request_names.specs.Numbers.{begins_well, number_of}
 use Rattle.wire_fields.specs.Forms.{id_of}
 
 pub both_hold : (a b : Bool) → a && b ≡ true → (a ≡ true) × (b ≡ true)

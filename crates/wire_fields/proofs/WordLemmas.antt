@@ -7,7 +7,8 @@ use Rattle.std.proofs.lemmas.Bool.Decides.{nat_tests}
 use Rattle.std.proofs.lemmas.Slice.Eq.{bytes_eq-Decides}
 use Rattle.std.proofs.lemmas.Str.{IsAscii-append}
 use Rattle.std.proofs.lemmas.Str.Ascii.{IsAscii-cons}
-use Rattle.lang_tree.specs.Forms.{is_lower, is_text}
+use Rattle.lang_base.specs.Characters.{is_lower}
+use Rattle.lang_tree.specs.Forms.{is_text}
 use Rattle.wire_fields.specs.Words.{cut_space, lone_status, numbered_status, refusal_of, refusal_text}
 use Rattle.wire_fields.proofs.SpeltLemmas.{ascii_by, decimal_ascii, number_back, place_nowhere, place_past, utf8_of_ascii}
 

@@ -3,12 +3,13 @@ use Rattle.std.specs.Prelude.{ℕ, Bool, ◌&&◌, ◌||◌, List, Option, Some,
 use Rattle.std.specs.List.{list_all, slice_split, starts_with, ends_with}
 use Rattle.std.specs.Option.{is_some}
 use Rattle.lang_core.specs.Names.{is_name, is_who}
-use Rattle.lang_tree.specs.Forms.{is_digit, is_path, is_text}
+use Rattle.lang_base.specs.Characters.{is_digit}
+use Rattle.lang_tree.specs.Forms.{is_path, is_text}
 use Rattle.request_names.specs.Ids.{parts_of}
 use Rattle.request_names.specs.Numbers.{number_of}
 use Rattle.repair_messages.specs.declared.kinds.Kind.{Kind}
 use Rattle.repair_messages.specs.declared.kinds.Kind.TheVariants.{Create, Replace, Delete, ReplaceResponse}
-use Rattle.http_front.specs.Methods.{method_named}
+use Rattle.lang_tree.specs.Methods.{method_named}
 use Rattle.http_front.specs.declared.header.AireHeader.{AireHeader}
 use Rattle.http_front.specs.declared.header.AireHeader.TheVariants.{From, Dest, RequestId, ResponseId, NotifierUrl, Repair, Version, AnswerVersion, Who, Method, Path, RequestWho, Chain, Before, After, Status, Refused, Seal}
 use Rattle.wire_fields.specs.Words.{refusal_of}

@@ -3,7 +3,7 @@ use Rattle.std.specs.Prelude.{ℕ, List, ◌++◌, codes, decimal}
 use Rattle.std.specs.List.{flat_map}
 use Rattle.http_header.specs.FieldValue.{FieldValue}
 use Rattle.http_header.specs.HeaderMap.{Entries}
-use Rattle.http_front.specs.Methods.{method_word}
+use Rattle.lang_tree.specs.Methods.{method_word}
 use Rattle.http_front.specs.Writing.{Line, first_of_header}
 use Rattle.http_front.specs.declared.header.AireHeader.{AireHeader}
 use Rattle.lang_tree.specs.declared.method.Method.{Method}

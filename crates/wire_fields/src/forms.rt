@@ -2,41 +2,16 @@
 ghost use Rattle.std.specs.Prelude.{◌≡◌, ◌==◌};
 ghost use Rattle.std.specs.List.{list_all, position};
 ghost use Rattle.std.specs.Option.{option_map};
-ghost use Rattle.lang_core.specs.Names.{is_name, is_name_byte, is_who};
-ghost use Rattle.lang_tree.specs.Forms.{is_path, is_visible};
+ghost use Rattle.lang_core.specs.Names.{is_name, is_who};
+ghost use Rattle.lang_tree.specs.Forms.{is_path};
 ghost use Rattle.request_names.specs.Ids.{parts_of};
 ghost use Rattle.wire_fields.specs.Forms.{has_form, id_of, is_chain, is_notifier, is_seal, is_seal_digit, kind_named, status_of};
 
 use crate::words::refusal_of;
-use http_front::{AireHeader, method_named};
-use lang_core::{LONGEST_NAME, LONGEST_PATH, LONGEST_WHO};
+use http_front::AireHeader;
+use lang_core::{LONGEST_PATH, LONGEST_WHO, all_visible, is_name, method_named};
 use repair_messages::Kind;
 use request_names::read_number;
-
-fn is_name_byte(byte: u8) -> bool
-    ensures { result ≡ is_name_byte byte }
-{
-    byte.is_ascii_lowercase() || byte.is_ascii_digit() || byte == b'_'
-}
-
-fn all_name_bytes(bytes: &[u8]) -> bool
-    ensures { result ≡ list_all is_name_byte bytes.now }
-{
-    bytes.iter().all(|byte| is_name_byte(*byte))
-}
-
-/// Whether the bytes are the name of a service.
-pub fn is_name(bytes: &[u8]) -> bool
-    ensures { result ≡ is_name bytes.now }
-{
-    !bytes.is_empty() && bytes.len() as u64 <= LONGEST_NAME && all_name_bytes(bytes)
-}
-
-fn all_visible(bytes: &[u8]) -> bool
-    ensures { result ≡ list_all is_visible bytes.now }
-{
-    bytes.iter().all(|byte| (0x21..=0x7e).contains(byte))
-}
 
 fn is_who(bytes: &[u8]) -> bool
     ensures { result ≡ is_who bytes.now }

@@ -1,14 +1,14 @@
 // The bytes of a message that are sealed.
 ghost use Rattle.std.specs.Prelude.{◌≡◌, ◌++◌, codes, decimal, OnOk, IfOk};
 ghost use Rattle.std.specs.List.{flat_map};
-ghost use Rattle.http_front.specs.Methods.{method_word};
+ghost use Rattle.lang_tree.specs.Methods.{method_word};
 ghost use Rattle.http_front.specs.Writing.{first_of, first_of_header};
 ghost use Rattle.wire_fields.specs.Sealed.{sealed_fields, sealed_line, sealed_request, sealed_response};
 
-use http_front::{AireHeader, WireRequest, WireResponse, method_word};
+use http_front::{AireHeader, WireRequest, WireResponse};
 use http_header::HeaderMap;
 use lang_core::{Bytes, NoMemory, Text};
-use lang_tree::Method;
+use lang_tree::{Method, method_word};
 use std::alloc::{AllocError, Global};
 
 fn put(text: &mut Vec<u8>, piece: &[u8]) -> Result<(), AllocError>

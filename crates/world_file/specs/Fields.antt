@@ -2,7 +2,7 @@
 use Rattle.std.specs.Prelude.{ℕ, Bool, ◌&&◌, ◌||◌, not, List, length, Option, Some, None, option_and_then, Result, Ok, Err, if◌then◌else◌, nat_le, codes}
 use Rattle.std.specs.List.{list_all}
 use Rattle.lang_base.specs.Texts.{same_text}
-use Rattle.lang_tree.specs.Forms.{is_visible}
+use Rattle.lang_base.specs.Characters.{is_visible}
 use Rattle.lang_core.specs.Names.{is_name}
 use Rattle.serde_json.specs.Data.{Data}
 use Rattle.serde_json.specs.Find.{get, as_str, as_number, as_u64}

@@ -17,14 +17,14 @@ refusal_number refusal.TooMany = 5
 refusal_number (refusal.Program name refused) = 6
 
 -- the byte of a program's text at which it is refused
-abbrev pub place_of : ProgramRefused → ℕ
-place_of program.NoMemory = 0
-place_of (program.Unexpected at) = at
-place_of (program.BadString at) = at
-place_of (program.BadNumber at) = at
-place_of (program.BadPattern at) = at
-place_of (program.TooDeep at) = at
-place_of (program.TooLong at) = at
+abbrev pub refused_at : ProgramRefused → ℕ
+refused_at program.NoMemory = 0
+refused_at (program.Unexpected at) = at
+refused_at (program.BadString at) = at
+refused_at (program.BadNumber at) = at
+refused_at (program.BadPattern at) = at
+refused_at (program.TooDeep at) = at
+refused_at (program.TooLong at) = at
 
 -- the refusal's number, and what it is about, each behind a space
 abbrev pub refusal_text : WorldRefused → List ℕ
@@ -35,4 +35,4 @@ refusal_text (refusal.BadField field) = codes "3 " ++ field_word field
 refusal_text (refusal.Twice name) = codes "4 " ++ name
 refusal_text refusal.TooMany = codes "5"
 refusal_text (refusal.Program name refused) =
-    codes "6 " ++ (name ++ (codes " " ++ (decimal (program_number refused) ++ (codes " " ++ decimal (place_of refused)))))
+    codes "6 " ++ (name ++ (codes " " ++ (decimal (program_number refused) ++ (codes " " ++ decimal (refused_at refused)))))

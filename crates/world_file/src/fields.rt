@@ -1,13 +1,11 @@
 // The fields of one service, read from its JSON value.
 ghost use Rattle.std.specs.Prelude.{◌≡◌, IfOk, IfErr, Ok, Err};
-ghost use Rattle.std.specs.List.{list_all};
-ghost use Rattle.lang_tree.specs.Forms.{is_visible};
 ghost use Rattle.serde_json.specs.View.{view};
 ghost use Rattle.world_file.specs.Fields.{allows_all, door_in, fields_in, is_between, is_door, is_secret, is_word_of_rules, name_in, number_between, rest_in, rules_in, secret_in, text_in, wanted, weight_in, workers_in};
 ghost use Rattle.world_file.specs.Spelled.{seen};
 
 use crate::field::{Field, FieldFault};
-use lang_core::{Name, NoMemory, Text};
+use lang_core::{Name, NoMemory, Text, all_visible};
 use serde_json::Value;
 use std::alloc::Global;
 
@@ -92,12 +90,6 @@ fn is_secret(text: &str) -> bool
     ensures { result ≡ is_secret text.now }
 {
     is_between(1, LONGEST_SECRET, text.len() as u64)
-}
-
-fn all_visible(bytes: &[u8]) -> bool
-    ensures { result ≡ list_all is_visible bytes.now }
-{
-    bytes.iter().all(|b| (0x21..=0x7e).contains(b))
 }
 
 fn is_door(text: &str) -> bool

@@ -1,6 +1,6 @@
 // Why a file is refused as a world.
 ghost use Rattle.std.specs.Prelude.{◌≡◌};
-ghost use Rattle.world_file.specs.Numbers.{place_of, refusal_number};
+ghost use Rattle.world_file.specs.Numbers.{refused_at, refusal_number};
 
 use crate::field::{Field, FieldFault};
 use handler_lang::ProgramRefused;
@@ -45,8 +45,8 @@ impl WorldRefused {
 }
 
 // The byte of a program's text at which it is refused.
-fn place_of(refused: ProgramRefused) -> u64
-    ensures { result ≡ place_of refused }
+fn refused_at(refused: ProgramRefused) -> u64
+    ensures { result ≡ refused_at refused }
 {
     match refused {
         ProgramRefused::NoMemory => 0,
@@ -87,7 +87,7 @@ impl fmt::Display for WorldRefused {
             WorldRefused::Program(name, refused) => {
                 let name = name.as_str();
                 let number = refused.number();
-                let place = place_of(*refused);
+                let place = refused_at(*refused);
                 write!(f, "6 {name} {number} {place}")
             }
         }

@@ -1,5 +1,5 @@
 use Rattle.std.proofs.Common.{◌≡◌, min, take}
-use Rattle.handler_values.specs.Numbers.{digits_value}
+use Rattle.lang_base.specs.Characters.{digits_value}
 use Rattle.handler_values.proofs.numbers.digits_value.Given as goal
 
 abbrev pub invariant-loop-digit : goal.invariant-loop-digit

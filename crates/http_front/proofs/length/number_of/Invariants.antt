@@ -1,5 +1,5 @@
 use Rattle.std.proofs.Common.{◌≡◌, ◌<◌, ◌^◌, take}
-use Rattle.http_front.specs.Lengths.{digits_value}
+use Rattle.lang_base.specs.Characters.{digits_value}
 use Rattle.http_front.proofs.length.number_of.Given as goal
 
 abbrev pub invariant-loop-digit : goal.invariant-loop-digit

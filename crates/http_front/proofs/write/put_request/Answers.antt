@@ -1,7 +1,7 @@
 use Rattle.std.proofs.Common.{◌++◌, ◌∙◌, ap, List, ℕ}
 use Rattle.std.specs.Prelude.{codes}
 use Rattle.std.specs.List.{flat_map}
-use Rattle.http_front.specs.Methods.{method_word}
+use Rattle.lang_tree.specs.Methods.{method_word}
 use Rattle.http_front.specs.Writing.{Line, aire_lines, field_line, first_of, last_lines}
 use Rattle.http_front.proofs.TextLemmas.{on_ok, four, regroup, three_groups}
 use Rattle.http_front.proofs.write.put_request.Goals as goal

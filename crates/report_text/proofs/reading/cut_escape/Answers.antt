@@ -1,7 +1,7 @@
 use Rattle.std.proofs.Common.{None, lit<}
 use Rattle.std.proofs.lemmas.Str.Pattern.{strip_prefix_char}
-use Rattle.script_run.proofs.EscapeLemmas.{none_of_three}
-use Rattle.script_run.proofs.escapes.cut_escape.Goals as goal
+use Rattle.report_text.proofs.EscapeLemmas.{none_of_three}
+use Rattle.report_text.proofs.reading.cut_escape.Goals as goal
 
 pub returns : goal.returns
 returns c =

@@ -3,7 +3,7 @@ use Rattle.std.proofs.Common.{◌≡◌, ◌≢◌, ℕ, suc, ◌+◌, ◌<◌, 
 use Rattle.std.specs.List.{position_or_len, before_first, after_first}
 use Rattle.std.specs.Option.{option_map}
 use Rattle.std.proofs.lemmas.Bool.Decides.{nat_tests}
-use Rattle.script_run.specs.Escapes.{escape_of, byte_before, unescaped_from, unescaped, at_backslash, escape_at, glued}
+use Rattle.report_text.specs.Escapes.{escape_of, byte_before, unescaped_from, unescaped, at_backslash, escape_at, glued}
 
 -- two pieces of a text
 abbrev Pieces : Type 0

@@ -1,5 +1,5 @@
 -- The escapes of a body.
-use Rattle.std.specs.Prelude.{ℕ, Bool, true, false, List, [], ◌∷◌, ◌++◌, length, Option, Some, None, if◌then◌else◌, nat_lt, nat_le, ◌==◌}
+use Rattle.std.specs.Prelude.{ℕ, Bool, true, false, List, [], ◌∷◌, ◌++◌, length, Option, Some, None, if◌then◌else◌, nat_lt, ◌==◌}
 use Rattle.std.specs.List.{position_or_len, before_first, after_first}
 use Rattle.std.specs.Option.{option_map}
 
@@ -28,15 +28,6 @@ unescaped_from (b ∷ bytes) false =
 -- what a body stands for
 abbrev pub unescaped : List ℕ → Option (List ℕ)
 unescaped body = unescaped_from body false
-
--- at most 65,536 bytes
-abbrev pub short_enough : Option (List ℕ) → Option (List ℕ)
-short_enough None = None
-short_enough (Some text) = if nat_le (length text) 65536 then Some text else None
-
--- what a body stands for, within its limit
-abbrev pub body_of : List ℕ → Option (List ℕ)
-body_of body = short_enough (unescaped body)
 
 -- ---- piece by piece
 

@@ -1,7 +1,7 @@
 // The reads that a run recorded.
 ghost use Rattle.std.specs.Prelude.{◌≡◌, [], ◌∷◌, ◌++◌, OnOk, OnErr, min, nat_le, sum_by};
 ghost use Rattle.lang_core.specs.Rows.{cell_size};
-ghost use Rattle.handler_run.specs.Sizes.{text_size, read_size};
+ghost use Rattle.handler_values.specs.Sizes.{text_size, read_size};
 
 use lang_core::{Cell, NoMemory, Read, Reads, Text};
 use std::alloc::Global;
@@ -62,7 +62,7 @@ pub struct Recorded {
 impl Model for Recorded {
     ghost use Rattle.std.specs.Prelude.{◌≡◌, List, sum_by, min};
     ghost use Rattle.lang_core.specs.declared.trace.Read.{Read};
-    ghost use Rattle.handler_run.specs.Sizes.{read_size};
+    ghost use Rattle.handler_values.specs.Sizes.{read_size};
 
     ghost Value = { List Read };
 

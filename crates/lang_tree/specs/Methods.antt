@@ -1,4 +1,4 @@
--- The methods that are read and written.
+-- The words of methods.
 use Rattle.std.specs.Prelude.{ℕ, List, Option, Some, None, codes, if◌then◌else◌}
 use Rattle.lang_tree.specs.Forms.{is_text}
 use Rattle.lang_tree.specs.declared.method.Method.{Method}
@@ -10,6 +10,7 @@ method_word Put = codes "PUT"
 method_word Post = codes "POST"
 method_word Delete = codes "DELETE"
 
+-- the method with this word
 abbrev pub method_named : List ℕ → Option Method
 method_named word =
     if is_text word (codes "GET") then Some Get

@@ -1,9 +1,9 @@
 // The variables of a run.
 ghost use Rattle.std.specs.Prelude.{◌≡◌, ◌<◌, [], ◌∷◌, ◌++◌, length, slice_set, MatchOption, IfSome, OnOk, OnErr};
 ghost use Rattle.lang_core.specs.declared.value.Value.{Value};
-ghost use Rattle.handler_run.specs.Runs.{bind};
+ghost use Rattle.handler_values.specs.Variables.{bind};
 
-use handler_values::Binding;
+use crate::given::Binding;
 use lang_core::{Copied, NoMemory, Same, Text, Value};
 use std::alloc::Global;
 use std::marker::Model;
@@ -25,7 +25,7 @@ impl Model for Variables {
 
 // Where a variable stands, if it has a value.
 #[tactic(auto, using(crate::proofs::BindLemmas::bind_at))]
-fn place_of(vars: &[Binding], name: &Text) -> Option<usize>
+fn bound_at(vars: &[Binding], name: &Text) -> Option<usize>
     ensures within { IfSome result (λ i. i < length vars.now) }
     ensures bound { MatchOption result
         ((v : Value) → bind name.now v vars.now ≡ vars.now ++ record { name = name.now; value = v } ∷ [])
@@ -65,7 +65,7 @@ impl Variables {
             name: name.copied(alloc)?,
             value,
         };
-        match place_of(&self.items, name) {
+        match bound_at(&self.items, name) {
             Some(i) => self.items[i] = binding,
             None => self.items.push(binding)?,
         }

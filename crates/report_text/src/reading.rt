@@ -1,8 +1,8 @@
-// The escapes of a body.
+// Bodies read from their escapes.
 ghost use Rattle.std.specs.Prelude.{◌≡◌, ℕ, List, Some, IfOk};
 ghost use Rattle.report_text.specs.Reports.{escaped_body};
 ghost use Rattle.std.specs.Option.{option_map};
-ghost use Rattle.script_run.specs.Escapes.{at_backslash, escape_at, unescaped};
+ghost use Rattle.report_text.specs.Escapes.{at_backslash, escape_at, unescaped};
 
 use lang_core::{NoMemory, Text};
 use std::alloc::Global;

@@ -4,7 +4,7 @@ use Rattle.std.proofs.lemmas.List.{set_split}
 use Rattle.lang_base.specs.Texts.{same_text}
 use Rattle.lang_core.specs.declared.value.Value.{Value}
 use Rattle.handler_values.specs.declared.given.Binding.{Binding}
-use Rattle.handler_run.specs.Runs.{bind}
+use Rattle.handler_values.specs.Variables.{bind}
 
 by_test : (t : Bool) (a b : List Binding) → t ≡ true → cond t a b ≡ a
 by_test true a b e = refl

@@ -4,7 +4,7 @@ use Rattle.std.specs.List.{flat_map}
 use Rattle.std.proofs.lemmas.Bool.Decides.{nat_tests}
 use Rattle.lang_base.specs.declared.memory.NoMemory.{NoMemory}
 use Rattle.report_text.specs.Reports.{body_byte, escaped_body}
-use Rattle.script_run.specs.Escapes.{byte_before, unescaped, unescaped_from}
+use Rattle.report_text.specs.Escapes.{byte_before, unescaped, unescaped_from}
 
 not_slash : (b : ℕ) → nat_eq b 92 ≡ false → (b == 92) ≡ false
 not_slash b h = grind (arith, nat_tests)
