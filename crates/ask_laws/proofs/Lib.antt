@@ -1,0 +1,5 @@
+pub mod ChainLaws
+pub mod LandingLaws
+pub mod WeightLemmas
+pub mod GoingWeights
+pub mod AskLaws
