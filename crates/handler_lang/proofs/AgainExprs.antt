@@ -15,7 +15,7 @@ use Rattle.handler_reader.specs.declared.stop.Stop.{Stop}
 use Rattle.handler_grammar.specs.Grammar.{expr_tokens, op_token, segment}
 use Rattle.reader_laws.specs.Reading.{◌>>=◌}
 use Rattle.handler_reader.specs.Readers.{expr_at, expr_in, number_in, op_at, pair_in, part_in, path_in, right_at, segment_at, text_in}
-use Rattle.handler_reader.proofs.Binds.{both}
+use Rattle.std.proofs.lemmas.Bool.{and_parts}
 use Rattle.handler_lang.proofs.Conjuncts.{three}
 use Rattle.handler_grammar.proofs.Layers.{expr_layer, expr_layer_fits, expr_layer_tokens}
 
@@ -44,7 +44,7 @@ path_read k rest fits = then_ok (segment_at (token.Integer (pos k) ∷ (token.Ri
 
 path_again : (k : ℕ) (rest : List Token) → nat_le 1 k && nat_le k 32 ≡ true → path_in (token.Left ∷ (token.Integer (segment k) ∷ (token.Right ∷ rest))) ≡ Ok (expr.Path k, rest)
 path_again k rest fits =
-    ap (λ (z : ℤ). path_in (token.Left ∷ (token.Integer z ∷ (token.Right ∷ rest)))) (segment_is k (both (nat_le 1 k) (nat_le k 32) fits).1) ∙ path_read k rest fits
+    ap (λ (z : ℤ). path_in (token.Left ∷ (token.Integer z ∷ (token.Right ∷ rest)))) (segment_is k (and_parts (nat_le 1 k) (nat_le k 32) fits).1) ∙ path_read k rest fits
 
 number_again : (n : ℕ) (e : Expr) (rest : List Token) → IsReadAgain e → expr_within e n ≡ true → number_in (expr_at n) (token.Left ∷ (expr_tokens e ++ (token.Right ∷ rest))) ≡ Ok (expr.Number e, rest)
 unfolding number_in
@@ -98,7 +98,7 @@ again (Expr-F.AsText e) = again_at (Expr-F.AsText e.0) (roll-Expr (Expr-F.AsText
     (λ n rest f. ap (text_in (expr_at n)) (one_more (expr_tokens e.0) rest) ∙ text_again n e.0 rest e.1 f ∙ ap (λ (v : Expr). Ok (v, rest)) (sym (rolls-AsText e.0)))
 again (Expr-F.Pair l o r) = again_at (Expr-F.Pair l.0 o r.0) (roll-Expr (Expr-F.Pair l.0 o r.0)) refl
     (λ n rest f.
-    let k = both (expr_within l.0 n) (expr_within r.0 n) f in
+    let k = and_parts (expr_within l.0 n) (expr_within r.0 n) f in
     ap (pair_in (expr_at n)) (pair_more (expr_tokens l.0) (op_token o) (expr_tokens r.0) rest)
     ∙ pair_again n l.0 o r.0 rest l.1 r.1 k.0 k.1
     ∙ ap (λ (v : Expr). Ok (v, rest)) (sym (rolls-Pair l.0 o r.0)))

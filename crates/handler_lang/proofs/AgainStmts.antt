@@ -17,7 +17,7 @@ use Rattle.lang_tree.specs.declared.program.Route.{Route}
 use Rattle.handler_grammar.specs.Grammar.{block_tokens, expr_tokens, joined, program_tokens, route_tokens, stmt_tokens}
 use Rattle.reader_laws.specs.Reading.{◌>>=◌}
 use Rattle.handler_reader.specs.Readers.{Read, block_at, block_in, call_in, close_at, drop_in, each_in, else_in, expr_at, get_in, if_in, let_in, most, now_in, pattern_at, put_in, random_in, reply_in, route_at, route_in, routes_in, stmt_in, stmts_in}
-use Rattle.handler_reader.proofs.Binds.{both}
+use Rattle.std.proofs.lemmas.Bool.{and_parts}
 use Rattle.handler_lang.proofs.Conjuncts.{five, three}
 use Rattle.handler_grammar.proofs.Layers.{block_layer, block_of, stmt_layer, stmt_layer_fits, stmt_layer_tokens}
 use Rattle.handler_reader.proofs.Loops.{routes_ended, routes_next, stmts_closed, stmts_next}
@@ -139,7 +139,7 @@ again : (y : Stmt-F S B) → IsReadStmt (roll-Stmt (bare y))
 unfolding else_in
 again (Stmt-F.Let v x) = from_layer (Stmt-F.Let v x) (roll-Stmt (Stmt-F.Let v x)) refl
     (λ n rest f small h.
-    let k = both (is_word v) (expr_within x 32) f in
+    let k = and_parts (is_word v) (expr_within x 32) f in
     ap (one n) (let_more v (expr_tokens x) rest)
     ∙ let_again n v x rest k.1
     ∙ ap (λ (s : Stmt). read_to s rest) (sym (rolls-Let v x)))
@@ -160,7 +160,7 @@ again (Stmt-F.Put t k x) = from_layer (Stmt-F.Put t k x) (roll-Stmt (Stmt-F.Put 
     (λ rest. refl) (λ rest n. refl) (omega arith)
 again (Stmt-F.Drop t k) = from_layer (Stmt-F.Drop t k) (roll-Stmt (Stmt-F.Drop t k)) refl
     (λ n rest f small h.
-    let c = both (is_word t) (expr_within k 32) f in
+    let c = and_parts (is_word t) (expr_within k 32) f in
     ap (one n) (drop_more t (expr_tokens k) rest)
     ∙ drop_again n t k rest c.1
     ∙ ap (λ (s : Stmt). read_to s rest) (sym (rolls-Drop t k)))
@@ -188,7 +188,7 @@ again (Stmt-F.Random v) = from_layer (Stmt-F.Random v) (roll-Stmt (Stmt-F.Random
     (λ rest. refl) (λ rest n. refl) (omega arith)
 again (Stmt-F.Reply s b) = from_layer (Stmt-F.Reply s b) (roll-Stmt (Stmt-F.Reply s b)) refl
     (λ n rest f small h.
-    let c = both (expr_within s 32) (expr_within b 32) f in
+    let c = and_parts (expr_within s 32) (expr_within b 32) f in
     ap (one n) (reply_more (expr_tokens s) (expr_tokens b) rest)
     ∙ reply_again n s b rest c.0 c.1
     ∙ ap (λ (s : Stmt). read_to s rest) (sym (rolls-Reply s b)))
@@ -241,7 +241,7 @@ stmts_again ss zero n rest lt f small = absurd (omega arith)
 stmts_again [] (suc k) n rest lt f small = stmts_closed k (one n) (token.Close ∷ rest) rest refl
 stmts_again (s ∷ ss) (suc k) n rest lt f small =
     let others = all_tokens ss ++ (token.Close ∷ rest) in
-    let fs = both (stmt_fits s.0 n) (all_fit (map stmt_fits (bares ss)) n) f in
+    let fs = and_parts (stmt_fits s.0 n) (all_fit (map stmt_fits (bares ss)) n) f in
     ap (λ (ts : List Token). stmts_in (suc k) (one n) ts) (append_assoc (stmt_tokens s.0) (all_tokens ss) (token.Close ∷ rest))
     ∙ stmts_next k (one n) (stmt_tokens s.0 ++ others) (s.1.goes_on others)
     ∙ one_more k n s.0 (bares ss) (one n (stmt_tokens s.0 ++ others)) others rest

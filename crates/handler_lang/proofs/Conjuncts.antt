@@ -1,12 +1,12 @@
 -- The parts of a conjunction that holds.
 use Rattle.std.proofs.Common.{◌≡◌, Bool, true}
 use Rattle.std.specs.Prelude.{◌&&◌}
-use Rattle.handler_reader.proofs.Binds.{both}
+use Rattle.std.proofs.lemmas.Bool.{and_parts}
 
 pub three : (a b c : Bool) → a && b && c ≡ true → (a ≡ true) × (b ≡ true) × (c ≡ true)
 three a b c h =
-    let k = both (a && b) c h in
-    let m = both a b k.0 in
+    let k = and_parts (a && b) c h in
+    let m = and_parts a b k.0 in
     (m.0, m.1, k.1)
 
 pub five : (a b c d e : Bool) → a && b && c && d && e ≡ true → (a ≡ true) × (b ≡ true) × (c ≡ true) × (d ≡ true) × (e ≡ true)

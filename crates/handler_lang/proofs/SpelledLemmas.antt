@@ -20,7 +20,7 @@ use Rattle.lang_tree.specs.declared.stmt.Block.{Block, roll-Block}
 use Rattle.lang_tree.specs.declared.program.Route.{Route}
 use Rattle.std.proofs.lemmas.Bool.Decides.{nat_tests}
 use Rattle.handler_grammar.specs.Grammar.{block_tokens, expr_tokens, joined, op_token, program_tokens, route_tokens, segment, stmt_tokens}
-use Rattle.handler_reader.proofs.Binds.{and_true, both}
+use Rattle.std.proofs.lemmas.Bool.{and_from, and_parts}
 use Rattle.handler_lang.proofs.Conjuncts.{five, three}
 use Rattle.handler_grammar.proofs.Layers.{block_layer, block_of, expr_layer, expr_layer_fits, expr_layer_tokens, stmt_layer, stmt_layer_fits, stmt_layer_tokens}
 
@@ -58,12 +58,12 @@ again (Expr-F.Var w) = spelled_at (Expr-F.Var w) (roll-Expr (Expr-F.Var w)) refl
 again Expr-F.Nothing = spelled_at Expr-F.Nothing (roll-Expr Expr-F.Nothing) refl (λ n f. (tt, tt))
 again Expr-F.Body = spelled_at Expr-F.Body (roll-Expr Expr-F.Body) refl (λ n f. (tt, tt))
 again Expr-F.Who = spelled_at Expr-F.Who (roll-Expr Expr-F.Who) refl (λ n f. (tt, tt))
-again (Expr-F.Path k) = spelled_at (Expr-F.Path k) (roll-Expr (Expr-F.Path k)) refl (λ n f. (tt, (tt, (segment_natural k (both (nat_le 1 k) (nat_le k 32) f).1, (tt, tt)))))
+again (Expr-F.Path k) = spelled_at (Expr-F.Path k) (roll-Expr (Expr-F.Path k)) refl (λ n f. (tt, (tt, (segment_natural k (and_parts (nat_le 1 k) (nat_le k 32) f).1, (tt, tt)))))
 again (Expr-F.Number e) = spelled_at (Expr-F.Number e.0) (roll-Expr (Expr-F.Number e.0)) refl (λ n f. (tt, (tt, all_append (expr_tokens e.0) (token.Right ∷ []) (e.1.all n f) (tt, tt))))
 again (Expr-F.AsText e) = spelled_at (Expr-F.AsText e.0) (roll-Expr (Expr-F.AsText e.0)) refl (λ n f. (tt, (tt, all_append (expr_tokens e.0) (token.Right ∷ []) (e.1.all n f) (tt, tt))))
 again (Expr-F.Pair l o r) = spelled_at (Expr-F.Pair l.0 o r.0) (roll-Expr (Expr-F.Pair l.0 o r.0)) refl
     (λ n f.
-    let k = both (expr_within l.0 n) (expr_within r.0 n) f in
+    let k = and_parts (expr_within l.0 n) (expr_within r.0 n) f in
     let right : AreSpelled (expr_tokens r.0 ++ (token.Right ∷ [])) = all_append (expr_tokens r.0) (token.Right ∷ []) (r.1.all n k.1) (tt, tt) in
     (tt, all_append (expr_tokens l.0) (op_token o ∷ (expr_tokens r.0 ++ (token.Right ∷ []))) (l.1.all n k.0) (op_spelled o (expr_tokens r.0 ++ (token.Right ∷ [])) right)))
 again (Expr-F.Part a b c) = spelled_at (Expr-F.Part a.0 b.0 c.0) (roll-Expr (Expr-F.Part a.0 b.0 c.0)) refl
@@ -103,7 +103,7 @@ then_end x f = then_expr x (token.Semicolon ∷ []) f (tt, tt)
 stmt_again : (y : Stmt-F S B) → IsSpelledStmt (roll-Stmt (map-Stmt S B Stmt Block (λ e. e.0) (λ e. e.0) y))
 stmt_again (Stmt-F.Let v x) = stmt_spelled_at (Stmt-F.Let v x) (roll-Stmt (Stmt-F.Let v x)) refl
     (λ n f.
-    let k = both (is_word v) (expr_within x 32) f in
+    let k = and_parts (is_word v) (expr_within x 32) f in
     (tt, (k.0, (tt, then_end x k.1))))
 stmt_again (Stmt-F.Get v t k) = stmt_spelled_at (Stmt-F.Get v t k) (roll-Stmt (Stmt-F.Get v t k)) refl
     (λ n f.
@@ -115,7 +115,7 @@ stmt_again (Stmt-F.Put t k x) = stmt_spelled_at (Stmt-F.Put t k x) (roll-Stmt (S
     (tt, (h.0, then_expr k (token.Equals ∷ (expr_tokens x ++ (token.Semicolon ∷ []))) h.1 (tt, then_end x h.2))))
 stmt_again (Stmt-F.Drop t k) = stmt_spelled_at (Stmt-F.Drop t k) (roll-Stmt (Stmt-F.Drop t k)) refl
     (λ n f.
-    let h = both (is_word t) (expr_within k 32) f in
+    let h = and_parts (is_word t) (expr_within k 32) f in
     (tt, (h.0, then_end k h.1)))
 stmt_again (Stmt-F.Each k x t p b) = stmt_spelled_at (Stmt-F.Each k x t p b.0) (roll-Stmt (Stmt-F.Each k x t p b.0)) refl
     (λ n f.
@@ -130,7 +130,7 @@ stmt_again (Stmt-F.Now v) = stmt_spelled_at (Stmt-F.Now v) (roll-Stmt (Stmt-F.No
 stmt_again (Stmt-F.Random v) = stmt_spelled_at (Stmt-F.Random v) (roll-Stmt (Stmt-F.Random v)) refl (λ n f. (tt, (f, (tt, tt))))
 stmt_again (Stmt-F.Reply s b) = stmt_spelled_at (Stmt-F.Reply s b) (roll-Stmt (Stmt-F.Reply s b)) refl
     (λ n f.
-    let h = both (expr_within s 32) (expr_within b 32) f in
+    let h = and_parts (expr_within s 32) (expr_within b 32) f in
     (tt, then_expr s (expr_tokens b ++ (token.Semicolon ∷ [])) h.0 (then_end b h.1)))
 stmt_again (Stmt-F.If x b None) = stmt_spelled_at (Stmt-F.If x b.0 None) (roll-Stmt (Stmt-F.If x b.0 None)) refl
     (λ n f.
@@ -148,7 +148,7 @@ bares ss = map (λ s. s.0) ss
 stmts_spelled : (ss : List S) (n : ℕ) → all_fit (map stmt_fits (bares ss)) n ≡ true → AreSpelled (joined (map stmt_tokens (bares ss)))
 stmts_spelled [] n f = tt
 stmts_spelled (s ∷ ss) n f =
-    let k = both (stmt_fits s.0 n) (all_fit (map stmt_fits (bares ss)) n) f in
+    let k = and_parts (stmt_fits s.0 n) (all_fit (map stmt_fits (bares ss)) n) f in
     all_append (stmt_tokens s.0) (joined (map stmt_tokens (bares ss))) (s.1.all n k.0) (stmts_spelled ss n k.1)
 
 block_spelled_at : (ss : List S) (n : ℕ) → block_fits (block_of (bares ss)) n ≡ true → AreSpelled (block_tokens (block_of (bares ss)))
@@ -170,8 +170,8 @@ visible_literal b h = grind (arith, nat_tests)
 all_literal : (text : List ℕ) → list_all is_visible text ≡ true → list_all is_literal_byte text ≡ true
 all_literal [] h = refl
 all_literal (b ∷ bs) h =
-    let k = both (is_visible b) (list_all is_visible bs) h in
-    and_true (is_literal_byte b) (list_all is_literal_byte bs) (visible_literal b k.0) (all_literal bs k.1)
+    let k = and_parts (is_visible b) (list_all is_visible bs) h in
+    and_from (is_literal_byte b) (list_all is_literal_byte bs) (visible_literal b k.0) (all_literal bs k.1)
 
 shorter : (n : ℕ) → nat_le n 1024 ≡ true → nat_le n 65536 ≡ true
 shorter n h = grind (arith, nat_tests)
@@ -179,7 +179,7 @@ shorter n h = grind (arith, nat_tests)
 path_literal : (text : List ℕ) → is_path text ≡ true → is_literal text ≡ true
 path_literal text h =
     let k = three (starts_with nat_eq text (47 ∷ [])) (nat_le (length text) 1024) (list_all is_visible text) h in
-    and_true (nat_le (length text) 65536) (list_all is_literal_byte text) (shorter (length text) k.1) (all_literal text k.2)
+    and_from (nat_le (length text) 65536) (list_all is_literal_byte text) (shorter (length text) k.1) (all_literal text k.2)
 
 pub fits_spelled : (rs : List Route) → routes_fit rs ≡ true → AreSpelled (program_tokens rs)
 fits_spelled [] f = tt

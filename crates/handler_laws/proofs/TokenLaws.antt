@@ -1,5 +1,5 @@
 -- The laws of readers of a single token.
-use Rattle.std.proofs.Common.{◌≡◌, ℕ, pos, negsuc, suc, Bool, true, false, List, [], ◌∷◌, length, Result, Ok, Err, refl, sym, ap, subst, ◌∙◌, inl, inr}
+use Rattle.std.proofs.Common.{◌≡◌, ℕ, pos, negsuc, suc, Bool, true, false, List, [], ◌∷◌, length, Result, Ok, Err, refl, sym, ap, subst, ◌∙◌, inl, inr, ◌⊎◌}
 use Rattle.std.specs.Prelude.{nat_le, ◌&&◌}
 use Rattle.reader_laws.specs.Reading.{Reader}
 use Rattle.reader_laws.proofs.Laws.{Stopping, Completes, IsMark, LawsAt, Stops, StopsFirst, err_is, laws_end, laws_one, laws_stop, ok_is}
@@ -164,68 +164,60 @@ mark_refused m t ts s stops h =
     let this : Stops by_tokens m (t ∷ ts) (refused (t ∷ ts)) = record { front = []; first = t; back = ts; is = refl; left = refl; always = λ more. stops more ∙ ap (λ z. Err z) (refused_is t more ∙ ap (λ c. record { cause = c; left = suc (length more) }) (sym (same_misfit t ts))) } in
     subst (λ z. Stays m (t ∷ ts) z) (err_is {A = List Token} (refused (t ∷ ts)) s (sym (stops ts) ∙ h)) (inr this, refl)
 
-pub equals_mark : Marks equals_at token.Equals
-equals_mark = record { here = λ ts. refl; took = good; stopped = bad; kept = kept_behind token.Equals } where
-  good : (ts rest : List Token) → equals_at ts ≡ Ok rest → ts ≡ token.Equals ∷ rest
-  good (token.Equals ∷ ts) rest h = ap (λ us. token.Equals ∷ us) (ok_is {E = Stop} ts rest h)
-  good _ rest h = absurd cc
+-- a reader that takes this token, and refuses the end and each other, is its mark
+marks_of : (m : List Token → Result (List Token) Stop) (t : Token) → ((ts : List Token) → m (t ∷ ts) ≡ Ok ts) → m [] ≡ Err (refused [])
+    → ((u : Token) → (u ≡ t) ⊎ ((ts : List Token) → m (u ∷ ts) ≡ Err (refused (u ∷ ts)))) → Marks m t
+marks_of m t takes ends others = record { here = takes; took = good; stopped = bad; kept = kept_behind t } where
+  good_at : (u : Token) (ts rest : List Token) → (u ≡ t) ⊎ ((us : List Token) → m (u ∷ us) ≡ Err (refused (u ∷ us))) → m (u ∷ ts) ≡ Ok rest → u ∷ ts ≡ t ∷ rest
+  good_at u ts rest (inl is) h =
+      let e : ts ≡ rest = ok_is {E = Stop} ts rest (sym (takes ts) ∙ ap (λ v. m (v ∷ ts)) (sym is) ∙ h) in
+      ap (λ v. v ∷ ts) is ∙ ap (λ us. t ∷ us) e
+  good_at u ts rest (inr stops) h = let e = sym (stops ts) ∙ h in absurd cc
 
-  bad : (ts : List Token) (s : Stop) → equals_at ts ≡ Err s → Stays equals_at ts s
-  bad [] s h = mark_ends equals_at s refl h
-  bad (token.Equals ∷ ts) s h = absurd cc
-  bad (t ∷ ts) s h = mark_refused equals_at t ts s (λ us. refl) h
+  good : (ts rest : List Token) → m ts ≡ Ok rest → ts ≡ t ∷ rest
+  good [] rest h = let e = sym ends ∙ h in absurd cc
+  good (u ∷ ts) rest h = good_at u ts rest (others u) h
+
+  bad_at : (u : Token) (ts : List Token) (s : Stop) → (u ≡ t) ⊎ ((us : List Token) → m (u ∷ us) ≡ Err (refused (u ∷ us))) → m (u ∷ ts) ≡ Err s → Stays m (u ∷ ts) s
+  bad_at u ts s (inl is) h = let e = sym (takes ts) ∙ ap (λ v. m (v ∷ ts)) (sym is) ∙ h in absurd cc
+  bad_at u ts s (inr stops) h = mark_refused m u ts s stops h
+
+  bad : (ts : List Token) (s : Stop) → m ts ≡ Err s → Stays m ts s
+  bad [] s h = mark_ends m s ends h
+  bad (u ∷ ts) s h = bad_at u ts s (others u) h
+
+pub equals_mark : Marks equals_at token.Equals
+equals_mark = marks_of equals_at token.Equals (λ ts. refl) refl others where
+  others : (u : Token) → (u ≡ token.Equals) ⊎ ((ts : List Token) → equals_at (u ∷ ts) ≡ Err (refused (u ∷ ts)))
+  others token.Equals = inl refl
+  others u = inr (λ ts. refl)
 
 pub semicolon_mark : Marks semicolon_at token.Semicolon
-semicolon_mark = record { here = λ ts. refl; took = good; stopped = bad; kept = kept_behind token.Semicolon } where
-  good : (ts rest : List Token) → semicolon_at ts ≡ Ok rest → ts ≡ token.Semicolon ∷ rest
-  good (token.Semicolon ∷ ts) rest h = ap (λ us. token.Semicolon ∷ us) (ok_is {E = Stop} ts rest h)
-  good _ rest h = absurd cc
-
-  bad : (ts : List Token) (s : Stop) → semicolon_at ts ≡ Err s → Stays semicolon_at ts s
-  bad [] s h = mark_ends semicolon_at s refl h
-  bad (token.Semicolon ∷ ts) s h = absurd cc
-  bad (t ∷ ts) s h = mark_refused semicolon_at t ts s (λ us. refl) h
+semicolon_mark = marks_of semicolon_at token.Semicolon (λ ts. refl) refl others where
+  others : (u : Token) → (u ≡ token.Semicolon) ⊎ ((ts : List Token) → semicolon_at (u ∷ ts) ≡ Err (refused (u ∷ ts)))
+  others token.Semicolon = inl refl
+  others u = inr (λ ts. refl)
 
 pub comma_mark : Marks comma_at token.Comma
-comma_mark = record { here = λ ts. refl; took = good; stopped = bad; kept = kept_behind token.Comma } where
-  good : (ts rest : List Token) → comma_at ts ≡ Ok rest → ts ≡ token.Comma ∷ rest
-  good (token.Comma ∷ ts) rest h = ap (λ us. token.Comma ∷ us) (ok_is {E = Stop} ts rest h)
-  good _ rest h = absurd cc
-
-  bad : (ts : List Token) (s : Stop) → comma_at ts ≡ Err s → Stays comma_at ts s
-  bad [] s h = mark_ends comma_at s refl h
-  bad (token.Comma ∷ ts) s h = absurd cc
-  bad (t ∷ ts) s h = mark_refused comma_at t ts s (λ us. refl) h
+comma_mark = marks_of comma_at token.Comma (λ ts. refl) refl others where
+  others : (u : Token) → (u ≡ token.Comma) ⊎ ((ts : List Token) → comma_at (u ∷ ts) ≡ Err (refused (u ∷ ts)))
+  others token.Comma = inl refl
+  others u = inr (λ ts. refl)
 
 pub in_mark : Marks in_at token.In
-in_mark = record { here = λ ts. refl; took = good; stopped = bad; kept = kept_behind token.In } where
-  good : (ts rest : List Token) → in_at ts ≡ Ok rest → ts ≡ token.In ∷ rest
-  good (token.In ∷ ts) rest h = ap (λ us. token.In ∷ us) (ok_is {E = Stop} ts rest h)
-  good _ rest h = absurd cc
-
-  bad : (ts : List Token) (s : Stop) → in_at ts ≡ Err s → Stays in_at ts s
-  bad [] s h = mark_ends in_at s refl h
-  bad (token.In ∷ ts) s h = absurd cc
-  bad (t ∷ ts) s h = mark_refused in_at t ts s (λ us. refl) h
+in_mark = marks_of in_at token.In (λ ts. refl) refl others where
+  others : (u : Token) → (u ≡ token.In) ⊎ ((ts : List Token) → in_at (u ∷ ts) ≡ Err (refused (u ∷ ts)))
+  others token.In = inl refl
+  others u = inr (λ ts. refl)
 
 pub left_mark : Marks left_at token.Left
-left_mark = record { here = λ ts. refl; took = good; stopped = bad; kept = kept_behind token.Left } where
-  good : (ts rest : List Token) → left_at ts ≡ Ok rest → ts ≡ token.Left ∷ rest
-  good (token.Left ∷ ts) rest h = ap (λ us. token.Left ∷ us) (ok_is {E = Stop} ts rest h)
-  good _ rest h = absurd cc
-
-  bad : (ts : List Token) (s : Stop) → left_at ts ≡ Err s → Stays left_at ts s
-  bad [] s h = mark_ends left_at s refl h
-  bad (token.Left ∷ ts) s h = absurd cc
-  bad (t ∷ ts) s h = mark_refused left_at t ts s (λ us. refl) h
+left_mark = marks_of left_at token.Left (λ ts. refl) refl others where
+  others : (u : Token) → (u ≡ token.Left) ⊎ ((ts : List Token) → left_at (u ∷ ts) ≡ Err (refused (u ∷ ts)))
+  others token.Left = inl refl
+  others u = inr (λ ts. refl)
 
 pub right_mark : Marks right_at token.Right
-right_mark = record { here = λ ts. refl; took = good; stopped = bad; kept = kept_behind token.Right } where
-  good : (ts rest : List Token) → right_at ts ≡ Ok rest → ts ≡ token.Right ∷ rest
-  good (token.Right ∷ ts) rest h = ap (λ us. token.Right ∷ us) (ok_is {E = Stop} ts rest h)
-  good _ rest h = absurd cc
-
-  bad : (ts : List Token) (s : Stop) → right_at ts ≡ Err s → Stays right_at ts s
-  bad [] s h = mark_ends right_at s refl h
-  bad (token.Right ∷ ts) s h = absurd cc
-  bad (t ∷ ts) s h = mark_refused right_at t ts s (λ us. refl) h
+right_mark = marks_of right_at token.Right (λ ts. refl) refl others where
+  others : (u : Token) → (u ≡ token.Right) ⊎ ((ts : List Token) → right_at (u ∷ ts) ≡ Err (refused (u ∷ ts)))
+  others token.Right = inl refl
+  others u = inr (λ ts. refl)

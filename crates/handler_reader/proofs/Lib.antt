@@ -1,4 +1,3 @@
-pub mod Binds
 pub mod Levels
 pub mod PieceLemmas
 pub mod Loops
