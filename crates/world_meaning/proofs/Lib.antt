@@ -1,0 +1,16 @@
+pub mod Histories
+pub mod ListLemmas
+pub mod NameLemmas
+pub mod SentFacts
+pub mod TakenFacts
+pub mod AnswerFacts
+pub mod MarkFacts
+pub mod RequestFacts
+pub mod EntryFacts
+pub mod ReplayLaws
+pub mod Settled
+pub mod TimelyLaws
+pub mod AnswerLaws
+pub mod ServedLaws
+pub mod CalledLaws
+pub mod LegalLaws

@@ -1,0 +1,109 @@
+-- Where nothing is outstanding, each call of a request that survives has led to one request, which answered it.
+use Rattle.std.proofs.Common.{◌≡◌, ℕ, Bool, true, List, [], ◌∷◌, ◌++◌, Option, Some, None, IsSomeAnd, All, Contains, map, filter, refl, sym, ap, ◌∙◌, subst}
+use Rattle.std.proofs.lemmas.List.Elements.{All-contains, All-map, Contains-append_left}
+use Rattle.lang_core.specs.declared.ids.Origin.TheVariants.{Call}
+use Rattle.lang_core.specs.declared.request.Request.{Request}
+use Rattle.lang_core.specs.declared.trace.CallMade.{CallMade}
+use Rattle.execution.specs.Executions.{Act, History}
+use Rattle.request_log.specs.Entries.{has_id, has_origin}
+use Rattle.request_log.specs.declared.entry.Entry.{Entry}
+use Rattle.request_log.specs.declared.entry.Made.{Made}
+use Rattle.local_repair.specs.Histories.{trace_of, act_of}
+use Rattle.local_repair.specs.Steps.{calls_of_made, answer_or_tentative}
+use Rattle.call_registers.specs.Registers.{register}
+use Rattle.call_registers.specs.declared.register.Register.{Register}
+use Rattle.service_meaning.specs.State.{Kept, me, answers}
+use Rattle.service_meaning.specs.Fits.{Fits, Place, place_of_entry, place_of_flight, places, call_to, call_in, wanted_call, WantsItsCalls}
+use Rattle.call_laws.proofs.PlaceLemmas.{head_of, tail_of}
+use Rattle.entry_laws.proofs.SearchLemmas.{found_all}
+use Rattle.world_meaning.specs.Partners.{service_of}
+use Rattle.world_meaning.specs.Legal.{IsOne, history, histories, history_in, comes_from, Serves, IsServed, AreServed, CallsAreServed}
+use Rattle.world_meaning.proofs.ListLemmas.{some_out, all_from, contains_map, filter_map_is}
+use Rattle.world_meaning.proofs.NameLemmas.{found_by_name, found_history, only_one}
+use Rattle.world_meaning.proofs.EntryFacts.{IsMadeNow, all_made_now, entered}
+use Rattle.world_meaning.proofs.Settled.{AreAtRest, fits_of, quiet_of, settled}
+use Rattle.world_meaning.proofs.AnswerLaws.{consumes}
+
+-- ---- the register of a call
+
+pub record Wanted (registers : List Register) (n : ℕ) (call : CallMade) : Type 0 where
+  pub own : Register
+  pub found : register n registers ≡ Some own
+  pub dest : own.dest ≡ call.dest
+  pub desired : own.desired ≡ Some call.request
+
+call_to_is : (dest : List ℕ) (desired : Option Request) (call : CallMade) → call_to dest desired ≡ Some call → (dest ≡ call.dest) × (desired ≡ Some call.request)
+call_to_is dest None call e = cc
+call_to_is dest (Some q) call e =
+    let same : record { dest = dest; request = q } ≡ call = cc in (ap (λ (c : CallMade). c.dest) same, ap (λ (c : CallMade). Some c.request) same)
+
+wanted_in : (registers : List Register) (n : ℕ) (call : CallMade) (o : Option Register) → register n registers ≡ o → call_in o ≡ Some call → Wanted registers n call
+wanted_in registers n call None is e = cc
+wanted_in registers n call (Some r) is e =
+    let parts = call_to_is r.dest r.desired call e in record { own = r; found = is; dest = parts.0; desired = parts.1 }
+
+pub wanted : (registers : List Register) (n : ℕ) (call : CallMade) → wanted_call registers n ≡ Some call → Wanted registers n call
+wanted registers n call e = wanted_in registers n call (register n registers) refl e
+
+-- the calls of an entry are wanted under its numbers
+pub wants_calls : (s : Kept) → Fits s → (e : Entry) → Contains s.entries e → map (wanted_call s.registers) e.slots ≡ map Some (calls_of_made e.made)
+wants_calls s fits e has =
+    All-contains (WantsItsCalls s.registers) (places s) (place_of_entry e) fits.places.calls
+    (Contains-append_left (map place_of_entry s.entries) (map place_of_flight s.flights) (place_of_entry e) (contains_map place_of_entry s.entries e has))
+
+module _ (services : List Kept) (h : AreAtRest services) where
+  module _ (s : Kept) (here : service_of (me s) services ≡ Some s) where
+    -- a call that is wanted is served
+    served_call : (n : ℕ) (call : CallMade) → wanted_call s.registers n ≡ Some call → IsServed (histories services) (me s) n call (answers s n)
+    served_call n call e =
+        let w = wanted s.registers n call e in
+        let r = w.own in
+        let z = settled services h s here n r w.found in
+        let t = z.callee in
+        let fits = fits_of services h.together r.dest t z.there in
+        let quiet = quiet_of services h r.dest t z.there in
+        let x = entered t fits (me s) n z.last z.taken call.request (z.desired ∙ w.desired) in
+        let made = some_out (x.entry).made (IsMadeNow x.entry)
+        (found_all (λ y. IsSomeAnd y.made (IsMadeNow y)) (has_id (x.entry).id) t.entries x.entry (all_made_now (answers t) [] t.entries quiet.current) x.by_id) in
+        let consumed_is = consumes services h s here n r w.found z call.request w.desired x made.0 made.1 (made.2).version in
+        let found : history_in call.dest (histories services) ≡ Some (history t) =
+        ap (λ d. history_in d (histories services)) (sym w.dest) ∙ found_history r.dest services t z.there in
+        let only : filter (comes_from (me s) n) (history t).acts ≡ act_of (answers t) x.entry ∷ [] =
+        filter_map_is (comes_from (me s) n) (act_of (answers t)) t.entries ∙ ap (map (act_of (answers t))) (only_one (me s) n t.entries x.entry fits.asked.distinct x.found) in
+        let response : (made.0).trace.response ≡ answers s n = sym (ap answer_or_tentative consumed_is) in
+        let serves : Serves call (answers s n) (act_of (answers t) x.entry) = record {
+          wanted = x.wanted;
+          request = x.request;
+          response = subst (λ o. IsSomeAnd (trace_of o) (λ y. y.response ≡ answers s n)) (sym made.1) response;
+        } in
+        subst (λ o. IsSomeAnd o (λ y. IsOne (Serves call (answers s n)) (filter (comes_from (me s) n) y.acts))) (sym found)
+        (subst (IsOne (Serves call (answers s n))) (sym only) serves)
+
+    served_calls : (ns : List ℕ) (cs : List CallMade) → map (wanted_call s.registers) ns ≡ map Some cs
+        → AreServed (histories services) (me s) ns cs (map (answers s) ns)
+    served_calls [] [] e = tt
+    served_calls [] (c ∷ cs) e = cc
+    served_calls (n ∷ ns) [] e = cc
+    served_calls (n ∷ ns) (c ∷ cs) e = (
+      served_call n c (head_of (wanted_call s.registers n) (Some c) (map (wanted_call s.registers) ns) (map Some cs) e),
+      served_calls ns cs (tail_of (wanted_call s.registers n) (Some c) (map (wanted_call s.registers) ns) (map Some cs) e),
+    )
+
+    served_by : (e : Entry) (o : Option Made) → IsSomeAnd o (IsMadeNow e) → AreServed (histories services) (me s) e.slots (calls_of_made o) (map (answers s) e.slots)
+        → IsSomeAnd (trace_of o) (λ t. AreServed (histories services) (me s) e.slots t.calls (map (answers s) e.slots))
+    served_by e None made h = absurd made
+    served_by e (Some m) made h = h
+
+    served_entry : (e : Entry) → Contains s.entries e → CallsAreServed (histories services) (history s) (act_of (answers s) e)
+    served_entry e has alive =
+        served_by e e.made
+        (All-contains (λ y. IsSomeAnd y.made (IsMadeNow y)) s.entries e (all_made_now (answers s) [] s.entries (quiet_of services h (me s) s here).current) has)
+        (served_calls e.slots (calls_of_made e.made) (wants_calls s (fits_of services h.together (me s) s here) e has))
+
+  pub all_served : All (λ y. All (CallsAreServed (histories services) y) y.acts) (histories services)
+  all_served =
+      All-map (λ y. All (CallsAreServed (histories services) y) y.acts) history services
+      (all_from (λ s. All (CallsAreServed (histories services) (history s)) (history s).acts) services (λ s has.
+      All-map (CallsAreServed (histories services) (history s)) (act_of (answers s)) s.entries
+      (all_from (λ e. CallsAreServed (histories services) (history s) (act_of (answers s) e)) s.entries
+      (served_entry s (found_by_name services h.together.differ s has)))))

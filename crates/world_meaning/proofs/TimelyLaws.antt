@@ -1,0 +1,56 @@
+-- Joined services hold no answer to a version of a call that they haven't sent yet.
+use Rattle.std.proofs.Common.{◌≡◌, ℕ, ◌<◌, ◌≤◌, List, [], ◌∷◌, Option, Some, None, IsSomeAnd, IfSome, All, Contains, option_map, subst, sym, ap, refl, arith, ◌∙◌}
+use Rattle.std.proofs.lemmas.List.Elements.{All-contains}
+use Rattle.lang_core.specs.declared.ids.Origin.TheVariants.{Call}
+use Rattle.journal_rows.specs.Words.{last_sent, seen_acked, last_seen, last_taken, version_in, taken_version}
+use Rattle.journal_rows.specs.declared.callee.TookRow.{TookRow}
+use Rattle.journal_rows.specs.declared.caller.SawAnswerRow.{SawAnswerRow}
+use Rattle.journal_rows.specs.declared.row.Row.{Row}
+use Rattle.journal_rows.specs.declared.row.Row.TheVariants.{Took, Sent, SawAnswer}
+use Rattle.call_registers.specs.Registers.{register}
+use Rattle.call_registers.specs.declared.register.Answer.{Answer}
+use Rattle.call_registers.specs.declared.register.Register.{Register}
+use Rattle.service_meaning.specs.State.{Kept, me}
+use Rattle.service_meaning.specs.Fits.{answer_of}
+use Rattle.call_laws.proofs.FittingLemmas.{IsTimely}
+use Rattle.world_meaning.specs.Partners.{service_of, JournalOfDest, HasAnswered}
+use Rattle.world_meaning.proofs.NameLemmas.{found_by_name}
+use Rattle.world_meaning.proofs.SentFacts.{seen_from}
+use Rattle.world_meaning.proofs.TakenFacts.{answered_taken}
+use Rattle.world_meaning.proofs.Settled.{AreTogether, fits_of, partner, has_seen, at_dest, taken_sent}
+
+module _ (services : List Kept) (h : AreTogether services) (s : Kept) (here : service_of (me s) services ≡ Some s) where
+  module _ (n : ℕ) (r : Register) (found : register n s.registers ≡ Some r) where
+    -- a version that was taken is at most the register's
+    at_most : (t : Kept) → service_of r.dest services ≡ Some t → (o : Option TookRow) → last_taken (me s) n t.journal ≡ o → version_in o ≤ r.version
+    at_most t there None took = omega arith
+    at_most t there (Some last) took = (taken_sent services h s here n r found t there last took).version
+
+    seen_on_time : (a : SawAnswerRow) → a.number ≡ n → Contains s.journal (SawAnswer a) → a.version ≤ r.version
+    seen_on_time a of has =
+        let At : ℕ → Type 0 = λ m. JournalOfDest services s m (HasAnswered (me s) m a.answer_version a.version a.response) in
+        let dest = at_dest services h s here n r found (HasAnswered (me s) n a.answer_version a.version a.response)
+        (subst At of (partner services h (me s) s here (SawAnswer a) has)) in
+        let t = dest.0 in
+        let row = dest.2 in
+        let fits = fits_of services h r.dest t dest.1 in
+        let taken = answered_taken (me s) n
+        (record { id = row.0; origin = Call (me s) n; answer_version = a.answer_version; version = a.version; response = a.response; live = row.1 }) t.journal refl
+        fits.taken row.2 in
+        let most = at_most t dest.1 (last_taken (me s) n t.journal) refl in
+        omega (arith, taken, most)
+
+    on_time_by : (o : Option SawAnswerRow) → IfSome o (λ a. (a.number ≡ n) × Contains s.journal (SawAnswer a)) → IfSome (option_map answer_of o) (λ a. a.version ≤ r.version)
+    on_time_by None from = tt
+    on_time_by (Some a) from = seen_on_time a from.0 from.1
+
+    on_time : IfSome r.answer (λ a. a.version ≤ r.version)
+    on_time =
+        subst (λ o. IfSome o (λ a. a.version ≤ r.version)) (sym (has_seen services h s here n r found).answer) (on_time_by (last_seen n s.journal) (seen_from n s.journal))
+
+  each_on_time : (n : ℕ) (o : Option Register) → register n s.registers ≡ o → IfSome o (λ r. IfSome r.answer (λ a. a.version ≤ r.version))
+  each_on_time n None is = tt
+  each_on_time n (Some r) is = on_time n r is
+
+  pub timely : IsTimely s.registers
+  timely n = each_on_time n (register n s.registers) refl
