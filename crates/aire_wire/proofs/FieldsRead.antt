@@ -19,7 +19,8 @@ use Rattle.peer_seal.specs.Seal.{seal_digits}
 use Rattle.repair_messages.specs.declared.messages.AnswerMessage.{AnswerMessage}
 use Rattle.repair_messages.specs.declared.messages.SetMessage.{SetMessage}
 use Rattle.request_names.specs.Ids.{id_text}
-use Rattle.wire_fields.specs.Forms.{has_form, id_of}
+use Rattle.request_names.specs.Ids.{id_of}
+use Rattle.wire_fields.specs.Forms.{has_form}
 use Rattle.wire_fields.specs.Rows.{field_refusal, first_of, text_at}
 use Rattle.wire_fields.specs.Secrets.{has_name}
 use Rattle.wire_fields.specs.declared.refused.WireRefused.{WireRefused}

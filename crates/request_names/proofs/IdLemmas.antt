@@ -27,10 +27,10 @@ none_fails p i [] all = refl
 none_fails p i (x ∷ xs) all = passes_on (p x) i (list_all p xs) (position_from (λ y. not (p y)) (i + 1) xs) all (none_fails p (i + 1) xs)
 
 -- a name has no slash
-no_slash : (b : ℕ) → is_name_byte b ≡ true → (b == 47) ≡ false
+pub no_slash : (b : ℕ) → is_name_byte b ≡ true → (b == 47) ≡ false
 no_slash b is = grind (arith, nat_tests)
 
-three_hold : (a b c : Bool) → (a && b) && c ≡ true → (a ≡ true) × (b ≡ true) × (c ≡ true)
+pub three_hold : (a b c : Bool) → (a && b) && c ≡ true → (a ≡ true) × (b ≡ true) × (c ≡ true)
 three_hold true true true h = (refl, refl, refl)
 three_hold true true false h = cc
 three_hold true false c h = cc
@@ -64,7 +64,7 @@ well_begun [] some first = absurd (omega arith)
 well_begun (d ∷ []) some first = refl
 well_begun (d ∷ e ∷ ds) some first = grind (arith, nat_tests)
 
-read_decimal : (n : ℕ) → 0 < n → n < 2 ^ 64 → number_of (decimal n) ≡ Some n
+pub read_decimal : (n : ℕ) → 0 < n → n < 2 ^ 64 → number_of (decimal n) ≡ Some n
 read_decimal n from_one small =
     let digits : list_all is_ascii_digit (decimal n) ≡ true = digits_decimal own n small in
     let well : begins_well (decimal n) ≡ true = well_begun (decimal n) (decimal_nonempty n small) (first_decimal n from_one small) in

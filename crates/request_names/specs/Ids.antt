@@ -1,6 +1,7 @@
 -- Names of requests and calls: the name of a service, a slash and a number from 1.
 use Rattle.std.specs.Prelude.{ℕ, List, ◌++◌, Option, Some, None, Result, Ok, Err, if◌then◌else◌, nat_eq, nat_lt, ◌==◌, length, codes, decimal}
 use Rattle.std.specs.List.{position_or_len, before_first, after_first}
+use Rattle.std.specs.Result.{result_ok}
 use Rattle.request_names.specs.Names.{refusal}
 use Rattle.request_names.specs.Numbers.{number_of}
 use Rattle.request_names.specs.declared.names.NameRefused.{NameRefused}
@@ -30,6 +31,10 @@ parts_at (Some parts) = pair_of parts.0 (refusal parts.0) (from_one (number_of p
 -- the service and the number that a text names, or why it names none
 abbrev pub id_at : List ℕ → Result (List ℕ × ℕ) NameRefused
 id_at text = if nat_eq (length text) 0 then Err Empty else parts_at (parts_of text)
+
+-- the same, where nothing is said of why
+abbrev pub id_of : List ℕ → Option (List ℕ × ℕ)
+id_of text = result_ok (id_at text)
 
 -- how the two are written
 abbrev pub id_text : List ℕ → ℕ → List ℕ

@@ -1,7 +1,8 @@
 // Names of requests and calls.
-ghost use Rattle.std.specs.Prelude.{◌≡◌, ◌<◌, ◌++◌, Ok, OnOk, OnErr, IfOk, IfErr, IsOk, string_bytes};
+ghost use Rattle.std.specs.Prelude.{◌≡◌, ◌<◌, ◌++◌, None, Ok, Err, OnOk, OnErr, IfOk, IfErr, IsOk, string_bytes};
 ghost use Rattle.std.specs.Option.{option_map};
-ghost use Rattle.request_names.specs.Ids.{from_one, id_at, id_text, parts_of};
+ghost use Rattle.request_names.specs.Ids.{from_one, id_at, id_of, id_text, parts_of};
+ghost use Rattle.request_names.specs.Names.{refusal};
 ghost use Rattle.request_names.specs.Numbers.{number_of};
 
 use crate::names::{NameRefused, good_name, refusal};
@@ -24,11 +25,11 @@ fn number_from_one(digits: &str) -> Result<u64, NameRefused>
     }
 }
 
-// The service and the number, for requests and calls alike.
-fn read_id(alloc: Global, text: &str) -> Result<(Name, u64), NameRefused>
-    ensures id { IfOk result (λ id. id_at text.now ≡ Ok id) }
-    ensures refused { IfErr (id_at text.now) (λ why. result ≡ Err why) }
-    ensures memory { IsOk (id_at text.now) → OnErr result (result ≡ Err NameRefused.NoMemory) }
+// The service and the number that a text names, lent from it; or why it names none.
+fn parts_in(text: &str) -> Result<(&str, u64), NameRefused>
+    ensures id { IfOk result (λ id. id_at text.now ≡ Ok (id.0.now, id.1)) }
+    ensures refused { IfErr result (λ why. id_at text.now ≡ Err why) }
+    ensures good { IfOk result (λ id. refusal id.0.now ≡ None) }
 {
     if text.is_empty() {
         return Err(NameRefused::Empty);
@@ -39,9 +40,35 @@ fn read_id(alloc: Global, text: &str) -> Result<(Name, u64), NameRefused>
     if let Some(why) = refusal(name) {
         return Err(why);
     }
-    let number = number_from_one(digits)?;
-    let service = good_name(alloc, name)?;
-    Ok((service, number))
+    match number_from_one(digits) {
+        Ok(number) => Ok((name, number)),
+        Err(why) => Err(why),
+    }
+}
+
+/// The service and the number that a text names, lent from it, if it is the name of a request or a call.
+pub fn id_of(text: &str) -> Option<(&str, u64)>
+    ensures { option_map (λ id. (id.0.now, id.1)) result ≡ id_of text.now }
+{
+    match parts_in(text) {
+        Ok(id) => Some(id),
+        Err(_) => None,
+    }
+}
+
+// The same with the service as a name, for requests and calls alike.
+fn read_id(alloc: Global, text: &str) -> Result<(Name, u64), NameRefused>
+    ensures id { IfOk result (λ id. id_at text.now ≡ Ok id) }
+    ensures refused { IfErr (id_at text.now) (λ why. result ≡ Err why) }
+    ensures memory { IsOk (id_at text.now) → OnErr result (result ≡ Err NameRefused.NoMemory) }
+{
+    match parts_in(text) {
+        Ok((name, number)) => {
+            let service = good_name(alloc, name)?;
+            Ok((service, number))
+        }
+        Err(why) => Err(why),
+    }
 }
 
 /// The request that a text names: a service's name, a slash, and a number from 1 in decimal, or why it names none.

@@ -1,5 +1,5 @@
 -- Names, numbers and ids as they are written are of the form that they are read in, and read back.
-use Rattle.std.proofs.Common.{◌≡◌, ℕ, zero, suc, ◌<◌, ◌^◌, Bool, true, false, ◌&&◌, not, List, [], ◌∷◌, ◌++◌, Some, length, get_or, decimal, nat_eq, nat_lt, nat_le, ◌==◌, refl, arith, length-append}
+use Rattle.std.proofs.Common.{◌≡◌, ℕ, zero, suc, ◌<◌, ◌^◌, Bool, true, false, ◌&&◌, not, List, [], ◌∷◌, ◌++◌, Some, length, get_or, decimal, nat_eq, nat_lt, nat_le, ◌==◌, refl, ap, arith, length-append}
 use Rattle.std.specs.Char.{is_ascii_digit}
 use Rattle.std.specs.List.{list_all, position_or_len}
 use Rattle.std.specs.Str.{is_utf8, IsAscii}
@@ -10,10 +10,11 @@ use Rattle.std.proofs.lemmas.Str.{IsAscii-append, IsUtf8-from_ascii, is_utf8-fro
 use Rattle.std.proofs.lemmas.Str.Ascii.{IsAscii-cons, IsAscii-nil}
 use Rattle.lang_core.specs.Names.{is_name, is_name_byte}
 use Rattle.request_names.proofs.Parsed.{own}
-use Rattle.request_names.specs.Ids.{id_text, parts_of}
+use Rattle.request_names.specs.Ids.{id_of, id_text}
 use Rattle.lang_base.specs.Characters.{digits_value}
 use Rattle.request_names.specs.Numbers.{begins_well, number_of}
-use Rattle.wire_fields.specs.Forms.{id_of}
+use Rattle.std.specs.Result.{result_ok}
+use Rattle.request_names.proofs.IdLemmas.{no_slash, read_decimal, reads_back, three_hold}
 
 pub both_hold : (a b : Bool) → a && b ≡ true → (a ≡ true) × (b ≡ true)
 both_hold true b h = (refl, h)
@@ -53,20 +54,11 @@ place_nowhere p c other (b ∷ bs) all =
 
 -- ---- names
 
-three_hold : (a b c : Bool) → (a && b) && c ≡ true → (a ≡ true) × (b ≡ true) × (c ≡ true)
-three_hold true true true h = (refl, refl, refl)
-three_hold true true false h = cc
-three_hold true false c h = cc
-three_hold false b c h = cc
-
 name_bytes : (name : List ℕ) → is_name name ≡ true → list_all is_name_byte name ≡ true
 name_bytes name is = (three_hold (not (nat_eq (length name) 0)) (nat_le (length name) 32) (list_all is_name_byte name) is).2
 
 name_byte_small : (b : ℕ) → is_name_byte b ≡ true → b < 128
 name_byte_small b is = grind (arith, nat_tests)
-
-no_slash : (b : ℕ) → is_name_byte b ≡ true → (b == 47) ≡ false
-no_slash b is = grind (arith, nat_tests)
 
 pub name_ascii : (name : List ℕ) → is_name name ≡ true → IsAscii name
 name_ascii name is = ascii_by is_name_byte name_byte_small name (name_bytes name is)
@@ -85,39 +77,17 @@ decimal_ascii n small = ascii_by is_ascii_digit digit_small (decimal n) (digits_
 pub decimal_utf8 : (n : ℕ) → n < 2 ^ 64 → is_utf8 (decimal n) ≡ true
 decimal_utf8 n small = utf8_of_ascii (decimal n) (decimal_ascii n small)
 
-well_begun : (digits : List ℕ) → 0 < length digits → 48 < get_or digits 0 0 → begins_well digits ≡ true
-well_begun [] some first = absurd (omega arith)
-well_begun (d ∷ []) some first = refl
-well_begun (d ∷ e ∷ ds) some first = grind (arith, nat_tests)
-
--- the digits of a number from 1 spell it
-positive_back : (n : ℕ) → 0 < n → n < 2 ^ 64 → number_of (decimal n) ≡ Some n
-positive_back n from_one small =
-    let digits : list_all is_ascii_digit (decimal n) ≡ true = digits_decimal own n small in
-    let well : begins_well (decimal n) ≡ true = well_begun (decimal n) (decimal_nonempty n small) (first_decimal n from_one small) in
-    let value : digits_value (decimal n) ≡ n = digits_value-decimal own n small in
-    let fits : nat_lt n (2 ^ 64) ≡ true = grind (arith, nat_tests) in
-    rw (digits, well, value, fits) refl
-
 zero_back : number_of (decimal 0) ≡ Some 0
 zero_back = rw (decimal_digit 0 (omega arith)) refl
 
 pub number_back : (n : ℕ) → n < 2 ^ 64 → number_of (decimal n) ≡ Some n
 number_back zero small = zero_back
-number_back (suc n) small = positive_back (suc n) (omega arith) small
+number_back (suc n) small = read_decimal (suc n) (omega arith) small
 
 -- ---- ids
 
-cut_parts : (name digits : List ℕ) → list_all is_name_byte name ≡ true → parts_of (name ++ 47 ∷ digits) ≡ Some (name, digits)
-cut_parts name digits all =
-    let at = place_past is_name_byte 47 no_slash name digits all refl in
-    let inside : nat_lt (length name) (length (name ++ 47 ∷ digits)) ≡ true = grind (arith, nat_tests, length-append) in
-    rw (at, inside, take-append_seam name (47 ∷ digits), drop-append-add name (47 ∷ digits) 1) refl
-
 pub id_back : (name : List ℕ) (n : ℕ) → is_name name ≡ true → 0 < n → n < 2 ^ 64 → id_of (id_text name n) ≡ Some (name, n)
-id_back name n is from_one small =
-    let there : nat_eq n 0 ≡ false = grind (arith, nat_tests) in
-    rw (cut_parts name (decimal n) (name_bytes name is), is, positive_back n from_one small, there) refl
+id_back name n is from_one small = ap result_ok (reads_back name n is from_one small)
 
 pub id_utf8 : (name : List ℕ) (n : ℕ) → is_name name ≡ true → n < 2 ^ 64 → is_utf8 (id_text name n) ≡ true
 id_utf8 name n is small =

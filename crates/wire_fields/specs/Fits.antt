@@ -6,7 +6,7 @@ use Rattle.http_header.specs.HeaderMap.{Entries}
 use Rattle.http_front.specs.declared.header.AireHeader.{AireHeader}
 use Rattle.http_front.specs.declared.header.AireHeader.TheVariants as headers
 use Rattle.request_names.specs.Numbers.{number_of}
-use Rattle.wire_fields.specs.Forms.{id_of}
+use Rattle.request_names.specs.Ids.{id_of}
 use Rattle.wire_fields.specs.Rows.{text_at}
 use Rattle.wire_fields.specs.declared.refused.WireRefused.{WireRefused}
 use Rattle.wire_fields.specs.declared.refused.WireRefused.TheVariants.{NoMemory, BadHeader, MissingHeader, UnknownKind, Seal}

@@ -5,7 +5,7 @@ use Rattle.std.specs.Option.{is_some}
 use Rattle.lang_core.specs.Names.{is_name, is_who}
 use Rattle.lang_base.specs.Characters.{is_digit}
 use Rattle.lang_tree.specs.Forms.{is_path, is_text}
-use Rattle.request_names.specs.Ids.{parts_of}
+use Rattle.request_names.specs.Ids.{id_of}
 use Rattle.request_names.specs.Numbers.{number_of}
 use Rattle.repair_messages.specs.declared.kinds.Kind.{Kind}
 use Rattle.repair_messages.specs.declared.kinds.Kind.TheVariants.{Create, Replace, Delete, ReplaceResponse}
@@ -13,20 +13,6 @@ use Rattle.lang_tree.specs.Methods.{method_named}
 use Rattle.http_front.specs.declared.header.AireHeader.{AireHeader}
 use Rattle.http_front.specs.declared.header.AireHeader.TheVariants.{From, Dest, RequestId, ResponseId, NotifierUrl, Repair, Version, AnswerVersion, Who, Method, Path, RequestWho, Chain, Before, After, Status, Refused, Seal}
 use Rattle.wire_fields.specs.Words.{refusal_of}
-
--- ---- ids: a service, a slash, and a number from 1
-
-abbrev pub numbered : List ℕ → Option ℕ → Option (List ℕ × ℕ)
-numbered service None = None
-numbered service (Some n) = if nat_eq n 0 then None else Some (service, n)
-
-abbrev pub id_with : Option (List ℕ × List ℕ) → Option (List ℕ × ℕ)
-id_with None = None
-id_with (Some parts) = if is_name parts.0 then numbered parts.0 (number_of parts.1) else None
-
--- the service and the number that a text names
-abbrev pub id_of : List ℕ → Option (List ℕ × ℕ)
-id_of text = id_with (parts_of text)
 
 -- ---- words
 

@@ -3,13 +3,12 @@ ghost use Rattle.std.specs.Prelude.{◌≡◌, IfOk};
 ghost use Rattle.wire_fields.specs.Fits.{bad_unless, dest_refusal, number_in, service_in, side_refusal, version_at};
 ghost use Rattle.wire_fields.specs.Rows.{first_of};
 
-use crate::forms::id_of;
 use crate::refused::WireRefused;
 use crate::rows::text_at;
 use http_front::AireHeader;
 use http_header::HeaderMap;
 use lang_core::{Name, NoMemory, Text};
-use request_names::read_number;
+use request_names::{id_of, read_number};
 use std::alloc::Global;
 
 /// The service of an id, empty where the text names none.

@@ -1,17 +1,15 @@
 // The forms of header fields.
 ghost use Rattle.std.specs.Prelude.{◌≡◌, ◌==◌};
 ghost use Rattle.std.specs.List.{list_all, position};
-ghost use Rattle.std.specs.Option.{option_map};
 ghost use Rattle.lang_core.specs.Names.{is_name, is_who};
 ghost use Rattle.lang_tree.specs.Forms.{is_path};
-ghost use Rattle.request_names.specs.Ids.{parts_of};
-ghost use Rattle.wire_fields.specs.Forms.{has_form, id_of, is_chain, is_notifier, is_seal, is_seal_digit, kind_named, status_of};
+ghost use Rattle.wire_fields.specs.Forms.{has_form, is_chain, is_notifier, is_seal, is_seal_digit, kind_named, status_of};
 
 use crate::words::refusal_of;
 use http_front::AireHeader;
 use lang_core::{LONGEST_PATH, LONGEST_WHO, all_visible, is_name, method_named};
 use repair_messages::Kind;
-use request_names::read_number;
+use request_names::{id_of, read_number};
 
 fn is_who(bytes: &[u8]) -> bool
     ensures { result ≡ is_who bytes.now }
@@ -23,28 +21,6 @@ fn is_path(bytes: &[u8]) -> bool
     ensures { result ≡ is_path bytes.now }
 {
     bytes.starts_with(b"/") && bytes.len() as u64 <= LONGEST_PATH && all_visible(bytes)
-}
-
-fn cut_slash(text: &str) -> Option<(&str, &str)>
-    ensures { option_map (λ parts. (parts.0.now, parts.1.now)) result ≡ parts_of text.now }
-{
-    text.split_once('/')
-}
-
-/// The service and the number that a text names.
-pub fn id_of(text: &str) -> Option<(&str, u64)>
-    ensures { option_map (λ id. (id.0.now, id.1)) result ≡ id_of text.now }
-{
-    let Some((service, digits)) = cut_slash(text) else {
-        return None;
-    };
-    if !is_name(service.as_bytes()) {
-        return None;
-    }
-    match read_number(digits) {
-        None | Some(0) => None,
-        Some(number) => Some((service, number)),
-    }
 }
 
 /// The kind of a message that has this word.

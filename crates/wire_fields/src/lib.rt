@@ -16,7 +16,7 @@ pub use console::{ConsoleRequest, ConsoleWord, console_word};
 pub use fits::{
     bad_unless, dest_refusal, first_of, name_of, number_in, service_in, side_refusal, version_at,
 };
-pub use forms::{has_form, id_of, kind_named, status_of};
+pub use forms::{has_form, kind_named, status_of};
 pub use kinds::{RequestKind, request_kind};
 pub use refused::WireRefused;
 pub use rows::{
