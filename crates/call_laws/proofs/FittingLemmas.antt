@@ -213,10 +213,13 @@ wanted_from : (now : List Register) (n : ℕ) (o : CallMade) (found : Option Reg
 wanted_from now n o None is e = cc
 wanted_from now n o (Some r) is e = let parts = call_parts r.dest r.desired o e in record { made = r; found = is; dest = parts.0; desired = parts.1 }
 
+pub wanted_by : (now : List Register) (n : ℕ) (o : CallMade) → wanted_call now n ≡ Some o → Wanted now n o
+wanted_by now n o e = wanted_from now n o (register n now) refl e
+
 pub wanted_at : (now : List Register) (n : ℕ) (o : CallMade) (ps : List Place) → FitsPlaces now (place (n ∷ []) (o ∷ []) ∷ ps) → Wanted now n o
 wanted_at now n o ps f =
     let each = each_of_all (WantsItsCalls now) (place (n ∷ []) (o ∷ []) ∷ ps) f.calls in
-    wanted_from now n o (register n now) refl (head_of (wanted_call now n) (Some o) [] [] each.0)
+    wanted_by now n o (head_of (wanted_call now n) (Some o) [] [] each.0)
 
 pub record Resent (b : Book) (s : SentRow) (p : Place) (ps : List Place) : Type 0 where
   pub fits : Fitting (entered (Sent s ∷ []) b) (p ∷ ps)

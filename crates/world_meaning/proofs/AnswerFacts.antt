@@ -1,14 +1,13 @@
 -- What follows of the rows on entries' answers.
-use Rattle.std.proofs.Common.{◌≡◌, ℕ, ◌+◌, ◌<◌, ◌≤◌, Bool, true, false, cond, List, [], ◌∷◌, ◌++◌, Option, Some, None, IfSome, IsSomeAnd, Contains, nat_eq, subst, sym, refl, arith, ◌∙◌, eqb-true, eq-eqb}
-use Rattle.std.proofs.lemmas.Bool.{cond_both, cond-true}
-use Rattle.std.proofs.lemmas.List.Elements.{Contains-push, Contains-append_left}
-use Rattle.journal_rows.specs.Words.{first_asked, asked_step, asked, answered_step, last_answered, given_version}
+use Rattle.std.proofs.Common.{◌≡◌, ℕ, ◌+◌, ◌<◌, ◌≤◌, List, [], Option, Some, None, IfSome, IsSomeAnd, Contains, nat_eq, inl, inr, subst, refl, arith, eqb-true, eq-eqb}
+use Rattle.std.proofs.lemmas.Bool.{cases_Bool, cond_both, cond-true, cond-false}
+use Rattle.journal_rows.specs.Words.{asked_step, asked, answered_step, last_answered, given_version}
 use Rattle.journal_rows.specs.declared.callee.AnsweredRow.{AnsweredRow}
 use Rattle.journal_rows.specs.declared.callee.AskedRow.{AskedRow}
 use Rattle.journal_rows.specs.declared.row.Row.{Row}
 use Rattle.journal_rows.specs.declared.row.Row.TheVariants.{Asked, Answered}
 use Rattle.service_meaning.specs.Fits.{EachAfter, AnswersOn}
-use Rattle.world_meaning.proofs.Histories.{word_from, once_come}
+use Rattle.world_meaning.proofs.Histories.{once_come, Sets, last_from}
 
 -- ---- the answers of an entry
 
@@ -47,21 +46,16 @@ given_positive a journal h has =
 
 -- ---- the last answer
 
-abbrev pub GivenFrom : ℕ → List Row → Option AnsweredRow → Type 0
-GivenFrom id journal last = IfSome last (λ a. (a.id ≡ id) × Contains journal (Answered a))
+given_sets : (id : ℕ) (last : Option AnsweredRow) (row : Row) → Sets Answered (λ a. a.id ≡ id) last row (answered_step id last row)
+given_sets id last (Answered a) = elim (cases_Bool (nat_eq a.id id)) [
+  | inl is ↦ inr (a, refl, cond-true (nat_eq a.id id) (Some a) last is, eqb-true a.id id is)
+  | inr other ↦ inl (cond-false (nat_eq a.id id) (Some a) last other)
+]
+given_sets id last row = inl refl
 
-from_stays : (id : ℕ) (before : List Row) (row : Row) (last : Option AnsweredRow) → GivenFrom id before last → GivenFrom id (before ++ row ∷ []) last
-from_stays id before row None q = tt
-from_stays id before row (Some a) q = (q.0, Contains-append_left before (row ∷ []) _ q.1)
-
-from_more : (id : ℕ) (before : List Row) (row : Row) (last : Option AnsweredRow) → GivenFrom id before last → GivenFrom id (before ++ row ∷ []) (answered_step id last row)
-from_more id before (Answered a) last q =
-    cond_both (nat_eq a.id id) (Some a) last (GivenFrom id (before ++ Answered a ∷ []))
-    (λ e. (eqb-true a.id id e, Contains-push before (Answered a))) (λ _. from_stays id before (Answered a) last q)
-from_more id before row last q = from_stays id before row last q
-
-pub given_from : (id : ℕ) (journal : List Row) → GivenFrom id journal (last_answered id journal)
-given_from id journal = word_from (answered_step id) None (GivenFrom id) tt (from_more id) journal
+-- it is of this entry, and was given
+pub given_from : (id : ℕ) (journal : List Row) → IfSome (last_answered id journal) (λ a. (a.id ≡ id) × Contains journal (Answered a))
+given_from id journal = last_from Answered (λ a. a.id ≡ id) (answered_step id) (given_sets id) journal
 
 -- ---- how an entry was made
 

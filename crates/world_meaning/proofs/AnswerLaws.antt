@@ -1,10 +1,8 @@
 -- Where nothing is outstanding, what a call consumes is the response of its entry.
-use Rattle.std.proofs.Common.{◌≡◌, ℕ, ◌<◌, ◌≤◌, Bool, true, false, ◌&&◌, not, List, [], ◌∷◌, Option, Some, None, IsSomeAnd, IfSome, Contains, find, nat_eq, option_map, subst, sym, ap, refl, arith, ◌∙◌, eqb-true, eq-eqb}
+use Rattle.std.proofs.Common.{◌≡◌, ℕ, ◌<◌, ◌≤◌, Bool, true, false, ◌&&◌, not, List, Option, Some, None, IsSomeAnd, IfSome, Contains, find, nat_eq, option_map, subst, sym, ap, refl, arith, ◌∙◌, eqb-true, eq-eqb}
 use Rattle.std.proofs.lemmas.Bool.{cond-true}
-use Rattle.lang_core.specs.declared.ids.Origin.{Origin}
 use Rattle.lang_core.specs.declared.ids.Origin.TheVariants.{Call}
 use Rattle.lang_core.specs.declared.request.Request.{Request}
-use Rattle.lang_core.specs.declared.request.Response.{Response}
 use Rattle.request_log.specs.Entries.{has_id}
 use Rattle.request_log.specs.declared.entry.Entry.{Entry}
 use Rattle.request_log.specs.declared.entry.Made.{Made}
@@ -15,7 +13,7 @@ use Rattle.journal_rows.specs.declared.caller.AckHow.{AckHow}
 use Rattle.journal_rows.specs.declared.caller.AckHow.TheVariants.{WithAnswer, ToPost}
 use Rattle.journal_rows.specs.declared.caller.SawAnswerRow.{SawAnswerRow}
 use Rattle.journal_rows.specs.declared.row.Row.{Row}
-use Rattle.journal_rows.specs.declared.row.Row.TheVariants.{WasConfirmed, SawAck, SawAnswer}
+use Rattle.journal_rows.specs.declared.row.Row.TheVariants.{Answered, WasConfirmed, SawAck, SawAnswer}
 use Rattle.journal_rows.specs.declared.words.Mark.{Mark}
 use Rattle.journal_rows.specs.declared.words.Mark.TheVariants.{Unsettled, AnsweredLive, ConfirmedAt}
 use Rattle.call_registers.specs.Registers.{register, answer_to, consumed_in, consumed}
@@ -23,15 +21,15 @@ use Rattle.call_registers.specs.declared.register.Answer.{Answer}
 use Rattle.call_registers.specs.declared.register.Register.{Register}
 use Rattle.call_registers.specs.declared.reply.Reply.{Reply}
 use Rattle.service_meaning.specs.State.{Kept, me}
-use Rattle.service_meaning.specs.Fits.{Fits, HasAnswered as HasItsAnswer, HasReply, IsReply, answer_of, answer_made, answer_given}
+use Rattle.service_meaning.specs.Fits.{Fits, HasAnswered as HasItsAnswer, HasReply, IsReply, answer_of, answer_given}
 use Rattle.entry_laws.proofs.SearchLemmas.{found_all}
 use Rattle.world_meaning.specs.Partners.{service_of, JournalOfDest, HasAnswered, HasConfirmed, HasAcknowledged}
 use Rattle.world_meaning.specs.Quiet.{IsQuiet}
 use Rattle.world_meaning.proofs.EntryFacts.{begun, Entered, same_entry}
-use Rattle.world_meaning.proofs.SentFacts.{claimed_live, claimed_confirmed, SeenFrom, seen_from}
+use Rattle.world_meaning.proofs.SentFacts.{claimed_live, claimed_confirmed, seen_from}
 use Rattle.world_meaning.proofs.TakenFacts.{acked_within}
-use Rattle.world_meaning.proofs.AnswerFacts.{IsGivenBefore, given_before, given_positive, given_asked, GivenFrom, given_from}
-use Rattle.world_meaning.proofs.MarkFacts.{ConfirmedFrom, confirmed_from, IsFirstAnswer, Marks, marks}
+use Rattle.world_meaning.proofs.AnswerFacts.{IsGivenBefore, given_before, given_positive, given_asked, given_from}
+use Rattle.world_meaning.proofs.MarkFacts.{ConfirmedFrom, confirmed_from, IsFirstAnswer, marks}
 use Rattle.world_meaning.proofs.Settled.{AreAtRest, fits_of, quiet_of, partner, in_journal, version_positive, has_seen, at_dest, Settled}
 
 -- ---- a reply that isn't due
@@ -148,7 +146,7 @@ module _ (services : List Kept) (h : AreAtRest services) (s : Kept) (here : serv
   heard_last row last same Unsettled is yes' = cc
 
   -- the answer that the caller saw last was given by the entry
-  seen_within : (row : AnsweredRow) → last_answered e.entry.id z.callee.journal ≡ Some row → (held : Option SawAnswerRow) → SeenFrom n s.journal held
+  seen_within : (row : AnsweredRow) → last_answered e.entry.id z.callee.journal ≡ Some row → (held : Option SawAnswerRow) → IfSome held (λ a. (a.number ≡ n) × Contains s.journal (SawAnswer a))
       → IfSome held (λ a. (a.answer_version ≤ row.answer_version) × (a.answer_version ≡ row.answer_version → (a.version ≡ row.version) × (a.response ≡ row.response)))
   seen_within row last None from = tt
   seen_within row last (Some a) from =
@@ -171,7 +169,7 @@ module _ (services : List Kept) (h : AreAtRest services) (s : Kept) (here : serv
       let mark = mark_settles z.callee fits quiet (me s) n e.entry e.by_id e.origin e.wanted in
       let claim = heard_last last.row last.is last.answer_version (last_mark e.entry.id (me s) n z.callee.journal) refl mark in
       let heard = (fits_of services h.together (me s) s here).seen.heard n in
-      let row = subst (GivenFrom e.entry.id z.callee.journal) last.is (given_from e.entry.id z.callee.journal) in
+      let row = subst (λ o. IfSome o (λ a. (a.id ≡ e.entry.id) × Contains z.callee.journal (Answered a))) last.is (given_from e.entry.id z.callee.journal) in
       let positive = given_positive last.row z.callee.journal fits.answered.rows row.1 in
       let within = seen_within last.row last.is (last_seen n s.journal) (seen_from n s.journal) in
       let agrees = answer_agrees r (last_seen n s.journal) last.row (has_seen services h.together s here n r found).answer positive (omega (arith, claim, heard)) within

@@ -1,14 +1,13 @@
 -- Where nothing is outstanding, each request of a call that is wanted was called for.
-use Rattle.std.proofs.Common.{◌≡◌, ℕ, ◌+◌, ◌<◌, Bool, true, false, List, [], ◌∷◌, ◌++◌, Option, Some, None, IsSome, IfSome, IsSomeAnd, All, Any, Contains, map, nat_eq, is_some, option_map, inl, inr, ◌⊎◌, refl, sym, ap, ◌∙◌, subst, arith, eqb-true}
+use Rattle.std.proofs.Common.{◌≡◌, ℕ, ◌<◌, true, false, List, [], ◌∷◌, Option, Some, None, IfSome, IsSomeAnd, All, Any, Contains, map, nat_eq, is_some, option_map, inl, inr, refl, sym, ap, ◌∙◌, subst, arith, eqb-true}
 use Rattle.std.specs.Option.{option_map_or}
 use Rattle.std.proofs.lemmas.Bool.{cases_Bool, cond-false, cases_lt}
 use Rattle.std.proofs.lemmas.List.Elements.{All-contains, All-map, Contains-append_right}
-use Rattle.lang_core.specs.Traces.{dead_trace}
 use Rattle.lang_core.specs.declared.ids.Origin.{Origin}
 use Rattle.lang_core.specs.declared.ids.Origin.TheVariants.{Outside, Call}
 use Rattle.lang_core.specs.declared.request.Request.{Request}
 use Rattle.lang_core.specs.declared.trace.CallMade.{CallMade}
-use Rattle.request_log.specs.Entries.{is_alive, has_id}
+use Rattle.request_log.specs.Entries.{is_alive}
 use Rattle.request_log.specs.declared.entry.Entry.{Entry}
 use Rattle.request_log.specs.declared.entry.Made.{Made}
 use Rattle.local_repair.specs.Current.{IsRun}
@@ -21,18 +20,16 @@ use Rattle.journal_rows.specs.declared.row.Row.TheVariants.{Took}
 use Rattle.call_registers.specs.Registers.{register}
 use Rattle.call_registers.specs.declared.register.Register.{Register}
 use Rattle.service_meaning.specs.State.{Kept, me, answers}
-use Rattle.service_meaning.specs.Fits.{Fits, IsAsNow, sent_by, Place, place_of_entry, place_of_flight, places, call_to, call_in, wanted_call, count, stands}
+use Rattle.service_meaning.specs.Fits.{IsAsNow, sent_by, place_of_entry, place_of_flight, places, call_to, call_in, wanted_call, count, stands}
 use Rattle.call_laws.proofs.PlaceLemmas.{head_of, tail_of, stands-append}
-use Rattle.entry_laws.proofs.SearchLemmas.{found_all}
 use Rattle.world_meaning.specs.Partners.{service_of, JournalOf, HasSent}
-use Rattle.world_meaning.specs.Quiet.{IsQuiet}
 use Rattle.world_meaning.specs.Legal.{history, histories, history_in, IsAmong, Makes, IsCalledFor, WantedIsCalledFor}
-use Rattle.world_meaning.proofs.ListLemmas.{some_out, all_from, any_from, contains_cases, contains_here, contains_map}
+use Rattle.world_meaning.proofs.ListLemmas.{some_out, all_from, any_from, contains_here, contains_map}
 use Rattle.world_meaning.proofs.NameLemmas.{found_by_name, name_is, found_history, found_own}
 use Rattle.world_meaning.proofs.SentFacts.{IsSentBefore, sent_before}
 use Rattle.world_meaning.proofs.TakenFacts.{taken_from}
 use Rattle.world_meaning.proofs.EntryFacts.{IsMadeNow, all_made_now, asks_last}
-use Rattle.world_meaning.proofs.Settled.{AreAtRest, fits_of, quiet_of, partner, Settled, settled}
+use Rattle.world_meaning.proofs.Settled.{AreAtRest, fits_of, quiet_of, partner, settled}
 use Rattle.world_meaning.proofs.ServedLaws.{wants_calls}
 
 -- ---- where a number stands
@@ -129,10 +126,10 @@ module _ (services : List Kept) (h : AreAtRest services) where
     called_by : (c : List ℕ) (n : ℕ) (x : TookRow) (q : Request) → last_taken c n t.journal ≡ Some x → x.desired ≡ Some q
         → IsSomeAnd (history_in c (histories services)) (λ y. Any (Makes n (record { dest = me t; request = q })) y.acts)
     called_by c n x q took desired =
-        let row = subst (λ o. IfSome o (λ y. (y.caller ≡ c) × (y.number ≡ n) × Contains t.journal (Took y))) took (taken_from c n t.journal) in
+        let row = subst (λ o. IfSome o (λ y. ((y.caller ≡ c) × (y.number ≡ n)) × Contains t.journal (Took y))) took (taken_from c n t.journal) in
         let At : List ℕ → ℕ → Type 0 = λ d m. JournalOf services d (HasSent (me t) m x.version x.desired) in
         let Of : List ℕ → Type 0 = λ d. At d n in
-        let sent_there = subst Of row.0 (subst (At x.caller) row.1 (partner services h.together (me t) t there (Took x) row.2)) in
+        let sent_there = subst Of row.0.0 (subst (At x.caller) row.0.1 (partner services h.together (me t) t there (Took x) row.1)) in
         let caller = some_out (service_of c services) (λ s. HasSent (me t) n x.version x.desired s.journal) sent_there in
         let s = caller.0 in
         let name : me s ≡ c = name_is c services s caller.1 in

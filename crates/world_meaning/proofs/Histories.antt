@@ -1,7 +1,7 @@
 -- Inductions along a journal.
-use Rattle.std.proofs.Common.{List, [], ◌∷◌, ◌++◌, Contains, fold, inl, inr, subst, sym, arith}
+use Rattle.std.proofs.Common.{◌≡◌, ◌⊎◌, List, [], ◌∷◌, ◌++◌, Option, Some, None, IfSome, Contains, fold, inl, inr, subst, sym, arith}
 use Rattle.std.proofs.lemmas.List.Sums.{fold_push}
-use Rattle.std.proofs.lemmas.List.Elements.{Contains-push_cases}
+use Rattle.std.proofs.lemmas.List.Elements.{Contains-push, Contains-push_cases, Contains-append_left}
 use Rattle.journal_rows.specs.declared.row.Row.{Row}
 use Rattle.service_meaning.specs.Fits.{EachAfter}
 use Rattle.call_laws.proofs.RowLemmas.{go_on, all_follow}
@@ -29,3 +29,26 @@ once_come Follows step start row G arrives stays journal h =
           subst Now (sym is) (arrives before (subst FollowsIt is f)))
     ]))
     journal [] h (λ none. absurd (omega (arith, none.1)))
+
+module _ {X : Type 0} (row_of : X → Row) (Q : X → Type 0) where
+  -- a word is what one of its rows says
+  abbrev IsFrom : List Row → Option X → Type 0
+  IsFrom journal last = IfSome last (λ x. Q x × Contains journal (row_of x))
+
+  -- a row leaves a word as it was, or is the row of what the word is then
+  abbrev pub Sets : Option X → Row → Option X → Type 0
+  Sets last row next = (next ≡ last) ⊎ ((x : X) × (row ≡ row_of x) × (next ≡ Some x) × Q x)
+
+  stays : (before : List Row) (row : Row) (last : Option X) → IsFrom before last → IsFrom (before ++ row ∷ []) last
+  stays before row None h = tt
+  stays before row (Some x) h = (h.0, Contains-append_left before (row ∷ []) (row_of x) h.1)
+
+  -- what it is at the end stands in the journal
+  pub last_from : (step : Option X → Row → Option X) → ((last : Option X) (row : Row) → Sets last row (step last row)) → (journal : List Row)
+      → IfSome (fold step None journal) (λ x. Q x × Contains journal (row_of x))
+  last_from step sets journal = word_from step None IsFrom tt
+      (λ before row last h. elim (sets last row) [
+        | inl same ↦ subst (IsFrom (before ++ row ∷ [])) (sym same) (stays before row last h)
+        | inr x ↦ subst (IsFrom (before ++ row ∷ [])) (sym x.2) (x.3, subst (Contains (before ++ row ∷ [])) x.1 (Contains-push before row))
+      ])
+      journal

@@ -14,3 +14,4 @@ pub mod AnswerLaws
 pub mod ServedLaws
 pub mod CalledLaws
 pub mod LegalLaws
+pub mod PurchaseTogether

@@ -1,17 +1,14 @@
 -- What the last mark of a reply tells.
-use Rattle.std.proofs.Common.{◌≡◌, ℕ, ◌+◌, ◌<◌, ◌≤◌, Bool, true, false, ◌&&◌, cond, List, [], ◌∷◌, ◌++◌, Option, Some, None, IsSomeAnd, Contains, max, nat_eq, subst, sym, ap, refl, arith, ◌∙◌, eqb-true}
+use Rattle.std.proofs.Common.{◌≡◌, ℕ, ◌+◌, ◌<◌, ◌≤◌, Bool, true, false, ◌&&◌, cond, List, [], ◌∷◌, ◌++◌, Option, Some, None, IsSomeAnd, Contains, max, nat_eq, subst, sym, refl, arith, ◌∙◌, eqb-true}
 use Rattle.std.proofs.lemmas.Bool.{cond_both}
 use Rattle.std.proofs.lemmas.List.Elements.{Contains-push, Contains-append_left}
 use Rattle.std.proofs.lemmas.List.Sums.{fold_push}
 use Rattle.lang_base.specs.Texts.{same_text}
 use Rattle.lang_core.specs.declared.ids.Origin.{Origin}
-use Rattle.lang_core.specs.declared.ids.Origin.TheVariants.{Outside, Call}
-use Rattle.journal_rows.specs.Words.{taken_version, acked_step, acknowledged, last_taken, taken_step, asked_step, asked, answered_step, last_answered, given_version, mark_step, last_mark, last_step, last_row}
-use Rattle.journal_rows.specs.declared.callee.AckedRow.{AckedRow}
+use Rattle.lang_core.specs.declared.ids.Origin.TheVariants.{Call}
+use Rattle.journal_rows.specs.Words.{taken_version, acked_step, acknowledged, taken_step, asked_step, asked, answered_step, last_answered, given_version, mark_step, last_mark, last_step, last_row}
 use Rattle.journal_rows.specs.declared.callee.AnsweredRow.{AnsweredRow}
 use Rattle.journal_rows.specs.declared.callee.AskedRow.{AskedRow}
-use Rattle.journal_rows.specs.declared.callee.WasConfirmedRow.{WasConfirmedRow}
-use Rattle.journal_rows.specs.declared.caller.How.TheVariants.{Live}
 use Rattle.journal_rows.specs.declared.row.Row.{Row}
 use Rattle.journal_rows.specs.declared.row.Row.TheVariants.{Asked, Took, Acked, Answered, WasConfirmed}
 use Rattle.journal_rows.specs.declared.words.Mark.{Mark}

@@ -1,9 +1,8 @@
 -- Services and their histories, found by their names; entries, found by their numbers and calls.
-use Rattle.std.proofs.Common.{◌≡◌, ℕ, zero, suc, ◌<◌, Bool, true, false, cond, List, [], ◌∷◌, ◌++◌, Option, Some, None, AllPairs, Contains, find, filter, length, option_map, inl, inr, refl, sym, ap, ◌∙◌, subst, arith, eq-eqb, eqb-true}
+use Rattle.std.proofs.Common.{◌≡◌, ℕ, suc, Bool, true, List, [], ◌∷◌, Option, Some, None, Contains, find, filter, option_map, inl, inr, refl, sym, ap, ◌∙◌, subst, arith, eq-eqb, eqb-true}
 use Rattle.std.proofs.lemmas.Bool.{cases_Bool, cond-true, cond-false, false_from_ne_true}
 use Rattle.std.specs.Cmp.Lexicographic.{nat_list_eq_equiv}
 use Rattle.lang_base.specs.Texts.{same_text}
-use Rattle.lang_core.specs.declared.ids.Origin.{Origin}
 use Rattle.lang_core.specs.declared.ids.Origin.TheVariants.{Call}
 use Rattle.request_log.specs.Entries.{has_id, has_origin, find_call, IsDistinct}
 use Rattle.request_log.specs.declared.entry.Entry.{Entry}

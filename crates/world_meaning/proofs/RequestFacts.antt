@@ -1,11 +1,10 @@
 -- What an entry of a call asks is what its caller asked last.
-use Rattle.std.proofs.Common.{◌≡◌, ℕ, Bool, true, false, cond, List, [], ◌∷◌, ◌++◌, Option, Some, None, IfSome, IsSomeAnd, nat_eq, subst, sym, refl, inl, inr, ◌∙◌, eqb-true}
+use Rattle.std.proofs.Common.{◌≡◌, ℕ, Bool, true, false, cond, List, [], Option, Some, None, IfSome, IsSomeAnd, nat_eq, subst, sym, refl, inl, inr, ◌∙◌, eqb-true}
 use Rattle.std.proofs.lemmas.Bool.{cases_Bool}
 use Rattle.std.proofs.lemmas.List.Sums.{fold_push}
-use Rattle.lang_core.specs.declared.ids.Origin.{Origin}
 use Rattle.lang_core.specs.declared.ids.Origin.TheVariants.{Outside, Call}
 use Rattle.lang_core.specs.declared.request.Request.{Request}
-use Rattle.journal_rows.specs.Words.{first_asked, asked_step, asked, is_version_of, taken_step, last_taken, or_before, replaced_by, is_about, request_step, request_now}
+use Rattle.journal_rows.specs.Words.{asked_step, asked, is_version_of, taken_step, last_taken, or_before, replaced_by, is_about, request_step, request_now}
 use Rattle.journal_rows.specs.declared.callee.AskedRow.{AskedRow}
 use Rattle.journal_rows.specs.declared.callee.TookRow.{TookRow}
 use Rattle.journal_rows.specs.declared.orders.About.{About}

@@ -1,22 +1,19 @@
 -- What follows of the rows on own calls.
 use Rattle.std.proofs.Common.{◌≡◌, ℕ, ◌+◌, ◌<◌, ◌≤◌, ◌⊎◌, List, [], ◌∷◌, ◌++◌, Option, Some, None, IsSome, IfSome, IsSomeAnd, MatchOption, Contains, max, nat_eq, inl, inr, subst, sym, refl, arith, ◌∙◌, eqb-true, eq-eqb}
-use Rattle.std.proofs.lemmas.Bool.{cond_both, cond-true, cases_lt}
+use Rattle.std.proofs.lemmas.Bool.{cases_Bool, cond_both, cond-true, cond-false, cases_lt}
 use Rattle.std.proofs.lemmas.List.Elements.{Contains-push, Contains-append_left}
 use Rattle.std.proofs.lemmas.List.Sums.{fold_push}
 use Rattle.std.proofs.Math.Nat.{max-eq_left, max-eq_right}
-use Rattle.lang_core.specs.declared.request.Request.{Request}
 use Rattle.journal_rows.specs.Words.{sent_step, last_sent, named, ack_step, seen_acked, seen_step, last_seen, with_ack, claim_step, claimed}
 use Rattle.journal_rows.specs.declared.caller.AckHow.{AckHow}
 use Rattle.journal_rows.specs.declared.caller.AckHow.TheVariants.{WithAnswer, ToPost}
-use Rattle.journal_rows.specs.declared.caller.ConfirmedRow.{ConfirmedRow}
-use Rattle.journal_rows.specs.declared.caller.SawAckRow.{SawAckRow}
 use Rattle.journal_rows.specs.declared.caller.SawAnswerRow.{SawAnswerRow}
 use Rattle.journal_rows.specs.declared.caller.SentRow.{SentRow}
 use Rattle.journal_rows.specs.declared.row.Row.{Row}
 use Rattle.journal_rows.specs.declared.row.Row.TheVariants.{Sent, SawAck, SawAnswer, Confirmed}
 use Rattle.service_meaning.specs.Fits.{EachAfter, SendsOn}
 use Rattle.call_laws.proofs.RowLemmas.{go_on, all_follow}
-use Rattle.world_meaning.proofs.Histories.{word_from, once_come}
+use Rattle.world_meaning.proofs.Histories.{word_from, once_come, Sets, last_from}
 
 -- ---- versions that were sent
 
@@ -103,21 +100,16 @@ acked_from n journal = word_from (ack_step n) 0 (AckedFrom n) (inl refl) (acked_
 
 -- ---- the last answer that was seen
 
-abbrev pub SeenFrom : ℕ → List Row → Option SawAnswerRow → Type 0
-SeenFrom n journal last = IfSome last (λ a. (a.number ≡ n) × Contains journal (SawAnswer a))
+seen_sets : (n : ℕ) (last : Option SawAnswerRow) (row : Row) → Sets SawAnswer (λ a. a.number ≡ n) last row (seen_step n last row)
+seen_sets n last (SawAnswer a) = elim (cases_Bool (nat_eq a.number n)) [
+  | inl is ↦ inr (a, refl, cond-true (nat_eq a.number n) (Some a) last is, eqb-true a.number n is)
+  | inr other ↦ inl (cond-false (nat_eq a.number n) (Some a) last other)
+]
+seen_sets n last row = inl refl
 
-seen_stays : (n : ℕ) (before : List Row) (row : Row) (last : Option SawAnswerRow) → SeenFrom n before last → SeenFrom n (before ++ row ∷ []) last
-seen_stays n before row None q = tt
-seen_stays n before row (Some a) q = (q.0, Contains-append_left before (row ∷ []) _ q.1)
-
-seen_more : (n : ℕ) (before : List Row) (row : Row) (last : Option SawAnswerRow) → SeenFrom n before last → SeenFrom n (before ++ row ∷ []) (seen_step n last row)
-seen_more n before (SawAnswer a) last q =
-    cond_both (nat_eq a.number n) (Some a) last (SeenFrom n (before ++ SawAnswer a ∷ []))
-    (λ e. (eqb-true a.number n e, Contains-push before (SawAnswer a))) (λ _. seen_stays n before (SawAnswer a) last q)
-seen_more n before row last q = seen_stays n before row last q
-
-pub seen_from : (n : ℕ) (journal : List Row) → SeenFrom n journal (last_seen n journal)
-seen_from n journal = word_from (seen_step n) None (SeenFrom n) tt (seen_more n) journal
+-- it is of this number, and was seen
+pub seen_from : (n : ℕ) (journal : List Row) → IfSome (last_seen n journal) (λ a. (a.number ≡ n) × Contains journal (SawAnswer a))
+seen_from n journal = last_from SawAnswer (λ a. a.number ≡ n) (seen_step n) (seen_sets n) journal
 
 -- ---- what was claimed
 

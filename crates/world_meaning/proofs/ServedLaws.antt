@@ -1,19 +1,15 @@
 -- Where nothing is outstanding, each call of a request that survives has led to one request, which answered it.
-use Rattle.std.proofs.Common.{◌≡◌, ℕ, Bool, true, List, [], ◌∷◌, ◌++◌, Option, Some, None, IsSomeAnd, All, Contains, map, filter, refl, sym, ap, ◌∙◌, subst}
+use Rattle.std.proofs.Common.{◌≡◌, ℕ, List, [], ◌∷◌, Option, Some, None, IsSomeAnd, All, Contains, map, filter, sym, ap, ◌∙◌, subst}
 use Rattle.std.proofs.lemmas.List.Elements.{All-contains, All-map, Contains-append_left}
-use Rattle.lang_core.specs.declared.ids.Origin.TheVariants.{Call}
-use Rattle.lang_core.specs.declared.request.Request.{Request}
 use Rattle.lang_core.specs.declared.trace.CallMade.{CallMade}
-use Rattle.execution.specs.Executions.{Act, History}
-use Rattle.request_log.specs.Entries.{has_id, has_origin}
+use Rattle.request_log.specs.Entries.{has_id}
 use Rattle.request_log.specs.declared.entry.Entry.{Entry}
 use Rattle.request_log.specs.declared.entry.Made.{Made}
 use Rattle.local_repair.specs.Histories.{trace_of, act_of}
 use Rattle.local_repair.specs.Steps.{calls_of_made, answer_or_tentative}
-use Rattle.call_registers.specs.Registers.{register}
-use Rattle.call_registers.specs.declared.register.Register.{Register}
 use Rattle.service_meaning.specs.State.{Kept, me, answers}
-use Rattle.service_meaning.specs.Fits.{Fits, Place, place_of_entry, place_of_flight, places, call_to, call_in, wanted_call, WantsItsCalls}
+use Rattle.service_meaning.specs.Fits.{Fits, place_of_entry, place_of_flight, places, wanted_call, WantsItsCalls}
+use Rattle.call_laws.proofs.FittingLemmas.{wanted_by}
 use Rattle.call_laws.proofs.PlaceLemmas.{head_of, tail_of}
 use Rattle.entry_laws.proofs.SearchLemmas.{found_all}
 use Rattle.world_meaning.specs.Partners.{service_of}
@@ -23,27 +19,6 @@ use Rattle.world_meaning.proofs.NameLemmas.{found_by_name, found_history, only_o
 use Rattle.world_meaning.proofs.EntryFacts.{IsMadeNow, all_made_now, entered}
 use Rattle.world_meaning.proofs.Settled.{AreAtRest, fits_of, quiet_of, settled}
 use Rattle.world_meaning.proofs.AnswerLaws.{consumes}
-
--- ---- the register of a call
-
-pub record Wanted (registers : List Register) (n : ℕ) (call : CallMade) : Type 0 where
-  pub own : Register
-  pub found : register n registers ≡ Some own
-  pub dest : own.dest ≡ call.dest
-  pub desired : own.desired ≡ Some call.request
-
-call_to_is : (dest : List ℕ) (desired : Option Request) (call : CallMade) → call_to dest desired ≡ Some call → (dest ≡ call.dest) × (desired ≡ Some call.request)
-call_to_is dest None call e = cc
-call_to_is dest (Some q) call e =
-    let same : record { dest = dest; request = q } ≡ call = cc in (ap (λ (c : CallMade). c.dest) same, ap (λ (c : CallMade). Some c.request) same)
-
-wanted_in : (registers : List Register) (n : ℕ) (call : CallMade) (o : Option Register) → register n registers ≡ o → call_in o ≡ Some call → Wanted registers n call
-wanted_in registers n call None is e = cc
-wanted_in registers n call (Some r) is e =
-    let parts = call_to_is r.dest r.desired call e in record { own = r; found = is; dest = parts.0; desired = parts.1 }
-
-pub wanted : (registers : List Register) (n : ℕ) (call : CallMade) → wanted_call registers n ≡ Some call → Wanted registers n call
-wanted registers n call e = wanted_in registers n call (register n registers) refl e
 
 -- the calls of an entry are wanted under its numbers
 pub wants_calls : (s : Kept) → Fits s → (e : Entry) → Contains s.entries e → map (wanted_call s.registers) e.slots ≡ map Some (calls_of_made e.made)
@@ -56,8 +31,8 @@ module _ (services : List Kept) (h : AreAtRest services) where
     -- a call that is wanted is served
     served_call : (n : ℕ) (call : CallMade) → wanted_call s.registers n ≡ Some call → IsServed (histories services) (me s) n call (answers s n)
     served_call n call e =
-        let w = wanted s.registers n call e in
-        let r = w.own in
+        let w = wanted_by s.registers n call e in
+        let r = w.made in
         let z = settled services h s here n r w.found in
         let t = z.callee in
         let fits = fits_of services h.together r.dest t z.there in

@@ -1,5 +1,5 @@
 -- A call whose last version is acknowledged: the service that it goes to took that version last.
-use Rattle.std.proofs.Common.{◌≡◌, ℕ, ◌<◌, ◌≤◌, List, [], ◌∷◌, Option, Some, None, IsSomeAnd, IfSome, All, Contains, option_map, inl, inr, ◌⊎◌, subst, sym, ap, refl, arith, ◌∙◌}
+use Rattle.std.proofs.Common.{◌≡◌, ℕ, ◌<◌, ◌≤◌, List, Option, Some, None, IsSomeAnd, IfSome, All, Contains, option_map, inl, inr, subst, sym, ap, refl, arith, ◌∙◌}
 use Rattle.std.proofs.lemmas.List.Elements.{All-contains}
 use Rattle.lang_core.specs.declared.ids.Origin.TheVariants.{Call}
 use Rattle.journal_rows.specs.Words.{last_sent, seen_acked, last_seen, last_taken, version_in, taken_version}
@@ -8,7 +8,7 @@ use Rattle.journal_rows.specs.declared.caller.AckHow.{AckHow}
 use Rattle.journal_rows.specs.declared.caller.AckHow.TheVariants.{WithAnswer, ToPost}
 use Rattle.journal_rows.specs.declared.caller.SentRow.{SentRow}
 use Rattle.journal_rows.specs.declared.row.Row.{Row}
-use Rattle.journal_rows.specs.declared.row.Row.TheVariants.{Took, Sent, SawAck}
+use Rattle.journal_rows.specs.declared.row.Row.TheVariants.{Took, SawAck}
 use Rattle.call_registers.specs.Registers.{has_number, register}
 use Rattle.call_registers.specs.declared.register.Register.{Register}
 use Rattle.service_meaning.specs.State.{Kept, me}
@@ -17,7 +17,6 @@ use Rattle.entry_laws.proofs.SearchLemmas.{found_all}
 use Rattle.world_meaning.specs.Partners.{has_name, service_of, NamesDiffer, JournalOf, JournalOfDest, HasSent, HasAcknowledged, HasPartner, IsJoined}
 use Rattle.world_meaning.specs.Quiet.{IsQuiet, AreQuiet}
 use Rattle.world_meaning.proofs.ListLemmas.{some_out}
-use Rattle.world_meaning.proofs.NameLemmas.{name_is}
 use Rattle.world_meaning.proofs.SentFacts.{IsSentBefore, sent_before, sent_positive, AckedFrom, acked_from}
 use Rattle.world_meaning.proofs.TakenFacts.{taken_from, answered_taken, acked_within, acknowledged_taken}
 
@@ -84,10 +83,10 @@ module _ (services : List Kept) (h : AreTogether services) where
     pub taken_sent : (t : Kept) → service_of r.dest services ≡ Some t → (last : TookRow) → last_taken (me s) n t.journal ≡ Some last
         → IsSentBefore (record { number = n; dest = me t; version = last.version; desired = last.desired }) (sent_by r)
     taken_sent t there last took =
-        let row = subst (λ o. IfSome o (λ x. (x.caller ≡ me s) × (x.number ≡ n) × Contains t.journal (Took x))) took (taken_from (me s) n t.journal) in
+        let row = subst (λ o. IfSome o (λ x. ((x.caller ≡ me s) × (x.number ≡ n)) × Contains t.journal (Took x))) took (taken_from (me s) n t.journal) in
         let At : List ℕ → ℕ → Type 0 = λ c m. JournalOf services c (HasSent (me t) m last.version last.desired) in
         let Of : List ℕ → Type 0 = λ c. At c n in
-        let of_caller = subst Of row.0 (subst (At last.caller) row.1 (partner r.dest t there (Took last) row.2)) in
+        let of_caller = subst Of row.0.0 (subst (At last.caller) row.0.1 (partner r.dest t there (Took last) row.1)) in
         let sent_row = in_journal (me s) s here (HasSent (me t) n last.version last.desired) of_caller in
         let sent : SentRow = record { number = n; dest = me t; version = last.version; desired = last.desired } in
         subst (λ o. IsSomeAnd o (IsSentBefore sent)) last_is (sent_before sent s.journal (fits_of (me s) s here).sent.rows sent_row)

@@ -1,14 +1,11 @@
 -- What follows of the rows on versions of another service's call.
-use Rattle.std.proofs.Common.{◌≡◌, ℕ, ◌<◌, ◌≤◌, true, List, [], ◌∷◌, ◌++◌, Option, Some, None, IfSome, Contains, max, nat_eq, ◌&&◌, subst, sym, ap, refl, arith, ◌∙◌, eqb-true, eq-eqb}
-use Rattle.std.proofs.lemmas.Bool.{cond_both, cond-true, and_parts, and_from}
-use Rattle.std.proofs.lemmas.List.Elements.{Contains-push, Contains-append_left}
+use Rattle.std.proofs.Common.{◌≡◌, ℕ, ◌<◌, ◌≤◌, true, List, [], Option, Some, None, IfSome, Contains, max, nat_eq, ◌&&◌, inl, inr, subst, ap, refl, arith, ◌∙◌, eqb-true, eq-eqb}
+use Rattle.std.proofs.lemmas.Bool.{cases_Bool, cond_both, cond-true, cond-false, and_parts, and_from}
 use Rattle.std.proofs.lemmas.List.Sums.{fold_push}
 use Rattle.std.specs.Cmp.Lexicographic.{nat_list_eq_equiv}
 use Rattle.lang_base.specs.Texts.{same_text}
-use Rattle.lang_core.specs.declared.ids.Origin.{Origin}
 use Rattle.lang_core.specs.declared.ids.Origin.TheVariants.{Call}
 use Rattle.journal_rows.specs.Words.{is_version_of, taken_step, last_taken, version_in, taken_version, taken_version_of, acked_step, acknowledged}
-use Rattle.journal_rows.specs.declared.callee.AckedRow.{AckedRow}
 use Rattle.journal_rows.specs.declared.callee.AnsweredRow.{AnsweredRow}
 use Rattle.journal_rows.specs.declared.callee.TookRow.{TookRow}
 use Rattle.journal_rows.specs.declared.row.Row.{Row}
@@ -16,7 +13,7 @@ use Rattle.journal_rows.specs.declared.row.Row.TheVariants.{Took, Acked, Answere
 use Rattle.service_meaning.specs.Fits.{EachAfter, TakesOn}
 use Rattle.call_laws.proofs.RowLemmas.{go_on, all_follow}
 use Rattle.entry_laws.proofs.SearchLemmas.{text_is}
-use Rattle.world_meaning.proofs.Histories.{word_from, once_come}
+use Rattle.world_meaning.proofs.Histories.{once_come, Sets, last_from}
 
 -- ---- of which call a row speaks
 
@@ -35,22 +32,17 @@ at_call P c d n m e p =
 
 -- ---- the last version that was taken
 
-abbrev pub TakenFrom : List ℕ → ℕ → List Row → Option TookRow → Type 0
-TakenFrom c n journal last = IfSome last (λ t. (t.caller ≡ c) × (t.number ≡ n) × Contains journal (Took t))
+taken_sets : (c : List ℕ) (n : ℕ) (last : Option TookRow) (row : Row) → Sets Took (λ t. (t.caller ≡ c) × (t.number ≡ n)) last row (taken_step c n last row)
+taken_sets c n last (Took t) = elim (cases_Bool (is_version_of c n t)) [
+  | inl is ↦ inr (t, refl, cond-true (is_version_of c n t) (Some t) last is, call_is t.caller c t.number n is)
+  | inr other ↦ inl (cond-false (is_version_of c n t) (Some t) last other)
+]
+taken_sets c n last row = inl refl
 
-from_stays : (c : List ℕ) (n : ℕ) (before : List Row) (row : Row) (last : Option TookRow) → TakenFrom c n before last → TakenFrom c n (before ++ row ∷ []) last
-from_stays c n before row None q = tt
-from_stays c n before row (Some t) q = (q.0, q.1, Contains-append_left before (row ∷ []) _ q.2)
-
-from_more : (c : List ℕ) (n : ℕ) (before : List Row) (row : Row) (last : Option TookRow) → TakenFrom c n before last
-    → TakenFrom c n (before ++ row ∷ []) (taken_step c n last row)
-from_more c n before (Took t) last q =
-    cond_both (is_version_of c n t) (Some t) last (TakenFrom c n (before ++ Took t ∷ []))
-    (λ e. (let same = call_is t.caller c t.number n e in (same.0, same.1, Contains-push before (Took t)))) (λ _. from_stays c n before (Took t) last q)
-from_more c n before row last q = from_stays c n before row last q
-
-pub taken_from : (c : List ℕ) (n : ℕ) (journal : List Row) → TakenFrom c n journal (last_taken c n journal)
-taken_from c n journal = word_from (taken_step c n) None (TakenFrom c n) tt (from_more c n) journal
+-- it is of this call, and was taken
+pub taken_from : (c : List ℕ) (n : ℕ) (journal : List Row)
+    → IfSome (last_taken c n journal) (λ t. ((t.caller ≡ c) × (t.number ≡ n)) × Contains journal (Took t))
+taken_from c n journal = last_from Took (λ t. (t.caller ≡ c) × (t.number ≡ n)) (taken_step c n) (taken_sets c n) journal
 
 -- ---- the version that was taken never falls
 

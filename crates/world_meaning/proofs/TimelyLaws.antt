@@ -1,19 +1,17 @@
--- Joined services hold no answer to a version of a call that they haven't sent yet.
-use Rattle.std.proofs.Common.{◌≡◌, ℕ, ◌<◌, ◌≤◌, List, [], ◌∷◌, Option, Some, None, IsSomeAnd, IfSome, All, Contains, option_map, subst, sym, ap, refl, arith, ◌∙◌}
-use Rattle.std.proofs.lemmas.List.Elements.{All-contains}
+-- Joined services are timely: none holds an answer to a later version of a call than its register's.
+use Rattle.std.proofs.Common.{◌≡◌, ℕ, ◌≤◌, List, Option, Some, None, IfSome, All, Contains, option_map, subst, sym, refl, arith}
 use Rattle.lang_core.specs.declared.ids.Origin.TheVariants.{Call}
-use Rattle.journal_rows.specs.Words.{last_sent, seen_acked, last_seen, last_taken, version_in, taken_version}
+use Rattle.journal_rows.specs.Words.{last_seen, last_taken, version_in}
 use Rattle.journal_rows.specs.declared.callee.TookRow.{TookRow}
 use Rattle.journal_rows.specs.declared.caller.SawAnswerRow.{SawAnswerRow}
-use Rattle.journal_rows.specs.declared.row.Row.{Row}
-use Rattle.journal_rows.specs.declared.row.Row.TheVariants.{Took, Sent, SawAnswer}
+use Rattle.journal_rows.specs.declared.row.Row.TheVariants.{SawAnswer}
 use Rattle.call_registers.specs.Registers.{register}
-use Rattle.call_registers.specs.declared.register.Answer.{Answer}
 use Rattle.call_registers.specs.declared.register.Register.{Register}
 use Rattle.service_meaning.specs.State.{Kept, me}
-use Rattle.service_meaning.specs.Fits.{answer_of}
+use Rattle.service_meaning.specs.Fits.{Fits, answer_of}
 use Rattle.call_laws.proofs.FittingLemmas.{IsTimely}
-use Rattle.world_meaning.specs.Partners.{service_of, JournalOfDest, HasAnswered}
+use Rattle.world_meaning.specs.Partners.{service_of, NamesDiffer, JournalOfDest, HasAnswered, IsJoined}
+use Rattle.world_meaning.proofs.ListLemmas.{all_from}
 use Rattle.world_meaning.proofs.NameLemmas.{found_by_name}
 use Rattle.world_meaning.proofs.SentFacts.{seen_from}
 use Rattle.world_meaning.proofs.TakenFacts.{answered_taken}
@@ -52,5 +50,10 @@ module _ (services : List Kept) (h : AreTogether services) (s : Kept) (here : se
   each_on_time n None is = tt
   each_on_time n (Some r) is = on_time n r is
 
-  pub timely : IsTimely s.registers
+  timely : IsTimely s.registers
   timely n = each_on_time n (register n s.registers) refl
+
+pub joined_timely : (services : List Kept) → All Fits services → NamesDiffer services → IsJoined services → All (λ (s : Kept). IsTimely s.registers) services
+joined_timely services fits differ joined =
+    all_from (λ (s : Kept). IsTimely s.registers) services
+    (λ s has. timely services (record { fits = fits; differ = differ; joined = joined }) s (found_by_name services differ s has))
