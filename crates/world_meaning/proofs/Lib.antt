@@ -15,3 +15,4 @@ pub mod ServedLaws
 pub mod CalledLaws
 pub mod LegalLaws
 pub mod PurchaseTogether
+pub mod PurchaseUndone

@@ -1,7 +1,7 @@
 -- What is in a list, what is found there, and what a filter keeps.
-use Rattle.std.proofs.Common.{◌≡◌, ℕ, zero, suc, ◌<◌, Bool, true, List, [], ◌∷◌, Option, Some, None, IsSome, IsSomeAnd, All, Any, Contains, find, filter, map, length, get_or, option_map, inl, inr, ◌⊎◌, refl, sym, ap, subst, arith}
+use Rattle.std.proofs.Common.{◌≡◌, ℕ, zero, suc, ◌<◌, Bool, true, List, [], ◌∷◌, Option, Some, None, IsSome, IsSomeAnd, All, AllPairs, Any, Contains, find, filter, map, length, get_or, option_map, inl, inr, ◌⊎◌, refl, sym, ap, subst, arith}
 use Rattle.std.proofs.lemmas.Bool.{cases_Bool}
-use Rattle.std.proofs.lemmas.List.Elements.{Contains-get_or, Contains-append_right}
+use Rattle.std.proofs.lemmas.List.Elements.{All-nil, All-cons, Contains-get_or, Contains-append_right}
 use Rattle.entry_laws.proofs.SearchLemmas.{splits, none_first}
 
 -- ---- what is there
@@ -71,3 +71,21 @@ filter_map_is p f (x ∷ xs) = elim (cases_Bool (p (f x))) [
   | inl is ↦ rw is (ap (λ ys. f x ∷ ys) (filter_map_is p f xs))
   | inr other ↦ rw other (filter_map_is p f xs)
 ]
+
+-- ---- lists of one and two
+
+pub all_one : {X : Type 0} (P : X → Type 0) (x : X) → P x → All P (x ∷ [])
+all_one P x p = All-cons P x [] p (All-nil P)
+
+pub all_two : {X : Type 0} (P : X → Type 0) (x y : X) → P x → P y → All P (x ∷ (y ∷ []))
+all_two P x y p q = All-cons P x (y ∷ []) p (all_one P y q)
+
+pub no_pairs : {X : Type 0} (R : X → X → Type 0) → AllPairs R []
+no_pairs R i j d l w = absurd (omega (arith, l, w))
+
+pub one_pair : {X : Type 0} (R : X → X → Type 0) (x y : X) → R x y → AllPairs R (x ∷ (y ∷ []))
+one_pair R x y r zero zero d l w = absurd (omega (arith, l))
+one_pair R x y r zero (suc zero) d l w = r
+one_pair R x y r zero (suc (suc j)) d l w = absurd (omega (arith, w))
+one_pair R x y r (suc i) zero d l w = absurd (omega (arith, l))
+one_pair R x y r (suc i) (suc j) d l w = absurd (omega (arith, l, w))

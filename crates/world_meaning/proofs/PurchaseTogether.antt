@@ -1,9 +1,9 @@
 -- A purchase on two services, worked out: once it is bought the shop and the bank fit their journals, are joined and quiet, and so are
 -- one legal execution. A shop whose bank never answered is not joined, and one whose bank has no request for its call isn't legal.
-use Rattle.std.proofs.Common.{◌≡◌, ◌≢◌, Contains, ℕ, zero, suc, Bool, true, false, cond, List, [], ◌∷◌, Some, None, IsSome, IfSome, ◌↔◌, ◌||◌, ◌&&◌, All, AllPairs, find, nat_eq, inl, inr, refl, sym, ap, ◌∙◌, arith}
+use Rattle.std.proofs.Common.{◌≡◌, ◌≢◌, Contains, ℕ, Bool, true, false, cond, List, [], ◌∷◌, Some, None, IsSome, IfSome, ◌↔◌, ◌||◌, ◌&&◌, All, find, nat_eq, inl, inr, refl, sym, ap, ◌∙◌, arith}
 use Rattle.std.proofs.lemmas.Bool.{cases_Bool, both_ways}
 use Rattle.std.specs.Cmp.Lexicographic.{nat_list_eq_equiv}
-use Rattle.std.proofs.lemmas.List.Elements.{All-nil, All-cons, All-head, All-from_recursion}
+use Rattle.std.proofs.lemmas.List.Elements.{All-nil, All-head, All-from_recursion}
 use Rattle.lang_base.specs.Texts.{same_text}
 use Rattle.lang_core.specs.declared.inputs.Inputs.{Inputs}
 use Rattle.lang_core.specs.declared.request.Request.{Request}
@@ -20,44 +20,26 @@ use Rattle.call_laws.proofs.PurchaseExample.{shop_name, bank_name, ok, start, se
 use Rattle.world_meaning.specs.Partners.{NamesDiffer, HasPartner, IsJoined}
 use Rattle.world_meaning.specs.Quiet.{IsQuiet, AreQuiet}
 use Rattle.world_meaning.specs.Legal.{history, histories, CallsAreServed, IsLegalTogether}
-use Rattle.world_meaning.proofs.ListLemmas.{contains_cases}
+use Rattle.world_meaning.proofs.ListLemmas.{contains_cases, all_one, all_two, no_pairs, one_pair}
 use Rattle.world_meaning.proofs.LegalLaws.{legal_together}
 
--- ---- lists of one and two
-
-all_one : {X : Type 0} (P : X → Type 0) (x : X) → P x → All P (x ∷ [])
-all_one P x p = All-cons P x [] p (All-nil P)
-
-all_two : {X : Type 0} (P : X → Type 0) (x y : X) → P x → P y → All P (x ∷ (y ∷ []))
-all_two P x y p q = All-cons P x (y ∷ []) p (all_one P y q)
-
-no_pairs : {X : Type 0} (R : X → X → Type 0) → AllPairs R []
-no_pairs R i j d l w = absurd (omega (arith, l, w))
-
-one_pair : {X : Type 0} (R : X → X → Type 0) (x y : X) → R x y → AllPairs R (x ∷ (y ∷ []))
-one_pair R x y r zero zero d l w = absurd (omega (arith, l))
-one_pair R x y r zero (suc zero) d l w = r
-one_pair R x y r zero (suc (suc j)) d l w = absurd (omega (arith, w))
-one_pair R x y r (suc i) zero d l w = absurd (omega (arith, l))
-one_pair R x y r (suc i) (suc j) d l w = absurd (omega (arith, l, w))
-
-names_differ : (a b : List ℕ) → same_text a b ≡ false → a ≡ b → ⊥
+pub names_differ : (a b : List ℕ) → same_text a b ≡ false → a ≡ b → ⊥
 names_differ a b other is = both_ways (same_text a b) other (ap (same_text a) (sym is) ∙ nat_list_eq_equiv.refl a)
 
-other_name : Contains (bank_name ∷ []) shop_name → ⊥
+pub other_name : Contains (bank_name ∷ []) shop_name → ⊥
 other_name h = elim (contains_cases bank_name shop_name [] h) [
   | inl is ↦ names_differ bank_name shop_name refl is
   | inr later ↦ absurd (omega (arith, later.1))
 ]
 
-no_name : Contains [] bank_name → ⊥
+pub no_name : Contains [] bank_name → ⊥
 no_name h = absurd (omega (arith, h.1))
 
 module _ (setting : Setting) (buy pay : Request) (i : Inputs) (written : List Write) (token ann : List ℕ) where
-  abbrev at_shop : Setting
+  abbrev pub at_shop : Setting
   at_shop = record { me = shop_name; peers = bank_name ∷ []; program = setting.program; weight = setting.weight; alone = other_name }
 
-  abbrev at_bank : Setting
+  abbrev pub at_bank : Setting
   at_bank = record { me = bank_name; peers = []; program = setting.program; weight = setting.weight; alone = no_name }
 
   abbrev shop : Kept
