@@ -90,7 +90,7 @@ of_origin j log kept e p found there id (Call c n) from h =
       };
     }
 
-of_entry : (j : List Row) (log : List Entry) (kept : List Reply) (id : ℕ) (p : Reply) → IsLogged j log kept → reply id kept ≡ Some p → IsOfEntry j log p
+pub of_entry : (j : List Row) (log : List Entry) (kept : List Reply) (id : ℕ) (p : Reply) → IsLogged j log kept → reply id kept ≡ Some p → IsOfEntry j log p
 of_entry j log kept id p h there =
     let is : p.id ≡ id = eqb-true p.id id (splits (has_entry id) kept p there).passes in
     let entry = some_is (find (has_id p.id) log) (found_all (λ (r : Reply). IsSome (find (has_id r.id) log)) (has_entry id) kept p h.replies.others there) in

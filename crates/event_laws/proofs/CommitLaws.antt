@@ -69,7 +69,7 @@ Leaves before lives t = (t.entries ≡ before) × (live_rows t.journal ≡ lives
 
 -- what an event of a live request leaves of entries and live answers, by what it answers
 abbrev pub Commits : List Entry → List Row → Kept → Arrived → Type 0
-Commits before lives t (Committed index id) = IsCommitted before lives t index id
+Commits before lives t (Committed index id answer) = IsCommitted before lives t index id
 Commits before lives t (Sends flight set) = Leaves before lives t
 Commits before lives t (Known a) = Leaves before lives t
 

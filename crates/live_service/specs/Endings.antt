@@ -15,7 +15,7 @@ use Rattle.flights.specs.Numbers.{without_flight, with_flight}
 use Rattle.flights.specs.declared.flight.Flight.{Flight}
 use Rattle.service_meaning.specs.State.{Kept, After, after, me, next_id}
 use Rattle.service_meaning.specs.Calls.{noted, named}
-use Rattle.service_meaning.specs.Flying.{before_answer, live_answer, with_slot, with_change, change_rows, waits}
+use Rattle.service_meaning.specs.Flying.{before_answer, live_answer, answer_to_caller, with_slot, with_change, change_rows, waits}
 use Rattle.service_meaning.specs.declared.answers.Arrived.{Arrived}
 use Rattle.service_meaning.specs.declared.answers.Arrived.TheVariants.{Done, Call}
 use Rattle.live_service.specs.declared.endings.Ending.{Ending}
@@ -79,7 +79,7 @@ ends s (Commits flight entry reply index) =
       flights = without_flight flight s.flights;
       replies = s.replies ++ listed reply;
     })
-    (Done index entry.id)
+    (Done index entry.id (answer_to_caller s entry.origin entry))
 ends s (Waits flight set) = after (record s { flights = with_flight flight s.flights }) (Call flight.id set)
 
 -- it ends so, or a flight goes on

@@ -19,9 +19,9 @@ use Rattle.call_registers.specs.Registers.{register, at_number, with_cause, is_n
 use Rattle.call_registers.specs.declared.register.Register.{Register}
 use Rattle.call_registers.specs.declared.register.Why.{Why}
 use Rattle.flights.specs.declared.flight.Flight.{Flight}
-use Rattle.service_meaning.specs.State.{Kept, After, after, me, or_else, is_crowded, is_heavy, is_in_flight, flight_of, free_flight, without_flight}
+use Rattle.service_meaning.specs.State.{Kept, After, after, or_else, is_crowded, is_heavy, is_in_flight, flight_of, free_flight, without_flight}
 use Rattle.service_meaning.specs.Calls.{noted, all_deleted}
-use Rattle.service_meaning.specs.Flying.{goes_on, awaited}
+use Rattle.service_meaning.specs.Flying.{goes_on, awaited, last_answer}
 use Rattle.service_meaning.specs.declared.answers.Arrived.{Arrived}
 use Rattle.service_meaning.specs.declared.answers.Arrived.TheVariants.{Known}
 use Rattle.service_meaning.specs.declared.refusals.ArriveRefused.{ArriveRefused}
@@ -47,20 +47,6 @@ admitted s origin q i None = accepted (goes_on s (new_flight s origin q i))
 -- the number of entries and flights counts first
 abbrev pub arrives : Kept → Origin → Request → Inputs → After (Result Arrived ArriveRefused)
 arrives s origin q i = admitted s origin q i (or_else (is_crowded s) (is_heavy s))
-
--- the last answer of an entry, to the call that it comes from
-abbrev pub last_answer : Kept → List ℕ → ℕ → Entry → Made → AnswerMessage
-last_answer s caller number e m =
-    record {
-      caller = caller;
-      callee = me s;
-      id = e.id;
-      number = number;
-      answer_version = e.answer_version;
-      version = m.version;
-      response = m.trace.response;
-      who = me s;
-    }
 
 abbrev pub known_by : Kept → List ℕ → ℕ → Entry → Option Made → After (Result Arrived ArriveRefused)
 known_by s caller number e None = after s (Err (NotYet number))

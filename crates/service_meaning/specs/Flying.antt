@@ -1,5 +1,5 @@
 -- What a live request does after a run: it is committed, or it names or changes a call and waits.
-use Rattle.std.specs.Prelude.{ℕ, suc, zero, ◌+◌, true, false, List, [], ◌∷◌, ◌++◌, Option, Some, None, if◌then◌else◌, nat_le, length, map, take, drop, slice_set, slice_get}
+use Rattle.std.specs.Prelude.{ℕ, suc, zero, ◌+◌, true, false, List, [], ◌∷◌, ◌++◌, Option, Some, None, if◌then◌else◌, nat_le, length, map, option_map, take, drop, slice_set, slice_get}
 use Rattle.lang_core.specs.Traces.{dead_trace}
 use Rattle.lang_core.specs.declared.ids.Origin.{Origin}
 use Rattle.lang_core.specs.declared.ids.Origin.TheVariants.{Outside, Call}
@@ -10,8 +10,10 @@ use Rattle.handler_run.specs.Handlers.{run_of}
 use Rattle.handler_run.specs.declared.state.Ran.{Ran}
 use Rattle.handler_run.specs.declared.state.Ran.TheVariants.{Done, Wants}
 use Rattle.request_log.specs.declared.entry.Entry.{Entry}
+use Rattle.request_log.specs.declared.entry.Made.{Made}
 use Rattle.local_repair.specs.Alone.{trace_or_dead}
 use Rattle.local_repair.specs.Current.{rows_of}
+use Rattle.repair_messages.specs.declared.messages.AnswerMessage.{AnswerMessage}
 use Rattle.repair_messages.specs.declared.messages.SetMessage.{SetMessage}
 use Rattle.journal_rows.specs.declared.caller.How.TheVariants.{Live}
 use Rattle.journal_rows.specs.declared.row.Row.{Row}
@@ -104,6 +106,25 @@ live_replies s index (Call caller number) =
 abbrev pub answer_index : Kept → Flight → Trace → ℕ
 answer_index s f t = length s.journal + length (before_answer s f t)
 
+-- the last answer of an entry, to the call that it comes from
+abbrev pub last_answer : Kept → List ℕ → ℕ → Entry → Made → AnswerMessage
+last_answer s caller number e m =
+    record {
+      caller = caller;
+      callee = me s;
+      id = e.id;
+      number = number;
+      answer_version = e.answer_version;
+      version = m.version;
+      response = m.trace.response;
+      who = me s;
+    }
+
+-- the answer of an entry that was made, where it comes from a call
+abbrev pub answer_to_caller : Kept → Origin → Entry → Option AnswerMessage
+answer_to_caller s Outside e = None
+answer_to_caller s (Call caller number) e = option_map (last_answer s caller number e) e.made
+
 -- the flight did this, and is the last entry of the log
 abbrev pub committed : Kept → Flight → Trace → After Arrived
 committed s f t =
@@ -114,7 +135,7 @@ committed s f t =
       flights = without_flight f.id s.flights;
       replies = s.replies ++ live_replies s (answer_index s f t) f.origin;
     }))
-    (Committed (answer_index s f t) (next_id s))
+    (Committed (answer_index s f t) (next_id s) (answer_to_caller s f.origin (committed_entry s f t)))
 
 -- ---- a call is named or changed
 

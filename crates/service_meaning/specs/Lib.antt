@@ -6,3 +6,4 @@ pub mod Messages
 pub mod Steps
 pub mod Orders
 pub mod Fits
+pub mod Posts

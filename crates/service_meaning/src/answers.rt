@@ -6,10 +6,18 @@ use repair_messages::{Ack, AnswerMessage, Confirm, SetMessage};
 /// What became of a live request.
 #[derive(Drop)]
 pub enum Arrived {
-    /// It was committed as the entry of this number; its answer is the row of this index in the journal.
-    Done { index: u64, id: u64 },
+    /// It was committed as the entry of this number; its answer is the row of this index in the journal, and of a call
+    /// also what goes back to its caller.
+    Done {
+        index: u64,
+        id: u64,
+        answer: Option<AnswerMessage>,
+    },
     /// It is a flight of this number, and this call is to be sent.
-    Call { flight: u64, set: SetMessage },
+    Call {
+        flight: u64,
+        set: SetMessage,
+    },
     /// It is a call that has an entry, whose last answer this is.
     Known(AnswerMessage),
 }
