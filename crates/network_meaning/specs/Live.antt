@@ -34,6 +34,10 @@ IsLiveEvent (Clock moment) = Unit {0}
 IsLiveEvent (Seed n) = Unit {0}
 IsLiveEvent e = ⊥
 
+abbrev pub AllLiveEvents : List Event → Type 0
+AllLiveEvents [] = Unit {0}
+AllLiveEvents (e ∷ events) = IsLiveEvent e × AllLiveEvents events
+
 -- ---- what a commit says
 
 -- the service that was called has one entry of this call, whose response the call consumes

@@ -1,5 +1,5 @@
 -- What a world keeps: its services fit their journals and agree, and what each packet and each flight says stands in a journal.
-use Rattle.std.specs.Prelude.{ℕ, ◌≡◌, ◌<◌, ◌^◌, List, Some, All, length}
+use Rattle.std.specs.Prelude.{ℕ, ◌≡◌, ◌<◌, ◌^◌, List, [], ◌∷◌, Some, All, length}
 use Rattle.lang_core.specs.declared.ids.Origin.{Origin}
 use Rattle.lang_core.specs.declared.ids.Origin.TheVariants.{Outside, Call as CallOrigin}
 use Rattle.lang_core.specs.declared.request.Request.{Request}
@@ -13,7 +13,9 @@ use Rattle.service_meaning.specs.State.{Kept, me}
 use Rattle.service_meaning.specs.declared.answers.PostReply.{PostReply}
 use Rattle.service_meaning.specs.declared.answers.PostReply.TheVariants.{Acked, Confirmed}
 use Rattle.world_meaning.specs.Partners.{NamesDiffer, JournalOf, HasSent, HasAcked, HasAnswered, HasConfirmed, IsJoined}
+use Rattle.network_meaning.specs.Events.{after_event}
 use Rattle.network_meaning.specs.Worlds.{World}
+use Rattle.network_meaning.specs.declared.event.Event.{Event}
 use Rattle.network_meaning.specs.declared.packet.Live.{Live}
 use Rattle.network_meaning.specs.declared.packet.Live.TheVariants.{Answer, Refused}
 use Rattle.network_meaning.specs.declared.packet.Packet.{Packet}
@@ -86,3 +88,8 @@ IsSound w = AreSound w.services w.packets
 -- a journal has fewer rows than a number of 64 bits counts
 abbrev pub AreFew : World → Type 0
 AreFew w = All (λ (s : Kept). length s.journal < 2 ^ 64) w.services
+
+-- so it is after each of these events
+abbrev pub AllFew : World → List Event → Type 0
+AllFew w [] = Unit {0}
+AllFew w (e ∷ events) = AreFew (after_event w e) × AllFew (after_event w e) events

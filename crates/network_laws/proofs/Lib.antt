@@ -1,0 +1,11 @@
+pub mod PutLemmas
+pub mod StillLemmas
+pub mod TurnLaws
+pub mod LivedLaws
+pub mod LiveTurns
+pub mod RepairTurns
+pub mod WorldLaws
+pub mod HeardLaws
+pub mod LiveLaws
+pub mod CommitFacts
+pub mod LiveWorldLaws
