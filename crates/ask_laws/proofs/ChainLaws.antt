@@ -1,5 +1,6 @@
--- Each call of a run hands on who called for its request, the service itself last, and goes to none of these.
-use Rattle.std.proofs.Common.{◌≡◌, ℕ, pos, negsuc, ◌+◌, ◌/◌, Bool, true, false, ◌||◌, List, [], ◌∷◌, map, length, Option, Some, None, Ok, Err, find, nat_le, nat_eq, nat_lt, slice_get, refl, sym, ◌∙◌, subst, cond}
+-- Each call of a run hands on who called for its request, the service itself last, and goes to a peer that is none of these.
+use Rattle.std.proofs.Common.{◌≡◌, ℕ, pos, negsuc, ◌+◌, ◌/◌, Bool, true, false, ◌||◌, List, [], ◌∷◌, ◌++◌, Contains, map, length, Option, Some, None, Ok, Err, find, nat_le, nat_eq, nat_lt, slice_get, refl, sym, ◌∙◌, subst, cond}
+use Rattle.std.proofs.lemmas.List.Elements.{Contains-append_left, Contains-append_right, Contains-push}
 use Rattle.std.proofs.lemmas.List.Folds.{list_any-append}
 use Rattle.lang_base.specs.Texts.{same_text}
 use Rattle.lang_tree.specs.declared.expr.Expr.{Expr}
@@ -35,10 +36,11 @@ use Rattle.entry_laws.proofs.SearchLemmas.{text_is, splits}
 use Rattle.call_laws.proofs.RowLemmas.{Each, each_append}
 use Rattle.ask_laws.specs.Weights.{is_among, chain_behind}
 
--- a call that a service makes for a request
-pub record IsOnward (name : List ℕ) (q : Request) (c : CallMade) : Type 0 where
+-- a call that a service with these peers makes for a request
+pub record IsOnward (name : List ℕ) (peers : List (List ℕ)) (q : Request) (c : CallMade) : Type 0 where
   pub chain : c.request.chain ≡ chain_behind name q
   pub fresh : is_among c.dest (chain_behind name q) ≡ false
+  pub peer : Contains peers c.dest
 
 neither : (a b : Bool) → (a || b) ≡ false → (a ≡ false) × (b ≡ false)
 neither true b h = cc
@@ -55,10 +57,13 @@ not_among g dest h =
     let parts = neither (same_text g.me dest) (is_among dest g.request.chain) h in
     list_any-append (λ n. same_text n dest) g.request.chain (g.me ∷ []) ∙ either (same_text g.me dest) (is_among dest g.request.chain) parts.0 parts.1
 
+in_middle : (before : List (List ℕ)) (peer : List ℕ) (rest : List (List ℕ)) → Contains (before ++ peer ∷ rest) peer
+in_middle before peer rest = Contains-append_right before (peer ∷ rest) peer (Contains-append_left (peer ∷ []) rest peer (Contains-push [] peer))
+
 module _ (g : Given) where
   -- a call made for the request
   abbrev Ours : CallMade → Type 0
-  Ours c = IsOnward g.me g.request c
+  Ours c = IsOnward g.me g.peers g.request c
 
   abbrev WantsOurs : Flow → Type 0
   WantsOurs GoesOn = Unit {0}
@@ -214,10 +219,12 @@ module _ {g : Given} where
       → find (λ name. same_text name dest) g.peers ≡ o → Each (Ours g) s.calls → Stays g (send_to o g x y m path body s)
   sends None x y dest m path body s none e h = stays (answered x y (record { status = 502; body = [] }) s) h
   sends (Some peer) x y dest m path body s none e h =
-      let named : peer ≡ dest = text_is peer dest (splits (λ name. same_text name dest) g.peers peer e).passes in
+      let found = splits (λ name. same_text name dest) g.peers peer e in
+      let named : peer ≡ dest = text_is peer dest found.passes in
       let c : CallMade = record { dest = peer; request = call_request g m path body } in
       let P : List ℕ → Type 0 = λ d. is_among d (chain_behind g.me g.request) ≡ false in
-      let ours : Ours g c = record { chain = refl; fresh = subst P (sym named) (not_among g dest none) } in
+      let there : Contains g.peers peer = subst (λ ps. Contains ps peer) (sym found.is) (in_middle found.before peer found.rest) in
+      let ours : Ours g c = record { chain = refl; fresh = subst P (sym named) (not_among g dest none); peer = there } in
       inside (nat_lt (length s.calls) 16) s _ h (takes (slice_get g.answers (length s.calls)) x y c s ours h)
 
   calls_to : (b : Bool) (x y dest : List ℕ) (m : Method) (path body : List ℕ) (s : State) → is_loop g dest ≡ b → Each (Ours g) s.calls
@@ -307,5 +314,5 @@ routed g rows (Some r) =
     let e = block_of g rows r.block start in
     finished g e.flow e.state ((all_blocks g rows r.block).at start tt)
 
-pub calls_onward : (s : Setting) (q : Request) (i : Inputs) (answers : List Response) (rows : List Cell) → Each (IsOnward s.me q) (calls_in (run_of s q i answers rows))
+pub calls_onward : (s : Setting) (q : Request) (i : Inputs) (answers : List Response) (rows : List Cell) → Each (IsOnward s.me s.peers q) (calls_in (run_of s q i answers rows))
 calls_onward s q i answers rows = routed (given s q i answers) rows (route_of s.program q.method (segments_of q.path))

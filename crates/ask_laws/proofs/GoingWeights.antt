@@ -33,8 +33,8 @@ call_costs true j k h = let l = h refl in cost_grows (suc j) k (omega (arith, l)
 call_costs false j k h = cost_some k
 
 -- a call of a run costs at most what each call of its flight may cost
-onward_costs : (names : List (List ℕ)) (name : List ℕ) (q : Request) (c : CallMade) → IsOnward name q c → call_weight names c.dest c.request ≤ cost (left_by (chain_behind name q) names)
-onward_costs names name q c o =
+onward_costs : (names : List (List ℕ)) (name : List ℕ) (peers : List (List ℕ)) (q : Request) (c : CallMade) → IsOnward name peers q c → call_weight names c.dest c.request ≤ cost (left_by (chain_behind name q) names)
+onward_costs names name peers q c o =
     let chain = chain_behind name q in
     let W : List (List ℕ) → Type 0 = λ ch. (if is_among c.dest names then cost (suc (left_by (ch ++ c.dest ∷ []) names)) else 1) ≤ cost (left_by chain names) in
     subst W (sym o.chain) (call_costs (is_among c.dest names) (left_by (chain ++ c.dest ∷ []) names) (left_by chain names) (λ among. left_less c.dest chain names among o.fresh))
@@ -52,14 +52,14 @@ committed_comes names s f t = (refl, omega arith)
 
 -- a flight that waits now may send fewer calls than before
 waits_comes : (names : List (List ℕ)) (s : Kept) (f g : Flight) (number : ℕ) (c : CallMade) → g.id ≡ f.id → g.request ≡ f.request → room g < room f
-    → IsOnward (me s) f.request c → Comes names s f (waits s g number c)
+    → IsOnward (me s) s.setting.peers f.request c → Comes names s f (waits s g number c)
 waits_comes names s f g number c id request fewer onward =
     let w = flown s f in
     let weight = flight_weight names (me s) in
     let behind : Request → ℕ = λ q. cost (left_by (chain_behind (me s) q) names) in
     let put = ap (sum_by weight) (w.put g id) ∙ sum_between weight w.lows g w.highs in
     let without = ap (sum_by weight) w.without in
-    let costs = onward_costs names (me s) f.request c onward in
+    let costs = onward_costs names (me s) s.setting.peers f.request c onward in
     let covers = fewer_weigh (room g) (room f) (behind f.request) (call_weight names c.dest c.request) fewer costs in
     let same : room g * behind g.request ≡ room g * behind f.request = ap (λ q. room g * behind q) request in
     (refl, omega (arith, put, without, covers, same))
@@ -81,9 +81,9 @@ got P [] slot c e h = cc
 got P (x ∷ cs) zero c e h = (let is : x ≡ c = cc in subst P is h.0)
 got P (x ∷ cs) (suc slot) c e h = got P cs slot c e h.1
 
-onwards : (s : Kept) (f : Flight) (ran : Ran) → flight_run s f ≡ ran → Each (IsOnward (me s) f.request) (calls_in ran)
+onwards : (s : Kept) (f : Flight) (ran : Ran) → flight_run s f ≡ ran → Each (IsOnward (me s) s.setting.peers f.request) (calls_in ran)
 onwards s f ran is =
-    let E : Ran → Type 0 = λ r. Each (IsOnward (me s) f.request) (calls_in r) in
+    let E : Ran → Type 0 = λ r. Each (IsOnward (me s) s.setting.peers f.request) (calls_in r) in
     subst E is (calls_onward s.setting f.request f.inputs (map (answers s) f.numbers) (rows_of s.entries))
 
 -- a run that wants an answer was given fewer than 16, one by each number
@@ -109,7 +109,7 @@ changed_fewer f slot number c few =
 
 -- ---- a live request that goes on
 
-changes_come : (names : List (List ℕ)) (s : Kept) (f : Flight) (slot : ℕ) (c : CallMade) (many : Bool) → nat_le 3 f.changes ≡ many → IsOnward (me s) f.request c
+changes_come : (names : List (List ℕ)) (s : Kept) (f : Flight) (slot : ℕ) (c : CallMade) (many : Bool) → nat_le 3 f.changes ≡ many → IsOnward (me s) s.setting.peers f.request c
     → Comes names s f
     (if many then completed 17 (changed_unsent s f slot c) (with_change slot (next_number s.registers) c f)
     else waits (noted (change_rows s f slot c) s) (with_change slot (next_number s.registers) c f) (next_number s.registers) c)
@@ -131,14 +131,14 @@ moves_come : (names : List (List ℕ)) (s : Kept) (f : Flight) (ran : Ran) → f
     → Comes names s f (moved s f ran (change_or o (by_run ran)))
 moves_come names s f ran is (Some slot) e =
     let at = is_other f.calls (calls_in ran) slot e in
-    let onward = got (IsOnward (me s) f.request) (calls_in ran) slot at.call at.there (onwards s f ran is) in
+    let onward = got (IsOnward (me s) s.setting.peers f.request) (calls_in ran) slot at.call at.there (onwards s f ran is) in
     comes_call names s f (slice_get (calls_in ran) slot) at.call (λ c. changed s f slot c) (committed s f (trace_or_dead ran)) at.there
     (changes_come names s f slot at.call (nat_le 3 f.changes) refl onward)
 moves_come names s f (Done t) is None e = committed_comes names s f t
 moves_come names s f (Wants slot calls c) is None e =
     let next = next_number s.registers in
     let t = noted (named next c ∷ []) s in
-    let onward = (each_behind (IsOnward (me s) f.request) calls (c ∷ []) (onwards s f (Wants slot calls c) is)).0 in
+    let onward = (each_behind (IsOnward (me s) s.setting.peers f.request) calls (c ∷ []) (onwards s f (Wants slot calls c) is)).0 in
     waits_comes names t f (with_slot next c f) next c refl refl (named_fewer f next c (few_numbers s f slot calls c is)) onward
 
 pub goes_on_comes : (names : List (List ℕ)) (s : Kept) (f : Flight) → Comes names s f (goes_on s f)

@@ -6,6 +6,9 @@ pub mod LiveTurns
 pub mod RepairTurns
 pub mod WorldLaws
 pub mod HeardLaws
+pub mod PlaceFacts
 pub mod LiveLaws
 pub mod CommitFacts
 pub mod LiveWorldLaws
+pub mod PeerLaws
+pub mod ReachLaws

@@ -1,5 +1,5 @@
 -- The events of live requests keep that a service's rows are live, and that each of its flights waits for one call at most.
-use Rattle.std.proofs.Common.{◌≡◌, ℕ, ◌+◌, ◌≤◌, ◌<◌, ◌⊎◌, Bool, true, false, cond, List, [], ◌∷◌, ◌++◌, Option, Some, None, IsSome, IfSome, IsSomeAnd, All, Contains, Result, Ok, Err, fold, length, map, max, nat_eq, option_map, is_some, ◌||◌, inl, inr, refl, sym, ap, ◌∙◌, subst, arith, eqb-true, eq-eqb}
+use Rattle.std.proofs.Common.{◌≡◌, ℕ, ◌+◌, ◌≤◌, ◌<◌, ◌⊎◌, Bool, true, false, cond, List, [], ◌∷◌, Option, Some, None, IsSome, IfSome, IsSomeAnd, All, Contains, Result, Ok, Err, fold, length, max, nat_eq, option_map, is_some, ◌||◌, inl, inr, refl, sym, ap, ◌∙◌, subst, arith, eqb-true, eq-eqb}
 use Rattle.std.proofs.Math.Nat.{max-eq_left, max-eq_right}
 use Rattle.std.proofs.lemmas.Bool.{cases_lt, cond_both, cond-true, and_parts}
 use Rattle.std.proofs.lemmas.List.Elements.{All-append, All-contains, All-weaker}
@@ -25,19 +25,20 @@ use Rattle.call_registers.specs.declared.register.Why.{Why}
 use Rattle.flights.specs.declared.flight.Flight.{Flight}
 use Rattle.service_meaning.specs.Arriving.{accepted, new_flight, admitted, known_by, arrives_or_known, by_version, unless_gone, arrive_event, answers_register, is_for, is_new_to, seen_live, heard_rows, answered_flight, call_answered_event, told, failed_flight, call_failed_event, abandoned, abandon_event}
 use Rattle.service_meaning.specs.Calls.{after_rows, noted, all_deleted}
-use Rattle.service_meaning.specs.Fits.{Fits, WantsItsCalls, place_of_entry, place_of_flight, call_to, call_in, wanted_call, sent_by}
+use Rattle.service_meaning.specs.Fits.{Fits, WantsItsCalls, place_of_flight, call_to, call_in, wanted_call, sent_by}
 use Rattle.service_meaning.specs.Flying.{awaited, goes_on}
 use Rattle.service_meaning.specs.State.{Kept, After, after, or_else, is_crowded, is_heavy, is_in_flight, has_flight, flight_of}
 use Rattle.service_meaning.specs.declared.answers.Arrived.{Arrived}
 use Rattle.service_meaning.specs.declared.refusals.ArriveRefused.{ArriveRefused}
 use Rattle.service_meaning.specs.declared.refusals.CallRefused.{CallRefused}
 use Rattle.call_laws.proofs.RegisterLemmas.{find-change}
-use Rattle.call_laws.proofs.RowLemmas.{Each, each_weaker, all_of_each, each_of_all}
+use Rattle.call_laws.proofs.RowLemmas.{Each, each_weaker, all_of_each}
 use Rattle.entry_laws.proofs.AloftLemmas.{IsAloft, acked_aloft, answered_aloft, told_aloft, aloft_of}
 use Rattle.entry_laws.proofs.SearchLemmas.{found_all}
 use Rattle.network_meaning.specs.Live.{IsLiveRow, IsHeardOf, WaitsForOne, IsLive, is_heard}
 use Rattle.network_laws.proofs.HeardLaws.{Hears, rows_hears, told_hears, told_heard, heard_at, AllHeard, waits_still, others_heard, Ends, HeardOn, goes_on_heard}
 use Rattle.network_laws.proofs.LivedLaws.{IsNaming, IsOfRequest, Lived, goes_on_lives, deleted_names, without_all}
+use Rattle.network_laws.proofs.PlaceFacts.{wanted_each, flight_wants, numbers_there}
 use Rattle.network_laws.proofs.StillLemmas.{sent_from}
 
 -- ---- what an event of a live request leaves
@@ -111,40 +112,6 @@ module _ (s : Kept) (fits : Fits s) (live : IsLive s) where
 
   -- ---- the numbers of a flight
 
-  call_there : (n : ℕ) (c : CallMade) (o : Option Register) → call_in o ≡ Some c → IsSome o
-  call_there n c None e = cc
-  call_there n c (Some r) e = refl
-
-  wanted_each : (P : ℕ → Type 0) → ((n : ℕ) (c : CallMade) → wanted_call s.registers n ≡ Some c → P n) → (ns : List ℕ) (cs : List CallMade)
-      → map (wanted_call s.registers) ns ≡ map Some cs → Each P ns
-  wanted_each P f [] cs e = tt
-  wanted_each P f (n ∷ ns) [] e = cc
-  wanted_each P f (n ∷ ns) (c ∷ cs) e = (f n c (head_is e), wanted_each P f ns cs (tail_is e))
-    where
-      head_is : wanted_call s.registers n ∷ map (wanted_call s.registers) ns ≡ Some c ∷ map Some cs → wanted_call s.registers n ≡ Some c
-      head_is e = cc
-
-      tail_is : wanted_call s.registers n ∷ map (wanted_call s.registers) ns ≡ Some c ∷ map Some cs → map (wanted_call s.registers) ns ≡ map Some cs
-      tail_is e = cc
-
-  all_behind : {X : Type 0} (P : X → Type 0) (xs ys : List X) → Each P (xs ++ ys) → Each P ys
-  all_behind P [] ys h = h
-  all_behind P (x ∷ xs) ys h = all_behind P xs ys h.1
-
-  flight_wants : (id : ℕ) (f : Flight) → flight_of id s ≡ Some f → WantsItsCalls s.registers (place_of_flight f)
-  flight_wants id f found =
-      let places = all_behind (WantsItsCalls s.registers) (map place_of_entry s.entries) (map place_of_flight s.flights)
-      (each_of_all (WantsItsCalls s.registers) (map place_of_entry s.entries ++ map place_of_flight s.flights) fits.places.calls) in
-      found_all (λ g. WantsItsCalls s.registers (place_of_flight g)) (has_flight id) s.flights f
-      (all_of_each (λ g. WantsItsCalls s.registers (place_of_flight g)) s.flights (of_map s.flights places)) found
-    where
-      of_map : (fs : List Flight) → Each (WantsItsCalls s.registers) (map place_of_flight fs) → Each (λ g. WantsItsCalls s.registers (place_of_flight g)) fs
-      of_map [] h = tt
-      of_map (g ∷ gs) h = (h.0, of_map gs h.1)
-
-  numbers_there : (f : Flight) → WantsItsCalls s.registers (place_of_flight f) → Each (λ n. IsSome (register n s.registers)) f.numbers
-  numbers_there f wants = wanted_each (λ n. IsSome (register n s.registers)) (λ n c e. call_there n c (register n s.registers) e) f.numbers f.calls wants
-
   max_cases : (P : ℕ → Type 0) (a b : ℕ) → P a → P b → P (max a b)
   max_cases P a b p q = elim (cases_lt a b) [
     | inl l ↦ subst P (sym (max-eq_right (below l))) q
@@ -173,7 +140,7 @@ module _ (s : Kept) (fits : Fits s) (live : IsLive s) where
   -- the number that a flight waits for is wanted, if it isn't 0
   awaited_first : (f : Flight) → WantsItsCalls s.registers (place_of_flight f) → (r : Register) → register (awaited f) s.registers ≡ Some r → r.version ≡ 1
   awaited_first f wants r found =
-      by_number (awaited f) found (max_is IsZeroOrWanted 0 f.numbers (inl refl) (wanted_each IsZeroOrWanted (λ n c e. inr (c, e)) f.numbers f.calls wants))
+      by_number (awaited f) found (max_is IsZeroOrWanted 0 f.numbers (inl refl) (wanted_each s.registers IsZeroOrWanted (λ n c e. inr (c, e)) f.numbers f.calls wants))
     where
       IsZeroOrWanted : ℕ → Type 0
       IsZeroOrWanted n = (n ≡ 0) ⊎ ((c : CallMade) × (wanted_call s.registers n ≡ Some c))
@@ -209,7 +176,7 @@ module _ (s : Kept) (fits : Fits s) (live : IsLive s) where
       let m = told n why s in
       let H : ℕ → Type 0 = λ k. IsSome (register k s.registers) → IsHeardOf k m.registers in
       on m f (still m refl hears live.rows) (told_aloft n why s.registers f.numbers f.calls (aloft_of s id f fits is))
-      (others_heard s.registers m.registers f hears waits (numbers_there f (flight_wants id f is)) (subst H (sym same) (told_heard n why s.registers)))))
+      (others_heard s.registers m.registers f hears waits (numbers_there s f (flight_wants s fits id f is)) (subst H (sym same) (told_heard n why s.registers)))))
       (λ _. rests (CallRefused.NoFlight id))
 
   pub call_failed_live : (id n : ℕ) (why : Why) → GoesLive (call_failed_event s id n why)
@@ -279,7 +246,7 @@ module _ (s : Kept) (fits : Fits s) (live : IsLive s) where
       of_register None found same e = cc
       of_register (Some r) found same e =
           let parts = and_parts (same_text r.dest a.callee) (nat_eq r.version a.version) e in
-          let wants = flight_wants id f is in
+          let wants = flight_wants s fits id f is in
           let first = awaited_first f wants r (ap (λ k. register k s.registers) same ∙ found) in
           let version : a.version ≡ 1 = sym (eqb-true r.version a.version parts.1) ∙ first in
           let new = is_new_to a (register a.number s.registers) in
@@ -292,7 +259,7 @@ module _ (s : Kept) (fits : Fits s) (live : IsLive s) where
           (acked_aloft a.number a.version s.registers f.numbers f.calls (aloft_of s id f fits is)) in
           let H : ℕ → Type 0 = λ k. IsSome (register k s.registers) → IsHeardOf k m.registers in
           on m f (still m refl hears rows) aloft
-          (others_heard s.registers m.registers f hears waits (numbers_there f wants) (subst H (sym same) (λ _. heard)))
+          (others_heard s.registers m.registers f hears waits (numbers_there s f wants) (subst H (sym same) (λ _. heard)))
 
   pub call_answered_live : (id : ℕ) (a : AnswerMessage) → GoesLive (call_answered_event s id a)
   call_answered_live id a = answered_live id a (flight_of id s) refl

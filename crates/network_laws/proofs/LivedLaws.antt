@@ -1,5 +1,5 @@
 -- What a live request leaves when it goes on, and what is said of it.
-use Rattle.std.proofs.Common.{◌≡◌, ℕ, zero, suc, IfSome, ◌⊎◌, true, List, [], ◌∷◌, ◌++◌, Option, Some, None, All, Contains, slice_get, nat_le, nat_lt, not, inl, inr, refl, ap, ◌∙◌, subst, append_assoc}
+use Rattle.std.proofs.Common.{◌≡◌, ℕ, zero, suc, IsSome, IfSome, ◌⊎◌, true, List, [], ◌∷◌, ◌++◌, Option, Some, None, All, Contains, slice_get, nat_le, nat_lt, not, inl, inr, refl, ap, ◌∙◌, subst, append_assoc}
 use Rattle.std.specs.Prelude.{drop, length}
 use Rattle.std.proofs.lemmas.Bool.{cond_both}
 use Rattle.std.proofs.lemmas.List.Elements.{All-cons, All-head, All-tail, All-weaker, All-filter, All-contains_itself, Contains-append_right, Contains-push}
@@ -66,6 +66,7 @@ pub record IsGiven (o : Origin) (t : Kept) (a : AnswerMessage) : Type 0 where
 pub record IsSent (t : Kept) (set : SetMessage) : Type 0 where
   pub caller : set.caller ≡ me t
   pub first : set.version ≡ 1
+  pub asks : IsSome set.desired
   pub sent : HasSent set.dest set.number set.version set.desired t.journal
 
 abbrev pub GoesBack : Origin → Kept → Option AnswerMessage → Type 0
@@ -184,7 +185,7 @@ waits_lives s f g rows n c origin request names has = record {
     rows = names_of f.origin f.request rows names;
     flights = with_all (IsFlownFrom s f.origin f.request) g s.flights (inr (origin, request)) (flown_same s f.origin f.request);
   };
-  says = record { caller = refl; first = refl; sent = Contains-append_right s.journal rows (named n c) has };
+  says = record { caller = refl; first = refl; asks = refl; sent = Contains-append_right s.journal rows (named n c) has };
 }
 
 change_last : (s : Kept) (f : Flight) (slot : ℕ) (c : CallMade) → Contains (change_rows s f slot c) (named (next_number s.registers) c)

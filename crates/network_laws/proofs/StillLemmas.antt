@@ -138,7 +138,7 @@ module _ (old new : List Kept) (g : Grew old new) where
       has_still old new g set.caller (HasSent set.dest set.number set.version set.desired) (sent_more set.dest set.number set.version set.desired) h
 
   call_still : (name : List ℕ) (set : SetMessage) → CallStands old name set → CallStands new name set
-  call_still name set h = record { caller = h.caller; first = h.first; sent = sent_still set h.sent }
+  call_still name set h = record { caller = h.caller; first = h.first; asks = h.asks; sent = sent_still set h.sent }
 
   post_still : (post : Post) → PostStands old post → PostStands new post
   post_still (SetPost set) h = sent_still set h

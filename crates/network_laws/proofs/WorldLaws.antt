@@ -108,6 +108,7 @@ module _ (services : List Kept) (packets : List Packet) (h : AreSound services p
   sent_stands t turns call p = record {
     caller = p.caller;
     first = p.first;
+    asks = p.asks;
     sent = now t turns call.caller p.caller (HasSent call.dest call.number call.version call.desired) p.sent;
   }
 
@@ -166,7 +167,7 @@ module _ (services : List Kept) (packets : List Packet) (h : AreSound services p
       let m = arrive_moves services s fits flights origin q i called_for in
       let t = (arrive_event s origin q i).service in
       let still = packet_still services (put name t services) (grew_put name s t m.turns.grows services here) (Call from flight call) stands in
-      let mine : CallStands (put name t services) call.caller call = record { caller = refl; first = still.first; sent = still.sent } in
+      let mine : CallStands (put name t services) call.caller call = record { caller = refl; first = still.first; asks = still.asks; sent = still.sent } in
       live_owes origin (arrive_event s origin q i) what.Arrive (λ a. Some (CallReply call.caller flight call (Answer a)))
       (λ why. Some (CallReply call.caller flight call (live_refusal why))) m (arrive_fits s origin q i fits)
       (λ a given. (mine, (caller_is a given.from, given_stands t m.turns origin a given))) (λ why. refusal_stands call flight t mine why)

@@ -1,5 +1,5 @@
 -- What a world keeps: its services fit their journals and agree, and what each packet and each flight says stands in a journal.
-use Rattle.std.specs.Prelude.{ℕ, ◌≡◌, ◌<◌, ◌^◌, List, [], ◌∷◌, Some, All, length}
+use Rattle.std.specs.Prelude.{ℕ, ◌≡◌, ◌<◌, ◌^◌, List, [], ◌∷◌, Some, IsSome, All, length}
 use Rattle.lang_core.specs.declared.ids.Origin.{Origin}
 use Rattle.lang_core.specs.declared.ids.Origin.TheVariants.{Outside, Call as CallOrigin}
 use Rattle.lang_core.specs.declared.request.Request.{Request}
@@ -33,10 +33,11 @@ WasAnswered services a = JournalOf services a.callee (HasAnswered a.caller a.num
 
 -- ---- packets
 
--- a live call of the service of this name
+-- a live call of the service of this name, which asks something
 pub record CallStands (services : List Kept) (name : List ℕ) (set : SetMessage) : Type 0 where
   pub caller : set.caller ≡ name
   pub first : set.version ≡ 1
+  pub asks : IsSome set.desired
   pub sent : WasSent services set
 
 abbrev pub ReplyStands : List Kept → List ℕ → Live → Type 0
