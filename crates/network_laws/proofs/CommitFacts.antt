@@ -1,17 +1,15 @@
 -- In a world in which nothing is repaired, a call whose answer was heard consumes the response of its callee's one entry.
-use Rattle.std.proofs.Common.{◌≡◌, ℕ, ◌<◌, ◌⊎◌, ◌||◌, Bool, true, false, List, [], Option, Some, None, IsSome, IfSome, IsSomeAnd, All, Contains, find, nat_eq, option_map, is_some, inl, inr, refl, sym, ap, ◌∙◌, subst, arith, eqb-true, eq-eqb}
-use Rattle.std.specs.List.{list_any}
+use Rattle.std.proofs.Common.{◌≡◌, ℕ, ◌<◌, ◌⊎◌, ◌||◌, Bool, true, false, List, [], Option, Some, None, IsSome, IfSome, IsSomeAnd, All, Contains, nat_eq, option_map, is_some, inl, inr, refl, sym, ap, ◌∙◌, subst, arith, eqb-true, eq-eqb}
 use Rattle.std.proofs.lemmas.Bool.{cond-true}
 use Rattle.std.proofs.lemmas.List.Elements.{All-contains}
 use Rattle.lang_core.specs.declared.ids.Origin.TheVariants.{Call}
 use Rattle.lang_core.specs.declared.request.Request.{Request}
 use Rattle.lang_core.specs.declared.trace.CallMade.{CallMade}
-use Rattle.request_log.specs.Entries.{has_id, has_origin, find_call}
+use Rattle.request_log.specs.Entries.{has_id, find_call}
 use Rattle.request_log.specs.declared.entry.Entry.{Entry}
 use Rattle.request_log.specs.declared.entry.Made.{Made as EntryMade}
 use Rattle.journal_rows.specs.Words.{last_sent, last_seen, seen_acked, last_taken, asked, last_answered}
 use Rattle.journal_rows.specs.declared.callee.AnsweredRow.{AnsweredRow}
-use Rattle.journal_rows.specs.declared.callee.AskedRow.{AskedRow}
 use Rattle.journal_rows.specs.declared.callee.TookRow.{TookRow}
 use Rattle.journal_rows.specs.declared.caller.SawAnswerRow.{SawAnswerRow}
 use Rattle.journal_rows.specs.declared.caller.SentRow.{SentRow}
@@ -20,13 +18,11 @@ use Rattle.journal_rows.specs.declared.row.Row.TheVariants.{Took, Answered, SawA
 use Rattle.call_registers.specs.Registers.{register, consumed, consumed_in, answer_to}
 use Rattle.call_registers.specs.declared.register.Answer.{Answer}
 use Rattle.call_registers.specs.declared.register.Register.{Register}
-use Rattle.service_meaning.specs.Fits.{EachAfter, TakesOn, AnswersOn, Fits, HasAnswered as HasItsAnswer, made_as, asked_as, answer_made, answer_given, answer_of, sent_by, call_to, call_in, wanted_call, takes_request, HasSeen}
+use Rattle.service_meaning.specs.Fits.{EachAfter, TakesOn, AnswersOn, Fits, HasAnswered as HasItsAnswer, answer_made, answer_given, answer_of, sent_by, call_to, call_in, wanted_call, HasSeen}
 use Rattle.service_meaning.specs.State.{Kept, me}
-use Rattle.entry_laws.proofs.JournalLemmas.{untaken}
-use Rattle.entry_laws.proofs.LogLemmas.{itself, found_call}
 use Rattle.entry_laws.proofs.SearchLemmas.{found_all}
 use Rattle.world_meaning.specs.Partners.{has_name, service_of, JournalOf, HasSent, HasAnswered, HasPartner}
-use Rattle.world_meaning.proofs.AnswerFacts.{IsGivenBefore, given_before, given_asked, given_from}
+use Rattle.world_meaning.proofs.AnswerFacts.{IsGivenBefore, given_before, given_from}
 use Rattle.world_meaning.proofs.EntryFacts.{entered}
 use Rattle.world_meaning.proofs.Histories.{once_come}
 use Rattle.world_meaning.proofs.ListLemmas.{some_out, found_passes}
@@ -36,6 +32,7 @@ use Rattle.world_meaning.proofs.TakenFacts.{taken_from}
 use Rattle.network_meaning.specs.Live.{IsAnswered, IsTold, IsLiveRow, IsHeardOf, IsLive, is_heard}
 use Rattle.network_meaning.specs.Sound.{AreSound}
 use Rattle.network_meaning.specs.declared.packet.Packet.{Packet}
+use Rattle.network_laws.proofs.AnswerFacts.{IsOfCall, of_call, taken_there}
 use Rattle.network_laws.proofs.LiveLaws.{wanted_first}
 
 -- a live answer is the first of its entry
@@ -49,11 +46,6 @@ took_positive : (t : TookRow) (journal : List Row) → EachAfter TakesOn [] jour
 took_positive t journal follows has =
     once_come TakesOn (λ (u : Unit {0}) row. tt) tt (Took t) (λ _. 0 < t.version) (λ before f. (let more = f.0 in omega (arith, more)))
     (λ before row f q. q) journal follows has
-
-taken_there : (c : List ℕ) (n : ℕ) (j : List Row) (o : Option TookRow) → last_taken c n j ≡ o → list_any (takes_request c n) j ≡ true
-    → (t : TookRow) × (o ≡ Some t)
-taken_there c n j None is any = (let none : false ≡ true = sym (untaken c n j is) ∙ any in cc)
-taken_there c n j (Some t) is any = (t, refl)
 
 module _ (services : List Kept) (packets : List Packet) (h : AreSound services packets) (lives : All IsLive services) where
   fits_of : (name : List ℕ) (k : Kept) → service_of name services ≡ Some k → Fits k
@@ -105,25 +97,8 @@ module _ (services : List Kept) (packets : List Packet) (h : AreSound services p
       row_first a at = live_first a k.journal theirs.answered.rows at (row_live a at)
 
       -- the entry of this call
-      record Made : Type 0 where
-        pub entry : Entry
-        pub by_id : find (has_id row.id) k.entries ≡ Some entry
-        pub by_call : find_call (Call (me s) n) k.entries ≡ Some entry
-
-      entry_by : (o : Option Entry) → find (has_id row.id) k.entries ≡ o → (a : Option AskedRow) → option_map made_as o ≡ option_map asked_as a
-          → IsSomeAnd a (λ made. made.origin ≡ row.origin) → Made
-      entry_by o is None e at = absurd at
-      entry_by None is (Some a) e at = cc
-      entry_by (Some x) is (Some a) e at =
-          let same : made_as x ≡ asked_as a = cc in
-          let origin : x.origin ≡ Call (me s) n = ap (λ p. p.0) same ∙ at ∙ from in
-          let mine : has_origin (me s) n x ≡ true = subst (λ o. has_origin (me s) n (record x { origin = o }) ≡ true) (sym origin) (itself (me s) n) in
-          record { entry = x; by_id = is; by_call = found_call k.entries row.id x (me s) n is mine theirs.asked.distinct }
-
-      made : Made
-      made =
-          entry_by (find (has_id row.id) k.entries) refl (asked row.id k.journal) (theirs.asked.entries row.id)
-          (given_asked row k.journal theirs.answered.rows has)
+      made : IsOfCall k row.id (me s) n
+      made = of_call k theirs row (me s) n from has
 
       request_is : made.entry.request ≡ c.request
       request_is =
@@ -135,10 +110,12 @@ module _ (services : List Kept) (packets : List Packet) (h : AreSound services p
           let asks = took_asks n r found first k t.0 (partner_of c.dest k there (Took t.0) at.1) at.0.0 at.0.1 positive in
           let q : r.desired ≡ Some c.request = desired_is r.desired (sym (ap call_in found) ∙ wanted) in
           let e = entered k theirs (me s) n t.0 t.1 c.request (asks ∙ q) in
-          let same : Some e.entry ≡ Some made.entry = sym e.found ∙ made.by_call in
-          let it : e.entry ≡ made.entry = cc in
-          sym (ap (λ (x : Entry). x.request) it) ∙ e.request
+          same_request (find_call (Call (me s) n) k.entries) made.entry e.entry made.by_call e.found ∙ e.request
         where
+          same_request : (o : Option Entry) (x y : Entry) → o ≡ Some x → o ≡ Some y → x.request ≡ y.request
+          same_request None x y a b = cc
+          same_request (Some z) x y a b = (let one : z ≡ x = cc in let other : z ≡ y = cc in sym (ap (λ (e : Entry). e.request) one) ∙ ap (λ (e : Entry). e.request) other)
+
           desired_is : (d : Option Request) → call_to r.dest d ≡ Some c → d ≡ Some c.request
           desired_is None e = cc
           desired_is (Some q) e = (let same : record { dest = r.dest; request = q } ≡ c = cc in ap (λ (x : CallMade). Some x.request) same)

@@ -24,7 +24,7 @@ use Rattle.flights.specs.declared.flight.Move.{Move}
 use Rattle.flights.specs.declared.flight.Move.TheVariants.{Commit, Name, Change}
 use Rattle.service_meaning.specs.State.{Kept, After}
 use Rattle.service_meaning.specs.Calls.{first_sent, put_sent, after_row, after_rows, noted, named}
-use Rattle.service_meaning.specs.Flying.{awaited, flight_run, before_answer, live_answer, committed_entry, committed, with_slot, with_change, change_rows, waits, call_or_none, wanted_of, named_unsent, changed_unsent, completing, completed, changed, moved, goes_on}
+use Rattle.service_meaning.specs.Flying.{awaited, flight_run, before_answer, live_answer, committed_entry, committed, with_slot, with_change, change_rows, waits, wanted_of, named_unsent, changed_unsent, completing, completed, changed, moved, goes_on}
 use Rattle.service_meaning.specs.declared.answers.Arrived.{Arrived}
 use Rattle.service_meaning.specs.declared.answers.Arrived.TheVariants.{Done, Call as Sends, Known}
 use Rattle.call_laws.proofs.RegisterLemmas.{find-change}
@@ -33,7 +33,7 @@ use Rattle.entry_laws.proofs.AloftLemmas.{IsAloft, named_became, changed_became}
 use Rattle.entry_laws.proofs.LiveRuns.{named_aloft, changed_aloft}
 use Rattle.entry_laws.proofs.OwnLemmas.{AreWithin, within_push, within_set}
 use Rattle.network_meaning.specs.Live.{IsHeardOf, WaitsForOne, is_heard}
-use Rattle.network_laws.proofs.LivedLaws.{without_all, with_all}
+use Rattle.network_laws.proofs.LivedLaws.{without_all, with_all, call_keeps}
 
 -- ---- what was heard of stays heard of
 
@@ -307,11 +307,6 @@ module _ (s : Kept) (f : Flight) (slot : ℕ) (c : CallMade) (a : IsAloft s.regi
       each_set (λ n. IsHeardOf n (changed_unsent s f slot c).registers) f.numbers slot (next_number s.registers)
       (all_heard_still s.registers (changed_unsent s f slot c).registers f.numbers other_hears h)
       (told_heard (next_number s.registers) Changes changed_registers (next_there s.registers changed_registers b.numbered b.many))
-
-call_keeps : (P : After Arrived → Type 0) (o : Option CallMade) (go : CallMade → After Arrived) (never : After Arrived) → ((c : CallMade) → P (go c)) → P never
-    → P (call_or_none o go never)
-call_keeps P None go never each last = last
-call_keeps P (Some c) go never each last = each c
 
 completing_heard : (s : Kept) (f : Flight) (ran : Ran) (move : Move) (again : Kept → Flight → After Arrived) → IsAloft s.registers f.numbers f.calls → AllHeard s.registers f.numbers
     → ((t : Kept) (g : Flight) → IsAloft t.registers g.numbers g.calls → AllHeard t.registers g.numbers → HeardOn t (again t g)) → HeardOn s (completing s f ran move again)

@@ -8,7 +8,9 @@ pub mod WorldLaws
 pub mod HeardLaws
 pub mod PlaceFacts
 pub mod LiveLaws
+pub mod AnswerFacts
 pub mod CommitFacts
 pub mod LiveWorldLaws
 pub mod PeerLaws
 pub mod ReachLaws
+pub mod PostLaws

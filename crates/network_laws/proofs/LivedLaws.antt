@@ -196,7 +196,7 @@ change_names s f slot c =
     each_append IsNaming (deletion s (slice_get f.numbers slot) (slice_get f.calls slot)) (named (next_number s.registers) c ∷ [])
     (deletion_names s (slice_get f.numbers slot) (slice_get f.calls slot)) (refl, tt)
 
-call_keeps : (P : After Arrived → Type 0) (o : Option CallMade) (go : CallMade → After Arrived) (never : After Arrived) → ((c : CallMade) → P (go c)) → P never
+pub call_keeps : (P : After Arrived → Type 0) (o : Option CallMade) (go : CallMade → After Arrived) (never : After Arrived) → ((c : CallMade) → P (go c)) → P never
     → P (call_or_none o go never)
 call_keeps P None go never each last = last
 call_keeps P (Some c) go never each last = each c

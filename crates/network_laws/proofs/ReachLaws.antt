@@ -1,11 +1,9 @@
 -- Each packet has a receiver, so an event is refused exactly where it names what isn't there.
-use Rattle.std.proofs.Common.{◌≡◌, ℕ, true, false, List, Option, Some, None, IsSome, IfSome, IsSomeAnd, IsOk, All, Contains, find, is_some, option_and_then, option_map, refl, sym, ap, ◌∙◌, subst}
-use Rattle.std.specs.List.{list_any}
+use Rattle.std.proofs.Common.{◌≡◌, ℕ, List, Option, Some, None, IsSome, IfSome, IsSomeAnd, IsOk, All, Contains, is_some, option_and_then, refl, sym, ap, subst}
 use Rattle.std.proofs.lemmas.List.Elements.{All-contains, All-weaker}
 use Rattle.lang_core.specs.declared.ids.Origin.TheVariants.{Outside, Call as CallOrigin}
 use Rattle.lang_core.specs.declared.request.Request.{Request}
-use Rattle.request_log.specs.Entries.{has_id, has_origin, find_call}
-use Rattle.request_log.specs.declared.entry.Entry.{Entry}
+use Rattle.request_log.specs.Entries.{find_call}
 use Rattle.repair_messages.specs.declared.messages.AnswerMessage.{AnswerMessage}
 use Rattle.repair_messages.specs.declared.messages.SetMessage.{SetMessage}
 use Rattle.repair_messages.specs.declared.posts.Post.{Post}
@@ -13,22 +11,17 @@ use Rattle.repair_messages.specs.declared.posts.Post.TheVariants.{Set as SetPost
 use Rattle.repair_messages.specs.declared.posts.PostName.{PostName}
 use Rattle.journal_rows.specs.Words.{last_taken, asked}
 use Rattle.journal_rows.specs.declared.callee.AnsweredRow.{AnsweredRow}
-use Rattle.journal_rows.specs.declared.callee.AskedRow.{AskedRow}
-use Rattle.journal_rows.specs.declared.callee.TookRow.{TookRow}
 use Rattle.journal_rows.specs.declared.row.Row.{Row}
 use Rattle.journal_rows.specs.declared.row.Row.TheVariants.{Took, Answered}
 use Rattle.call_registers.specs.declared.register.Why.TheVariants.{Lost, Refused as WasRefused}
 use Rattle.flights.specs.declared.flight.Flight.{Flight}
-use Rattle.service_meaning.specs.Fits.{Fits, made_as, asked_as, takes_request}
+use Rattle.service_meaning.specs.Fits.{Fits}
 use Rattle.service_meaning.specs.Posts.{next_post}
 use Rattle.service_meaning.specs.State.{Kept, or_else, flight_of}
 use Rattle.service_meaning.specs.declared.answers.PostReply.TheVariants.{Lost as PostIsLost}
 use Rattle.call_laws.proofs.CallLaws.{Grows}
-use Rattle.entry_laws.proofs.JournalLemmas.{untaken}
-use Rattle.entry_laws.proofs.LogLemmas.{itself, found_call}
 use Rattle.entry_laws.proofs.SearchLemmas.{found_all}
 use Rattle.world_meaning.specs.Partners.{has_name, service_of, JournalOf, HasSent, HasAnswered, HasPartner}
-use Rattle.world_meaning.proofs.AnswerFacts.{given_asked}
 use Rattle.world_meaning.proofs.ListLemmas.{some_out, some_of}
 use Rattle.world_meaning.proofs.TakenFacts.{taken_from}
 use Rattle.network_meaning.specs.Worlds.{World, with_service, packet_of, next_inputs, once_drawn, once_lost, loss_note}
@@ -42,6 +35,7 @@ use Rattle.network_meaning.specs.declared.packet.Live.{Live}
 use Rattle.network_meaning.specs.declared.packet.Live.TheVariants.{Answer as LiveAnswer, Refused as LiveRefused}
 use Rattle.network_meaning.specs.declared.packet.Packet.{Packet}
 use Rattle.network_meaning.specs.declared.packet.Packet.TheVariants.{Call, CallReply, Post as PostPacket, PostReply as PostReplyPacket}
+use Rattle.network_laws.proofs.AnswerFacts.{of_call, taken_there}
 use Rattle.network_laws.proofs.PeerLaws.{Reaches, reaches_same, reached_calls, arrive_reaches, call_answered_reaches, call_failed_reaches, abandon_reaches, step_reaches, order_reaches, take_reaches, take_answer_reaches, posted_reaches}
 use Rattle.network_laws.proofs.PutLemmas.{put, with_is_put, grew_put, all_put}
 use Rattle.network_laws.proofs.WorldLaws.{found_packet}
@@ -54,10 +48,6 @@ there_by services name P h = by (service_of name services) h
     by : (o : Option Kept) → IsSomeAnd o (λ s. P s.journal) → IsSome o
     by None h = absurd h
     by (Some s) h = refl
-
-taken_there : (c : List ℕ) (n : ℕ) (j : List Row) (o : Option TookRow) → last_taken c n j ≡ o → list_any (takes_request c n) j ≡ true → (t : TookRow) × (o ≡ Some t)
-taken_there c n j None is any = (let none : false ≡ true = sym (untaken c n j is) ∙ any in cc)
-taken_there c n j (Some t) is any = (t, refl)
 
 module _ (services : List Kept) (packets : List Packet) (h : AreSound services packets) (r : AreReached services) where
   dest_there : (set : SetMessage) → WasSent services set → IsSome (service_of set.dest services)
@@ -81,20 +71,8 @@ module _ (services : List Kept) (packets : List Packet) (h : AreSound services p
   answer_caller : (k : Kept) (name : List ℕ) → service_of name services ≡ Some k → (row : AnsweredRow) (c : List ℕ) (n : ℕ) → row.origin ≡ CallOrigin c n
       → Contains k.journal (Answered row) → IsSome (service_of c services)
   answer_caller k name there row c n origin has =
-      let fits = found_all Fits (has_name name) services k h.fits there in
-      by_entry (find (has_id row.id) k.entries) refl (asked row.id k.journal) (fits.asked.entries row.id) (given_asked row k.journal fits.answered.rows has)
-    where
-      by_entry : (o : Option Entry) → find (has_id row.id) k.entries ≡ o → (x : Option AskedRow) → option_map made_as o ≡ option_map asked_as x
-          → IsSomeAnd x (λ made. made.origin ≡ row.origin) → IsSome (service_of c services)
-      by_entry o is None e at = absurd at
-      by_entry None is (Some x) e at = cc
-      by_entry (Some y) is (Some x) e from =
-          let fits = found_all Fits (has_name name) services k h.fits there in
-          let same : made_as y ≡ asked_as x = cc in
-          let from_call : y.origin ≡ CallOrigin c n = ap (λ p. p.0) same ∙ from ∙ origin in
-          let mine : has_origin c n y ≡ true = subst (λ o. has_origin c n (record y { origin = o }) ≡ true) (sym from_call) (itself c n) in
-          let found = found_call k.entries row.id y c n is mine fits.asked.distinct in
-          entry_caller k name there c n (ap is_some found)
+      let e = of_call k (found_all Fits (has_name name) services k h.fits there) row c n origin has in
+      entry_caller k name there c n (ap is_some e.by_call)
 
   caller_there : (a : AnswerMessage) → WasAnswered services a → IsSome (service_of a.caller services)
   caller_there a was =
