@@ -1,0 +1,3 @@
+mod BookLemmas
+mod RepairLemmas
+mod OrderLemmas

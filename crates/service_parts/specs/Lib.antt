@@ -1,0 +1,3 @@
+pub mod Parts
+pub mod Drafts
+pub mod Rooms

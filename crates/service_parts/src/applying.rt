@@ -1,0 +1,54 @@
+// What is drafted becomes so.
+ghost use Rattle.std.specs.Prelude.{◌≡◌, ◌+◌, ◌≤◌, ◌++◌, IfOk, OnOk, vec_len};
+ghost use Rattle.service_parts.specs.Rooms.{aloft};
+
+use crate::draft::Draft;
+use call_registers::Registers;
+use flights::Flight;
+use journal_rows::{Row, Rows};
+use lang_core::NoMemory;
+
+// So many rows, and one more for each call of each flight.
+fn with_aloft(rows: u64, flights: &[Flight]) -> Result<u64, NoMemory>
+    ensures { IfOk result (λ sum. sum ≡ rows + aloft flights.now) }
+{
+    let mut sum = rows;
+    for flight in flights {
+        sum = sum.checked_add(flight.calls.len()).ok_or(NoMemory)?;
+    }
+    Ok(sum)
+}
+
+/// Makes room in a journal for so many rows, with that for the abandonment of each flight left. Refused, the rows stay.
+pub fn reserve(journal: &mut Rows, rows: u64, flights: &[Flight]) -> Result<(), NoMemory>
+    ensures rows { journal.new.rows ≡ journal.old.rows }
+    ensures spare { journal.old.spare ≤ journal.new.spare }
+    ensures ok { OnOk result (rows + aloft flights.now ≤ journal.new.spare) }
+{
+    let more = with_aloft(rows, flights)?;
+    journal.reserve(more)
+}
+
+/// Puts rows last, for which there is room.
+pub fn push_rows(journal: &mut Rows, rows: Vec<Row>)
+    requires { vec_len rows ≤ journal.old.spare }
+    ensures rows { journal.new.rows ≡ journal.old.rows ++ rows.items }
+    ensures spare { journal.old.spare ≤ journal.new.spare + vec_len rows }
+{
+    let mut rest = rows;
+    while !rest.is_empty() {
+        let row = rest.remove(0);
+        journal.push(row).unwrap();
+    }
+}
+
+/// Puts a draft's rows last, for which there is room, and its registers in place.
+pub fn note_draft(journal: &mut Rows, registers: &mut Registers, draft: Draft)
+    requires { vec_len draft.rows ≤ journal.old.spare }
+    ensures rows { journal.new.rows ≡ journal.old.rows ++ draft.rows.items }
+    ensures registers { registers.new.list ≡ draft.registers.list }
+    ensures spare { journal.old.spare ≤ journal.new.spare + vec_len draft.rows }
+{
+    push_rows(journal, draft.rows);
+    *registers = draft.registers;
+}
