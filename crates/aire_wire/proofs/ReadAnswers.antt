@@ -17,7 +17,8 @@ use Rattle.wire_fields.specs.Fits.{number_in, or_zero, version_at}
 use Rattle.wire_fields.specs.Rows.{seal_header}
 use Rattle.aire_wire.specs.Incoming.{answer_head_refusal, answer_message, answer_refusal, answer_sides, seal_refusal, sealed_bytes}
 use Rattle.aire_wire.specs.ReadBack.{AnswerReadsBack}
-use Rattle.aire_wire.specs.Written.{answer_fields, with_fields, written_answer}
+use Rattle.aire_wire.specs.Written.{answer_fields, written_answer}
+use Rattle.wire_fields.specs.Heads.{with_fields}
 use Rattle.aire_wire.specs.declared.incoming.Incoming.TheVariants.{Answer}
 use Rattle.aire_wire.proofs.FieldsRead.{IsFine, answered, fine_id, fine_name, fine_number, fine_seal, fine_who, neither, none_refused, id_number, on_side, replaces_response, same_answer, sealed_well, stands, text_read}
 use Rattle.aire_wire.proofs.ReadSets.{word_fine}

@@ -18,7 +18,8 @@ use Rattle.wire_fields.specs.Fits.{number_in}
 use Rattle.wire_fields.specs.Rows.{seal_header}
 use Rattle.aire_wire.specs.Incoming.{call_head_refusal, call_message, call_refusal, call_request, ends_with_name, incoming, incoming_as, names_in, seal_refusal, sealed_bytes}
 use Rattle.aire_wire.specs.ReadBack.{CallReadsBack, IsCalled, IsLive, IsPeer, IsSent}
-use Rattle.aire_wire.specs.Written.{call_asking, call_fields, call_or_deletion, chain_text, with_fields}
+use Rattle.aire_wire.specs.Written.{call_asking, call_fields, call_or_deletion, chain_text}
+use Rattle.wire_fields.specs.Heads.{with_fields}
 use Rattle.aire_wire.specs.declared.incoming.Incoming.TheVariants.{Live}
 use Rattle.aire_wire.proofs.FieldsRead.{IsFine, answered, chain_back, fine_chain, fine_id, fine_name, fine_seal, fine_who, fits, neither, none_refused, id_number, on_side, same_request, same_set, sealed_well, stands, text_read}
 use Rattle.wire_fields.proofs.SpeltLemmas.{both_hold}

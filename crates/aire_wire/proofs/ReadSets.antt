@@ -28,7 +28,8 @@ use Rattle.wire_fields.specs.Fits.{number_in, or_zero, version_at}
 use Rattle.wire_fields.specs.Rows.{seal_header}
 use Rattle.aire_wire.specs.Incoming.{desired_in, desired_refusal, is_deletion, names_in, or_get, seal_refusal, sealed_bytes, set_fields, set_head_refusal, set_message, set_refusal, set_word}
 use Rattle.aire_wire.specs.ReadBack.{IsCalled, SetReadsBack}
-use Rattle.aire_wire.specs.Written.{Field, body_of, chain_text, desired_fields, kind_word, neighbour_field, set_message_fields, with_field, with_fields, written_set}
+use Rattle.aire_wire.specs.Written.{body_of, chain_text, desired_fields, kind_word, neighbour_field, set_message_fields, written_set}
+use Rattle.wire_fields.specs.Heads.{Field, with_field, with_fields}
 use Rattle.aire_wire.specs.declared.incoming.Incoming.TheVariants.{Set}
 use Rattle.aire_wire.proofs.FieldsRead.{Holds, IsFine, answered, chain_back, fine_chain, fine_id, fine_name, fine_number, fine_seal, fine_who, neighbour_back, neighbour_fine, neighbour_values, neither, none_refused, id_number, on_side, same_request, same_set, sealed_well, stands, text_read}
 use Rattle.aire_wire.proofs.TextForms.{path_utf8, visible_utf8}
@@ -71,7 +72,7 @@ method_back DeleteMethod = refl
 
 -- ---- the head
 
-abbrev listed : (from dest id repair version who : List ℕ) → Option Request → Option ℕ → Option ℕ → List Field
+abbrev pub listed : (from dest id repair version who : List ℕ) → Option Request → Option ℕ → Option ℕ → List Field
 listed from dest id repair version who desired before after =
     ((headers.From, from) ∷ (headers.Dest, dest) ∷ (headers.ResponseId, id) ∷ (headers.Repair, repair) ∷ (headers.Version, version) ∷ (headers.Who, who) ∷ [])
     ++ (desired_fields desired ++ (neighbour_field headers.Before before ++ neighbour_field headers.After after))

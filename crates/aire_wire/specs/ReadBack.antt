@@ -1,12 +1,21 @@
 -- What is written for a message is read as that message, where its parts have their forms.
-use Rattle.std.specs.Prelude.{◌≡◌, ℕ, ◌<◌, ◌^◌, true, false, List, [], ◌∷◌, ◌++◌, Some, None, Ok, codes, find, length, nat_eq}
+use Rattle.std.specs.Prelude.{◌≡◌, ℕ, ◌<◌, ◌^◌, true, false, List, [], ◌∷◌, ◌++◌, Some, None, Result, Ok, codes, find, length, nat_eq}
 use Rattle.std.specs.List.{list_all, starts_with}
 use Rattle.std.specs.Option.{ForSome}
 use Rattle.lang_core.specs.Names.{is_name, is_who}
 use Rattle.lang_core.specs.declared.request.Request.{Request}
 use Rattle.lang_tree.specs.Forms.{is_path}
+use Rattle.lang_base.specs.Characters.{is_visible}
+use Rattle.http_header.specs.HeaderMap.{get_all}
+use Rattle.http_header.specs.Token.{lowercase}
+use Rattle.http_front.specs.Reading.{SpellsRequest}
+use Rattle.http_front.specs.Table.{spelling}
+use Rattle.http_front.specs.Writing.{first_of, request_bytes}
+use Rattle.http_front.specs.declared.header.AireHeader.{AireHeader}
 use Rattle.http_front.specs.declared.header.AireHeader.TheVariants.{NotifierUrl}
+use Rattle.http_front.specs.declared.message.FrontRefused.{FrontRefused}
 use Rattle.http_front.specs.declared.message.WireRequest.{WireRequest}
+use Rattle.http_laws.specs.ReadBack.{IsWithin, is_plain_line}
 use Rattle.repair_messages.specs.declared.messages.AnswerMessage.{AnswerMessage}
 use Rattle.repair_messages.specs.declared.messages.SetMessage.{SetMessage}
 use Rattle.repair_messages.specs.declared.posts.Post.{Post}
@@ -90,3 +99,37 @@ AnswerReadsBack answer secret written = IsAnswered answer → IsReadAs answer.ca
 abbrev pub PostReadsBack : Post → List ℕ → WireRequest → Type 0
 PostReadsBack (posts.Set set) secret written = SetReadsBack set secret written
 PostReadsBack (posts.Answer answer) secret written = AnswerReadsBack answer secret written
+
+-- ---- as bytes
+
+-- a request as it is sent: the one that is written for a message, and a Host perhaps, within the limits
+pub record Carries (sent written : WireRequest) : Type 0 where
+  pub method : sent.method ≡ written.method
+  pub path : sent.path ≡ written.path
+  pub body : sent.body ≡ written.body
+  pub fields : (header : AireHeader) → get_all sent.head (lowercase (spelling header)) ≡ get_all written.head (lowercase (spelling header))
+  pub host : list_all is_plain_line (first_of sent.head (codes "Host")) ≡ true
+  pub within : IsWithin (request_bytes sent) sent.body
+
+-- its bytes, whatever follows them, are read as one request, which says this message to that service, where its sender is a
+-- peer with this secret; and what follows is left
+abbrev pub AreReadAs : List ℕ → List ℕ → List ℕ → WireRequest → Incoming → Type 0
+AreReadAs me sender secret written message =
+    (sent : WireRequest) → Carries sent written → (peers : Secrets) (console : List ℕ) → IsPeer peers sender secret
+    → (rest : List ℕ) (answer : Result WireRequest FrontRefused) (left : List ℕ) → SpellsRequest (request_bytes sent ++ rest) answer left
+    → (read : WireRequest) × (answer ≡ Ok read) × (incoming me peers console read ≡ Ok message) × (left ≡ rest)
+
+abbrev pub CallBytesReadBack : SetMessage → List ℕ → List ℕ → WireRequest → Type 0
+CallBytesReadBack set notifier secret written =
+    (request : Request) → IsSent set → IsLive set request → is_spelt NotifierUrl notifier ≡ true → list_all is_visible notifier ≡ true
+    → AreReadAs set.dest set.caller secret written (Live set)
+
+abbrev pub SetBytesReadBack : SetMessage → List ℕ → WireRequest → Type 0
+SetBytesReadBack set secret written = IsSent set → AreReadAs set.dest set.caller secret written (Set set)
+
+abbrev pub AnswerBytesReadBack : AnswerMessage → List ℕ → WireRequest → Type 0
+AnswerBytesReadBack answer secret written = IsAnswered answer → AreReadAs answer.caller answer.callee secret written (Answer answer)
+
+abbrev pub PostBytesReadBack : Post → List ℕ → WireRequest → Type 0
+PostBytesReadBack (posts.Set set) secret written = SetBytesReadBack set secret written
+PostBytesReadBack (posts.Answer answer) secret written = AnswerBytesReadBack answer secret written

@@ -1,14 +1,11 @@
 -- The requests that are written for messages.
-use Rattle.std.specs.Prelude.{ℕ, List, [], ◌∷◌, ◌++◌, Option, Some, None, fold, codes, decimal}
+use Rattle.std.specs.Prelude.{ℕ, List, [], ◌∷◌, ◌++◌, Option, Some, None, codes, decimal}
 use Rattle.std.specs.List.{flat_map}
 use Rattle.lang_core.specs.declared.request.Request.{Request}
 use Rattle.lang_tree.specs.declared.method.Method.{Method}
 use Rattle.lang_tree.specs.declared.method.Method.TheVariants.{Post}
-use Rattle.http_header.specs.FieldValue.{FieldValue, plain_value}
-use Rattle.http_header.specs.HeaderMap.{Entries, append}
-use Rattle.http_header.specs.Token.{lowercase}
 use Rattle.lang_tree.specs.Methods.{method_word}
-use Rattle.http_front.specs.Table.{aire_headers, spelling}
+use Rattle.http_front.specs.Table.{aire_headers}
 use Rattle.http_front.specs.declared.header.AireHeader.{AireHeader}
 use Rattle.http_front.specs.declared.header.AireHeader.TheVariants as headers
 use Rattle.http_front.specs.declared.message.WireRequest.{WireRequest}
@@ -21,19 +18,10 @@ use Rattle.repair_messages.specs.declared.messages.SetMessage.{SetMessage}
 use Rattle.repair_messages.specs.declared.posts.Post.{Post as PostMessage}
 use Rattle.repair_messages.specs.declared.posts.Post.TheVariants as posts
 use Rattle.request_names.specs.Ids.{id_text}
+use Rattle.wire_fields.specs.Heads.{Field, with_field, with_fields}
 use Rattle.aire_wire.specs.Incoming.{sealed_bytes}
 
--- ---- heads
-
--- a header field and its text
-abbrev pub Field : Type 0
-Field = AireHeader × List ℕ
-
-abbrev pub with_field : Entries FieldValue → Field → Entries FieldValue
-with_field head field = append head (lowercase (spelling field.0)) (plain_value field.1)
-
-abbrev pub with_fields : Entries FieldValue → List Field → Entries FieldValue
-with_fields head fields = fold with_field head fields
+-- ---- chains
 
 abbrev pub behind_comma : List ℕ → List ℕ
 behind_comma name = codes "," ++ name

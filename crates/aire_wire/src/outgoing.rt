@@ -1,24 +1,25 @@
 // Requests, written.
 ghost use Rattle.std.specs.Prelude.{◌≡◌, [], OnOk, IfOk};
-ghost use Rattle.aire_wire.specs.ReadBack.{CallReadsBack, PostReadsBack};
-ghost use Rattle.aire_wire.specs.Written.{answer_fields, body_of, call_asking, call_fields, sealed, set_message_fields, with_fields, written_answer, written_call, written_post, written_set};
+ghost use Rattle.aire_wire.specs.ReadBack.{CallBytesReadBack, CallReadsBack, PostBytesReadBack, PostReadsBack};
+ghost use Rattle.aire_wire.specs.Written.{answer_fields, body_of, call_asking, call_fields, sealed, set_message_fields, written_answer, written_call, written_post, written_set};
+ghost use Rattle.wire_fields.specs.Heads.{with_fields};
 
 use crate::building::texts_of;
-use crate::heads::{put, put_answer, put_call, put_set};
+use crate::heads::{put_answer, put_call, put_set};
 use http_front::{AIRE_HEADERS, AireHeader, WireRequest};
 use http_header::HeaderMap;
 use lang_core::{Method, NoMemory, Request, Text};
 use peer_seal::seal_text;
 use repair_messages::{AnswerMessage, Post, SetMessage};
 use std::alloc::Global;
-use wire_fields::sealed_request;
+use wire_fields::{put_field, sealed_request};
 
 fn put_seal(alloc: Global, request: &mut WireRequest, secret: &Text) -> Result<(), NoMemory>
     ensures { OnOk result (request.new ≡ sealed secret.now request.old) }
 {
     let bytes = sealed_request(alloc, request, AIRE_HEADERS.as_slice())?;
     let digits = seal_text(alloc, secret.as_bytes(), bytes.as_slice())?;
-    put(
+    put_field(
         alloc,
         &mut request.head,
         AireHeader::Seal,
@@ -146,6 +147,7 @@ pub fn write_call(
 ) -> Result<WireRequest, NoMemory>
     ensures written { IfOk result (λ written. written ≡ written_call set.now notifier.now secret.now) }
     ensures reads_back { IfOk result (CallReadsBack set.now notifier.now secret.now) }
+    ensures bytes_read_back { IfOk result (CallBytesReadBack set.now notifier.now secret.now) }
 {
     match &set.desired {
         None => write_set(alloc, set, secret),
@@ -162,6 +164,7 @@ pub fn write_post_request(
 ) -> Result<WireRequest, NoMemory>
     ensures written { IfOk result (λ written. written ≡ written_post post.now secret.now) }
     ensures reads_back { IfOk result (PostReadsBack post.now secret.now) }
+    ensures bytes_read_back { IfOk result (PostBytesReadBack post.now secret.now) }
 {
     match post {
         Post::Set(set) => write_set(alloc, set, secret),

@@ -21,10 +21,10 @@ in_table P word row status rest here others found = by (is_text word row) refl f
     by true is found = let same : word ≡ row = (bytes_eq-Decides word row).0 is in rw same here
     by false is found = others found
 
-abbrev Lone : List ℕ → Type 0
+abbrev pub Lone : List ℕ → Type 0
 Lone word = (list_all is_lower word ≡ true) × (is_some (numbered_status word) ≡ false)
 
-lone_word : (word : List ℕ) → IsSome (lone_status word) → Lone word
+pub lone_word : (word : List ℕ) → IsSome (lone_status word) → Lone word
 unfolding lone_status numbered_status
 lone_word word =
     in_table Lone word (codes "head") 400 _ (refl, refl) (in_table Lone word (codes "headlong") 400 _ (refl, refl)
@@ -35,10 +35,10 @@ lone_word word =
     (in_table Lone word (codes "seal") 403 _ (refl, refl) (in_table Lone word (codes "notheld") 409 _ (refl, refl)
     (in_table Lone word (codes "nomemory") 503 None (refl, refl) (λ never. absurd (cc never))))))))))))))
 
-abbrev Lower : List ℕ → Type 0
+abbrev pub Lower : List ℕ → Type 0
 Lower word = list_all is_lower word ≡ true
 
-numbered_word : (word : List ℕ) → IsSome (numbered_status word) → Lower word
+pub numbered_word : (word : List ℕ) → IsSome (numbered_status word) → Lower word
 unfolding numbered_status
 numbered_word word =
     in_table Lower word (codes "denied") 403 _ refl (in_table Lower word (codes "unknown") 404 _ refl

@@ -1,5 +1,6 @@
 pub mod Fits
 pub mod Forms
+pub mod Heads
 pub mod Kinds
 pub mod Rows
 pub mod Sealed

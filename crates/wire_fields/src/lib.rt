@@ -1,10 +1,11 @@
 //! What HTTP messages between services are made of: the forms of their header fields, which of them each kind of message
-//! has and the first that is missing or bad, the bytes that are sealed, and the secrets of peers.
+//! has and the first that is missing or bad, heads made field by field, the bytes that are sealed, and the secrets of peers.
 #![tactic(auto)]
 
 mod console;
 mod fits;
 mod forms;
+mod heads;
 mod kinds;
 mod refused;
 mod rows;
@@ -17,6 +18,7 @@ pub use fits::{
     bad_unless, dest_refusal, first_of, name_of, number_in, service_in, side_refusal, version_at,
 };
 pub use forms::{has_form, kind_named, status_of};
+pub use heads::{put_field, put_id, put_number, put_sides};
 pub use kinds::{RequestKind, request_kind};
 pub use refused::WireRefused;
 pub use rows::{

@@ -1,3 +1,6 @@
 mod Accepted
 mod KnownKinds
 mod RoundTrip
+mod BytesBack
+mod PlainReplies
+mod SameReplies

@@ -288,7 +288,7 @@ ack_parts me peer caller dest k v p q = rw (p, q) refl
 confirm_parts : (me peer caller callee : List ℕ) (k a : ℕ) → caller ≡ me → callee ≡ peer → confirmed caller callee k a ≡ confirmed me peer k a
 confirm_parts me peer caller callee k a p q = rw (p, q) refl
 
-some_same : (x y : List ℕ) → Some x ≡ Some y → y ≡ x
+pub some_same : (x y : List ℕ) → Some x ≡ Some y → y ≡ x
 some_same x y e = cc
 
 -- the same of an equal reply
@@ -297,7 +297,7 @@ carried : (me peer secret : List ℕ) (asking : Asking) (reply other : Outgoing)
     → replied peer me secret asking (sealed_reply me peer reply secret) ≡ Ok reply
 carried me peer secret asking reply other same back = rw same back
 
-back : (me peer secret : List ℕ) (reply : Outgoing) → is_name me ≡ true → is_name peer ≡ true → AreNumbers reply
+pub back : (me peer secret : List ℕ) (reply : Outgoing) → is_name me ≡ true → is_name peer ≡ true → AreNumbers reply
     → IsFor me (Some peer) reply → ReadsBack me peer secret reply (sealed_reply me peer reply secret)
 back me peer secret (replies.Answered id None r) mine theirs small goes spelt asking answers = absurd spelt
 back me peer secret (replies.Answered id (Some answer) r) mine theirs small goes spelt asking answers =

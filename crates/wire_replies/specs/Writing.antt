@@ -1,11 +1,8 @@
 -- The response that spells a reply.
-use Rattle.std.specs.Prelude.{◌≡◌, ℕ, ◌<◌, ◌^◌, ◌⊎◌, List, [], ◌∷◌, Option, Some, None, Ok, decimal, map, IsSome}
+use Rattle.std.specs.Prelude.{◌≡◌, ℕ, ◌<◌, ◌^◌, ◌⊎◌, List, [], ◌∷◌, Option, Some, None, Ok, decimal, IsSome}
 use Rattle.lang_core.specs.declared.ids.RequestId.{RequestId}
 use Rattle.lang_core.specs.declared.request.Response.{Response}
-use Rattle.http_header.specs.FieldValue.{FieldValue, plain_value}
-use Rattle.http_header.specs.HeaderMap.{Entries, append_all}
-use Rattle.http_header.specs.Token.{lowercase}
-use Rattle.http_front.specs.Table.{aire_headers, spelling}
+use Rattle.http_front.specs.Table.{aire_headers}
 use Rattle.http_front.specs.declared.header.AireHeader.{AireHeader}
 use Rattle.http_front.specs.declared.header.AireHeader.TheVariants as headers
 use Rattle.http_front.specs.declared.message.WireResponse.{WireResponse}
@@ -14,6 +11,7 @@ use Rattle.repair_messages.specs.declared.messages.Ack.{Ack}
 use Rattle.repair_messages.specs.declared.messages.AnswerMessage.{AnswerMessage}
 use Rattle.repair_messages.specs.declared.messages.Confirm.{Confirm}
 use Rattle.request_names.specs.Ids.{id_text}
+use Rattle.wire_fields.specs.Heads.{Field, with_fields}
 use Rattle.wire_fields.specs.Words.{lone_status, numbered_status, refusal_status, refusal_text}
 use Rattle.wire_replies.specs.Reading.{replied, sealed_bytes}
 use Rattle.wire_replies.specs.declared.kinds.Asking.{Asking}
@@ -22,17 +20,6 @@ use Rattle.wire_replies.specs.declared.replies.Outgoing.{Outgoing}
 use Rattle.wire_replies.specs.declared.replies.Outgoing.TheVariants as replies
 
 -- ---- fields
-
--- a field and its text
-abbrev pub Field : Type 0
-Field = AireHeader × List ℕ
-
-abbrev pub named : Field → List ℕ × FieldValue
-named field = (lowercase (spelling field.0), plain_value field.1)
-
--- a head with these fields behind those that it has
-abbrev pub with_fields : Entries FieldValue → List Field → Entries FieldValue
-with_fields head fields = append_all head (map named fields)
 
 -- the services between which it goes
 abbrev pub side_fields : List ℕ → List ℕ → List Field

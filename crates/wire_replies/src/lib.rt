@@ -2,7 +2,6 @@
 #![tactic(auto)]
 
 mod building;
-mod fields;
 mod kinds;
 mod reading;
 mod refusals;

@@ -2,9 +2,10 @@
 ghost use Rattle.std.specs.Prelude.{◌≡◌, ◌<◌, ◌^◌, [], ◌∷◌, Some, OnOk, IfOk};
 ghost use Rattle.std.specs.Option.{ForSome, option_copied};
 ghost use Rattle.wire_fields.specs.Words.{refusal_text};
-ghost use Rattle.wire_replies.specs.Writing.{AreNumbers, IsFor, ReadsBack, ack_fields, call_fields, confirm_fields, id_field, reply_body, reply_fields, reply_status, sealed_reply, side_fields, unsealed, with_fields, with_seal, written};
+ghost use Rattle.wire_replies.specs.Sent.{BytesReadBack};
+ghost use Rattle.wire_replies.specs.Writing.{AreNumbers, IsFor, ReadsBack, ack_fields, call_fields, confirm_fields, id_field, reply_body, reply_fields, reply_status, sealed_reply, side_fields, unsealed, with_seal, written};
+ghost use Rattle.wire_fields.specs.Heads.{with_fields};
 
-use crate::fields::{put, put_id, put_number};
 use crate::replies::Outgoing;
 use http_front::{AIRE_HEADERS, AireHeader, WireResponse};
 use http_header::HeaderMap;
@@ -12,14 +13,9 @@ use lang_core::{Name, NoMemory, RequestId, Text};
 use peer_seal::seal_text;
 use repair_messages::{Ack, AnswerMessage, Confirm};
 use std::alloc::Global;
-use wire_fields::{refusal_status, refusal_text, sealed_response};
-
-fn put_sides(alloc: Global, head: &mut HeaderMap, me: &Text, peer: &Text) -> Result<(), NoMemory>
-    ensures { OnOk result (head.new ≡ with_fields head.old (side_fields me.now peer.now)) }
-{
-    put(alloc, head, AireHeader::From, me.as_str())?;
-    put(alloc, head, AireHeader::Dest, peer.as_str())
-}
+use wire_fields::{
+    put_field, put_id, put_number, put_sides, refusal_status, refusal_text, sealed_response,
+};
 
 fn put_call(alloc: Global, head: &mut HeaderMap, answer: &AnswerMessage) -> Result<(), NoMemory>
     ensures { OnOk result (head.new ≡ with_fields head.old (call_fields (Some answer.now))) }
@@ -91,7 +87,7 @@ fn put_refused(
         ≡ with_fields head.old ((AireHeader.Refused, refusal_text word.now number) ∷ [])) }
 {
     let text = refusal_text(alloc, word.as_str(), number)?;
-    put(alloc, head, AireHeader::Refused, text.as_str())
+    put_field(alloc, head, AireHeader::Refused, text.as_bytes())
 }
 
 fn put_reply(alloc: Global, head: &mut HeaderMap, reply: &Outgoing) -> Result<(), NoMemory>
@@ -152,7 +148,7 @@ fn put_seal(alloc: Global, response: &mut WireResponse, secret: &Text) -> Result
 {
     let bytes = sealed_response(alloc, response, AIRE_HEADERS.as_slice())?;
     let text = seal_text(alloc, secret.as_bytes(), bytes.as_slice())?;
-    put(alloc, &mut response.head, AireHeader::Seal, text.as_str())
+    put_field(alloc, &mut response.head, AireHeader::Seal, text.as_bytes())
 }
 
 fn put_sealed(
@@ -169,7 +165,7 @@ fn put_sealed(
       body = response.old.body;
     })) }
 {
-    put_sides(alloc, &mut response.head, me, peer)?;
+    put_sides(alloc, &mut response.head, me.as_str(), peer.as_str())?;
     put_reply(alloc, &mut response.head, reply)?;
     put_seal(alloc, response, secret)
 }
@@ -245,6 +241,8 @@ pub fn write_reply(
     ensures written { IfOk result (λ response. response ≡ written me.now (option_copied to.entry) reply.now secret.now) }
     ensures reads_back { IfOk result (λ response. ForSome (option_copied to.entry) (λ peer.
         ReadsBack me.now peer secret.now reply.now response)) }
+    ensures bytes_read_back { IfOk result (λ response. ForSome (option_copied to.entry) (λ peer.
+        BytesReadBack me.now peer secret.now reply.now response)) }
 {
     match to {
         None => open_reply(alloc, reply),

@@ -1,0 +1,3 @@
+pub mod PlainForms
+pub mod MadeHeads
+pub mod SameFields

@@ -1,0 +1,46 @@
+-- The bytes of a reply that is written to a service are read back as it.
+use Rattle.std.proofs.Common.{◌≡◌, ℕ, true, List, Option, Some, sym, ap, ◌∙◌}
+use Rattle.std.specs.Option.{ForSome}
+use Rattle.lang_core.specs.Names.{is_name}
+use Rattle.http_front.specs.declared.message.WireResponse.{WireResponse}
+use Rattle.http_laws.specs.ReadBack.{IsRepliable, response_read}
+use Rattle.http_laws.proofs.ResponsesBack.{response_reads_back}
+use Rattle.wire_laws.proofs.MadeHeads.{table_plain}
+use Rattle.wire_laws.proofs.SameFields.{response_agrees, same_lines}
+use Rattle.wire_replies.specs.Sent.{BytesReadBack}
+use Rattle.wire_replies.specs.Writing.{AreNumbers, IsFor, sealed_reply}
+use Rattle.wire_replies.specs.declared.replies.Outgoing.{Outgoing}
+use Rattle.wire_replies.proofs.PlainReplies.{reply_plain, reply_single}
+use Rattle.wire_replies.proofs.RoundTrip.{back, some_same}
+use Rattle.wire_replies.proofs.SameReplies.{same_reply}
+
+bytes : (me peer secret : List ℕ) (reply : Outgoing) → is_name me ≡ true → is_name peer ≡ true → AreNumbers reply → IsFor me (Some peer) reply
+    → BytesReadBack me peer secret reply (sealed_reply me peer reply secret)
+bytes me peer secret reply mine theirs small goes = λ spelt asking answers sent carries rest answer left spells.
+    let written = sealed_reply me peer reply secret in
+    let repliable : IsRepliable sent = record {
+      three_digits = carries.three_digits;
+      kind = carries.kind;
+      fields = same_lines sent.head written.head carries.fields (table_plain written.head (reply_plain me peer secret reply mine theirs small goes spelt));
+      within = carries.within;
+    } in
+    let read = response_reads_back sent repliable rest answer left spells in (
+      response_read sent,
+      read.0,
+      same_reply peer me secret asking (response_read sent) written carries.status carries.body (response_agrees sent written.head carries.fields (reply_single me peer secret reply))
+          ∙ back me peer secret reply mine theirs small goes spelt asking answers,
+      read.1,
+    )
+
+-- as the code has it
+pub bytes_of : (me peer my_text their_text secret : List ℕ) (to : Option (List ℕ)) (reply : Outgoing) (response : WireResponse)
+    → is_name me ≡ true → is_name peer ≡ true → AreNumbers reply → IsFor me to reply → to ≡ Some peer
+    → my_text ≡ me → their_text ≡ peer → response ≡ sealed_reply my_text their_text reply secret
+    → ForSome to (λ name. BytesReadBack me name secret reply response)
+bytes_of me peer my_text their_text secret to reply response mine theirs small goes some my_is their_is written name is =
+    let same : name ≡ peer = some_same peer name (sym some ∙ is) in
+    let sent : response ≡ sealed_reply me peer reply secret =
+    written ∙ ap (λ (text : List ℕ). sealed_reply text their_text reply secret) my_is
+    ∙ ap (λ (text : List ℕ). sealed_reply me text reply secret) their_is in
+    let there : IsFor me (Some peer) reply = rw some at goes in
+    rw (same, sent) (bytes me peer secret reply mine theirs small there)
