@@ -1,13 +1,9 @@
 -- The bytes of a message that is written are read back as it.
 use Rattle.std.proofs.Common.{◌≡◌, ℕ, true, List, Some, refl, ap, ◌∙◌}
-use Rattle.std.specs.List.{list_all}
 use Rattle.lang_core.specs.declared.request.Request.{Request}
 use Rattle.lang_tree.specs.Forms.{is_path}
-use Rattle.http_header.specs.FieldValue.{FieldValue}
-use Rattle.http_header.specs.HeaderMap.{Entries}
-use Rattle.http_front.specs.Writing.{aire_lines}
 use Rattle.http_front.specs.declared.message.WireRequest.{WireRequest}
-use Rattle.http_laws.specs.ReadBack.{IsSendable, is_plain_line, request_read}
+use Rattle.http_laws.specs.ReadBack.{IsSendable, request_read}
 use Rattle.http_laws.proofs.RequestsBack.{request_reads_back}
 use Rattle.repair_messages.specs.declared.messages.AnswerMessage.{AnswerMessage}
 use Rattle.repair_messages.specs.declared.messages.SetMessage.{SetMessage}

@@ -12,7 +12,7 @@ use Rattle.lang_tree.specs.declared.method.Method.TheVariants as methods
 use Rattle.http_front.specs.declared.header.AireHeader.{AireHeader}
 use Rattle.http_front.specs.declared.header.AireHeader.TheVariants as headers
 use Rattle.http_laws.specs.ReadBack.{is_plain}
-use Rattle.http_laws.proofs.BoolLemmas.{and_holds, both_hold}
+use Rattle.std.proofs.lemmas.Bool.{and_from, and_parts}
 use Rattle.http_laws.proofs.PlainLemmas.{decimal_plain, visible_plain}
 use Rattle.repair_messages.specs.Kinds.{spelling as message_kind}
 use Rattle.repair_messages.specs.declared.kinds.Kind.{Kind}
@@ -28,7 +28,7 @@ use Rattle.aire_wire.specs.Written.{answer_fields, behind_comma, call_asking, ca
 use Rattle.aire_wire.proofs.ReadSets.{listed}
 
 both : (fields others : List Field) → list_all is_plain_field fields ≡ true → list_all is_plain_field others ≡ true → list_all is_plain_field (fields ++ others) ≡ true
-both fields others a b = list_all-append is_plain_field fields others ∙ and_holds (list_all is_plain_field fields) (list_all is_plain_field others) a b
+both fields others a b = list_all-append is_plain_field fields others ∙ and_from (list_all is_plain_field fields) (list_all is_plain_field others) a b
 
 -- a head of such fields and a seal
 sealed_plain : (fields : List Field) (seal : List ℕ) → list_all is_plain_field fields ≡ true → is_plain seal ≡ true → ArePlain (with_field (with_fields [] fields) (headers.Seal, seal))
@@ -39,16 +39,16 @@ sealed_plain fields seal plain digits = one_plain (with_fields [] fields) (heade
 pieces_visible : (names : List (List ℕ)) → list_all is_name names ≡ true → list_all is_visible (flat_map behind_comma names) ≡ true
 pieces_visible [] all = refl
 pieces_visible (name ∷ names) all =
-    let first = both_hold (is_name name) (list_all is_name names) all in
+    let first = and_parts (is_name name) (list_all is_name names) all in
     list_all-append is_visible (44 ∷ name) (flat_map behind_comma names)
-    ∙ and_holds (list_all is_visible name) (list_all is_visible (flat_map behind_comma names)) (name_bytes name first.0) (pieces_visible names first.1)
+    ∙ and_from (list_all is_visible name) (list_all is_visible (flat_map behind_comma names)) (name_bytes name first.0) (pieces_visible names first.1)
 
 chain_visible : (names : List (List ℕ)) → list_all is_name names ≡ true → list_all is_visible (chain_text names) ≡ true
 chain_visible [] all = refl
 chain_visible (name ∷ names) all =
-    let first = both_hold (is_name name) (list_all is_name names) all in
+    let first = and_parts (is_name name) (list_all is_name names) all in
     list_all-append is_visible name (flat_map behind_comma names)
-    ∙ and_holds (list_all is_visible name) (list_all is_visible (flat_map behind_comma names)) (name_bytes name first.0) (pieces_visible names first.1)
+    ∙ and_from (list_all is_visible name) (list_all is_visible (flat_map behind_comma names)) (name_bytes name first.0) (pieces_visible names first.1)
 
 chain_plain : (names : List (List ℕ)) → list_all is_name names ≡ true → is_plain (chain_text names) ≡ true
 chain_plain names all = visible_plain (chain_text names) (chain_visible names all)
@@ -72,12 +72,12 @@ pub call_plain : (set : SetMessage) (request : Request) (notifier secret : List 
     → ArePlain (call_asking set notifier secret request).head
 call_plain set request notifier secret sent called visible =
     sealed_plain (call_fields set request notifier) _
-    (and_holds _ _ (name_plain set.caller sent.caller)
-    (and_holds _ _ (name_plain set.dest sent.dest)
-    (and_holds _ _ (id_plain set.caller set.number sent.caller sent.number.1)
-    (and_holds _ _ (visible_plain notifier visible)
-    (and_holds _ _ (who_plain request.who called.who)
-    (and_holds _ _ (chain_plain request.chain called.chain) refl))))))
+    (and_from _ _ (name_plain set.caller sent.caller)
+    (and_from _ _ (name_plain set.dest sent.dest)
+    (and_from _ _ (id_plain set.caller set.number sent.caller sent.number.1)
+    (and_from _ _ (visible_plain notifier visible)
+    (and_from _ _ (who_plain request.who called.who)
+    (and_from _ _ (chain_plain request.chain called.chain) refl))))))
     (seal_plain secret _)
 
 pub call_single : (set : SetMessage) (request : Request) (notifier secret : List ℕ) → AreSingle (call_asking set notifier secret request).head
@@ -87,25 +87,25 @@ call_single set request notifier secret = are_single (call_asking set notifier s
 
 version_plain : (set : SetMessage) → IsSent set → list_all is_plain_field (version_fields set) ≡ true
 version_plain set sent =
-    and_holds _ _ (name_plain set.caller sent.caller)
-    (and_holds _ _ (name_plain set.dest sent.dest)
-    (and_holds _ _ (id_plain set.caller set.number sent.caller sent.number.1)
-    (and_holds _ _ (kind_plain (message_kind set))
-    (and_holds _ _ (decimal_plain set.version sent.version)
-    (and_holds _ _ (who_plain set.who sent.who) refl)))))
+    and_from _ _ (name_plain set.caller sent.caller)
+    (and_from _ _ (name_plain set.dest sent.dest)
+    (and_from _ _ (id_plain set.caller set.number sent.caller sent.number.1)
+    (and_from _ _ (kind_plain (message_kind set))
+    (and_from _ _ (decimal_plain set.version sent.version)
+    (and_from _ _ (who_plain set.who sent.who) refl)))))
 
 desired_plain : (desired : Option Request) → ForSome desired IsCalled → list_all is_plain_field (desired_fields desired) ≡ true
 desired_plain None called = refl
 desired_plain (Some request) called =
     let q = called request refl in
-    and_holds _ _ (method_plain request.method)
-    (and_holds _ _ (path_plain request.path q.path)
-    (and_holds _ _ (who_plain request.who q.who)
-    (and_holds _ _ (chain_plain request.chain q.chain) refl)))
+    and_from _ _ (method_plain request.method)
+    (and_from _ _ (path_plain request.path q.path)
+    (and_from _ _ (who_plain request.who q.who)
+    (and_from _ _ (chain_plain request.chain q.chain) refl)))
 
 neighbour_plain : (header : AireHeader) (number : Option ℕ) → ForSome number IsNumber → list_all is_plain_field (neighbour_field header number) ≡ true
 neighbour_plain header None small = refl
-neighbour_plain header (Some n) small = and_holds _ _ (decimal_plain n (small n refl)) refl
+neighbour_plain header (Some n) small = and_from _ _ (decimal_plain n (small n refl)) refl
 
 pub set_plain : (set : SetMessage) (secret : List ℕ) → IsSent set → ArePlain (written_set set secret).head
 set_plain set secret sent =
@@ -141,15 +141,15 @@ status_number n small = omega (arith, small)
 pub answer_plain : (answer : AnswerMessage) (secret : List ℕ) → IsAnswered answer → ArePlain (written_answer answer secret).head
 answer_plain answer secret is =
     sealed_plain (answer_fields answer) _
-    (and_holds _ _ (name_plain answer.callee is.callee)
-    (and_holds _ _ (name_plain answer.caller is.caller)
-    (and_holds _ _ (id_plain answer.callee answer.id is.callee is.id.1)
-    (and_holds _ _ (id_plain answer.caller answer.number is.caller is.number.1)
-    (and_holds _ _ (kind_plain ReplaceResponse)
-    (and_holds _ _ (decimal_plain answer.version is.version)
-    (and_holds _ _ (decimal_plain answer.answer_version is.answer_version)
-    (and_holds _ _ (who_plain answer.who is.who)
-    (and_holds _ _ (decimal_plain answer.response.status (status_number answer.response.status is.status)) refl)))))))))
+    (and_from _ _ (name_plain answer.callee is.callee)
+    (and_from _ _ (name_plain answer.caller is.caller)
+    (and_from _ _ (id_plain answer.callee answer.id is.callee is.id.1)
+    (and_from _ _ (id_plain answer.caller answer.number is.caller is.number.1)
+    (and_from _ _ (kind_plain ReplaceResponse)
+    (and_from _ _ (decimal_plain answer.version is.version)
+    (and_from _ _ (decimal_plain answer.answer_version is.answer_version)
+    (and_from _ _ (who_plain answer.who is.who)
+    (and_from _ _ (decimal_plain answer.response.status (status_number answer.response.status is.status)) refl)))))))))
     (seal_plain secret _)
 
 pub answer_single : (answer : AnswerMessage) (secret : List ℕ) → AreSingle (written_answer answer secret).head

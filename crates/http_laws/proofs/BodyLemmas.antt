@@ -11,7 +11,7 @@ use Rattle.http_header.specs.HeaderMap.{Entries, get_all}
 use Rattle.lang_base.specs.Characters.{digits_value, is_digit}
 use Rattle.http_front.specs.Lengths.{body_length, is_length, length_given, length_unless_coded, within_limit}
 use Rattle.http_front.specs.Reading.{body_behind}
-use Rattle.http_laws.proofs.BoolLemmas.{and_holds}
+use Rattle.std.proofs.lemmas.Bool.{and_from}
 use Rattle.http_laws.proofs.MapLemmas.{SaysLength}
 
 -- ---- digits
@@ -24,14 +24,14 @@ is_length_of n small =
     let fits : n < 2 ^ 64 = omega (arith, small) in
     let some : nat_lt 0 (length (decimal n)) ≡ true = let one = decimal_nonempty n fits in grind (arith, nat_tests, one) in
     let few : nat_le (length (decimal n)) 19 ≡ true = let most = length-decimal-le 19 n (omega arith) (omega (arith, small)) fits in grind (arith, nat_tests, most) in
-    and_holds (nat_lt 0 (length (decimal n)) && nat_le (length (decimal n)) 19) (list_all is_digit (decimal n))
-    (and_holds (nat_lt 0 (length (decimal n))) (nat_le (length (decimal n)) 19) some few) (digits_decimal own n fits)
+    and_from (nat_lt 0 (length (decimal n)) && nat_le (length (decimal n)) 19) (list_all is_digit (decimal n))
+    (and_from (nat_lt 0 (length (decimal n))) (nat_le (length (decimal n)) 19) some few) (digits_decimal own n fits)
 
 one_length : (n : ℕ) → n ≤ 65536 → within_limit (length_given (plain_value (decimal n) ∷ [])) ≡ Ok n
 one_length n small =
     let fits : n < 2 ^ 64 = omega (arith, small) in
     let within : nat_lt 65536 n ≡ false = grind (arith, nat_tests, small) in
-    let said : is_length (decimal n) && true ≡ true = and_holds (is_length (decimal n)) true (is_length_of n small) refl in
+    let said : is_length (decimal n) && true ≡ true = and_from (is_length (decimal n)) true (is_length_of n small) refl in
     ap (λ (b : Bool). within_limit (cond b (Some (digits_value (decimal n))) None)) said
     ∙ ap (λ (m : ℕ). within_limit (Some m)) (digits_value-decimal own n fits) ∙ rw within refl
 

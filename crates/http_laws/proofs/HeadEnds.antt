@@ -8,7 +8,7 @@ use Rattle.std.proofs.lemmas.Bool.Decides.{nat_tests}
 use Rattle.std.proofs.lemmas.List.{take_all, take-append-le, take-append-drop, reverse-append}
 use Rattle.std.proofs.lemmas.Slice.Eq.{bytes_eq-Decides}
 use Rattle.http_front.specs.Ends.{ends_head, ends_with_blank_line, is_of_line, IsWholeHead}
-use Rattle.http_laws.proofs.BoolLemmas.{both_hold}
+use Rattle.std.proofs.lemmas.Bool.{and_parts}
 
 -- ---- what stands last
 
@@ -95,7 +95,7 @@ pub line_more : (bytes : List ℕ) (b : ℕ) (line : List ℕ) → Unended bytes
     → Unended (bytes ++ ((b ∷ line) ++ 13 ∷ 10 ∷ []))
 line_more bytes b [] unended is all = ends_line bytes b unended is
 line_more bytes b (c ∷ line) unended is all =
-    let both = both_hold (is_of_line c) (list_all is_of_line line) all in
+    let both = and_parts (is_of_line c) (list_all is_of_line line) all in
     let first = one_more bytes b unended (goes_on bytes b (no_end b is)) in
     subst Unended (append_assoc bytes (b ∷ []) ((c ∷ line) ++ 13 ∷ 10 ∷ [])) (line_more (bytes ++ b ∷ []) c line first both.0 both.1)
 

@@ -21,7 +21,8 @@ use Rattle.http_front.specs.Writing.{Line, aire_lines, field_line, first_of, fir
 use Rattle.http_front.specs.declared.header.AireHeader.{AireHeader}
 use Rattle.http_front.specs.declared.header.AireHeader.TheVariants.{From, Dest, RequestId, ResponseId, NotifierUrl, Repair, Version, AnswerVersion, Who, Method, Path, RequestWho, Chain, Before, After, Status, Refused, Seal}
 use Rattle.http_laws.specs.ReadBack.{is_plain, is_plain_line}
-use Rattle.http_laws.proofs.BoolLemmas.{and_holds, both_hold, weaker}
+use Rattle.std.proofs.lemmas.Bool.{and_from, and_parts}
+use Rattle.http_laws.proofs.PassLemmas.{weaker}
 use Rattle.http_laws.proofs.HeadEnds.{AreLines, next_line}
 
 -- ---- bytes of lines
@@ -46,9 +47,9 @@ IsSound line =
 
 parts_of : (line : Line) → is_sound line ≡ true → IsSound line
 parts_of line is =
-    let both = both_hold (is_token line.0) (is_plain line.1) is in
-    let name = both_hold (nat_lt 0 (length line.0)) (list_all is_token_byte line.0) both.0 in
-    let value = both_hold (list_all is_value_byte line.1) (is_text (trim_ows line.1) line.1) both.1 in
+    let both = and_parts (is_token line.0) (is_plain line.1) is in
+    let name = and_parts (nat_lt 0 (length line.0)) (list_all is_token_byte line.0) both.0 in
+    let value = and_parts (list_all is_value_byte line.1) (is_text (trim_ows line.1) line.1) both.1 in
     (name.0, name.1, value.0, (bytes_eq-Decides (trim_ows line.1) line.1).0 value.1)
 
 -- ---- as lines of a head
@@ -57,12 +58,12 @@ rest_of_line : (name value : List ℕ) → list_all is_token_byte name ≡ true 
     → list_all is_of_line (name ++ 58 ∷ 32 ∷ value) ≡ true
 rest_of_line name value named valued =
     list_all-append is_of_line name (58 ∷ 32 ∷ value)
-    ∙ and_holds (list_all is_of_line name) (list_all is_of_line value) (weaker is_token_byte is_of_line token_of_line name named) (values_of_line value valued)
+    ∙ and_from (list_all is_of_line name) (list_all is_of_line value) (weaker is_token_byte is_of_line token_of_line name named) (values_of_line value valued)
 
 field_more : (bytes name value : List ℕ) → AreLines bytes → IsSound (name, value) → AreLines (bytes ++ field_line (name, value))
 field_more bytes [] value lines sound = absurd (cc sound.0)
 field_more bytes (b ∷ name) value lines sound =
-    let first = both_hold (is_token_byte b) (list_all is_token_byte name) sound.1 in
+    let first = and_parts (is_token_byte b) (list_all is_token_byte name) sound.1 in
     let apart : (b ∷ (name ++ 58 ∷ 32 ∷ value)) ++ 13 ∷ 10 ∷ [] ≡ field_line (b ∷ name, value) =
     ap (λ (text : List ℕ). b ∷ text) (append_assoc name (58 ∷ 32 ∷ value) (13 ∷ 10 ∷ [])) in
     subst (λ (text : List ℕ). AreLines (bytes ++ text)) apart
@@ -71,7 +72,7 @@ field_more bytes (b ∷ name) value lines sound =
 pub fields_more : (bytes : List ℕ) (lines : List Line) → AreLines bytes → list_all is_sound lines ≡ true → AreLines (bytes ++ flat_map field_line lines)
 fields_more bytes [] begun all = subst AreLines (sym (append-nil bytes)) begun
 fields_more bytes (line ∷ lines) begun all =
-    let both = both_hold (is_sound line) (list_all is_sound lines) all in
+    let both = and_parts (is_sound line) (list_all is_sound lines) all in
     subst AreLines (append_assoc bytes (field_line line) (flat_map field_line lines))
     (fields_more (bytes ++ field_line line) lines (field_more bytes line.0 line.1 begun (parts_of line both.0)) both.1)
 
@@ -99,7 +100,7 @@ is_field line is =
 pub are_fields : (lines : List Line) → list_all is_sound lines ≡ true → All IsField (map field_of lines)
 are_fields [] all = All-nil IsField
 are_fields (line ∷ lines) all =
-    let both = both_hold (is_sound line) (list_all is_sound lines) all in
+    let both = and_parts (is_sound line) (list_all is_sound lines) all in
     All-cons IsField (field_of line) (map field_of lines) (is_field line both.0) (are_fields lines both.1)
 
 behind_space : (value : List ℕ) → trim_ows (32 ∷ value) ≡ trim_ows value
@@ -109,7 +110,7 @@ behind_space value = refl
 pub named_values : (lines : List Line) → list_all is_sound lines ≡ true → map name_and_value (map field_of lines) ≡ lines
 named_values [] all = refl
 named_values (line ∷ lines) all =
-    let both = both_hold (is_sound line) (list_all is_sound lines) all in
+    let both = and_parts (is_sound line) (list_all is_sound lines) all in
     let value : trim_ows (32 ∷ line.1) ≡ line.1 = behind_space line.1 ∙ (parts_of line both.0).3 in
     ap (λ (v : List ℕ). (line.0, v) ∷ map name_and_value (map field_of lines)) value ∙ ap (λ (others : List Line). line ∷ others) (named_values lines both.1)
 
@@ -139,8 +140,8 @@ token_name Seal = refl
 sound_if : (name : List ℕ) (value : Option FieldValue) → is_token name ≡ true → list_all is_plain_line (line_if name value) ≡ true → list_all is_sound (line_if name value) ≡ true
 sound_if name None is plain = refl
 sound_if name (Some value) is plain =
-    and_holds (is_sound (name, value.bytes)) true
-    (and_holds (is_token name) (is_plain value.bytes) is (both_hold (is_plain value.bytes) true plain).0) refl
+    and_from (is_sound (name, value.bytes)) true
+    (and_from (is_token name) (is_plain value.bytes) is (and_parts (is_plain value.bytes) true plain).0) refl
 
 pub sound_first : (head : Entries FieldValue) (name : List ℕ) → is_token name ≡ true → list_all is_plain_line (first_of head name) ≡ true → list_all is_sound (first_of head name) ≡ true
 sound_first head name is plain = sound_if name (get head (lowercase name)) is plain
@@ -150,10 +151,10 @@ sound_of : (head : Entries FieldValue) (headers : List AireHeader) → list_all 
 sound_of head [] plain = refl
 sound_of head (header ∷ headers) plain =
     let others = flat_map (first_of_header head) headers in
-    let both = both_hold (list_all is_plain_line (first_of_header head header)) (list_all is_plain_line others)
+    let both = and_parts (list_all is_plain_line (first_of_header head header)) (list_all is_plain_line others)
     (sym (list_all-append is_plain_line (first_of_header head header) others) ∙ plain) in
     list_all-append is_sound (first_of_header head header) others
-    ∙ and_holds (list_all is_sound (first_of_header head header)) (list_all is_sound others)
+    ∙ and_from (list_all is_sound (first_of_header head header)) (list_all is_sound others)
     (sound_first head (spelling header) (token_name header) both.0) (sound_of head headers both.1)
 
 pub sound_table : (head : Entries FieldValue) → list_all is_plain_line (aire_lines head) ≡ true → list_all is_sound (aire_lines head) ≡ true

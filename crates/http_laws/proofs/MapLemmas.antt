@@ -15,7 +15,7 @@ use Rattle.http_front.specs.declared.header.AireHeader.TheVariants.{From, Dest, 
 use Rattle.http_front.specs.declared.message.WireRequest.{WireRequest}
 use Rattle.http_front.specs.declared.message.WireResponse.{WireResponse}
 use Rattle.http_laws.specs.ReadBack.{request_read, response_read}
-use Rattle.http_laws.proofs.BoolLemmas.{both_hold}
+use Rattle.std.proofs.lemmas.Bool.{and_parts}
 
 -- the values of the lines with this name, whose letters are small
 abbrev pub under : List ℕ → List Line → List FieldValue
@@ -79,7 +79,7 @@ pub none_of : (name : List ℕ) (head : Entries FieldValue) (headers : List Aire
     → under name (flat_map (first_of_header head) headers) ≡ []
 none_of name head [] all = refl
 none_of name head (header ∷ headers) all =
-    let both = both_hold (is_other name (spelling header)) (list_all (λ h. is_other name (spelling h)) headers) all in
+    let both = and_parts (is_other name (spelling header)) (list_all (λ h. is_other name (spelling h)) headers) all in
     under-append name (first_of_header head header) (flat_map (first_of_header head) headers)
     ∙ ap (λ (values : List FieldValue). values ++ under name (flat_map (first_of_header head) headers)) (none_first name (spelling header) head both.0)
     ∙ none_of name head headers both.1

@@ -12,7 +12,8 @@ use Rattle.httparse.specs.Grammar.{is_ows, is_token_byte, is_value_byte, skip_ow
 use Rattle.http_front.specs.Writing.{last_lines}
 use Rattle.http_laws.specs.ReadBack.{is_plain}
 use Rattle.http_laws.proofs.BodyLemmas.{own}
-use Rattle.http_laws.proofs.BoolLemmas.{and_holds, both_hold, weaker}
+use Rattle.std.proofs.lemmas.Bool.{and_from, and_parts}
+use Rattle.http_laws.proofs.PassLemmas.{weaker}
 use Rattle.http_laws.proofs.LineLemmas.{is_sound}
 
 -- ---- white space at the ends
@@ -23,7 +24,7 @@ trimmed value front back = ap (λ (v : List ℕ). reverse (skip_ows (reverse v))
 
 pub plain_by : (value : List ℕ) → list_all is_value_byte value ≡ true → skip_ows value ≡ value → skip_ows (reverse value) ≡ reverse value → is_plain value ≡ true
 plain_by value bytes front back =
-    and_holds (list_all is_value_byte value) (is_text (trim_ows value) value) bytes ((bytes_eq-Decides (trim_ows value) value).1 (trimmed value front back))
+    and_from (list_all is_value_byte value) (is_text (trim_ows value) value) bytes ((bytes_eq-Decides (trim_ows value) value).1 (trimmed value front back))
 
 visible_stays : (b : ℕ) → is_visible b ≡ true → is_ows b ≡ false
 visible_stays b is = grind (arith, nat_tests)
@@ -40,13 +41,13 @@ visible_value b is = grind (arith, nat_tests)
 turned : (bytes : List ℕ) → list_all is_visible bytes ≡ true → list_all is_visible (reverse bytes) ≡ true
 turned [] all = refl
 turned (b ∷ bytes) all =
-    let both = both_hold (is_visible b) (list_all is_visible bytes) all in
+    let both = and_parts (is_visible b) (list_all is_visible bytes) all in
     ap (list_all is_visible) (reverse-append (b ∷ []) bytes) ∙ list_all-append is_visible (reverse bytes) (b ∷ [])
-    ∙ and_holds (list_all is_visible (reverse bytes)) (is_visible b && true) (turned bytes both.1) (and_holds (is_visible b) true both.0 refl)
+    ∙ and_from (list_all is_visible (reverse bytes)) (is_visible b && true) (turned bytes both.1) (and_from (is_visible b) true both.0 refl)
 
 unskipped : (bytes : List ℕ) → list_all is_visible bytes ≡ true → skip_ows bytes ≡ bytes
 unskipped [] all = refl
-unskipped (b ∷ bytes) all = skips_none b bytes (both_hold (is_visible b) (list_all is_visible bytes) all).0
+unskipped (b ∷ bytes) all = skips_none b bytes (and_parts (is_visible b) (list_all is_visible bytes) all).0
 
 pub visible_plain : (text : List ℕ) → list_all is_visible text ≡ true → is_plain text ≡ true
 visible_plain text all =
@@ -54,7 +55,7 @@ visible_plain text all =
 
 begins_visible : (front rest : List ℕ) → list_all is_visible front ≡ true → 0 < length front → skip_ows (front ++ rest) ≡ front ++ rest
 begins_visible [] rest all some = absurd (omega (arith, some))
-begins_visible (b ∷ front) rest all some = skips_none b (front ++ rest) (both_hold (is_visible b) (list_all is_visible front) all).0
+begins_visible (b ∷ front) rest all some = skips_none b (front ++ rest) (and_parts (is_visible b) (list_all is_visible front) all).0
 
 -- two such texts, neither empty, with a space between them
 pub spaced_plain : (front back : List ℕ) → list_all is_visible front ≡ true → 0 < length front → list_all is_visible back ≡ true → 0 < length back
@@ -62,7 +63,7 @@ pub spaced_plain : (front back : List ℕ) → list_all is_visible front ≡ tru
 spaced_plain front back first some second more =
     let values : list_all is_value_byte (front ++ 32 ∷ back) ≡ true =
     list_all-append is_value_byte front (32 ∷ back)
-    ∙ and_holds (list_all is_value_byte front) (list_all is_value_byte back)
+    ∙ and_from (list_all is_value_byte front) (list_all is_value_byte back)
     (weaker is_visible is_value_byte visible_value front first) (weaker is_visible is_value_byte visible_value back second) in
     let other : reverse (front ++ 32 ∷ back) ≡ reverse back ++ reverse (front ++ 32 ∷ []) =
     ap reverse (sym (append_assoc front (32 ∷ []) back)) ∙ reverse-append (front ++ 32 ∷ []) back in
@@ -87,5 +88,5 @@ pub sound_last : (body : List ℕ) → length body ≤ 65536 → list_all is_sou
 unfolding is_token_byte
 sound_last body small =
     let fits : length body < 2 ^ 64 = omega (arith, small) in
-    and_holds (is_sound (codes "Content-Length", decimal (length body))) (list_all is_sound ((codes "Connection", codes "close") ∷ [])) (decimal_plain (length body) fits)
-    (and_holds (is_sound (codes "Connection", codes "close")) true (visible_plain (codes "close") refl) refl)
+    and_from (is_sound (codes "Content-Length", decimal (length body))) (list_all is_sound ((codes "Connection", codes "close") ∷ [])) (decimal_plain (length body) fits)
+    (and_from (is_sound (codes "Connection", codes "close")) true (visible_plain (codes "close") refl) refl)

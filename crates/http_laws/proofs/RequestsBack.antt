@@ -29,7 +29,8 @@ use Rattle.http_front.specs.declared.message.WireRequest.{WireRequest}
 use Rattle.http_front.specs.declared.request_head.RequestStart.{RequestStart}
 use Rattle.http_laws.specs.ReadBack.{IsSendable, RequestReadsBack, request_read}
 use Rattle.http_laws.proofs.BodyLemmas.{body_back, measured}
-use Rattle.http_laws.proofs.BoolLemmas.{and_holds, both_hold, weaker}
+use Rattle.std.proofs.lemmas.Bool.{and_from, and_parts}
+use Rattle.http_laws.proofs.PassLemmas.{weaker}
 use Rattle.http_laws.proofs.HeadEnds.{AreLines, first_line, whole_head}
 use Rattle.http_laws.proofs.PlainLemmas.{sound_last}
 use Rattle.http_laws.proofs.LineLemmas.{are_fields, few_in_table, field_of, fields_more, first_few, is_sound, named_values, printed, sound_first, sound_table}
@@ -51,8 +52,8 @@ line_begins b front path is all visible =
     let whole : b ∷ ((front ++ (path ++ version)) ++ 13 ∷ 10 ∷ []) ≡ b ∷ (front ++ (path ++ codes " HTTP/1.1\r\n")) =
     ap (λ (text : List ℕ). b ∷ text) (append_assoc front (path ++ version) (13 ∷ 10 ∷ []) ∙ ap (λ (text : List ℕ). front ++ text) (append_assoc path version (13 ∷ 10 ∷ []))) in
     subst AreLines whole (first_line b (front ++ (path ++ version)) is
-    (list_all-append is_of_line front (path ++ version) ∙ and_holds (list_all is_of_line front) (list_all is_of_line (path ++ version)) all
-    (list_all-append is_of_line path version ∙ and_holds (list_all is_of_line path) true (weaker is_visible is_of_line visible_of_line path visible) refl)))
+    (list_all-append is_of_line front (path ++ version) ∙ and_from (list_all is_of_line front) (list_all is_of_line (path ++ version)) all
+    (list_all-append is_of_line path version ∙ and_from (list_all is_of_line path) true (weaker is_visible is_of_line visible_of_line path visible) refl)))
 
 line_is : (method : Method) (path : List ℕ) → list_all is_visible path ≡ true → AreLines (request_line method path)
 line_is Get path visible = line_begins 71 (codes "ET ") path refl refl visible
@@ -95,11 +96,11 @@ sound_lines request sendable =
     let aire = aire_lines head in
     let last = last_lines request.body in
     list_all-append is_sound host (aire ++ last)
-    ∙ and_holds (list_all is_sound host) (list_all is_sound (aire ++ last)) (sound_first head (codes "Host") refl sendable.host)
-    (list_all-append is_sound aire last ∙ and_holds (list_all is_sound aire) (list_all is_sound last) (sound_table head sendable.fields) (sound_last request.body sendable.within.short_body))
+    ∙ and_from (list_all is_sound host) (list_all is_sound (aire ++ last)) (sound_first head (codes "Host") refl sendable.host)
+    (list_all-append is_sound aire last ∙ and_from (list_all is_sound aire) (list_all is_sound last) (sound_table head sendable.fields) (sound_last request.body sendable.within.short_body))
 
 path_visible : (path : List ℕ) → is_path path ≡ true → list_all is_visible path ≡ true
-path_visible path is = (both_hold (starts_with nat_eq path (codes "/") && nat_le (length path) 1024) (list_all is_visible path) is).1
+path_visible path is = (and_parts (starts_with nat_eq path (codes "/") && nat_le (length path) 1024) (list_all is_visible path) is).1
 
 is_whole : (request : WireRequest) → IsSendable request → IsWholeHead (head_of_bytes request)
 is_whole request sendable =

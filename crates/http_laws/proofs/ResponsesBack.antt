@@ -23,7 +23,8 @@ use Rattle.http_front.specs.declared.message.WireResponse.{WireResponse}
 use Rattle.http_front.specs.declared.response_head.ResponseStart.{ResponseStart}
 use Rattle.http_laws.specs.ReadBack.{IsRepliable, ResponseReadsBack, response_read}
 use Rattle.http_laws.proofs.BodyLemmas.{body_back, measured, own}
-use Rattle.http_laws.proofs.BoolLemmas.{and_holds, weaker}
+use Rattle.std.proofs.lemmas.Bool.{and_from}
+use Rattle.http_laws.proofs.PassLemmas.{weaker}
 use Rattle.http_laws.proofs.HeadEnds.{AreLines, first_line, whole_head}
 use Rattle.http_laws.proofs.LineLemmas.{are_fields, few_in_table, field_of, fields_more, is_sound, named_values, printed, sound_table, values_of_line}
 use Rattle.http_laws.proofs.MapLemmas.{response_length}
@@ -72,7 +73,7 @@ line_is status small =
     let digits = decimal status in
     let text = codes " " ++ phrase status in
     subst AreLines (ended digits (phrase status)) (first_line 72 (codes "TTP/1.1 " ++ (digits ++ text)) refl
-    (list_all-append is_of_line digits text ∙ and_holds (list_all is_of_line digits) (list_all is_of_line text) (digits_of_line status (fits status small))
+    (list_all-append is_of_line digits text ∙ and_from (list_all is_of_line digits) (list_all is_of_line text) (digits_of_line status (fits status small))
     (values_of_line (phrase status) (phrase_values status small))))
 
 -- ---- the head
@@ -104,8 +105,8 @@ sound_lines response repliable =
     let aire = aire_lines head in
     let last = last_lines response.body in
     list_all-append is_sound aire (type_line head ∷ last)
-    ∙ and_holds (list_all is_sound aire) (list_all is_sound (type_line head ∷ last)) (sound_table head repliable.fields)
-    (and_holds (is_sound (type_line head)) (list_all is_sound last) repliable.kind (sound_last response.body repliable.within.short_body))
+    ∙ and_from (list_all is_sound aire) (list_all is_sound (type_line head ∷ last)) (sound_table head repliable.fields)
+    (and_from (is_sound (type_line head)) (list_all is_sound last) repliable.kind (sound_last response.body repliable.within.short_body))
 
 is_whole : (response : WireResponse) → IsRepliable response → IsWholeHead (head_of_bytes response)
 is_whole response repliable =

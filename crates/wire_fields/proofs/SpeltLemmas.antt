@@ -1,20 +1,18 @@
 -- Names, numbers and ids as they are written are of the form that they are read in, and read back.
-use Rattle.std.proofs.Common.{◌≡◌, ℕ, zero, suc, ◌<◌, ◌^◌, Bool, true, false, ◌&&◌, not, List, [], ◌∷◌, ◌++◌, Some, length, get_or, decimal, nat_eq, nat_lt, nat_le, ◌==◌, refl, ap, arith, length-append}
+use Rattle.std.proofs.Common.{◌≡◌, ℕ, zero, suc, ◌<◌, ◌^◌, Bool, true, false, ◌&&◌, not, List, [], ◌∷◌, ◌++◌, Some, length, decimal, nat_eq, nat_le, ◌==◌, refl, ap, arith}
 use Rattle.std.specs.Char.{is_ascii_digit}
 use Rattle.std.specs.List.{list_all, position_or_len}
 use Rattle.std.specs.Str.{is_utf8, IsAscii}
-use Rattle.std.proofs.Math.Seq.{take-append_seam, drop-append-add}
 use Rattle.std.proofs.lemmas.Bool.Decides.{nat_tests}
-use Rattle.std.proofs.lemmas.Fmt.{decimal_digit, decimal_nonempty, digits_decimal, digits_value-decimal, first_decimal}
+use Rattle.std.proofs.lemmas.Fmt.{decimal_digit, digits_decimal}
 use Rattle.std.proofs.lemmas.Str.{IsAscii-append, IsUtf8-from_ascii, is_utf8-from_IsUtf8}
 use Rattle.std.proofs.lemmas.Str.Ascii.{IsAscii-cons, IsAscii-nil}
 use Rattle.lang_core.specs.Names.{is_name, is_name_byte}
 use Rattle.request_names.proofs.Parsed.{own}
 use Rattle.request_names.specs.Ids.{id_of, id_text}
-use Rattle.lang_base.specs.Characters.{digits_value}
-use Rattle.request_names.specs.Numbers.{begins_well, number_of}
+use Rattle.request_names.specs.Numbers.{number_of}
 use Rattle.std.specs.Result.{result_ok}
-use Rattle.request_names.proofs.IdLemmas.{no_slash, read_decimal, reads_back, three_hold}
+use Rattle.request_names.proofs.IdLemmas.{read_decimal, reads_back, three_hold}
 
 pub both_hold : (a b : Bool) → a && b ≡ true → (a ≡ true) × (b ≡ true)
 both_hold true b h = (refl, h)

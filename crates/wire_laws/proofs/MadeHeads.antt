@@ -11,7 +11,7 @@ use Rattle.http_front.specs.declared.header.AireHeader.{AireHeader}
 use Rattle.http_front.specs.declared.header.AireHeader.TheVariants.{From, Dest, RequestId, ResponseId, NotifierUrl, Repair, Version, AnswerVersion, Who, Method, Path, RequestWho, Chain, Before, After, Status, Refused, Seal}
 use Rattle.wire_fields.specs.Heads.{Field, with_field, with_fields}
 use Rattle.http_laws.specs.ReadBack.{is_plain, is_plain_line}
-use Rattle.http_laws.proofs.BoolLemmas.{and_holds, both_hold}
+use Rattle.std.proofs.lemmas.Bool.{and_from, and_parts}
 use Rattle.http_laws.proofs.MapLemmas.{added, first_plain, key}
 
 -- ---- plain values
@@ -30,7 +30,7 @@ pub none_plain : ArePlain []
 none_plain = λ name. refl
 
 chosen : (b : Bool) (text : List ℕ) → is_plain text ≡ true → list_all is_plain_value (cond b (plain_value text ∷ []) []) ≡ true
-chosen true text plain = and_holds (is_plain text) true plain refl
+chosen true text plain = and_from (is_plain text) true plain refl
 chosen false text plain = refl
 
 pub one_plain : (head : Entries FieldValue) (field : Field) → ArePlain head → is_plain_field field ≡ true → ArePlain (with_field head field)
@@ -38,12 +38,12 @@ one_plain head field all plain = λ name.
     let b = bytes_eq (key field.0) name in
     ap (list_all is_plain_value) (added head name (spelling field.0, field.1))
     ∙ list_all-append is_plain_value (get_all head name) (cond b (plain_value field.1 ∷ []) [])
-    ∙ and_holds (list_all is_plain_value (get_all head name)) (list_all is_plain_value (cond b (plain_value field.1 ∷ []) [])) (all name) (chosen b field.1 plain)
+    ∙ and_from (list_all is_plain_value (get_all head name)) (list_all is_plain_value (cond b (plain_value field.1 ∷ []) [])) (all name) (chosen b field.1 plain)
 
 pub all_plain : (head : Entries FieldValue) (fields : List Field) → ArePlain head → list_all is_plain_field fields ≡ true → ArePlain (with_fields head fields)
 all_plain head [] all plain = all
 all_plain head (field ∷ fields) all plain =
-    let both = both_hold (is_plain_field field) (list_all is_plain_field fields) plain in
+    let both = and_parts (is_plain_field field) (list_all is_plain_field fields) plain in
     all_plain (with_field head field) fields (one_plain head field all both.0) both.1
 
 -- ---- the lines of the table
@@ -51,13 +51,13 @@ all_plain head (field ∷ fields) all plain =
 line_plain : (name : List ℕ) (values : List FieldValue) → list_all is_plain_value values ≡ true → list_all is_plain_line (line_if name (slice_get values 0)) ≡ true
 line_plain name [] all = refl
 line_plain name (value ∷ values) all =
-    and_holds (is_plain value.bytes) true (both_hold (is_plain_value value) (list_all is_plain_value values) all).0 refl
+    and_from (is_plain value.bytes) true (and_parts (is_plain_value value) (list_all is_plain_value values) all).0 refl
 
 lines_plain : (head : Entries FieldValue) (headers : List AireHeader) → ArePlain head → list_all is_plain_line (flat_map (first_of_header head) headers) ≡ true
 lines_plain head [] all = refl
 lines_plain head (header ∷ headers) all =
     list_all-append is_plain_line (first_of_header head header) (flat_map (first_of_header head) headers)
-    ∙ and_holds (list_all is_plain_line (first_of_header head header)) (list_all is_plain_line (flat_map (first_of_header head) headers))
+    ∙ and_from (list_all is_plain_line (first_of_header head header)) (list_all is_plain_line (flat_map (first_of_header head) headers))
     (line_plain (spelling header) (get_all head (key header)) (all (key header))) (lines_plain head headers all)
 
 pub table_plain : (head : Entries FieldValue) → ArePlain head → list_all is_plain_line (aire_lines head) ≡ true

@@ -14,7 +14,8 @@ use Rattle.wire_fields.specs.Words.{lone_status, numbered_status, refusal_text}
 use Rattle.wire_fields.proofs.SealLemmas.{seal_form}
 use Rattle.wire_fields.proofs.WordLemmas.{lone_text, lone_word, numbered_text, numbered_word}
 use Rattle.http_laws.specs.ReadBack.{is_plain}
-use Rattle.http_laws.proofs.BoolLemmas.{and_holds, both_hold, weaker}
+use Rattle.std.proofs.lemmas.Bool.{and_from, and_parts}
+use Rattle.http_laws.proofs.PassLemmas.{weaker}
 use Rattle.http_laws.proofs.PlainLemmas.{decimal_visible, spaced_plain, visible_plain}
 
 -- ---- names, ids, users and paths
@@ -25,7 +26,7 @@ name_visible b is = grind (arith, nat_tests)
 pub name_bytes : (name : List ℕ) → is_name name ≡ true → list_all is_visible name ≡ true
 name_bytes name is =
     weaker is_name_byte is_visible name_visible name
-    (both_hold (not (nat_eq (length name) 0) && nat_le (length name) 32) (list_all is_name_byte name) is).1
+    (and_parts (not (nat_eq (length name) 0) && nat_le (length name) 32) (list_all is_name_byte name) is).1
 
 pub name_plain : (name : List ℕ) → is_name name ≡ true → is_plain name ≡ true
 name_plain name is = visible_plain name (name_bytes name is)
@@ -33,13 +34,13 @@ name_plain name is = visible_plain name (name_bytes name is)
 pub id_plain : (name : List ℕ) (n : ℕ) → is_name name ≡ true → n < 2 ^ 64 → is_plain (id_text name n) ≡ true
 id_plain name n is small =
     visible_plain (id_text name n) (list_all-append is_visible name (47 ∷ decimal n)
-    ∙ and_holds (list_all is_visible name) (list_all is_visible (decimal n)) (name_bytes name is) (decimal_visible n small))
+    ∙ and_from (list_all is_visible name) (list_all is_visible (decimal n)) (name_bytes name is) (decimal_visible n small))
 
 pub who_plain : (who : List ℕ) → is_who who ≡ true → is_plain who ≡ true
-who_plain who is = visible_plain who (both_hold (not (nat_eq (length who) 0) && nat_le (length who) 64) (list_all is_visible who) is).1
+who_plain who is = visible_plain who (and_parts (not (nat_eq (length who) 0) && nat_le (length who) 64) (list_all is_visible who) is).1
 
 pub path_plain : (path : List ℕ) → is_path path ≡ true → is_plain path ≡ true
-path_plain path is = visible_plain path (both_hold (starts_with nat_eq path (codes "/") && nat_le (length path) 1024) (list_all is_visible path) is).1
+path_plain path is = visible_plain path (and_parts (starts_with nat_eq path (codes "/") && nat_le (length path) 1024) (list_all is_visible path) is).1
 
 -- ---- seals
 
@@ -49,7 +50,7 @@ digit_visible b is = grind (arith, nat_tests)
 pub seal_plain : (key bytes : List ℕ) → is_plain (seal_digits key bytes) ≡ true
 seal_plain key bytes =
     let digits = seal_digits key bytes in
-    visible_plain digits (weaker is_seal_digit is_visible digit_visible digits (both_hold (nat_eq (length digits) 64) (list_all is_seal_digit digits) (seal_form key bytes)).1)
+    visible_plain digits (weaker is_seal_digit is_visible digit_visible digits (and_parts (nat_eq (length digits) 64) (list_all is_seal_digit digits) (seal_form key bytes)).1)
 
 -- ---- words of refusals
 

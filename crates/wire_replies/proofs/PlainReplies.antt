@@ -2,7 +2,7 @@
 use Rattle.std.proofs.Common.{◌≡◌, ℕ, ◌<◌, ◌^◌, true, List, [], Some, None, refl, sym, subst, ap, ◌∙◌}
 use Rattle.std.specs.List.{list_all}
 use Rattle.lang_core.specs.Names.{is_name}
-use Rattle.http_laws.proofs.BoolLemmas.{and_holds}
+use Rattle.std.proofs.lemmas.Bool.{and_from}
 use Rattle.http_laws.proofs.PlainLemmas.{decimal_plain}
 use Rattle.wire_laws.proofs.MadeHeads.{ArePlain, AreSingle, all_plain, are_single, is_plain_field, none_plain, one_plain}
 use Rattle.wire_laws.proofs.PlainForms.{id_plain, name_plain, refusal_plain, seal_plain}
@@ -26,23 +26,23 @@ fields_plain me peer (replies.Answered id (Some answer) r) mine theirs small goe
     let callee : answer.callee ≡ me = goes.0 in
     let caller : answer.caller ≡ peer = some_same peer answer.caller goes.1 in
     let number : id.number < 2 ^ 64 = subst (λ (n : ℕ). n < 2 ^ 64) (sym spelt.5) small.0 in
-    and_holds _ _ (id_plain id.service id.number (named id.service me (spelt.4 ∙ callee) mine) number)
-    (and_holds _ _ (id_plain answer.caller answer.number (named answer.caller peer caller theirs) small.1)
-    (and_holds _ _ (decimal_plain answer.version small.2)
-    (and_holds _ _ (decimal_plain answer.answer_version small.3) refl)))
+    and_from _ _ (id_plain id.service id.number (named id.service me (spelt.4 ∙ callee) mine) number)
+    (and_from _ _ (id_plain answer.caller answer.number (named answer.caller peer caller theirs) small.1)
+    (and_from _ _ (decimal_plain answer.version small.2)
+    (and_from _ _ (decimal_plain answer.answer_version small.3) refl)))
 fields_plain me peer (replies.Ack ack) mine theirs small goes spelt =
-    and_holds _ _ (id_plain ack.caller ack.number (named ack.caller peer (some_same peer ack.caller goes.1) theirs) small.0)
-    (and_holds _ _ (decimal_plain ack.version small.1) refl)
+    and_from _ _ (id_plain ack.caller ack.number (named ack.caller peer (some_same peer ack.caller goes.1) theirs) small.0)
+    (and_from _ _ (decimal_plain ack.version small.1) refl)
 fields_plain me peer (replies.Confirm confirm) mine theirs small goes spelt =
-    and_holds _ _ (id_plain confirm.caller confirm.number (named confirm.caller me goes.0 mine) small.0)
-    (and_holds _ _ (decimal_plain confirm.answer_version small.1) refl)
-fields_plain me peer (replies.Refused word n) mine theirs small goes spelt = and_holds _ _ (refusal_plain word n small spelt) refl
+    and_from _ _ (id_plain confirm.caller confirm.number (named confirm.caller me goes.0 mine) small.0)
+    (and_from _ _ (decimal_plain confirm.answer_version small.1) refl)
+fields_plain me peer (replies.Refused word n) mine theirs small goes spelt = and_from _ _ (refusal_plain word n small spelt) refl
 
 pub reply_plain : (me peer secret : List ℕ) (reply : Outgoing) → is_name me ≡ true → is_name peer ≡ true → AreNumbers reply → IsFor me (Some peer) reply → IsSpelt reply
     → ArePlain (sealed_reply me peer reply secret).head
 reply_plain me peer secret reply mine theirs small goes spelt =
     let digits = seal_digits secret (sealed_bytes (unsealed (side_fields me peer) reply) aire_headers) in
-    let sides : list_all is_plain_field (side_fields me peer) ≡ true = and_holds _ _ (name_plain me mine) (and_holds _ _ (name_plain peer theirs) refl) in
+    let sides : list_all is_plain_field (side_fields me peer) ≡ true = and_from _ _ (name_plain me mine) (and_from _ _ (name_plain peer theirs) refl) in
     let between = all_plain [] (side_fields me peer) none_plain sides in
     let told = all_plain (with_fields [] (side_fields me peer)) (reply_fields reply) between (fields_plain me peer reply mine theirs small goes spelt) in
     one_plain (unsealed (side_fields me peer) reply).head (headers.Seal, digits) told (seal_plain secret (sealed_bytes (unsealed (side_fields me peer) reply) aire_headers))
