@@ -8,7 +8,7 @@ use Rattle.lang_core.specs.declared.trace.CallMade.{CallMade}
 use Rattle.request_log.specs.Entries.{has_id, find_call}
 use Rattle.request_log.specs.declared.entry.Entry.{Entry}
 use Rattle.request_log.specs.declared.entry.Made.{Made as EntryMade}
-use Rattle.journal_rows.specs.Words.{last_sent, last_seen, seen_acked, last_taken, asked, last_answered}
+use Rattle.journal_rows.specs.Words.{last_sent, last_seen, seen_acked, last_taken, last_answered}
 use Rattle.journal_rows.specs.declared.callee.AnsweredRow.{AnsweredRow}
 use Rattle.journal_rows.specs.declared.callee.TookRow.{TookRow}
 use Rattle.journal_rows.specs.declared.caller.SawAnswerRow.{SawAnswerRow}

@@ -14,3 +14,4 @@ pub mod LiveWorldLaws
 pub mod PeerLaws
 pub mod ReachLaws
 pub mod PostLaws
+pub mod RefusalLaws

@@ -21,7 +21,7 @@ use Rattle.world_meaning.proofs.ListLemmas.{contains_map}
 use Rattle.world_meaning.proofs.NameLemmas.{found_own}
 use Rattle.world_meaning.specs.Partners.{has_name, service_of}
 use Rattle.network_meaning.specs.Worlds.{World, fresh_world, with_service, packet_of, next_inputs, once_drawn, once_lost, loss_note}
-use Rattle.network_meaning.specs.Events.{Turn, Served, refused, turned, if_there, turn_at, outcome, sent_or, lives, unsaid, is_call_of, reply_to, reply_among, begun, live_refusal, called, answered, failed, gives_up, call_delivered, reply_delivered, delivered, call_lost, lost, if_flying, abandoned, turn, after_event}
+use Rattle.network_meaning.specs.Events.{Turn, Served, refused, turned, if_there, turn_at, outcome, sent_or, unsaid, is_call_of, reply_to, reply_among, begun, live_refusal, called, answered, failed, gives_up, call_delivered, reply_delivered, delivered, call_lost, lost, if_flying, abandoned, turn, after_event}
 use Rattle.network_meaning.specs.Live.{IsLiveEvent, AllLiveEvents, IsAnswered, IsTold, EachCall, CallsEnd, EntryEnds, CommitEnds, WhatEnds, CommitsEnd, AllCommitsEnd, IsLiveRow, WaitsForOne, IsLive, IsLivePacket, IsLiveWorld}
 use Rattle.network_meaning.specs.Sound.{CallStands, ReplyStands, PacketStands, AreSound, IsSound, AreFew, AllFew}
 use Rattle.network_meaning.specs.declared.event.Event.{Event}

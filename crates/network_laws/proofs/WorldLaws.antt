@@ -43,7 +43,7 @@ use Rattle.world_meaning.specs.Partners.{has_name, service_of, NamesDiffer, IsJo
 use Rattle.world_meaning.proofs.ListLemmas.{found_in, found_passes}
 use Rattle.world_meaning.proofs.NameLemmas.{name_is}
 use Rattle.network_meaning.specs.Worlds.{World, fresh_world, with_service, packet_of, next_inputs, once_drawn, once_lost, loss_note}
-use Rattle.network_meaning.specs.Events.{Turn, Served, refused, turned, if_there, turn_at, at_service, sent, sent_or, lives, unsaid, is_call_of, reply_to, reply_among, begun, live_refusal, called, answered, failed, sender, set_reply, takes, answer_reply, hears, gets_back, posts_next, posts_to, steps, gives_up, orders, call_delivered, reply_delivered, post_delivered, delivered, call_lost, post_lost, lost, posted, if_flying, abandoned, turn, after_event, after_events}
+use Rattle.network_meaning.specs.Events.{Turn, Served, refused, turned, if_there, turn_at, at_service, sent_or, lives, unsaid, is_call_of, reply_to, reply_among, begun, live_refusal, called, answered, failed, sender, set_reply, takes, answer_reply, hears, gets_back, posts_next, posts_to, steps, gives_up, orders, call_delivered, reply_delivered, post_delivered, delivered, call_lost, post_lost, lost, posted, if_flying, abandoned, turn, after_event, after_events}
 use Rattle.network_meaning.specs.Sound.{WasSent, WasAnswered, CallStands, ReplyStands, PostStands, PostReplyStands, PacketStands, OriginStands, FlightStands, FlightsStand, AreSound, IsSound, AreFew, AllFew}
 use Rattle.network_meaning.specs.declared.event.Event.{Event}
 use Rattle.network_meaning.specs.declared.event.Event.TheVariants.{Begin, Deliver, Lose, Post as Posts, Step, Abandon, Order, Clock, Seed}

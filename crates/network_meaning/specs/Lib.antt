@@ -3,3 +3,4 @@ pub mod Events
 pub mod Sound
 pub mod Live
 pub mod Reach
+pub mod Refusals
