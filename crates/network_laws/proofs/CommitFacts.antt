@@ -107,14 +107,16 @@ module _ (services : List Kept) (packets : List Packet) (h : AreSound services p
           let at = subst (λ o. IfSome o (λ x. ((x.caller ≡ me s) × (x.number ≡ n)) × Contains k.journal (Took x))) t.1 (taken_from (me s) n k.journal) in
           let positive = took_positive t.0 k.journal theirs.taken at.1 in
           let first = wanted_first s fits live n r found c wanted in
-          let asks = took_asks n r found first k t.0 (partner_of c.dest k there (Took t.0) at.1) at.0.0 at.0.1 positive in
+          let asks : t.0.desired ≡ r.desired = took_asks n r found first k t.0 (partner_of c.dest k there (Took t.0) at.1) at.0.0 at.0.1 positive in
           let q : r.desired ≡ Some c.request = desired_is r.desired (sym (ap call_in found) ∙ wanted) in
-          let e = entered k theirs (me s) n t.0 t.1 c.request (asks ∙ q) in
-          same_request (find_call (Call (me s) n) k.entries) made.entry e.entry made.by_call e.found ∙ e.request
+          let wants : t.0.desired ≡ Some c.request = asks ∙ q in
+          let e = entered k theirs (me s) n t.0 t.1 c.request wants in
+          same_request (find_call (Call (me s) n) k.entries) made.entry e.entry made.by_call e.found e.request
         where
-          same_request : (o : Option Entry) (x y : Entry) → o ≡ Some x → o ≡ Some y → x.request ≡ y.request
-          same_request None x y a b = cc
-          same_request (Some z) x y a b = (let one : z ≡ x = cc in let other : z ≡ y = cc in sym (ap (λ (e : Entry). e.request) one) ∙ ap (λ (e : Entry). e.request) other)
+          same_request : (o : Option Entry) (x y : Entry) → o ≡ Some x → o ≡ Some y → y.request ≡ c.request → x.request ≡ c.request
+          same_request None x y a b is = cc
+          same_request (Some z) x y a b is =
+              (let one : z ≡ x = cc in let other : z ≡ y = cc in sym (ap (λ (e : Entry). e.request) one) ∙ ap (λ (e : Entry). e.request) other ∙ is)
 
           desired_is : (d : Option Request) → call_to r.dest d ≡ Some c → d ≡ Some c.request
           desired_is None e = cc
@@ -191,24 +193,27 @@ module _ (services : List Kept) (packets : List Packet) (h : AreSound services p
           response = (x.0).response;
           live = callee.2.1;
         } in
-        let from : row.origin ≡ Call (me s) n = ap (λ m. Call (me s) m) x.1 in
-        let e = made n c r found wanted callee.0 there row from callee.2.2 in
-        let response = response_is n c r found wanted callee.0 there row from callee.2.2 _ refl in
-        let first = wanted_first s fits live n r found c wanted in
         let consumes : consumed n s.registers ≡ Some a.response =
         ap consumed_in found ∙ ap (answer_to r.version) is
-        ∙ cond-true (nat_eq a.version r.version) (Some a.response) None (eq-eqb a.version r.version (version ∙ sym first)) in
-        record {
-          callee = callee.0;
-          there = there;
-          entry = e.entry;
-          one = only_one (me s) n (callee.0).entries e.entry (fits_of c.dest callee.0 there).asked.distinct e.by_call;
-          request = request_is n c r found wanted callee.0 there row from callee.2.2;
-          made = response.0;
-          is = response.1;
-          response = consumes ∙ ap Some (sym (ap (λ (y : Answer). y.response) x.3) ∙ response.2);
-        }
+        ∙ cond-true (nat_eq a.version r.version) (Some a.response) None (eq-eqb a.version r.version (version ∙ sym (wanted_first s fits live n r found c wanted))) in
+        by_row callee.0 there row (ap (λ m. Call (me s) m) x.1) callee.2.2 (consumes ∙ ap (λ (y : Answer). Some y.response) (sym x.3))
       where
+        by_row : (k : Kept) → service_of c.dest services ≡ Some k → (row : AnsweredRow) → row.origin ≡ Call (me s) n → Contains k.journal (Answered row)
+            → consumed n s.registers ≡ Some row.response → IsAnswered services s n c
+        by_row k there row from has consumes =
+            let e = made n c r found wanted k there row from has in
+            let response = response_is n c r found wanted k there row from has e.entry.made refl in
+            record {
+              callee = k;
+              there = there;
+              entry = e.entry;
+              one = only_one (me s) n k.entries e.entry (fits_of c.dest k there).asked.distinct e.by_call;
+              request = request_is n c r found wanted k there row from has;
+              made = response.0;
+              is = response.1;
+              response = consumes ∙ ap Some response.2;
+            }
+
         dest_is : (d : Option Request) → call_to r.dest d ≡ Some c → r.dest ≡ c.dest
         dest_is None e = cc
         dest_is (Some q) e = (let same : record { dest = r.dest; request = q } ≡ c = cc in ap (λ (x : CallMade). x.dest) same)

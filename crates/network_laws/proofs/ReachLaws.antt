@@ -1,6 +1,6 @@
 -- Each packet has a receiver, so an event is refused exactly where it names what isn't there.
-use Rattle.std.proofs.Common.{◌≡◌, ℕ, List, Option, Some, None, IsSome, IfSome, IsSomeAnd, IsOk, All, Contains, is_some, option_and_then, refl, sym, ap, subst}
-use Rattle.std.proofs.lemmas.List.Elements.{All-contains, All-weaker}
+use Rattle.std.proofs.Common.{◌≡◌, ℕ, List, [], ◌∷◌, Option, Some, None, IsSome, IfSome, IsSomeAnd, IsOk, All, Contains, is_some, option_and_then, refl, sym, ap, subst}
+use Rattle.std.proofs.lemmas.List.Elements.{All-nil, All-contains, All-weaker}
 use Rattle.lang_core.specs.declared.ids.Origin.TheVariants.{Outside, Call as CallOrigin}
 use Rattle.lang_core.specs.declared.request.Request.{Request}
 use Rattle.request_log.specs.Entries.{find_call}
@@ -24,10 +24,10 @@ use Rattle.entry_laws.proofs.SearchLemmas.{found_all}
 use Rattle.world_meaning.specs.Partners.{has_name, service_of, JournalOf, HasSent, HasAnswered, HasPartner}
 use Rattle.world_meaning.proofs.ListLemmas.{some_out, some_of}
 use Rattle.world_meaning.proofs.TakenFacts.{taken_from}
-use Rattle.network_meaning.specs.Worlds.{World, with_service, packet_of, next_inputs, once_drawn, once_lost, loss_note}
-use Rattle.network_meaning.specs.Events.{Served, refused, turned, if_there, turn_at, at_service, begun, called, answered, failed, sender, takes, hears, gets_back, posts_next, posts_to, steps, gives_up, orders, call_delivered, reply_delivered, post_delivered, delivered, call_lost, post_lost, lost, if_flying, turn, answer_to, after_event}
-use Rattle.network_meaning.specs.Reach.{GoesTo, CallsPeers, AreReached, IsReached, where_none, missing, AnswersBy}
-use Rattle.network_meaning.specs.Sound.{WasSent, WasAnswered, CallStands, PostStands, PacketStands, AreSound, IsSound}
+use Rattle.network_meaning.specs.Worlds.{World, fresh_world, with_service, packet_of, next_inputs, once_drawn, once_lost, loss_note}
+use Rattle.network_meaning.specs.Events.{Served, refused, turned, if_there, turn_at, at_service, begun, called, answered, failed, sender, takes, hears, gets_back, posts_next, posts_to, steps, gives_up, orders, call_delivered, reply_delivered, post_delivered, delivered, call_lost, post_lost, lost, if_flying, turn, answer_to, after_event, after_events}
+use Rattle.network_meaning.specs.Reach.{ArePeered, GoesTo, CallsPeers, AreReached, IsReached, where_none, missing, AnswersBy}
+use Rattle.network_meaning.specs.Sound.{WasSent, WasAnswered, CallStands, PostStands, PacketStands, AreSound, IsSound, AllFew}
 use Rattle.network_meaning.specs.declared.event.Event.{Event}
 use Rattle.network_meaning.specs.declared.event.Event.TheVariants.{Begin, Deliver, Lose, Post as Posts, Step, Abandon, Order, Clock, Seed}
 use Rattle.network_meaning.specs.declared.event.WorldStepRefused.TheVariants.{NoService, NoPacket, NoFlight}
@@ -38,7 +38,7 @@ use Rattle.network_meaning.specs.declared.packet.Packet.TheVariants.{Call, CallR
 use Rattle.network_laws.proofs.AnswerFacts.{of_call, taken_there}
 use Rattle.network_laws.proofs.PeerLaws.{Reaches, reaches_same, reached_calls, arrive_reaches, call_answered_reaches, call_failed_reaches, abandon_reaches, step_reaches, order_reaches, take_reaches, take_answer_reaches, posted_reaches}
 use Rattle.network_laws.proofs.PutLemmas.{put, with_is_put, grew_put, all_put}
-use Rattle.network_laws.proofs.WorldLaws.{found_packet}
+use Rattle.network_laws.proofs.WorldLaws.{found_packet, turn_sound}
 
 -- ---- services that messages name
 
@@ -271,3 +271,17 @@ module _ (w : World) (h : IsSound w) (r : IsReached w) where
       reached_at name (once_drawn w) refl (λ s. orders command token who s (next_inputs w)) (λ s fits calls. order_reaches s fits calls command token who (next_inputs w))
   turn_reached (Clock moment) = r
   turn_reached (Seed n) = r
+
+-- with each event
+pub events_reached : (events : List Event) (w : World) → IsSound w → AllFew w events → IsReached w → IsReached (after_events w events)
+events_reached [] w h few r = r
+events_reached (e ∷ events) w h few r =
+    events_reached events (after_event w e) (turn_sound w h e few.0) few.1 (turn_reached w h r e)
+
+-- services whose peers are there, which wrote nothing
+pub fresh_reached : (services : List Kept) → ArePeered services → All (λ (s : Kept). s.journal ≡ []) services → IsReached (fresh_world services)
+fresh_reached services peered new = record {
+  peered = peered;
+  calls = All-weaker (λ (s : Kept). s.journal ≡ []) CallsPeers
+      (λ s none. subst (All (GoesTo s.setting.peers)) (sym none) (All-nil (GoesTo s.setting.peers))) services new;
+}
