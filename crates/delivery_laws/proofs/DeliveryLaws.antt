@@ -1,5 +1,5 @@
 -- A delivery makes the world and the packet in hand lighter.
-use Rattle.std.proofs.Common.{◌≡◌, ℕ, suc, ◌+◌, ◌<◌, ◌≤◌, Bool, true, false, List, [], ◌∷◌, ◌++◌, Option, Some, None, IfSome, Result, Ok, Err, find, get_or, length, set, slice_get, refl, sym, ap, ◌∙◌, subst, inl, inr, arith, sum_by, option_map, if◌then◌else◌}
+use Rattle.std.proofs.Common.{◌≡◌, ℕ, suc, ◌+◌, ◌<◌, ◌≤◌, Bool, true, false, List, [], ◌∷◌, ◌++◌, Option, Some, None, IfSome, IsSomeAnd, Result, Ok, Err, find, get_or, length, set, slice_get, refl, sym, ap, ◌∙◌, subst, inl, inr, arith, sum_by, option_map, if◌then◌else◌}
 use Rattle.std.specs.Prelude.{option_to_list}
 use Rattle.std.specs.List.{position_or_len}
 use Rattle.std.proofs.lemmas.Bool.{cases_Bool}
@@ -7,7 +7,7 @@ use Rattle.std.proofs.lemmas.List.Folds.{find_at}
 use Rattle.std.proofs.lemmas.List.Sums.{sum_by-set}
 use Rattle.std.proofs.lemmas.Option.{slice_get_within, slice_get-get_or}
 use Rattle.std.proofs.Math.Seq.{map-set_same}
-use Rattle.lang_core.specs.declared.ids.Origin.TheVariants.{Call as CallOrigin}
+use Rattle.lang_core.specs.declared.ids.Origin.TheVariants.{Outside, Call as CallOrigin}
 use Rattle.lang_core.specs.declared.request.Request.{Request}
 use Rattle.repair_messages.specs.declared.messages.AnswerMessage.{AnswerMessage}
 use Rattle.repair_messages.specs.declared.messages.SetMessage.{SetMessage}
@@ -20,9 +20,9 @@ use Rattle.service_meaning.specs.declared.answers.Arrived.TheVariants.{Done, Cal
 use Rattle.service_meaning.specs.declared.refusals.ArriveRefused.{ArriveRefused}
 use Rattle.service_meaning.specs.declared.refusals.CallRefused.{CallRefused}
 use Rattle.entry_laws.proofs.SearchLemmas.{text_is, splits}
-use Rattle.network_meaning.specs.Events.{Served, Turn, answered_back, turn, turned, if_there, refused, sent, sent_or, reply_among, reply_to, called, answered, failed, delivered, call_delivered, reply_delivered, is_call_of, live_refusal}
+use Rattle.network_meaning.specs.Events.{Served, Turn, answered_back, turn, turned, if_there, refused, sent, sent_or, reply_among, reply_to, called, answered, failed, delivered, call_delivered, reply_delivered, is_call_of, live_refusal, begun, drawing_at, unsaid}
 use Rattle.network_meaning.specs.Worlds.{World, with_service, packet_of, packet_in, next_packet, next_inputs, once_drawn}
-use Rattle.network_meaning.specs.declared.event.Event.TheVariants.{Deliver}
+use Rattle.network_meaning.specs.declared.event.Event.TheVariants.{Begin, Deliver}
 use Rattle.network_meaning.specs.declared.event.WorldStepRefused.{WorldStepRefused}
 use Rattle.network_meaning.specs.declared.packet.Live.{Live}
 use Rattle.network_meaning.specs.declared.packet.Live.TheVariants.{Answer, Refused}
@@ -33,7 +33,7 @@ use Rattle.world_meaning.specs.Partners.{has_name, service_of}
 use Rattle.ask_laws.proofs.AskLaws.{arrive_lightens, call_answered_lightens, call_failed_lightens}
 use Rattle.ask_laws.proofs.WeightLemmas.{cost_some}
 use Rattle.ask_laws.specs.Weights.{is_among, load, cost, left_by, chain_behind, call_weight, message_weight, sent_weight, weight_of_arrival, weight_of_return}
-use Rattle.delivery_laws.specs.WorldWeights.{names_of, packet_weight, weight_if, in_hand, world_weight, written_at}
+use Rattle.delivery_laws.specs.WorldWeights.{names_of, packet_weight, weight_if, in_hand, world_weight, written_at, IsInHand}
 
 -- ---- packets
 
@@ -258,25 +258,28 @@ sent_or_live : {E : Type 0} (back : AnswerMessage → Option Packet) (refusal : 
 sent_or_live back refusal live nothing name (Ok arrived) = sent_live back live name arrived
 sent_or_live back refusal live nothing name (Err why) = nothing why
 
--- the packet that an event wrote, in the world after it
-abbrev Writes : Turn → Option Packet
-Writes t = in_hand t.world (written_at t.answer)
+-- what a turn writes is in hand in the world after it
+abbrev HandsOn : Turn → Type 0
+HandsOn t = IsInHand t.world (written_at t.answer)
+
+written_live : (packets : List Packet) (o : Option Packet) → LiveIf o
+    → IfSome (option_map (λ _. length packets + 1) o) (λ k. IsSomeAnd (packet_in k (packets ++ option_to_list o)) IsLivePacket)
+written_live packets None live = tt
+written_live packets (Some p) live = subst (λ o. IsSomeAnd o IsLivePacket) (sym (packet_next packets p)) live
 
 turn_live : (w later : World) (o : Option Kept) (name : List ℕ) (act : Kept → Served) (why : WorldStepRefused) → ((s : Kept) → LiveIf (act s).packet)
-    → LiveIf (Writes (if_there o (refused w why) (λ s. turned name later (act s))))
+    → HandsOn (if_there o (refused w why) (λ s. turned name later (act s)))
 turn_live w later None name act why live = tt
-turn_live w later (Some s) name act why live =
-    let d = act s in
-    subst LiveIf (sym (hand_is (turned name later d).world later.packets d.packet refl)) (live s)
+turn_live w later (Some s) name act why live = written_live later.packets (act s).packet (live s)
 
-call_live : (w : World) (k flight : ℕ) (set : SetMessage) (o : Option Request) → LiveIf (Writes (call_delivered w k flight set o))
+call_live : (w : World) (k flight : ℕ) (set : SetMessage) (o : Option Request) → HandsOn (call_delivered w k flight set o)
 call_live w k flight set None = tt
 call_live w k flight set (Some q) =
     turn_live w (once_drawn w) (service_of set.dest w.services) set.dest (λ s. called flight set q s (next_inputs w)) _ (λ s.
     let a = arrive_event s (CallOrigin set.caller set.number) q (next_inputs w) in
     sent_or_live (λ m. Some (CallReply set.caller flight set (Answer m))) (λ why. Some (CallReply set.caller flight set (live_refusal why))) (λ m. tt) (λ why. tt) (me a.service) a.answer)
 
-reply_live : (w : World) (to : List ℕ) (flight : ℕ) (set : SetMessage) (reply : Live) → LiveIf (Writes (reply_delivered w to flight set reply))
+reply_live : (w : World) (to : List ℕ) (flight : ℕ) (set : SetMessage) (reply : Live) → HandsOn (reply_delivered w to flight set reply)
 reply_live w to flight set (Answer a) =
     turn_live w w (service_of to w.services) to (answered w.packets flight a) _ (λ s.
     let e = call_answered_event s flight a in
@@ -286,14 +289,25 @@ reply_live w to flight set (Refused word n) =
     let e = call_failed_event s flight set.number (WasRefused word n) in
     sent_or_live (reply_among w.packets) (λ why. None) (λ m. reply_to_live m (find (is_call_of m.caller m.number) w.packets)) (λ why. tt) (me e.service) e.answer)
 
-packet_live : (w : World) (k : ℕ) (p : Packet) → IsLivePacket p → LiveIf (Writes (delivered w k (Some p)))
+packet_live : (w : World) (k : ℕ) (p : Packet) → IsLivePacket p → HandsOn (delivered w k (Some p))
 packet_live w k (Call from flight set) live = call_live w k flight set set.desired
 packet_live w k (CallReply to flight set reply) live = reply_live w to flight set reply
 packet_live w k (Post post) live = absurd live
 packet_live w k (PostReply post reply) live = absurd live
 
--- what is written at the delivery of a live packet is live
-pub delivery_writes_live : (w : World) (k : ℕ) (p : Packet) → packet_of k w ≡ Some p → IsLivePacket p
-    → IfSome (in_hand (turn w (Deliver k)).world (written_at (turn w (Deliver k)).answer)) IsLivePacket
+begin_live : (w : World) (name : List ℕ) (q : Request) → HandsOn (drawing_at name w (begun w.packets q))
+begin_live w name q =
+    turn_live w (once_drawn w) (service_of name w.services) name (λ s. begun w.packets q s (next_inputs w)) _ (λ s.
+    let a = arrive_event s Outside q (next_inputs w) in
+    sent_or_live (reply_among w.packets) unsaid (λ m. reply_to_live m (find (is_call_of m.caller m.number) w.packets)) (λ why. tt) (me a.service) a.answer)
+
+-- what is written of a request that comes from outside is live
+pub begin_writes_live : (w : World) (name : List ℕ) (q : Request) → IsInHand (turn w (Begin name q)).world (written_at (turn w (Begin name q)).answer)
 unfolding turn
-delivery_writes_live w k p is live = (let D : Option Packet → Type 0 = λ o. LiveIf (Writes (delivered w k o)) in subst D (sym is) (packet_live w k p live))
+begin_writes_live w name q = begin_live w name q
+
+-- and so is what is written at the delivery of a live packet
+pub delivery_writes_live : (w : World) (k : ℕ) (p : Packet) → packet_of k w ≡ Some p → IsLivePacket p
+    → IsInHand (turn w (Deliver k)).world (written_at (turn w (Deliver k)).answer)
+unfolding turn
+delivery_writes_live w k p is live = subst (λ o. HandsOn (delivered w k o)) (sym is) (packet_live w k p live)

@@ -1,7 +1,8 @@
 -- What a world and the packet in hand weigh.
-use Rattle.std.specs.Prelude.{ℕ, ◌+◌, List, Option, Some, None, Ok, Err, map, sum_by}
+use Rattle.std.specs.Prelude.{ℕ, ◌+◌, List, Option, Some, None, IfSome, IsSomeAnd, Ok, Err, map, sum_by}
 use Rattle.service_meaning.specs.State.{Kept, me}
 use Rattle.network_meaning.specs.Events.{Answer}
+use Rattle.network_meaning.specs.Live.{IsLivePacket}
 use Rattle.network_meaning.specs.Worlds.{World, packet_of}
 use Rattle.network_meaning.specs.declared.packet.Packet.{Packet}
 use Rattle.network_meaning.specs.declared.packet.Packet.TheVariants.{Call}
@@ -31,3 +32,7 @@ world_weight w number = sum_by (load (names_of w.services)) w.services + weight_
 abbrev pub written_at : Answer → Option ℕ
 written_at (Ok h) = h.packet
 written_at (Err why) = None
+
+-- there is a packet of the number in hand, if one is, and it is a live call or what comes back of one
+abbrev pub IsInHand : World → Option ℕ → Type 0
+IsInHand w packet = IfSome packet (λ number. IsSomeAnd (packet_of number w) IsLivePacket)
