@@ -15,3 +15,4 @@ pub mod PeerLaws
 pub mod ReachLaws
 pub mod PostLaws
 pub mod RefusalLaws
+pub mod PurchaseRun
