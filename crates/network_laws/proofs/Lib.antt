@@ -16,3 +16,4 @@ pub mod ReachLaws
 pub mod PostLaws
 pub mod RefusalLaws
 pub mod PurchaseRun
+pub mod PurchaseTried

@@ -1,5 +1,6 @@
 -- A purchase and its cancellation, event by event, in a world of a shop and a bank: what each event leaves, and the packets between.
-use Rattle.std.proofs.Common.{◌≡◌, ℕ, Bool, true, false, List, [], ◌∷◌, ◌++◌, Option, Some, None, Ok, codes, refl, ap, ◌∙◌}
+use Rattle.std.proofs.Common.{◌≡◌, ℕ, Bool, true, false, List, [], ◌∷◌, ◌++◌, Option, Some, None, Ok, All, ◌<◌, ◌^◌, ◌≢◌, length, codes, refl, sym, ap, subst, ◌∙◌, arith}
+use Rattle.std.proofs.lemmas.List.Elements.{All-nil}
 use Rattle.std.specs.Coded.{coded_bool}
 use Rattle.lang_base.specs.Equal.{equal}
 use Rattle.lang_base.proofs.EqualLemmas.{equal-true, equal-same}
@@ -11,32 +12,37 @@ use Rattle.lang_core.specs.declared.setting.Setting.{Setting}
 use Rattle.lang_core.specs.contracts.trace.CallMade as call_made
 use Rattle.lang_core.specs.declared.trace.CallMade.{CallMade}
 use Rattle.lang_core.specs.declared.trace.Trace.{Trace}
+use Rattle.lang_core.specs.declared.ids.Origin.TheVariants.{Outside, Call as FromCall}
 use Rattle.recorded_inputs.specs.Drawing.{drawn, word_after}
 use Rattle.handler_run.specs.Handlers.{run_of}
 use Rattle.handler_run.specs.declared.state.Ran.TheVariants.{Done, Wants}
 use Rattle.local_repair.specs.declared.stepped.Stepped.TheVariants.{Ran as RanAgain}
 use Rattle.repair_messages.specs.declared.messages.AnswerMessage.{AnswerMessage}
 use Rattle.repair_messages.specs.declared.messages.SetMessage.{SetMessage}
-use Rattle.flights.specs.Moves.{next_move}
-use Rattle.flights.specs.declared.flight.Flight.{Flight}
-use Rattle.flights.specs.declared.flight.Move.TheVariants.{Commit}
-use Rattle.lang_core.specs.declared.ids.Origin.TheVariants.{Outside, Call as FromCall}
 use Rattle.repair_messages.specs.declared.posts.Post.TheVariants.{Set as SetPost}
 use Rattle.repair_messages.specs.declared.posts.PostName.TheVariants.{Call as OfCall}
 use Rattle.journal_rows.specs.declared.orders.About.TheVariants.{Request as AboutRequest}
 use Rattle.journal_rows.specs.declared.orders.Command.TheVariants.{Cancel}
+use Rattle.flights.specs.Moves.{next_move}
+use Rattle.flights.specs.declared.flight.Flight.{Flight}
+use Rattle.flights.specs.declared.flight.Move.TheVariants.{Commit}
 use Rattle.service_meaning.specs.Calls.{noted}
 use Rattle.service_meaning.specs.Flying.{goes_on, moved}
 use Rattle.service_meaning.specs.Arriving.{new_flight}
 use Rattle.service_meaning.specs.Messages.{saw_ack_row}
-use Rattle.service_meaning.specs.State.{Kept, after}
+use Rattle.service_meaning.specs.State.{Kept, after, me}
+use Rattle.service_meaning.specs.Fits.{Fits}
+use Rattle.service_meaning.proofs.StartLaw.{fits_start}
 use Rattle.service_meaning.specs.declared.answers.Arrived.TheVariants.{Done as Committed, Call as Sends}
 use Rattle.service_meaning.specs.Steps.{new_trace}
 use Rattle.service_meaning.specs.declared.answers.Posted.TheVariants.{Acked as WasAcked}
 use Rattle.service_meaning.specs.declared.answers.PostReply.TheVariants.{Acked}
 use Rattle.call_laws.proofs.PurchaseExample.{shop_name, bank_name, ok, start, call, flight, named, answer, answered as answered_shop, bought, cancelled, remade, trace, paid_trace, paid, unwanted, unpaid}
-use Rattle.world_meaning.proofs.PurchaseTogether.{at_shop, at_bank, no_name}
+use Rattle.world_meaning.proofs.PurchaseTogether.{names_differ, at_shop, at_bank, no_name}
+use Rattle.world_meaning.specs.Partners.{HasPartner}
+use Rattle.world_meaning.proofs.ListLemmas.{all_two, one_pair}
 use Rattle.network_meaning.specs.Worlds.{World, fresh_world}
+use Rattle.network_meaning.specs.Sound.{AreFew, IsSound}
 use Rattle.network_meaning.specs.Events.{Turn, turn, after_events}
 use Rattle.network_meaning.specs.declared.event.Event.{Event}
 use Rattle.network_meaning.specs.declared.event.Event.TheVariants.{Begin, Deliver, Post as Posts, Step, Order, Seed}
@@ -46,6 +52,7 @@ use Rattle.network_meaning.specs.declared.happened.What.TheVariants.{Arrive, Cal
 use Rattle.network_meaning.specs.declared.packet.Live.TheVariants.{Answer as LiveAnswer}
 use Rattle.network_meaning.specs.declared.packet.Packet.{Packet}
 use Rattle.network_meaning.specs.declared.packet.Packet.TheVariants.{Call, CallReply, Post as PostPacket, PostReply as PostReplyPacket}
+use Rattle.network_laws.proofs.WorldLaws.{turn_sound, fresh_sound}
 
 false_by : (b : Bool) → (b ≡ true → true ≡ false) → b ≡ false
 false_by true same = same refl
@@ -74,10 +81,10 @@ module _ (program : List Route) (token : List ℕ) where
   abbrev pub bank_setting : Setting
   bank_setting = at_bank setting buy pay i [] token shop_name
 
-  abbrev shop_start : Kept
+  abbrev pub shop_start : Kept
   shop_start = start shop_setting buy pay i [] [] token shop_name
 
-  abbrev bank_start : Kept
+  abbrev pub bank_start : Kept
   bank_start = start bank_setting buy pay i [] [] token shop_name
 
   abbrev shop_named : Kept
@@ -145,7 +152,7 @@ module _ (program : List Route) (token : List ℕ) where
   world s b packets x = record { services = s ∷ (b ∷ []); packets = packets; moment = 0; x = x; losses = 0 }
 
   -- at first, with a call that is named, with one that is paid, bought, cancelled, remade, deleted, acknowledged, and at the end
-  abbrev fresh : World
+  abbrev pub fresh : World
   fresh = fresh_world (shop_start ∷ (bank_start ∷ []))
 
   abbrev naming : ℕ → World
@@ -186,6 +193,22 @@ module _ (program : List Route) (token : List ℕ) where
   abbrev pub undoing : List Event
   undoing =
       Order shop_name (Cancel 1) token shop_name ∷ (Step shop_name ∷ (Posts shop_name bank_name ∷ (Deliver 3 ∷ (Deliver 4 ∷ (Step bank_name ∷ [])))))
+
+  -- ---- the worlds are sound
+
+  few : (s b : Kept) (packets : List Packet) (x : ℕ) → length s.journal < 2 ^ 64 → length b.journal < 2 ^ 64 → AreFew (world s b packets x)
+  few s b packets x of_s of_b = all_two (λ (s : Kept). length s.journal < 2 ^ 64) s b of_s of_b
+
+  sound_then : (w : World) (e : Event) (t : Turn) → turn w e ≡ t → AreFew t.world → IsSound w → IsSound t.world
+  sound_then w e t is few h = subst (λ (t : Turn). IsSound t.world) is (turn_sound w h e (subst (λ (t : Turn). AreFew t.world) (sym is) few))
+
+  begins_sound : IsSound fresh
+  begins_sound =
+      fresh_sound (shop_start ∷ (bank_start ∷ []))
+      (one_pair (λ s t. me s ≢ me t) shop_start bank_start (names_differ shop_name bank_name refl))
+      (all_two Fits shop_start bank_start (fits_start shop_setting) (fits_start bank_setting))
+      (all_two (λ s. All (HasPartner (shop_start ∷ (bank_start ∷ [])) s) s.journal) shop_start bank_start (All-nil _) (All-nil _))
+      (all_two (λ (s : Kept). s.flights ≡ []) shop_start bank_start refl refl)
 
   seeds : turn (naming (word_after 8 1)) (Seed 1) ≡ record { world = naming 1; answer = Ok (record { service = None; what = Set; packet = None }) }
   unfolding turn
@@ -232,6 +255,13 @@ module _ (program : List Route) (token : List ℕ) where
         ∙ ap (λ (t : Turn). after_events t.world (Deliver 2 ∷ [])) pays_now
         ∙ ap (λ (t : Turn). t.world) buys_now
 
+    pub purchased_sound : IsSound purchased
+    purchased_sound =
+        sound_then paying (Deliver 2) _ buys_now (few shop_bought bank_paid answered (word_after 8 1) (omega arith) (omega arith))
+        (sound_then (naming 1) (Deliver 1) _ pays_now (few shop_named bank_paid answered (word_after 8 1) (omega arith) (omega arith))
+        (sound_then (naming (word_after 8 1)) (Seed 1) _ seeds (few shop_named bank_start asked 1 (omega arith) (omega arith))
+        (sound_then fresh (Begin shop_name buy) _ begins (few shop_named bank_start asked (word_after 8 1) (omega arith) (omega arith)) begins_sound)))
+
   -- what was cancelled is dead, and its call is deleted
   cancels : turn purchased (Order shop_name (Cancel 1) token shop_name)
       ≡ does cancelling shop_name (WhatOrder (Ok (record { about = AboutRequest 1; rule = 1 }))) None
@@ -267,3 +297,12 @@ module _ (program : List Route) (token : List ℕ) where
       ∙ ap (λ (t : Turn). after_events t.world (Deliver 4 ∷ (Step bank_name ∷ []))) takes
       ∙ ap (λ (t : Turn). after_events t.world (Step bank_name ∷ [])) acks
       ∙ ap (λ (t : Turn). t.world) unpays
+
+  pub undone_sound : IsSound purchased → IsSound undone
+  undone_sound h =
+      sound_then hearing (Step bank_name) _ unpays (few shop_acked bank_unpaid acknowledged (word_after 24 1) (omega arith) (omega arith))
+      (sound_then taking (Deliver 4) _ acks (few shop_acked bank_unwanted acknowledged (word_after 24 1) (omega arith) (omega arith))
+      (sound_then deleting (Deliver 3) _ takes (few shop_remade bank_unwanted acknowledged (word_after 24 1) (omega arith) (omega arith))
+      (sound_then remaking (Posts shop_name bank_name) _ posts (few shop_remade bank_paid deleted (word_after 16 1) (omega arith) (omega arith))
+      (sound_then cancelling (Step shop_name) _ steps (few shop_remade bank_paid answered (word_after 16 1) (omega arith) (omega arith))
+      (sound_then purchased (Order shop_name (Cancel 1) token shop_name) _ cancels (few shop_cancelled bank_paid answered (word_after 16 1) (omega arith) (omega arith)) h)))))
