@@ -61,7 +61,7 @@ change_callers s f slot call =
     each_append IsCallerRow (deletion s (slice_get f.numbers slot) (slice_get f.calls slot)) (named (next_number s.registers) call ∷ [])
     (deletion_callers s (slice_get f.numbers slot) (slice_get f.calls slot)) (tt, tt)
 
-call_keeps : (P : After Arrived → Type 0) (o : Option CallMade) (go : CallMade → After Arrived) (never : After Arrived) → ((c : CallMade) → P (go c)) → P never
+pub call_keeps : (P : After Arrived → Type 0) (o : Option CallMade) (go : CallMade → After Arrived) (never : After Arrived) → ((c : CallMade) → P (go c)) → P never
     → P (call_or_none o go never)
 call_keeps P None go never each last = last
 call_keeps P (Some c) go never each last = each c

@@ -1,3 +1,5 @@
+pub mod BoundLaws
+pub mod MessageBounds
 pub mod FitLaws
 pub mod CommitLaws
 pub mod SilentLaws

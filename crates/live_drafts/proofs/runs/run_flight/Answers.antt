@@ -1,0 +1,18 @@
+use Rattle.std.proofs.Common.{◌≡◌, ◌∙◌, ap, map, ℕ, List}
+use Rattle.std.proofs.lemmas.Result.{IfOk-weaker}
+use Rattle.lang_core.specs.declared.cells.Cell.{Cell}
+use Rattle.lang_core.specs.declared.request.Response.{Response}
+use Rattle.handler_run.specs.Handlers.{run_of}
+use Rattle.local_repair.specs.Steps.{answer_or_tentative}
+use Rattle.call_registers.specs.Registers.{consumed}
+use Rattle.live_drafts.proofs.runs.run_flight.Goals as goal
+
+pub returns : goal.returns
+returns c =
+    let f = c.args.flight.now in
+    let consumes : ℕ → Response = λ n. answer_or_tentative (consumed n c.args.draft.now.registers.list) in
+    let given : c.in_ok-answers.answers ≡ map consumes f.numbers = c.in_ok-answers.ensures ∙ ap (map consumes) c.as_slice.ensures in
+    IfOk-weaker c.run.result _ _
+    (λ ran h. h ∙ ap (λ (xs : List Response). run_of c.args.parts.now.setting f.request f.inputs xs c.in_ok-rows.rows) given
+    ∙ ap (λ (rs : List Cell). run_of c.args.parts.now.setting f.request f.inputs (map consumes f.numbers) rs) c.in_ok-rows.ensures)
+    c.run.ensures.meaning

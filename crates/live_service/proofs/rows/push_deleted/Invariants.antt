@@ -1,7 +1,0 @@
-use Rattle.std.proofs.Common.{◌≡◌, ◌++◌, drop}
-use Rattle.service_meaning.specs.Calls.{all_deleted}
-use Rattle.live_service.proofs.rows.push_deleted.Given as goal
-
-abbrev pub invariant-loop-i : goal.invariant-loop-i
-invariant-loop-i l =
-    l.rows.items ++ all_deleted l.registers.list (drop l.i l.numbers) (drop l.i l.calls) ≡ l.initial.rows.items ++ all_deleted l.registers.list l.numbers l.calls
