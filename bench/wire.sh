@@ -37,15 +37,15 @@ cat >"$folder/crates/wire_run/src/main.rt" <<'END'
 //! Reads and writes one call over and over, and hashes its bytes as often.
 #![tactic(auto)]
 
-use aire_wire::{Incoming, read_incoming, write_call};
-use http_front::{read_request, request_bytes};
+use aire_wire::{read_incoming, write_call};
+use http_front::{WireRequest, read_request, request_bytes};
 use io_edge::MemorySource;
 use lang_core::{Method, Name, Names, NoMemory, Request, Text};
 use repair_messages::SetMessage;
 use sha2::{Digest, Sha256};
 use std::alloc::Global;
-use std::io;
 use std::process::ExitCode;
+use std::rt::Clock;
 use std::time::Instant;
 use wire_fields::Secrets;
 
@@ -83,10 +83,10 @@ fn asked(alloc: Global, body: Text) -> Result<Request, NoMemory> {
     })
 }
 
-fn call(alloc: Global, desired: Request) -> Result<SetMessage, NoMemory> {
+// A call of this request: its caller's third.
+fn call_of(alloc: Global, desired: Request, who: Text) -> Result<SetMessage, NoMemory> {
     let caller = name(alloc, "shop")?;
     let dest = name(alloc, "bank")?;
-    let who = Text::of(alloc, "ann")?;
     Ok(SetMessage {
         caller,
         dest,
@@ -97,6 +97,13 @@ fn call(alloc: Global, desired: Request) -> Result<SetMessage, NoMemory> {
         after: None,
         who,
     })
+}
+
+fn call(alloc: Global, size: u64) -> Result<SetMessage, NoMemory> {
+    let body = body(alloc, size)?;
+    let request = asked(alloc, body)?;
+    let who = Text::of(alloc, "ann")?;
+    call_of(alloc, request, who)
 }
 
 /// What both sides know.
@@ -112,35 +119,51 @@ fn peers(alloc: Global) -> Result<Secrets, NoMemory> {
     let shop = name(alloc, "shop")?;
     let secret = Text::of(alloc, "secret")?;
     let mut peers = Secrets::new(alloc);
-    peers.add(shop, secret)?;
-    Ok(peers)
+    match peers.add(shop, secret) {
+        Ok(_) => Ok(peers),
+        Err(_) => Err(NoMemory),
+    }
 }
 
-fn sides(alloc: Global) -> Result<Sides, NoMemory> {
-    let me = name(alloc, "bank")?;
+#[derive(Drop)]
+struct Texts {
+    secret: Text,
+    notifier: Text,
+}
+
+fn both_texts(alloc: Global) -> Result<Texts, NoMemory> {
     let secret = Text::of(alloc, "secret")?;
     let notifier = Text::of(alloc, "http://127.0.0.1:8101/aire/notify")?;
+    Ok(Texts { secret, notifier })
+}
+
+fn both_sides(alloc: Global) -> Result<Sides, NoMemory> {
+    let me = name(alloc, "bank")?;
     let peers = peers(alloc)?;
+    let texts = both_texts(alloc)?;
     Ok(Sides {
         me,
         peers,
-        secret,
-        notifier,
+        secret: texts.secret,
+        notifier: texts.notifier,
     })
+}
+
+fn request_of(alloc: Global, bytes: &[u8]) -> Option<WireRequest> {
+    let mut source = MemorySource::new(bytes.to_vec(alloc).ok()?, Vec::new(alloc));
+    read_request(alloc, &mut source).ok()
+}
+
+fn is_call(alloc: Global, sides: &Sides, request: &WireRequest) -> bool {
+    let read = read_incoming(alloc, &sides.me, &sides.peers, &sides.secret, request);
+    read.is_ok()
 }
 
 // One call, read: whether it is one, sealed by the peer.
 fn reads(alloc: Global, sides: &Sides, bytes: &[u8]) -> bool {
-    let Ok(copy) = bytes.to_vec(alloc) else {
-        return false;
-    };
-    let mut source = MemorySource::new(copy, Vec::new(alloc));
-    match read_request(alloc, &mut source) {
-        Ok(request) => {
-            let read = read_incoming(alloc, &sides.me, &sides.peers, &sides.secret, &request);
-            matches!(read, Ok(Incoming::Live(_)))
-        }
-        Err(_) => false,
+    match request_of(alloc, bytes) {
+        Some(request) => is_call(alloc, sides, &request),
+        None => false,
     }
 }
 
@@ -183,54 +206,83 @@ fn hash_often(bytes: &[u8], times: u64) -> u64 {
     sum
 }
 
-fn measured(
-    rt: &(impl Clock + Stdout),
-    alloc: Global,
-    size: u64,
-    times: u64,
-) -> Result<(), io::Error> {
-    let (Ok(sides), Ok(body)) = (sides(alloc), body(alloc, size)) else {
-        return Ok(());
-    };
-    let Ok(request) = asked(alloc, body) else {
-        return Ok(());
-    };
-    let Ok(call) = call(alloc, request) else {
-        return Ok(());
-    };
-    let Ok(bytes) = written(alloc, &sides, &call) else {
-        return Ok(());
-    };
-    let start = Instant::now(rt)?;
-    let read = read_often(alloc, &sides, &bytes, times);
-    let reading = start.elapsed(rt)?.as_nanos();
-    let start = Instant::now(rt)?;
-    let wrote = write_often(alloc, &sides, &call, times);
-    let writing = start.elapsed(rt)?.as_nanos();
-    let start = Instant::now(rt)?;
-    let sum = hash_often(&bytes, times);
-    let hashing = start.elapsed(rt)?.as_nanos();
-    println!(rt; "{size} {times} {read} {reading} {wrote}")?;
-    println!(rt; "{writing} {hashing} {sum}")?;
-    Ok(())
+/// How often it was done, and how long that took.
+#[derive(Clone, Copy)]
+struct Timed {
+    done: u64,
+    nanoseconds: u128,
+}
+
+fn until_now(rt: &impl Clock, start: Instant, done: u64) -> Option<Timed> {
+    match start.elapsed(rt) {
+        Ok(time) => Some(Timed {
+            done,
+            nanoseconds: time.as_nanos(),
+        }),
+        Err(_) => None,
+    }
+}
+
+fn reading(rt: &impl Clock, alloc: Global, sides: &Sides, bytes: &[u8], times: u64) -> Option<Timed> {
+    match Instant::now(rt) {
+        Ok(start) => until_now(rt, start, read_often(alloc, sides, bytes, times)),
+        Err(_) => None,
+    }
+}
+
+fn writing(rt: &impl Clock, alloc: Global, sides: &Sides, call: &SetMessage, times: u64) -> Option<Timed> {
+    match Instant::now(rt) {
+        Ok(start) => until_now(rt, start, write_often(alloc, sides, call, times)),
+        Err(_) => None,
+    }
+}
+
+fn hashing(rt: &impl Clock, bytes: &[u8], times: u64) -> Option<Timed> {
+    match Instant::now(rt) {
+        Ok(start) => until_now(rt, start, hash_often(bytes, times)),
+        Err(_) => None,
+    }
+}
+
+fn told(rt: &impl Print, what: &str, size: u64, times: u64, timed: Option<Timed>) {
+    if let Some(timed) = timed {
+        let done = timed.done;
+        let nanoseconds = timed.nanoseconds;
+        let _ = println!(rt; "{what} {size} {times} {done} {nanoseconds}");
+    }
+}
+
+fn measured(rt: &(impl Clock + Print), alloc: Global, size: u64, times: u64) {
+    if let (Ok(sides), Ok(call)) = (both_sides(alloc), call(alloc, size)) {
+        if let Ok(bytes) = written(alloc, &sides, &call) {
+            told(rt, "read", size, times, reading(rt, alloc, &sides, &bytes, times));
+            told(rt, "written", size, times, writing(rt, alloc, &sides, &call, times));
+            told(rt, "hashed", size, times, hashing(rt, &bytes, times));
+        }
+    }
 }
 
 fn main(rt: HostRuntime) -> ExitCode {
     let alloc = rt.alloc();
-    if measured(&rt, alloc, 1024, 20000).is_err() {
-        return ExitCode::from(1);
-    }
-    if measured(&rt, alloc, 65536, 1000).is_err() {
-        return ExitCode::from(1);
-    }
+    measured(&rt, alloc, 1024, 20000);
+    measured(&rt, alloc, 65536, 1000);
     ExitCode::from(0)
 }
 END
 
 cd "$folder/crates/wire_run"
 rt run >"$folder/told" 2>"$folder/log" || { tail -n 40 "$folder/log" "$folder/told" >&2; exit 1; }
-paste -d ' ' - - <"$folder/told" | awk '{
-    if ($3 != $2 || $5 != $2) { print "not each call was read and written"; exit 1 }
-    printf "%d bytes: %d calls read a second, %d written; ", $1, $2 * 1e9 / $4, $2 * 1e9 / $6
-    printf "%d hashes of the same bytes; a call read takes %.2f of a hash, one written %.2f\n", $2 * 1e9 / $7, $4 / $7, $6 / $7
-}'
+awk '
+    $1 != "hashed" && $4 != $3 { print "not each call was " $1; bad = 1; exit 1 }
+    { nanoseconds[$1, $2] = $5; times[$2] = $3 }
+    function often(what, size) { return times[size] * 1e9 / nanoseconds[what, size] }
+    function beside(what, size) { return nanoseconds[what, size] / nanoseconds["hashed", size] }
+    END {
+        if (bad) exit 1
+        split("1024 65536", sizes, " ")
+        for (i = 1; i <= 2; i++) {
+            size = sizes[i]
+            printf "%d bytes: %d calls read a second, %d written, %d hashed; ", size, often("read", size), often("written", size), often("hashed", size)
+            printf "a call read takes %.2f of its hash, one written %.2f\n", beside("read", size), beside("written", size)
+        }
+    }' "$folder/told"
