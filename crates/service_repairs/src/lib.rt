@@ -1,0 +1,11 @@
+//! A repair step and an order of a service with calls, on its parts: each does what its event means, or wants memory and
+//! changes nothing, and leaves what always holds of a service.
+#![tactic(auto)]
+
+mod limits;
+mod ordering;
+mod repairing;
+
+pub use limits::{is_crowded, is_heavy};
+pub use ordering::order;
+pub use repairing::repair_step;

@@ -1,0 +1,32 @@
+// How much there is where there is too much.
+ghost use Rattle.std.specs.Prelude.{◌≡◌, ◌≤◌};
+ghost use Rattle.service_meaning.specs.State.{in_all, is_crowded, is_heavy};
+ghost use Rattle.service_parts.specs.Parts.{kept};
+
+use request_log::MOST_ENTRIES;
+use service_parts::Parts;
+
+/// How many entries and flights there are, where there is no place for one more.
+pub fn is_crowded(parts: &Parts) -> Option<u64>
+    requires { in_all (kept parts.now) ≤ 100000 }
+    ensures { result ≡ is_crowded (kept parts.now) }
+{
+    let in_all = parts.repairer.log().len() + parts.flights.len();
+    if in_all >= MOST_ENTRIES {
+        Some(in_all)
+    } else {
+        None
+    }
+}
+
+/// What the journal weighs, where that has reached what it may weigh.
+pub fn is_heavy(parts: &Parts) -> Option<u64>
+    ensures { result ≡ is_heavy (kept parts.now) }
+{
+    let weight = parts.journal.weight();
+    if weight >= parts.setting.weight {
+        Some(weight)
+    } else {
+        None
+    }
+}

@@ -1,0 +1,33 @@
+// A repair step.
+ghost use Rattle.std.specs.Prelude.{◌≡◌, ◌<◌, ◌^◌, [], Ok, length};
+ghost use Rattle.local_repair.specs.Current.{AllCurrent};
+ghost use Rattle.service_meaning.specs.State.{answers};
+ghost use Rattle.service_parts.specs.Parts.{kept};
+ghost use Rattle.service_repairs.specs.Services.{IsService};
+ghost use Rattle.service_repairs.specs.Answers.{Steps};
+
+use journal_rows::Rows;
+use lang_core::NoMemory;
+use local_repair::Stepped;
+use repair_drafts::repair;
+use service_parts::Parts;
+use std::alloc::Global;
+
+/// The rows of a journal can be counted in 64 bits.
+pub(crate) fn count_rows(journal: &Rows)
+    ensures { length journal.now.rows < 2 ^ 64 }
+{
+    let _count = journal.len();
+}
+
+/// Runs the first stale entry again, if there is one, and settles its calls.
+pub fn repair_step(alloc: Global, parts: &mut Parts) -> Result<Stepped, NoMemory>
+    requires { IsService parts.old }
+    ensures steps { Steps (kept parts.old) result (kept parts.new) }
+    ensures free { AllCurrent (answers (kept parts.old)) [] parts.old.repairer.entries → result ≡ Ok Stepped.Idle }
+    ensures service { IsService parts.new }
+{
+    let stepped = repair(alloc, parts);
+    count_rows(&parts.journal);
+    stepped
+}
