@@ -17,3 +17,4 @@ pub mod PostLaws
 pub mod RefusalLaws
 pub mod PurchaseRun
 pub mod PurchaseTried
+pub mod ReplyLost

@@ -54,12 +54,12 @@ use Rattle.network_meaning.specs.declared.packet.Packet.{Packet}
 use Rattle.network_meaning.specs.declared.packet.Packet.TheVariants.{Call, CallReply, Post as PostPacket, PostReply as PostReplyPacket}
 use Rattle.network_laws.proofs.WorldLaws.{turn_sound, fresh_sound}
 
-false_by : (b : Bool) → (b ≡ true → true ≡ false) → b ≡ false
+pub false_by : (b : Bool) → (b ≡ true → true ≡ false) → b ≡ false
 false_by true same = same refl
 false_by false same = refl
 
 -- the records of live requests aren't those of dead ones
-told_apart : equal coded_bool true false ≡ false
+pub told_apart : equal coded_bool true false ≡ false
 told_apart = false_by (equal coded_bool true false) (equal-true coded_bool true false)
 
 abbrev pub buy : Request
@@ -68,11 +68,11 @@ buy = record { method = PostTo; path = codes "/buy"; body = []; who = codes "ann
 abbrev pub pay : Request
 pay = record { method = PostTo; path = codes "/pay"; body = []; who = shop_name; chain = shop_name ∷ [] }
 
-abbrev i : Inputs
+abbrev pub i : Inputs
 i = drawn 0 1
 
 module _ (program : List Route) (token : List ℕ) where
-  abbrev setting : Setting
+  abbrev pub setting : Setting
   setting = record { me = bank_name; peers = []; program = program; weight = 1000000; alone = no_name }
 
   abbrev pub shop_setting : Setting
@@ -87,103 +87,103 @@ module _ (program : List Route) (token : List ℕ) where
   abbrev pub bank_start : Kept
   bank_start = start bank_setting buy pay i [] [] token shop_name
 
-  abbrev shop_named : Kept
+  abbrev pub shop_named : Kept
   shop_named = named shop_setting buy pay i [] [] token shop_name
 
-  abbrev shop_answered : Kept
+  abbrev pub shop_answered : Kept
   shop_answered = answered_shop shop_setting buy pay i [] [] token shop_name
 
-  abbrev waiting : Flight
+  abbrev pub waiting : Flight
   waiting = flight shop_setting buy pay i [] [] token shop_name (call shop_setting buy pay i [] [] token shop_name ∷ []) (1 ∷ [])
 
-  abbrev bought_trace : Trace
+  abbrev pub bought_trace : Trace
   bought_trace = trace shop_setting buy pay i [] [] token shop_name
 
-  abbrev the_call : CallMade
+  abbrev pub the_call : CallMade
   the_call = call shop_setting buy pay i [] [] token shop_name
 
-  abbrev bank_paid : Kept
+  abbrev pub bank_paid : Kept
   bank_paid = paid bank_setting buy pay i [] [] token shop_name
 
-  abbrev shop_bought : Kept
+  abbrev pub shop_bought : Kept
   shop_bought = bought shop_setting buy pay i [] [] token shop_name
 
-  abbrev shop_cancelled : Kept
+  abbrev pub shop_cancelled : Kept
   shop_cancelled = cancelled shop_setting buy pay i [] [] token shop_name
 
-  abbrev shop_remade : Kept
+  abbrev pub shop_remade : Kept
   shop_remade = remade shop_setting buy pay i [] [] token shop_name
 
-  abbrev bank_unwanted : Kept
+  abbrev pub bank_unwanted : Kept
   bank_unwanted = unwanted bank_setting buy pay i [] [] token shop_name
 
-  abbrev shop_acked : Kept
+  abbrev pub shop_acked : Kept
   shop_acked = noted (saw_ack_row (record { caller = shop_name; dest = bank_name; number = 1; version = 2 }) ∷ []) shop_remade
 
-  abbrev bank_unpaid : Kept
+  abbrev pub bank_unpaid : Kept
   bank_unpaid = unpaid bank_setting buy pay i [] [] token shop_name
 
   -- ---- packets
 
-  abbrev first_call : SetMessage
+  abbrev pub first_call : SetMessage
   first_call = record { caller = shop_name; dest = bank_name; number = 1; version = 1; desired = Some pay; before = None; after = None; who = shop_name }
 
-  abbrev deletion : SetMessage
+  abbrev pub deletion : SetMessage
   deletion = record { caller = shop_name; dest = bank_name; number = 1; version = 2; desired = None; before = None; after = None; who = shop_name }
 
-  abbrev asked : List Packet
+  abbrev pub asked : List Packet
   asked = Call shop_name 1 first_call ∷ []
 
-  abbrev paid_answer : AnswerMessage
+  abbrev pub paid_answer : AnswerMessage
   paid_answer = answer shop_setting buy pay i [] [] token shop_name
 
-  abbrev answered : List Packet
+  abbrev pub answered : List Packet
   answered = asked ++ CallReply shop_name 1 first_call (LiveAnswer paid_answer) ∷ []
 
-  abbrev deleted : List Packet
+  abbrev pub deleted : List Packet
   deleted = answered ++ PostPacket (SetPost deletion) ∷ []
 
-  abbrev acknowledged : List Packet
+  abbrev pub acknowledged : List Packet
   acknowledged = deleted ++ PostReplyPacket (SetPost deletion) (Acked (record { caller = shop_name; dest = bank_name; number = 1; version = 2 })) ∷ []
 
   -- ---- worlds
 
-  abbrev world : Kept → Kept → List Packet → ℕ → World
+  abbrev pub world : Kept → Kept → List Packet → ℕ → World
   world s b packets x = record { services = s ∷ (b ∷ []); packets = packets; moment = 0; x = x; losses = 0 }
 
   -- at first, with a call that is named, with one that is paid, bought, cancelled, remade, deleted, acknowledged, and at the end
   abbrev pub fresh : World
   fresh = fresh_world (shop_start ∷ (bank_start ∷ []))
 
-  abbrev naming : ℕ → World
+  abbrev pub naming : ℕ → World
   naming x = world shop_named bank_start asked x
 
-  abbrev paying : World
+  abbrev pub paying : World
   paying = world shop_named bank_paid answered (word_after 8 1)
 
   abbrev pub purchased : World
   purchased = world shop_bought bank_paid answered (word_after 8 1)
 
-  abbrev cancelling : World
+  abbrev pub cancelling : World
   cancelling = world shop_cancelled bank_paid answered (word_after 16 1)
 
-  abbrev remaking : World
+  abbrev pub remaking : World
   remaking = world shop_remade bank_paid answered (word_after 16 1)
 
-  abbrev deleting : World
+  abbrev pub deleting : World
   deleting = world shop_remade bank_paid deleted (word_after 16 1)
 
-  abbrev taking : World
+  abbrev pub taking : World
   taking = world shop_remade bank_unwanted acknowledged (word_after 24 1)
 
-  abbrev hearing : World
+  abbrev pub hearing : World
   hearing = world shop_acked bank_unwanted acknowledged (word_after 24 1)
 
   abbrev pub undone : World
   undone = world shop_acked bank_unpaid acknowledged (word_after 24 1)
 
   -- the service of this name did this, and this packet was written
-  abbrev does : World → List ℕ → What → Option ℕ → Turn
+  abbrev pub does : World → List ℕ → What → Option ℕ → Turn
   does w name what packet = record { world = w; answer = Ok (record { service = Some name; what = what; packet = packet }) }
 
   -- the events: the first word is set again between the two requests, so that both are given the same words

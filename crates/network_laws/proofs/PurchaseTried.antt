@@ -1,5 +1,5 @@
 -- The purchase and its cancellation with programs that do this: from two services that wrote nothing to the end, whose world is sound.
-use Rattle.std.proofs.Common.{◌≡◌, ℕ, ℤ, pos, List, [], ◌∷◌, Ok, map, codes, refl, ap, ◌∙◌}
+use Rattle.std.proofs.Common.{◌≡◌, true, ℕ, ℤ, pos, List, [], ◌∷◌, None, Ok, map, codes, refl, ap, ◌∙◌}
 use Rattle.lang_tree.specs.declared.method.Method.TheVariants.{Post as PostTo}
 use Rattle.lang_tree.specs.declared.expr.Expr.{Expr, roll-Expr}
 use Rattle.lang_tree.specs.declared.expr.Expr.TheOpen.{Expr-F}
@@ -12,7 +12,7 @@ use Rattle.lang_tree.specs.declared.program.Route.{Route}
 use Rattle.lang_core.specs.declared.value.Value.TheVariants.{Int, Str}
 use Rattle.lang_core.specs.declared.request.Response.{Response}
 use Rattle.lang_core.specs.declared.setting.Setting.{Setting}
-use Rattle.recorded_inputs.specs.Drawing.{drawn}
+use Rattle.recorded_inputs.specs.Drawing.{drawn, word_after}
 use Rattle.handler_values.specs.Values.{Outcome, value_of, value_step, var}
 use Rattle.handler_values.specs.Variables.{bind}
 use Rattle.handler_values.specs.declared.given.Binding.{Binding}
@@ -21,10 +21,16 @@ use Rattle.handler_run.specs.Runs.{Effect, act, block_step, stmt_of, block_of, i
 use Rattle.handler_run.specs.Handlers.{run_of, finish_of, given, start}
 use Rattle.handler_run.specs.declared.state.Ran.{Ran}
 use Rattle.handler_run.specs.declared.state.Ran.TheVariants.{Done, Wants}
+use Rattle.local_repair.specs.Steps.{tentative}
+use Rattle.local_repair.specs.declared.stepped.Stepped.TheVariants.{Ran as RanAgain}
 use Rattle.call_laws.proofs.PurchaseExample.{shop_name, ok, call, trace, paid_trace}
-use Rattle.network_meaning.specs.Events.{after_events}
+use Rattle.network_meaning.specs.Events.{turn, after_events}
 use Rattle.network_meaning.specs.Sound.{IsSound}
-use Rattle.network_laws.proofs.PurchaseRun.{buy, pay, shop_setting, bank_setting, fresh, undone, purchase, undoing, purchases, undoes, purchased_sound, undone_sound}
+use Rattle.network_meaning.specs.declared.event.Event.TheVariants.{Lose, Step}
+use Rattle.network_meaning.specs.declared.happened.Outcome.TheVariants as came
+use Rattle.network_meaning.specs.declared.happened.What.TheVariants.{CallFailed, RepairStep}
+use Rattle.network_laws.proofs.ReplyLost.{tried_trace, tried, world, happens, before_step, after_step, loses, mends}
+use Rattle.network_laws.proofs.PurchaseRun.{paying as paid_world, bank_paid, answered, buy, pay, shop_setting, bank_setting, fresh, undone, purchase, undoing, purchases, undoes, purchased_sound, undone_sound}
 
 -- ---- the programs
 
@@ -129,6 +135,22 @@ module _ (token : List ℕ) where
         variable_is (shop_given (ok ∷ [])) heard (codes "b"),
       ) refl)
 
+  abbrev nothing_heard : List Binding
+  nothing_heard = bind (codes "b") (Str []) (bind (codes "s") (Int (pos 504)) [])
+
+  tries : run_of at_shop buy (drawn 0 1) (tentative ∷ []) [] ≡ Done (tried_trace program token)
+  tries =
+      ap (λ (e : Effect). finish_of (e start)) (block_is (shop_given (tentative ∷ [])) (roll-Stmt calling ∷ (roll-Stmt answering ∷ [])))
+      ∙ ap (λ (e : Effect). two e (then_answers (tentative ∷ []))) (call_is (shop_given (tentative ∷ [])))
+      ∙ (rw (
+        text_is (shop_given (tentative ∷ [])) [] (codes "bank"),
+        text_is (shop_given (tentative ∷ [])) [] (codes "/pay"),
+        text_is (shop_given (tentative ∷ [])) [] [],
+        answer_is (shop_given (tentative ∷ [])),
+        variable_is (shop_given (tentative ∷ [])) nothing_heard (codes "s"),
+        variable_is (shop_given (tentative ∷ [])) nothing_heard (codes "b"),
+      ) refl)
+
   -- ---- from the start to the end
 
   ends : after_events (after_events (fresh program token) (purchase program token)) (undoing program token) ≡ undone program token
@@ -136,3 +158,12 @@ module _ (token : List ℕ) where
 
   sound : IsSound (undone program token)
   sound = undone_sound program token (purchased_sound program token asks buys pays)
+
+  -- where the reply is lost: the shop's first answer, and its second
+  loss : turn (paid_world program token) (Lose 2)
+      ≡ happens program token (world program token (tried program token) (bank_paid program token) (answered program token) (word_after 8 1)) shop_name
+      (CallFailed (Ok (came.Done 2 1))) None
+  loss = loses program token tries
+
+  mending : turn (before_step program token) (Step shop_name) ≡ happens program token (after_step program token) shop_name (RepairStep (RanAgain 1 true)) None
+  mending = mends program token asks buys
