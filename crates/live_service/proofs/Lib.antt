@@ -1,0 +1,4 @@
+pub mod ArrivalLemmas
+pub mod CallLemmas
+pub mod RoomLemmas
+pub mod ServiceLemmas

@@ -1,0 +1,42 @@
+-- Room for the abandonment of flights, as flights come and go.
+use Rattle.std.proofs.Common.{◌≡◌, ℕ, ◌+◌, ◌≤◌, List, [], ◌∷◌, length, Result, Ok, Err, IsOk, OnOk, nat_lt, inl, inr, arith}
+use Rattle.std.proofs.lemmas.Bool.{cases_Bool}
+use Rattle.std.proofs.lemmas.List.Sums.{sum_by-cons}
+use Rattle.flights.specs.Numbers.{has_flight, without_flight, put_flight, with_flight}
+use Rattle.flights.specs.declared.flight.Flight.{Flight}
+use Rattle.service_parts.specs.Rooms.{aloft}
+
+aloft_cons : (f : Flight) (fs : List Flight) → aloft (f ∷ fs) ≡ length f.calls + aloft fs
+aloft_cons f fs = sum_by-cons (λ (f : Flight). length f.calls) f fs
+
+pub aloft_without : (id : ℕ) (fs : List Flight) → aloft (without_flight id fs) ≤ aloft fs
+aloft_without id [] = omega arith
+aloft_without id (f ∷ fs) =
+    let rest = aloft_without id fs in
+    let all = aloft_cons f fs in
+    elim (cases_Bool (has_flight id f)) [
+      | inl is ↦ rw is (omega (arith, rest, all))
+      | inr other ↦ rw other (let left = aloft_cons f (without_flight id fs) in omega (arith, rest, all, left))
+    ]
+
+aloft_put : (f : Flight) (gs : List Flight) → aloft (put_flight f gs) ≡ length f.calls + aloft gs
+aloft_put f [] = aloft_cons f []
+aloft_put f (g ∷ gs) = elim (cases_Bool (nat_lt f.id g.id)) [
+  | inl is ↦ rw is (aloft_cons f (g ∷ gs))
+  | inr other ↦ (let rest = aloft_put f gs in
+      let all = aloft_cons g gs in
+      let put = aloft_cons g (put_flight f gs) in
+      rw other (omega (arith, rest, all, put)))
+]
+
+pub aloft_with : (f : Flight) (fs : List Flight) → aloft (with_flight f fs) ≤ length f.calls + aloft fs
+aloft_with f fs =
+    let put = aloft_put f (without_flight f.id fs) in
+    let less = aloft_without f.id fs in
+    omega (arith, put, less)
+
+-- ---- an answer that isn't a refusal
+
+pub on_ok : {A E : Type 0} (r : Result A E) (P : Type 0) → IsOk r → OnOk r P → P
+on_ok (Ok a) P is h = h
+on_ok (Err e) P is h = cc

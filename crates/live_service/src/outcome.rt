@@ -1,0 +1,10 @@
+// What an event of a live request is to leave.
+use live_drafts::Ending;
+use service_parts::Draft;
+
+/// What an event of a live request is to leave of a service, and how it ends.
+#[derive(Drop)]
+pub(crate) struct Outcome {
+    pub draft: Draft,
+    pub ending: Ending,
+}

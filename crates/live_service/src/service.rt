@@ -1,0 +1,203 @@
+// A service, and its events.
+ghost use Rattle.std.specs.Prelude.{◌≡◌, [], IfOk, MatchOption, Ok, IfSome};
+ghost use Rattle.local_repair.specs.Current.{AllCurrent, rows_of};
+ghost use Rattle.local_repair.specs.Repairs.{IsStaleId};
+ghost use Rattle.service_meaning.specs.State.{answers};
+ghost use Rattle.service_meaning.specs.Arriving.{arrive_event, call_answered_event, call_failed_event};
+ghost use Rattle.service_meaning.specs.Fits.{Fits};
+ghost use Rattle.live_service.specs.Events.{fresh, arrive_memory, call_memory, Does, awaited_by, first_stale};
+ghost use Rattle.journal_rows.specs.Words.{ordered};
+ghost use Rattle.service_meaning.specs.Orders.{order_event};
+ghost use Rattle.service_repairs.specs.Answers.{answered_by, Orders, Steps};
+
+use crate::arriving::arrive;
+use crate::calls::{call_answered, call_failed};
+use crate::stale::first_stale;
+use call_registers::{Registers, Replies, Why};
+use flights::Flights;
+use journal_rows::{Command, Rows};
+use lang_core::{Cells, Inputs, NoMemory, Origin, Request, Setting, Text};
+use local_repair::{Repairer, Stepped};
+use repair_messages::AnswerMessage;
+use request_log::Log;
+use service_meaning::{ArriveRefused, Arrived, CallRefused, OrderRefused, Ordered};
+use service_parts::Parts;
+use service_repairs::{order, repair_step};
+use std::alloc::Global;
+use std::marker::Model;
+
+/// A service whose requests call other services: its setting, its log under repair, its flights, its journal, its
+/// registers and its replies. Its type keeps that all of them fit the journal, that there are at most 100,000 entries and
+/// flights, and that there is room to abandon each flight.
+#[derive(Drop)]
+pub struct Service {
+    parts: Parts,
+}
+
+impl Model for Service {
+    ghost use Rattle.service_meaning.specs.State.{Kept, kept_code};
+    ghost use Rattle.service_parts.specs.Parts.{kept};
+    ghost use Rattle.service_repairs.specs.Services.{IsService};
+
+    ghost Value = { Kept };
+
+    ghost coded = { kept_code };
+
+    ghost view = { λ s. kept s.parts };
+
+    ghost invariant = { λ s. IsService s.parts };
+}
+
+impl Service {
+    /// A service that has answered nothing yet.
+    #[tactic(auto, using(service_meaning::proofs::StartLaw::fits_start))]
+    pub fn new(alloc: Global, setting: Setting) -> Service
+        ensures { result ≡ fresh setting }
+    {
+        let parts = Parts {
+            setting,
+            repairer: Repairer::new(alloc),
+            flights: Flights::new(alloc),
+            journal: Rows::new(alloc),
+            registers: Registers::new(alloc),
+            replies: Replies::new(alloc),
+        };
+        Service { parts }
+    }
+
+    /// What it is set to do.
+    pub fn setting(&self) -> &Setting
+        ensures { result.now ≡ self.now.setting }
+    {
+        &self.parts.setting
+    }
+
+    /// Its log.
+    pub fn entries(&self) -> &Log
+        ensures { result.now.entries ≡ self.now.entries }
+    {
+        self.parts.repairer.log()
+    }
+
+    /// Its journal, which all that it keeps fits.
+    pub fn journal(&self) -> &Rows
+        ensures rows { result.now.rows ≡ self.now.journal }
+        ensures fits { Fits self.now }
+    {
+        &self.parts.journal
+    }
+
+    /// What it keeps of its own calls.
+    pub fn registers(&self) -> &Registers
+        ensures { result.now.list ≡ self.now.registers }
+    {
+        &self.parts.registers
+    }
+
+    /// The answers that it owes.
+    pub fn replies(&self) -> &Replies
+        ensures { result.now.list ≡ self.now.replies }
+    {
+        &self.parts.replies
+    }
+
+    /// Its live requests that wait for calls.
+    pub fn flights(&self) -> &Flights
+        ensures { result.now.list ≡ self.now.flights }
+    {
+        &self.parts.flights
+    }
+
+    /// The rows at the end of the log.
+    pub fn rows(&self, alloc: Global) -> Result<Cells, NoMemory>
+        ensures { IfOk result (λ rows. rows ≡ rows_of self.now.entries) }
+    {
+        self.parts.repairer.rows(alloc)
+    }
+
+    /// The number of the call for which a flight waits; None exactly where there is no such flight.
+    pub fn awaited(&self, flight: u64) -> Option<u64>
+        ensures { result ≡ awaited_by flight self.now }
+    {
+        let waiting = self.parts.flights.find(flight)?;
+        Some(waiting.awaited())
+    }
+
+    /// The number of the first stale entry; None exactly where no entry is stale.
+    pub fn first_stale(&self) -> Option<u64>
+        ensures first { MatchOption result
+            (AllCurrent (answers self.now) [] self.now.entries)
+            (λ id. IsStaleId (answers self.now) self.now.entries id) }
+        ensures test { result ≡ first_stale self.now }
+    {
+        first_stale(&self.parts)
+    }
+
+    /// A live request arrives. It runs, and is committed or waits for a call; or it is a call that has an entry. It is
+    /// refused where it is a call in flight, one that was deleted or one whose entry never ran, and where there is too
+    /// much.
+    pub fn arrive(
+        &mut self,
+        alloc: Global,
+        origin: Origin,
+        request: Request,
+        inputs: Inputs,
+    ) -> Result<Arrived, ArriveRefused>
+        ensures { Does arrive_memory (arrive_event self.old origin request inputs) self.old result self.new }
+    {
+        arrive(alloc, &mut self.parts, origin, request, inputs)
+    }
+
+    /// The call for which a flight waits was answered: the flight goes on. It is refused where the flight isn't there, or
+    /// waits for another call or another version of it.
+    pub fn call_answered(
+        &mut self,
+        alloc: Global,
+        flight: u64,
+        answer: AnswerMessage,
+    ) -> Result<Arrived, CallRefused>
+        ensures { Does call_memory (call_answered_event self.old flight answer) self.old result self.new }
+    {
+        call_answered(alloc, &mut self.parts, flight, &answer)
+    }
+
+    /// The call of this number, for which a flight waits, got no answer: the flight goes on without one. It is refused
+    /// where the flight isn't there or waits for another call.
+    pub fn call_failed(
+        &mut self,
+        alloc: Global,
+        flight: u64,
+        number: u64,
+        why: Why,
+    ) -> Result<Arrived, CallRefused>
+        ensures { Does call_memory (call_failed_event self.old flight number why) self.old result self.new }
+    {
+        call_failed(alloc, &mut self.parts, flight, number, why)
+    }
+
+    /// Runs the first stale entry again, if there is one, and settles its calls. Where none is stale the answer is Idle, which
+    /// takes no memory.
+    pub fn repair_step(&mut self, alloc: Global) -> Result<Stepped, NoMemory>
+        ensures steps { Steps self.old result self.new }
+        ensures free { AllCurrent (answers self.old) [] self.old.entries → result ≡ Ok Stepped.Idle }
+    {
+        repair_step(alloc, &mut self.parts)
+    }
+
+    /// Carries out an order of an operator. An order whose token was accepted before is answered as then, without memory, and
+    /// changes nothing. It is refused where it names what isn't there, replaces a request of another service, retries a post
+    /// that isn't held, or where there is too much.
+    pub fn order(
+        &mut self,
+        alloc: Global,
+        command: Command,
+        token: Text,
+        who: Text,
+        inputs: Inputs,
+    ) -> Result<Ordered, OrderRefused>
+        ensures does { Orders (order_event self.old command token who inputs) self.old result self.new }
+        ensures repeated { IfSome (answered_by (ordered token self.old.journal)) (λ answer. result ≡ Ok answer) }
+    {
+        order(alloc, &mut self.parts, command, token, who, inputs)
+    }
+}

@@ -1,0 +1,3 @@
+pub mod PartnerLemmas
+pub mod FirstLemmas
+pub mod VerdictLemmas

@@ -1,0 +1,104 @@
+-- What each verdict says.
+use Rattle.std.specs.Prelude.{◌≡◌, ℕ, false, List, [], All, IsSomeAnd, slice_get}
+use Rattle.std.specs.List.{HoldsAt}
+use Rattle.local_repair.specs.Current.{AllCurrent}
+use Rattle.local_repair.specs.Repairs.{IsStaleId}
+use Rattle.journal_rows.specs.declared.verdict.Outstanding.{Outstanding}
+use Rattle.journal_rows.specs.declared.verdict.Outstanding.TheVariants.{Flight as OfFlight, Stale as OfEntry, Call as OfCall, Answer as OfAnswer}
+use Rattle.journal_rows.specs.declared.verdict.Verdict.{Verdict}
+use Rattle.journal_rows.specs.declared.verdict.Verdict.TheVariants.{Legal, Forged, Unsettled}
+use Rattle.call_registers.specs.declared.register.Register.{Register}
+use Rattle.call_registers.specs.declared.reply.Reply.{Reply}
+use Rattle.service_meaning.specs.State.{Kept, answers}
+use Rattle.world_meaning.specs.Partners.{HasPartner, IsJoined}
+use Rattle.world_meaning.specs.Quiet.{AreQuiet}
+use Rattle.world_audit.specs.First.{IsFirstWithout, IsFirstNumber}
+use Rattle.world_audit.specs.declared.outstanding.Kind.{Kind}
+use Rattle.world_audit.specs.declared.outstanding.Kind.TheVariants.{Flights, Entries, Calls, Answers}
+
+-- ---- what is outstanding, by its kind
+
+abbrev pub IsAcknowledged : Register → Type 0
+IsAcknowledged r = r.acked ≡ r.version
+
+abbrev pub IsGiven : Reply → Type 0
+IsGiven p = p.due ≡ false
+
+-- nothing of this kind is outstanding of a service
+abbrev pub IsDone : Kind → Kept → Type 0
+IsDone Flights s = s.flights ≡ []
+IsDone Entries s = AllCurrent (answers s) [] s.entries
+IsDone Calls s = All IsAcknowledged s.registers
+IsDone Answers s = All IsGiven s.replies
+
+-- the first of this kind that is outstanding of a service has this number
+abbrev pub IsFirstIn : Kind → Kept → ℕ → Type 0
+IsFirstIn Flights s number = IsSomeAnd (slice_get s.flights 0) (λ f. f.id ≡ number)
+IsFirstIn Entries s number = IsStaleId (answers s) s.entries number
+IsFirstIn Calls s number = IsFirstNumber IsAcknowledged (λ r. r.number) s.registers number
+IsFirstIn Answers s number = IsFirstNumber IsGiven (λ p. p.id) s.replies number
+
+-- nothing of this kind is outstanding of the services before the one at this place, and the first there has this number
+pub record IsFirstOf (kind : Kind) (services : List Kept) (at number : ℕ) : Type 0 where
+  pub service : IsFirstWithout (IsDone kind) services at
+  pub first : HoldsAt (λ s. IsFirstIn kind s number) services at
+
+abbrev pub AreDone : Kind → List Kept → Type 0
+AreDone kind services = All (IsDone kind) services
+
+-- nothing of an earlier kind is outstanding
+abbrev pub EarlierDone : Kind → List Kept → Type 0
+EarlierDone Flights services = Unit {0}
+EarlierDone Entries services = AreDone Flights services
+EarlierDone Calls services = AreDone Flights services × AreDone Entries services
+EarlierDone Answers services = AreDone Flights services × AreDone Entries services × AreDone Calls services
+
+abbrev pub what_is : Kind → ℕ → Outstanding
+what_is Flights n = OfFlight n
+what_is Entries n = OfEntry n
+what_is Calls n = OfCall n
+what_is Answers n = OfAnswer n
+
+abbrev pub kind_of : Outstanding → Kind
+kind_of (OfFlight n) = Flights
+kind_of (OfEntry n) = Entries
+kind_of (OfCall n) = Calls
+kind_of (OfAnswer n) = Answers
+
+abbrev pub number_of : Outstanding → ℕ
+number_of (OfFlight n) = n
+number_of (OfEntry n) = n
+number_of (OfCall n) = n
+number_of (OfAnswer n) = n
+
+-- ---- verdicts
+
+-- each row of this service has its partner
+abbrev pub IsJoinedIn : List Kept → Kept → Type 0
+IsJoinedIn services s = All (HasPartner services s) s.journal
+
+-- the first row without a partner, by service and then in its journal
+pub record IsForged (services : List Kept) (at index : ℕ) : Type 0 where
+  pub service : IsFirstWithout (IsJoinedIn services) services at
+  pub row : HoldsAt (λ s. IsFirstWithout (HasPartner services s) s.journal index) services at
+
+-- each row has its partner, and this is the first that is outstanding: by kind, then by service, then within it
+pub record IsUnsettled (services : List Kept) (at : ℕ) (what : Outstanding) : Type 0 where
+  pub joined : IsJoined services
+  pub earlier : EarlierDone (kind_of what) services
+  pub first : IsFirstOf (kind_of what) services at (number_of what)
+
+abbrev pub IsVerdict : List Kept → Verdict → Type 0
+IsVerdict services Legal = IsJoined services × AreQuiet services
+IsVerdict services (Forged at index) = IsForged services at index
+IsVerdict services (Unsettled at what) = IsUnsettled services at what
+
+abbrev pub SaysForged : Verdict → Type 0
+SaysForged Legal = ⊥
+SaysForged (Forged at index) = Unit {0}
+SaysForged (Unsettled at what) = ⊥
+
+abbrev pub SaysUnsettled : Verdict → Type 0
+SaysUnsettled Legal = ⊥
+SaysUnsettled (Forged at index) = ⊥
+SaysUnsettled (Unsettled at what) = Unit {0}

@@ -1,0 +1,77 @@
+// What is outstanding of a service.
+ghost use Rattle.std.specs.Prelude.{◌≡◌, [], IsSomeAnd, MatchOption, slice_get, All};
+ghost use Rattle.world_audit.specs.First.{IsFirstNumber};
+ghost use Rattle.world_audit.specs.Verdicts.{IsAcknowledged, IsGiven, IsDone, IsFirstIn, what_is};
+
+use call_registers::{Register, Reply};
+use flights::Flight;
+use journal_rows::Outstanding;
+use live_service::Service;
+
+/// The kinds of what may be outstanding, in the order in which the audit looks for them.
+#[derive(Clone, Copy, PartialEq, Eq)]
+pub enum Kind {
+    /// Live requests that wait for calls.
+    Flights,
+    /// Stale entries.
+    Entries,
+    /// Calls whose last version isn't acknowledged.
+    Calls,
+    /// Answers that are due.
+    Answers,
+}
+
+fn first_flight(flights: &[Flight]) -> Option<u64>
+    ensures { MatchOption result (flights.now ≡ []) (λ number. IsSomeAnd (slice_get flights.now 0) (λ f. f.id ≡ number)) }
+{
+    match flights {
+        [] => None,
+        [flight, ..] => Some(flight.id),
+    }
+}
+
+fn first_call(registers: &[Register]) -> Option<u64>
+    ensures { MatchOption result (All IsAcknowledged registers.now) (IsFirstNumber IsAcknowledged (λ r. r.number) registers.now) }
+{
+    for register in registers {
+        if register.acked != register.version {
+            return Some(register.number);
+        }
+    }
+    None
+}
+
+fn first_answer(replies: &[Reply]) -> Option<u64>
+    ensures { MatchOption result (All IsGiven replies.now) (IsFirstNumber IsGiven (λ p. p.id) replies.now) }
+{
+    for reply in replies {
+        if reply.due {
+            return Some(reply.id);
+        }
+    }
+    None
+}
+
+/// The number of the first of a kind that is outstanding of a service; None exactly where nothing of it is.
+pub fn first_in(kind: Kind, service: &Service) -> Option<u64>
+    ensures { MatchOption result (IsDone kind service.now) (IsFirstIn kind service.now) }
+{
+    match kind {
+        Kind::Flights => first_flight(service.flights().as_slice()),
+        Kind::Entries => service.first_stale(),
+        Kind::Calls => first_call(service.registers().as_slice()),
+        Kind::Answers => first_answer(service.replies().as_slice()),
+    }
+}
+
+/// What a verdict says of the thing of this kind and number.
+pub fn outstanding(kind: Kind, number: u64) -> Outstanding
+    ensures { result ≡ what_is kind number }
+{
+    match kind {
+        Kind::Flights => Outstanding::Flight(number),
+        Kind::Entries => Outstanding::Stale(number),
+        Kind::Calls => Outstanding::Call(number),
+        Kind::Answers => Outstanding::Answer(number),
+    }
+}

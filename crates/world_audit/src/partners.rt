@@ -1,0 +1,138 @@
+// Whether another service did what a row says of it.
+ghost use Rattle.std.specs.Prelude.{◌≡◌, ◌↔◌, IsTrue, option_map};
+ghost use Rattle.std.specs.List.{list_any};
+ghost use Rattle.journal_rows.specs.Words.{last_sent};
+ghost use Rattle.service_meaning.specs.State.{me};
+ghost use Rattle.world_meaning.specs.Partners.{service_of, HasPartner};
+ghost use Rattle.world_audit.specs.Tests.{sends, gives, confirms, acknowledges_so, named_has, callee_of, dest_has, is_partnered};
+
+use crate::tests::{acknowledges_so, confirms, gives, sends};
+use journal_rows::{Row, SawAckRow, SawAnswerRow, TookRow, WasConfirmedRow, last_sent};
+use lang_core::{Name, Same};
+use live_service::Service;
+
+fn service_of<'a>(services: &'a [Service], name: &Name) -> Option<&'a Service>
+    ensures { option_map (λ s. s.now) result ≡ service_of name.now services.now }
+{
+    services
+        .iter()
+        .find(|service| service.setting().me.text().is(name.text()))
+}
+
+// The service to which a call of this one was sent.
+fn callee_of<'a>(services: &'a [Service], service: &Service, number: u64) -> Option<&'a Service>
+    ensures { option_map (λ s. s.now) result ≡ callee_of services.now (last_sent number service.now.journal) }
+{
+    match last_sent(service.journal().as_slice(), number) {
+        None => None,
+        Some(sent) => service_of(services, &sent.dest),
+    }
+}
+
+// Whether a caller sent to the service of this name what was taken there.
+fn sent(caller: &Service, dest: &Name, took: &TookRow) -> bool
+    ensures { result ≡ list_any (sends (record { number = took.now.number; dest = dest.now; version = took.now.version; desired = took.now.desired })) caller.now.journal }
+{
+    caller.journal().as_slice().iter().any(|row| sends(
+        row,
+        took.number,
+        dest,
+        took.version,
+        &took.desired,
+    ))
+}
+
+fn was_sent(services: &[Service], service: &Service, took: &TookRow) -> bool
+    ensures { result ≡ named_has services.now took.now.caller (sends (record { number = took.now.number; dest = me service.now; version = took.now.version; desired = took.now.desired })) }
+{
+    match service_of(services, &took.caller) {
+        None => false,
+        Some(caller) => sent(caller, &service.setting().me, took),
+    }
+}
+
+// Whether a callee acknowledged what the service of this name saw.
+fn acknowledged(callee: &Service, caller: &Name, seen: SawAckRow) -> bool
+    ensures { result ≡ list_any (acknowledges_so caller.now seen.number seen.version seen.how) callee.now.journal }
+{
+    callee.journal().as_slice().iter().any(|row| acknowledges_so(
+        row,
+        caller,
+        seen.number,
+        seen.version,
+        seen.how,
+    ))
+}
+
+fn was_acknowledged(services: &[Service], service: &Service, seen: SawAckRow) -> bool
+    ensures { result ≡ dest_has services.now service.now seen.number (acknowledges_so (me service.now) seen.number seen.version seen.how) }
+{
+    match callee_of(services, service, seen.number) {
+        None => false,
+        Some(callee) => acknowledged(callee, &service.setting().me, seen),
+    }
+}
+
+// Whether a callee gave the answer that the service of this name saw.
+fn gave(callee: &Service, caller: &Name, seen: &SawAnswerRow) -> bool
+    ensures { result ≡ list_any (gives caller.now seen.now.number seen.now.answer_version seen.now.version seen.now.response) callee.now.journal }
+{
+    callee.journal().as_slice().iter().any(|row| {
+        gives(
+            row,
+            caller,
+            seen.number,
+            seen.answer_version,
+            seen.version,
+            &seen.response,
+        )
+    })
+}
+
+fn was_given(services: &[Service], service: &Service, seen: &SawAnswerRow) -> bool
+    ensures { result ≡ dest_has services.now service.now seen.now.number (gives (me service.now) seen.now.number seen.now.answer_version seen.now.version seen.now.response) }
+{
+    match callee_of(services, service, seen.number) {
+        None => false,
+        Some(callee) => gave(callee, &service.setting().me, seen),
+    }
+}
+
+// Whether a caller confirmed what was noted as confirmed.
+fn confirmed(caller: &Service, noted: &WasConfirmedRow) -> bool
+    ensures { result ≡ list_any (confirms noted.now.number noted.now.answer_version) caller.now.journal }
+{
+    caller
+        .journal()
+        .as_slice()
+        .iter()
+        .any(|row| confirms(row, noted.number, noted.answer_version))
+}
+
+fn was_confirmed(services: &[Service], noted: &WasConfirmedRow) -> bool
+    ensures { result ≡ named_has services.now noted.now.caller (confirms noted.now.number noted.now.answer_version) }
+{
+    match service_of(services, &noted.caller) {
+        None => false,
+        Some(caller) => confirmed(caller, noted),
+    }
+}
+
+fn is_partnered(services: &[Service], service: &Service, row: &Row) -> bool
+    ensures { result ≡ is_partnered services.now service.now row.now }
+{
+    match row {
+        Row::Took(took) => was_sent(services, service, took),
+        Row::SawAck(seen) => was_acknowledged(services, service, *seen),
+        Row::SawAnswer(seen) => was_given(services, service, seen),
+        Row::WasConfirmed(noted) => was_confirmed(services, noted),
+        _ => true,
+    }
+}
+
+/// Whether a row of this service has its partner in the journal of the service that it names.
+pub fn has_partner(services: &[Service], service: &Service, row: &Row) -> bool
+    ensures { IsTrue result ↔ HasPartner services.now service.now row.now }
+{
+    is_partnered(services, service, row)
+}
