@@ -159,11 +159,12 @@ module _ (services : List Kept) (packets : List Packet) (h : AreSound services p
       → Owes services name s (called flight call q s i)
   called_owes from flight call q i stands dest desired =
       let origin : Origin = CallOrigin call.caller call.number in
-      let D : List ℕ → ℕ → Option Request → Type 0 = λ d v r. JournalOf services call.caller (HasSent d call.number v r) in
-      let D1 : List ℕ → Type 0 = λ d. D d call.version call.desired in
-      let D2 : ℕ → Type 0 = λ v. D (me s) v call.desired in
-      let D3 : Option Request → Type 0 = λ r. D (me s) 1 r in
-      let called_for : OriginStands services (me s) origin q = subst D3 desired (subst D2 stands.first (subst D1 (dest ∙ sym is) stands.sent)) in
+      let Sent : List ℕ → ℕ → Option Request → Type 0 = λ d v r. JournalOf services call.caller (HasSent d call.number v r) in
+      let sent_to : List ℕ → Type 0 = λ d. Sent d call.version call.desired in
+      let sent_as : ℕ → Type 0 = λ v. Sent (me s) v call.desired in
+      let sent_with : Option Request → Type 0 = λ r. Sent (me s) 1 r in
+      let called_for : OriginStands services (me s) origin q =
+      subst sent_with desired (subst sent_as stands.first (subst sent_to (dest ∙ sym is) stands.sent)) in
       let m = arrive_moves services s fits flights origin q i called_for in
       let t = (arrive_event s origin q i).service in
       let still = packet_still services (put name t services) (grew_put name s t m.turns.grows services here) (Call from flight call) stands in
