@@ -7,6 +7,7 @@ use Rattle.call_registers.specs.Registers.{has_number, CountFrom, IsNumbered, Is
 use Rattle.call_registers.specs.declared.register.Register.{Register}
 use Rattle.call_registers.specs.declared.register.Change.{Change}
 use Rattle.call_registers.specs.declared.register.Change.TheVariants.{Send, Ack, Hear, Tell, Hold, Release}
+use Rattle.lang_base.proofs.EqualLemmas.{nat_same}
 
 -- where numbers begin above it, a number isn't there
 not_equal : (m n : ℕ) → n < m → nat_eq m n ≡ false
@@ -17,9 +18,6 @@ not_same m n h = grind (arith, nat_tests)
 
 no_none : IsSome {T = Register} None → ⊥
 no_none h = cc
-
-equal_self : (n : ℕ) → nat_eq n n ≡ true
-equal_self n = grind (arith, nat_tests)
 
 skip : {X : Type 0} (b : Bool) (x : X) (o o' : Option X) → b ≡ false → o ≡ o' → cond b (Some x) o ≡ o'
 skip true x o o' h e = cc
@@ -40,7 +38,7 @@ at_place : (m n place : ℕ) (rs : List Register) → CountFrom m rs → m + pla
 at_place m n place [] h e = refl
 at_place m n zero (r ∷ rs) h e =
     let is : m ≡ n = omega (arith, e) in
-    let same : nat_eq r.number n ≡ true = rw (h.0, ← is) (equal_self m) in
+    let same : nat_eq r.number n ≡ true = rw (h.0, ← is) (nat_same m) in
     take_it (nat_eq r.number n) r (find (has_number n) rs) same
 at_place m n (suc place) (r ∷ rs) h e =
     let w : n ≢ m = omega (arith, e) in
@@ -81,7 +79,7 @@ change_set-from : (m n place : ℕ) (f : Register → Register) (rs : List Regis
 change_set-from m n place f [] old h e o = refl
 change_set-from m n zero f (r ∷ rs) old h e o =
     let is : m ≡ n = omega (arith, e) in
-    let same : nat_eq r.number n ≡ true = rw (h.0, ← is) (equal_self m) in
+    let same : nat_eq r.number n ≡ true = rw (h.0, ← is) (nat_same m) in
     ap (λ x. f x ∷ rs) o ∙ sym (pass (nat_eq r.number n) (f r) r rs (change (has_number n) f rs) same)
 change_set-from m n (suc place) f (r ∷ rs) old h e o =
     let w : n ≢ m = omega (arith, e) in

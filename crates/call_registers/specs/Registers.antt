@@ -12,7 +12,7 @@ use Rattle.call_registers.specs.declared.register.Why.{Why}
 use Rattle.call_registers.specs.declared.calls.RegistersCall.{RegistersCall}
 
 -- the registers in the order of their numbers, and the calls for which room was made
-pub record Kept : Type 0 where
+pub record KeptRegisters : Type 0 where
   pub list : List Register
   pub room : List RegistersCall
 

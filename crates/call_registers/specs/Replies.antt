@@ -10,7 +10,7 @@ use Rattle.call_registers.specs.declared.reply.Reply.{Reply}
 use base.Stored.{Coded}
 
 -- the replies in the order of their entries' numbers, and the calls for which room was made
-pub record Kept : Type 0 where
+pub record KeptReplies : Type 0 where
   pub list : List Reply
   pub room : List RepliesCall
 

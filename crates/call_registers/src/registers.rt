@@ -24,9 +24,9 @@ pub struct Registers {
 
 impl Model for Registers {
     ghost use Rattle.std.specs.Prelude.{◌+◌, vec_len, vec_capacity};
-    ghost use Rattle.call_registers.specs.Registers.{Kept, IsKept};
+    ghost use Rattle.call_registers.specs.Registers.{KeptRegisters, IsKept};
 
-    ghost Value = { Kept };
+    ghost Value = { KeptRegisters };
 
     ghost view = { λ r. record { list = r.list.items; room = r.room.items } };
 

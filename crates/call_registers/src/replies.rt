@@ -29,9 +29,9 @@ pub struct Replies {
 
 impl Model for Replies {
     ghost use Rattle.std.specs.Prelude.{◌+◌, vec_len, vec_capacity};
-    ghost use Rattle.call_registers.specs.Replies.{Kept, IsKept};
+    ghost use Rattle.call_registers.specs.Replies.{KeptReplies, IsKept};
 
-    ghost Value = { Kept };
+    ghost Value = { KeptReplies };
 
     ghost view = { λ r. record { list = r.list.items; room = r.room.items } };
 

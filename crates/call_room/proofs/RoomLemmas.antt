@@ -66,7 +66,7 @@ past_all p (x ∷ xs) h =
     let k : cond (not (p x)) (1 + position_or_len p xs) 0 ≡ length xs + 1 = or_none (p x) (list_any p xs) (position_or_len p xs) (length xs) h (λ e. past_all p xs e) in
     rw add-one at k
 
-not_less : (n : ℕ) → nat_lt n n ≡ false
+pub not_less : (n : ℕ) → nat_lt n n ≡ false
 not_less n = grind (arith, nat_tests)
 
 nowhere : {C : Type 0} (p : C → Bool) (xs : List C) → list_any p xs ≡ false → position p xs ≡ None

@@ -1,18 +1,16 @@
 -- Flights stay in the order of their numbers.
 use Rattle.std.proofs.Common.{◌≡◌, ◌∙◌, sym, ap, refl, subst, ℕ, zero, suc, ◌+◌, ◌<◌, ◌≤◌, ◌≢◌, Bool, true, false, cond, not, List, [], ◌∷◌, length, set, get_or, slice_get, drop, Option, Some, None, find, position, IsSome, nat_eq, nat_lt, nat_le, arith, add-one, drop-cons}
 use Rattle.std.specs.List.{insert, remove, position_or_len}
-use Rattle.std.proofs.lemmas.Bool.{eqb-true}
+use Rattle.std.proofs.lemmas.Bool.{cond-false, cond-true, eqb-true}
 use Rattle.std.proofs.lemmas.Bool.Decides.{nat_tests}
 use Rattle.std.proofs.lemmas.List.Folds.{find_at}
 use Rattle.std.proofs.lemmas.List.Quantifiers.{position-Some}
 use Rattle.std.proofs.lemmas.Option.{slice_get-get_or}
 use Rattle.flights.specs.Numbers.{has_flight, flight_in, without_flight, put_flight, with_flight, reaches, is_here, RisesFrom, IsRising, free_from, IsLeastFree}
 use Rattle.flights.specs.declared.flight.Flight.{Flight}
+use Rattle.lang_base.proofs.EqualLemmas.{nat_same}
 
 -- ---- tests of numbers
-
-equal_self : (n : ℕ) → nat_eq n n ≡ true
-equal_self n = grind (arith, nat_tests)
 
 above : (m n : ℕ) → m < n → nat_eq n m ≡ false
 above m n h = grind (arith, nat_tests)
@@ -37,14 +35,6 @@ one_more n = omega arith
 
 -- ---- choices
 
-taken : {X : Type 0} (b : Bool) (x y : X) → b ≡ true → cond b x y ≡ x
-taken true x y h = refl
-taken false x y h = cc
-
-left : {X : Type 0} (b : Bool) (x y : X) → b ≡ false → cond b x y ≡ y
-left true x y h = cc
-left false x y h = refl
-
 kept : {X : Type 0} (b : Bool) (x y : X) → b ≡ false → cond (not b) x y ≡ x
 kept true x y h = cc
 kept false x y h = refl
@@ -63,7 +53,7 @@ rises_weaker m n (f ∷ fs) w h = (omega (arith, w, h.0), h.1)
 pub none_below : (id m : ℕ) (fs : List Flight) → RisesFrom m fs → id < m → flight_in id fs ≡ None
 none_below id m [] h w = refl
 none_below id m (f ∷ fs) h w =
-    left (nat_eq f.id id) (Some f) (find (has_flight id) fs) (above id f.id (omega (arith, w, h.0)))
+    cond-false (nat_eq f.id id) (Some f) (find (has_flight id) fs) (above id f.id (omega (arith, w, h.0)))
     ∙ none_below id (f.id + 1) fs h.1 (omega (arith, w, h.0))
 
 all_stay : (id m : ℕ) (fs : List Flight) → RisesFrom m fs → id < m → without_flight id fs ≡ fs
@@ -100,12 +90,12 @@ removed_at id place fs d h e =
 
 put_front : (f : Flight) (m : ℕ) (fs : List Flight) → RisesFrom m fs → f.id < m → put_flight f fs ≡ f ∷ fs
 put_front f m [] h w = refl
-put_front f m (g ∷ gs) h w = taken (nat_lt f.id g.id) (f ∷ g ∷ gs) (g ∷ put_flight f gs) (is_less f.id g.id (omega (arith, w, h.0)))
+put_front f m (g ∷ gs) h w = cond-true (nat_lt f.id g.id) (f ∷ g ∷ gs) (g ∷ put_flight f gs) (is_less f.id g.id (omega (arith, w, h.0)))
 
 put_behind : (f g : Flight) (gs : List Flight) → g.id < f.id → put_flight f (without_flight f.id (g ∷ gs)) ≡ g ∷ put_flight f (without_flight f.id gs)
 put_behind f g gs w =
     ap (put_flight f) (kept (nat_eq g.id f.id) (g ∷ without_flight f.id gs) (without_flight f.id gs) (below f.id g.id w))
-    ∙ left (nat_lt f.id g.id) (f ∷ g ∷ without_flight f.id gs) (g ∷ put_flight f (without_flight f.id gs)) (no_less f.id g.id w)
+    ∙ cond-false (nat_lt f.id g.id) (f ∷ g ∷ without_flight f.id gs) (g ∷ put_flight f (without_flight f.id gs)) (no_less f.id g.id w)
 
 put_before : (f g : Flight) (gs : List Flight) → f.id < g.id → RisesFrom (g.id + 1) gs → put_flight f (without_flight f.id (g ∷ gs)) ≡ f ∷ g ∷ gs
 put_before f g gs w h =
@@ -196,11 +186,11 @@ rising_with f fs h w = rises_put 1 f (without_flight f.id fs) (rises_without f.i
 missing_step : (b : Bool) (id place : ℕ) (g : Flight) (gs : List Flight) → nat_le id g.id ≡ b → RisesFrom (g.id + 1) gs → is_here id (slice_get (g ∷ gs) (cond (not b) (1 + place) 0)) ≡ false
     → (is_here id (slice_get gs place) ≡ false → flight_in id gs ≡ None) → flight_in id (g ∷ gs) ≡ None
 missing_step true id place g gs e h other more =
-    left (nat_eq g.id id) (Some g) (flight_in id gs) other
+    cond-false (nat_eq g.id id) (Some g) (flight_in id gs) other
     ∙ none_below id (g.id + 1) gs h (let k : id < g.id = reached id g.id e other in omega (arith, k))
 missing_step false id place g gs e h other more =
     let there : is_here id (slice_get gs place) ≡ false = ap (λ n. is_here id (slice_get (g ∷ gs) n)) (sym (one_more place)) ∙ other in
-    left (nat_eq g.id id) (Some g) (flight_in id gs) (below id g.id (not_reached id g.id e)) ∙ more there
+    cond-false (nat_eq g.id id) (Some g) (flight_in id gs) (below id g.id (not_reached id g.id e)) ∙ more there
 
 missing-from : (m id : ℕ) (fs : List Flight) → RisesFrom m fs → is_here id (slice_get fs (position_or_len (reaches id) fs)) ≡ false → flight_in id fs ≡ None
 missing-from m id [] h other = refl
@@ -215,7 +205,7 @@ missing id fs h other = missing-from 1 id fs h other
 pub free_step : (id i : ℕ) (fs : List Flight) (f : Flight) → i < length fs → f ≡ get_or fs i f → f.id ≡ id → free_from id (drop i fs) ≡ free_from (id + 1) (drop (i + 1) fs)
 free_step id i fs f w is same =
     ap (free_from id) (drop-cons fs i f w ∙ ap (λ x. x ∷ drop (suc i) fs) (sym is))
-    ∙ taken (nat_eq f.id id) (free_from (id + 1) (drop (suc i) fs)) id (ap (λ n. nat_eq n id) same ∙ equal_self id)
+    ∙ cond-true (nat_eq f.id id) (free_from (id + 1) (drop (suc i) fs)) id (ap (λ n. nat_eq n id) same ∙ nat_same id)
     ∙ ap (λ n. free_from (id + 1) (drop n fs)) (sym (add-one i))
 
 differ : (m n : ℕ) → m ≢ n → nat_eq m n ≡ false
@@ -224,7 +214,7 @@ differ m n h = grind (arith, nat_tests)
 pub free_stop : (id i : ℕ) (fs : List Flight) (f : Flight) → i < length fs → f ≡ get_or fs i f → f.id ≢ id → free_from id (drop i fs) ≡ id
 free_stop id i fs f w is other =
     ap (free_from id) (drop-cons fs i f w ∙ ap (λ x. x ∷ drop (suc i) fs) (sym is))
-    ∙ left (nat_eq f.id id) (free_from (id + 1) (drop (suc i) fs)) id (differ f.id id other)
+    ∙ cond-false (nat_eq f.id id) (free_from (id + 1) (drop (suc i) fs)) id (differ f.id id other)
 
 -- what holds of the least free number from m on
 record Free (m number : ℕ) (fs : List Flight) : Type 0 where
@@ -255,13 +245,13 @@ free_if true m number f fs e w h more =
     let k : m + 1 ≤ number = r.from in
     record {
       from = omega (arith, k);
-      free = left (nat_eq f.id number) (Some f) (flight_in number fs) (below number f.id (omega (arith, k, same))) ∙ r.free;
+      free = cond-false (nat_eq f.id number) (Some f) (flight_in number fs) (below number f.id (omega (arith, k, same))) ∙ r.free;
       least = λ less v u. found_less (nat_eq f.id less) m less number f fs refl same v (λ t. r.least less t u);
     }
 free_if false m number f fs e w h more =
     record {
       from = omega arith;
-      free = left (nat_eq f.id m) (Some f) (flight_in m fs) e ∙ none_below m (f.id + 1) fs h (omega (arith, w));
+      free = cond-false (nat_eq f.id m) (Some f) (flight_in m fs) e ∙ none_below m (f.id + 1) fs h (omega (arith, w));
       least = λ less v u. absurd (omega (arith, v, u));
     }
 

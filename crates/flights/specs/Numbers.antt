@@ -7,7 +7,7 @@ use Rattle.request_log.specs.Entries.{is_call}
 use Rattle.flights.specs.declared.flight.Flight.{Flight}
 
 -- flights in the order of their numbers, and for how many more there is room
-pub record Kept : Type 0 where
+pub record KeptFlights : Type 0 where
   pub list : List Flight
   pub spare : ℕ
 

@@ -19,9 +19,9 @@ pub struct Flights {
 
 impl Model for Flights {
     ghost use Rattle.std.specs.Prelude.{◌-◌, vec_len, vec_capacity};
-    ghost use Rattle.flights.specs.Numbers.{Kept, IsRising};
+    ghost use Rattle.flights.specs.Numbers.{KeptFlights, IsRising};
 
-    ghost Value = { Kept };
+    ghost Value = { KeptFlights };
 
     ghost view = { λ f. record { list = f.list.items; spare = vec_capacity f.list - vec_len f.list } };
 

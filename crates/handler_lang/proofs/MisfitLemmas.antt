@@ -4,7 +4,7 @@ use Rattle.std.specs.Prelude.{nat_lt}
 use Rattle.std.proofs.lemmas.Bool.Decides.{nat_tests}
 use Rattle.std.proofs.lemmas.List.{drop_all, length-append, length-map}
 use Rattle.handler_tokens.specs.declared.token.Token.{Token}
-use Rattle.handler_tokens.specs.Lexing.{lex, place_of, places, token_of, tokens}
+use Rattle.handler_tokens.specs.Lexing.{lex, start_of, places, token_of, tokens}
 use Rattle.lang_tree.specs.declared.program.Route.{Route}
 use Rattle.handler_reader.specs.declared.stop.Cause.{Cause}
 use Rattle.handler_reader.specs.declared.stop.Cause.TheVariants as cause
@@ -71,7 +71,7 @@ read_answered cause.BadPattern at read a = a
 read_answered cause.TooDeep at read a = a
 
 as_many : (text : List ℕ) → length (places (lex text)) ≡ length (tokens (lex text))
-as_many text = length-map (lex text) place_of ∙ sym (length-map (lex text) token_of)
+as_many text = length-map (lex text) start_of ∙ sym (length-map (lex text) token_of)
 
 at_the_end : (total : ℕ) (ats : List ℕ) → place_left total ats 0 ≡ total
 at_the_end total ats = ap (first_or total) (drop_all (length ats - 0) ats (omega arith))

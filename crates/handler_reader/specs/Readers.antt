@@ -25,9 +25,9 @@ abbrev pub Fails : {Y : Type 0} → ReadFailed → Result Y Stop → Type 0
 Fails failed.NoMemory read = Unit {0}
 Fails (failed.At s) read = read ≡ Err s
 
-abbrev pub Gives : {X Y : Type 0} → (X → Y) → Result X ReadFailed → Result Y Stop → Type 0
-Gives view (Ok x) read = read ≡ Ok (view x)
-Gives view (Err e) read = Fails e read
+abbrev pub ReadsAs : {X Y : Type 0} → (X → Y) → Result X ReadFailed → Result Y Stop → Type 0
+ReadsAs view (Ok x) read = read ≡ Ok (view x)
+ReadsAs view (Err e) read = Fails e read
 
 -- something read, and the tokens behind it
 abbrev pub Read : Type 0 → Type 0

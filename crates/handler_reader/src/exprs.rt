@@ -2,7 +2,7 @@
 ghost use Rattle.std.specs.Prelude.{◌≡◌};
 ghost use Rattle.lang_tree.specs.declared.expr.Expr.TheVariants as expr;
 ghost use Rattle.handler_reader.specs.Pieces.{in_turn, read_as, with_mark};
-ghost use Rattle.handler_reader.specs.Readers.{comma_at, expr_at, expr_in, Gives, number_in, op_at, pair_in, part_in, path_in, right_at, text_in};
+ghost use Rattle.handler_reader.specs.Readers.{comma_at, expr_at, expr_in, ReadsAs, number_in, op_at, pair_in, part_in, path_in, right_at, text_in};
 
 use crate::joins::{before, beside, made};
 use crate::marks::{comma, deep_expr, left, op, refused, right, segment};
@@ -14,7 +14,7 @@ use std::alloc::Global;
 
 #[tactic(auto, unfolding(crate::specs::Readers::path_in))]
 fn path(tokens: &[Token]) -> Result<(Expr, &[Token]), ReadFailed>
-    ensures { Gives (λ x. (x.0, x.1.now)) result (path_in tokens.now) }
+    ensures { ReadsAs (λ x. (x.0, x.1.now)) result (path_in tokens.now) }
 {
     let rest = left(tokens)?;
     let (n, rest) = segment(rest)?;
@@ -30,7 +30,7 @@ fn before_comma(
     tokens: &[Token],
     levels: u64,
 ) -> Result<(Expr, &[Token]), ReadFailed>
-    ensures { Gives (λ x. (x.0, x.1.now)) result (with_mark (expr_at levels) comma_at tokens.now) }
+    ensures { ReadsAs (λ x. (x.0, x.1.now)) result (with_mark (expr_at levels) comma_at tokens.now) }
 {
     let (operand, rest) = expr(alloc, tokens, levels)?;
     before(operand, comma(rest))
@@ -44,7 +44,7 @@ fn before_right(
     tokens: &[Token],
     levels: u64,
 ) -> Result<(Expr, &[Token]), ReadFailed>
-    ensures { Gives (λ x. (x.0, x.1.now)) result (with_mark (expr_at levels) right_at tokens.now) }
+    ensures { ReadsAs (λ x. (x.0, x.1.now)) result (with_mark (expr_at levels) right_at tokens.now) }
 {
     let (operand, rest) = expr(alloc, tokens, levels)?;
     before(operand, right(rest))
@@ -58,7 +58,7 @@ fn texts(
     tokens: &[Token],
     levels: u64,
 ) -> Result<((Expr, Expr), &[Token]), ReadFailed>
-    ensures { Gives (λ x. (x.0, x.1.now)) result
+    ensures { ReadsAs (λ x. (x.0, x.1.now)) result
         (in_turn (with_mark (expr_at levels) comma_at) (with_mark (expr_at levels) comma_at) tokens.now) }
 {
     let (text, rest) = before_comma(alloc, tokens, levels)?;
@@ -68,7 +68,7 @@ fn texts(
 #[cycle(expr)]
 #[tactic(auto, using(crate::proofs::PieceLemmas::part_pieces))]
 fn part(alloc: Global, tokens: &[Token], levels: u64) -> Result<(Expr, &[Token]), ReadFailed>
-    ensures { Gives (λ x. (x.0, x.1.now)) result (part_in (expr_at levels) tokens.now) }
+    ensures { ReadsAs (λ x. (x.0, x.1.now)) result (part_in (expr_at levels) tokens.now) }
 {
     let rest = left(tokens)?;
     let (texts, rest) = texts(alloc, rest, levels)?;
@@ -79,7 +79,7 @@ fn part(alloc: Global, tokens: &[Token], levels: u64) -> Result<(Expr, &[Token])
 #[cycle(expr)]
 #[tactic(auto, using(crate::proofs::PieceLemmas::number_pieces))]
 fn number(alloc: Global, tokens: &[Token], levels: u64) -> Result<(Expr, &[Token]), ReadFailed>
-    ensures { Gives (λ x. (x.0, x.1.now)) result (number_in (expr_at levels) tokens.now) }
+    ensures { ReadsAs (λ x. (x.0, x.1.now)) result (number_in (expr_at levels) tokens.now) }
 {
     let rest = left(tokens)?;
     let (inner, rest) = before_right(alloc, rest, levels)?;
@@ -89,7 +89,7 @@ fn number(alloc: Global, tokens: &[Token], levels: u64) -> Result<(Expr, &[Token
 #[cycle(expr)]
 #[tactic(auto, using(crate::proofs::PieceLemmas::text_pieces))]
 fn as_text(alloc: Global, tokens: &[Token], levels: u64) -> Result<(Expr, &[Token]), ReadFailed>
-    ensures { Gives (λ x. (x.0, x.1.now)) result (text_in (expr_at levels) tokens.now) }
+    ensures { ReadsAs (λ x. (x.0, x.1.now)) result (text_in (expr_at levels) tokens.now) }
 {
     let rest = left(tokens)?;
     let (inner, rest) = before_right(alloc, rest, levels)?;
@@ -104,7 +104,7 @@ fn before_op(
     tokens: &[Token],
     levels: u64,
 ) -> Result<((Expr, Op), &[Token]), ReadFailed>
-    ensures { Gives (λ x. (x.0, x.1.now)) result (in_turn (expr_at levels) op_at tokens.now) }
+    ensures { ReadsAs (λ x. (x.0, x.1.now)) result (in_turn (expr_at levels) op_at tokens.now) }
 {
     let (operand, rest) = expr(alloc, tokens, levels)?;
     beside(operand, op(rest))
@@ -113,7 +113,7 @@ fn before_op(
 #[cycle(expr)]
 #[tactic(auto, using(crate::proofs::PieceLemmas::pair_pieces))]
 fn pair(alloc: Global, tokens: &[Token], levels: u64) -> Result<(Expr, &[Token]), ReadFailed>
-    ensures { Gives (λ x. (x.0, x.1.now)) result (pair_in (expr_at levels) tokens.now) }
+    ensures { ReadsAs (λ x. (x.0, x.1.now)) result (pair_in (expr_at levels) tokens.now) }
 {
     let (first, rest) = before_op(alloc, tokens, levels)?;
     let ((first, second), rest) = beside(first, before_right(alloc, rest, levels))?;
@@ -125,7 +125,7 @@ fn string<'a>(
     text: &Text,
     rest: &'a [Token],
 ) -> Result<(Expr, &'a [Token]), ReadFailed>
-    ensures { Gives (λ x. (x.0, x.1.now)) result (read_as (expr.Str text.now) rest.now) }
+    ensures { ReadsAs (λ x. (x.0, x.1.now)) result (read_as (expr.Str text.now) rest.now) }
 {
     Ok((Expr::Str(text.copied(alloc)?), rest))
 }
@@ -135,7 +135,7 @@ fn variable<'a>(
     name: &Text,
     rest: &'a [Token],
 ) -> Result<(Expr, &'a [Token]), ReadFailed>
-    ensures { Gives (λ x. (x.0, x.1.now)) result (read_as (expr.Var name.now) rest.now) }
+    ensures { ReadsAs (λ x. (x.0, x.1.now)) result (read_as (expr.Var name.now) rest.now) }
 {
     Ok((Expr::Var(name.copied(alloc)?), rest))
 }
@@ -143,7 +143,7 @@ fn variable<'a>(
 #[cycle(expr)]
 #[tactic(auto, unfolding(crate::specs::Readers::expr_in))]
 fn any_expr(alloc: Global, tokens: &[Token], levels: u64) -> Result<(Expr, &[Token]), ReadFailed>
-    ensures { Gives (λ x. (x.0, x.1.now)) result (expr_in (expr_at levels) tokens.now) }
+    ensures { ReadsAs (λ x. (x.0, x.1.now)) result (expr_in (expr_at levels) tokens.now) }
 {
     match tokens {
         [Token::Integer(n), rest @ ..] => Ok((Expr::Integer(*n), rest)),
@@ -165,7 +165,7 @@ fn any_expr(alloc: Global, tokens: &[Token], levels: u64) -> Result<(Expr, &[Tok
 #[cycle(expr)]
 #[tactic(auto, using(crate::proofs::Levels::expr_levels))]
 pub fn expr(alloc: Global, tokens: &[Token], levels: u64) -> Result<(Expr, &[Token]), ReadFailed>
-    ensures { Gives (λ x. (x.0, x.1.now)) result (expr_at levels tokens.now) }
+    ensures { ReadsAs (λ x. (x.0, x.1.now)) result (expr_at levels tokens.now) }
 {
     if levels == 0 {
         return Err(ReadFailed::At(deep_expr(tokens)));

@@ -1,6 +1,6 @@
 // Single tokens.
 ghost use Rattle.std.specs.Prelude.{◌≡◌, option_map};
-ghost use Rattle.handler_reader.specs.Readers.{begins_expr, close_at, comma_at, deep_block, deep_expr, equals_at, Gives, in_at, left_at, method_at, misfit, op_at, pattern_at, refused, right_at, segment_at, semicolon_at, word_at};
+ghost use Rattle.handler_reader.specs.Readers.{begins_expr, close_at, comma_at, deep_block, deep_expr, equals_at, ReadsAs, in_at, left_at, method_at, misfit, op_at, pattern_at, refused, right_at, segment_at, semicolon_at, word_at};
 
 use crate::stop::{Cause, ReadFailed, Stop};
 use handler_tokens::Token;
@@ -86,7 +86,7 @@ pub fn close(tokens: &[Token]) -> Option<&[Token]>
 
 /// A variable or a table, which stays with its token.
 pub fn word(tokens: &[Token]) -> Result<(&Text, &[Token]), ReadFailed>
-    ensures { Gives (λ x. (x.0.now, x.1.now)) result (word_at tokens.now) }
+    ensures { ReadsAs (λ x. (x.0.now, x.1.now)) result (word_at tokens.now) }
 {
     match tokens {
         [Token::Word(name), rest @ ..] => Ok((name, rest)),
@@ -96,7 +96,7 @@ pub fn word(tokens: &[Token]) -> Result<(&Text, &[Token]), ReadFailed>
 
 /// A method.
 pub fn method(tokens: &[Token]) -> Result<(Method, &[Token]), ReadFailed>
-    ensures { Gives (λ x. (x.0, x.1.now)) result (method_at tokens.now) }
+    ensures { ReadsAs (λ x. (x.0, x.1.now)) result (method_at tokens.now) }
 {
     match tokens {
         [Token::Method(method), rest @ ..] => Ok((*method, rest)),
@@ -106,7 +106,7 @@ pub fn method(tokens: &[Token]) -> Result<(Method, &[Token]), ReadFailed>
 
 /// An operator.
 pub fn op(tokens: &[Token]) -> Result<(Op, &[Token]), ReadFailed>
-    ensures { Gives (λ x. (x.0, x.1.now)) result (op_at tokens.now) }
+    ensures { ReadsAs (λ x. (x.0, x.1.now)) result (op_at tokens.now) }
 {
     match tokens {
         [Token::Plus, rest @ ..] => Ok((Op::Add, rest)),
@@ -121,7 +121,7 @@ pub fn op(tokens: &[Token]) -> Result<(Op, &[Token]), ReadFailed>
 
 /// The integer of `path`.
 pub fn segment(tokens: &[Token]) -> Result<(u64, &[Token]), ReadFailed>
-    ensures { Gives (λ x. (x.0, x.1.now)) result (segment_at tokens.now) }
+    ensures { ReadsAs (λ x. (x.0, x.1.now)) result (segment_at tokens.now) }
 {
     match tokens {
         [Token::Integer(n), rest @ ..] => {
@@ -139,7 +139,7 @@ pub fn segment(tokens: &[Token]) -> Result<(u64, &[Token]), ReadFailed>
 
 /// A string that is a path.
 pub fn pattern(alloc: Global, tokens: &[Token]) -> Result<(Text, &[Token]), ReadFailed>
-    ensures { Gives (λ x. (x.0, x.1.now)) result (pattern_at tokens.now) }
+    ensures { ReadsAs (λ x. (x.0, x.1.now)) result (pattern_at tokens.now) }
 {
     match tokens {
         [Token::Str(text), rest @ ..] => {
@@ -157,7 +157,7 @@ pub fn pattern(alloc: Global, tokens: &[Token]) -> Result<(Text, &[Token]), Read
 
 /// The tokens behind a `=`.
 pub fn equals(tokens: &[Token]) -> Result<&[Token], ReadFailed>
-    ensures { Gives (λ x. x.now) result (equals_at tokens.now) }
+    ensures { ReadsAs (λ x. x.now) result (equals_at tokens.now) }
 {
     match tokens {
         [Token::Equals, rest @ ..] => Ok(rest),
@@ -167,7 +167,7 @@ pub fn equals(tokens: &[Token]) -> Result<&[Token], ReadFailed>
 
 /// The tokens behind a `;`.
 pub fn semicolon(tokens: &[Token]) -> Result<&[Token], ReadFailed>
-    ensures { Gives (λ x. x.now) result (semicolon_at tokens.now) }
+    ensures { ReadsAs (λ x. x.now) result (semicolon_at tokens.now) }
 {
     match tokens {
         [Token::Semicolon, rest @ ..] => Ok(rest),
@@ -177,7 +177,7 @@ pub fn semicolon(tokens: &[Token]) -> Result<&[Token], ReadFailed>
 
 /// The tokens behind a `,`.
 pub fn comma(tokens: &[Token]) -> Result<&[Token], ReadFailed>
-    ensures { Gives (λ x. x.now) result (comma_at tokens.now) }
+    ensures { ReadsAs (λ x. x.now) result (comma_at tokens.now) }
 {
     match tokens {
         [Token::Comma, rest @ ..] => Ok(rest),
@@ -187,7 +187,7 @@ pub fn comma(tokens: &[Token]) -> Result<&[Token], ReadFailed>
 
 /// The tokens behind a `in`.
 pub fn in_word(tokens: &[Token]) -> Result<&[Token], ReadFailed>
-    ensures { Gives (λ x. x.now) result (in_at tokens.now) }
+    ensures { ReadsAs (λ x. x.now) result (in_at tokens.now) }
 {
     match tokens {
         [Token::In, rest @ ..] => Ok(rest),
@@ -197,7 +197,7 @@ pub fn in_word(tokens: &[Token]) -> Result<&[Token], ReadFailed>
 
 /// The tokens behind a `(`.
 pub fn left(tokens: &[Token]) -> Result<&[Token], ReadFailed>
-    ensures { Gives (λ x. x.now) result (left_at tokens.now) }
+    ensures { ReadsAs (λ x. x.now) result (left_at tokens.now) }
 {
     match tokens {
         [Token::Left, rest @ ..] => Ok(rest),
@@ -207,7 +207,7 @@ pub fn left(tokens: &[Token]) -> Result<&[Token], ReadFailed>
 
 /// The tokens behind a `)`.
 pub fn right(tokens: &[Token]) -> Result<&[Token], ReadFailed>
-    ensures { Gives (λ x. x.now) result (right_at tokens.now) }
+    ensures { ReadsAs (λ x. x.now) result (right_at tokens.now) }
 {
     match tokens {
         [Token::Right, rest @ ..] => Ok(rest),

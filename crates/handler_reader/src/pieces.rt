@@ -1,7 +1,7 @@
 // Pieces of statements. What is read of a piece is owned only once all of its tokens are known to fit.
 ghost use Rattle.std.specs.Prelude.{◌≡◌};
 ghost use Rattle.handler_reader.specs.Pieces.{in_turn, with_mark};
-ghost use Rattle.handler_reader.specs.Readers.{comma_at, equals_at, expr_at, Gives, in_at, method_at, semicolon_at, word_at};
+ghost use Rattle.handler_reader.specs.Readers.{comma_at, equals_at, expr_at, ReadsAs, in_at, method_at, semicolon_at, word_at};
 
 use crate::exprs::expr;
 use crate::joins::{before, beside, made};
@@ -15,7 +15,7 @@ use std::alloc::Global;
 /// A variable, and the `=` behind it.
 #[tactic(auto, unfolding(crate::specs::Pieces::with_mark))]
 pub fn before_equals(alloc: Global, tokens: &[Token]) -> Result<(Text, &[Token]), ReadFailed>
-    ensures { Gives (λ x. (x.0, x.1.now)) result (with_mark word_at equals_at tokens.now) }
+    ensures { ReadsAs (λ x. (x.0, x.1.now)) result (with_mark word_at equals_at tokens.now) }
 {
     let (var, rest) = word(tokens)?;
     let rest = equals(rest)?;
@@ -25,7 +25,7 @@ pub fn before_equals(alloc: Global, tokens: &[Token]) -> Result<(Text, &[Token])
 /// A statement's last expression, and the `;` behind it.
 #[tactic(auto, unfolding(crate::specs::Pieces::with_mark))]
 pub fn last(alloc: Global, tokens: &[Token]) -> Result<(Expr, &[Token]), ReadFailed>
-    ensures { Gives (λ x. (x.0, x.1.now)) result (with_mark (expr_at 32) semicolon_at tokens.now) }
+    ensures { ReadsAs (λ x. (x.0, x.1.now)) result (with_mark (expr_at 32) semicolon_at tokens.now) }
 {
     let (value, rest) = expr(alloc, tokens, MOST_DEPTH)?;
     before(value, semicolon(rest))
@@ -34,7 +34,7 @@ pub fn last(alloc: Global, tokens: &[Token]) -> Result<(Expr, &[Token]), ReadFai
 /// A statement's last two expressions, and the `;` behind them.
 #[tactic(auto, unfolding(crate::specs::Pieces::in_turn))]
 pub fn last_two(alloc: Global, tokens: &[Token]) -> Result<((Expr, Expr), &[Token]), ReadFailed>
-    ensures { Gives (λ x. (x.0, x.1.now)) result
+    ensures { ReadsAs (λ x. (x.0, x.1.now)) result
         (in_turn (expr_at 32) (with_mark (expr_at 32) semicolon_at) tokens.now) }
 {
     let (first, rest) = expr(alloc, tokens, MOST_DEPTH)?;
@@ -44,7 +44,7 @@ pub fn last_two(alloc: Global, tokens: &[Token]) -> Result<((Expr, Expr), &[Toke
 /// A table and a key.
 #[tactic(auto, unfolding(crate::specs::Pieces::in_turn))]
 pub fn row(alloc: Global, tokens: &[Token]) -> Result<((Text, Expr), &[Token]), ReadFailed>
-    ensures { Gives (λ x. (x.0, x.1.now)) result (in_turn word_at (expr_at 32) tokens.now) }
+    ensures { ReadsAs (λ x. (x.0, x.1.now)) result (in_turn word_at (expr_at 32) tokens.now) }
 {
     let (table, rest) = word(tokens)?;
     let (key, rest) = expr(alloc, rest, MOST_DEPTH)?;
@@ -57,7 +57,7 @@ pub fn row_before_equals(
     alloc: Global,
     tokens: &[Token],
 ) -> Result<((Text, Expr), &[Token]), ReadFailed>
-    ensures { Gives (λ x. (x.0, x.1.now)) result (with_mark (in_turn word_at (expr_at 32)) equals_at tokens.now) }
+    ensures { ReadsAs (λ x. (x.0, x.1.now)) result (with_mark (in_turn word_at (expr_at 32)) equals_at tokens.now) }
 {
     let (row, rest) = row(alloc, tokens)?;
     before(row, equals(rest))
@@ -66,7 +66,7 @@ pub fn row_before_equals(
 /// A table and a key, and the `;` behind them.
 #[tactic(auto, unfolding(crate::specs::Pieces::in_turn))]
 pub fn last_row(alloc: Global, tokens: &[Token]) -> Result<((Text, Expr), &[Token]), ReadFailed>
-    ensures { Gives (λ x. (x.0, x.1.now)) result
+    ensures { ReadsAs (λ x. (x.0, x.1.now)) result
         (in_turn word_at (with_mark (expr_at 32) semicolon_at) tokens.now) }
 {
     let (table, rest) = word(tokens)?;
@@ -77,7 +77,7 @@ pub fn last_row(alloc: Global, tokens: &[Token]) -> Result<((Text, Expr), &[Toke
 // A variable, and the `,` behind it.
 #[tactic(auto, unfolding(crate::specs::Pieces::with_mark))]
 fn before_comma(tokens: &[Token]) -> Result<(&Text, &[Token]), ReadFailed>
-    ensures { Gives (λ x. (x.0.now, x.1.now)) result (with_mark word_at comma_at tokens.now) }
+    ensures { ReadsAs (λ x. (x.0.now, x.1.now)) result (with_mark word_at comma_at tokens.now) }
 {
     let (var, rest) = word(tokens)?;
     let rest = comma(rest)?;
@@ -87,7 +87,7 @@ fn before_comma(tokens: &[Token]) -> Result<(&Text, &[Token]), ReadFailed>
 // A variable, and the `in` behind it.
 #[tactic(auto, unfolding(crate::specs::Pieces::with_mark))]
 fn before_in(tokens: &[Token]) -> Result<(&Text, &[Token]), ReadFailed>
-    ensures { Gives (λ x. (x.0.now, x.1.now)) result (with_mark word_at in_at tokens.now) }
+    ensures { ReadsAs (λ x. (x.0.now, x.1.now)) result (with_mark word_at in_at tokens.now) }
 {
     let (var, rest) = word(tokens)?;
     let rest = in_word(rest)?;
@@ -97,7 +97,7 @@ fn before_in(tokens: &[Token]) -> Result<(&Text, &[Token]), ReadFailed>
 /// The variables of a `call`, and the `=` behind them.
 #[tactic(auto, unfolding(crate::specs::Pieces::in_turn))]
 pub fn call_words(alloc: Global, tokens: &[Token]) -> Result<((Text, Text), &[Token]), ReadFailed>
-    ensures { Gives (λ x. (x.0, x.1.now)) result
+    ensures { ReadsAs (λ x. (x.0, x.1.now)) result
         (in_turn (with_mark word_at comma_at) (with_mark word_at equals_at) tokens.now) }
 {
     let (status, rest) = before_comma(tokens)?;
@@ -108,7 +108,7 @@ pub fn call_words(alloc: Global, tokens: &[Token]) -> Result<((Text, Text), &[To
 /// The destination and the method of a `call`.
 #[tactic(auto, unfolding(crate::specs::Pieces::in_turn))]
 pub fn call_head(alloc: Global, tokens: &[Token]) -> Result<((Expr, Method), &[Token]), ReadFailed>
-    ensures { Gives (λ x. (x.0, x.1.now)) result (in_turn (expr_at 32) method_at tokens.now) }
+    ensures { ReadsAs (λ x. (x.0, x.1.now)) result (in_turn (expr_at 32) method_at tokens.now) }
 {
     let (dest, rest) = expr(alloc, tokens, MOST_DEPTH)?;
     beside(dest, method(rest))
@@ -117,7 +117,7 @@ pub fn call_head(alloc: Global, tokens: &[Token]) -> Result<((Expr, Method), &[T
 // The variables of an `each`, and the `in` behind them.
 #[tactic(auto, unfolding(crate::specs::Pieces::in_turn))]
 fn each_words(alloc: Global, tokens: &[Token]) -> Result<((Text, Text), &[Token]), ReadFailed>
-    ensures { Gives (λ x. (x.0, x.1.now)) result
+    ensures { ReadsAs (λ x. (x.0, x.1.now)) result
         (in_turn (with_mark word_at comma_at) (with_mark word_at in_at) tokens.now) }
 {
     let (key, rest) = before_comma(tokens)?;
@@ -131,7 +131,7 @@ pub fn each_head(
     alloc: Global,
     tokens: &[Token],
 ) -> Result<(((Text, Text), (Text, Expr)), &[Token]), ReadFailed>
-    ensures { Gives (λ x. (x.0, x.1.now)) result
+    ensures { ReadsAs (λ x. (x.0, x.1.now)) result
         (in_turn (in_turn (with_mark word_at comma_at) (with_mark word_at in_at)) (in_turn word_at (expr_at 32)) tokens.now) }
 {
     let (words, rest) = each_words(alloc, tokens)?;

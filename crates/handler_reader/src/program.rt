@@ -1,6 +1,6 @@
 // Routes and programs.
 ghost use Rattle.std.specs.Prelude.{◌≡◌};
-ghost use Rattle.handler_reader.specs.Readers.{Gives, most, program_of, route_at, route_in, routes_in};
+ghost use Rattle.handler_reader.specs.Readers.{ReadsAs, most, program_of, route_at, route_in, routes_in};
 
 use crate::joins::beside;
 use crate::marks::{method, pattern, refused};
@@ -13,7 +13,7 @@ use std::alloc::Global;
 
 #[tactic(auto, unfolding(crate::specs::Readers::route_in))]
 fn route_body(alloc: Global, tokens: &[Token]) -> Result<(Route, &[Token]), ReadFailed>
-    ensures { Gives (λ x. (x.0, x.1.now)) result (route_in tokens.now) }
+    ensures { ReadsAs (λ x. (x.0, x.1.now)) result (route_in tokens.now) }
 {
     let (method, rest) = method(tokens)?;
     let (pattern, rest) = pattern(alloc, rest)?;
@@ -28,7 +28,7 @@ fn route_body(alloc: Global, tokens: &[Token]) -> Result<(Route, &[Token]), Read
 
 #[tactic(auto, unfolding(crate::specs::Readers::route_at))]
 fn route(alloc: Global, tokens: &[Token]) -> Result<(Route, &[Token]), ReadFailed>
-    ensures { Gives (λ x. (x.0, x.1.now)) result (route_at tokens.now) }
+    ensures { ReadsAs (λ x. (x.0, x.1.now)) result (route_at tokens.now) }
 {
     match tokens {
         [Token::Route, rest @ ..] => route_body(alloc, rest),
@@ -38,7 +38,7 @@ fn route(alloc: Global, tokens: &[Token]) -> Result<(Route, &[Token]), ReadFaile
 
 /// The routes that the tokens are, all of the tokens.
 pub fn routes(alloc: Global, tokens: &[Token]) -> Result<Routes, ReadFailed>
-    ensures { Gives (λ x. x) result (program_of tokens.now) }
+    ensures { ReadsAs (λ x. x) result (program_of tokens.now) }
 {
     let mut routes = Seq::new(alloc);
     let mut rest = tokens;

@@ -1,7 +1,7 @@
 // Statements and blocks.
 ghost use Rattle.std.specs.Prelude.{◌≡◌};
 ghost use Rattle.handler_reader.specs.Pieces.{in_turn};
-ghost use Rattle.handler_reader.specs.Readers.{block_at, block_in, call_in, drop_in, each_in, else_in, expr_at, get_in, Gives, if_in, let_in, most, now_in, put_in, random_in, reply_in, stmt_in, stmts_in};
+ghost use Rattle.handler_reader.specs.Readers.{block_at, block_in, call_in, drop_in, each_in, else_in, expr_at, get_in, ReadsAs, if_in, let_in, most, now_in, put_in, random_in, reply_in, stmt_in, stmts_in};
 
 use crate::exprs::expr;
 use crate::joins::{beside, made};
@@ -20,7 +20,7 @@ pub const MOST_PARTS: u64 = 65537;
 
 #[tactic(auto, using(crate::proofs::PieceLemmas::let_pieces))]
 fn let_stmt(alloc: Global, tokens: &[Token]) -> Result<(Stmt, &[Token]), ReadFailed>
-    ensures { Gives (λ x. (x.0, x.1.now)) result (let_in (expr_at 32) tokens.now) }
+    ensures { ReadsAs (λ x. (x.0, x.1.now)) result (let_in (expr_at 32) tokens.now) }
 {
     let (var, rest) = before_equals(alloc, tokens)?;
     let ((var, value), rest) = beside(var, last(alloc, rest))?;
@@ -29,7 +29,7 @@ fn let_stmt(alloc: Global, tokens: &[Token]) -> Result<(Stmt, &[Token]), ReadFai
 
 #[tactic(auto, using(crate::proofs::PieceLemmas::get_pieces))]
 fn get_stmt(alloc: Global, tokens: &[Token]) -> Result<(Stmt, &[Token]), ReadFailed>
-    ensures { Gives (λ x. (x.0, x.1.now)) result (get_in (expr_at 32) tokens.now) }
+    ensures { ReadsAs (λ x. (x.0, x.1.now)) result (get_in (expr_at 32) tokens.now) }
 {
     let (var, rest) = before_equals(alloc, tokens)?;
     let ((var, row), rest) = beside(var, last_row(alloc, rest))?;
@@ -39,7 +39,7 @@ fn get_stmt(alloc: Global, tokens: &[Token]) -> Result<(Stmt, &[Token]), ReadFai
 
 #[tactic(auto, using(crate::proofs::PieceLemmas::put_pieces))]
 fn put_stmt(alloc: Global, tokens: &[Token]) -> Result<(Stmt, &[Token]), ReadFailed>
-    ensures { Gives (λ x. (x.0, x.1.now)) result (put_in (expr_at 32) tokens.now) }
+    ensures { ReadsAs (λ x. (x.0, x.1.now)) result (put_in (expr_at 32) tokens.now) }
 {
     let (row, rest) = row_before_equals(alloc, tokens)?;
     let ((row, value), rest) = beside(row, last(alloc, rest))?;
@@ -49,7 +49,7 @@ fn put_stmt(alloc: Global, tokens: &[Token]) -> Result<(Stmt, &[Token]), ReadFai
 
 #[tactic(auto, using(crate::proofs::PieceLemmas::drop_pieces))]
 fn drop_stmt(alloc: Global, tokens: &[Token]) -> Result<(Stmt, &[Token]), ReadFailed>
-    ensures { Gives (λ x. (x.0, x.1.now)) result (drop_in (expr_at 32) tokens.now) }
+    ensures { ReadsAs (λ x. (x.0, x.1.now)) result (drop_in (expr_at 32) tokens.now) }
 {
     let (row, rest) = last_row(alloc, tokens)?;
     let (table, key) = row;
@@ -58,7 +58,7 @@ fn drop_stmt(alloc: Global, tokens: &[Token]) -> Result<(Stmt, &[Token]), ReadFa
 
 #[tactic(auto, using(crate::proofs::PieceLemmas::call_pieces))]
 fn call_stmt(alloc: Global, tokens: &[Token]) -> Result<(Stmt, &[Token]), ReadFailed>
-    ensures { Gives (λ x. (x.0, x.1.now)) result (call_in (expr_at 32) tokens.now) }
+    ensures { ReadsAs (λ x. (x.0, x.1.now)) result (call_in (expr_at 32) tokens.now) }
 {
     let (words, rest) = call_words(alloc, tokens)?;
     let (head, rest) = beside(words, call_head(alloc, rest))?;
@@ -77,7 +77,7 @@ fn call_stmt(alloc: Global, tokens: &[Token]) -> Result<(Stmt, &[Token]), ReadFa
 
 #[tactic(auto, unfolding(crate::specs::Readers::now_in))]
 fn now_stmt(alloc: Global, tokens: &[Token]) -> Result<(Stmt, &[Token]), ReadFailed>
-    ensures { Gives (λ x. (x.0, x.1.now)) result (now_in tokens.now) }
+    ensures { ReadsAs (λ x. (x.0, x.1.now)) result (now_in tokens.now) }
 {
     let (var, rest) = word(tokens)?;
     let rest = semicolon(rest)?;
@@ -87,7 +87,7 @@ fn now_stmt(alloc: Global, tokens: &[Token]) -> Result<(Stmt, &[Token]), ReadFai
 
 #[tactic(auto, unfolding(crate::specs::Readers::random_in))]
 fn random_stmt(alloc: Global, tokens: &[Token]) -> Result<(Stmt, &[Token]), ReadFailed>
-    ensures { Gives (λ x. (x.0, x.1.now)) result (random_in tokens.now) }
+    ensures { ReadsAs (λ x. (x.0, x.1.now)) result (random_in tokens.now) }
 {
     let (var, rest) = word(tokens)?;
     let rest = semicolon(rest)?;
@@ -97,7 +97,7 @@ fn random_stmt(alloc: Global, tokens: &[Token]) -> Result<(Stmt, &[Token]), Read
 
 #[tactic(auto, using(crate::proofs::PieceLemmas::reply_pieces))]
 fn reply_stmt(alloc: Global, tokens: &[Token]) -> Result<(Stmt, &[Token]), ReadFailed>
-    ensures { Gives (λ x. (x.0, x.1.now)) result (reply_in (expr_at 32) tokens.now) }
+    ensures { ReadsAs (λ x. (x.0, x.1.now)) result (reply_in (expr_at 32) tokens.now) }
 {
     let (reply, rest) = last_two(alloc, tokens)?;
     let (status, body) = reply;
@@ -107,7 +107,7 @@ fn reply_stmt(alloc: Global, tokens: &[Token]) -> Result<(Stmt, &[Token]), ReadF
 #[cycle(block)]
 #[tactic(auto, using(crate::proofs::PieceLemmas::each_pieces))]
 fn each_stmt(alloc: Global, tokens: &[Token], levels: u64) -> Result<(Stmt, &[Token]), ReadFailed>
-    ensures { Gives (λ x. (x.0, x.1.now)) result (each_in (expr_at 32) (block_at levels) tokens.now) }
+    ensures { ReadsAs (λ x. (x.0, x.1.now)) result (each_in (expr_at 32) (block_at levels) tokens.now) }
 {
     let (head, rest) = each_head(alloc, tokens)?;
     let ((head, block), rest) = beside(head, block(alloc, rest, levels))?;
@@ -129,7 +129,7 @@ fn else_block(
     tokens: &[Token],
     levels: u64,
 ) -> Result<(Option<Block>, &[Token]), ReadFailed>
-    ensures { Gives (λ x. (x.0, x.1.now)) result (else_in (block_at levels) tokens.now) }
+    ensures { ReadsAs (λ x. (x.0, x.1.now)) result (else_in (block_at levels) tokens.now) }
 {
     match tokens {
         [Token::Else, rest @ ..] => {
@@ -148,7 +148,7 @@ fn blocks(
     tokens: &[Token],
     levels: u64,
 ) -> Result<((Block, Option<Block>), &[Token]), ReadFailed>
-    ensures { Gives (λ x. (x.0, x.1.now)) result (in_turn (block_at levels) (else_in (block_at levels)) tokens.now) }
+    ensures { ReadsAs (λ x. (x.0, x.1.now)) result (in_turn (block_at levels) (else_in (block_at levels)) tokens.now) }
 {
     let (then, rest) = block(alloc, tokens, levels)?;
     beside(then, else_block(alloc, rest, levels))
@@ -157,7 +157,7 @@ fn blocks(
 #[cycle(block)]
 #[tactic(auto, using(crate::proofs::PieceLemmas::if_pieces))]
 fn if_stmt(alloc: Global, tokens: &[Token], levels: u64) -> Result<(Stmt, &[Token]), ReadFailed>
-    ensures { Gives (λ x. (x.0, x.1.now)) result (if_in (expr_at 32) (block_at levels) tokens.now) }
+    ensures { ReadsAs (λ x. (x.0, x.1.now)) result (if_in (expr_at 32) (block_at levels) tokens.now) }
 {
     let (test, rest) = expr(alloc, tokens, MOST_DEPTH)?;
     let ((test, blocks), rest) = beside(test, blocks(alloc, rest, levels))?;
@@ -168,7 +168,7 @@ fn if_stmt(alloc: Global, tokens: &[Token], levels: u64) -> Result<(Stmt, &[Toke
 #[cycle(block)]
 #[tactic(auto, unfolding(crate::specs::Readers::stmt_in))]
 fn stmt(alloc: Global, tokens: &[Token], levels: u64) -> Result<(Stmt, &[Token]), ReadFailed>
-    ensures { Gives (λ x. (x.0, x.1.now)) result (stmt_in (expr_at 32) (block_at levels) tokens.now) }
+    ensures { ReadsAs (λ x. (x.0, x.1.now)) result (stmt_in (expr_at 32) (block_at levels) tokens.now) }
 {
     match tokens {
         [Token::Let, rest @ ..] => let_stmt(alloc, rest),
@@ -191,7 +191,7 @@ fn stmts(
     tokens: &[Token],
     levels: u64,
 ) -> Result<(Items<Stmt>, &[Token]), ReadFailed>
-    ensures { Gives (λ x. (x.0, x.1.now)) result (stmts_in most (stmt_in (expr_at 32) (block_at levels)) tokens.now) }
+    ensures { ReadsAs (λ x. (x.0, x.1.now)) result (stmts_in most (stmt_in (expr_at 32) (block_at levels)) tokens.now) }
 {
     let mut stmts = Items::new(alloc);
     let mut rest = tokens;
@@ -209,7 +209,7 @@ fn stmts(
 #[cycle(block)]
 #[tactic(auto, unfolding(crate::specs::Readers::block_in))]
 fn any_block(alloc: Global, tokens: &[Token], levels: u64) -> Result<(Block, &[Token]), ReadFailed>
-    ensures { Gives (λ x. (x.0, x.1.now)) result (block_in (block_at levels) tokens.now) }
+    ensures { ReadsAs (λ x. (x.0, x.1.now)) result (block_in (block_at levels) tokens.now) }
 {
     match tokens {
         [Token::Open, rest @ ..] => {
@@ -224,7 +224,7 @@ fn any_block(alloc: Global, tokens: &[Token], levels: u64) -> Result<(Block, &[T
 #[cycle(block)]
 #[tactic(auto, using(crate::proofs::Levels::block_levels))]
 pub fn block(alloc: Global, tokens: &[Token], levels: u64) -> Result<(Block, &[Token]), ReadFailed>
-    ensures { Gives (λ x. (x.0, x.1.now)) result (block_at levels tokens.now) }
+    ensures { ReadsAs (λ x. (x.0, x.1.now)) result (block_at levels tokens.now) }
 {
     if levels == 0 {
         return Err(ReadFailed::At(deep_block(tokens)));

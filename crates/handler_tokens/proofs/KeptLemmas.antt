@@ -9,7 +9,8 @@ use Rattle.std.proofs.lemmas.Bool.Decides.{nat_tests}
 use Rattle.std.proofs.lemmas.List.{length-drop}
 use Rattle.std.proofs.lemmas.Bool.{and_from}
 use Rattle.lang_tree.specs.Depths.{is_natural}
-use Rattle.lang_tree.specs.Forms.{begins_with_digit, is_literal, is_literal_byte, is_reserved, is_text, is_word, is_word_byte}
+use Rattle.lang_base.specs.Texts.{same_text}
+use Rattle.lang_tree.specs.Forms.{begins_with_digit, is_literal, is_literal_byte, is_reserved, is_word, is_word_byte}
 use Rattle.lang_tree.specs.declared.method.Method.TheVariants as methods
 use Rattle.handler_tokens.specs.declared.token.Token.{Token}
 use Rattle.handler_tokens.specs.declared.token.Token.TheVariants as token
@@ -17,27 +18,27 @@ use Rattle.handler_tokens.specs.Lexing.{Placed, in_front, in_front_if, is_bad, i
 use Rattle.handler_tokens.proofs.GapLemmas.{all_in_run}
 
 -- what is known of a token of a text of at most 65,536 bytes
-abbrev pub Kept : Token → Type 0
-Kept (token.Integer n) = is_natural n ≡ true
-Kept (token.Str text) = is_literal text ≡ true
-Kept (token.Word name) = is_word name ≡ true
-Kept _ = Unit {0}
+abbrev pub IsKept : Token → Type 0
+IsKept (token.Integer n) = is_natural n ≡ true
+IsKept (token.Str text) = is_literal text ≡ true
+IsKept (token.Word name) = is_word name ≡ true
+IsKept _ = Unit {0}
 
 abbrev pub AreKept : List Token → Type 0
-AreKept ts = AllByRecursion Kept ts
+AreKept ts = AllByRecursion IsKept ts
 
 -- a token that stands in front of these bytes, and what stands behind it
 record IsCut (t : Token × List ℕ) (bs : List ℕ) : Type 0 where
-  kept : Kept t.0
+  kept : IsKept t.0
   short : length t.1 ≤ length bs
 
 -- ---- numbers
 
-number_by : (b : Bool) (n : ℕ) → Kept (cond b (token.Integer (pos n)) token.BadNumber)
+number_by : (b : Bool) (n : ℕ) → IsKept (cond b (token.Integer (pos n)) token.BadNumber)
 number_by true n = refl
 number_by false n = tt
 
-number_kept : (ds : List ℕ) → Kept (number ds)
+number_kept : (ds : List ℕ) → IsKept (number ds)
 number_kept ds = number_by (is_numeral ds && nat_lt (digits_value 10 ds) 9223372036854775808) (digits_value 10 ds)
 
 drop_short : (n : ℕ) (bs : List ℕ) → length (drop n bs) ≤ length bs
@@ -51,19 +52,19 @@ number_cut bs = record { kept = number_kept (take (prefix_len is_ascii_digit bs)
 
 abbrev KeptOr : Option Token → Type 0
 KeptOr None = Unit {0}
-KeptOr (Some t) = Kept t
+KeptOr (Some t) = IsKept t
 
 -- none, or a token of which this is known
 record IsKeptOr (o : Option Token) : Type 0 where
   is : KeptOr o
 
-kept_or : {more : Option Token} (b : Bool) (u : Token) → Kept u → IsKeptOr more → IsKeptOr (cond b (Some u) more)
+kept_or : {more : Option Token} (b : Bool) (u : Token) → IsKept u → IsKeptOr more → IsKeptOr (cond b (Some u) more)
 kept_or true u h g = record { is = h }
 kept_or false u h g = g
 
 quoted_kept : (w : List ℕ) → IsKeptOr (quoted w)
 unfolding quoted
-quoted_kept w = kept_or (is_text w (codes "route")) token.Route tt (kept_or (is_text w (codes "let")) token.Let tt (kept_or (is_text w (codes "get")) token.Get tt (kept_or (is_text w (codes "put")) token.Put tt (kept_or (is_text w (codes "drop")) token.Drop tt (kept_or (is_text w (codes "each")) token.Each tt (kept_or (is_text w (codes "in")) token.In tt (kept_or (is_text w (codes "if")) token.If tt (kept_or (is_text w (codes "else")) token.Else tt (kept_or (is_text w (codes "call")) token.Call tt (kept_or (is_text w (codes "now")) token.Now tt (kept_or (is_text w (codes "random")) token.Random tt (kept_or (is_text w (codes "reply")) token.Reply tt (kept_or (is_text w (codes "nothing")) token.Nothing tt (kept_or (is_text w (codes "body")) token.Body tt (kept_or (is_text w (codes "who")) token.Who tt (kept_or (is_text w (codes "path")) token.Path tt (kept_or (is_text w (codes "part")) token.Part tt (kept_or (is_text w (codes "number")) token.Number tt (kept_or (is_text w (codes "text")) token.AsText tt (kept_or (is_text w (codes "GET")) (token.Method methods.Get) tt (kept_or (is_text w (codes "PUT")) (token.Method methods.Put) tt (kept_or (is_text w (codes "POST")) (token.Method methods.Post) tt (kept_or (is_text w (codes "DELETE")) (token.Method methods.Delete) tt (record { is = tt }))))))))))))))))))))))))
+quoted_kept w = kept_or (same_text w (codes "route")) token.Route tt (kept_or (same_text w (codes "let")) token.Let tt (kept_or (same_text w (codes "get")) token.Get tt (kept_or (same_text w (codes "put")) token.Put tt (kept_or (same_text w (codes "drop")) token.Drop tt (kept_or (same_text w (codes "each")) token.Each tt (kept_or (same_text w (codes "in")) token.In tt (kept_or (same_text w (codes "if")) token.If tt (kept_or (same_text w (codes "else")) token.Else tt (kept_or (same_text w (codes "call")) token.Call tt (kept_or (same_text w (codes "now")) token.Now tt (kept_or (same_text w (codes "random")) token.Random tt (kept_or (same_text w (codes "reply")) token.Reply tt (kept_or (same_text w (codes "nothing")) token.Nothing tt (kept_or (same_text w (codes "body")) token.Body tt (kept_or (same_text w (codes "who")) token.Who tt (kept_or (same_text w (codes "path")) token.Path tt (kept_or (same_text w (codes "part")) token.Part tt (kept_or (same_text w (codes "number")) token.Number tt (kept_or (same_text w (codes "text")) token.AsText tt (kept_or (same_text w (codes "GET")) (token.Method methods.Get) tt (kept_or (same_text w (codes "PUT")) (token.Method methods.Put) tt (kept_or (same_text w (codes "POST")) (token.Method methods.Post) tt (kept_or (same_text w (codes "DELETE")) (token.Method methods.Delete) tt (record { is = tt }))))))))))))))))))))))))
 
 -- neither what was tried before nor this word
 record IsOther (acc : Bool) (o : Option Token) : Type 0 where
@@ -81,7 +82,7 @@ first_tried false u more h = record { differs = refl; none = h }
 
 not_reserved : (w : List ℕ) → quoted w ≡ None → is_reserved w ≡ false
 unfolding quoted
-not_reserved w h = (tried _ (is_text w (codes "DELETE")) (token.Method methods.Delete) _ (tried _ (is_text w (codes "POST")) (token.Method methods.Post) _ (tried _ (is_text w (codes "PUT")) (token.Method methods.Put) _ (tried _ (is_text w (codes "GET")) (token.Method methods.Get) _ (tried _ (is_text w (codes "text")) token.AsText _ (tried _ (is_text w (codes "number")) token.Number _ (tried _ (is_text w (codes "part")) token.Part _ (tried _ (is_text w (codes "path")) token.Path _ (tried _ (is_text w (codes "who")) token.Who _ (tried _ (is_text w (codes "body")) token.Body _ (tried _ (is_text w (codes "nothing")) token.Nothing _ (tried _ (is_text w (codes "reply")) token.Reply _ (tried _ (is_text w (codes "random")) token.Random _ (tried _ (is_text w (codes "now")) token.Now _ (tried _ (is_text w (codes "call")) token.Call _ (tried _ (is_text w (codes "else")) token.Else _ (tried _ (is_text w (codes "if")) token.If _ (tried _ (is_text w (codes "in")) token.In _ (tried _ (is_text w (codes "each")) token.Each _ (tried _ (is_text w (codes "drop")) token.Drop _ (tried _ (is_text w (codes "put")) token.Put _ (tried _ (is_text w (codes "get")) token.Get _ (tried _ (is_text w (codes "let")) token.Let _ (first_tried (is_text w (codes "route")) token.Route _ h)))))))))))))))))))))))).differs
+not_reserved w h = (tried _ (same_text w (codes "DELETE")) (token.Method methods.Delete) _ (tried _ (same_text w (codes "POST")) (token.Method methods.Post) _ (tried _ (same_text w (codes "PUT")) (token.Method methods.Put) _ (tried _ (same_text w (codes "GET")) (token.Method methods.Get) _ (tried _ (same_text w (codes "text")) token.AsText _ (tried _ (same_text w (codes "number")) token.Number _ (tried _ (same_text w (codes "part")) token.Part _ (tried _ (same_text w (codes "path")) token.Path _ (tried _ (same_text w (codes "who")) token.Who _ (tried _ (same_text w (codes "body")) token.Body _ (tried _ (same_text w (codes "nothing")) token.Nothing _ (tried _ (same_text w (codes "reply")) token.Reply _ (tried _ (same_text w (codes "random")) token.Random _ (tried _ (same_text w (codes "now")) token.Now _ (tried _ (same_text w (codes "call")) token.Call _ (tried _ (same_text w (codes "else")) token.Else _ (tried _ (same_text w (codes "if")) token.If _ (tried _ (same_text w (codes "in")) token.In _ (tried _ (same_text w (codes "each")) token.Each _ (tried _ (same_text w (codes "drop")) token.Drop _ (tried _ (same_text w (codes "put")) token.Put _ (tried _ (same_text w (codes "get")) token.Get _ (tried _ (same_text w (codes "let")) token.Let _ (first_tried (same_text w (codes "route")) token.Route _ h)))))))))))))))))))))))).differs
 
 abbrev no_digit : List ℕ → Type 0
 no_digit w = begins_with_digit w ≡ false
@@ -97,23 +98,23 @@ named w r short free =
     let le : nat_le (length w) 32 ≡ true = grind (arith, nat_tests) in
     rw (some, le, r.parts, r.begins, free) refl
 
-word_by : (w : List ℕ) (b : Bool) → IsRun w → nat_lt 32 (length w) ≡ b → is_reserved w ≡ false → Kept (cond b token.Stray (token.Word w))
+word_by : (w : List ℕ) (b : Bool) → IsRun w → nat_lt 32 (length w) ≡ b → is_reserved w ≡ false → IsKept (cond b token.Stray (token.Word w))
 word_by w true r e free = tt
 word_by w false r e free = named w r e free
 
-word_or : (w : List ℕ) (o : Option Token) → IsRun w → quoted w ≡ o → IsKeptOr o → Kept (quoted_or o w)
+word_or : (w : List ℕ) (o : Option Token) → IsRun w → quoted w ≡ o → IsKeptOr o → IsKept (quoted_or o w)
 word_or w (Some t) r e k = k.is
 word_or w None r e k = word_by w (nat_lt 32 (length w)) r refl (not_reserved w e)
 
-word_kept : (w : List ℕ) → IsRun w → Kept (word w)
+word_kept : (w : List ℕ) → IsRun w → IsKept (word w)
 word_kept w r = word_or w (quoted w) r refl (quoted_kept w)
 
 run_first : (p : ℕ → Bool) (b : ℕ) (bs : List ℕ) → p b ≡ true → take (prefix_len p (b ∷ bs)) (b ∷ bs) ≡ b ∷ take (prefix_len p bs) bs
 run_first p b bs e = let one : 1 + prefix_len p bs ≡ suc (prefix_len p bs) = omega arith in rw (e, one) refl
 
-run_of : (b : ℕ) (bs : List ℕ) → is_ascii_digit b ≡ false → is_word_part b ≡ true → IsRun (take (prefix_len is_word_part (b ∷ bs)) (b ∷ bs))
+word_run : (b : ℕ) (bs : List ℕ) → is_ascii_digit b ≡ false → is_word_part b ≡ true → IsRun (take (prefix_len is_word_part (b ∷ bs)) (b ∷ bs))
 unfolding is_word_part
-run_of b bs digit part =
+word_run b bs digit part =
     let e = run_first is_word_part b bs part in
     record {
       some = rw e (omega arith);
@@ -123,7 +124,7 @@ run_of b bs digit part =
 
 word_cut : (b : ℕ) (bs : List ℕ) → is_ascii_digit b ≡ false → is_word_part b ≡ true → IsCut (word_in (run is_word_part (b ∷ bs))) (b ∷ bs)
 unfolding run
-word_cut b bs digit part = record { kept = word_kept (take (prefix_len is_word_part (b ∷ bs)) (b ∷ bs)) (run_of b bs digit part); short = drop_short (prefix_len is_word_part (b ∷ bs)) (b ∷ bs) }
+word_cut b bs digit part = record { kept = word_kept (take (prefix_len is_word_part (b ∷ bs)) (b ∷ bs)) (word_run b bs digit part); short = drop_short (prefix_len is_word_part (b ∷ bs)) (b ∷ bs) }
 
 -- ---- strings
 
@@ -189,7 +190,7 @@ cut_or : {t u : Token × List ℕ} {bs : List ℕ} (b : Bool) → IsCut t bs →
 cut_or true h g = h
 cut_or false h g = g
 
-plain_cut : (t : Token) (bs : List ℕ) → Kept t → IsCut (t, bs) bs
+plain_cut : (t : Token) (bs : List ℕ) → IsKept t → IsCut (t, bs) bs
 plain_cut t bs h = record { kept = h; short = omega arith }
 
 plus_cut : (bs : List ℕ) → IsCut (plus_at bs) bs

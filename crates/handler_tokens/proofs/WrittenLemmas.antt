@@ -6,11 +6,12 @@ use Rattle.std.specs.Fmt.{decimal}
 use Rattle.std.specs.List.{AllByRecursion, flat_map, list_all, prefix_len}
 use Rattle.std.specs.Str.{is_utf8}
 use Rattle.std.specs.Str.Parse.{digits_value}
-use Rattle.std.proofs.lemmas.Bool.{and_parts, lt-ltb, ltb-true}
+use Rattle.std.proofs.lemmas.Bool.{and_parts, lt-ltb, ltb-true, not-true}
 use Rattle.std.proofs.lemmas.Bool.Decides.{nat_tests}
 use Rattle.std.proofs.lemmas.Fmt.{decimal_digit, decimal_nonempty, digits_decimal, digits_value-decimal, first_decimal}
 use Rattle.std.proofs.lemmas.List.{drop_at, length-append, take_at}
-use Rattle.lang_tree.specs.Forms.{begins_with_digit, is_literal_byte, is_reserved, is_text, is_word, is_word_byte}
+use Rattle.lang_base.specs.Texts.{same_text}
+use Rattle.lang_tree.specs.Forms.{begins_with_digit, is_literal_byte, is_reserved, is_word, is_word_byte}
 use Rattle.lang_tree.specs.declared.method.Method.TheVariants as methods
 use Rattle.handler_tokens.specs.declared.token.Token.{Token}
 use Rattle.handler_tokens.specs.declared.token.Token.TheVariants as token
@@ -61,10 +62,6 @@ word_no_gap : (b : ℕ) → is_word_part b ≡ true → (is_blank b ≡ false) �
 unfolding is_word_part
 word_no_gap b h = (grind (arith, nat_tests), grind (arith, nat_tests))
 
-not_is : (t : Bool) → not t ≡ true → t ≡ false
-not_is true h = absurd cc
-not_is false h = refl
-
 record IsName (w : List ℕ) : Type 0 where
   short : nat_lt 32 (length w) ≡ false
   parts : list_all is_word_byte w ≡ true
@@ -78,13 +75,13 @@ name_of w h =
     let b = and_parts (not (nat_eq (length w) 0) && nat_le (length w) 32 && list_all is_word_byte w) (not (begins_with_digit w)) a.0 in
     let c = and_parts (not (nat_eq (length w) 0) && nat_le (length w) 32) (list_all is_word_byte w) b.0 in
     let d = and_parts (not (nat_eq (length w) 0)) (nat_le (length w) 32) c.0 in
-    let e : nat_eq (length w) 0 ≡ false = not_is (nat_eq (length w) 0) d.0 in
+    let e : nat_eq (length w) 0 ≡ false = not-true (nat_eq (length w) 0) d.0 in
     let le : nat_le (length w) 32 ≡ true = d.1 in
     record {
       short = grind (arith, nat_tests);
       parts = c.1;
-      begins = not_is (begins_with_digit w) b.1;
-      free = not_is (is_reserved w) a.1;
+      begins = not-true (begins_with_digit w) b.1;
+      free = not-true (is_reserved w) a.1;
       some = grind (arith, nat_tests);
     }
 
@@ -95,29 +92,29 @@ left_free false b h = (refl, h)
 free_word : (w : List ℕ) → is_reserved w ≡ false → quoted w ≡ None
 unfolding quoted
 free_word w h0 =
-    let h24 = left_free (is_text w (codes "route") || is_text w (codes "let") || is_text w (codes "get") || is_text w (codes "put") || is_text w (codes "drop") || is_text w (codes "each") || is_text w (codes "in") || is_text w (codes "if") || is_text w (codes "else") || is_text w (codes "call") || is_text w (codes "now") || is_text w (codes "random") || is_text w (codes "reply") || is_text w (codes "nothing") || is_text w (codes "body") || is_text w (codes "who") || is_text w (codes "path") || is_text w (codes "part") || is_text w (codes "number") || is_text w (codes "text") || is_text w (codes "GET") || is_text w (codes "PUT") || is_text w (codes "POST")) (is_text w (codes "DELETE")) h0 in
-    let h23 = left_free (is_text w (codes "route") || is_text w (codes "let") || is_text w (codes "get") || is_text w (codes "put") || is_text w (codes "drop") || is_text w (codes "each") || is_text w (codes "in") || is_text w (codes "if") || is_text w (codes "else") || is_text w (codes "call") || is_text w (codes "now") || is_text w (codes "random") || is_text w (codes "reply") || is_text w (codes "nothing") || is_text w (codes "body") || is_text w (codes "who") || is_text w (codes "path") || is_text w (codes "part") || is_text w (codes "number") || is_text w (codes "text") || is_text w (codes "GET") || is_text w (codes "PUT")) (is_text w (codes "POST")) h24.0 in
-    let h22 = left_free (is_text w (codes "route") || is_text w (codes "let") || is_text w (codes "get") || is_text w (codes "put") || is_text w (codes "drop") || is_text w (codes "each") || is_text w (codes "in") || is_text w (codes "if") || is_text w (codes "else") || is_text w (codes "call") || is_text w (codes "now") || is_text w (codes "random") || is_text w (codes "reply") || is_text w (codes "nothing") || is_text w (codes "body") || is_text w (codes "who") || is_text w (codes "path") || is_text w (codes "part") || is_text w (codes "number") || is_text w (codes "text") || is_text w (codes "GET")) (is_text w (codes "PUT")) h23.0 in
-    let h21 = left_free (is_text w (codes "route") || is_text w (codes "let") || is_text w (codes "get") || is_text w (codes "put") || is_text w (codes "drop") || is_text w (codes "each") || is_text w (codes "in") || is_text w (codes "if") || is_text w (codes "else") || is_text w (codes "call") || is_text w (codes "now") || is_text w (codes "random") || is_text w (codes "reply") || is_text w (codes "nothing") || is_text w (codes "body") || is_text w (codes "who") || is_text w (codes "path") || is_text w (codes "part") || is_text w (codes "number") || is_text w (codes "text")) (is_text w (codes "GET")) h22.0 in
-    let h20 = left_free (is_text w (codes "route") || is_text w (codes "let") || is_text w (codes "get") || is_text w (codes "put") || is_text w (codes "drop") || is_text w (codes "each") || is_text w (codes "in") || is_text w (codes "if") || is_text w (codes "else") || is_text w (codes "call") || is_text w (codes "now") || is_text w (codes "random") || is_text w (codes "reply") || is_text w (codes "nothing") || is_text w (codes "body") || is_text w (codes "who") || is_text w (codes "path") || is_text w (codes "part") || is_text w (codes "number")) (is_text w (codes "text")) h21.0 in
-    let h19 = left_free (is_text w (codes "route") || is_text w (codes "let") || is_text w (codes "get") || is_text w (codes "put") || is_text w (codes "drop") || is_text w (codes "each") || is_text w (codes "in") || is_text w (codes "if") || is_text w (codes "else") || is_text w (codes "call") || is_text w (codes "now") || is_text w (codes "random") || is_text w (codes "reply") || is_text w (codes "nothing") || is_text w (codes "body") || is_text w (codes "who") || is_text w (codes "path") || is_text w (codes "part")) (is_text w (codes "number")) h20.0 in
-    let h18 = left_free (is_text w (codes "route") || is_text w (codes "let") || is_text w (codes "get") || is_text w (codes "put") || is_text w (codes "drop") || is_text w (codes "each") || is_text w (codes "in") || is_text w (codes "if") || is_text w (codes "else") || is_text w (codes "call") || is_text w (codes "now") || is_text w (codes "random") || is_text w (codes "reply") || is_text w (codes "nothing") || is_text w (codes "body") || is_text w (codes "who") || is_text w (codes "path")) (is_text w (codes "part")) h19.0 in
-    let h17 = left_free (is_text w (codes "route") || is_text w (codes "let") || is_text w (codes "get") || is_text w (codes "put") || is_text w (codes "drop") || is_text w (codes "each") || is_text w (codes "in") || is_text w (codes "if") || is_text w (codes "else") || is_text w (codes "call") || is_text w (codes "now") || is_text w (codes "random") || is_text w (codes "reply") || is_text w (codes "nothing") || is_text w (codes "body") || is_text w (codes "who")) (is_text w (codes "path")) h18.0 in
-    let h16 = left_free (is_text w (codes "route") || is_text w (codes "let") || is_text w (codes "get") || is_text w (codes "put") || is_text w (codes "drop") || is_text w (codes "each") || is_text w (codes "in") || is_text w (codes "if") || is_text w (codes "else") || is_text w (codes "call") || is_text w (codes "now") || is_text w (codes "random") || is_text w (codes "reply") || is_text w (codes "nothing") || is_text w (codes "body")) (is_text w (codes "who")) h17.0 in
-    let h15 = left_free (is_text w (codes "route") || is_text w (codes "let") || is_text w (codes "get") || is_text w (codes "put") || is_text w (codes "drop") || is_text w (codes "each") || is_text w (codes "in") || is_text w (codes "if") || is_text w (codes "else") || is_text w (codes "call") || is_text w (codes "now") || is_text w (codes "random") || is_text w (codes "reply") || is_text w (codes "nothing")) (is_text w (codes "body")) h16.0 in
-    let h14 = left_free (is_text w (codes "route") || is_text w (codes "let") || is_text w (codes "get") || is_text w (codes "put") || is_text w (codes "drop") || is_text w (codes "each") || is_text w (codes "in") || is_text w (codes "if") || is_text w (codes "else") || is_text w (codes "call") || is_text w (codes "now") || is_text w (codes "random") || is_text w (codes "reply")) (is_text w (codes "nothing")) h15.0 in
-    let h13 = left_free (is_text w (codes "route") || is_text w (codes "let") || is_text w (codes "get") || is_text w (codes "put") || is_text w (codes "drop") || is_text w (codes "each") || is_text w (codes "in") || is_text w (codes "if") || is_text w (codes "else") || is_text w (codes "call") || is_text w (codes "now") || is_text w (codes "random")) (is_text w (codes "reply")) h14.0 in
-    let h12 = left_free (is_text w (codes "route") || is_text w (codes "let") || is_text w (codes "get") || is_text w (codes "put") || is_text w (codes "drop") || is_text w (codes "each") || is_text w (codes "in") || is_text w (codes "if") || is_text w (codes "else") || is_text w (codes "call") || is_text w (codes "now")) (is_text w (codes "random")) h13.0 in
-    let h11 = left_free (is_text w (codes "route") || is_text w (codes "let") || is_text w (codes "get") || is_text w (codes "put") || is_text w (codes "drop") || is_text w (codes "each") || is_text w (codes "in") || is_text w (codes "if") || is_text w (codes "else") || is_text w (codes "call")) (is_text w (codes "now")) h12.0 in
-    let h10 = left_free (is_text w (codes "route") || is_text w (codes "let") || is_text w (codes "get") || is_text w (codes "put") || is_text w (codes "drop") || is_text w (codes "each") || is_text w (codes "in") || is_text w (codes "if") || is_text w (codes "else")) (is_text w (codes "call")) h11.0 in
-    let h9 = left_free (is_text w (codes "route") || is_text w (codes "let") || is_text w (codes "get") || is_text w (codes "put") || is_text w (codes "drop") || is_text w (codes "each") || is_text w (codes "in") || is_text w (codes "if")) (is_text w (codes "else")) h10.0 in
-    let h8 = left_free (is_text w (codes "route") || is_text w (codes "let") || is_text w (codes "get") || is_text w (codes "put") || is_text w (codes "drop") || is_text w (codes "each") || is_text w (codes "in")) (is_text w (codes "if")) h9.0 in
-    let h7 = left_free (is_text w (codes "route") || is_text w (codes "let") || is_text w (codes "get") || is_text w (codes "put") || is_text w (codes "drop") || is_text w (codes "each")) (is_text w (codes "in")) h8.0 in
-    let h6 = left_free (is_text w (codes "route") || is_text w (codes "let") || is_text w (codes "get") || is_text w (codes "put") || is_text w (codes "drop")) (is_text w (codes "each")) h7.0 in
-    let h5 = left_free (is_text w (codes "route") || is_text w (codes "let") || is_text w (codes "get") || is_text w (codes "put")) (is_text w (codes "drop")) h6.0 in
-    let h4 = left_free (is_text w (codes "route") || is_text w (codes "let") || is_text w (codes "get")) (is_text w (codes "put")) h5.0 in
-    let h3 = left_free (is_text w (codes "route") || is_text w (codes "let")) (is_text w (codes "get")) h4.0 in
-    let h2 = left_free (is_text w (codes "route")) (is_text w (codes "let")) h3.0 in
+    let h24 = left_free (same_text w (codes "route") || same_text w (codes "let") || same_text w (codes "get") || same_text w (codes "put") || same_text w (codes "drop") || same_text w (codes "each") || same_text w (codes "in") || same_text w (codes "if") || same_text w (codes "else") || same_text w (codes "call") || same_text w (codes "now") || same_text w (codes "random") || same_text w (codes "reply") || same_text w (codes "nothing") || same_text w (codes "body") || same_text w (codes "who") || same_text w (codes "path") || same_text w (codes "part") || same_text w (codes "number") || same_text w (codes "text") || same_text w (codes "GET") || same_text w (codes "PUT") || same_text w (codes "POST")) (same_text w (codes "DELETE")) h0 in
+    let h23 = left_free (same_text w (codes "route") || same_text w (codes "let") || same_text w (codes "get") || same_text w (codes "put") || same_text w (codes "drop") || same_text w (codes "each") || same_text w (codes "in") || same_text w (codes "if") || same_text w (codes "else") || same_text w (codes "call") || same_text w (codes "now") || same_text w (codes "random") || same_text w (codes "reply") || same_text w (codes "nothing") || same_text w (codes "body") || same_text w (codes "who") || same_text w (codes "path") || same_text w (codes "part") || same_text w (codes "number") || same_text w (codes "text") || same_text w (codes "GET") || same_text w (codes "PUT")) (same_text w (codes "POST")) h24.0 in
+    let h22 = left_free (same_text w (codes "route") || same_text w (codes "let") || same_text w (codes "get") || same_text w (codes "put") || same_text w (codes "drop") || same_text w (codes "each") || same_text w (codes "in") || same_text w (codes "if") || same_text w (codes "else") || same_text w (codes "call") || same_text w (codes "now") || same_text w (codes "random") || same_text w (codes "reply") || same_text w (codes "nothing") || same_text w (codes "body") || same_text w (codes "who") || same_text w (codes "path") || same_text w (codes "part") || same_text w (codes "number") || same_text w (codes "text") || same_text w (codes "GET")) (same_text w (codes "PUT")) h23.0 in
+    let h21 = left_free (same_text w (codes "route") || same_text w (codes "let") || same_text w (codes "get") || same_text w (codes "put") || same_text w (codes "drop") || same_text w (codes "each") || same_text w (codes "in") || same_text w (codes "if") || same_text w (codes "else") || same_text w (codes "call") || same_text w (codes "now") || same_text w (codes "random") || same_text w (codes "reply") || same_text w (codes "nothing") || same_text w (codes "body") || same_text w (codes "who") || same_text w (codes "path") || same_text w (codes "part") || same_text w (codes "number") || same_text w (codes "text")) (same_text w (codes "GET")) h22.0 in
+    let h20 = left_free (same_text w (codes "route") || same_text w (codes "let") || same_text w (codes "get") || same_text w (codes "put") || same_text w (codes "drop") || same_text w (codes "each") || same_text w (codes "in") || same_text w (codes "if") || same_text w (codes "else") || same_text w (codes "call") || same_text w (codes "now") || same_text w (codes "random") || same_text w (codes "reply") || same_text w (codes "nothing") || same_text w (codes "body") || same_text w (codes "who") || same_text w (codes "path") || same_text w (codes "part") || same_text w (codes "number")) (same_text w (codes "text")) h21.0 in
+    let h19 = left_free (same_text w (codes "route") || same_text w (codes "let") || same_text w (codes "get") || same_text w (codes "put") || same_text w (codes "drop") || same_text w (codes "each") || same_text w (codes "in") || same_text w (codes "if") || same_text w (codes "else") || same_text w (codes "call") || same_text w (codes "now") || same_text w (codes "random") || same_text w (codes "reply") || same_text w (codes "nothing") || same_text w (codes "body") || same_text w (codes "who") || same_text w (codes "path") || same_text w (codes "part")) (same_text w (codes "number")) h20.0 in
+    let h18 = left_free (same_text w (codes "route") || same_text w (codes "let") || same_text w (codes "get") || same_text w (codes "put") || same_text w (codes "drop") || same_text w (codes "each") || same_text w (codes "in") || same_text w (codes "if") || same_text w (codes "else") || same_text w (codes "call") || same_text w (codes "now") || same_text w (codes "random") || same_text w (codes "reply") || same_text w (codes "nothing") || same_text w (codes "body") || same_text w (codes "who") || same_text w (codes "path")) (same_text w (codes "part")) h19.0 in
+    let h17 = left_free (same_text w (codes "route") || same_text w (codes "let") || same_text w (codes "get") || same_text w (codes "put") || same_text w (codes "drop") || same_text w (codes "each") || same_text w (codes "in") || same_text w (codes "if") || same_text w (codes "else") || same_text w (codes "call") || same_text w (codes "now") || same_text w (codes "random") || same_text w (codes "reply") || same_text w (codes "nothing") || same_text w (codes "body") || same_text w (codes "who")) (same_text w (codes "path")) h18.0 in
+    let h16 = left_free (same_text w (codes "route") || same_text w (codes "let") || same_text w (codes "get") || same_text w (codes "put") || same_text w (codes "drop") || same_text w (codes "each") || same_text w (codes "in") || same_text w (codes "if") || same_text w (codes "else") || same_text w (codes "call") || same_text w (codes "now") || same_text w (codes "random") || same_text w (codes "reply") || same_text w (codes "nothing") || same_text w (codes "body")) (same_text w (codes "who")) h17.0 in
+    let h15 = left_free (same_text w (codes "route") || same_text w (codes "let") || same_text w (codes "get") || same_text w (codes "put") || same_text w (codes "drop") || same_text w (codes "each") || same_text w (codes "in") || same_text w (codes "if") || same_text w (codes "else") || same_text w (codes "call") || same_text w (codes "now") || same_text w (codes "random") || same_text w (codes "reply") || same_text w (codes "nothing")) (same_text w (codes "body")) h16.0 in
+    let h14 = left_free (same_text w (codes "route") || same_text w (codes "let") || same_text w (codes "get") || same_text w (codes "put") || same_text w (codes "drop") || same_text w (codes "each") || same_text w (codes "in") || same_text w (codes "if") || same_text w (codes "else") || same_text w (codes "call") || same_text w (codes "now") || same_text w (codes "random") || same_text w (codes "reply")) (same_text w (codes "nothing")) h15.0 in
+    let h13 = left_free (same_text w (codes "route") || same_text w (codes "let") || same_text w (codes "get") || same_text w (codes "put") || same_text w (codes "drop") || same_text w (codes "each") || same_text w (codes "in") || same_text w (codes "if") || same_text w (codes "else") || same_text w (codes "call") || same_text w (codes "now") || same_text w (codes "random")) (same_text w (codes "reply")) h14.0 in
+    let h12 = left_free (same_text w (codes "route") || same_text w (codes "let") || same_text w (codes "get") || same_text w (codes "put") || same_text w (codes "drop") || same_text w (codes "each") || same_text w (codes "in") || same_text w (codes "if") || same_text w (codes "else") || same_text w (codes "call") || same_text w (codes "now")) (same_text w (codes "random")) h13.0 in
+    let h11 = left_free (same_text w (codes "route") || same_text w (codes "let") || same_text w (codes "get") || same_text w (codes "put") || same_text w (codes "drop") || same_text w (codes "each") || same_text w (codes "in") || same_text w (codes "if") || same_text w (codes "else") || same_text w (codes "call")) (same_text w (codes "now")) h12.0 in
+    let h10 = left_free (same_text w (codes "route") || same_text w (codes "let") || same_text w (codes "get") || same_text w (codes "put") || same_text w (codes "drop") || same_text w (codes "each") || same_text w (codes "in") || same_text w (codes "if") || same_text w (codes "else")) (same_text w (codes "call")) h11.0 in
+    let h9 = left_free (same_text w (codes "route") || same_text w (codes "let") || same_text w (codes "get") || same_text w (codes "put") || same_text w (codes "drop") || same_text w (codes "each") || same_text w (codes "in") || same_text w (codes "if")) (same_text w (codes "else")) h10.0 in
+    let h8 = left_free (same_text w (codes "route") || same_text w (codes "let") || same_text w (codes "get") || same_text w (codes "put") || same_text w (codes "drop") || same_text w (codes "each") || same_text w (codes "in")) (same_text w (codes "if")) h9.0 in
+    let h7 = left_free (same_text w (codes "route") || same_text w (codes "let") || same_text w (codes "get") || same_text w (codes "put") || same_text w (codes "drop") || same_text w (codes "each")) (same_text w (codes "in")) h8.0 in
+    let h6 = left_free (same_text w (codes "route") || same_text w (codes "let") || same_text w (codes "get") || same_text w (codes "put") || same_text w (codes "drop")) (same_text w (codes "each")) h7.0 in
+    let h5 = left_free (same_text w (codes "route") || same_text w (codes "let") || same_text w (codes "get") || same_text w (codes "put")) (same_text w (codes "drop")) h6.0 in
+    let h4 = left_free (same_text w (codes "route") || same_text w (codes "let") || same_text w (codes "get")) (same_text w (codes "put")) h5.0 in
+    let h3 = left_free (same_text w (codes "route") || same_text w (codes "let")) (same_text w (codes "get")) h4.0 in
+    let h2 = left_free (same_text w (codes "route")) (same_text w (codes "let")) h3.0 in
     rw (h2.0, h2.1, h3.1, h4.1, h5.1, h6.1, h7.1, h8.1, h9.1, h10.1, h11.1, h12.1, h13.1, h14.1, h15.1, h16.1, h17.1, h18.1, h19.1, h20.1, h21.1, h22.1, h23.1, h24.1) refl
 
 name_token : (w : List ℕ) → quoted w ≡ None → nat_lt 32 (length w) ≡ false → word w ≡ token.Word w

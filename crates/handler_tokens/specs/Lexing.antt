@@ -5,7 +5,8 @@ use Rattle.std.specs.Char.{is_ascii_digit}
 use Rattle.std.specs.List.{prefix_len}
 use Rattle.std.specs.Str.{is_utf8}
 use Rattle.std.specs.Str.Parse.{digits_value}
-use Rattle.lang_tree.specs.Forms.{is_text, is_word_byte}
+use Rattle.lang_base.specs.Texts.{same_text}
+use Rattle.lang_tree.specs.Forms.{is_word_byte}
 use Rattle.lang_tree.specs.declared.method.Method.TheVariants as methods
 use Rattle.handler_tokens.specs.declared.token.Token.{Token}
 use Rattle.handler_tokens.specs.declared.token.Token.TheVariants as token
@@ -43,30 +44,30 @@ number ds = if is_numeral ds && nat_lt (digits_value 10 ds) (2 ^ 63) then token.
 -- the words that the language reserves
 unfoldable pub quoted : List ℕ → Option Token
 quoted w =
-    if is_text w (codes "route") then Some token.Route
-    else (if is_text w (codes "let") then Some token.Let
-    else (if is_text w (codes "get") then Some token.Get
-    else (if is_text w (codes "put") then Some token.Put
-    else (if is_text w (codes "drop") then Some token.Drop
-    else (if is_text w (codes "each") then Some token.Each
-    else (if is_text w (codes "in") then Some token.In
-    else (if is_text w (codes "if") then Some token.If
-    else (if is_text w (codes "else") then Some token.Else
-    else (if is_text w (codes "call") then Some token.Call
-    else (if is_text w (codes "now") then Some token.Now
-    else (if is_text w (codes "random") then Some token.Random
-    else (if is_text w (codes "reply") then Some token.Reply
-    else (if is_text w (codes "nothing") then Some token.Nothing
-    else (if is_text w (codes "body") then Some token.Body
-    else (if is_text w (codes "who") then Some token.Who
-    else (if is_text w (codes "path") then Some token.Path
-    else (if is_text w (codes "part") then Some token.Part
-    else (if is_text w (codes "number") then Some token.Number
-    else (if is_text w (codes "text") then Some token.AsText
-    else (if is_text w (codes "GET") then Some (token.Method methods.Get)
-    else (if is_text w (codes "PUT") then Some (token.Method methods.Put)
-    else (if is_text w (codes "POST") then Some (token.Method methods.Post)
-    else (if is_text w (codes "DELETE") then Some (token.Method methods.Delete)
+    if same_text w (codes "route") then Some token.Route
+    else (if same_text w (codes "let") then Some token.Let
+    else (if same_text w (codes "get") then Some token.Get
+    else (if same_text w (codes "put") then Some token.Put
+    else (if same_text w (codes "drop") then Some token.Drop
+    else (if same_text w (codes "each") then Some token.Each
+    else (if same_text w (codes "in") then Some token.In
+    else (if same_text w (codes "if") then Some token.If
+    else (if same_text w (codes "else") then Some token.Else
+    else (if same_text w (codes "call") then Some token.Call
+    else (if same_text w (codes "now") then Some token.Now
+    else (if same_text w (codes "random") then Some token.Random
+    else (if same_text w (codes "reply") then Some token.Reply
+    else (if same_text w (codes "nothing") then Some token.Nothing
+    else (if same_text w (codes "body") then Some token.Body
+    else (if same_text w (codes "who") then Some token.Who
+    else (if same_text w (codes "path") then Some token.Path
+    else (if same_text w (codes "part") then Some token.Part
+    else (if same_text w (codes "number") then Some token.Number
+    else (if same_text w (codes "text") then Some token.AsText
+    else (if same_text w (codes "GET") then Some (token.Method methods.Get)
+    else (if same_text w (codes "PUT") then Some (token.Method methods.Put)
+    else (if same_text w (codes "POST") then Some (token.Method methods.Post)
+    else (if same_text w (codes "DELETE") then Some (token.Method methods.Delete)
     else None)))))))))))))))))))))))
 
 abbrev pub quoted_or : Option Token → List ℕ → Token
@@ -190,11 +191,11 @@ lex text = lexed (length text) (length text) text
 abbrev pub token_of : Placed → Token
 token_of p = p.token
 
-abbrev pub place_of : Placed → ℕ
-place_of p = p.at
+abbrev pub start_of : Placed → ℕ
+start_of p = p.at
 
 abbrev pub tokens : List Placed → List Token
 tokens ps = map token_of ps
 
 abbrev pub places : List Placed → List ℕ
-places ps = map place_of ps
+places ps = map start_of ps

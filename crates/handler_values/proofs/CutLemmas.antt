@@ -6,14 +6,7 @@ use Rattle.std.specs.Str.Pattern.{LacksTextAt, FindsText, SplitsAroundMatch}
 use Rattle.std.proofs.lemmas.List.{take-append-drop}
 use lib.Pointwise.{bytes_decides}
 use Rattle.handler_values.specs.Parts.{cut, after_byte, front, go_past, piece}
-
-cond-false : {X : Type 0} (t : Bool) (x y : X) → t ≡ false → cond t x y ≡ y
-cond-false true x y h = cc
-cond-false false x y h = refl
-
-cond-true : {X : Type 0} (t : Bool) (x y : X) → t ≡ true → cond t x y ≡ x
-cond-true true x y h = refl
-cond-true false x y h = cc
+use Rattle.std.proofs.lemmas.Bool.{cond-false, cond-true}
 
 -- a text that starts with another is that one and a rest
 starts : (by s : List ℕ) → starts_with nat_eq s by ≡ true → s ≡ by ++ drop (length by) s

@@ -2,7 +2,7 @@
 use Rattle.std.specs.Prelude.{ℕ, Bool, ◌&&◌, List, [], ◌∷◌, Option, Some, None, Result, Ok, Err, length, codes, nat_lt, nat_le, if◌then◌else◌}
 use Rattle.std.specs.List.{list_all}
 use Rattle.lang_base.specs.Characters.{digits_value, is_digit}
-use Rattle.lang_tree.specs.Forms.{is_text}
+use Rattle.lang_base.specs.Texts.{same_text}
 use Rattle.http_header.specs.FieldValue.{FieldValue}
 use Rattle.http_header.specs.HeaderMap.{Entries, get, get_all}
 use Rattle.http_front.specs.declared.message.FrontRefused.{FrontRefused}
@@ -14,7 +14,7 @@ is_length text = nat_lt 0 (length text) && nat_le (length text) 19 && list_all i
 
 -- the value has these bytes
 abbrev pub is_value : List ℕ → FieldValue → Bool
-is_value text value = is_text text value.bytes
+is_value text value = same_text text value.bytes
 
 -- the length that the values give, 0 where there are none, unless one isn't a length or two differ
 abbrev pub length_given : List FieldValue → Option ℕ

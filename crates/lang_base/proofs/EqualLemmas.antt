@@ -4,7 +4,7 @@ use Rattle.std.proofs.lemmas.Bool.{and_from, and_parts}
 use base.Stored.{Coded, Gv, gnil, gnum, gcons}
 use Rattle.lang_base.specs.Equal.{equal_codes, equal}
 
-nat_same : (n : ℕ) → nat_eq n n ≡ true
+pub nat_same : (n : ℕ) → nat_eq n n ≡ true
 nat_same n = eq-eqb n n refl
 
 codes-true : (a b : Gv) → equal_codes a b ≡ true → a ≡ b

@@ -30,7 +30,7 @@ alike : (a b c d : Bool) → a ≡ b → c ≡ d → (a && c) ≡ (b && d)
 alike a b c d e f = rw (e, f) refl
 
 -- two places are the same exactly where neither is below the other
-same-order : (p q : Place) → same_place p q ≡ is_eq (place_order p q)
+pub same-order : (p q : Place) → same_place p q ≡ is_eq (place_order p q)
 same-order p q =
     alike (same_text p.table q.table) (is_eq (text_order p.table q.table)) (same_text p.key q.key) (is_eq (text_order p.key q.key))
     (sym (is_eq-slice_cmp p.table q.table)) (sym (is_eq-slice_cmp p.key q.key))

@@ -1,8 +1,8 @@
 -- The forms that texts of a program have.
 use Rattle.std.specs.Prelude.{ℕ, Bool, false, ◌&&◌, ◌||◌, not, List, [], ◌∷◌, nat_eq, nat_le, ◌==◌, length, codes}
 use Rattle.std.specs.List.{list_all, starts_with}
-use Rattle.std.specs.Cmp.Lexicographic.{pointwise}
 use Rattle.lang_base.specs.Characters.{is_digit, is_lower, is_upper, is_visible}
+use Rattle.lang_base.specs.Texts.{same_text}
 
 -- a path: 1 to 1,024 visible characters, the first a slash
 abbrev pub is_path : List ℕ → Bool
@@ -15,18 +15,19 @@ abbrev pub begins_with_digit : List ℕ → Bool
 begins_with_digit [] = false
 begins_with_digit (b ∷ bs) = is_digit b
 
+-- the same test, by the word that the wire's crates have for it
 abbrev pub is_text : List ℕ → List ℕ → Bool
-is_text a b = pointwise nat_eq a b
+is_text a b = same_text a b
 
 -- the words of the language itself
 abbrev pub is_reserved : List ℕ → Bool
 is_reserved w =
-    is_text w (codes "route") || is_text w (codes "let") || is_text w (codes "get") || is_text w (codes "put")
-    || is_text w (codes "drop") || is_text w (codes "each") || is_text w (codes "in") || is_text w (codes "if")
-    || is_text w (codes "else") || is_text w (codes "call") || is_text w (codes "now") || is_text w (codes "random")
-    || is_text w (codes "reply") || is_text w (codes "nothing") || is_text w (codes "body") || is_text w (codes "who")
-    || is_text w (codes "path") || is_text w (codes "part") || is_text w (codes "number") || is_text w (codes "text")
-    || is_text w (codes "GET") || is_text w (codes "PUT") || is_text w (codes "POST") || is_text w (codes "DELETE")
+    same_text w (codes "route") || same_text w (codes "let") || same_text w (codes "get") || same_text w (codes "put")
+    || same_text w (codes "drop") || same_text w (codes "each") || same_text w (codes "in") || same_text w (codes "if")
+    || same_text w (codes "else") || same_text w (codes "call") || same_text w (codes "now") || same_text w (codes "random")
+    || same_text w (codes "reply") || same_text w (codes "nothing") || same_text w (codes "body") || same_text w (codes "who")
+    || same_text w (codes "path") || same_text w (codes "part") || same_text w (codes "number") || same_text w (codes "text")
+    || same_text w (codes "GET") || same_text w (codes "PUT") || same_text w (codes "POST") || same_text w (codes "DELETE")
 
 -- the name of a variable or a table: 1 to 32 letters, digits and `_`, no digit first, no word of the language
 abbrev pub is_word : List ℕ → Bool

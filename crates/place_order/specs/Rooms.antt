@@ -5,7 +5,7 @@ use Rattle.place_order.specs.declared.room.OrderCall.{OrderCall}
 use base.Stored.{Coded}
 
 -- the labels in order, and the calls for which room was made
-pub record Kept : Type 0 where
+pub record KeptOrder : Type 0 where
   pub labels : List ℕ
   pub room : List OrderCall
 

@@ -52,10 +52,10 @@ pub struct Order {
 
 impl Model for Order {
     ghost use Rattle.std.specs.Prelude.{◌+◌, ◌≤◌, vec_len, vec_capacity};
-    ghost use Rattle.place_order.specs.Rooms.{Kept};
+    ghost use Rattle.place_order.specs.Rooms.{KeptOrder};
     ghost use Rattle.place_order.specs.Tags.{IsTagged};
 
-    ghost Value = { Kept };
+    ghost Value = { KeptOrder };
 
     ghost view = { λ order. record { labels = order.labels.items; room = order.room.items } };
 

@@ -3,7 +3,7 @@ use Rattle.std.proofs.Common.{◌≡◌, ℕ, ◌+◌, suc, Bool, true, false, c
 use Rattle.std.specs.List.{position_or_len}
 use Rattle.std.proofs.Math.ListN.{length-set}
 use Rattle.request_log.specs.declared.entry.Entry.{Entry}
-use Rattle.request_log.specs.Entries.{has_id, changed, IsDistinct, IsLog, Kept}
+use Rattle.request_log.specs.Entries.{has_id, changed, IsDistinct, IsLog, KeptLog}
 use Rattle.request_log.proofs.EntryLemmas.{at_place, distinct-set, is_found, placed}
 
 -- a change that leaves an entry's number and origin
@@ -53,13 +53,13 @@ pub record IsChanged (change : Entry → Entry) (id : ℕ) (es es' : List Entry)
   pub entries : es' ≡ changed id change es
   pub there : true ≡ is_some (find (has_id id) es)
 
-pub changed_place : (change : Entry → Entry) → Leaves change → (id : ℕ) (k : Kept) (es : List Entry) (place : ℕ) (x : Entry) → (record { entries = es }) ≡ k
+pub changed_place : (change : Entry → Entry) → Leaves change → (id : ℕ) (k : KeptLog) (es : List Entry) (place : ℕ) (x : Entry) → (record { entries = es }) ≡ k
     → position (has_id id) es ≡ Some place → x ≡ get_or es place x → IsLog es → IsChanged change id k.entries (set es place (change x))
 changed_place change leaves id k es place x seen is at log =
     let old = at_place id es place x is in
     let n : position_or_len (has_id id) es ≡ place = placed (nat_lt (position_or_len (has_id id) es) (length es)) (position_or_len (has_id id) es) place is in
     let e : Entry = get_or es place x in
-    let P : Entry → Kept → Type 0 = λ e k. IsChanged change id k.entries (set es place (change e)) in
+    let P : Entry → KeptLog → Type 0 = λ e k. IsChanged change id k.entries (set es place (change e)) in
     subst (P x) seen
     (subst (λ e. P e (record { entries = es })) (sym at)
     (record {
@@ -84,8 +84,8 @@ pub record IsUnknown (change : Entry → Entry) (id : ℕ) (es : List Entry) : T
   pub entries : es ≡ changed id change es
   pub there : false ≡ is_some (find (has_id id) es)
 
-pub unknown : (change : Entry → Entry) (id : ℕ) (k : Kept) (es : List Entry) → (record { entries = es }) ≡ k → position (has_id id) es ≡ None → IsUnknown change id k.entries
+pub unknown : (change : Entry → Entry) (id : ℕ) (k : KeptLog) (es : List Entry) → (record { entries = es }) ≡ k → position (has_id id) es ≡ None → IsUnknown change id k.entries
 unknown change id k es is none =
     let found : find (has_id id) es ≡ None = nothing (find (has_id id) es) (λ h. not_placed (position (has_id id) es) none (is_found id es h)) in
-    let P : Kept → Type 0 = λ k. IsUnknown change id k.entries in
+    let P : KeptLog → Type 0 = λ k. IsUnknown change id k.entries in
     subst P is (record { entries = sym (none_changed change id es found); there = ap is_some (sym found) })

@@ -13,7 +13,7 @@ use Rattle.lang_base.specs.Texts.{same_text}
 use Rattle.lang_core.specs.declared.ids.Origin.{Origin}
 use Rattle.lang_core.specs.declared.ids.Origin.TheVariants.{Outside, Call}
 use Rattle.request_log.specs.declared.entry.Entry.{Entry}
-use Rattle.request_log.specs.Entries.{has_id, is_call, find_call, IsNew, IsDistinct, IsKnown, IsLog, Kept}
+use Rattle.request_log.specs.Entries.{has_id, is_call, find_call, IsNew, IsDistinct, IsKnown, IsLog, KeptLog}
 
 -- a search that finds nothing finds nothing first, and nothing further on
 not_first : {X : Type 0} (b : Bool) (x : X) (o : Option X) → cond b (Some x) o ≡ None → (b ≡ false) × (o ≡ None)
@@ -115,18 +115,18 @@ distinct-set (x ∷ es) (suc i) y old at id origin all =
     (new-set x y old es i at id origin all.0, distinct-set es i y old at id origin all.1)
 
 -- a log with one entry more, where it was seen as that value
-pub log-insert : (es : List Entry) (k : Kept) (i : ℕ) (y : Entry) → (record { entries = es }) ≡ k → i ≤ length k.entries → length es ≢ 100000 → IsNew y k.entries → IsLog es → IsLog (insert es i y)
+pub log-insert : (es : List Entry) (k : KeptLog) (i : ℕ) (y : Entry) → (record { entries = es }) ≡ k → i ≤ length k.entries → length es ≢ 100000 → IsNew y k.entries → IsLog es → IsLog (insert es i y)
 log-insert es k i y is within room new log =
-    let seen : es ≡ k.entries = ap (λ (v : Kept). v.entries) is in
+    let seen : es ≡ k.entries = ap (λ (v : KeptLog). v.entries) is in
     let inside : i ≤ length es = rw seen within in
     record {
       distinct = distinct-insert es i y (rw seen new) log.distinct;
       few = omega (arith, length-insert es i y inside, log.few);
     }
 
-pub log-append : (es : List Entry) (k : Kept) (y : Entry) → (record { entries = es }) ≡ k → length es ≢ 100000 → IsNew y k.entries → IsLog es → IsLog (es ++ y ∷ [])
+pub log-append : (es : List Entry) (k : KeptLog) (y : Entry) → (record { entries = es }) ≡ k → length es ≢ 100000 → IsNew y k.entries → IsLog es → IsLog (es ++ y ∷ [])
 log-append es k y is room new log =
-    let seen : es ≡ k.entries = ap (λ (v : Kept). v.entries) is in
+    let seen : es ≡ k.entries = ap (λ (v : KeptLog). v.entries) is in
     rw (← insert_end es y) (log-insert es k (length es) y is (rw seen (omega arith)) room new log)
 
 some_within : {X : Type 0} (xs : List X) (n : ℕ) → IsSome (slice_get xs n) → n < length xs
@@ -176,15 +176,15 @@ at_place id es place d is =
       id = eqb-true _ _ first.1;
     }
 
-pub known_place : (k : Kept) (entry : Entry) (es : List Entry) → (record { entries = es }) ≡ k → IsKnown entry k.entries → IsSome (position (has_id entry.id) es)
+pub known_place : (k : KeptLog) (entry : Entry) (es : List Entry) → (record { entries = es }) ≡ k → IsKnown entry k.entries → IsSome (position (has_id entry.id) es)
 known_place k entry es is known =
-    let seen : es ≡ k.entries = ap (λ (v : Kept). v.entries) is in
+    let seen : es ≡ k.entries = ap (λ (v : KeptLog). v.entries) is in
     is_found entry.id es (some_known (find (has_id entry.id) es) (λ old. old.origin ≡ entry.origin) (rw seen known))
 
 -- a log with an entry in place of the one of its number
-pub log-put : (k : Kept) (entry : Entry) (es : List Entry) (place : ℕ) → (record { entries = es }) ≡ k → position (has_id entry.id) es ≡ Some place → IsKnown entry k.entries → IsLog es → IsLog (set es place entry)
+pub log-put : (k : KeptLog) (entry : Entry) (es : List Entry) (place : ℕ) → (record { entries = es }) ≡ k → position (has_id entry.id) es ≡ Some place → IsKnown entry k.entries → IsLog es → IsLog (set es place entry)
 log-put k entry es place is at known log =
-    let seen : es ≡ k.entries = ap (λ (v : Kept). v.entries) is in
+    let seen : es ≡ k.entries = ap (λ (v : KeptLog). v.entries) is in
     let old = at_place entry.id es place entry at in
     let origin = some_and (find (has_id entry.id) es) (λ x. x.origin ≡ entry.origin) (get_or es place entry) (rw seen known) old.found in
     record {
@@ -193,16 +193,16 @@ log-put k entry es place is at known log =
     }
 
 -- what is handed back is what was found
-pub put_old : (k : Kept) (id : ℕ) (es : List Entry) (place : ℕ) (old : Entry) → (record { entries = es }) ≡ k → position (has_id id) es ≡ Some place → old ≡ get_or es place old → find (has_id id) k.entries ≡ Some old
+pub put_old : (k : KeptLog) (id : ℕ) (es : List Entry) (place : ℕ) (old : Entry) → (record { entries = es }) ≡ k → position (has_id id) es ≡ Some place → old ≡ get_or es place old → find (has_id id) k.entries ≡ Some old
 put_old k id es place old is at read =
-    let seen : es ≡ k.entries = ap (λ (v : Kept). v.entries) is in
+    let seen : es ≡ k.entries = ap (λ (v : KeptLog). v.entries) is in
     rw (← seen) ((at_place id es place old at).found ∙ ap Some (sym read))
 
 -- a log with a run noted of the entry at a place
-pub log-note : (k : Kept) (es : List Entry) (place : ℕ) (old y : Entry) → (record { entries = es }) ≡ k → place < length k.entries → old ≡ get_or es place old
+pub log-note : (k : KeptLog) (es : List Entry) (place : ℕ) (old y : Entry) → (record { entries = es }) ≡ k → place < length k.entries → old ≡ get_or es place old
     → y.id ≡ old.id → y.origin ≡ old.origin → IsLog es → IsLog (set es place y)
 log-note k es place old y is within read id origin log =
-    let seen : es ≡ k.entries = ap (λ (v : Kept). v.entries) is in
+    let seen : es ≡ k.entries = ap (λ (v : KeptLog). v.entries) is in
     let inside : place < length es = rw seen within in
     record {
       distinct = distinct-set es place y old (slice_get-get_or es place old inside ∙ ap Some (sym read)) id origin log.distinct;

@@ -70,7 +70,7 @@ abbrev pub changed : ℕ → (Entry → Entry) → List Entry → List Entry
 changed id change entries = map (λ e. if has_id id e then change e else e) entries
 
 -- a log: its entries in order
-pub record Kept : Type 0 where
+pub record KeptLog : Type 0 where
   pub entries : List Entry
 
 -- what each log keeps

@@ -49,9 +49,9 @@ pub struct Log {
 }
 
 impl Model for Log {
-    ghost use Rattle.request_log.specs.Entries.{Kept, IsLog};
+    ghost use Rattle.request_log.specs.Entries.{KeptLog, IsLog};
 
-    ghost Value = { Kept };
+    ghost Value = { KeptLog };
 
     ghost view = { λ log. record { entries = log.items.items } };
 

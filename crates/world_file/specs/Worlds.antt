@@ -1,8 +1,9 @@
 -- Which bytes spell which world, and which refusal stands where they spell none.
-use Rattle.std.specs.Prelude.{◌≡◌, ◌≢◌, ℕ, List, [], ◌∷◌, Option, Some, None, Result, Ok, Err, if◌then◌else◌}
+use Rattle.std.specs.Prelude.{◌≡◌, ℕ, Bool, true, false, List, [], ◌∷◌, Option, Some, None, Result, Ok, Err, if◌then◌else◌}
 use Rattle.std.specs.Str.{is_utf8}
 use Rattle.std.proofs.Common.{below_none}
 use Rattle.lang_tree.specs.declared.program.Route.{Route}
+use Rattle.lang_base.specs.Memory.{Unless}
 use Rattle.handler_lang.specs.Reading.{read_of}
 use Rattle.handler_lang.specs.declared.refused.ProgramRefused.{ProgramRefused}
 use Rattle.serde_json.specs.Data.{Data, Items, no_items, item}
@@ -80,6 +81,10 @@ IsAlone [] = ⊥
 IsAlone (setup ∷ []) = setup.setting.peers ≡ []
 IsAlone (setup ∷ other ∷ more) = ⊥
 
--- a call refuses so, unless memory runs out
+abbrev pub is_memory : WorldRefused → Bool
+is_memory NoMemory = true
+is_memory refused = false
+
+-- a call refuses so, unless memory is wanting
 abbrev pub Refuses : {X : Type 0} → WorldRefused → Outcome X → Type 0
-Refuses why outcome = why ≢ NoMemory → outcome ≡ Err why
+Refuses why outcome = Unless (is_memory why) (outcome ≡ Err why) (Unit {0})
