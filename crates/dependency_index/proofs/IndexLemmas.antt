@@ -9,9 +9,9 @@ use Rattle.dependency_index.specs.Numbers.{Rises, with_number}
 use Rattle.dependency_index.specs.Reads.{label_of, labels_with, with_noted, without}
 use Rattle.dependency_index.specs.declared.noted.Noted.{Noted}
 use Rattle.dependency_index.specs.declared.reads.ReadAt.{ReadAt}
-use Rattle.dependency_index.proofs.NumberLemmas.{rises_kept, rises_put, others, put_anew, parted, take-drop}
+use Rattle.dependency_index.proofs.NumberLemmas.{rises_kept, rises_put, others, put_anew, parted, take-drop, rises_if}
 
-map_if : (n : Noted) (ns : List Noted) (b : Bool) → map label_of (cond b (n ∷ ns) ns) ≡ cond b (label_of n ∷ map label_of ns) (map label_of ns)
+pub map_if : (n : Noted) (ns : List Noted) (b : Bool) → map label_of (cond b (n ∷ ns) ns) ≡ cond b (label_of n ∷ map label_of ns) (map label_of ns)
 map_if n ns true = refl
 map_if n ns false = refl
 
@@ -22,10 +22,6 @@ all_if x y ys false lt all = all
 holds_if : (P : ℕ → Type 0) (y : ℕ) (ys : List ℕ) (b : Bool) → P y → AllByRecursion P ys → AllByRecursion P (cond b (y ∷ ys) ys)
 holds_if P y ys true here all = (here, all)
 holds_if P y ys false here all = all
-
-rises_if : (x : ℕ) (xs : List ℕ) (b : Bool) → AllByRecursion (λ y. x < y) xs → Rises xs → Rises (cond b (x ∷ xs) xs)
-rises_if x xs true all r = (all, r)
-rises_if x xs false all r = r
 
 module _ (test : ReadAt → Bool) where
   abbrev has : Noted → Bool

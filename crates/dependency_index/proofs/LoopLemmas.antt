@@ -3,30 +3,20 @@ use Rattle.std.proofs.Common.{◌≡◌, ℕ, zero, suc, ◌+◌, ◌<◌, ◌�
 use Rattle.std.specs.List.{list_any}
 use Rattle.std.proofs.lemmas.Bool.{and_parts, and_from}
 use Rattle.lang_core.specs.Places.{Place, place_of, same_place}
-use Rattle.versioned_rows.proofs.EditLemmas.{place_is, place_same}
+use Rattle.lang_core.proofs.ReadLemmas.{place_is, place_same}
 use Rattle.dependency_index.specs.Reads.{is_kind, is_at, read_place}
 use Rattle.dependency_index.specs.Rows.{labels_by, spare_by}
 use Rattle.dependency_index.specs.declared.reads.ReadAt.{ReadAt}
 use Rattle.dependency_index.specs.declared.reads.ReadKind.{ReadKind}
 use Rattle.dependency_index.specs.declared.reads.ReadKind.TheVariants.{Key, Scan}
 use Rattle.dependency_index.specs.declared.rows.ReadRows.{ReadRows}
-
-or_false : (b : Bool) → (b || false) ≡ b
-or_false true = refl
-or_false false = refl
-
-or_true : (b : Bool) → (b || true) ≡ true
-or_true true = refl
-or_true false = refl
-
-or_more : (a b c : Bool) → (a || (b || c)) ≡ ((a || b) || c)
-or_more true b c = refl
-or_more false b c = refl
+use Rattle.std.proofs.Math.Bool.{or-false, or-true, or_assoc}
+use Rattle.versioned_rows.proofs.WriteLemmas.{made_by}
 
 any_more : {X : Type 0} (p : X → Bool) (xs : List X) (i : ℕ) (d : X) → i < length xs → list_any p (take (suc i) xs) ≡ (list_any p (take i xs) || p (get_or xs i d))
 any_more p [] i d lt = absurd (omega arith)
-any_more p (x ∷ xs) zero d lt = or_false (p x)
-any_more p (x ∷ xs) (suc i) d lt = ap (λ b. p x || b) (any_more p xs i d (omega arith)) ∙ or_more (p x) (list_any p (take i xs)) (p (get_or xs i d))
+any_more p (x ∷ xs) zero d lt = or-false (p x)
+any_more p (x ∷ xs) (suc i) d lt = ap (λ b. p x || b) (any_more p xs i d (omega arith)) ∙ sym (or_assoc (p x) (list_any p (take i xs)) (p (get_or xs i d)))
 
 pub one_more : (kind : ReadKind) (t k : List ℕ) (rs : List ReadAt) (i : ℕ) (r : ReadAt) → i < length rs → r ≡ get_or rs i r
     → list_any (is_at kind t k) (take (i + 1) rs) ≡ (list_any (is_at kind t k) (take i rs) || is_at kind t k r)
@@ -35,7 +25,7 @@ one_more kind t k rs i r lt is = rw add-one (any_more (is_at kind t k) rs i r lt
 any_at : {X : Type 0} (p : X → Bool) (xs : List X) (i : ℕ) (x : X) → i < length xs → x ≡ get_or xs i x → p x ≡ true → list_any p xs ≡ true
 any_at p [] i x lt is h = absurd (omega arith)
 any_at p (y ∷ ys) zero x lt is h = let here : p y ≡ true = ap p (sym is) ∙ h in rw here refl
-any_at p (y ∷ ys) (suc i) x lt is h = let more = any_at p ys i x (omega arith) is h in rw more (or_true (p y))
+any_at p (y ∷ ys) (suc i) x lt is h = let more = any_at p ys i x (omega arith) is h in rw more (or-true (p y))
 
 kind_is : (a b : ReadKind) → is_kind a b ≡ true → b ≡ a
 kind_is Key Key h = refl
@@ -79,10 +69,6 @@ module _ (edit : List ℕ → List ℕ) (twice : (l : List ℕ) → edit (edit l
   pub edit_once : (a : Bool) (start before : List ℕ) → before ≡ cond a (edit start) start → edit before ≡ edit start
   edit_once true start before h = ap edit h ∙ twice start
   edit_once false start before h = ap edit h
-
-made_by : (n : ℕ) (a b : Bool) (z : ℕ) → (a || b) ≡ true → (a ≡ true → n ≤ z) → (b ≡ true → n ≤ z) → n ≤ z
-made_by n true b z h f g = f refl
-made_by n false b z h f g = g h
 
 -- places for one row more
 pub spare_made : (n : ℕ) (before after : ReadRows) (rs : List ReadAt) (i : ℕ) (r : ReadAt) → i < length rs → r ≡ get_or rs i r

@@ -8,6 +8,9 @@ use Rattle.std.proofs.lemmas.List.Folds.{list_any-append}
 use Rattle.lang_core.specs.Places.{past}
 use Rattle.versioned_rows.specs.Places.{is_other}
 use Rattle.dependency_index.specs.Numbers.{Rises, with_number, with_numbers}
+use Rattle.versioned_rows.proofs.GetLemmas.{all_if}
+use Rattle.std.proofs.Math.Bool.{or-false}
+use Rattle.call_room.proofs.RoomLemmas.{not_less}
 
 -- ---- filters
 
@@ -43,10 +46,6 @@ filter_tail p (x ∷ xs) zero le fails passes =
 filter_tail p (x ∷ xs) (suc n) le fails passes =
     let here = fails 0 x (omega arith) in
     rw here (filter_tail p xs n (omega arith) (λ i d lt. fails (suc i) d (omega arith)) (λ i d a b. passes (suc i) d (omega arith) (omega arith)))
-
-all_if : {X : Type 0} (P : X → Type 0) (x : X) (xs : List X) (b : Bool) → (b ≡ true → P x) → AllByRecursion P xs → AllByRecursion P (cond b (x ∷ xs) xs)
-all_if P x xs true here all = (here refl, all)
-all_if P x xs false here all = all
 
 -- ---- parts
 
@@ -120,7 +119,7 @@ all_kept : (n : ℕ) (p : ℕ → Bool) (xs : List ℕ) → AllByRecursion (λ y
 all_kept n p [] all = tt
 all_kept n p (x ∷ xs) all = all_if (λ y. n < y) x (filter p xs) (p x) (λ e. all.0) (all_kept n p xs all.1)
 
-rises_if : (x : ℕ) (xs : List ℕ) (b : Bool) → AllByRecursion (λ y. x < y) xs → Rises xs → Rises (cond b (x ∷ xs) xs)
+pub rises_if : (x : ℕ) (xs : List ℕ) (b : Bool) → AllByRecursion (λ y. x < y) xs → Rises xs → Rises (cond b (x ∷ xs) xs)
 rises_if x xs true all r = (all, r)
 rises_if x xs false all r = r
 
@@ -158,9 +157,6 @@ rises_puts [] xs r = r
 rises_puts (n ∷ ns) xs r = rises_puts ns (with_number n xs) (rises_put n xs r)
 
 -- ---- one number more
-
-not_less : (n : ℕ) → nat_lt n n ≡ false
-not_less n = le-ltb n n (omega arith)
 
 apart_lengths : (n x a b l : ℕ) → a + b ≤ l → cond (nat_lt x n) (suc a) a + cond (nat_lt n x) (suc b) b ≤ suc l
 apart_lengths n x a b l h =
@@ -311,13 +307,9 @@ member_put z n xs =
     ∙ ap (λ b. (nat_lt z n && member z xs) || (nat_eq z n || b)) (member_kept (λ x. nat_lt n x) z xs)
     ∙ elim (cases_order z n) [
       | inl e ↦ (let f : nat_lt z n ≡ false = le-ltb z n (omega arith) in let h : nat_eq z n ≡ true = eq-eqb z n e in rw (f, h) refl)
-      | inr (inl lt) ↦ (let f : nat_lt z n ≡ true = lt-ltb z n lt in let g : nat_lt n z ≡ false = le-ltb n z (omega arith) in let h : nat_eq z n ≡ false = ne_eqb z n (λ e. omega arith) in rw (f, g, h) (or_no (member z xs)))
+      | inr (inl lt) ↦ (let f : nat_lt z n ≡ true = lt-ltb z n lt in let g : nat_lt n z ≡ false = le-ltb n z (omega arith) in let h : nat_eq z n ≡ false = ne_eqb z n (λ e. omega arith) in rw (f, g, h) (or-false (member z xs)))
       | inr (inr gt) ↦ (let f : nat_lt z n ≡ false = le-ltb z n (omega arith) in let g : nat_lt n z ≡ true = lt-ltb n z gt in let h : nat_eq z n ≡ false = ne_eqb z n (λ e. omega arith) in rw (f, g, h) refl)
     ]
-  where
-    or_no : (b : Bool) → (b || false) ≡ b
-    or_no true = refl
-    or_no false = refl
 
 pub member_puts : (z : ℕ) (ns xs : List ℕ) → member z (with_numbers ns xs) ≡ (member z ns || member z xs)
 member_puts z [] xs = refl

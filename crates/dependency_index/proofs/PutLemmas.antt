@@ -5,7 +5,8 @@ use Rattle.std.proofs.lemmas.Bool.{cases_Bool}
 use Rattle.lang_core.specs.Places.{Place, place_of, same_place, IsOrdered, rank, is_taken}
 use Rattle.versioned_rows.specs.Rows.{row_place, labels_in, spare_of, spare_in}
 use Rattle.versioned_rows.specs.declared.rows.Row.{Row}
-use Rattle.versioned_rows.proofs.EditLemmas.{place_is, labels_here, spare_here, set_labels, set_spare}
+use Rattle.versioned_rows.proofs.EditLemmas.{labels_here, spare_here, set_labels, set_spare}
+use Rattle.lang_core.proofs.ReadLemmas.{place_is}
 use Rattle.versioned_rows.proofs.SeekLemmas.{find_none}
 use Rattle.dependency_index.specs.Numbers.{with_number}
 use Rattle.dependency_index.proofs.NumberLemmas.{not_empty}

@@ -1,5 +1,5 @@
 -- Places for the labels of the calls for which room was made.
-use Rattle.std.proofs.Common.{◌≡◌, ℕ, ◌+◌, ◌<◌, ◌≤◌, Bool, true, false, cond, List, [], ◌∷◌, ◌++◌, length, get_or, map, refl, sym, ap, ◌∙◌, arith}
+use Rattle.std.proofs.Common.{◌≡◌, ℕ, ◌+◌, ◌<◌, ◌≤◌, Bool, true, cond, List, [], ◌∷◌, ◌++◌, length, get_or, map, sym, ap, ◌∙◌, arith}
 use Rattle.std.specs.List.{list_any, remove}
 use Rattle.std.proofs.lemmas.List.Sums.{count_by-le-length, sum_by-append, sum_by-remove}
 use Rattle.lang_core.specs.declared.trace.Read.{Read}
@@ -10,6 +10,7 @@ use Rattle.dependency_index.specs.declared.reads.ReadAt.{ReadAt}
 use Rattle.dependency_index.specs.declared.reads.ReadKind.{ReadKind}
 use Rattle.dependency_index.specs.declared.room.IndexCall.{IndexCall}
 use Rattle.dependency_index.specs.declared.rows.ReadRows.{ReadRows}
+use Rattle.versioned_rows.proofs.RoomLemmas.{covers_by, one_by}
 
 plus_none : (n : ℕ) → 0 + n ≡ n
 plus_none n = omega arith
@@ -29,10 +30,6 @@ asked_less kind t k room place reads lt is =
     let g : IndexCall → ℕ = λ call. cond (list_any (is_at kind t k) (call_reads call)) 1 0 in
     sym (ap (λ c. asked kind t k (remove room place) + g c) is) ∙ sum_by-remove g room place (note_call reads) lt
 
-covers_by : (a : Bool) (n m x y : ℕ) → n ≤ m → n ≤ x → x ≤ y → (a ≡ true → m + 1 ≤ y) → n + cond a 1 0 ≤ y
-covers_by true n m x y small had more here = let h = here refl in omega arith
-covers_by false n m x y small had more here = omega arith
-
 -- one call more, with places for one label more than there were calls
 pub covered_more : (room : List IndexCall) (rows after : ReadRows) (reads : List Read) → IsCovered room rows → ((kind : ReadKind) (t k : List ℕ) → spare_by rows kind t k ≤ spare_by after kind t k)
     → ((kind : ReadKind) (t k : List ℕ) → notes kind t k reads ≡ true → length room + 1 ≤ spare_by after kind t k) → IsCovered (room ++ note_call reads ∷ []) after
@@ -41,10 +38,6 @@ covered_more room rows after reads had more here kind t k =
     let m = covers_by (notes kind t k reads) (asked kind t k room) (length room) (spare_by rows kind t k) (spare_by after kind t k)
     (count_by-le-length (λ call. list_any (is_at kind t k) (call_reads call)) room) (had kind t k) (more kind t k) (here kind t k) in
     omega arith
-
-one_by : (a : Bool) (y : ℕ) → (a ≡ true → 1 ≤ y) → 0 + cond a 1 0 ≤ y
-one_by true y here = here refl
-one_by false y here = omega arith
 
 -- places for one label each, where no room is left
 pub spare_one : (rows : ReadRows) (room : List IndexCall) (reads : List ReadAt) → room ≡ [] → ((kind : ReadKind) (t k : List ℕ) → list_any (is_at kind t k) reads ≡ true → 1 ≤ spare_by rows kind t k)

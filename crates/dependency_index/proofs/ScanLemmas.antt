@@ -12,7 +12,7 @@ use Rattle.dependency_index.specs.Rows.{under}
 use Rattle.dependency_index.specs.declared.noted.Noted.{Noted}
 use Rattle.dependency_index.specs.declared.reads.ReadAt.{ReadAt}
 use Rattle.dependency_index.specs.declared.reads.ReadKind.TheVariants.{Scan}
-use Rattle.dependency_index.proofs.IndexLemmas.{labels_rise}
+use Rattle.dependency_index.proofs.IndexLemmas.{labels_rise, map_if}
 use Rattle.dependency_index.proofs.NumberLemmas.{member, same_members, member_puts, rises_puts}
 
 -- ---- a prefix of at most so many bytes
@@ -84,10 +84,6 @@ any_or p q r h (x ∷ xs) = ap (λ b. b || list_any p xs) (h x) ∙ ap (λ b. (q
 first_if : (z l : ℕ) (ls : List ℕ) (b : Bool) → member z (cond b (l ∷ ls) ls) ≡ ((b && nat_eq z l) || member z ls)
 first_if z l ls true = refl
 first_if z l ls false = refl
-
-map_if : (n : Noted) (ns : List Noted) (b : Bool) → map label_of (cond b (n ∷ ns) ns) ≡ cond b (label_of n ∷ map label_of ns) (map label_of ns)
-map_if n ns true = refl
-map_if n ns false = refl
 
 member_first : (test : ReadAt → Bool) (z : ℕ) (n : Noted) (ns : List Noted) → member z (labels_with test (n ∷ ns)) ≡ ((list_any test n.reads && nat_eq z (label_of n)) || member z (labels_with test ns))
 member_first test z n ns = ap (member z) (map_if n (filter (λ n. list_any test n.reads) ns) (list_any test n.reads)) ∙ first_if z (label_of n) (labels_with test ns) (list_any test n.reads)

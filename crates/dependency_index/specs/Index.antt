@@ -15,7 +15,7 @@ use Rattle.dependency_index.specs.declared.noted.Noted.{Noted}
 use base.Stored.{Coded}
 
 -- where the reads of each label looked, in the order of the labels' numbers, and the calls for which room was made
-pub record Kept : Type 0 where
+pub record KeptIndex : Type 0 where
   pub reads : List Noted
   pub room : List IndexCall
 

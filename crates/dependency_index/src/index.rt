@@ -38,9 +38,9 @@ pub struct Index {
 
 impl Model for Index {
     ghost use Rattle.std.specs.Prelude.{◌+◌, ◌≤◌, vec_len, vec_capacity};
-    ghost use Rattle.dependency_index.specs.Index.{Kept, IsIndexed, IsCovered};
+    ghost use Rattle.dependency_index.specs.Index.{KeptIndex, IsIndexed, IsCovered};
 
-    ghost Value = { Kept };
+    ghost Value = { KeptIndex };
 
     ghost view = { λ i. record { reads = i.noted.items; room = i.room.items } };
 

@@ -15,7 +15,8 @@ use Rattle.versioned_rows.specs.Versions.{IsIndexed}
 use Rattle.versioned_rows.specs.Scans.{beneath, is_under, while, cell_at, with_cell, row_cells}
 use Rattle.versioned_rows.specs.declared.rows.Row.{Row}
 use Rattle.versioned_rows.specs.declared.places.PlaceWrites.{PlaceWrites}
-use Rattle.versioned_rows.proofs.EditLemmas.{place_is, found_passes}
+use Rattle.versioned_rows.proofs.EditLemmas.{found_passes}
+use Rattle.lang_core.proofs.ReadLemmas.{place_is}
 use Rattle.versioned_rows.proofs.GetLemmas.{get_nothing}
 use Rattle.versioned_rows.proofs.PrefixLemmas.{under_together, same_ordered}
 

@@ -1,30 +1,15 @@
 -- What an edit of one row does to what is held at each key.
-use Rattle.std.proofs.Common.{◌≡◌, ℕ, suc, ◌+◌, ◌<◌, ◌≤◌, Bool, true, false, cond, List, [], ◌∷◌, ◌++◌, Option, Some, length, get_or, set, take, drop, refl, sym, ap, ◌∙◌, subst, inl, inr, arith, Result, Ok, Err, IsOk, is_ok}
+use Rattle.std.proofs.Common.{◌≡◌, ℕ, suc, ◌+◌, ◌<◌, ◌≤◌, Bool, true, false, cond, List, [], ◌∷◌, ◌++◌, Option, Some, length, get_or, set, take, drop, refl, sym, ap, ◌∙◌, inl, inr, arith, Result, Ok, Err, IsOk, is_ok}
 use Rattle.std.specs.List.{find}
 use Rattle.std.specs.Option.{option_map_or}
-use Rattle.std.specs.Cmp.Lexicographic.{same_text as text_is}
-use Rattle.std.proofs.lemmas.Bool.{and_parts, and_from, cases_Bool}
-use Rattle.std.proofs.lemmas.Cmp.{nat_list_eq_equiv}
+use Rattle.std.proofs.lemmas.Bool.{cases_Bool}
 use Rattle.std.proofs.lemmas.List.{set_split}
-use Rattle.lang_base.specs.Texts.{same_text}
 use Rattle.lang_core.specs.Places.{Place, place_of, same_place, IsOrdered, set_in, rank, is_taken, past}
 use Rattle.lang_core.proofs.PlaceLemmas.{set_edits, ordered-set}
-use Rattle.lang_core.proofs.ReadLemmas.{find-set_in}
+use Rattle.lang_core.proofs.ReadLemmas.{find-set_in, place_is, place_same}
 use Rattle.versioned_rows.specs.Rows.{row_place, held, labels_in, spare_of, spare_in}
 use Rattle.versioned_rows.specs.declared.rows.Row.{Row}
 use Rattle.versioned_rows.proofs.SeekLemmas.{find_some, find_none}
-
-pub place_is : (p q : Place) → same_place p q ≡ true → p ≡ q
-place_is p q h =
-    let both = and_parts (same_text p.table q.table) (same_text p.key q.key) h in
-    let t : p.table ≡ q.table = text_is p.table q.table (sym both.0) in
-    let k : p.key ≡ q.key = text_is p.key q.key (sym both.1) in
-    λ i. record { table = t i; key = k i }
-
-pub place_same : (p q : Place) → p ≡ q → same_place p q ≡ true
-place_same p q e =
-    let P : Place → Type 0 = λ z. same_place p z ≡ true in
-    subst P e (and_from (same_text p.table p.table) (same_text p.key p.key) (nat_list_eq_equiv.refl p.table) (nat_list_eq_equiv.refl p.key))
 
 passes_if : {X : Type 0} (p : X → Bool) (x y : X) (b : Bool) (o : Option X) → p y ≡ b → cond b (Some y) o ≡ Some x → (o ≡ Some x → p x ≡ true) → p x ≡ true
 passes_if p x y true o h e more = let same : y ≡ x = cc in ap p (sym same) ∙ h

@@ -106,7 +106,7 @@ module _ (t k : List ℕ) where
   by_last p [] o all = other (find (λ w. same_place (write_place w) (place_of t k)) p.writes) o None all.0
   by_last p (q ∷ qs) o all = by_last q qs (step o p) all.1
 
-all_if : {X : Type 0} (P : X → Type 0) (x : X) (xs : List X) (b : Bool) → (b ≡ true → P x) → AllByRecursion P xs → AllByRecursion P (cond b (x ∷ xs) xs)
+pub all_if : {X : Type 0} (P : X → Type 0) (x : X) (xs : List X) (b : Bool) → (b ≡ true → P x) → AllByRecursion P xs → AllByRecursion P (cond b (x ∷ xs) xs)
 all_if P x xs true here all = (here refl, all)
 all_if P x xs false here all = all
 

@@ -1,7 +1,7 @@
 -- What it comes to for all keys that a place is taken out or put in.
 use Rattle.std.proofs.Common.{◌≡◌, ℕ, suc, ◌+◌, ◌<◌, ◌≤◌, Bool, true, false, not, cond, List, [], ◌∷◌, ◌++◌, Option, Some, None, nat_eq, nat_lt, length, get_or, map, position, refl, sym, ap, ◌∙◌, subst, inl, inr, arith, eqb-true}
 use Rattle.std.specs.List.{filter, remove, AllByRecursion, position_or_len}
-use Rattle.std.proofs.lemmas.Bool.{cases_Bool, ltb-true, ltb-false, ne_eqb, eqb-false}
+use Rattle.std.proofs.lemmas.Bool.{cases_Bool, ltb-true, ltb-false, ne_eqb, eqb-false, not-true}
 use Rattle.std.proofs.lemmas.List.{map-append}
 use Rattle.std.proofs.lemmas.List.Elements.{filter-append}
 use Rattle.lang_core.specs.Places.{IsOrdered}
@@ -182,13 +182,9 @@ take_indexed label at p ps rows after was found is ordered each =
       ];
     }
 
-not_true : (b : Bool) → not b ≡ true → b ≡ false
-not_true true h = cc
-not_true false h = refl
-
 differ : (label : ℕ) (ps : List PlaceWrites) → AllByRecursion (λ q. is_other label (label_of q) ≡ true) ps → AllByRecursion (λ y. nat_eq y label ≡ false) (map label_of ps)
 differ label [] all = tt
-differ label (p ∷ ps) all = (not_true (nat_eq p.label label) all.0, differ label ps all.1)
+differ label (p ∷ ps) all = (not-true (nat_eq p.label label) all.0, differ label ps all.1)
 
 put_if : (t k : List ℕ) (p : PlaceWrites) (ps : List PlaceWrites) (b : Bool) → map label_of (cond b (p ∷ ps) ps) ≡ cond b (p.label ∷ map label_of ps) (map label_of ps)
 put_if t k p ps true = refl

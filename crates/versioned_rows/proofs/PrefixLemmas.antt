@@ -12,9 +12,9 @@ use Rattle.std.proofs.lemmas.Map.Text.{is_eq-slice_cmp}
 use Rattle.lang_base.specs.Texts.{same_text, text_order, begins_with}
 use Rattle.lang_core.specs.Places.{Place, place_of, place_order, same_place, IsBelowAll, IsOrdered, by_order, rank}
 use Rattle.lang_core.proofs.PlaceLemmas.{total, below_before}
-use Rattle.versioned_rows.proofs.SeekLemmas.{same_order, none_above}
+use Rattle.versioned_rows.proofs.SeekLemmas.{none_above}
+use Rattle.lang_core.proofs.ReadLemmas.{same-order, place_is, place_same}
 use Rattle.versioned_rows.specs.Scans.{beneath, while}
-use Rattle.versioned_rows.proofs.EditLemmas.{place_is, place_same}
 
 pub prefix_first : (p k : List ℕ) → begins_with p k ≡ true → is_gt (text_order p k) ≡ false
 prefix_first [] [] h = refl
@@ -147,7 +147,7 @@ module _ {X : Type 0} (place : X → Place) where
       let back : place_order (place y) (place x) ≡ Less = total.antisymm (place y) (place x) ∙ ap ordering_reverse e in
       let never = sym (first_is y ys) ∙ sym (h (place y)) ∙ not_in (place y) (x ∷ xs) (back, below_before place (place y) (place x) xs back o.0) in cc
   same_first x y xs ys Equal e o q h =
-      let same : same_place (place y) (place x) ≡ true = same_order (place y) (place x) ∙ ap is_eq (total.antisymm (place y) (place x) ∙ ap ordering_reverse e) in
+      let same : same_place (place y) (place x) ≡ true = same-order (place y) (place x) ∙ ap is_eq (total.antisymm (place y) (place x) ∙ ap ordering_reverse e) in
       let there : at (place x) (y ∷ ys) ≡ Some y = rw same refl in
       let both = sym (first_is x xs) ∙ h (place x) ∙ there in cc
 

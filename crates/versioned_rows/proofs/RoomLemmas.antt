@@ -24,7 +24,7 @@ asked_less t k room place writes lt is =
     let g : VersionsCall → ℕ = λ call. cond (is_written t k (call_writes call)) 1 0 in
     sym (ap (λ c. asked t k (remove room place) + g c) is) ∙ sum_by-remove g room place (write_call writes) lt
 
-covers_by : (a : Bool) (n m x y : ℕ) → n ≤ m → n ≤ x → x ≤ y → (a ≡ true → m + 1 ≤ y) → n + cond a 1 0 ≤ y
+pub covers_by : (a : Bool) (n m x y : ℕ) → n ≤ m → n ≤ x → x ≤ y → (a ≡ true → m + 1 ≤ y) → n + cond a 1 0 ≤ y
 covers_by true n m x y small had more here = let h = here refl in omega arith
 covers_by false n m x y small had more here = omega arith
 
@@ -36,7 +36,7 @@ covered_more room rows after writes had more here t k =
     let m = covers_by (is_written t k writes) (asked t k room) (length room) (spare_in rows t k) (spare_in after t k) (count_by-le-length (λ call. is_written t k (call_writes call)) room) (had t k) (more t k) (here t k) in
     omega arith
 
-one_by : (a : Bool) (y : ℕ) → (a ≡ true → 1 ≤ y) → 0 + cond a 1 0 ≤ y
+pub one_by : (a : Bool) (y : ℕ) → (a ≡ true → 1 ≤ y) → 0 + cond a 1 0 ≤ y
 one_by true y here = here refl
 one_by false y here = omega arith
 

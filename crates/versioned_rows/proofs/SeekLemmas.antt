@@ -1,29 +1,13 @@
 -- Where a place stands in a list in order, told by one comparison.
-use Rattle.std.proofs.Common.{◌≡◌, ℕ, zero, suc, ◌+◌, ◌<◌, ◌≤◌, Bool, true, false, ◌&&◌, List, [], ◌∷◌, length, get_or, Some, None, refl, sym, ap, ◌∙◌, arith}
+use Rattle.std.proofs.Common.{◌≡◌, ℕ, zero, suc, ◌+◌, ◌<◌, ◌≤◌, true, false, ◌&&◌, List, [], ◌∷◌, length, get_or, Some, None, refl, sym, ap, ◌∙◌, arith}
 use Rattle.std.specs.declared.cmp.Ordering.{Ordering}
 use Rattle.std.specs.declared.cmp.Ordering.TheVariants.{Less, Equal, Greater}
-use Rattle.std.specs.Ordering.{ordering_reverse, ordering_then, is_eq}
+use Rattle.std.specs.Ordering.{ordering_reverse, is_eq}
 use Rattle.std.specs.List.{find}
-use Rattle.std.proofs.lemmas.Map.Text.{is_eq-slice_cmp}
-use Rattle.lang_base.specs.Texts.{same_text, text_order}
 use Rattle.lang_core.specs.Places.{Place, place_order, same_place, IsBelowAll, IsOrdered, by_order, rank, is_taken}
 use Rattle.std.proofs.lemmas.List.{get_or_default}
 use Rattle.lang_core.proofs.PlaceLemmas.{total, below_before}
-
-then_is : (o q : Ordering) → is_eq (ordering_then o q) ≡ (is_eq o && is_eq q)
-then_is Less q = refl
-then_is Equal q = refl
-then_is Greater q = refl
-
-each_is : (a b c d : Bool) → a ≡ b → c ≡ d → (a && c) ≡ (b && d)
-each_is a b c d e f = rw (e, f) refl
-
--- two places are the same exactly where they compare as equal
-pub same_order : (p q : Place) → same_place p q ≡ is_eq (place_order p q)
-same_order p q =
-    each_is (same_text p.table q.table) (is_eq (text_order p.table q.table)) (same_text p.key q.key) (is_eq (text_order p.key q.key))
-    (sym (is_eq-slice_cmp p.table q.table)) (sym (is_eq-slice_cmp p.key q.key))
-    ∙ sym (then_is (text_order p.table q.table) (text_order p.key q.key))
+use Rattle.lang_core.proofs.ReadLemmas.{same-order}
 
 module _ {X : Type 0} (place : X → Place) (p : Place) where
   below_each : (q : Place) (xs : List X) (i : ℕ) (x : X) → IsBelowAll place q xs → i < length xs → x ≡ get_or xs i x → place_order q (place x) ≡ Less
@@ -90,7 +74,7 @@ module _ {X : Type 0} (place : X → Place) (p : Place) where
   not_taken (y ∷ ys) h = not_by y ys (place_order p (place y)) refl (λ lt. h y lt) (λ g. not_taken ys g)
 
   same_by : (y : X) (o : Ordering) → place_order p (place y) ≡ o → same_place (place y) p ≡ is_eq (ordering_reverse o)
-  same_by y o e = same_order (place y) p ∙ ap is_eq (total.antisymm (place y) p ∙ ap ordering_reverse e)
+  same_by y o e = same-order (place y) p ∙ ap is_eq (total.antisymm (place y) p ∙ ap ordering_reverse e)
 
   pub none_above : (xs : List X) → IsBelowAll place p xs → find (λ x. same_place (place x) p) xs ≡ None
   none_above [] all = refl

@@ -11,8 +11,8 @@ use Rattle.lang_core.specs.declared.writes.Write.{Write}
 use Rattle.versioned_rows.specs.Places.{is_written}
 use Rattle.versioned_rows.specs.Rows.{labels_in, spare_in, IsEdited}
 use Rattle.versioned_rows.specs.declared.rows.Row.{Row}
-use Rattle.versioned_rows.proofs.EditLemmas.{place_is, place_same}
-use Rattle.versioned_rows.proofs.SeekLemmas.{same_order}
+use Rattle.lang_core.proofs.ReadLemmas.{place_is, place_same, same-order}
+use Rattle.std.proofs.Math.Bool.{or-false, or-true, or_assoc}
 
 below_at : (p : Place) (ws : List Write) (j : ℕ) (d : Write) → IsBelowAll write_place p ws → j < length ws → place_order p (write_place (get_or ws j d)) ≡ Less
 below_at p [] j d all lt = absurd (omega arith)
@@ -25,32 +25,24 @@ order_at (w ∷ ws) i zero d o lt within = absurd (omega arith)
 order_at (w ∷ ws) zero (suc j) d o lt within = below_at (write_place w) ws j d o.0 (omega arith)
 order_at (w ∷ ws) (suc i) (suc j) d o lt within = order_at ws i j d o.1 (omega arith) (omega arith)
 
+pub made_by : (n : ℕ) (a b : Bool) (z : ℕ) → (a || b) ≡ true → (a ≡ true → n ≤ z) → (b ≡ true → n ≤ z) → n ≤ z
+made_by n true b z h f g = f refl
+made_by n false b z h f g = g h
+
 -- no two writes are at one place
 pub writes_apart : (ws : List Write) (i j : ℕ) (d : Write) → IsOrdered write_place ws → i < j → j < length ws → same_place (write_place (get_or ws i d)) (write_place (get_or ws j d)) ≡ false
-writes_apart ws i j d o lt within = same_order (write_place (get_or ws i d)) (write_place (get_or ws j d)) ∙ ap is_eq (order_at ws i j d o lt within)
-
-or_true : (b : Bool) → (b || true) ≡ true
-or_true true = refl
-or_true false = refl
-
-or_false : (b : Bool) → (b || false) ≡ b
-or_false true = refl
-or_false false = refl
+writes_apart ws i j d o lt within = same-order (write_place (get_or ws i d)) (write_place (get_or ws j d)) ∙ ap is_eq (order_at ws i j d o lt within)
 
 some_if : {X : Type 0} (b c : Bool) (x : X) (o : Option X) → is_some o ≡ c → is_some (cond b (Some x) o) ≡ (b || c)
 some_if true c x o h = refl
 some_if false c x o h = h
 
-or_more : (a b c : Bool) → (a || (b || c)) ≡ ((a || b) || c)
-or_more true b c = refl
-or_more false b c = refl
-
 found_more : {X : Type 0} (p : X → Bool) (xs : List X) (i : ℕ) (d : X) → i < length xs → is_some (find p (take (suc i) xs)) ≡ (is_some (find p (take i xs)) || p (get_or xs i d))
 found_more p [] i d lt = absurd (omega arith)
-found_more p (x ∷ xs) zero d lt = some_if (p x) false x None refl ∙ or_false (p x)
+found_more p (x ∷ xs) zero d lt = some_if (p x) false x None refl ∙ or-false (p x)
 found_more p (x ∷ xs) (suc i) d lt =
     some_if (p x) (is_some (find p (take i xs)) || p (get_or xs i d)) x (find p (take (suc i) xs)) (found_more p xs i d (omega arith))
-    ∙ or_more (p x) (is_some (find p (take i xs))) (p (get_or xs i d))
+    ∙ sym (or_assoc (p x) (is_some (find p (take i xs))) (p (get_or xs i d)))
     ∙ ap (λ b. b || p (get_or xs i d)) (sym (some_if (p x) (is_some (find p (take i xs))) x (find p (take i xs)) refl))
 
 pub written_more : (t k : List ℕ) (ws : List Write) (i : ℕ) (d : Write) → i < length ws
@@ -72,7 +64,7 @@ not_written ws i w o lt is =
 found_at : {X : Type 0} (p : X → Bool) (xs : List X) (i : ℕ) (x : X) → i < length xs → x ≡ get_or xs i x → p x ≡ true → is_some (find p xs) ≡ true
 found_at p [] i x lt is h = absurd (omega arith)
 found_at p (y ∷ ys) zero x lt is h = let here : p y ≡ true = ap p (sym is) ∙ h in rw here refl
-found_at p (y ∷ ys) (suc i) x lt is h = some_if (p y) true y (find p ys) (found_at p ys i x (omega arith) is h) ∙ or_true (p y)
+found_at p (y ∷ ys) (suc i) x lt is h = some_if (p y) true y (find p ys) (found_at p ys i x (omega arith) is h) ∙ or-true (p y)
 
 -- these write the key of each of them
 pub written_at : (ws : List Write) (i : ℕ) (w : Write) → i < length ws → w ≡ get_or ws i w → is_written w.table w.key ws ≡ true
@@ -92,8 +84,8 @@ module _ (edit : List ℕ → List ℕ) (start before after : List Row) (ws : Li
       edited t k ∙ elim (cases_Bool (same_place (write_place w) (place_of t k))) [
         | inl e ↦ (let p : write_place w ≡ place_of t k = place_is (write_place w) (place_of t k) e in
             let now : edit (labels_in before w.table w.key) ≡ edit (labels_in start t k) = ap edit (unedited ∙ ap (λ (q : Place). labels_in start q.table q.key) p) in
-            rw (more, e, or_true (is_written t k (take i ws))) now)
-        | inr differs ↦ (let b = each t k in rw (more, differs, or_false (is_written t k (take i ws))) b)
+            rw (more, e, or-true (is_written t k (take i ws))) now)
+        | inr differs ↦ (let b = each t k in rw (more, differs, or-false (is_written t k (take i ws))) b)
       ]
 
 -- and places for labels: one less at each key that is written
@@ -128,10 +120,6 @@ module _ (start before after : List Row) (ws : List Write) (i : ℕ) (w : Write)
       let P : Bool → Type 0 = λ c. spare_in start w.table w.key ≤ spare_in before w.table w.key + cond c 1 0 in
       let more : spare_in start w.table w.key ≤ spare_in before w.table w.key + 0 = subst P none rest in
       omega arith
-
-  made_by : (n : ℕ) (a b : Bool) (z : ℕ) → (a || b) ≡ true → (a ≡ true → n ≤ z) → (b ≡ true → n ≤ z) → n ≤ z
-  made_by n true b z h f g = f refl
-  made_by n false b z h f g = g h
 
   -- places for one key more
   pub spare_made : (n : ℕ) → ((t k : List ℕ) → is_written t k (take i ws) ≡ true → n ≤ spare_in before t k) → ((t k : List ℕ) → spare_in before t k ≤ spare_in after t k) → n ≤ spare_in after w.table w.key

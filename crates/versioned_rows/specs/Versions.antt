@@ -14,7 +14,7 @@ use Rattle.versioned_rows.specs.declared.places.PlaceWrites.{PlaceWrites}
 use base.Stored.{Coded}
 
 -- what each place wrote, in the order of the places, and the calls for which room was made
-pub record Kept : Type 0 where
+pub record KeptVersions : Type 0 where
   pub versions : List PlaceWrites
   pub room : List VersionsCall
 

@@ -39,9 +39,9 @@ pub struct Versions {
 
 impl Model for Versions {
     ghost use Rattle.std.specs.Prelude.{◌+◌, ◌≤◌, vec_len, vec_capacity};
-    ghost use Rattle.versioned_rows.specs.Versions.{Kept, IsIndexed, IsCovered};
+    ghost use Rattle.versioned_rows.specs.Versions.{KeptVersions, IsIndexed, IsCovered};
 
-    ghost Value = { Kept };
+    ghost Value = { KeptVersions };
 
     ghost view = { λ v. record { versions = v.places.items; room = v.room.items } };
 
