@@ -8,7 +8,7 @@ use Rattle.std.specs.Str.{is_utf8}
 use Rattle.lang_core.specs.declared.request.Request.{Request}
 use Rattle.lang_core.specs.Names.{is_name, is_who}
 use Rattle.lang_tree.specs.declared.method.Method.{Method}
-use Rattle.lang_tree.specs.Forms.{is_text}
+use Rattle.lang_base.specs.Texts.{same_text}
 use Rattle.http_header.specs.FieldValue.{FieldValue, plain_value}
 use Rattle.http_header.specs.HeaderMap.{Entries, get_all}
 use Rattle.http_header.specs.Token.{lowercase}
@@ -30,7 +30,7 @@ use Rattle.wire_fields.specs.Fits.{bad_unless, number_in, number_or_zero, servic
 use Rattle.aire_wire.specs.Incoming.{names_in, says_replace_response, sealed_by, unless_refused}
 use Rattle.aire_wire.specs.Written.{chain_text}
 use Rattle.aire_wire.specs.declared.incoming.Incoming.{Incoming}
-use Rattle.wire_fields.proofs.SealLemmas.{same_text, seal_form, seal_utf8}
+use Rattle.wire_fields.proofs.SealLemmas.{text_same, seal_form, seal_utf8}
 use Rattle.wire_fields.proofs.SpeltLemmas.{decimal_utf8, id_back, id_utf8, name_utf8, number_back}
 use Rattle.aire_wire.proofs.TextForms.{chain_read, chain_utf8, who_utf8}
 
@@ -91,16 +91,16 @@ pub fits : (header : AireHeader) (b : Bool) → b ≡ true → bad_unless header
 fits header b is = rw is refl
 
 -- a text that stands where it is expected
-pub stands : (header : AireHeader) (text wanted : List ℕ) → text ≡ wanted → bad_unless header (is_text text wanted) ≡ None
-stands header text wanted is = fits header (is_text text wanted) (ap (λ t. is_text t wanted) is ∙ same_text wanted)
+pub stands : (header : AireHeader) (text wanted : List ℕ) → text ≡ wanted → bad_unless header (same_text text wanted) ≡ None
+stands header text wanted is = fits header (same_text text wanted) (ap (λ t. same_text t wanted) is ∙ text_same wanted)
 
 -- an id's service stands for its side
 pub on_side : (header : AireHeader) (id side name : List ℕ) (n : ℕ) → id ≡ id_text name n → side ≡ name → is_name name ≡ true → 0 < n → n < 2 ^ 64
-    → bad_unless header (is_text (service_in id) side) ≡ None
+    → bad_unless header (same_text (service_in id) side) ≡ None
 on_side header id side name n is its named positive small =
-    fits header (is_text (service_in id) side)
-    (ap (λ t. is_text (service_in t) side) is ∙ ap (λ t. is_text (service_in (id_text name n)) t) its
-    ∙ ap (λ o. is_text (service_or_none o) name) (id_back name n named positive small) ∙ same_text name)
+    fits header (same_text (service_in id) side)
+    (ap (λ t. same_text (service_in t) side) is ∙ ap (λ t. same_text (service_in (id_text name n)) t) its
+    ∙ ap (λ o. same_text (service_or_none o) name) (id_back name n named positive small) ∙ text_same name)
 
 pub id_number : (id name : List ℕ) (n : ℕ) → id ≡ id_text name n → is_name name ≡ true → 0 < n → n < 2 ^ 64 → number_in id ≡ n
 id_number id name n is named positive small = ap number_in is ∙ ap number_or_zero (id_back name n named positive small)
@@ -114,7 +114,7 @@ sealed_well peers sender name secret bytes sealed text is peer same_bytes digits
     ∙ ap (λ p. sealed_by p bytes text) peer
     ∙ ap (λ b. sealed_by (Some (record { name = name; secret = secret })) b text) same_bytes
     ∙ ap (λ t. sealed_by (Some (record { name = name; secret = secret })) sealed t) digits
-    ∙ ap (λ b. cond b None (Some Seal)) (same_text (seal_digits secret sealed))
+    ∙ ap (λ b. cond b None (Some Seal)) (text_same (seal_digits secret sealed))
 
 -- ---- messages with the same parts
 

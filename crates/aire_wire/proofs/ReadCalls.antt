@@ -22,8 +22,8 @@ use Rattle.aire_wire.specs.Written.{call_asking, call_fields, call_or_deletion, 
 use Rattle.wire_fields.specs.Heads.{with_fields}
 use Rattle.aire_wire.specs.declared.incoming.Incoming.TheVariants.{Live}
 use Rattle.aire_wire.proofs.FieldsRead.{IsFine, answered, chain_back, fine_chain, fine_id, fine_name, fine_seal, fine_who, fits, neither, none_refused, id_number, on_side, same_request, same_set, sealed_well, stands, text_read}
-use Rattle.wire_fields.proofs.SpeltLemmas.{both_hold}
 use Rattle.aire_wire.proofs.TextForms.{chain_ends}
+use Rattle.std.proofs.lemmas.Bool.{and_parts}
 
 pub call_reads_back : (set : SetMessage) (request : Request) (notifier secret : List ℕ) (peers : Secrets) (console : List ℕ)
     → IsSent set → IsLive set request → is_spelt headers.NotifierUrl notifier ≡ true → IsPeer peers set.caller secret
@@ -40,7 +40,7 @@ call_reads_back set request notifier secret peers console sent live spelt peer =
     } in
     let digits = seal_digits secret (sealed_bytes unsealed aire_headers) in
     let id = id_text set.caller set.number in
-    let notified = both_hold (is_utf8 notifier) (is_notifier notifier) spelt in
+    let notified = and_parts (is_utf8 notifier) (is_notifier notifier) spelt in
     let from : IsFine headers.From set.caller = fine_name headers.From set.caller sent.caller refl in
     let dest : IsFine headers.Dest set.dest = fine_name headers.Dest set.dest sent.dest refl in
     let number : IsFine headers.ResponseId id = fine_id headers.ResponseId set.caller set.number sent.caller sent.number.0 sent.number.1 refl in

@@ -8,7 +8,7 @@ use Rattle.lang_core.specs.declared.request.Request.{Request}
 use Rattle.lang_tree.specs.declared.method.Method.{Method}
 use Rattle.lang_tree.specs.declared.method.Method.TheVariants.{Get, Put, Post, Delete as DeleteMethod}
 use Rattle.lang_base.specs.Characters.{is_visible}
-use Rattle.lang_tree.specs.Forms.{is_text}
+use Rattle.lang_base.specs.Texts.{same_text}
 use Rattle.http_header.specs.FieldValue.{FieldValue}
 use Rattle.http_header.specs.HeaderMap.{Entries, get_all}
 use Rattle.http_header.specs.Token.{lowercase}
@@ -48,7 +48,7 @@ deletes (Some request) = false
 -- what a word says to its reader
 abbrev Says : List ℕ → Bool → ℕ → Type 0
 Says word deletion version =
-    IsFine headers.Repair word × (is_text word (codes "delete") ≡ deletion) × (word ≡ set_word deletion version)
+    IsFine headers.Repair word × (same_text word (codes "delete") ≡ deletion) × (word ≡ set_word deletion version)
 
 says : (b : Bool) (version : ℕ) → nat_eq version 1 ≡ b → Says (kind_word (cond b Create Replace)) false version
 says true version is = (word_fine (codes "create") refl refl, refl, rw is refl)
@@ -182,7 +182,7 @@ set_reads_back set secret = λ sent peers console peer.
     let who_read = text_read head headers.Who set.who all.who who.utf8 in
     let seal_read = text_read head headers.Seal digits all.seal seal.utf8 in
     let version_back : version_at head headers.Version ≡ set.version = ap (λ t. or_zero (number_of t)) version_read ∙ ap or_zero (number_back set.version sent.version) in
-    let deletion : is_deletion head ≡ deletes set.desired = ap (λ t. is_text t (codes "delete")) word_read ∙ word_is.1 in
+    let deletion : is_deletion head ≡ deletes set.desired = ap (λ t. same_text t (codes "delete")) word_read ∙ word_is.1 in
     let fields : first_refusal head true set_headers ≡ None =
     neither _ _ (none_refused head headers.From set.caller true all.from from)
     (neither _ _ (none_refused head headers.Dest set.dest true all.dest dest)

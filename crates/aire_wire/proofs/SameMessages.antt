@@ -17,7 +17,7 @@ use Rattle.wire_fields.specs.declared.refused.WireRefused.{WireRefused}
 use Rattle.wire_fields.specs.declared.secrets.Peer.{Peer}
 use Rattle.wire_fields.specs.declared.secrets.Secrets.{Secrets}
 use Rattle.wire_laws.proofs.SameFields.{Agree, of_table, same_table}
-use Rattle.lang_tree.specs.Forms.{is_text}
+use Rattle.lang_base.specs.Texts.{same_text}
 use Rattle.aire_wire.specs.Incoming.{desired_in, desired_refusal, incoming, incoming_as, is_deletion, says_replace_response, seal_refusal, set_answer, set_fields, set_with, set_word, unless_refused}
 use Rattle.aire_wire.specs.declared.incoming.Incoming.{Incoming}
 use Rattle.aire_wire.specs.declared.incoming.Incoming.TheVariants.{Set}
@@ -49,9 +49,9 @@ set_by me request desired seal asked =
     (first_of desired
     (first_of (first_refusal head false neighbour_headers)
     (first_of (first_refusal head true seal_header)
-    (first_of (bad_unless headers.Dest (is_text (text_at head headers.Dest) me))
-    (first_of (bad_unless headers.Repair (is_text (text_at head headers.Repair) (set_word (is_deletion head) (version_at head headers.Version))))
-    (bad_unless headers.ResponseId (is_text (service_in (text_at head headers.ResponseId)) (text_at head headers.From)))))))))
+    (first_of (bad_unless headers.Dest (same_text (text_at head headers.Dest) me))
+    (first_of (bad_unless headers.Repair (same_text (text_at head headers.Repair) (set_word (is_deletion head) (version_at head headers.Version))))
+    (bad_unless headers.ResponseId (same_text (service_in (text_at head headers.ResponseId)) (text_at head headers.From)))))))))
     seal)
     (Set (set_with request asked (version_at head headers.Version) (number_of (text_at head headers.Before)) (number_of (text_at head headers.After))))
 

@@ -12,10 +12,11 @@ use Rattle.std.proofs.lemmas.Str.Ascii.{IsAscii-nil, IsAscii-cons}
 use Rattle.lang_core.specs.Names.{is_name, is_name_byte, is_who}
 use Rattle.lang_base.specs.Characters.{is_visible}
 use Rattle.lang_tree.specs.Forms.{is_path}
-use Rattle.wire_fields.proofs.SealLemmas.{same_text}
-use Rattle.wire_fields.proofs.SpeltLemmas.{ascii_by, both_hold, name_ascii, utf8_of_ascii}
+use Rattle.wire_fields.proofs.SealLemmas.{text_same}
+use Rattle.wire_fields.proofs.SpeltLemmas.{ascii_by, name_ascii, utf8_of_ascii}
 use Rattle.aire_wire.specs.Incoming.{ends_with_name, is_behind_comma, names_in}
 use Rattle.aire_wire.specs.Written.{behind_comma, chain_text}
+use Rattle.std.proofs.lemmas.Bool.{and_parts}
 
 -- ---- visible characters
 
@@ -26,10 +27,10 @@ pub visible_utf8 : (text : List ℕ) → list_all is_visible text ≡ true → i
 visible_utf8 text all = utf8_of_ascii text (ascii_by is_visible visible_small text all)
 
 pub path_utf8 : (path : List ℕ) → is_path path ≡ true → is_utf8 path ≡ true
-path_utf8 path is = visible_utf8 path (both_hold (starts_with nat_eq path (codes "/") && nat_le (length path) 1024) (list_all is_visible path) is).1
+path_utf8 path is = visible_utf8 path (and_parts (starts_with nat_eq path (codes "/") && nat_le (length path) 1024) (list_all is_visible path) is).1
 
 pub who_utf8 : (who : List ℕ) → is_who who ≡ true → is_utf8 who ≡ true
-who_utf8 who is = visible_utf8 who (both_hold (not (nat_eq (length who) 0) && nat_le (length who) 64) (list_all is_visible who) is).1
+who_utf8 who is = visible_utf8 who (and_parts (not (nat_eq (length who) 0) && nat_le (length who) 64) (list_all is_visible who) is).1
 
 -- ---- chains
 
@@ -39,20 +40,20 @@ no_comma b is = grind (arith, nat_tests)
 without_comma : (bs : List ℕ) → list_all is_name_byte bs ≡ true → All (λ b. (b == 44) ≡ false) bs
 without_comma [] all = λ k d h. absurd (omega (arith, h))
 without_comma (b ∷ bs) all =
-    let both = both_hold (is_name_byte b) (list_all is_name_byte bs) all in
+    let both = and_parts (is_name_byte b) (list_all is_name_byte bs) all in
     All-cons (λ b. (b == 44) ≡ false) b bs (no_comma b both.0) (without_comma bs both.1)
 
 name_without_comma : (name : List ℕ) → is_name name ≡ true → All (λ b. (b == 44) ≡ false) name
 name_without_comma name is =
-    without_comma name (both_hold (not (nat_eq (length name) 0) && nat_le (length name) 32) (list_all is_name_byte name) is).1
+    without_comma name (and_parts (not (nat_eq (length name) 0) && nat_le (length name) 32) (list_all is_name_byte name) is).1
 
 -- the names of a chain's text are those of the chain
 pub chain_read : (name : List ℕ) (names : List (List ℕ)) → list_all is_name (name ∷ names) ≡ true → names_in (chain_text (name ∷ names)) ≡ name ∷ names
 chain_read name [] all =
-    let both = both_hold (is_name name) true all in
+    let both = and_parts (is_name name) true all in
     rw (append-nil name) (slice_split_none (λ b. b == 44) name (name_without_comma name both.0))
 chain_read name (next ∷ names) all =
-    let both = both_hold (is_name name) (list_all is_name (next ∷ names)) all in
+    let both = and_parts (is_name name) (list_all is_name (next ∷ names)) all in
     slice_split_at (λ b. b == 44) name 44 (chain_text (next ∷ names)) (name_without_comma name both.0) refl
     ∙ ap (λ rest. name ∷ rest) (chain_read next names both.1)
 
@@ -69,7 +70,7 @@ last_drop front last =
     rw at (drop-append-add front last 0)
 
 ends : (front last : List ℕ) → ends_with nat_eq (front ++ last) last ≡ true
-ends front last = rw (last_drop front last) (same_text last)
+ends front last = rw (last_drop front last) (text_same last)
 
 after_comma : (front : List ℕ) → is_behind_comma (front ++ 44 ∷ []) ≡ true
 after_comma front = rw (ends front (44 ∷ [])) (or_true (nat_eq (length (front ++ 44 ∷ [])) 0))
@@ -101,13 +102,13 @@ chain_ends (first ∷ names) name =
 pieces_ascii : (names : List (List ℕ)) → list_all is_name names ≡ true → IsAscii (flat_map behind_comma names)
 pieces_ascii [] all = IsAscii-nil
 pieces_ascii (name ∷ names) all =
-    let both = both_hold (is_name name) (list_all is_name names) all in
+    let both = and_parts (is_name name) (list_all is_name names) all in
     IsAscii-append (44 ∷ name) (flat_map behind_comma names) (IsAscii-cons 44 name (omega arith) (name_ascii name both.0)) (pieces_ascii names both.1)
 
 chain_ascii : (names : List (List ℕ)) → list_all is_name names ≡ true → IsAscii (chain_text names)
 chain_ascii [] all = IsAscii-nil
 chain_ascii (name ∷ names) all =
-    let both = both_hold (is_name name) (list_all is_name names) all in
+    let both = and_parts (is_name name) (list_all is_name names) all in
     IsAscii-append name (flat_map behind_comma names) (name_ascii name both.0) (pieces_ascii names both.1)
 
 pub chain_utf8 : (names : List (List ℕ)) → list_all is_name names ≡ true → is_utf8 (chain_text names) ≡ true

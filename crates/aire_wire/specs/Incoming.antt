@@ -2,7 +2,7 @@
 use Rattle.std.specs.Prelude.{ℕ, ◌-◌, Bool, true, false, ◌&&◌, ◌||◌, List, [], ◌∷◌, ◌++◌, Option, Some, None, Result, Ok, Err, codes, find, length, take, nat_eq, ◌==◌, if◌then◌else◌}
 use Rattle.std.specs.List.{ends_with, slice_split}
 use Rattle.lang_core.specs.declared.request.Request.{Request}
-use Rattle.lang_tree.specs.Forms.{is_text}
+use Rattle.lang_base.specs.Texts.{same_text}
 use Rattle.lang_tree.specs.declared.method.Method.{Method}
 use Rattle.lang_tree.specs.declared.method.Method.TheVariants.{Get}
 use Rattle.http_header.specs.FieldValue.{FieldValue}
@@ -61,7 +61,7 @@ names_in chain = slice_split (λ b. b == 44) chain
 -- who sealed these bytes is this peer
 abbrev pub sealed_by : Option Peer → List ℕ → List ℕ → Option WireRefused
 sealed_by None bytes text = Some Seal
-sealed_by (Some peer) bytes text = if is_text text (seal_digits peer.secret bytes) then None else Some Seal
+sealed_by (Some peer) bytes text = if same_text text (seal_digits peer.secret bytes) then None else Some Seal
 
 abbrev pub sealed_bytes : WireRequest → List AireHeader → List ℕ
 sealed_bytes request fields = sealed_request request.method request.path request.head fields request.body
@@ -93,8 +93,8 @@ abbrev pub call_head_refusal : List ℕ → Entries FieldValue → Option WireRe
 call_head_refusal me head =
     first_of (first_refusal head true call_headers)
     (first_of (first_refusal head true seal_header)
-    (first_of (bad_unless headers.Dest (is_text (text_at head headers.Dest) me))
-    (first_of (bad_unless headers.ResponseId (is_text (service_in (text_at head headers.ResponseId)) (text_at head headers.From)))
+    (first_of (bad_unless headers.Dest (same_text (text_at head headers.Dest) me))
+    (first_of (bad_unless headers.ResponseId (same_text (service_in (text_at head headers.ResponseId)) (text_at head headers.From)))
     (bad_unless headers.Chain (ends_with_name (text_at head headers.Chain) (text_at head headers.From))))))
 
 abbrev pub call_request : WireRequest → Request
@@ -125,7 +125,7 @@ call_message request = set_with request (Some (call_request request)) 1 None Non
 -- ---- set messages
 
 abbrev pub is_deletion : Entries FieldValue → Bool
-is_deletion head = is_text (text_at head headers.Repair) (codes "delete")
+is_deletion head = same_text (text_at head headers.Repair) (codes "delete")
 
 -- those fields that it has
 abbrev pub set_fields : Bool → List AireHeader
@@ -147,9 +147,9 @@ set_head_refusal me head =
     (first_of (desired_refusal (is_deletion head) head)
     (first_of (first_refusal head false neighbour_headers)
     (first_of (first_refusal head true seal_header)
-    (first_of (bad_unless headers.Dest (is_text (text_at head headers.Dest) me))
-    (first_of (bad_unless headers.Repair (is_text (text_at head headers.Repair) (set_word (is_deletion head) (version_at head headers.Version))))
-    (bad_unless headers.ResponseId (is_text (service_in (text_at head headers.ResponseId)) (text_at head headers.From))))))))
+    (first_of (bad_unless headers.Dest (same_text (text_at head headers.Dest) me))
+    (first_of (bad_unless headers.Repair (same_text (text_at head headers.Repair) (set_word (is_deletion head) (version_at head headers.Version))))
+    (bad_unless headers.ResponseId (same_text (service_in (text_at head headers.ResponseId)) (text_at head headers.From))))))))
 
 abbrev pub set_request : WireRequest → Request
 set_request request = record {
@@ -172,7 +172,7 @@ set_message request =
 -- ---- response messages
 
 unfoldable pub says_replace_response : Entries FieldValue → Bool
-says_replace_response head = is_text (text_at head headers.Repair) (codes "replace_response")
+says_replace_response head = same_text (text_at head headers.Repair) (codes "replace_response")
 
 abbrev pub answer_sides : List ℕ → Entries FieldValue → Option WireRefused
 answer_sides me head =
@@ -202,11 +202,11 @@ abbrev pub console_head_refusal : List ℕ → Entries FieldValue → Option Wir
 console_head_refusal me head =
     first_of (first_refusal head true console_headers)
     (first_of (first_refusal head true seal_header)
-    (bad_unless headers.Dest (is_text (text_at head headers.Dest) me)))
+    (bad_unless headers.Dest (same_text (text_at head headers.Dest) me)))
 
 abbrev pub console_seal_refusal : List ℕ → WireRequest → Option WireRefused
 console_seal_refusal secret request =
-    if is_text (text_at request.head headers.Seal) (seal_digits secret (sealed_bytes request console_headers)) then None else Some Seal
+    if same_text (text_at request.head headers.Seal) (seal_digits secret (sealed_bytes request console_headers)) then None else Some Seal
 
 abbrev pub console_request : ConsoleWord → WireRequest → ConsoleRequest
 console_request word request = record { word = word; who = text_at request.head headers.Who; body = request.body }

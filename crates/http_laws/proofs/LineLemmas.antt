@@ -8,7 +8,7 @@ use Rattle.std.proofs.lemmas.List.Folds.{list_all-append}
 use Rattle.std.proofs.lemmas.List.Sums.{AllPass-from_list_all}
 use Rattle.std.proofs.lemmas.Slice.Eq.{bytes_eq-Decides}
 use Rattle.std.specs.List.{All}
-use Rattle.lang_tree.specs.Forms.{is_text}
+use Rattle.lang_base.specs.Texts.{same_text}
 use Rattle.httparse.specs.Grammar.{Field, IsField, crlf, is_token, is_token_byte, is_value_byte, print_field, trim_ows}
 use Rattle.httparse.specs.Spans.{name_and_value}
 use Rattle.httparse.proofs.PieceLemmas.{token_is_no_newline}
@@ -49,7 +49,7 @@ parts_of : (line : Line) → is_sound line ≡ true → IsSound line
 parts_of line is =
     let both = and_parts (is_token line.0) (is_plain line.1) is in
     let name = and_parts (nat_lt 0 (length line.0)) (list_all is_token_byte line.0) both.0 in
-    let value = and_parts (list_all is_value_byte line.1) (is_text (trim_ows line.1) line.1) both.1 in
+    let value = and_parts (list_all is_value_byte line.1) (same_text (trim_ows line.1) line.1) both.1 in
     (name.0, name.1, value.0, (bytes_eq-Decides (trim_ows line.1) line.1).0 value.1)
 
 -- ---- as lines of a head

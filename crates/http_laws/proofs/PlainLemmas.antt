@@ -7,7 +7,7 @@ use Rattle.std.proofs.lemmas.List.{length-reverse, reverse-append, reverse-rever
 use Rattle.std.proofs.lemmas.List.Folds.{list_all-append}
 use Rattle.std.proofs.lemmas.Slice.Eq.{bytes_eq-Decides}
 use Rattle.lang_base.specs.Characters.{is_digit, is_visible}
-use Rattle.lang_tree.specs.Forms.{is_text}
+use Rattle.lang_base.specs.Texts.{same_text}
 use Rattle.httparse.specs.Grammar.{is_ows, is_token_byte, is_value_byte, skip_ows, trim_ows}
 use Rattle.http_front.specs.Writing.{last_lines}
 use Rattle.http_laws.specs.ReadBack.{is_plain}
@@ -24,7 +24,7 @@ trimmed value front back = ap (λ (v : List ℕ). reverse (skip_ows (reverse v))
 
 pub plain_by : (value : List ℕ) → list_all is_value_byte value ≡ true → skip_ows value ≡ value → skip_ows (reverse value) ≡ reverse value → is_plain value ≡ true
 plain_by value bytes front back =
-    and_from (list_all is_value_byte value) (is_text (trim_ows value) value) bytes ((bytes_eq-Decides (trim_ows value) value).1 (trimmed value front back))
+    and_from (list_all is_value_byte value) (same_text (trim_ows value) value) bytes ((bytes_eq-Decides (trim_ows value) value).1 (trimmed value front back))
 
 visible_stays : (b : ℕ) → is_visible b ≡ true → is_ows b ≡ false
 visible_stays b is = grind (arith, nat_tests)

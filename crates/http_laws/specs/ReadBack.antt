@@ -2,7 +2,8 @@
 use Rattle.std.specs.Prelude.{◌≡◌, ℕ, ◌+◌, ◌<◌, ◌≤◌, Bool, true, ◌&&◌, List, ◌++◌, Result, Ok, codes, length}
 use Rattle.std.specs.List.{list_all}
 use Rattle.std.specs.Str.{is_utf8}
-use Rattle.lang_tree.specs.Forms.{is_path, is_text}
+use Rattle.lang_base.specs.Texts.{same_text}
+use Rattle.lang_tree.specs.Forms.{is_path}
 use Rattle.httparse.specs.Grammar.{is_value_byte, trim_ows}
 use Rattle.http_front.specs.Fields.{map_of}
 use Rattle.http_front.specs.Reading.{SpellsRequest, SpellsResponse}
@@ -13,7 +14,7 @@ use Rattle.http_front.specs.declared.message.WireResponse.{WireResponse}
 
 -- bytes that a field's value may have, with no white space around them
 abbrev pub is_plain : List ℕ → Bool
-is_plain value = list_all is_value_byte value && is_text (trim_ows value) value
+is_plain value = list_all is_value_byte value && same_text (trim_ows value) value
 
 abbrev pub is_plain_line : Line → Bool
 is_plain_line line = is_plain line.1

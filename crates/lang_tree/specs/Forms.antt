@@ -15,10 +15,6 @@ abbrev pub begins_with_digit : List ℕ → Bool
 begins_with_digit [] = false
 begins_with_digit (b ∷ bs) = is_digit b
 
--- the same test, by the word that the wire's crates have for it
-abbrev pub is_text : List ℕ → List ℕ → Bool
-is_text a b = same_text a b
-
 -- the words of the language itself
 abbrev pub is_reserved : List ℕ → Bool
 is_reserved w =

@@ -11,10 +11,11 @@ use Rattle.hex.specs.Hex.{encode_lower, encode_with, lower_digits}
 use Rattle.hex.proofs.HexLemmas.{length-encode_with}
 use Rattle.sha2.specs.Sha256.{digest_bytes, sha256}
 use Rattle.sha2.proofs.Facts256.{length-sha256}
-use Rattle.lang_tree.specs.Forms.{is_text}
+use Rattle.lang_base.specs.Texts.{same_text}
 use Rattle.peer_seal.specs.Seal.{hmac, seal_digits}
 use Rattle.wire_fields.specs.Forms.{is_seal, is_seal_digit}
-use Rattle.wire_fields.proofs.SpeltLemmas.{and_holds, ascii_by, both_hold, utf8_of_ascii}
+use Rattle.wire_fields.proofs.SpeltLemmas.{ascii_by, utf8_of_ascii}
+use Rattle.std.proofs.lemmas.Bool.{and_from, and_parts}
 
 abbrev is_byte : ℕ → Bool
 is_byte b = nat_lt b 256
@@ -28,14 +29,14 @@ one_byte (suc i) n = remainder (n / 256 ^ suc i)
 
 some_bytes : (k n : ℕ) → list_all is_byte (bytes_high_first k n) ≡ true
 some_bytes zero n = refl
-some_bytes (suc k) n = and_holds (is_byte (byte_at k n)) (list_all is_byte (bytes_high_first k n)) (one_byte k n) (some_bytes k n)
+some_bytes (suc k) n = and_from (is_byte (byte_at k n)) (list_all is_byte (bytes_high_first k n)) (one_byte k n) (some_bytes k n)
 
 digest_is_bytes : (words : List ℕ) (n : ℕ) → list_all is_byte (digest_bytes words n) ≡ true
 unfolding digest_bytes
 digest_is_bytes words zero = refl
 digest_is_bytes words (suc n) =
     list_all-append is_byte (digest_bytes words n) (to_be_bytes w32 (slice_index words n))
-    ∙ and_holds (list_all is_byte (digest_bytes words n)) (list_all is_byte (to_be_bytes w32 (slice_index words n)))
+    ∙ and_from (list_all is_byte (digest_bytes words n)) (list_all is_byte (to_be_bytes w32 (slice_index words n)))
     (digest_is_bytes words n) (some_bytes 4 (slice_index words n))
 
 sha_is_bytes : (m : List ℕ) → list_all is_byte (sha256 m) ≡ true
@@ -44,8 +45,8 @@ sha_is_bytes m = digest_is_bytes _ 8
 
 passes_at : (p : ℕ → Bool) (xs : List ℕ) (i : ℕ) → list_all p xs ≡ true → i < length xs → p (slice_index xs i) ≡ true
 passes_at p [] i all inside = absurd (omega arith)
-passes_at p (x ∷ xs) zero all inside = (both_hold (p x) (list_all p xs) all).0
-passes_at p (x ∷ xs) (suc i) all inside = passes_at p xs i (both_hold (p x) (list_all p xs) all).1 (omega arith)
+passes_at p (x ∷ xs) zero all inside = (and_parts (p x) (list_all p xs) all).0
+passes_at p (x ∷ xs) (suc i) all inside = passes_at p xs i (and_parts (p x) (list_all p xs) all).1 (omega arith)
 
 digit_at : (d : ℕ) → d < 16 → is_seal_digit (slice_index lower_digits d) ≡ true
 digit_at d inside = passes_at is_seal_digit lower_digits d refl inside
@@ -57,10 +58,10 @@ encoded : (bytes : List ℕ) → list_all is_byte bytes ≡ true → list_all is
 unfolding encode_with
 encoded [] all = refl
 encoded (b ∷ bs) all =
-    let both = both_hold (is_byte b) (list_all is_byte bs) all in
-    let rest = and_holds (is_seal_digit (slice_index lower_digits (b % 16))) (list_all is_seal_digit (encode_lower bs))
+    let both = and_parts (is_byte b) (list_all is_byte bs) all in
+    let rest = and_from (is_seal_digit (slice_index lower_digits (b % 16))) (list_all is_seal_digit (encode_lower bs))
     (digit_at (b % 16) (omega arith)) (encoded bs both.1) in
-    and_holds (is_seal_digit (slice_index lower_digits (b / 16)))
+    and_from (is_seal_digit (slice_index lower_digits (b / 16)))
     (is_seal_digit (slice_index lower_digits (b % 16)) && list_all is_seal_digit (encode_lower bs))
     (digit_at (b / 16) (high_digit b both.0)) rest
 
@@ -77,7 +78,7 @@ seal_length key bytes =
 
 pub seal_form : (key bytes : List ℕ) → is_seal (seal_digits key bytes) ≡ true
 seal_form key bytes =
-    and_holds (nat_eq (length (seal_digits key bytes)) 64) (list_all is_seal_digit (seal_digits key bytes))
+    and_from (nat_eq (length (seal_digits key bytes)) 64) (list_all is_seal_digit (seal_digits key bytes))
     (rw (seal_length key bytes) refl) (seal_all key bytes)
 
 seal_digit_small : (b : ℕ) → is_seal_digit b ≡ true → b < 128
@@ -86,5 +87,5 @@ seal_digit_small b is = grind (arith, nat_tests)
 pub seal_utf8 : (key bytes : List ℕ) → is_utf8 (seal_digits key bytes) ≡ true
 seal_utf8 key bytes = utf8_of_ascii (seal_digits key bytes) (ascii_by is_seal_digit seal_digit_small (seal_digits key bytes) (seal_all key bytes))
 
-pub same_text : (text : List ℕ) → is_text text text ≡ true
-same_text text = (bytes_eq-Decides text text).1 refl
+pub text_same : (text : List ℕ) → same_text text text ≡ true
+text_same text = (bytes_eq-Decides text text).1 refl

@@ -13,20 +13,14 @@ use Rattle.request_names.specs.Ids.{id_of, id_text}
 use Rattle.request_names.specs.Numbers.{number_of}
 use Rattle.std.specs.Result.{result_ok}
 use Rattle.request_names.proofs.IdLemmas.{read_decimal, reads_back, three_hold}
-
-pub both_hold : (a b : Bool) → a && b ≡ true → (a ≡ true) × (b ≡ true)
-both_hold true b h = (refl, h)
-both_hold false b h = cc
-
-pub and_holds : (a b : Bool) → a ≡ true → b ≡ true → a && b ≡ true
-and_holds a b g h = rw (g, h) refl
+use Rattle.std.proofs.lemmas.Bool.{and_parts}
 
 -- ---- texts of ASCII bytes
 
 pub ascii_by : (p : ℕ → Bool) → ((b : ℕ) → p b ≡ true → b < 128) → (bytes : List ℕ) → list_all p bytes ≡ true → IsAscii bytes
 ascii_by p small [] all = IsAscii-nil
 ascii_by p small (b ∷ bs) all =
-    let both = both_hold (p b) (list_all p bs) all in
+    let both = and_parts (p b) (list_all p bs) all in
     IsAscii-cons b bs (small b both.0) (ascii_by p small bs both.1)
 
 pub utf8_of_ascii : (bytes : List ℕ) → IsAscii bytes → is_utf8 bytes ≡ true
@@ -38,7 +32,7 @@ pub place_past : (p : ℕ → Bool) (c : ℕ) → ((b : ℕ) → p b ≡ true �
     → (c == c) ≡ true → position_or_len (λ b. b == c) (front ++ c ∷ rest) ≡ length front
 place_past p c other [] rest all same = rw same refl
 place_past p c other (b ∷ bs) rest all same =
-    let both = both_hold (p b) (list_all p bs) all in
+    let both = and_parts (p b) (list_all p bs) all in
     let not_here : (b == c) ≡ false = other b both.0 in
     rw (not_here, place_past p c other bs rest both.1 same) (omega arith)
 
@@ -46,7 +40,7 @@ pub place_nowhere : (p : ℕ → Bool) (c : ℕ) → ((b : ℕ) → p b ≡ true
     → position_or_len (λ b. b == c) bytes ≡ length bytes
 place_nowhere p c other [] all = refl
 place_nowhere p c other (b ∷ bs) all =
-    let both = both_hold (p b) (list_all p bs) all in
+    let both = and_parts (p b) (list_all p bs) all in
     let not_here : (b == c) ≡ false = other b both.0 in
     rw (not_here, place_nowhere p c other bs both.1) (omega arith)
 

@@ -8,16 +8,16 @@ use Rattle.std.proofs.lemmas.Slice.Eq.{bytes_eq-Decides}
 use Rattle.std.proofs.lemmas.Str.{IsAscii-append}
 use Rattle.std.proofs.lemmas.Str.Ascii.{IsAscii-cons}
 use Rattle.lang_base.specs.Characters.{is_lower}
-use Rattle.lang_tree.specs.Forms.{is_text}
+use Rattle.lang_base.specs.Texts.{same_text}
 use Rattle.wire_fields.specs.Words.{cut_space, lone_status, numbered_status, refusal_of, refusal_text}
 use Rattle.wire_fields.proofs.SpeltLemmas.{ascii_by, decimal_ascii, number_back, place_nowhere, place_past, utf8_of_ascii}
 
 -- a word of a table has what its words have
 in_table : (P : List ℕ → Type 0) (word row : List ℕ) (status : ℕ) (rest : Option ℕ) → P row → (IsSome rest → P word)
-    → IsSome (cond (is_text word row) (Some status) rest) → P word
-in_table P word row status rest here others found = by (is_text word row) refl found
+    → IsSome (cond (same_text word row) (Some status) rest) → P word
+in_table P word row status rest here others found = by (same_text word row) refl found
   where
-    by : (b : Bool) → is_text word row ≡ b → IsSome (cond b (Some status) rest) → P word
+    by : (b : Bool) → same_text word row ≡ b → IsSome (cond b (Some status) rest) → P word
     by true is found = let same : word ≡ row = (bytes_eq-Decides word row).0 is in rw same here
     by false is found = others found
 

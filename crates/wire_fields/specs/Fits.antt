@@ -1,6 +1,7 @@
 -- What the texts of a message's fields say, and whether they fit the message.
-use Rattle.std.specs.Prelude.{ℕ, Bool, true, false, List, [], Option, Some, None, Result, Ok, Err, if◌then◌else◌}
-use Rattle.lang_tree.specs.Forms.{is_text}
+use Rattle.std.specs.Prelude.{ℕ, Bool, true, false, List, [], Option, Some, None, Result, if◌then◌else◌}
+use Rattle.lang_base.specs.Memory.{lacks}
+use Rattle.lang_base.specs.Texts.{same_text}
 use Rattle.http_header.specs.FieldValue.{FieldValue}
 use Rattle.http_header.specs.HeaderMap.{Entries}
 use Rattle.http_front.specs.declared.header.AireHeader.{AireHeader}
@@ -9,15 +10,14 @@ use Rattle.request_names.specs.Numbers.{number_of}
 use Rattle.request_names.specs.Ids.{id_of}
 use Rattle.wire_fields.specs.Rows.{text_at}
 use Rattle.wire_fields.specs.declared.refused.WireRefused.{WireRefused}
-use Rattle.wire_fields.specs.declared.refused.WireRefused.TheVariants.{NoMemory, BadHeader, MissingHeader, UnknownKind, Seal}
+use Rattle.wire_fields.specs.declared.refused.WireRefused.TheVariants.{NoMemory, BadHeader}
+
+abbrev pub is_memory : WireRefused → Bool
+is_memory NoMemory = true
+is_memory refused = false
 
 abbrev pub lacks_memory : {X : Type 0} → Result X WireRefused → Bool
-lacks_memory (Ok x) = false
-lacks_memory (Err NoMemory) = true
-lacks_memory (Err (MissingHeader header)) = false
-lacks_memory (Err (BadHeader header)) = false
-lacks_memory (Err UnknownKind) = false
-lacks_memory (Err Seal) = false
+lacks_memory result = lacks is_memory result
 
 -- ---- parts of texts
 
@@ -52,8 +52,8 @@ bad_unless header fits = if fits then None else Some (BadHeader header)
 
 -- the id in this field is one of the service that this other field names
 abbrev pub side_refusal : Entries FieldValue → AireHeader → AireHeader → Option WireRefused
-side_refusal head id side = bad_unless id (is_text (service_in (text_at head id)) (text_at head side))
+side_refusal head id side = bad_unless id (same_text (service_in (text_at head id)) (text_at head side))
 
 -- the message is for this service
 abbrev pub dest_refusal : List ℕ → Entries FieldValue → Option WireRefused
-dest_refusal me head = bad_unless headers.Dest (is_text (text_at head headers.Dest) me)
+dest_refusal me head = bad_unless headers.Dest (same_text (text_at head headers.Dest) me)

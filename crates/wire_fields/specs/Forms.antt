@@ -4,7 +4,8 @@ use Rattle.std.specs.List.{list_all, slice_split, starts_with, ends_with}
 use Rattle.std.specs.Option.{is_some}
 use Rattle.lang_core.specs.Names.{is_name, is_who}
 use Rattle.lang_base.specs.Characters.{is_digit}
-use Rattle.lang_tree.specs.Forms.{is_path, is_text}
+use Rattle.lang_base.specs.Texts.{same_text}
+use Rattle.lang_tree.specs.Forms.{is_path}
 use Rattle.request_names.specs.Ids.{id_of}
 use Rattle.request_names.specs.Numbers.{number_of}
 use Rattle.repair_messages.specs.declared.kinds.Kind.{Kind}
@@ -19,10 +20,10 @@ use Rattle.wire_fields.specs.Words.{refusal_of}
 -- the kind of a message that has this word
 abbrev pub kind_named : List ℕ → Option Kind
 kind_named word =
-    if is_text word (codes "create") then Some Create
-    else (if is_text word (codes "replace") then Some Replace
-    else (if is_text word (codes "delete") then Some Delete
-    else (if is_text word (codes "replace_response") then Some ReplaceResponse
+    if same_text word (codes "create") then Some Create
+    else (if same_text word (codes "replace") then Some Replace
+    else (if same_text word (codes "delete") then Some Delete
+    else (if same_text word (codes "replace_response") then Some ReplaceResponse
     else None)))
 
 -- ---- others

@@ -1,7 +1,7 @@
 -- Which kind of message a request is.
 use Rattle.std.specs.Prelude.{ℕ, List, Option, Some, None, codes, drop, nat_eq, if◌then◌else◌}
 use Rattle.std.specs.List.{starts_with}
-use Rattle.lang_tree.specs.Forms.{is_text}
+use Rattle.lang_base.specs.Texts.{same_text}
 use Rattle.lang_tree.specs.declared.method.Method.{Method}
 use Rattle.lang_tree.specs.declared.method.Method.TheVariants.{Get, Put, Post, Delete}
 use Rattle.http_header.specs.FieldValue.{FieldValue}
@@ -13,16 +13,16 @@ use Rattle.wire_fields.specs.declared.kinds.RequestKind.TheVariants.{Answer, Cal
 
 unfoldable pub console_word : List ℕ → Option ConsoleWord
 console_word word =
-    if is_text word (codes "cancel") then Some Cancel
-    else (if is_text word (codes "restore") then Some Restore
-    else (if is_text word (codes "replace") then Some Replace
-    else (if is_text word (codes "create") then Some Create
-    else (if is_text word (codes "retry") then Some Retry
-    else (if is_text word (codes "notices") then Some Notices
-    else (if is_text word (codes "log") then Some Log
-    else (if is_text word (codes "rows") then Some Rows
-    else (if is_text word (codes "audit") then Some Audit
-    else (if is_text word (codes "stop") then Some Stop
+    if same_text word (codes "cancel") then Some Cancel
+    else (if same_text word (codes "restore") then Some Restore
+    else (if same_text word (codes "replace") then Some Replace
+    else (if same_text word (codes "create") then Some Create
+    else (if same_text word (codes "retry") then Some Retry
+    else (if same_text word (codes "notices") then Some Notices
+    else (if same_text word (codes "log") then Some Log
+    else (if same_text word (codes "rows") then Some Rows
+    else (if same_text word (codes "audit") then Some Audit
+    else (if same_text word (codes "stop") then Some Stop
     else None)))))))))
 
 abbrev pub console_kind : Option ConsoleWord → Option RequestKind
@@ -35,8 +35,8 @@ console_path path = if starts_with nat_eq path (codes "/aire/console/") then con
 -- of a POST to a path below `/aire/`
 abbrev pub posted_kind : List ℕ → Option RequestKind
 posted_kind path =
-    if is_text path (codes "/aire/repair") then Some Set
-    else (if is_text path (codes "/aire/response") then Some Answer
+    if same_text path (codes "/aire/repair") then Some Set
+    else (if same_text path (codes "/aire/response") then Some Answer
     else (console_path path))
 
 abbrev pub own_kind : Method → List ℕ → Option RequestKind

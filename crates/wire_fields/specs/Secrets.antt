@@ -1,6 +1,6 @@
 -- The secrets of a service's peers.
 use Rattle.std.specs.Prelude.{ℕ, Bool, List, [], ◌∷◌, ◌++◌, if◌then◌else◌}
-use Rattle.lang_tree.specs.Forms.{is_text}
+use Rattle.lang_base.specs.Texts.{same_text}
 use Rattle.wire_fields.specs.declared.secrets.Peer.{Peer}
 use Rattle.wire_fields.specs.declared.secrets.Secrets.{Secrets}
 
@@ -9,7 +9,7 @@ peers_of secrets = secrets.peers
 
 -- the peer has this name
 abbrev pub has_name : List ℕ → Peer → Bool
-has_name name peer = is_text peer.name name
+has_name name peer = same_text peer.name name
 
 -- the peers with one more, if it is added
 abbrev pub with_peer : Bool → List Peer → List ℕ → List ℕ → List Peer

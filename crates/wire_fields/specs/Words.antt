@@ -2,37 +2,37 @@
 use Rattle.std.specs.Prelude.{ℕ, List, ◌++◌, Option, Some, None, codes, decimal, length, nat_lt, ◌==◌, if◌then◌else◌}
 use Rattle.std.specs.List.{after_first, before_first, position_or_len}
 use Rattle.std.specs.Option.{is_some}
-use Rattle.lang_tree.specs.Forms.{is_text}
+use Rattle.lang_base.specs.Texts.{same_text}
 use Rattle.request_names.specs.Numbers.{number_of}
 
 -- the status of a refusal whose word stands alone; None where there is no such word
 unfoldable pub lone_status : List ℕ → Option ℕ
 lone_status word =
-    if is_text word (codes "head") then Some 400
-    else (if is_text word (codes "headlong") then Some 400
-    else (if is_text word (codes "length") then Some 400
-    else (if is_text word (codes "text") then Some 400
-    else (if is_text word (codes "body") then Some 413
-    else (if is_text word (codes "coding") then Some 501
-    else (if is_text word (codes "method") then Some 501
-    else (if is_text word (codes "missing") then Some 400
-    else (if is_text word (codes "bad") then Some 400
-    else (if is_text word (codes "kind") then Some 400
-    else (if is_text word (codes "seal") then Some 403
-    else (if is_text word (codes "notheld") then Some 409
-    else (if is_text word (codes "nomemory") then Some 503
+    if same_text word (codes "head") then Some 400
+    else (if same_text word (codes "headlong") then Some 400
+    else (if same_text word (codes "length") then Some 400
+    else (if same_text word (codes "text") then Some 400
+    else (if same_text word (codes "body") then Some 413
+    else (if same_text word (codes "coding") then Some 501
+    else (if same_text word (codes "method") then Some 501
+    else (if same_text word (codes "missing") then Some 400
+    else (if same_text word (codes "bad") then Some 400
+    else (if same_text word (codes "kind") then Some 400
+    else (if same_text word (codes "seal") then Some 403
+    else (if same_text word (codes "notheld") then Some 409
+    else (if same_text word (codes "nomemory") then Some 503
     else None))))))))))))
 
 -- the status of a refusal whose word has a number behind it; None where there is no such word
 unfoldable pub numbered_status : List ℕ → Option ℕ
 numbered_status word =
-    if is_text word (codes "denied") then Some 403
-    else (if is_text word (codes "unknown") then Some 404
-    else (if is_text word (codes "nosuchrequest") then Some 404
-    else (if is_text word (codes "notyet") then Some 409
-    else (if is_text word (codes "notoutside") then Some 409
-    else (if is_text word (codes "gone") then Some 410
-    else (if is_text word (codes "full") then Some 507
+    if same_text word (codes "denied") then Some 403
+    else (if same_text word (codes "unknown") then Some 404
+    else (if same_text word (codes "nosuchrequest") then Some 404
+    else (if same_text word (codes "notyet") then Some 409
+    else (if same_text word (codes "notoutside") then Some 409
+    else (if same_text word (codes "gone") then Some 410
+    else (if same_text word (codes "full") then Some 507
     else None))))))
 
 -- ---- written

@@ -2,7 +2,7 @@
 use Rattle.std.proofs.Common.{◌≡◌, ℕ, ◌<◌, ◌^◌, Bool, true, ◌&&◌, List, [], ◌∷◌, Option, Some, None, if◌then◌else◌, refl, ap, ◌∙◌}
 use Rattle.std.specs.Str.{is_utf8}
 use Rattle.lang_core.specs.Names.{is_name}
-use Rattle.lang_tree.specs.Forms.{is_text}
+use Rattle.lang_base.specs.Texts.{same_text}
 use Rattle.http_header.specs.FieldValue.{FieldValue, plain_value}
 use Rattle.http_header.specs.HeaderMap.{Entries, get_all}
 use Rattle.http_header.specs.Token.{lowercase}
@@ -17,11 +17,12 @@ use Rattle.wire_fields.specs.Forms.{has_form}
 use Rattle.wire_fields.specs.Rows.{field_refusal, first_of, first_refusal, is_spelt, seal_header, text_at}
 use Rattle.wire_fields.specs.declared.refused.WireRefused.{WireRefused}
 use Rattle.wire_fields.specs.declared.refused.WireRefused.TheVariants as refused
-use Rattle.wire_fields.proofs.SealLemmas.{same_text}
-use Rattle.wire_fields.proofs.SpeltLemmas.{both_hold, id_back}
+use Rattle.wire_fields.proofs.SealLemmas.{text_same}
+use Rattle.wire_fields.proofs.SpeltLemmas.{id_back}
 use Rattle.wire_replies.specs.Kinds.{reply_headers}
 use Rattle.wire_replies.specs.Reading.{ids_refusal, reply_refusal, reply_seal_refusal, sealed_bytes}
 use Rattle.wire_replies.specs.declared.kinds.ReplyKind.{ReplyKind}
+use Rattle.std.proofs.lemmas.Bool.{and_parts}
 
 -- the head has this field once, with a text of its form
 pub record IsField (head : Entries FieldValue) (header : AireHeader) (text : List ℕ) : Type 0 where
@@ -32,7 +33,7 @@ pub fine : (head : Entries FieldValue) (header : AireHeader) (text : List ℕ) �
 fine head header text f = rw (f.there, f.spelt) refl
 
 pub said : (head : Entries FieldValue) (header : AireHeader) (text : List ℕ) → IsField head header text → text_at head header ≡ text
-said head header text f = rw (f.there, (both_hold (is_utf8 text) (has_form header text) f.spelt).0) refl
+said head header text f = rw (f.there, (and_parts (is_utf8 text) (has_form header text) f.spelt).0) refl
 
 pub one_more : (head : Entries FieldValue) (header : AireHeader) (others : List AireHeader) (text : List ℕ) → IsField head header text
     → first_refusal head true others ≡ None → first_refusal head true (header ∷ others) ≡ None
@@ -41,8 +42,8 @@ one_more head header others text f rest = rw (fine head header text f, rest) ref
 fits : (header : AireHeader) (b : Bool) → b ≡ true → bad_unless header b ≡ None
 fits header b is = rw is refl
 
-same_service : (left right name : List ℕ) → left ≡ name → right ≡ name → is_text left right ≡ true
-same_service left right name l r = rw (l, r) (same_text name)
+same_service : (left right name : List ℕ) → left ≡ name → right ≡ name → same_text left right ≡ true
+same_service left right name l r = rw (l, r) (text_same name)
 
 service_of_id : (name : List ℕ) (n : ℕ) → is_name name ≡ true → 0 < n → n < 2 ^ 64 → service_in (id_text name n) ≡ name
 service_of_id name n is from_one small = rw (id_back name n is from_one small) refl
@@ -54,13 +55,13 @@ number_of_id name n is from_one small = rw (id_back name n is from_one small) re
 pub side_fits : (head : Entries FieldValue) (id side : AireHeader) (name : List ℕ) (n : ℕ) → is_name name ≡ true → 0 < n → n < 2 ^ 64
     → IsField head id (id_text name n) → IsField head side name → side_refusal head id side ≡ None
 side_fits head id side name n is from_one small names sends =
-    fits id (is_text (service_in (text_at head id)) (text_at head side))
+    fits id (same_text (service_in (text_at head id)) (text_at head side))
     (same_service (service_in (text_at head id)) (text_at head side) name
     (ap service_in (said head id (id_text name n) names) ∙ service_of_id name n is from_one small)
     (said head side name sends))
 
 dest_fits : (me : List ℕ) (head : Entries FieldValue) → IsField head headers.Dest me → dest_refusal me head ≡ None
-dest_fits me head f = fits headers.Dest (is_text (text_at head headers.Dest) me) (same_service (text_at head headers.Dest) me me (said head headers.Dest me f) refl)
+dest_fits me head f = fits headers.Dest (same_text (text_at head headers.Dest) me) (same_service (text_at head headers.Dest) me me (said head headers.Dest me f) refl)
 
 none_of_five : (a b c d e : Option WireRefused) → a ≡ None → b ≡ None → c ≡ None → d ≡ None → e ≡ None
     → first_of (first_of a (first_of b (first_of c d))) e ≡ None
@@ -74,8 +75,8 @@ seal_fits : (me secret : List ℕ) (kind : ReplyKind) (response : WireResponse) 
     → IsField response.head headers.Seal (seal_digits secret (sealed_bytes response (reply_headers kind)))
     → reply_seal_refusal me secret kind response ≡ None
 seal_fits me secret kind response from seal =
-    unless_both (is_text (text_at response.head headers.From) me)
-    (is_text (text_at response.head headers.Seal) (seal_digits secret (sealed_bytes response (reply_headers kind)))) refused.Seal
+    unless_both (same_text (text_at response.head headers.From) me)
+    (same_text (text_at response.head headers.Seal) (seal_digits secret (sealed_bytes response (reply_headers kind)))) refused.Seal
     (same_service (text_at response.head headers.From) me me (said response.head headers.From me from) refl)
     (same_service (text_at response.head headers.Seal) (seal_digits secret (sealed_bytes response (reply_headers kind)))
     (seal_digits secret (sealed_bytes response (reply_headers kind)))

@@ -1,6 +1,6 @@
 -- A reply is never refused for its kind.
 use Rattle.std.proofs.Common.{◌≡◌, ℕ, Bool, true, false, ◌&&◌, List, [], ◌∷◌, Option, Some, None, Err, if◌then◌else◌, refl}
-use Rattle.lang_tree.specs.Forms.{is_text}
+use Rattle.lang_base.specs.Texts.{same_text}
 use Rattle.http_header.specs.FieldValue.{FieldValue}
 use Rattle.http_header.specs.HeaderMap.{Entries, get_all}
 use Rattle.http_header.specs.Token.{lowercase}
@@ -55,7 +55,7 @@ by_fields head wanted (header ∷ others) =
     (by_values wanted header (get_all head (lowercase (spelling header)))) (by_fields head wanted others)
 
 by_side : (head : Entries FieldValue) (id side : AireHeader) → for_kind (side_refusal head id side) ≡ false
-by_side head id side = unless_bad id (is_text (service_in (text_at head id)) (text_at head side))
+by_side head id side = unless_bad id (same_text (service_in (text_at head id)) (text_at head side))
 
 by_ids : (kind : ReplyKind) (head : Entries FieldValue) → for_kind (ids_refusal kind head) ≡ false
 by_ids kinds.Live head =
@@ -77,10 +77,10 @@ refused me peer secret kind response =
     (by_fields head true (reply_headers kind))
     (neither (first_refusal head true seal_header) (first_of (dest_refusal me head) (ids_refusal kind head)) (by_fields head true seal_header)
     (neither (dest_refusal me head) (ids_refusal kind head)
-    (unless_bad headers.Dest (is_text (text_at head headers.Dest) me)) (by_ids kind head))))
+    (unless_bad headers.Dest (same_text (text_at head headers.Dest) me)) (by_ids kind head))))
     (unless_sealed
-    (is_text (text_at head headers.From) peer
-    && is_text (text_at head headers.Seal) (seal_digits secret (sealed_bytes response (reply_headers kind)))))
+    (same_text (text_at head headers.From) peer
+    && same_text (text_at head headers.Seal) (seal_digits secret (sealed_bytes response (reply_headers kind)))))
 
 never : (refusal : Option WireRefused) (reply : Outgoing) → for_kind refusal ≡ false → unless_refused refusal reply ≡ Err UnknownKind → ⊥
 never None reply known is = cc

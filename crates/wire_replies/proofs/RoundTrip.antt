@@ -18,7 +18,7 @@ use Rattle.wire_fields.specs.Rows.{first_of, is_spelt, text_at}
 use Rattle.wire_fields.specs.Words.{lone_status, numbered_status, refusal_of, refusal_text}
 use Rattle.wire_fields.specs.declared.refused.WireRefused.{WireRefused}
 use Rattle.wire_fields.proofs.SealLemmas.{seal_form, seal_utf8}
-use Rattle.wire_fields.proofs.SpeltLemmas.{and_holds, decimal_utf8, id_back, id_utf8, name_utf8, number_back}
+use Rattle.wire_fields.proofs.SpeltLemmas.{decimal_utf8, id_back, id_utf8, name_utf8, number_back}
 use Rattle.wire_fields.proofs.WordLemmas.{lone_back, lone_text, lone_utf8, numbered_back, numbered_text, numbered_utf8}
 use Rattle.wire_replies.specs.Kinds.{reply_headers}
 use Rattle.wire_replies.specs.Reading.{refusal_or_none, replied, reply_in, reply_of, reply_refusal, response_in, sealed_bytes, unless_refused}
@@ -30,24 +30,25 @@ use Rattle.wire_replies.specs.declared.kinds.ReplyKind.TheVariants as kinds
 use Rattle.wire_replies.specs.declared.replies.Outgoing.{Outgoing}
 use Rattle.wire_replies.specs.declared.replies.Outgoing.TheVariants as replies
 use Rattle.wire_replies.proofs.Accepted.{IsField, accepted, number_of_id, one_more, said, side_fits}
+use Rattle.std.proofs.lemmas.Bool.{and_from}
 
 -- ---- each field as it is written
 
 name_spelt : (name : List ℕ) → is_name name ≡ true → is_utf8 name && is_name name ≡ true
-name_spelt name is = and_holds (is_utf8 name) (is_name name) (name_utf8 name is) is
+name_spelt name is = and_from (is_utf8 name) (is_name name) (name_utf8 name is) is
 
 id_spelt : (name : List ℕ) (n : ℕ) → is_name name ≡ true → 0 < n → n < 2 ^ 64 → is_spelt headers.ResponseId (id_text name n) ≡ true
 id_spelt name n is from_one small =
-    and_holds (is_utf8 (id_text name n)) (has_form headers.ResponseId (id_text name n)) (id_utf8 name n is small)
+    and_from (is_utf8 (id_text name n)) (has_form headers.ResponseId (id_text name n)) (id_utf8 name n is small)
     (rw (id_back name n is from_one small) refl)
 
 number_spelt : (n : ℕ) → n < 2 ^ 64 → is_spelt headers.Version (decimal n) ≡ true
 number_spelt n small =
-    and_holds (is_utf8 (decimal n)) (has_form headers.Version (decimal n)) (decimal_utf8 n small) (rw (number_back n small) refl)
+    and_from (is_utf8 (decimal n)) (has_form headers.Version (decimal n)) (decimal_utf8 n small) (rw (number_back n small) refl)
 
 seal_spelt : (key bytes : List ℕ) → is_spelt headers.Seal (seal_digits key bytes) ≡ true
 seal_spelt key bytes =
-    and_holds (is_utf8 (seal_digits key bytes)) (has_form headers.Seal (seal_digits key bytes)) (seal_utf8 key bytes) (seal_form key bytes)
+    and_from (is_utf8 (seal_digits key bytes)) (has_form headers.Seal (seal_digits key bytes)) (seal_utf8 key bytes) (seal_form key bytes)
 
 version_of : (head : Entries FieldValue) (header : AireHeader) (n : ℕ) → n < 2 ^ 64 → IsField head header (decimal n) → version_at head header ≡ n
 version_of head header n small f = ap (λ (text : List ℕ). or_zero (number_of text)) (said head header (decimal n) f) ∙ ap or_zero (number_back n small)
@@ -260,7 +261,7 @@ refusal_back me peer secret asking word n mine theirs small has =
     (word_back word n small has)
     (record {
       there = refl;
-      spelt = and_holds (is_utf8 (refusal_text word n)) (has_form headers.Refused (refusal_text word n)) (word_utf8 word n small has)
+      spelt = and_from (is_utf8 (refusal_text word n)) (has_form headers.Refused (refusal_text word n)) (word_utf8 word n small has)
           (rw (word_back word n small has) refl);
     })
 

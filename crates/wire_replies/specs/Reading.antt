@@ -2,7 +2,7 @@
 use Rattle.std.specs.Prelude.{ℕ, true, ◌&&◌, List, [], Option, Some, None, Result, Ok, Err, codes, if◌then◌else◌}
 use Rattle.lang_core.specs.declared.ids.RequestId.{RequestId}
 use Rattle.lang_core.specs.declared.request.Response.{Response}
-use Rattle.lang_tree.specs.Forms.{is_text}
+use Rattle.lang_base.specs.Texts.{same_text}
 use Rattle.http_header.specs.FieldValue.{FieldValue}
 use Rattle.http_header.specs.HeaderMap.{Entries, get}
 use Rattle.http_front.specs.declared.header.AireHeader.{AireHeader}
@@ -46,8 +46,8 @@ sealed_bytes response fields = sealed_response response.status response.head fie
 -- the reply is this peer's, and sealed with this secret
 abbrev pub reply_seal_refusal : List ℕ → List ℕ → ReplyKind → WireResponse → Option WireRefused
 reply_seal_refusal peer secret kind response =
-    if is_text (text_at response.head headers.From) peer
-    && is_text (text_at response.head headers.Seal) (seal_digits secret (sealed_bytes response (reply_headers kind)))
+    if same_text (text_at response.head headers.From) peer
+    && same_text (text_at response.head headers.Seal) (seal_digits secret (sealed_bytes response (reply_headers kind)))
     then None else Some Seal
 
 abbrev pub reply_refusal : List ℕ → List ℕ → List ℕ → ReplyKind → WireResponse → Option WireRefused

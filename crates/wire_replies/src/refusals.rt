@@ -1,6 +1,6 @@
 // What is wrong with a response's head, and with its seal.
 ghost use Rattle.std.specs.Prelude.{◌≡◌, ◌&&◌, IfOk};
-ghost use Rattle.lang_tree.specs.Forms.{is_text};
+ghost use Rattle.lang_base.specs.Texts.{same_text};
 ghost use Rattle.peer_seal.specs.Seal.{seal_digits};
 ghost use Rattle.wire_fields.specs.Rows.{text_at};
 ghost use Rattle.wire_replies.specs.Kinds.{reply_headers};
@@ -41,7 +41,7 @@ fn reply_head_refusal(me: &str, kind: ReplyKind, head: &HeaderMap) -> Option<Wir
 }
 
 fn is_sealed(secret: &Text, bytes: &[u8], head: &HeaderMap) -> bool
-    ensures { result ≡ is_text (text_at head.now AireHeader.Seal) (seal_digits secret.now bytes.now) }
+    ensures { result ≡ same_text (text_at head.now AireHeader.Seal) (seal_digits secret.now bytes.now) }
 {
     check(secret.as_bytes(), bytes, text_at(head, AireHeader::Seal))
 }
