@@ -8,7 +8,7 @@ use Rattle.io_edge.specs.Files.{LoadFails, Loads}
 use Rattle.io_edge.proofs.Pieces.{front_whole, wrote_more}
 use Rattle.journal_rows.specs.declared.verdict.Verdict.{Verdict}
 use Rattle.journal_rows.specs.declared.verdict.Verdict.TheVariants.{Legal, Forged, Unsettled}
-use Rattle.service_core.specs.Events.{Kept}
+use Rattle.service_core.specs.Events.{KeptService}
 use Rattle.world_core.specs.Verdicts.{IsLegalIf}
 use Rattle.world_core.specs.Worlds.{World}
 use Rattle.script_run.specs.Plays.{Played, played, run_of_script}
@@ -66,13 +66,13 @@ ends_now a = record { front = []; of_line = ([], refl); wrote = λ all told. tol
 
 -- ---- a script in a world
 
-run_of-long : (start : World) (script : List ℕ) → 16777216 < length script → run_of_script start script ≡ record { world = start; out = []; refused = Some (0, 7) }
-run_of-long start script long = let e : nat_lt 16777216 (length script) ≡ true = search (tests, rules) in rw e refl
+long_script : (start : World) (script : List ℕ) → 16777216 < length script → run_of_script start script ≡ record { world = start; out = []; refused = Some (0, 7) }
+long_script start script long = let e : nat_lt 16777216 (length script) ≡ true = search (tests, rules) in rw e refl
 
-run_of-short : (start : World) (script : List ℕ) → length script ≤ 16777216 → run_of_script start script ≡ played start script
-run_of-short start script short = let e : nat_lt 16777216 (length script) ≡ false = search (tests, rules) in rw e refl
+short_script : (start : World) (script : List ℕ) → length script ≤ 16777216 → run_of_script start script ≡ played start script
+short_script start script short = let e : nat_lt 16777216 (length script) ≡ false = search (tests, rules) in rw e refl
 
-services_of : (p q : Played) (world : World) (services : List Kept) → p ≡ q → world ≡ q.world → services ≡ world.services → services ≡ p.world.services
+services_of : (p q : Played) (world : World) (services : List KeptService) → p ≡ q → world ≡ q.world → services ≡ world.services → services ≡ p.world.services
 services_of p q world services same done is = is ∙ ap (λ (w : World). w.services) (done ∙ sym (ap (λ (x : Played). x.world) same))
 
 -- memory is wanting when some of what the script prints is written
@@ -83,15 +83,15 @@ lacks_behind start script a b c ans short f h lacks =
     record {
       answered = lacks.answered;
       front = f.0;
-      of_script = subst F (sym (run_of-short start script short)) f.1;
+      of_script = subst F (sym (short_script start script short)) f.1;
       ends = ends_behind a b c f.0 lacking_line f.2 h lacks.ends;
     }
 
 -- all lines are done
-pub all_done : (start : World) (script : List ℕ) (world : World) (services : List Kept) (a b : Writes) (ans : Answer) → length script ≤ 16777216 → DoesAll (played start script) world a b → (played start script).refused ≡ None
+pub all_done : (start : World) (script : List ℕ) (world : World) (services : List KeptService) (a b : Writes) (ans : Answer) → length script ≤ 16777216 → DoesAll (played start script) world a b → (played start script).refused ≡ None
     → services ≡ world.services → ans ≡ of_services 0 services → ScriptEnds start script a b ans
 all_done start script world services a b ans short does goes is good =
-    let p = run_of-short start script short in
+    let p = short_script start script short in
     let W : Played → Type 0 = λ q. Wrote a b q.out in
     inl (record {
       not_refused = ap (λ (q : Played). q.refused) p ∙ goes;
@@ -100,10 +100,10 @@ all_done start script world services a b ans short does goes is good =
     })
 
 -- a line is refused
-pub at_line : (start : World) (script : List ℕ) (line number : ℕ) (world : World) (services : List Kept) (a b c : Writes) (ans : Answer) → length script ≤ 16777216 → DoesAll (played start script) world a b → IsRefusedAt line number (played start script)
+pub at_line : (start : World) (script : List ℕ) (line number : ℕ) (world : World) (services : List KeptService) (a b c : Writes) (ans : Answer) → length script ≤ 16777216 → DoesAll (played start script) world a b → IsRefusedAt line number (played start script)
     → a.faults ≤ b.faults → services ≡ world.services → Closes b c (of_services 3 services) (refused_line line number) ans → ScriptEnds start script a c ans
 at_line start script line number world services a b c ans short does at h is (inl good) =
-    let p = run_of-short start script short in
+    let p = short_script start script short in
     let E : Played → Type 0 = λ q. EndsWith a c q.out (refused_line line number) in
     inr (inl (record {
       line = line;
@@ -116,7 +116,7 @@ at_line start script line number world services a b c ans short does at h is (in
     inr (inr (inr (lacks_behind start script a b c ans short (front_whole a b _ does.wrote) h lacks)))
 
 -- a write failed in a line
-pub cut_short : (start : World) (script : List ℕ) (world : World) (services : List Kept) (a b : Writes) (ans : Answer) → StopsInLine start script world a b → WriteFails a b
+pub cut_short : (start : World) (script : List ℕ) (world : World) (services : List KeptService) (a b : Writes) (ans : Answer) → StopsInLine start script world a b → WriteFails a b
     → services ≡ world.services → ans ≡ of_services 5 services → ScriptEnds start script a b ans
 cut_short start script world services a b ans stops fails is good =
     inr (inr (inl (record { world = world; answered = good ∙ ap (of_services 5) is; in_line = stops; fault = fails })))
@@ -137,11 +137,11 @@ in_script setups word before now world bytes script ans got start same ends =
     inl (record { script = script; got = got; ended = subst B same (subst W start ends) })
 
 -- a script that is too long
-pub too_long : (setups : List Setup) (word : List ℕ) (before now : Outside) (services : List Kept) (ans : Answer) → services ≡ (fresh setups).services
+pub too_long : (setups : List Setup) (word : List ℕ) (before now : Outside) (services : List KeptService) (ans : Answer) → services ≡ (fresh setups).services
     → ((script : List ℕ) × IsGot word before.loads now.loads before.reads now.reads script × (16777216 < length script)) → Closes before.writes now.writes (of_services 3 services) (refused_line 0 7) ans
     → RunsIn setups word before now ans
 too_long setups word before now services ans is got (inl good) =
-    let p = run_of-long (fresh setups) got.0 got.2 in
+    let p = long_script (fresh setups) got.0 got.2 in
     let E : Played → Type 0 = λ q. EndsWith before.writes now.writes q.out (refused_line 0 7) in
     inl (record {
       script = got.0;

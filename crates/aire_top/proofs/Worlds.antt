@@ -4,7 +4,6 @@ use Rattle.std.specs.Option.{ForSome}
 use Rattle.std.proofs.lemmas.List.Elements.{All-cons, All-nil}
 use Rattle.std.proofs.lemmas.Map.Keys.{IsDistinct-from_apart}
 use Rattle.lang_base.specs.Texts.{same_text}
-use Rattle.world_file.proofs.Ones.{built_in_alone}
 use Rattle.world_file.specs.Notes.{built_in}
 use Rattle.world_file.specs.Worlds.{IsAlone, world_of}
 use Rattle.world_file.specs.declared.setup.Setup.{Setup}
@@ -21,10 +20,6 @@ pub names_differ : (setups : List Setup) → IsAlone setups → NamesDiffer (map
 names_differ [] h = absurd h
 names_differ (setup ∷ []) h = IsDistinct-from_apart same_text (setup.setting.me ∷ []) (λ i j d a b. absurd (omega (arith, a, b)))
 names_differ (setup ∷ other ∷ more) h = absurd h
-
--- the worlds that come with the program
-pub standard_alone : (word : List ℕ) (setups : List Setup) → built_in word ≡ Some setups → IsAlone setups
-standard_alone word setups h = built_in_alone word setups h
 
 within-short : (bytes : List ℕ) → length bytes ≤ 4194304 → world_within bytes ≡ world_from (world_of bytes)
 within-short bytes short = let e : nat_lt 4194304 (length bytes) ≡ false = search (tests, rules) in rw e refl

@@ -3,7 +3,7 @@ use Rattle.std.specs.Prelude.{◌≡◌, ◌⊎◌, ℕ, ◌≤◌, Bool, true, 
 use Rattle.io_edge.specs.Edge.{IsAtEnd, IsFront, ReadFails, Reads, WriteFails, Writes, Wrote}
 use Rattle.io_edge.specs.Files.{LoadFails, Loads}
 use Rattle.journal_rows.specs.declared.verdict.Verdict.{Verdict}
-use Rattle.service_core.specs.Events.{Kept}
+use Rattle.service_core.specs.Events.{KeptService}
 use Rattle.world_core.specs.Verdicts.{verdict}
 use Rattle.world_core.specs.Worlds.{World}
 use Rattle.world_file.specs.declared.setup.Setup.{Setup}
@@ -25,10 +25,10 @@ outside loads reads writes = record { loads = loads; reads = reads; writes = wri
 -- what a run answers
 pub record Answer : Type 0 where
   pub status : ℕ
-  pub services : List Kept
+  pub services : List KeptService
   pub verdict : Option Verdict
 
-abbrev pub answer : ℕ → List Kept → Option Verdict → Answer
+abbrev pub answer : ℕ → List KeptService → Option Verdict → Answer
 answer status services told = record { status = status; services = services; verdict = told }
 
 -- no services, and no verdict
@@ -36,7 +36,7 @@ abbrev pub nothing : ℕ → Answer
 nothing status = answer status [] None
 
 -- these services, and the verdict over them
-abbrev pub of_services : ℕ → List Kept → Answer
+abbrev pub of_services : ℕ → List KeptService → Answer
 of_services status services = answer status services (Some (verdict services))
 
 -- the services of this world, and the verdict over them

@@ -3,7 +3,7 @@ use Rattle.std.specs.Prelude.{◌≡◌, ℕ, ◌+◌, Bool, not, ◌||◌, List
 use Rattle.std.specs.List.{starts_with}
 use Rattle.std.specs.Option.{ForSome}
 use Rattle.lang_base.specs.Texts.{same_text}
-use Rattle.service_core.specs.Events.{Kept}
+use Rattle.service_core.specs.Events.{KeptService}
 use Rattle.world_core.specs.Worlds.{World, fresh_world}
 use Rattle.world_file.specs.declared.setup.Setup.{Setup}
 use Rattle.world_file.specs.declared.refused.WorldRefused.{WorldRefused}
@@ -119,7 +119,7 @@ abbrev pub HasNoPeers : Setup → Type 0
 HasNoPeers setup = setup.setting.peers ≡ []
 
 -- a new service that is set up so
-abbrev pub fresh_service : Setup → Kept
+abbrev pub fresh_service : Setup → KeptService
 fresh_service setup = record { setting = setup.setting; entries = []; accepted = [] }
 
 -- a new world of services that are set up so

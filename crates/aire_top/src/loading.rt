@@ -68,7 +68,7 @@ fn load_file<F: Files>(alloc: Global, path: &str, files: &mut F) -> Result<Vec<S
 }
 
 /// The world that a word names: one that comes with the program, or that of a file.
-#[tactic(auto, using(crate::proofs::Worlds::standard_alone, crate::proofs::Worlds::standard_told, crate::proofs::Worlds::other_told))]
+#[tactic(auto, using(world_file::proofs::Ones::built_in_alone, crate::proofs::Worlds::standard_told, crate::proofs::Worlds::other_told))]
 pub fn load_world<F: Files>(alloc: Global, word: &str, files: &mut F) -> Result<Vec<Setup>, NoWorld>
     ensures world { IfOk result (λ setups. Is (world_told (F.loads files.old).files word.now) (Ok setups.items)) }
     ensures alone { IfOk result (λ setups. IsAlone setups.items) }

@@ -4,7 +4,7 @@ use Rattle.std.proofs.lemmas.Bool.{cases_Bool}
 use Rattle.lang_core.specs.declared.inputs.Inputs.{Inputs}
 use Rattle.request_log.specs.Entries.{has_id}
 use Rattle.request_log.specs.declared.entry.Entry.{Entry}
-use Rattle.create_placement.specs.Placement.{place_between}
+use Rattle.create_placement.specs.Placement.{place_between, created}
 use Rattle.repair_messages.specs.declared.posts.PostName.{PostName}
 use Rattle.repair_messages.specs.declared.posts.PostName.TheVariants.{Call as OfCall, Reply as OfReply}
 use Rattle.journal_rows.specs.Words.{ordered}
@@ -17,7 +17,7 @@ use Rattle.call_registers.specs.Registers.{released}
 use Rattle.service_meaning.specs.State.{Kept, next_id}
 use Rattle.service_meaning.specs.Calls.{noted}
 use Rattle.service_meaning.specs.Messages.{rule}
-use Rattle.service_meaning.specs.Orders.{refused, about, original, repaired, at_id, struck_as, asking, created, asked_rows, order_rows, released_post, carried_out, order_by, order_where, order_event}
+use Rattle.service_meaning.specs.Orders.{refused, about, original, repaired, at_id, struck_as, asking, asked_rows, order_rows, released_post, carried_out, order_by, order_where, order_event}
 use Rattle.service_meaning.specs.declared.refusals.OrderRefused.{OrderRefused}
 use Rattle.service_meaning.specs.Fits.{EachAfter, OrdersOn, place_of_entry, place_of_flight}
 use Rattle.call_laws.proofs.RowLemmas.{Each, IsPlain, IsUnseen, IsUntaken}

@@ -1,7 +1,27 @@
--- Where a created entry goes in a log.
+-- A created entry, and where it goes in a log.
 use Rattle.std.specs.Prelude.{ℕ, ◌≡◌, ◌+◌, List, [], ◌∷◌, ◌++◌, length, Option, Some, None, unwrap_or, find, position, insert}
 use Rattle.request_log.specs.Entries.{has_id}
+use Rattle.lang_core.specs.declared.inputs.Inputs.{Inputs}
+use Rattle.lang_core.specs.declared.request.Request.{Request}
 use Rattle.request_log.specs.declared.entry.Entry.{Entry}
+use Rattle.request_log.specs.declared.entry.Origin.TheVariants.{Outside}
+
+-- an entry from outside that never ran
+abbrev pub created : ℕ → Request → Inputs → Entry
+created id request inputs =
+    record {
+      id = id;
+      origin = Outside;
+      version = 0;
+      request = request;
+      wanted = true;
+      struck = false;
+      inputs = inputs;
+      made = None;
+      slots = [];
+      answer_version = 0;
+      runs = 0;
+    }
 
 -- the place of the entry of this number, where one is given and known
 abbrev pub known_place : Option ℕ → List Entry → Option ℕ

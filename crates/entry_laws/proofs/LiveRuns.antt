@@ -52,12 +52,12 @@ abbrev pub runs_of : Kept → Flight → List Response → Ran
 runs_of s f xs = run_of s.setting f.request f.inputs xs (rows_of s.entries)
 
 -- the answers that its calls consume
-abbrev pub given : Kept → Flight → List Response
-given s f = map (answers s) f.numbers
+abbrev pub answers_given : Kept → Flight → List Response
+answers_given s f = map (answers s) f.numbers
 
 committed_runs : (s : Kept) (f : Flight) (t : Trace) → flight_run s f ≡ Done t → AllRuns s.setting s.entries → LeavesRuns (committed s f t)
 committed_runs s f t done h =
-    All-push (HasRun s.setting) s.entries (committed_entry s f t) h (record_is_run s.setting f.request f.inputs (given s f) (rows_of s.entries) t (live_version f.origin) done)
+    All-push (HasRun s.setting) s.entries (committed_entry s f t) h (record_is_run s.setting f.request f.inputs (answers_given s f) (rows_of s.entries) t (live_version f.origin) done)
 
 -- ---- what a move says of the run
 
@@ -101,7 +101,7 @@ module _ (s : Kept) (f : Flight) (call : CallMade) (a : IsAloft s.registers f.nu
   named_answers : (m : ℕ) → answers (named_unsent s call) m ≡ answers s m
   named_answers m = ap answer_or_tentative (named_unsent_became.gives m tt)
 
-  pub named_given : given (named_unsent s call) (with_slot (next_number s.registers) call f) ≡ given s f ++ answers (named_unsent s call) (next_number s.registers) ∷ []
+  pub named_given : answers_given (named_unsent s call) (with_slot (next_number s.registers) call f) ≡ answers_given s f ++ answers (named_unsent s call) (next_number s.registers) ∷ []
   named_given =
       map-append (answers (named_unsent s call)) f.numbers (next_number s.registers ∷ [])
       ∙ ap (λ xs. xs ++ answers (named_unsent s call) (next_number s.registers) ∷ []) (all_same (answers s) (answers (named_unsent s call)) f.numbers named_answers)
@@ -114,7 +114,7 @@ module _ (s : Kept) (f : Flight) (slot : ℕ) (call : CallMade) (a : IsAloft s.r
   pub changed_aloft : IsAloft (changed_unsent s f slot call).registers (with_change slot (next_number s.registers) call f).numbers (with_change slot (next_number s.registers) call f).calls
   changed_aloft = aloft_changed s.registers (changed_unsent s f slot call).registers f.numbers f.calls slot call (IsNot (slice_get f.numbers slot)) changed_unsent_became a
 
-  pub changed_many : length (given (changed_unsent s f slot call) (with_change slot (next_number s.registers) call f)) ≡ length (given s f)
+  pub changed_many : length (answers_given (changed_unsent s f slot call) (with_change slot (next_number s.registers) call f)) ≡ length (answers_given s f)
   changed_many =
       length-map (set f.numbers slot (next_number s.registers)) (answers (changed_unsent s f slot call)) ∙ length-set f.numbers slot (next_number s.registers) ∙ sym (length-map f.numbers (answers s))
 
@@ -123,7 +123,7 @@ module _ (s : Kept) (f : Flight) (slot : ℕ) (call : CallMade) (a : IsAloft s.r
   before_by None is same = all_same (answers s) (answers (changed_unsent s f slot call)) (take slot f.numbers) (λ m. same m tt)
   before_by (Some n) is same = before_same (answers s) (answers (changed_unsent s f slot call)) f.numbers slot n is a.apart same
 
-  pub changed_given : take slot (given (changed_unsent s f slot call) (with_change slot (next_number s.registers) call f)) ≡ take slot (given s f)
+  pub changed_given : take slot (answers_given (changed_unsent s f slot call) (with_change slot (next_number s.registers) call f)) ≡ take slot (answers_given s f)
   changed_given =
       take-map (answers (changed_unsent s f slot call)) slot (set f.numbers slot (next_number s.registers))
       ∙ ap (map (answers (changed_unsent s f slot call))) (take-set f.numbers slot (next_number s.registers))
@@ -134,7 +134,7 @@ module _ (s : Kept) (f : Flight) (slot : ℕ) (call : CallMade) (a : IsAloft s.r
 -- what is known of a flight that is to be completed
 pub record Completes (s : Kept) (f : Flight) (k : ℕ) : Type 0 where
   pub aloft : IsAloft s.registers f.numbers f.calls
-  pub follows : Follows (runs_of s f) k (given s f) f.calls
+  pub follows : Follows (runs_of s f) k (answers_given s f) f.calls
   pub runs : AllRuns s.setting s.entries
 
 pub grows : (s : Kept) (f : Flight) → IsGrowing (runs_of s f)
@@ -145,7 +145,7 @@ pub name_completes : (s : Kept) (f : Flight) (k : ℕ) (slot : ℕ) (made : List
 name_completes s f k slot made call is none c = record {
   aloft = named_aloft s f call c.aloft;
   follows = subst (λ xs. Follows (runs_of s f) (k + 1) xs (f.calls ++ call ∷ [])) (sym (named_given s f call c.aloft))
-      (follows_name (runs_of s f) (grows s f) k (given s f) f.calls slot made call (answers (named_unsent s call) (next_number s.registers)) is none c.follows);
+      (follows_name (runs_of s f) (grows s f) k (answers_given s f) f.calls slot made call (answers (named_unsent s call) (next_number s.registers)) is none c.follows);
   runs = c.runs;
 }
 
@@ -153,7 +153,7 @@ pub change_completes : (s : Kept) (f : Flight) (k : ℕ) (slot : ℕ) (call : Ca
     → Completes s f k → Completes (changed_unsent s f slot call) (with_change slot (next_number s.registers) call f) (k + 1)
 change_completes s f k slot call first at c = record {
   aloft = changed_aloft s f slot call c.aloft;
-  follows = follows_change (runs_of s f) (grows s f) k (given s f) (given (changed_unsent s f slot call) (with_change slot (next_number s.registers) call f)) f.calls slot call first at
+  follows = follows_change (runs_of s f) (grows s f) k (answers_given s f) (answers_given (changed_unsent s f slot call) (with_change slot (next_number s.registers) call f)) f.calls slot call first at
       (changed_many s f slot call c.aloft) (changed_given s f slot call c.aloft) c.follows;
   runs = c.runs;
 }
@@ -187,7 +187,7 @@ completing_runs s f k (Wants place made want) (Change slot) again is goes keeps 
 -- a flight of which that much is known is completed in so many runs
 completed_runs : (runs : ℕ) (s : Kept) (f : Flight) (k : ℕ) → 17 ≤ k + runs → Completes s f k → LeavesRuns (completed runs s f)
 completed_runs zero s f k enough c =
-    (let there = c.follows.there in let few = few_calls (runs_of s f) (grows s f) (given s f) in absurd (omega (arith, enough, there, few)))
+    (let there = c.follows.there in let few = few_calls (runs_of s f) (grows s f) (answers_given s f) in absurd (omega (arith, enough, there, few)))
 completed_runs (suc runs) s f k enough c =
     completing_runs s f k (flight_run s f) (next_move f (flight_run s f)) (completed runs) refl refl
     (λ s' f' c'. completed_runs runs s' f' (k + 1) (omega (arith, enough)) c') c
@@ -201,7 +201,7 @@ changed_runs s f slot call a h =
     let aloft = changed_aloft s f slot call a in
     cond_both (nat_le 3 f.changes) (completed 17 s' f') (waits (noted (change_rows s f slot call) s) f' (next_number s.registers) call) LeavesRuns
     (λ _. completed_runs 17 s' f' 0 (omega arith)
-    (record { aloft = aloft; follows = follows_none (runs_of s' f') (given s' f') f'.calls (length-map f'.numbers (answers s') ∙ aloft.many); runs = h }))
+    (record { aloft = aloft; follows = follows_none (runs_of s' f') (answers_given s' f') f'.calls (length-map f'.numbers (answers s') ∙ aloft.many); runs = h }))
     (λ _. h)
 
 moved_runs : (s : Kept) (f : Flight) (ran : Ran) (move : Move) → flight_run s f ≡ ran → next_move f ran ≡ move → IsAloft s.registers f.numbers f.calls → AllRuns s.setting s.entries

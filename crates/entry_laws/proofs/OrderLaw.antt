@@ -15,7 +15,7 @@ use Rattle.request_log.specs.Entries.{has_id}
 use Rattle.request_log.specs.declared.entry.Entry.{Entry}
 use Rattle.repair_messages.specs.declared.posts.PostName.{PostName}
 use Rattle.repair_messages.specs.declared.posts.PostName.TheVariants.{Call as OfCall, Reply as OfReply}
-use Rattle.create_placement.specs.Placement.{place_between}
+use Rattle.create_placement.specs.Placement.{place_between, created}
 use Rattle.journal_rows.specs.Words.{first_asked, asked_step, asked, count_step, taken_step, last_taken_of, version_in, wants, request_step, request_now, struck_by, struck_step, is_struck, replaced_by, answered_step, mark_step, ordered, or_before, is_about, settles}
 use Rattle.journal_rows.specs.declared.callee.TookRow.{TookRow}
 use Rattle.journal_rows.specs.declared.callee.AskedRow.{AskedRow}
@@ -31,7 +31,7 @@ use Rattle.call_registers.specs.declared.reply.Reply.{Reply}
 use Rattle.service_meaning.specs.Calls.{noted}
 use Rattle.service_meaning.specs.Fits.{IsOrderAbout, IsAsNow, HasAnswered, HasReply, IsReply, made_as, asked_as, answer_given, takes_request}
 use Rattle.service_meaning.specs.Messages.{rule}
-use Rattle.service_meaning.specs.Orders.{entry_of, unless_there, unless_outside, unless_replaced, misnamed, is_too_much, refused, with_call, at_id, struck_as, asking, created, about, request_of, order_rows, released_post, carried_out, order_by, order_where, order_event}
+use Rattle.service_meaning.specs.Orders.{entry_of, unless_there, unless_outside, unless_replaced, misnamed, is_too_much, refused, with_call, at_id, struck_as, asking, about, request_of, order_rows, released_post, carried_out, order_by, order_where, order_event}
 use Rattle.service_meaning.specs.State.{Kept, after, next_id, or_else}
 use Rattle.service_meaning.specs.declared.answers.Ordered.{Ordered}
 use Rattle.service_meaning.specs.declared.refusals.OrderRefused.{OrderRefused}

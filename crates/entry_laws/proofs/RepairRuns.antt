@@ -20,10 +20,10 @@ use Rattle.journal_rows.specs.declared.orders.OrderedRow.{OrderedRow}
 use Rattle.call_registers.specs.Registers.{register, is_newer}
 use Rattle.call_registers.specs.declared.register.Hold.{Hold}
 use Rattle.call_registers.specs.declared.register.Register.{Register}
-use Rattle.create_placement.specs.Placement.{place_between}
+use Rattle.create_placement.specs.Placement.{place_between, created}
 use Rattle.service_meaning.specs.Calls.{noted}
 use Rattle.service_meaning.specs.Messages.{rule, taken, origin_of, is_known, is_too_much, acked_again, created_entry, created_place, at_version, taken_by, take_admitted, take_event, heard, seen_row, confirmed_row, heard_by, heard_where, take_answer_event, replies_to, had, is_now, hold_of, held_back, held_where, posted, posted_event}
-use Rattle.service_meaning.specs.Orders.{refused, struck_as, asking, created, carried_out, order_by, order_where, order_event}
+use Rattle.service_meaning.specs.Orders.{refused, struck_as, asking, carried_out, order_by, order_where, order_event}
 use Rattle.service_meaning.specs.State.{Kept, After, after, answers, next_id, is_in_flight}
 use Rattle.service_meaning.specs.Steps.{new_record, new_numbers, Stale, stale_in, step_by, step_event}
 use Rattle.service_meaning.specs.declared.answers.PostReply.{PostReply}

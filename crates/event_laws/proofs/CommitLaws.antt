@@ -41,7 +41,7 @@ use Rattle.service_meaning.specs.declared.answers.Arrived.{Arrived}
 use Rattle.service_meaning.specs.declared.answers.Arrived.TheVariants.{Done as Committed, Call as Sends, Known}
 use Rattle.entry_laws.proofs.AloftLemmas.{IsAloft, aloft_by}
 use Rattle.entry_laws.proofs.GrowthLemmas.{follows_none, few_calls}
-use Rattle.entry_laws.proofs.LiveRuns.{runs_of, given, grows, changed_aloft, Completes, name_completes, change_completes}
+use Rattle.entry_laws.proofs.LiveRuns.{runs_of, answers_given, grows, changed_aloft, Completes, name_completes, change_completes}
 use Rattle.call_laws.proofs.CallLaws.{FitsCalls, calls_of_fits, IsFew, Goes, goes_same, goes_then, goes_longer}
 use Rattle.call_laws.proofs.CurrentLaws.{committed_current, committed_ran}
 use Rattle.call_laws.proofs.FlightLaws.{flying, goes_untold, sends_change}
@@ -144,7 +144,7 @@ ends_completing again s f k ends c (Wants place made call) is None e =
 
 ends_completed : (runs : ℕ) (s : Kept) (f : Flight) (k : ℕ) → 17 ≤ k + runs → Completes s f k → Ends s f (completed runs s f)
 ends_completed zero s f k enough c =
-    (let there = c.follows.there in let few = few_calls (runs_of s f) (grows s f) (given s f) in absurd (omega (arith, enough, there, few)))
+    (let there = c.follows.there in let few = few_calls (runs_of s f) (grows s f) (answers_given s f) in absurd (omega (arith, enough, there, few)))
 ends_completed (suc runs) s f k enough c =
     ends_completing (completed runs) s f k (λ t g d. ends_completed runs t g (k + 1) (omega (arith, enough)) d) c
     (flight_run s f) refl (first_other f.calls (calls_in (flight_run s f))) refl
@@ -219,7 +219,7 @@ changed_comes s f slot c true within aloft runs =
     let own = changed_aloft s f slot c aloft in
     ends_comes s f (completed 17 t g) (ends_after s f t g (completed 17 t g) refl (changed_quiet s f slot c) (goes_changed_unsent s f slot c within)
     (ends_completed 17 t g 0 (omega arith)
-    (record { aloft = own; follows = follows_none (runs_of t g) (given t g) g.calls (length-map g.numbers (answers t) ∙ own.many); runs = runs })))
+    (record { aloft = own; follows = follows_none (runs_of t g) (answers_given t g) g.calls (length-map g.numbers (answers t) ∙ own.many); runs = runs })))
 changed_comes s f slot c false within aloft runs = λ h few. (refl, changed_quiet s f slot c)
 
 moved_comes : (s : Kept) (f : Flight) (ran : Ran) → flight_run s f ≡ ran → (o : Option ℕ) → first_other f.calls (calls_in ran) ≡ o

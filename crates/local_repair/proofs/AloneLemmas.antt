@@ -22,7 +22,7 @@ use Rattle.local_repair.specs.Tests.{step_with}
 use Rattle.local_repair.specs.declared.stepped.Stepped.{Stepped}
 use Rattle.local_repair.proofs.StepLemmas.{step_is}
 
-none_taken : (taken rest : List Response) → [] ≡ taken ++ rest → taken ≡ []
+pub none_taken : (taken rest : List Response) → [] ≡ taken ++ rest → taken ≡ []
 none_taken [] rest e = refl
 none_taken (x ∷ xs) rest e = cc
 

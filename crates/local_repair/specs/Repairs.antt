@@ -7,7 +7,7 @@ use Rattle.local_repair.specs.Current.{Consumed, IsFirstStale}
 use Rattle.local_repair.specs.Tests.{first_stale}
 
 -- what a repairer keeps
-pub record Kept : Type 0 where
+pub record KeptRepairer : Type 0 where
   pub entries : List Entry
 
 -- at most the version, the request, and whether it is wanted and struck are others

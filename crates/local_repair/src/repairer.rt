@@ -24,9 +24,9 @@ pub struct Repairer {
 }
 
 impl Model for Repairer {
-    ghost use Rattle.local_repair.specs.Repairs.{Kept};
+    ghost use Rattle.local_repair.specs.Repairs.{KeptRepairer};
 
-    ghost Value = { Kept };
+    ghost Value = { KeptRepairer };
 
     ghost view = { λ repairer. record { entries = repairer.log.entries } };
 }

@@ -12,7 +12,7 @@ use Rattle.call_laws.proofs.RowLemmas.{Each, IsPlain}
 use Rattle.call_laws.proofs.FittingLemmas.{Book, HasRoom, Fitting}
 use Rattle.repair_laws.proofs.SettledLaws.{change, settled_is, settled_timely}
 use Rattle.repair_laws.proofs.StepLaws.{answer_plain}
-use Rattle.repair_drafts.specs.Books.{Kept, answers, answer_rows, new_numbers, sent_rows, entered, settled, Settles, IsOwn, IsTimely}
+use Rattle.repair_drafts.specs.Books.{KeptBook, answers, answer_rows, new_numbers, sent_rows, entered, settled, Settles, IsOwn, IsTimely}
 
 -- ---- a reply that isn't there
 
@@ -48,11 +48,11 @@ abbrev pub any : Entry → Trace → Bool → List ℕ → Type 0
 any e t answered numbers = Unit {0}
 
 -- in the words of local repair, and the registers stay on time
-pub record Left (b b' : Kept) (e : Entry) (t : Trace) (numbers : List ℕ) : Type 0 where
+pub record Left (b b' : KeptBook) (e : Entry) (t : Trace) (numbers : List ℕ) : Type 0 where
   pub settled : IsSettled (change b.registers b'.registers any) e.slots numbers t.answers
   pub timely : IsTimely b.registers → IsTimely b'.registers
 
-left_by : (b : Kept) (e : Entry) (t : Trace) (answered : Bool) → IsOwn b e → length (settled b e t answered).journal < 2 ^ 64
+left_by : (b : KeptBook) (e : Entry) (t : Trace) (answered : Bool) → IsOwn b e → length (settled b e t answered).journal < 2 ^ 64
     → t.answers ≡ answers_for (answers b) (calls_of_made e.made) e.slots t.calls → Left b (settled b e t answered) e t (new_numbers b e t)
 left_by b e t answered own few given =
     let book : Book = record { journal = b.journal; registers = b.registers } in
@@ -64,15 +64,15 @@ left_by b e t answered own few given =
       timely = settled_timely book e t.calls more own.others (plain e t answered) room fits;
     }
 
-pub settle_left : (b b' : Kept) (e : Entry) (t : Trace) (answered : Bool) (numbers : List ℕ) → Settles b b' e t answered numbers → IsOwn b e → length b'.journal < 2 ^ 64
+pub settle_left : (b b' : KeptBook) (e : Entry) (t : Trace) (answered : Bool) (numbers : List ℕ) → Settles b b' e t answered numbers → IsOwn b e → length b'.journal < 2 ^ 64
     → t.answers ≡ answers_for (answers b) (calls_of_made e.made) e.slots t.calls → Left b b' e t numbers
 settle_left b b' e t answered numbers s own few given =
-    let F : Kept → Type 0 = λ k. length k.journal < 2 ^ 64 in
-    let P : Kept → Type 0 = λ k. Left b k e t (new_numbers b e t) in
+    let F : KeptBook → Type 0 = λ k. length k.journal < 2 ^ 64 in
+    let P : KeptBook → Type 0 = λ k. Left b k e t (new_numbers b e t) in
     let Q : List ℕ → Type 0 = λ ns. Left b b' e t ns in
     subst Q (sym s.given) (subst P (sym s.is) (left_by b e t answered own (subst F s.is few) given))
 
 -- it is what is entered
-pub settles_by : (b b' : Kept) (e : Entry) (t : Trace) (answered : Bool) (sent : List Row) (numbers : List ℕ) → b' ≡ entered b e t answered sent → sent ≡ sent_rows b e t
+pub settles_by : (b b' : KeptBook) (e : Entry) (t : Trace) (answered : Bool) (sent : List Row) (numbers : List ℕ) → b' ≡ entered b e t answered sent → sent ≡ sent_rows b e t
     → numbers ≡ new_numbers b e t → Settles b b' e t answered numbers
 settles_by b b' e t answered sent numbers is rows given = record { is = is ∙ ap (entered b e t answered) rows; given = given }

@@ -19,7 +19,7 @@ use Rattle.entry_laws.proofs.StepForms.{new_trace_is, run_again, step_entries}
 use Rattle.call_laws.proofs.EntryPlaces.{others, entry_to_head}
 use Rattle.repair_laws.proofs.ApartLaws.{stands_at}
 use Rattle.repair_laws.proofs.StaleLaws.{none_stale, found_first}
-use Rattle.repair_drafts.specs.Books.{Kept, answers as answers_in, settled, Settles, IsOwn, IsTimely, book_of, with_book}
+use Rattle.repair_drafts.specs.Books.{KeptBook, answers as answers_in, settled, Settles, IsOwn, IsTimely, book_of, with_book}
 
 -- ---- what a step asks
 
@@ -36,7 +36,7 @@ all_settle s f = λ k d within.
 -- ---- what it leaves
 
 -- the registers as a step over a book sees them
-abbrev pub change_in : Kept → Kept → ℕ → ℕ → Change
+abbrev pub change_in : KeptBook → KeptBook → ℕ → ℕ → Change
 change_in b b' last later =
     record {
       before = answers_in b;
@@ -52,7 +52,7 @@ record_is s rows e m r =
     let trace : m.trace ≡ (new_record s rows e).trace = r.trace ∙ new_trace_is s rows e in
     λ i. record { alive = r.alive i; version = r.version i; request = r.request i; trace = trace i }
 
-module _ (s : Service) (f : Fits s) (b' : Kept) (last later : ℕ) (es' : List Entry) where
+module _ (s : Service) (f : Fits s) (b' : KeptBook) (last later : ℕ) (es' : List Entry) where
   idle_is : AllCurrent (answers s) [] s.entries → es' ≡ s.entries → b' ≡ book_of s → after (with_book s es' b') Idle ≡ step_event s
   idle_is all same book =
       ap (λ es. after (with_book s es b') Idle) same ∙ ap (λ b. after (with_book s s.entries b) Idle) book
@@ -104,14 +104,14 @@ module _ (s : Service) (f : Fits s) (b' : Kept) (last later : ℕ) (es' : List E
   step_is (Ran id answered) h same = ran_is id answered h
 
 -- the same, where the step ran over a book that was taken out of the service, and was put back into it
-pub repaired : (s : Service) → Fits s → (b b' : Kept) (last later : ℕ) (setting : Setting) (es es' : List Entry) (now : Service) (result : Result Stepped NoMemory)
+pub repaired : (s : Service) → Fits s → (b b' : KeptBook) (last later : ℕ) (setting : Setting) (es es' : List Entry) (now : Service) (result : Result Stepped NoMemory)
     → b ≡ book_of s → setting ≡ s.setting → es ≡ s.entries → IfOk result (λ stepped. StepsTo setting (change_in b b' last later) es stepped es')
     → (result ≡ Ok Idle → b' ≡ b)
     → now ≡ record { setting = setting; entries = es'; flights = b'.flights; journal = b'.journal; registers = b'.registers; replies = b'.replies }
     → IfOk result (λ stepped. after now stepped ≡ step_event s)
 repaired s f b b' last later setting es es' now (Err e) book set entries steps idle is = tt
 repaired s f b b' last later setting es es' now (Ok stepped) book set entries steps idle is =
-    let P : Kept → Type 0 = λ k. StepsTo setting (change_in k b' last later) es stepped es' in
+    let P : KeptBook → Type 0 = λ k. StepsTo setting (change_in k b' last later) es stepped es' in
     let T : Setting → Type 0 = λ t. StepsTo t (change_in (book_of s) b' last later) es stepped es' in
     let Q : List Entry → Type 0 = λ xs. StepsTo s.setting (change_in (book_of s) b' last later) xs stepped es' in
     let there = is ∙ ap (λ (t : Setting). let k : Service = record { setting = t; entries = es'; flights = b'.flights; journal = b'.journal; registers = b'.registers; replies = b'.replies } in k) set in

@@ -16,22 +16,22 @@ use Rattle.service_meaning.specs.State.{Kept as Service}
 use Rattle.service_meaning.specs.Fits.{FitsSent, FitsPlaces, Place, place_of_entry}
 
 -- a journal, the registers and replies of which it tells, and the flights for whose abandonment it has room
-pub record Kept : Type 0 where
+pub record KeptBook : Type 0 where
   pub journal : List Row
   pub registers : List Register
   pub replies : List Reply
   pub flights : List Flight
 
 -- what a number consumes
-abbrev pub answers : Kept → ℕ → Response
+abbrev pub answers : KeptBook → ℕ → Response
 answers b n = answer_or_tentative (consumed n b.registers)
 
 -- the rows that tell how an entry's calls are others after this trace
-abbrev pub sent_rows : Kept → Entry → Trace → List Row
+abbrev pub sent_rows : KeptBook → Entry → Trace → List Row
 sent_rows b e t = settling_rows b.registers (next_number b.registers) e.slots (calls_of_made e.made) t.calls
 
 -- the numbers of the trace's calls
-abbrev pub new_numbers : Kept → Entry → Trace → List ℕ
+abbrev pub new_numbers : KeptBook → Entry → Trace → List ℕ
 new_numbers b e t = settling_numbers (next_number b.registers) e.slots (calls_of_made e.made) t.calls
 
 -- the row of the trace's answer, where it is a new one
@@ -54,7 +54,7 @@ replied e index answered replies =
     if answered then at_entry e.id (with_answer (raised e.answer_version) e.version index) replies else replies
 
 -- these rows came for an entry with this trace: first those of its calls, and then that of its answer, if it has a new one
-abbrev pub entered : Kept → Entry → Trace → Bool → List Row → Kept
+abbrev pub entered : KeptBook → Entry → Trace → Bool → List Row → KeptBook
 entered b e t answered sent =
     record {
       journal = b.journal ++ (sent ++ answer_rows e t answered);
@@ -63,16 +63,16 @@ entered b e t answered sent =
       flights = b.flights;
     }
 
-abbrev pub settled : Kept → Entry → Trace → Bool → Kept
+abbrev pub settled : KeptBook → Entry → Trace → Bool → KeptBook
 settled b e t answered = entered b e t answered (sent_rows b e t)
 
 -- what settling leaves, and the numbers that it gives
-pub record Settles (b b' : Kept) (e : Entry) (t : Trace) (answered : Bool) (numbers : List ℕ) : Type 0 where
+pub record Settles (b b' : KeptBook) (e : Entry) (t : Trace) (answered : Bool) (numbers : List ℕ) : Type 0 where
   pub is : b' ≡ settled b e t answered
   pub given : numbers ≡ new_numbers b e t
 
 -- the entry's calls are those that are wanted under its numbers, beside those of these other places
-pub record IsOwn (b : Kept) (e : Entry) : Type 0 where
+pub record IsOwn (b : KeptBook) (e : Entry) : Type 0 where
   pub sent : FitsSent b.journal b.registers
   pub others : List Place
   pub places : FitsPlaces b.registers (place_of_entry e ∷ others)
@@ -84,10 +84,10 @@ IsTimely registers = (n : ℕ) → IfSome (register n registers) (λ r. IfSome r
 -- ---- a service with its book
 
 -- what the book of a service has
-abbrev pub book_of : Service → Kept
+abbrev pub book_of : Service → KeptBook
 book_of s = record { journal = s.journal; registers = s.registers; replies = s.replies; flights = s.flights }
 
 -- the service with these entries and this book
-abbrev pub with_book : Service → List Entry → Kept → Service
+abbrev pub with_book : Service → List Entry → KeptBook → Service
 with_book s entries b =
     record s { entries = entries; journal = b.journal; registers = b.registers; replies = b.replies; flights = b.flights }

@@ -31,10 +31,10 @@ pub(crate) struct Book {
 
 impl Model for Book {
     ghost use Rattle.std.specs.Prelude.{◌≤◌};
-    ghost use Rattle.repair_drafts.specs.Books.{Kept};
+    ghost use Rattle.repair_drafts.specs.Books.{KeptBook};
     ghost use Rattle.service_parts.specs.Rooms.{aloft};
 
-    ghost Value = { Kept };
+    ghost Value = { KeptBook };
 
     ghost view = { λ b. record { journal = b.journal.rows; registers = b.registers.list; replies = b.replies.list; flights = b.flights.list } };
 

@@ -1,11 +1,11 @@
 // The orders of operators.
 ghost use Rattle.std.specs.Prelude.{◌≡◌, ◌+◌, ◌<◌, ◌≤◌, [], ◌∷◌, ◌++◌, None, IfOk, OnOk, OnErr, find, insert, length, option_map};
 ghost use Rattle.request_log.specs.Entries.{has_id};
-ghost use Rattle.create_placement.specs.Placement.{place_between};
+ghost use Rattle.create_placement.specs.Placement.{created, place_between};
 ghost use Rattle.service_meaning.specs.State.{next_id};
 ghost use Rattle.service_meaning.specs.Calls.{noted};
 ghost use Rattle.service_meaning.specs.Messages.{rule};
-ghost use Rattle.service_meaning.specs.Orders.{about, asked_rows, carried_out, created, order_rows, original, released_post, repaired, request_of, unless_held, hold_on, with_call};
+ghost use Rattle.service_meaning.specs.Orders.{about, asked_rows, carried_out, order_rows, original, released_post, repaired, request_of, unless_held, hold_on, with_call};
 ghost use Rattle.service_parts.specs.Parts.{kept};
 ghost use Rattle.service_parts.specs.Rooms.{aloft};
 ghost use Rattle.repair_drafts.specs.Ordering.{MayOrder, TellNoCall};

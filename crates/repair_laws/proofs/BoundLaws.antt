@@ -5,7 +5,7 @@ use Rattle.std.specs.List.{position_or_len}
 use Rattle.std.proofs.lemmas.Bool.Decides.{nat_tests}
 use Rattle.lang_core.specs.declared.inputs.Inputs.{Inputs}
 use Rattle.request_log.specs.Entries.{has_id}
-use Rattle.create_placement.specs.Placement.{place_between}
+use Rattle.create_placement.specs.Placement.{created, place_between}
 use Rattle.repair_messages.specs.declared.posts.PostName.TheVariants.{Call as OfCall, Reply as OfReply}
 use Rattle.local_repair.specs.Steps.{remade}
 use Rattle.journal_rows.specs.Words.{ordered}
@@ -13,7 +13,7 @@ use Rattle.journal_rows.specs.declared.orders.Command.{Command}
 use Rattle.journal_rows.specs.declared.orders.Command.TheVariants.{Cancel, Restore, Replace, Create, Retry}
 use Rattle.journal_rows.specs.declared.orders.OrderedRow.{OrderedRow}
 use Rattle.service_meaning.specs.State.{Kept, answers, in_all, is_crowded, is_heavy, next_id, or_else}
-use Rattle.service_meaning.specs.Orders.{asking, carried_out, created, is_too_much, makes_entry, misnamed, order_by, order_event, order_where, refused, struck_as}
+use Rattle.service_meaning.specs.Orders.{asking, carried_out, is_too_much, makes_entry, misnamed, order_by, order_event, order_where, refused, struck_as}
 use Rattle.service_meaning.specs.Steps.{new_record, new_numbers, Stale, stale_in, step_by, step_event}
 use Rattle.service_meaning.specs.declared.refusals.OrderRefused.{OrderRefused}
 use Rattle.service_meaning.specs.declared.refusals.OrderRefused.TheVariants.{Full}

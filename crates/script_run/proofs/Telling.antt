@@ -3,7 +3,7 @@ use Rattle.std.proofs.Common.{if◌then◌else◌, ◌≡◌, ◌≢◌, ℕ, ze
 use Rattle.std.proofs.lemmas.List.{length-map}
 use Rattle.journal_rows.specs.declared.verdict.Verdict.{Verdict}
 use Rattle.report_text.specs.Reports.{IsVerdictOver}
-use Rattle.service_core.specs.Events.{Kept, stale_id}
+use Rattle.service_core.specs.Events.{KeptService, stale_id}
 use Rattle.world_core.specs.Verdicts.{unless_stale, verdict, verdict_from}
 use Rattle.world_core.specs.Worlds.{Answer, World, after_event, after_events, happened_before, if_there, name_of, service_of}
 use Rattle.world_core.specs.declared.event.Event.{Event}
@@ -24,7 +24,7 @@ said_there token (Err NoService) there = absurd (there refl)
 said_there token (Err MemoryLacks) there = refl
 
 -- what such a line says is what its event answers, or that the service isn't there
-pub said_one : (o : Option Kept) (token : List ℕ) (answer : Kept → Answer) → ((s : Kept) → answer s ≢ Err NoService)
+pub said_one : (o : Option KeptService) (token : List ℕ) (answer : KeptService → Answer) → ((s : KeptService) → answer s ≢ Err NoService)
     → said_of token (if_there o (Err NoService) answer) ≡ (if is_some o then Ok (last_text token (happened_before (if_there o (Err NoService) answer) [])) else Err Service)
 said_one None token answer there = refl
 said_one (Some s) token answer there = said_there token (answer s) (there s)
@@ -35,7 +35,7 @@ retold (Ok s) same is = is ∙ same
 retold (Err e) same is = tt
 
 -- and so of a report
-pub said_report : (o : Option Kept) (report : Kept → List ℕ) → said_at report o ≡ (if is_some o then Ok (report_of report o) else Err Service)
+pub said_report : (o : Option KeptService) (report : KeptService → List ℕ) → said_at report o ≡ (if is_some o then Ok (report_of report o) else Err Service)
 said_report None report = refl
 said_report (Some s) report = refl
 
@@ -64,7 +64,7 @@ said_known w line = text_known w line (is_there w.services (service_in line)) re
 
 -- ---- a line about a service that isn't there leaves the world
 
-none_there : {X : Type 0} (o : Option Kept) (other : X) (turn : Kept → X) → is_some o ≡ false → if_there o other turn ≡ other
+none_there : {X : Type 0} (o : Option KeptService) (other : X) (turn : KeptService → X) → is_some o ≡ false → if_there o other turn ≡ other
 none_there None other turn e = refl
 none_there (Some s) other turn e = cc
 
@@ -78,7 +78,7 @@ stays w Blank n e = cc
 stays w (Ask service request) n e = one_stays w (Arrive service request) n (none_there (service_of service w.services) w _ e)
 stays w (Order service command token who) n e = one_stays w (AnOrder service command token) n (none_there (service_of service w.services) w _ e)
 stays w (Step service) n e =
-    one_stays w (AStep service) n (ap (λ (services : List Kept). record w { services = services }) (none_there (service_of service w.services) w.services _ e))
+    one_stays w (AStep service) n (ap (λ (services : List KeptService). record w { services = services }) (none_there (service_of service w.services) w.services _ e))
 stays w (Clock moment) n e = cc
 stays w (Seed m) n e = cc
 stays w (Rows service) zero e = refl
@@ -119,14 +119,14 @@ over_first : (o : Option ℕ) (at n : ℕ) (others : Verdict) → IsVerdictOver 
 over_first None at n others h = h
 over_first (Some id) at n others h = omega arith
 
-over_from : (at : ℕ) (services : List Kept) → IsVerdictOver (at + length services) (verdict_from at services)
+over_from : (at : ℕ) (services : List KeptService) → IsVerdictOver (at + length services) (verdict_from at services)
 over_from at [] = tt
 over_from at (s ∷ services) =
     let O : ℕ → Type 0 = λ n. IsVerdictOver n (verdict_from (at + 1) services) in
     let same : (at + 1) + length services ≡ at + suc (length services) = omega arith in
     over_first (stale_id s) at (length services) (verdict_from (at + 1) services) (subst O same (over_from (at + 1) services))
 
-pub verdict_over : (services : List Kept) (names : List (List ℕ)) → names ≡ map name_of services → IsVerdictOver (length names) (verdict services)
+pub verdict_over : (services : List KeptService) (names : List (List ℕ)) → names ≡ map name_of services → IsVerdictOver (length names) (verdict services)
 verdict_over services names e =
     let same : 0 + length services ≡ length names = omega (arith, ap length e, length-map services name_of) in
     let O : ℕ → Type 0 = λ n. IsVerdictOver n (verdict services) in

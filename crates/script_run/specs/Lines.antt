@@ -128,12 +128,12 @@ unfoldable pub created_parts : Option (List ℕ) → Option (Option ℕ × Optio
 created_parts rest = with_word rest (λ before rest. with_word rest (λ after rest. with_word rest (λ who rest.
     with_part (neighbour before) (λ before. with_part (neighbour after) (λ after. Some (before, after, who, rest))))))
 
-abbrev pub created : Option ℕ → Option ℕ → List ℕ → Method × List ℕ × List ℕ → Option Command
-created before after who asked = where_good (is_who who) (Some (Create before after (request_of who asked)))
+abbrev pub create_command : Option ℕ → Option ℕ → List ℕ → Method × List ℕ × List ℕ → Option Command
+create_command before after who asked = where_good (is_who who) (Some (Create before after (request_of who asked)))
 
 -- `BEFORE AFTER WHO2 METHOD PATH BODY`
 unfoldable pub created_of : Option (List ℕ) → Option Command
-created_of rest = with_part (created_parts rest) (λ c. with_part (asked c.3) (λ asked. created c.0 c.1 c.2 asked))
+created_of rest = with_part (created_parts rest) (λ c. with_part (asked c.3) (λ asked. create_command c.0 c.1 c.2 asked))
 
 -- `S TOKEN WHO BEFORE AFTER WHO2 METHOD PATH BODY`
 unfoldable pub create_at : Option (List ℕ) → Option Line

@@ -3,7 +3,7 @@ use Rattle.std.specs.Prelude.{ℕ, ◌+◌, Bool, true, List, [], ◌∷◌, ◌
 use Rattle.std.specs.List.{slice_split}
 use Rattle.request_names.specs.Ids.{id_text}
 use Rattle.report_text.specs.Reports.{answer_line, log_text, rows_text, verdict_text}
-use Rattle.service_core.specs.Events.{Kept}
+use Rattle.service_core.specs.Events.{KeptService}
 use Rattle.local_repair.specs.Current.{rows_of}
 use Rattle.world_core.specs.Verdicts.{verdict}
 use Rattle.world_core.specs.Worlds.{Answer, World, after_events, happenings, name_of, service_of}
@@ -36,12 +36,12 @@ service_in (Log service) = Some service
 service_in Audit = None
 
 -- whether there is a service of this name, if one is named
-abbrev pub is_there : List Kept → Option (List ℕ) → Bool
+abbrev pub is_there : List KeptService → Option (List ℕ) → Bool
 is_there services None = true
 is_there services (Some name) = is_some (service_of name services)
 
 -- a line about a service that isn't there is refused
-abbrev pub known : List Kept → Read → Read
+abbrev pub known : List KeptService → Read → Read
 known services (Ok line) = if is_there services (service_in line) then Ok line else Err Service
 known services (Err fault) = Err fault
 
@@ -104,14 +104,14 @@ last_text token [] = []
 last_text token (h ∷ []) = happened_text token h
 last_text token (h ∷ next ∷ more) = last_text token (next ∷ more)
 
-abbrev pub rows_of_service : Kept → List ℕ
+abbrev pub rows_of_service : KeptService → List ℕ
 rows_of_service s = rows_text (rows_of s.entries)
 
-abbrev pub log_of_service : Kept → List ℕ
+abbrev pub log_of_service : KeptService → List ℕ
 log_of_service s = log_text s.setting.me s.entries
 
 -- what is printed of a service, if it is there
-abbrev pub report_of : (Kept → List ℕ) → Option Kept → List ℕ
+abbrev pub report_of : (KeptService → List ℕ) → Option KeptService → List ℕ
 report_of report None = []
 report_of report (Some s) = report s
 
@@ -143,14 +143,14 @@ said_of token (Err NoService) = Err Service
 said_of token (Err NoMemory) = Ok []
 
 -- what a report says of a service
-abbrev pub said_at : (Kept → List ℕ) → Option Kept → Result (List ℕ) LineFault
+abbrev pub said_at : (KeptService → List ℕ) → Option KeptService → Result (List ℕ) LineFault
 said_at report None = Err Service
 said_at report (Some s) = Ok (report s)
 
-abbrev pub rows_said : Option Kept → Result (List ℕ) LineFault
+abbrev pub rows_said : Option KeptService → Result (List ℕ) LineFault
 rows_said service = said_at rows_of_service service
 
-abbrev pub log_said : Option Kept → Result (List ℕ) LineFault
+abbrev pub log_said : Option KeptService → Result (List ℕ) LineFault
 log_said service = said_at log_of_service service
 
 -- ---- the same of what was read as a line

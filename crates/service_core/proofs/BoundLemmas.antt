@@ -16,9 +16,10 @@ use Rattle.local_repair.specs.Alone.{remade_on, trace_on}
 use Rattle.local_repair.specs.Current.{Consumed, IsCurrent, AllCurrent, after_entry}
 use Rattle.local_repair.specs.Tests.{is_current, step_with}
 use Rattle.local_repair.proofs.TestLemmas.{is_current-from, is_current-true, stale_id_none}
-use Rattle.service_core.specs.Events.{ids, unanswered, Kept, after_step, SettlesWithin}
+use Rattle.service_core.specs.Events.{ids, unanswered, KeptService, after_step, SettlesWithin}
 use Rattle.service_core.proofs.NumberLemmas.{ids-step}
-use Rattle.service_core.proofs.RerunLemmas.{none_taken, trace_on_is}
+use Rattle.local_repair.proofs.AloneLemmas.{none_taken}
+use Rattle.service_core.proofs.RerunLemmas.{trace_on_is}
 
 -- ---- an entry that was made anew is current
 
@@ -63,7 +64,7 @@ step_further consumed remake fresh k rows (e ∷ es) h =
 
 -- ---- steps with no event between
 
-steps_further : (n k : ℕ) (s : Kept) → s.setting.peers ≡ [] → AllCurrent unanswered [] (take k s.entries) → AllCurrent unanswered [] (take (n + k) (iterate after_step n s).entries)
+steps_further : (n k : ℕ) (s : KeptService) → s.setting.peers ≡ [] → AllCurrent unanswered [] (take k s.entries) → AllCurrent unanswered [] (take (n + k) (iterate after_step n s).entries)
 steps_further zero k s none h = let P : ℕ → Type 0 = λ m. AllCurrent unanswered [] (take m s.entries) in let same : k ≡ 0 + k = omega arith in subst P same h
 steps_further (suc n) k s none h =
     let P : ℕ → Type 0 = λ m. AllCurrent unanswered [] (take m (iterate after_step n (after_step s)).entries) in
@@ -73,13 +74,13 @@ steps_further (suc n) k s none h =
 length-ids : (es : List Entry) → length (ids es) ≡ length es
 length-ids es = grind (arith, length-map)
 
-length-steps : (n : ℕ) (s : Kept) → length (iterate after_step n s).entries ≡ length s.entries
+length-steps : (n : ℕ) (s : KeptService) → length (iterate after_step n s).entries ≡ length s.entries
 length-steps zero s = refl
 length-steps (suc n) s =
     length-steps n (after_step s)
     ∙ sym (length-ids (after_step s).entries) ∙ ap length (ids-step unanswered (remade_on s.setting) (λ rows e. refl) [] s.entries) ∙ length-ids s.entries
 
-pub settles : (s : Kept) → s.setting.peers ≡ [] → SettlesWithin (length s.entries) s
+pub settles : (s : KeptService) → s.setting.peers ≡ [] → SettlesWithin (length s.entries) s
 settles s none =
     let n = length s.entries in
     let es = (iterate after_step n s).entries in

@@ -10,7 +10,7 @@ use Rattle.execution.specs.Executions.{Act, History, survives, IsPlayed, Replays
 use Rattle.local_repair.specs.Current.{AllCurrent}
 use Rattle.local_repair.specs.Repairs.{IsStaleId}
 use Rattle.local_repair.proofs.ReplayLemmas.{replays}
-use Rattle.service_core.specs.Events.{Kept, Fits, history, unanswered}
+use Rattle.service_core.specs.Events.{KeptService, Fits, history, unanswered}
 
 -- what doesn't survive calls and writes nothing
 dead_is_empty : (setting : Setting) (rows : List Cell) (a : Act) (o : Option Trace) (Rest : Trace → Type 0) → IsSomeAnd o (λ t. IsPlayed setting rows a t × Rest t)
@@ -39,10 +39,10 @@ legal_one h r = record {
   dead_are_empty = All-cons (λ (h : History). All IsEmptyIfDead h.acts) h [] (replayed_dead h.setting [] h.acts h.rows r) (All-nil (λ (h : History). All IsEmptyIfDead h.acts));
 }
 
-legal_alone : (s : Kept) → Fits s.setting s.entries → AllCurrent unanswered [] s.entries → IsLegal (history s ∷ [])
+legal_alone : (s : KeptService) → Fits s.setting s.entries → AllCurrent unanswered [] s.entries → IsLegal (history s ∷ [])
 legal_alone s f h = legal_one (history s) (replays s.setting unanswered s.entries [] f.runs h)
 
 -- told by the first stale entry
-pub none_stale : (s : Kept) → Fits s.setting s.entries → (id : Option ℕ) → MatchOption id (AllCurrent unanswered [] s.entries) (λ id. IsStaleId unanswered s.entries id) → IfNone id (IsLegal (history s ∷ []))
+pub none_stale : (s : KeptService) → Fits s.setting s.entries → (id : Option ℕ) → MatchOption id (AllCurrent unanswered [] s.entries) (λ id. IsStaleId unanswered s.entries id) → IfNone id (IsLegal (history s ∷ []))
 none_stale s f None h = legal_alone s f h
 none_stale s f (Some id) h = tt

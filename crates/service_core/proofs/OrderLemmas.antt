@@ -10,7 +10,7 @@ use Rattle.request_log.specs.declared.entry.Entry.{Entry}
 use Rattle.local_repair.specs.Current.{IsRun}
 use Rattle.local_repair.specs.Repairs.{Amends}
 use Rattle.service_core.specs.Events.{Fits, AreCounted, HasItsVersion, IsAlone}
-use Rattle.service_core.specs.Orders.{created}
+use Rattle.create_placement.specs.Placement.{created}
 use Rattle.service_core.proofs.EventLemmas.{either}
 use Rattle.service_core.proofs.NumberLemmas.{ids-changed, numbered_insert}
 

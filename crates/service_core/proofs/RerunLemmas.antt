@@ -4,7 +4,6 @@ use Rattle.std.proofs.lemmas.List.{append-nil}
 use Rattle.lang_core.specs.declared.cells.Cell.{Cell}
 use Rattle.lang_core.specs.declared.inputs.Inputs.{Inputs}
 use Rattle.lang_core.specs.declared.request.Request.{Request}
-use Rattle.lang_core.specs.declared.request.Response.{Response}
 use Rattle.lang_core.specs.declared.setting.Setting.{Setting}
 use Rattle.lang_core.specs.declared.trace.Trace.{Trace}
 use Rattle.handler_run.specs.Handlers.{run_of}
@@ -12,7 +11,7 @@ use Rattle.handler_run.specs.declared.state.Ran.TheVariants.{Done}
 use Rattle.handler_run.proofs.RunLaws.{reads_done, same_done, takes_done}
 use Rattle.local_repair.specs.Alone.{trace_on, trace_or_dead}
 use Rattle.local_repair.specs.Current.{IsCurrent, IsRun}
-use Rattle.local_repair.proofs.AloneLemmas.{ends_alone}
+use Rattle.local_repair.proofs.AloneLemmas.{ends_alone, none_taken}
 use Rattle.service_core.specs.Events.{committed, unanswered, HasItsVersion}
 
 -- a service that calls nobody ends each run with this trace
@@ -31,10 +30,6 @@ committed_runs s none id q i rows = record {
 
 pub committed_version : (id : ℕ) (q : Request) (i : Inputs) (t : Trace) → HasItsVersion (committed id q i t)
 committed_version id q i t = (λ zero. absurd (omega arith), λ none. (cc))
-
-pub none_taken : (xs rest : List Response) → [] ≡ xs ++ rest → xs ≡ []
-none_taken [] rest e = refl
-none_taken (x ∷ xs) rest e = cc
 
 -- and it isn't stale
 pub committed_current : (s : Setting) → s.peers ≡ [] → (id : ℕ) (q : Request) (i : Inputs) (rows : List Cell) → IsCurrent unanswered rows (committed id q i (trace_on s q i rows))

@@ -31,13 +31,13 @@ use Rattle.service_core.specs.declared.answers.ArriveRefused.{ArriveRefused}
 use Rattle.service_core.specs.declared.answers.ArriveRefused.TheVariants.{Full, NoMemory}
 
 -- what a service keeps: what it is set to do, its log, and the orders that it accepted
-pub record Kept : Type 0 where
+pub record KeptService : Type 0 where
   pub setting : Setting
   pub entries : List Entry
   pub accepted : List Accepted
 
 -- by which a proof tells two of them apart
-abbrev pub kept_code : Coded Kept
+abbrev pub kept_code : Coded KeptService
 kept_code =
     code_by (Setting × (List Entry × List Accepted))
     (coded× setting.the_row.coded (coded× (coded_list entry.the_row.coded) (coded_list accepted.the_row.coded)))
@@ -67,23 +67,23 @@ committed id request inputs t =
     }
 
 -- numbers count from 1 in the order in which entries are made
-abbrev pub next_id : Kept → ℕ
+abbrev pub next_id : KeptService → ℕ
 next_id s = length s.entries + 1
 
 -- whether there is no place for one entry more
-abbrev pub is_full : Kept → Bool
+abbrev pub is_full : KeptService → Bool
 is_full s = nat_le 100000 (length s.entries)
 
 -- the entry that a request becomes: its run on the rows at the end of the log
-abbrev pub arrival : Kept → Request → Inputs → Entry
+abbrev pub arrival : KeptService → Request → Inputs → Entry
 arrival s request inputs =
     committed (next_id s) request inputs (trace_on s.setting request inputs (rows_of s.entries))
 
-abbrev pub after_arrival : Kept → Request → Inputs → Kept
+abbrev pub after_arrival : KeptService → Request → Inputs → KeptService
 after_arrival s request inputs =
     if is_full s then s else record s { entries = s.entries ++ arrival s request inputs ∷ [] }
 
-abbrev pub arrival_answer : Kept → Request → Inputs → Result Arrived ArriveRefused
+abbrev pub arrival_answer : KeptService → Request → Inputs → Result Arrived ArriveRefused
 arrival_answer s request inputs =
     if is_full s then Err (Full (length s.entries))
     else Ok (Committed (next_id s) (trace_on s.setting request inputs (rows_of s.entries)).response)
@@ -91,14 +91,14 @@ arrival_answer s request inputs =
 -- ---- a repair step
 
 -- the number of the first stale entry, if there is one
-abbrev pub stale_id : Kept → Option ℕ
+abbrev pub stale_id : KeptService → Option ℕ
 stale_id s = first_stale_id unanswered s.entries
 
-abbrev pub after_step : Kept → Kept
+abbrev pub after_step : KeptService → KeptService
 after_step s = record s { entries = step_with unanswered (remade_on s.setting) [] s.entries }
 
 -- so many repair steps with no event between leave no stale entry
-abbrev pub SettlesWithin : ℕ → Kept → Type 0
+abbrev pub SettlesWithin : ℕ → KeptService → Type 0
 SettlesWithin steps s = stale_id (iterate after_step steps s) ≡ None
 
 -- ---- what always holds
@@ -130,11 +130,11 @@ pub record Fits (setting : Setting) (entries : List Entry) : Type 0 where
   pub alone : All IsAlone entries
 
 -- a service as a history
-abbrev pub history : Kept → History
+abbrev pub history : KeptService → History
 history s = history_of s.setting unanswered s.entries
 
 -- the entries before this place are the replay of their requests, from empty rows on
-abbrev pub ReplaysBefore : Kept → ℕ → Type 0
+abbrev pub ReplaysBefore : KeptService → ℕ → Type 0
 ReplaysBefore s place =
     Replays s.setting [] (map (act_of unanswered) (take place s.entries)) (rows_of (take place s.entries))
 
@@ -144,7 +144,7 @@ abbrev pub arrive_memory : ArriveRefused → Bool
 arrive_memory NoMemory = true
 arrive_memory (Full n) = false
 
-abbrev pub IsArrival : Kept → Request → Inputs → Result Arrived ArriveRefused → Kept → Type 0
+abbrev pub IsArrival : KeptService → Request → Inputs → Result Arrived ArriveRefused → KeptService → Type 0
 IsArrival s request inputs result s' =
     Unless (lacks arrive_memory result)
     ((result ≡ arrival_answer s request inputs) × (s' ≡ after_arrival s request inputs))
@@ -155,7 +155,7 @@ abbrev pub ran_id : Stepped → Option ℕ
 ran_id Idle = None
 ran_id (Ran id answered) = Some id
 
-abbrev pub IsStep : Kept → Result Stepped LacksMemory → Kept → Type 0
+abbrev pub IsStep : KeptService → Result Stepped LacksMemory → KeptService → Type 0
 IsStep s result s' =
     Unless (is_err result)
     (IfOk result (λ stepped. ran_id stepped ≡ stale_id s) × (s' ≡ after_step s))

@@ -31,9 +31,9 @@ pub struct Service {
 }
 
 impl Model for Service {
-    ghost use Rattle.service_core.specs.Events.{Kept, kept_code, Fits};
+    ghost use Rattle.service_core.specs.Events.{KeptService, kept_code, Fits};
 
-    ghost Value = { Kept };
+    ghost Value = { KeptService };
 
     ghost coded = { kept_code };
 

@@ -1,6 +1,6 @@
 // The tokens of accepted orders.
 ghost use Rattle.std.specs.Prelude.{◌≡◌, [], ◌∷◌, ◌++◌, OnOk, OnErr, List};
-ghost use Rattle.service_core.specs.Orders.{given, has_token, noted};
+ghost use Rattle.service_core.specs.Orders.{accepted_as, has_token, noted};
 ghost use Rattle.service_core.specs.declared.tokens.Accepted.{Accepted};
 
 use crate::answers::Ordered;
@@ -52,7 +52,7 @@ impl Tokens {
 
     /// What the order with this token was answered; None exactly where none with it was accepted.
     pub fn answer(&self, token: &Text) -> Option<Ordered>
-        ensures { result ≡ given token.now self.now }
+        ensures { result ≡ accepted_as token.now self.now }
     {
         let found = self
             .items

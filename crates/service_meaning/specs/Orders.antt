@@ -8,7 +8,7 @@ use Rattle.lang_core.specs.declared.inputs.Inputs.{Inputs}
 use Rattle.lang_core.specs.declared.request.Request.{Request}
 use Rattle.request_log.specs.Entries.{has_id}
 use Rattle.request_log.specs.declared.entry.Entry.{Entry}
-use Rattle.create_placement.specs.Placement.{place_between}
+use Rattle.create_placement.specs.Placement.{place_between, created}
 use Rattle.repair_messages.specs.declared.posts.PostName.{PostName}
 use Rattle.repair_messages.specs.declared.posts.PostName.TheVariants.{Call as OfCall, Reply as OfReply}
 use Rattle.journal_rows.specs.Words.{ordered}
@@ -89,23 +89,6 @@ struck_as struck e = record e { struck = struck }
 
 abbrev pub asking : Method → List ℕ → List ℕ → Entry → Entry
 asking method path body e = record e { request = with_call method path body e.request }
-
--- an entry from outside that never ran
-abbrev pub created : ℕ → Request → Inputs → Entry
-created id q i =
-    record {
-      id = id;
-      origin = Outside;
-      version = 0;
-      request = q;
-      wanted = true;
-      struck = false;
-      inputs = i;
-      made = None;
-      slots = [];
-      answer_version = 0;
-      runs = 0;
-    }
 
 abbrev pub about : Kept → Command → About
 about s (Cancel id) = AboutRequest id

@@ -4,11 +4,11 @@ use Rattle.std.specs.List.{All}
 use Rattle.std.proofs.lemmas.List.{take_more, map-append}
 use Rattle.std.proofs.lemmas.List.Elements.{All-append}
 use Rattle.execution.specs.Executions.{History, Replays, IsEmptyIfDead, IsLegal}
-use Rattle.service_core.specs.Events.{Kept, history, stale_id}
+use Rattle.service_core.specs.Events.{KeptService, history, stale_id}
 use Rattle.world_core.specs.Verdicts.{verdict_from, unless_stale}
 
 -- a service with no stale entry leaves the verdict to those after it
-pub verdict_more : (services : List Kept) (at : ℕ) (s : Kept) → at < length services → s ≡ get_or services at s → stale_id s ≡ None
+pub verdict_more : (services : List KeptService) (at : ℕ) (s : KeptService) → at < length services → s ≡ get_or services at s → stale_id s ≡ None
     → verdict_from at (drop at services) ≡ verdict_from (at + 1) (drop (at + 1) services)
 verdict_more services at s l is none =
     let first : drop at services ≡ get_or services at s ∷ drop (suc at) services = drop-cons services at s l in
@@ -22,7 +22,7 @@ legal_both xs ys f g = record {
 }
 
 -- and its history is one more that is legal
-pub legal_more : (services : List Kept) (at : ℕ) (s : Kept) → at < length services → s ≡ get_or services at s
+pub legal_more : (services : List KeptService) (at : ℕ) (s : KeptService) → at < length services → s ≡ get_or services at s
     → IsLegal (map history (take at services)) → IsLegal (history s ∷ []) → IsLegal (map history (take (at + 1) services))
 legal_more services at s l is f g =
     let cut : take (at + 1) services ≡ take at services ++ s ∷ [] = take_more services at s l ∙ ap (λ x. take at services ++ x ∷ []) (sym is) in

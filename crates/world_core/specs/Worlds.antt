@@ -1,14 +1,15 @@
 -- A world, and what each event makes of it.
-use Rattle.std.specs.Prelude.{ℕ, ◌≡◌, ◌≢◌, ◌%◌, Bool, List, [], ◌∷◌, Option, Some, None, Result, Ok, Err, IfSome, find, length, map, min, slice_set, refl}
+use Rattle.std.specs.Prelude.{ℕ, ◌≡◌, ◌≢◌, ◌%◌, Bool, true, false, List, [], ◌∷◌, Option, Some, None, Result, Ok, Err, IfSome, find, length, map, min, slice_set, refl}
 use Rattle.std.specs.Coded.{Coded, code_by, coded×, coded_ℕ, coded_list}
 use Rattle.std.specs.List.{position_or_len, IsDistinct}
+use Rattle.lang_base.specs.Memory.{Unless, lacks}
 use Rattle.lang_base.specs.Texts.{same_text}
 use Rattle.lang_core.specs.declared.inputs.Inputs.{Inputs}
 use Rattle.lang_core.specs.declared.setting.Setting.{Setting}
 use Rattle.local_repair.specs.Current.{AllCurrent}
 use Rattle.recorded_inputs.specs.Drawing.{drawn, word_after}
-use Rattle.service_core.specs.Events.{Kept, kept_code, after_arrival, after_step, arrival_answer, stale_id, unanswered, SettlesWithin}
-use Rattle.service_core.specs.Orders.{after_order, given, order_answer}
+use Rattle.service_core.specs.Events.{KeptService, kept_code, after_arrival, after_step, arrival_answer, stale_id, unanswered, SettlesWithin}
+use Rattle.service_core.specs.Orders.{accepted_as, after_order, order_answer}
 use Rattle.service_core.specs.declared.answers.Arrived.{Arrived}
 use Rattle.service_core.specs.declared.answers.Arrived.TheVariants.{Done}
 use Rattle.service_core.specs.declared.answers.ArriveRefused.{ArriveRefused}
@@ -26,43 +27,43 @@ use Rattle.world_core.specs.declared.event.WorldStepRefused.TheVariants.{NoServi
 
 -- ---- services by their names
 
-abbrev pub setting_of : Kept → Setting
+abbrev pub setting_of : KeptService → Setting
 setting_of s = s.setting
 
-abbrev pub name_of : Kept → List ℕ
+abbrev pub name_of : KeptService → List ℕ
 name_of s = s.setting.me
 
 -- no two services have the same name
-abbrev pub NamesDiffer : List Kept → Type 0
+abbrev pub NamesDiffer : List KeptService → Type 0
 NamesDiffer services = IsDistinct same_text (map name_of services)
 
-abbrev pub is_named : List ℕ → Kept → Bool
+abbrev pub is_named : List ℕ → KeptService → Bool
 is_named name s = same_text s.setting.me name
 
 -- the service of this name, if there is one
-abbrev pub service_of : List ℕ → List Kept → Option Kept
+abbrev pub service_of : List ℕ → List KeptService → Option KeptService
 service_of name services = find (is_named name) services
 
 -- the services, with this one in place of that of this name
-abbrev pub with_service : List ℕ → Kept → List Kept → List Kept
+abbrev pub with_service : List ℕ → KeptService → List KeptService → List KeptService
 with_service name s services = slice_set services (position_or_len (is_named name) services) s
 
 -- ---- a world
 
 -- a world: its services, the moment that its clock tells, and the word that was drawn last
 pub record World : Type 0 where
-  pub services : List Kept
+  pub services : List KeptService
   pub moment : ℕ
   pub x : ℕ
 
 -- by which a proof tells two of them apart
 abbrev pub world_code : Coded World
 world_code =
-    code_by (List Kept × (ℕ × ℕ)) (coded× (coded_list kept_code) (coded× coded_ℕ coded_ℕ)) (λ w. (w.services, (w.moment, w.x)))
+    code_by (List KeptService × (ℕ × ℕ)) (coded× (coded_list kept_code) (coded× coded_ℕ coded_ℕ)) (λ w. (w.services, (w.moment, w.x)))
     (λ p. record { services = p.0; moment = p.1.0; x = p.1.1 }) (λ _. refl)
 
 -- at first the clock tells 0, and the word before the first is 1
-abbrev pub fresh_world : List Kept → World
+abbrev pub fresh_world : List KeptService → World
 fresh_world services = record { services = services; moment = 0; x = 1 }
 
 -- what the next arrival or order is given
@@ -93,16 +94,16 @@ stepped name (Some id) = Ok (Ran name id)
 -- ---- events
 
 -- what becomes of a service, if it is there, else the other
-abbrev pub if_there : {X : Type 0} → Option Kept → X → (Kept → X) → X
+abbrev pub if_there : {X : Type 0} → Option KeptService → X → (KeptService → X) → X
 if_there None other turn = other
 if_there (Some s) other turn = turn s
 
 -- the services after a turn of that of this name
-abbrev pub with_turn : List ℕ → List Kept → (Kept → Kept) → List Kept
+abbrev pub with_turn : List ℕ → List KeptService → (KeptService → KeptService) → List KeptService
 with_turn name services turn = if_there (service_of name services) services (λ s. with_service name (turn s) services)
 
 -- what a turn of that service answers
-abbrev pub answer_at : List ℕ → List Kept → (Kept → Answer) → Answer
+abbrev pub answer_at : List ℕ → List KeptService → (KeptService → Answer) → Answer
 answer_at name services answer = if_there (service_of name services) (Err NoService) answer
 
 -- the same services with the words behind eight that were drawn
@@ -110,7 +111,7 @@ abbrev pub once_drawn : World → World
 once_drawn w = record w { x = word_after 8 w.x }
 
 -- the world after a turn of a service that draws inputs; where there is none of that name, none are drawn
-abbrev pub drawing_turn : List ℕ → World → (Kept → Kept) → World
+abbrev pub drawing_turn : List ℕ → World → (KeptService → KeptService) → World
 drawing_turn name w turn =
     if_there (service_of name w.services) w (λ s. record (once_drawn w) { services = with_service name (turn s) w.services })
 
@@ -150,11 +151,13 @@ happenings w (e ∷ events) = happened_before (answer_to w e) (happenings (after
 
 -- ---- what a call answers, and what it leaves
 
+abbrev pub is_memory : WorldStepRefused → Bool
+is_memory MemoryLacks = true
+is_memory NoService = false
+
 -- this answer and this value, or, for want of memory, nothing changed
 abbrev pub Comes : {S : Type 0} → Answer → S → S → Answer → S → Type 0
-Comes answer after before (Err MemoryLacks) now = now ≡ before
-Comes answer after before (Err NoService) now = (answer ≡ Err NoService) × (now ≡ after)
-Comes answer after before (Ok h) now = (answer ≡ Ok h) × (now ≡ after)
+Comes answer after before result now = Unless (lacks is_memory result) ((answer ≡ result) × (now ≡ after)) (now ≡ before)
 
 -- a refusal changes no service
 abbrev pub StaysIfRefused : {S : Type 0} → Answer → S → S → Type 0
@@ -170,7 +173,7 @@ StaysIfRefused (Err why) before now = now ≡ before
 -- stale, and what sets clock and words.
 abbrev pub IsSure : World → Event → Type 0
 IsSure w (Arrive name request) = service_of name w.services ≡ None
-IsSure w (Order name command token) = IfSome (service_of name w.services) (λ s. given token s.accepted ≢ None)
+IsSure w (Order name command token) = IfSome (service_of name w.services) (λ s. accepted_as token s.accepted ≢ None)
 IsSure w (Step name) = IfSome (service_of name w.services) (λ s. AllCurrent unanswered [] s.entries)
 IsSure w (Clock moment) = Unit {0}
 IsSure w (Seed n) = Unit {0}

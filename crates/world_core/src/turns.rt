@@ -2,7 +2,7 @@
 ghost use Rattle.std.specs.Prelude.{◌≡◌, ◌≢◌, [], Err, IfSome, None, length, map, position};
 ghost use Rattle.local_repair.specs.Current.{AllCurrent};
 ghost use Rattle.service_core.specs.Events.{after_arrival, after_step, arrival_answer, stale_id, unanswered, SettlesWithin};
-ghost use Rattle.service_core.specs.Orders.{after_order, given, order_answer};
+ghost use Rattle.service_core.specs.Orders.{after_order, accepted_as, order_answer};
 ghost use Rattle.world_core.specs.Worlds.{answer_at, arrived, is_named, ordered, service_of, setting_of, stepped, with_turn, Comes, StaysIfRefused};
 ghost use Rattle.world_core.specs.declared.event.WorldStepRefused.TheVariants.{NoMemory as MemoryLacks};
 
@@ -12,7 +12,7 @@ use service_core::{ArriveRefused, Arrived, Command, OrderRefused, Service, Stepp
 use std::alloc::Global;
 
 /// The place of the service of this name, if there is one.
-pub fn place_of(services: &[Service], name: &Name) -> Option<usize>
+fn place_of(services: &[Service], name: &Name) -> Option<usize>
     ensures { result ≡ position (is_named name.now) services.now }
 {
     services
@@ -78,7 +78,7 @@ fn order_at(
     ensures comes { Comes (ordered name (order_answer service.old command token)) (after_order service.old command token inputs) service.old result service.new }
     ensures refused { StaysIfRefused result service.old service.new }
     ensures setting { service.new.setting ≡ service.old.setting }
-    ensures sure { given token service.old.accepted ≢ None → result ≢ Err MemoryLacks }
+    ensures sure { accepted_as token service.old.accepted ≢ None → result ≢ Err MemoryLacks }
 {
     match service.order(alloc, command, token, inputs) {
         Ok(ordered) => Ok(Happened::Ordered {
@@ -112,7 +112,7 @@ pub fn order(
         services.old result services.new }
     ensures refused { StaysIfRefused result services.old services.new }
     ensures settings { map setting_of services.new ≡ map setting_of services.old }
-    ensures sure { IfSome (service_of name services.old) (λ s. given token s.accepted ≢ None) → result ≢ Err MemoryLacks }
+    ensures sure { IfSome (service_of name services.old) (λ s. accepted_as token s.accepted ≢ None) → result ≢ Err MemoryLacks }
 {
     match place_of(services, &name) {
         Some(at) => order_at(alloc, &mut services[at], name, command, token, inputs),

@@ -1,7 +1,8 @@
 // Orders of an operator.
 ghost use Rattle.std.specs.Prelude.{◌≡◌, Ok, IfOk, IfSome, OnErr};
 ghost use Rattle.lang_core.specs.declared.inputs.Inputs.{Inputs};
-ghost use Rattle.service_core.specs.Orders.{created, given, marking, noted, IsAbout, IsNewOrder, IsOrder};
+ghost use Rattle.create_placement.specs.Placement.{created};
+ghost use Rattle.service_core.specs.Orders.{accepted_as, marking, noted, IsAbout, IsNewOrder, IsOrder};
 ghost use Rattle.service_core.specs.declared.answers.Command.TheVariants.{Create, Replace};
 
 use super::Service;
@@ -57,7 +58,7 @@ impl Service {
         inputs: Inputs,
     ) -> Result<Ordered, OrderRefused>
         ensures order { IsOrder self.old command token inputs result self.new }
-        ensures repeated { IfSome (given token self.old.accepted) (λ ordered. (result ≡ Ok ordered) × (self.new ≡ self.old)) }
+        ensures repeated { IfSome (accepted_as token self.old.accepted) (λ ordered. (result ≡ Ok ordered) × (self.new ≡ self.old)) }
         ensures refused { OnErr result (self.new ≡ self.old) }
         ensures setting { self.new.setting ≡ self.old.setting }
     {

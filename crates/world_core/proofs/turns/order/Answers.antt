@@ -1,6 +1,6 @@
 use Rattle.std.proofs.Common.{◌≡◌, ◌≢◌, None, get_or, sym, ap, ◌∙◌}
-use Rattle.service_core.specs.Events.{Kept}
-use Rattle.service_core.specs.Orders.{after_order, given, order_answer}
+use Rattle.service_core.specs.Events.{KeptService}
+use Rattle.service_core.specs.Orders.{after_order, accepted_as, order_answer}
 use Rattle.world_core.specs.Worlds.{ordered}
 use Rattle.world_core.proofs.TurnLemmas.{IsAt, at_place, known_at, none_comes, settings_in, stays_in, turn_comes}
 use Rattle.world_core.proofs.turns.order.Goals as goal
@@ -31,7 +31,7 @@ returns-in-Some-clause-sure c =
     let is : s ≡ get_or c.args.services.now c.in-Some.at s = ap (get_or c.args.services.now c.in-Some.at) c.index-services-at.is in
     let place = sym c.place_of.ensures ∙ c.in-Some.is in
     let there : IsAt c.args.name c.args.services.now c.in-Some.at s = at_place c.args.name c.args.services.now c.in-Some.at s place is in
-    let P : Kept → Type 0 = λ k. given c.args.token k.accepted ≢ None in
+    let P : KeptService → Type 0 = λ k. accepted_as c.args.token k.accepted ≢ None in
     λ known. c.order_at.ensures.sure (known_at c.args.name c.args.services.now c.in-Some.at s P there known)
 
 pub returns-in-None-clause-comes : goal.returns-in-None-clause-comes

@@ -1,6 +1,6 @@
 use Rattle.std.proofs.Common.{◌≡◌, get_or, sym, ap, ◌∙◌, [], length}
 use Rattle.local_repair.specs.Current.{AllCurrent}
-use Rattle.service_core.specs.Events.{Kept, after_step, stale_id, unanswered, SettlesWithin}
+use Rattle.service_core.specs.Events.{KeptService, after_step, stale_id, unanswered, SettlesWithin}
 use Rattle.world_core.specs.Worlds.{stepped}
 use Rattle.world_core.proofs.TurnLemmas.{IsAt, at_place, known_at, none_comes, none_told, settings_in, stays_in, told_at, turn_comes}
 use Rattle.world_core.proofs.turns.step.Goals as goal
@@ -31,7 +31,7 @@ returns-in-Some-clause-sure c =
     let is : s ≡ get_or c.args.services.now c.in-Some.at s = ap (get_or c.args.services.now c.in-Some.at) c.index-services-at.is in
     let place = sym c.place_of.ensures ∙ c.in-Some.is in
     let there : IsAt c.args.name c.args.services.now c.in-Some.at s = at_place c.args.name c.args.services.now c.in-Some.at s place is in
-    let P : Kept → Type 0 = λ k. AllCurrent unanswered [] k.entries in
+    let P : KeptService → Type 0 = λ k. AllCurrent unanswered [] k.entries in
     λ known. c.step_at.ensures.sure (known_at c.args.name c.args.services.now c.in-Some.at s P there known)
 
 pub returns-in-None-clause-comes : goal.returns-in-None-clause-comes
@@ -43,7 +43,7 @@ returns-in-Some-clause-bound c =
     let is : s ≡ get_or c.args.services.now c.in-Some.at s = ap (get_or c.args.services.now c.in-Some.at) c.index-services-at.is in
     let place = sym c.place_of.ensures ∙ c.in-Some.is in
     let there : IsAt c.args.name c.args.services.now c.in-Some.at s = at_place c.args.name c.args.services.now c.in-Some.at s place is in
-    let P : Kept → Type 0 = λ k. SettlesWithin (length k.entries) k in
+    let P : KeptService → Type 0 = λ k. SettlesWithin (length k.entries) k in
     told_at c.args.name c.args.services.now c.in-Some.at s P there c.step_at.ensures.bound
 
 pub returns-in-None-clause-bound : goal.returns-in-None-clause-bound

@@ -1,11 +1,11 @@
 use Rattle.std.proofs.Common.{◌≡◌, None, sym, ◌∙◌}
-use Rattle.service_core.specs.Events.{Kept, stale_id}
+use Rattle.service_core.specs.Events.{KeptService, stale_id}
 use Rattle.world_core.proofs.VerdictLemmas.{verdict_more, legal_more}
 use Rattle.world_core.proofs.verdicts.audit.Goals as goal
 
 pub loop-at-preserved : goal.loop-at-preserved
 loop-at-preserved c =
-    let s : Kept = c.index-services-at.result in
+    let s : KeptService = c.index-services-at.result in
     let none = c.in_default.is in
     let fresh : stale_id s ≡ None = sym c.first_stale.ensures.id ∙ none in
     record {

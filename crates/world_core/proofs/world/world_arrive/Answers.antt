@@ -2,7 +2,7 @@ use Rattle.std.proofs.Common.{List, sym, ap, subst, ◌∙◌}
 use Rattle.std.proofs.lemmas.List.{with_items_is}
 use Rattle.recorded_inputs.specs.Drawing.{word_after}
 use Rattle.recorded_inputs.specs.Scripted.{SetClock}
-use Rattle.service_core.specs.Events.{Kept, after_arrival, arrival_answer}
+use Rattle.service_core.specs.Events.{KeptService, after_arrival, arrival_answer}
 use Rattle.world_core.specs.Worlds.{NamesDiffer, World, arrived, next_inputs}
 use Rattle.world_core.proofs.TurnLemmas.{arrived_there, drew_world, gave_back, length_kept, names_kept, word_kept}
 use Rattle.world_core.proofs.world.world_arrive.Goals as goal
@@ -11,7 +11,7 @@ pub invariant_of-world : goal.invariant_of-world
 invariant_of-world c =
     let kept = c.arrive.ensures.settings in
     let items = with_items_is c.world.inside.services c.arrive.new.services (length_kept _ _ kept ∙ c.deref_mut.ensures.len) in
-    let D : List Kept → Type 0 = NamesDiffer in
+    let D : List KeptService → Type 0 = NamesDiffer in
     subst D (sym items) (names_kept c.arrive.new.services c.world.inside.services.items (rw c.deref_mut.ensures.value at kept) c.world.invariant)
 
 pub returns-in-Ok-clause-comes : goal.returns-in-Ok-clause-comes

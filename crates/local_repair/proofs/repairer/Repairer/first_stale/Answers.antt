@@ -1,27 +1,27 @@
 use Rattle.std.proofs.Common.{◌≡◌, ◌∙◌, ap, subst, List, [], Some, get_or}
 use Rattle.request_log.specs.declared.entry.Entry.{Entry}
 use Rattle.local_repair.specs.Current.{AllCurrent}
-use Rattle.local_repair.specs.Repairs.{Kept, IsStaleId, stale_id}
+use Rattle.local_repair.specs.Repairs.{KeptRepairer, IsStaleId, stale_id}
 use Rattle.local_repair.proofs.TestLemmas.{stale_id_none, stale_id_at, is_stale_id}
 use Rattle.local_repair.proofs.repairer.Repairer.first_stale.Goals as goal
 
 pub returns-in-None-clause-test : goal.returns-in-None-clause-test
 returns-in-None-clause-test g c =
     let consumed = g.S.Slots.consumed_of c.args.slots.now in
-    let seen : c.as_slice-entries.result.now ≡ c.args.self.now.entries = c.as_slice-entries.ensures.entries ∙ ap (λ (k : Kept). k.entries) c.self.view_is in
+    let seen : c.as_slice-entries.result.now ≡ c.args.self.now.entries = c.as_slice-entries.ensures.entries ∙ ap (λ (k : KeptRepairer). k.entries) c.self.view_is in
     let P : List Entry → Type 0 = λ entries. AllCurrent consumed [] entries in
     stale_id_none consumed c.args.self.now.entries (subst P seen c.in-None.ensures)
 
 pub returns-in-Some-clause-test : goal.returns-in-Some-clause-test
 returns-in-Some-clause-test g c =
     let consumed = g.S.Slots.consumed_of c.args.slots.now in
-    let seen : c.as_slice-entries.result.now ≡ c.args.self.now.entries = c.as_slice-entries.ensures.entries ∙ ap (λ (k : Kept). k.entries) c.self.view_is in
+    let seen : c.as_slice-entries.result.now ≡ c.args.self.now.entries = c.as_slice-entries.ensures.entries ∙ ap (λ (k : KeptRepairer). k.entries) c.self.view_is in
     let P : List Entry → Type 0 = λ entries. Some (get_or c.as_slice-entries.result.now c.in-Some.place c.index-entries-place.result).id ≡ stale_id consumed entries in
     subst P seen (stale_id_at consumed c.as_slice-entries.result.now c.in-Some.place c.index-entries-place.result c.in-Some.ensures)
 
 pub returns-in-Some-clause-first : goal.returns-in-Some-clause-first
 returns-in-Some-clause-first g c =
     let consumed = g.S.Slots.consumed_of c.args.slots.now in
-    let seen : c.as_slice-entries.result.now ≡ c.args.self.now.entries = c.as_slice-entries.ensures.entries ∙ ap (λ (k : Kept). k.entries) c.self.view_is in
+    let seen : c.as_slice-entries.result.now ≡ c.args.self.now.entries = c.as_slice-entries.ensures.entries ∙ ap (λ (k : KeptRepairer). k.entries) c.self.view_is in
     let P : List Entry → Type 0 = λ entries. IsStaleId consumed entries (get_or c.as_slice-entries.result.now c.in-Some.place c.index-entries-place.result).id in
     subst P seen (is_stale_id consumed c.as_slice-entries.result.now c.in-Some.place c.index-entries-place.result c.in-Some.ensures)

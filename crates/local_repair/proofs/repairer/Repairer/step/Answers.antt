@@ -2,7 +2,7 @@ use Rattle.std.proofs.Common.{◌≡◌, ◌∙◌, ap, subst, List, get_or, set
 use Rattle.request_log.specs.declared.entry.Entry.{Entry}
 use Rattle.local_repair.specs.Current.{IsFirstStale, rows_of}
 use Rattle.local_repair.specs.Registers.{Change}
-use Rattle.local_repair.specs.Repairs.{Kept}
+use Rattle.local_repair.specs.Repairs.{KeptRepairer}
 use Rattle.local_repair.specs.Settling.{IsAgain, Leaves, noted}
 use Rattle.local_repair.specs.Steps.{StepsTo}
 use Rattle.local_repair.specs.declared.stepped.Stepped.TheVariants.{Ran}
@@ -31,7 +31,7 @@ unfolding change
 left g c =
     let place = c.in-Some.place in
     let again = c.in_ok-again-in-Some.again in
-    let seen : c.self.inside.log.entries ≡ c.args.self.now.entries = ap (λ (k : Kept). k.entries) c.self.view_is in
+    let seen : c.self.inside.log.entries ≡ c.args.self.now.entries = ap (λ (k : KeptRepairer). k.entries) c.self.view_is in
     let F : List Entry → Type 0 = λ xs. IsFirstStale (g.S.Slots.consumed_of c.args.slots.now) xs place in
     let A : List Entry → Type 0 = λ xs. (d : Entry) → IsAgain c.args.setting.now (change g c) (rows_of (take place xs)) (get_or xs place d) again in
     let T : List Entry → Type 0 = λ xs. (d : Entry) → c.note.result ≡ Ran (get_or xs place d).id again.answered in
@@ -58,13 +58,13 @@ returns-in_ok-again-in-Some-clause-steps g c = (left g c).1
 
 pub returns-in_ok-again-in-Some-clause-free : goal.returns-in_ok-again-in-Some-clause-free
 returns-in_ok-again-in-Some-clause-free g c = λ all.
-    let seen = c.as_slice.ensures.entries ∙ ap (λ (k : Kept). k.entries) c.self.view_is in
+    let seen = c.as_slice.ensures.entries ∙ ap (λ (k : KeptRepairer). k.entries) c.self.view_is in
     let F : List Entry → Type 0 = λ xs. IsFirstStale (g.S.Slots.consumed_of c.args.slots.now) xs c.in-Some.place in
     absurd (none_first (g.S.Slots.consumed_of c.args.slots.now) c.args.self.now.entries c.in-Some.place all (subst F seen c.in-Some.ensures))
 
 pub returns-in_err-again-in-Some-clause-free : goal.returns-in_err-again-in-Some-clause-free
 returns-in_err-again-in-Some-clause-free g c = λ all.
-    let seen = c.as_slice.ensures.entries ∙ ap (λ (k : Kept). k.entries) c.self.view_is in
+    let seen = c.as_slice.ensures.entries ∙ ap (λ (k : KeptRepairer). k.entries) c.self.view_is in
     let F : List Entry → Type 0 = λ xs. IsFirstStale (g.S.Slots.consumed_of c.args.slots.now) xs c.in-Some.place in
     absurd (none_first (g.S.Slots.consumed_of c.args.slots.now) c.args.self.now.entries c.in-Some.place all (subst F seen c.in-Some.ensures))
 

@@ -1,16 +1,16 @@
 use Rattle.std.proofs.Common.{◌∙◌, ap}
-use Rattle.repair_drafts.specs.Books.{Kept, sent_rows, new_numbers}
+use Rattle.repair_drafts.specs.Books.{KeptBook, sent_rows, new_numbers}
 use Rattle.repair_drafts.proofs.BookLemmas.{Left, settle_left, settles_by}
 use Rattle.repair_drafts.proofs.book.BookSlots.settle.Goals as goal
 
 left : (c : goal.In_ok-enter) → Left c.args.self.now c.enter.new.self c.args.entry.now c.args.trace.now c.in_ok-rows.field-0.numbers
 left c =
-    let b : Kept = c.args.self.now in
-    let b' : Kept = c.enter.new.self in
+    let b : KeptBook = c.args.self.now in
+    let b' : KeptBook = c.enter.new.self in
     let e = c.args.entry.now in
     let t = c.args.trace.now in
-    let rows = c.in_ok-rows.ensures.rows ∙ ap (λ (k : Kept). sent_rows k e t) c.self.view_is in
-    let numbers = c.in_ok-rows.ensures.numbers ∙ ap (λ (k : Kept). new_numbers k e t) c.self.view_is in
+    let rows = c.in_ok-rows.ensures.rows ∙ ap (λ (k : KeptBook). sent_rows k e t) c.self.view_is in
+    let numbers = c.in_ok-rows.ensures.numbers ∙ ap (λ (k : KeptBook). new_numbers k e t) c.self.view_is in
     settle_left b b' e t c.args.answered c.in_ok-rows.field-0.numbers
     (settles_by b b' e t c.args.answered c.in_ok-rows.field-0.rows.items c.in_ok-rows.field-0.numbers c.in_ok-enter.ensures.ok rows numbers)
     c.requires.can c.enter.ensures.few c.requires.answers

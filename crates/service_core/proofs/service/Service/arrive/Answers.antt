@@ -1,7 +1,7 @@
 use Rattle.std.proofs.Common.{◌≡◌, ◌+◌, ap, ◌∙◌, refl, subst, length, Ok}
 use Rattle.local_repair.specs.Alone.{trace_on}
 use Rattle.local_repair.specs.Current.{IsCurrent, rows_of}
-use Rattle.service_core.specs.Events.{Kept, arrival, committed, arrival_answer, after_arrival, unanswered}
+use Rattle.service_core.specs.Events.{KeptService, arrival, committed, arrival_answer, after_arrival, unanswered}
 use Rattle.service_core.specs.declared.answers.Arrived.TheVariants.{Done}
 use Rattle.service_core.proofs.CallLemmas.{not_full, arrival_done}
 use Rattle.service_core.proofs.EventLemmas.{fits_push, trace_on_alone}
@@ -27,8 +27,8 @@ returns-clause-arrives c =
     let setting = c.self.inside.setting in
     let count = c.len-count.ensures ∙ ap length c.log.ensures in
     let t = trace_on setting c.args.request c.args.inputs (rows_of es) in
-    let s : Kept = record { setting = setting; entries = es; accepted = c.self.inside.tokens } in
-    let P : Kept → Type 0 = λ k. (Ok (Done (c.len-count.result + 1) c.in_ok-response.response) ≡ arrival_answer k c.args.request c.args.inputs)
+    let s : KeptService = record { setting = setting; entries = es; accepted = c.self.inside.tokens } in
+    let P : KeptService → Type 0 = λ k. (Ok (Done (c.len-count.result + 1) c.in_ok-response.response) ≡ arrival_answer k c.args.request c.args.inputs)
     × ((record { setting = setting; entries = c.log_arrival.new.repairer.entries; accepted = c.self.inside.tokens }) ≡ after_arrival k c.args.request c.args.inputs) in
     subst P c.self.view_is
     (arrival_done s c.args.request c.args.inputs (committed (c.len-count.result + 1) c.args.request c.args.inputs t) c.log_arrival.new.repairer.entries c.len-count.result c.in_ok-response.response
@@ -37,6 +37,6 @@ returns-clause-arrives c =
 
 pub returns-clause-current : goal.returns-clause-current
 returns-clause-current c =
-    let s : Kept = record { setting = c.self.inside.setting; entries = c.self.inside.repairer.entries; accepted = c.self.inside.tokens } in
-    let P : Kept → Type 0 = λ k. IsCurrent unanswered (rows_of k.entries) (arrival k c.args.request c.args.inputs) in
+    let s : KeptService = record { setting = c.self.inside.setting; entries = c.self.inside.repairer.entries; accepted = c.self.inside.tokens } in
+    let P : KeptService → Type 0 = λ k. IsCurrent unanswered (rows_of k.entries) (arrival k c.args.request c.args.inputs) in
     subst P c.self.view_is (committed_current s.setting c.self.invariant.no_peers (length s.entries + 1) c.args.request c.args.inputs (rows_of s.entries))

@@ -2,7 +2,7 @@ use Rattle.std.proofs.Common.{◌≡◌, ◌≤◌, ◌+◌, List, length, ap, s
 use Rattle.std.specs.List.{insert}
 use Rattle.request_log.specs.declared.entry.Entry.{Entry}
 use Rattle.service_core.specs.Events.{Fits}
-use Rattle.service_core.specs.Orders.{created}
+use Rattle.create_placement.specs.Placement.{created}
 use Rattle.service_core.proofs.NumberLemmas.{new_last}
 use Rattle.service_core.proofs.OrderLemmas.{fits_insert}
 use Rattle.service_core.proofs.service.Service.create.Goals as goal
