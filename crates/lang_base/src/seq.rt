@@ -33,6 +33,13 @@ impl<T> Seq<T> {
         }
     }
 
+    /// The elements as they are owned, without a copy.
+    pub fn into_items(self) -> Vec<T>
+        ensures { result.items ≡ self }
+    {
+        self.items
+    }
+
     /// The elements, in order.
     pub fn as_slice(&self) -> &[T]
         ensures { result.now ≡ self.now }
