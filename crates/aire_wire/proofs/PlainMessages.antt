@@ -14,7 +14,7 @@ use Rattle.http_front.specs.declared.header.AireHeader.TheVariants as headers
 use Rattle.http_laws.specs.ReadBack.{is_plain}
 use Rattle.std.proofs.lemmas.Bool.{and_from, and_parts}
 use Rattle.http_laws.proofs.PlainLemmas.{decimal_plain, visible_plain}
-use Rattle.repair_messages.specs.Kinds.{spelling as message_kind}
+use Rattle.repair_messages.specs.Kinds.{kind_word, spelling as message_kind}
 use Rattle.repair_messages.specs.declared.kinds.Kind.{Kind}
 use Rattle.repair_messages.specs.declared.kinds.Kind.TheVariants.{Create, Replace, Delete, ReplaceResponse, Retry}
 use Rattle.repair_messages.specs.declared.messages.AnswerMessage.{AnswerMessage}
@@ -24,7 +24,7 @@ use Rattle.wire_fields.specs.Heads.{Field, with_field, with_fields}
 use Rattle.wire_laws.proofs.MadeHeads.{ArePlain, AreSingle, all_plain, are_single, each_single, is_plain_field, none_plain, one_plain}
 use Rattle.wire_laws.proofs.PlainForms.{id_plain, name_bytes, name_plain, path_plain, seal_plain, who_plain}
 use Rattle.aire_wire.specs.ReadBack.{IsAnswered, IsCalled, IsNumber, IsSent}
-use Rattle.aire_wire.specs.Written.{answer_fields, behind_comma, call_asking, call_fields, chain_text, desired_fields, kind_word, neighbour_field, set_message_fields, version_fields, written_answer, written_set}
+use Rattle.aire_wire.specs.Written.{answer_fields, behind_comma, call_asking, call_fields, chain_text, desired_fields, neighbour_field, set_message_fields, version_fields, written_answer, written_set}
 use Rattle.aire_wire.proofs.ReadSets.{listed}
 
 both : (fields others : List Field) → list_all is_plain_field fields ≡ true → list_all is_plain_field others ≡ true → list_all is_plain_field (fields ++ others) ≡ true

@@ -17,7 +17,7 @@ use Rattle.http_front.specs.Table.{aire_headers, spelling}
 use Rattle.http_front.specs.declared.header.AireHeader.TheVariants as headers
 use Rattle.http_front.specs.declared.message.WireRequest.{WireRequest}
 use Rattle.peer_seal.specs.Seal.{seal_digits}
-use Rattle.repair_messages.specs.Kinds.{spelled}
+use Rattle.repair_messages.specs.Kinds.{kind_word, spelled}
 use Rattle.repair_messages.specs.declared.kinds.Kind.TheVariants.{Create, Replace}
 use Rattle.repair_messages.specs.declared.messages.SetMessage.{SetMessage}
 use Rattle.request_names.specs.Ids.{id_text}
@@ -28,7 +28,7 @@ use Rattle.wire_fields.specs.Fits.{number_in, or_zero, version_at}
 use Rattle.wire_fields.specs.Rows.{seal_header}
 use Rattle.aire_wire.specs.Incoming.{desired_in, desired_refusal, is_deletion, names_in, or_get, seal_refusal, sealed_bytes, set_fields, set_head_refusal, set_message, set_refusal, set_word}
 use Rattle.aire_wire.specs.ReadBack.{IsCalled, SetReadsBack}
-use Rattle.aire_wire.specs.Written.{body_of, chain_text, desired_fields, kind_word, neighbour_field, set_message_fields, written_set}
+use Rattle.aire_wire.specs.Written.{body_of, chain_text, desired_fields, neighbour_field, set_message_fields, written_set}
 use Rattle.wire_fields.specs.Heads.{Field, with_field, with_fields}
 use Rattle.aire_wire.specs.declared.incoming.Incoming.TheVariants.{Set}
 use Rattle.aire_wire.proofs.FieldsRead.{Holds, IsFine, answered, chain_back, fine_chain, fine_id, fine_name, fine_number, fine_seal, fine_who, neighbour_back, neighbour_fine, neighbour_values, neither, none_refused, id_number, on_side, same_request, same_set, sealed_well, stands, text_read}

@@ -10,9 +10,8 @@ use Rattle.http_front.specs.declared.header.AireHeader.{AireHeader}
 use Rattle.http_front.specs.declared.header.AireHeader.TheVariants as headers
 use Rattle.http_front.specs.declared.message.WireRequest.{WireRequest}
 use Rattle.peer_seal.specs.Seal.{seal_digits}
-use Rattle.repair_messages.specs.Kinds.{spelling as message_kind}
-use Rattle.repair_messages.specs.declared.kinds.Kind.{Kind}
-use Rattle.repair_messages.specs.declared.kinds.Kind.TheVariants.{Create, Replace, Delete, ReplaceResponse, Retry}
+use Rattle.repair_messages.specs.Kinds.{kind_word, spelling as message_kind}
+use Rattle.repair_messages.specs.declared.kinds.Kind.TheVariants.{ReplaceResponse}
 use Rattle.repair_messages.specs.declared.messages.AnswerMessage.{AnswerMessage}
 use Rattle.repair_messages.specs.declared.messages.SetMessage.{SetMessage}
 use Rattle.repair_messages.specs.declared.posts.Post.{Post as PostMessage}
@@ -58,13 +57,6 @@ abbrev pub call_asking : SetMessage → List ℕ → List ℕ → Request → Wi
 call_asking set notifier secret request = sealed_with secret request.method request.path (call_fields set request notifier) request.body
 
 -- ---- set messages
-
-abbrev pub kind_word : Kind → List ℕ
-kind_word Create = codes "create"
-kind_word Replace = codes "replace"
-kind_word Delete = codes "delete"
-kind_word ReplaceResponse = codes "replace_response"
-kind_word Retry = codes "retry"
 
 abbrev pub request_fields : Request → List Field
 request_fields request =

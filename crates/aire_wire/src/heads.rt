@@ -3,13 +3,13 @@ ghost use Rattle.std.specs.Prelude.{◌≡◌, ◌++◌, OnOk};
 ghost use Rattle.std.specs.List.{flat_map};
 ghost use Rattle.repair_messages.specs.Kinds.{spelling as message_kind};
 ghost use Rattle.request_names.specs.Ids.{id_text};
-ghost use Rattle.aire_wire.specs.Written.{answer_fields, behind_comma, call_fields, chain_text, desired_fields, kind_word, neighbour_field, neighbour_fields, request_fields, set_message_fields, version_fields};
+ghost use Rattle.aire_wire.specs.Written.{answer_fields, behind_comma, call_fields, chain_text, desired_fields, neighbour_field, neighbour_fields, request_fields, set_message_fields, version_fields};
 ghost use Rattle.wire_fields.specs.Heads.{with_field, with_fields};
 
 use http_front::AireHeader;
 use http_header::HeaderMap;
 use lang_core::{Name, Names, NoMemory, Request, method_word};
-use repair_messages::{AnswerMessage, Kind, SetMessage, spelling};
+use repair_messages::{AnswerMessage, SetMessage, kind_word, spelling};
 use std::alloc::{AllocError, Global};
 use wire_fields::{put_field, put_id, put_number, put_sides};
 
@@ -66,18 +66,6 @@ pub fn put_call(
     put_field(alloc, head, AireHeader::NotifierUrl, notifier.as_bytes())?;
     put_field(alloc, head, AireHeader::Who, request.who.as_bytes())?;
     put_chain(alloc, head, &request.chain)
-}
-
-fn kind_word(kind: Kind) -> &'static str
-    ensures { result.now ≡ kind_word kind }
-{
-    match kind {
-        Kind::Create => "create",
-        Kind::Replace => "replace",
-        Kind::Delete => "delete",
-        Kind::ReplaceResponse => "replace_response",
-        Kind::Retry => "retry",
-    }
 }
 
 fn put_version(alloc: Global, head: &mut HeaderMap, set: &SetMessage) -> Result<(), NoMemory>

@@ -12,7 +12,7 @@ mod reply;
 mod wants;
 
 pub use calls::RegistersCall;
-pub use register::{Answer, Hold, Register, Why};
+pub use register::{Answer, Hold, Register, Why, is_newer};
 pub use registers::Registers;
 pub use replies::{Replies, RepliesCall};
 pub use reply::Reply;

@@ -119,7 +119,8 @@ fn send_anew(register: &mut Register, desired: Option<Request>, since: u64)
     register.since = since;
 }
 
-fn is_newer(held: &Option<Answer>, answer_version: u64) -> bool
+/// Whether an answer of this version is newer than the one that is held.
+pub fn is_newer(held: &Option<Answer>, answer_version: u64) -> bool
     ensures { result ≡ is_newer held.now answer_version }
 {
     match held {

@@ -20,7 +20,7 @@ use Rattle.live_drafts.specs.Endings.{MayEnd}
 use Rattle.service_parts.specs.Parts.{kept}
 use Rattle.service_parts.specs.declared.parts.Parts.{Parts}
 use Rattle.live_service.specs.Arrivals.{before_run}
-use Rattle.service_repairs.specs.Services.{HasRoom, IsService}
+use Rattle.service_parts.specs.Services.{HasRoom, IsService}
 use Rattle.live_service.proofs.ArrivalLemmas.{may_run}
 
 -- ---- the end of a flight

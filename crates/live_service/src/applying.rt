@@ -11,7 +11,7 @@ ghost use Rattle.service_meaning.specs.Flying.{answer_to_caller};
 ghost use Rattle.service_parts.specs.Rooms.{aloft};
 ghost use Rattle.service_parts.specs.declared.draft.Draft.{Draft};
 ghost use Rattle.live_service.specs.Changes.{leaves, CanLeave, IsReadyFor, with_entries};
-ghost use Rattle.service_repairs.specs.Services.{HasRoom};
+ghost use Rattle.service_parts.specs.Services.{HasRoom};
 
 use crate::early::last_answer;
 use crate::outcome::Outcome;

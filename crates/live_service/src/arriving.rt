@@ -4,8 +4,8 @@ ghost use Rattle.service_meaning.specs.State.{after};
 ghost use Rattle.service_meaning.specs.Arriving.{arrive_event};
 ghost use Rattle.service_parts.specs.Parts.{kept};
 ghost use Rattle.live_service.specs.Arrivals.{before_run};
-ghost use Rattle.service_repairs.specs.Services.{IsService};
-ghost use Rattle.live_service.specs.Events.{Does, arrive_memory};
+ghost use Rattle.service_parts.specs.Services.{IsService};
+ghost use Rattle.service_meaning.specs.Doing.{Does, arrive_memory};
 
 use crate::applying::apply;
 use crate::early::before_run;

@@ -1,7 +1,7 @@
 // The answer and the failure of a call for which a flight waits.
 ghost use Rattle.std.specs.Prelude.{◌≡◌, [], ◌∷◌, ◌++◌, if◌then◌else◌, IfOk, OnOk};
 ghost use Rattle.std.specs.Option.{option_copied};
-ghost use Rattle.call_registers.specs.Registers.{register, is_newer};
+ghost use Rattle.call_registers.specs.Registers.{register};
 ghost use Rattle.service_meaning.specs.Arriving.{answers_register, is_for, is_new_to, seen_live, heard_rows, told, call_answered_event, call_failed_event};
 ghost use Rattle.service_meaning.specs.Calls.{noted};
 ghost use Rattle.service_meaning.specs.Flying.{goes_on};
@@ -10,13 +10,13 @@ ghost use Rattle.live_drafts.specs.Endings.{MayEnd};
 ghost use Rattle.service_parts.specs.Parts.{kept};
 ghost use Rattle.live_service.specs.Arrivals.{Says};
 ghost use Rattle.live_service.specs.Changes.{leaves, CanLeave, Drafts};
-ghost use Rattle.service_repairs.specs.Services.{IsService};
-ghost use Rattle.live_service.specs.Events.{Does, call_memory};
+ghost use Rattle.service_parts.specs.Services.{IsService};
+ghost use Rattle.service_meaning.specs.Doing.{Does, call_memory};
 
 use crate::applying::apply;
 use crate::going::follow;
 use crate::outcome::Outcome;
-use call_registers::{Answer, Register, Why};
+use call_registers::{Register, Why, is_newer};
 use flights::Flight;
 use journal_rows::{AckHow, How, Row, SawAckRow, SawAnswerRow};
 use lang_core::{Copied, NoMemory, Same};
@@ -39,16 +39,6 @@ fn is_for(parts: &Parts, answer: &AnswerMessage, flight: &Flight) -> bool
 {
     flight.awaited() == answer.number
         && answers_register(answer, parts.registers.get(answer.number))
-}
-
-/// Whether an answer of this version is newer than the one that is held.
-pub(crate) fn is_newer(held: &Option<Answer>, answer_version: u64) -> bool
-    ensures { result ≡ is_newer held.now answer_version }
-{
-    match held {
-        None => true,
-        Some(held) => held.answer_version < answer_version,
-    }
 }
 
 fn is_new_to(answer: &AnswerMessage, register: Option<&Register>) -> bool

@@ -6,7 +6,7 @@ ghost use Rattle.journal_rows.specs.Words.{last_taken};
 ghost use Rattle.service_meaning.specs.State.{in_all};
 ghost use Rattle.service_meaning.specs.Flying.{last_answer};
 ghost use Rattle.service_parts.specs.Parts.{kept};
-ghost use Rattle.live_service.specs.Events.{arrive_memory};
+ghost use Rattle.service_meaning.specs.Doing.{arrive_memory};
 ghost use Rattle.live_service.specs.Arrivals.{Says, early, by_made, by_entry, deletion_in, unless_deleted, known, too_much, refusal, before_run};
 
 use journal_rows::last_taken;

@@ -5,10 +5,11 @@ ghost use Rattle.local_repair.specs.Repairs.{IsStaleId};
 ghost use Rattle.service_meaning.specs.State.{answers};
 ghost use Rattle.service_meaning.specs.Arriving.{arrive_event, call_answered_event, call_failed_event};
 ghost use Rattle.service_meaning.specs.Fits.{Fits};
-ghost use Rattle.live_service.specs.Events.{fresh, arrive_memory, call_memory, Does, awaited_by, first_stale};
+ghost use Rattle.live_service.specs.Events.{fresh, awaited_by, first_stale};
+ghost use Rattle.service_meaning.specs.Doing.{arrive_memory, call_memory, order_memory, Does};
 ghost use Rattle.journal_rows.specs.Words.{ordered};
 ghost use Rattle.service_meaning.specs.Orders.{order_event};
-ghost use Rattle.service_repairs.specs.Answers.{answered_by, Orders, Steps};
+ghost use Rattle.service_repairs.specs.Answers.{answered_by, Steps};
 
 use crate::arriving::arrive;
 use crate::calls::{call_answered, call_failed};
@@ -37,7 +38,7 @@ pub struct Service {
 impl Model for Service {
     ghost use Rattle.service_meaning.specs.State.{Kept, kept_code};
     ghost use Rattle.service_parts.specs.Parts.{kept};
-    ghost use Rattle.service_repairs.specs.Services.{IsService};
+    ghost use Rattle.service_parts.specs.Services.{IsService};
 
     ghost Value = { Kept };
 
@@ -195,7 +196,7 @@ impl Service {
         who: Text,
         inputs: Inputs,
     ) -> Result<Ordered, OrderRefused>
-        ensures does { Orders (order_event self.old command token who inputs) self.old result self.new }
+        ensures does { Does order_memory (order_event self.old command token who inputs) self.old result self.new }
         ensures repeated { IfSome (answered_by (ordered token self.old.journal)) (λ answer. result ≡ Ok answer) }
     {
         order(alloc, &mut self.parts, command, token, who, inputs)

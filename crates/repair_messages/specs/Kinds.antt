@@ -1,8 +1,8 @@
 -- What a set message asks for.
-use Rattle.std.specs.Prelude.{ℕ, Bool, Option, Some, None, if◌then◌else◌, nat_eq}
+use Rattle.std.specs.Prelude.{ℕ, Bool, List, Option, Some, None, if◌then◌else◌, codes, nat_eq}
 use Rattle.lang_core.specs.declared.request.Request.{Request}
 use Rattle.repair_messages.specs.declared.kinds.Kind.{Kind}
-use Rattle.repair_messages.specs.declared.kinds.Kind.TheVariants.{Create, Replace, Delete}
+use Rattle.repair_messages.specs.declared.kinds.Kind.TheVariants.{Create, Replace, Delete, ReplaceResponse, Retry}
 use Rattle.repair_messages.specs.declared.messages.SetMessage.{SetMessage}
 
 -- a request is to be made, or to stand in place of an earlier one
@@ -22,3 +22,11 @@ spelled version (Some q) = if nat_eq version 1 then Create else Replace
 -- by the version alone
 abbrev pub spelling : SetMessage → Kind
 spelling m = spelled m.version m.desired
+
+-- the word of a kind
+abbrev pub kind_word : Kind → List ℕ
+kind_word Create = codes "create"
+kind_word Replace = codes "replace"
+kind_word Delete = codes "delete"
+kind_word ReplaceResponse = codes "replace_response"
+kind_word Retry = codes "retry"

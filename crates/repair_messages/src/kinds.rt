@@ -1,6 +1,6 @@
 // The kinds of repair messages and orders.
 ghost use Rattle.std.specs.Prelude.{◌≡◌};
-ghost use Rattle.repair_messages.specs.Kinds.{kind_of, spelling};
+ghost use Rattle.repair_messages.specs.Kinds.{kind_of, kind_word, spelling};
 
 use crate::messages::SetMessage;
 
@@ -44,5 +44,18 @@ pub fn spelling(message: &SetMessage) -> Kind
                 Kind::Replace
             }
         }
+    }
+}
+
+/// The word of a kind.
+pub fn kind_word(kind: Kind) -> &'static str
+    ensures { result.now ≡ kind_word kind }
+{
+    match kind {
+        Kind::Create => "create",
+        Kind::Replace => "replace",
+        Kind::Delete => "delete",
+        Kind::ReplaceResponse => "replace_response",
+        Kind::Retry => "retry",
     }
 }

@@ -6,7 +6,7 @@ mod messages;
 mod pairs;
 mod posts;
 
-pub use kinds::{Kind, kind_of, spelling};
+pub use kinds::{Kind, kind_of, kind_word, spelling};
 pub use messages::{Ack, AnswerMessage, Confirm, SetMessage};
 pub use pairs::copied_pair;
 pub use posts::{Post, PostName};

@@ -7,3 +7,4 @@ pub mod Steps
 pub mod Orders
 pub mod Fits
 pub mod Posts
+pub mod Doing

@@ -1,3 +1,4 @@
 pub mod Parts
 pub mod Drafts
 pub mod Rooms
+pub mod Services

@@ -19,7 +19,7 @@ use Rattle.service_parts.specs.Parts.{kept}
 use Rattle.service_parts.specs.declared.parts.Parts.{Parts}
 use Rattle.repair_laws.proofs.BoundLaws.{accepted_named, step_bounded, order_bounded}
 use Rattle.repair_drafts.specs.Ordering.{MayOrder}
-use Rattle.service_repairs.specs.Services.{HasRoom, IsService}
+use Rattle.service_parts.specs.Services.{HasRoom, IsService}
 use Rattle.service_repairs.specs.Answers.{Steps}
 use Rattle.service_repairs.proofs.ServiceLemmas.{same_service, next_service}
 

@@ -5,7 +5,7 @@ use Rattle.service_meaning.specs.Fits.{Fits}
 use Rattle.call_laws.proofs.CallLaws.{IsFew}
 use Rattle.service_parts.specs.Parts.{kept}
 use Rattle.service_parts.specs.declared.parts.Parts.{Parts}
-use Rattle.service_repairs.specs.Services.{HasRoom, IsService}
+use Rattle.service_parts.specs.Services.{HasRoom, IsService}
 
 -- ---- what is left
 

@@ -3,10 +3,11 @@ ghost use Rattle.std.specs.Prelude.{◌≡◌, ◌≤◌, Ok, None, IfSome, if�
 ghost use Rattle.journal_rows.specs.Words.{ordered};
 ghost use Rattle.journal_rows.specs.declared.orders.OrderedRow.{OrderedRow};
 ghost use Rattle.service_meaning.specs.State.{in_all, is_crowded};
+ghost use Rattle.service_meaning.specs.Doing.{Does, order_memory};
 ghost use Rattle.service_meaning.specs.Orders.{entry_of, hold_on, is_too_much, makes_entry, misnamed, order_event, refused, unless_held, unless_outside, unless_replaced, unless_there};
 ghost use Rattle.service_parts.specs.Parts.{kept};
-ghost use Rattle.service_repairs.specs.Services.{IsService};
-ghost use Rattle.service_repairs.specs.Answers.{answered_by, Orders};
+ghost use Rattle.service_parts.specs.Services.{IsService};
+ghost use Rattle.service_repairs.specs.Answers.{answered_by};
 
 use crate::limits::{is_crowded, is_heavy};
 use crate::repairing::count_rows;
@@ -163,7 +164,7 @@ fn accepted(
     requires service { IsService parts.old }
     requires new { ordered token parts.old.journal.rows ≡ None }
     requires none { refused (kept parts.old) command ≡ None }
-    ensures does { Orders (order_event (kept parts.old) command token who inputs) (kept parts.old) result (kept parts.new) }
+    ensures does { Does order_memory (order_event (kept parts.old) command token who inputs) (kept parts.old) result (kept parts.new) }
     ensures service { IsService parts.new }
 {
     let ordered = Ordered {
@@ -186,7 +187,7 @@ fn new_order(
 ) -> Result<Ordered, OrderRefused>
     requires service { IsService parts.old }
     requires new { ordered token parts.old.journal.rows ≡ None }
-    ensures does { Orders (order_event (kept parts.old) command token who inputs) (kept parts.old) result (kept parts.new) }
+    ensures does { Does order_memory (order_event (kept parts.old) command token who inputs) (kept parts.old) result (kept parts.new) }
     ensures service { IsService parts.new }
 {
     match refused(parts, &command) {
@@ -205,7 +206,7 @@ pub fn order(
     inputs: Inputs,
 ) -> Result<Ordered, OrderRefused>
     requires { IsService parts.old }
-    ensures does { Orders (order_event (kept parts.old) command token who inputs) (kept parts.old) result (kept parts.new) }
+    ensures does { Does order_memory (order_event (kept parts.old) command token who inputs) (kept parts.old) result (kept parts.new) }
     ensures repeated { IfSome (answered_by (ordered token parts.old.journal.rows)) (λ answer. result ≡ Ok answer) }
     ensures service { IsService parts.new }
 {

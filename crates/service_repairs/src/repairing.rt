@@ -3,7 +3,7 @@ ghost use Rattle.std.specs.Prelude.{◌≡◌, ◌<◌, ◌^◌, [], Ok, length}
 ghost use Rattle.local_repair.specs.Current.{AllCurrent};
 ghost use Rattle.service_meaning.specs.State.{answers};
 ghost use Rattle.service_parts.specs.Parts.{kept};
-ghost use Rattle.service_repairs.specs.Services.{IsService};
+ghost use Rattle.service_parts.specs.Services.{IsService};
 ghost use Rattle.service_repairs.specs.Answers.{Steps};
 
 use journal_rows::Rows;
