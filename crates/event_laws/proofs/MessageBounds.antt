@@ -26,7 +26,7 @@ use Rattle.service_meaning.specs.State.{Kept, after, in_all, answers, next_id, o
 use Rattle.service_meaning.specs.Calls.{noted}
 use Rattle.service_meaning.specs.Steps.{Stale, stale_in, step_by, step_event, new_record, new_numbers}
 use Rattle.service_meaning.specs.Messages.{rule, origin_of, is_known, makes_entry, is_too_much, acked_again, created_entry, created_place, at_version, taken_by, taken, take_admitted, take_event, seen_row, confirmed_row, heard, heard_where, take_answer_event, had, replies_to, is_now, hold_of, held_back, held_where, posted, posted_event}
-use Rattle.service_meaning.specs.Orders.{refused, misnamed, makes_entry as orders_entry, is_too_much as is_too_much_for, at_id, struck_as, asking, created, carried_out, order_by, order_where, order_event}
+use Rattle.service_meaning.specs.Orders.{refused, misnamed, makes_entry as orders_entry, is_too_much as is_too_much_for, at_id, struck_as, asking, carried_out, order_by, order_where, order_event}
 use Rattle.service_meaning.specs.declared.answers.PostReply.{PostReply}
 use Rattle.service_meaning.specs.declared.answers.Taken.{Taken}
 use Rattle.service_meaning.specs.declared.refusals.TakeRefused.{TakeRefused}
