@@ -1,0 +1,19 @@
+use Rattle.std.proofs.Common.{◌≡◌, ◌↔◌, sym, subst, map, [], None}
+use Rattle.service_meaning.specs.Flying.{awaited}
+use Rattle.service_meaning.specs.Posts.{outstanding}
+use Rattle.repair_queue.proofs.QueueLemmas.{next_is, none_is, oldest_is}
+use Rattle.repair_queue.proofs.oldest.next.Goals as goal
+
+pub returns-clause-next : goal.returns-clause-next
+returns-clause-next c =
+    next_is c.as_slice.result.now c.args.registers.now.list c.as_slice-2.result.now c.args.replies.now.list (map awaited c.args.flights.now) c.args.dest.now c.oldest_call-call.result c.older_reply.result c.name_of.result
+    c.as_slice.ensures.list c.as_slice-2.ensures.list c.oldest_call-call.ensures c.older_reply.ensures c.name_of.ensures
+
+pub returns-clause-none : goal.returns-clause-none
+returns-clause-none c =
+    let posts = outstanding c.args.registers.now.list c.args.replies.now.list (map awaited c.args.flights.now) c.args.dest.now in
+    subst (λ r. (r ≡ None) ↔ (posts ≡ [])) (sym (returns-clause-next c)) (none_is posts)
+
+pub returns-clause-oldest : goal.returns-clause-oldest
+returns-clause-oldest c =
+    oldest_is (outstanding c.args.registers.now.list c.args.replies.now.list (map awaited c.args.flights.now) c.args.dest.now) c.name_of.result (returns-clause-next c)

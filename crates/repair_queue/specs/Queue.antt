@@ -1,0 +1,25 @@
+-- The oldest post, by what stands beside it, and by a walk over registers and replies.
+use Rattle.std.specs.Prelude.{ℕ, ◌≡◌, ◌≤◌, List, Option, All, Contains, if◌then◌else◌, option_map}
+use Rattle.repair_messages.specs.declared.posts.PostName.{PostName}
+use Rattle.call_registers.specs.declared.register.Register.{Register}
+use Rattle.call_registers.specs.declared.reply.Reply.{Reply}
+use Rattle.service_meaning.specs.Posts.{Aged, aged_call, aged_reply, is_owed, is_unacknowledged, older, oldest}
+
+-- the name of the oldest of these
+abbrev pub first_name : List Aged → Option PostName
+first_name posts = option_map (λ (p : Aged). p.name) (oldest posts)
+
+-- one of these has this name, and none of them is older
+pub record IsOldest (name : PostName) (posts : List Aged) : Type 0 where
+  pub post : Aged
+  pub there : Contains posts post
+  pub named : post.name ≡ name
+  pub first : All (λ (p : Aged). post.since ≤ p.since) posts
+
+-- ---- a walk: the oldest so far, where one call or reply more was seen
+
+abbrev pub with_call : List ℕ → List ℕ → Option Aged → Register → Option Aged
+with_call awaited dest first r = if is_unacknowledged awaited dest r then older first (aged_call r) else first
+
+abbrev pub with_reply : List ℕ → Option Aged → Reply → Option Aged
+with_reply dest first p = if is_owed dest p then older first (aged_reply p) else first

@@ -1,0 +1,77 @@
+// Which posts are outstanding, and since when.
+ghost use Rattle.std.specs.Prelude.{◌≡◌, map, nat_eq};
+ghost use Rattle.std.specs.List.{list_any};
+ghost use Rattle.flights.specs.declared.flight.Flight.{Flight as FlightValue};
+ghost use Rattle.service_meaning.specs.Flying.{awaited};
+ghost use Rattle.service_meaning.specs.Posts.{aged_call, aged_reply, is_owed, is_unacknowledged};
+
+use call_registers::{Register, Reply};
+use flights::Flight;
+use lang_core::{Name, Same};
+use repair_messages::PostName;
+use std::marker::Model;
+
+/// A post that is outstanding, and the index in the journal from which on it is to be sent.
+#[derive(Drop)]
+pub(crate) struct Aged {
+    pub(crate) name: PostName,
+    pub(crate) since: u64,
+}
+
+impl Model for Aged {
+    ghost use Rattle.service_meaning.specs.Posts.{Aged};
+
+    ghost Value = { Aged };
+
+    ghost view = { λ p. record { name = p.name; since = p.since } };
+}
+
+fn awaits(flights: &[Flight], number: u64) -> bool
+    ensures { result ≡ list_any (λ (f : FlightValue). nat_eq number (awaited f)) flights.now }
+{
+    flights.iter().any(|flight| number == flight.awaited())
+}
+
+// Whether a flight awaits the call of this number.
+fn is_awaited(flights: &[Flight], number: u64) -> bool
+    ensures { result ≡ list_any (nat_eq number) (map awaited flights.now) }
+{
+    awaits(flights, number)
+}
+
+/// A call to this service, whose last version isn't acknowledged: nothing holds it, and no flight awaits it.
+pub(crate) fn is_unacknowledged(register: &Register, flights: &[Flight], dest: &Name) -> bool
+    ensures { result ≡ is_unacknowledged (map awaited flights.now) dest.now register.now }
+{
+    register.dest.is(dest)
+        && register.acked < register.version
+        && register.held.is_none()
+        && !is_awaited(flights, register.number)
+}
+
+/// A reply to a call of this service that is due: it has an answer, and nothing holds it.
+pub(crate) fn is_owed(reply: &Reply, dest: &Name) -> bool
+    ensures { result ≡ is_owed dest.now reply.now }
+{
+    reply.caller.is(dest) && reply.due && 0 < reply.answer_version && reply.held.is_none()
+}
+
+/// The post of a call.
+pub(crate) fn aged_call(register: &Register) -> Aged
+    ensures { result ≡ aged_call register.now }
+{
+    Aged {
+        name: PostName::Call(register.number),
+        since: register.since,
+    }
+}
+
+/// The post of a reply.
+pub(crate) fn aged_reply(reply: &Reply) -> Aged
+    ensures { result ≡ aged_reply reply.now }
+{
+    Aged {
+        name: PostName::Reply(reply.id),
+        since: reply.since,
+    }
+}
