@@ -13,7 +13,6 @@ pub mod CommitFacts
 pub mod LiveWorldLaws
 pub mod PeerLaws
 pub mod ReachLaws
-pub mod PostLaws
 pub mod RefusalLaws
 pub mod PurchaseRun
 pub mod PurchaseTried

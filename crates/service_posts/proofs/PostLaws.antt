@@ -1,5 +1,5 @@
 -- The post that goes next has a message.
-use Rattle.std.proofs.Common.{◌≡◌, ℕ, ◌<◌, ◌⊎◌, ◌&&◌, Bool, true, false, List, [], ◌∷◌, Option, Some, None, IsSome, Contains, cond, filter, find, fold, is_none, map, nat_eq, nat_lt, option_map, inl, inr, refl, sym, ap, ◌∙◌, subst, arith, eq-eqb, ne_eqb, ltb-true}
+use Rattle.std.proofs.Common.{◌≡◌, ℕ, ◌<◌, ◌⊎◌, ◌&&◌, Bool, true, false, List, [], ◌∷◌, Option, Some, None, IsSome, IfSome, Contains, filter, find, is_none, map, nat_eq, nat_lt, option_map, inl, inr, refl, sym, ap, ◌∙◌, subst, arith, eq-eqb, ne_eqb, ltb-true}
 use Rattle.std.proofs.lemmas.Bool.{cases_Bool, cond-true, cond-false, and_parts}
 use Rattle.std.proofs.lemmas.List.Elements.{Contains-append_cases, Contains-append_right}
 use Rattle.lang_base.specs.Texts.{same_text}
@@ -15,13 +15,14 @@ use Rattle.call_registers.specs.declared.register.Register.{Register}
 use Rattle.call_registers.specs.declared.reply.Reply.{Reply}
 use Rattle.service_meaning.specs.Fits.{Fits, HasAnswered}
 use Rattle.service_meaning.specs.Flying.{awaited}
-use Rattle.service_meaning.specs.Posts.{is_unacknowledged, is_owed, Aged, aged_call, aged_reply, outstanding, older, oldest, next_post, set_message, answer_post, reply_post, where_there, write_post}
+use Rattle.service_meaning.specs.Posts.{is_unacknowledged, is_owed, Aged, aged_call, aged_reply, outstanding, set_message, answer_post, reply_post, where_there, write_post}
 use Rattle.service_meaning.specs.State.{Kept}
 use Rattle.entry_laws.proofs.EntryLemmas.{found_itself}
 use Rattle.entry_laws.proofs.PartLemmas.{logged}
 use Rattle.entry_laws.proofs.PostedLaw.{of_entry}
 use Rattle.entry_laws.proofs.SearchLemmas.{found_all}
-use Rattle.world_meaning.proofs.ListLemmas.{contains_here, contains_cases, some_is}
+use Rattle.world_meaning.proofs.ListLemmas.{contains_here, contains_cases}
+use Rattle.repair_queue.specs.Queue.{IsOldest}
 
 -- ---- what is in a list
 
@@ -54,35 +55,6 @@ there_found p (y ∷ ys) x h is = elim (cases_Bool (p y)) [
     later : (y ≡ x) ⊎ Contains ys x → p y ≡ false → (Contains ys x → IsSome (find p ys)) → IsSome (find p ys)
     later (inl same) other rest = (let clash : true ≡ false = sym is ∙ ap p (sym same) ∙ other in cc)
     later (inr at) other rest = rest at
-
--- ---- the oldest is one of them
-
-older_is : (o : Option Aged) (p q : Aged) → older o p ≡ Some q → (o ≡ Some q) ⊎ (p ≡ q)
-older_is None p q e = inr (some_is p q e)
-older_is (Some first) p q e = by (nat_lt p.since first.since) e
-  where
-    by : (b : Bool) → cond b (Some p) (Some first) ≡ Some q → (Some first ≡ Some q) ⊎ (p ≡ q)
-    by true e = inr (some_is p q e)
-    by false e = inl e
-
-fold_is : (o : Option Aged) (ps : List Aged) (q : Aged) → fold older o ps ≡ Some q → (o ≡ Some q) ⊎ Contains ps q
-fold_is o [] q e = inl e
-fold_is o (p ∷ ps) q e = first (fold_is (older o p) ps q e)
-  where
-    first : (older o p ≡ Some q) ⊎ Contains ps q → (o ≡ Some q) ⊎ Contains (p ∷ ps) q
-    first (inl here) = or_it (older_is o p q here)
-      where
-        or_it : (o ≡ Some q) ⊎ (p ≡ q) → (o ≡ Some q) ⊎ Contains (p ∷ ps) q
-        or_it (inl before) = inl before
-        or_it (inr it) = inr (subst (λ x. Contains (x ∷ ps) q) (sym it) (contains_here q ps))
-    first (inr later) = inr (Contains-append_right (p ∷ []) ps q later)
-
-oldest_there : (ps : List Aged) (q : Aged) → oldest ps ≡ Some q → Contains ps q
-oldest_there ps q e = by (fold_is None ps q e)
-  where
-    by : (None ≡ Some q) ⊎ Contains ps q → Contains ps q
-    by (inl none) = cc
-    by (inr there) = there
 
 -- ---- replies
 
@@ -153,12 +125,7 @@ module _ (s : Kept) (fits : Fits s) where
           subst (λ (x : Aged). IsSome (write_post s x.name)) p.2 (reply_written p.0 (reply_found s.replies p.0 fits.replies.rising of.0) positive)
 
   -- so the post that goes next has one
-  pub post_written : (dest : List ℕ) (name : PostName) → next_post dest s ≡ Some name → IsSome (write_post s name)
-  post_written dest name e = by (oldest (outstanding s.registers s.replies (map awaited s.flights) dest)) refl e
-    where
-      by : (o : Option Aged) → oldest (outstanding s.registers s.replies (map awaited s.flights) dest) ≡ o → option_map (λ (p : Aged). p.name) o ≡ Some name
-          → IsSome (write_post s name)
-      by None is e = cc
-      by (Some q) is e =
-          let same : q.name ≡ name = cc in
-          subst (λ x. IsSome (write_post s x)) same (named_written dest q (oldest_there (outstanding s.registers s.replies (map awaited s.flights) dest) q is))
+  pub post_written : (dest : List ℕ) (name : Option PostName) → IfSome name (λ n. IsOldest n (outstanding s.registers s.replies (map awaited s.flights) dest))
+      → IfSome name (λ n. IsSome (write_post s n))
+  post_written dest None oldest = tt
+  post_written dest (Some name) oldest = subst (λ n. IsSome (write_post s n)) oldest.named (named_written dest oldest.post oldest.there)

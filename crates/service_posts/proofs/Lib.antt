@@ -1,0 +1,2 @@
+mod PostLaws
+mod WalkLemmas

@@ -1,0 +1,106 @@
+-- What a walk over the calls of entries finds is what stands next to the call.
+use Rattle.std.proofs.Common.{◌≡◌, ◌∙◌, refl, sym, ap, ℕ, suc, ◌+◌, Bool, true, false, cond, not, List, [], ◌∷◌, take, drop, Option, Some, None, flat_map, fold, nat_eq, slice_get, arith}
+use Rattle.std.proofs.lemmas.List.Sums.{fold-append}
+use Rattle.std.specs.List.{after_first, before_first, last_or, position_or_len}
+use Rattle.request_log.specs.declared.entry.Entry.{Entry}
+use Rattle.call_registers.specs.declared.register.Register.{Register}
+use Rattle.service_meaning.specs.Fits.{wanted_call}
+use Rattle.service_meaning.specs.Posts.{calls_to, goes_to, next_of, previous_of}
+use Rattle.service_meaning.specs.State.{Kept, or_else}
+use Rattle.repair_queue.proofs.FoldLemmas.{fold_filter}
+use Rattle.service_posts.specs.Walks.{pass, seen, seen_entry}
+use Rattle.service_posts.specs.declared.beside.Walk.{Walk}
+
+abbrev walk : Option ℕ → Bool → Option ℕ → Walk
+walk previous passed next = record { previous = previous; passed = passed; next = next }
+
+abbrev pub start_walk : Walk
+start_walk = walk None false None
+
+-- ---- past the call: the first one is kept
+
+kept_next : (n : Option ℕ) → or_else n None ≡ n
+kept_next None = refl
+kept_next (Some m) = refl
+
+first_next : (n : Option ℕ) (m : ℕ) (o : Option ℕ) → or_else (or_else n (Some m)) o ≡ or_else n (Some m)
+first_next None m o = refl
+first_next (Some k) m o = refl
+
+passed_on : (of : ℕ) (o n : Option ℕ) (ms : List ℕ) → fold (pass of) (walk o true n) ms ≡ walk o true (or_else n (slice_get ms 0))
+passed_on of o n [] = ap (walk o true) (sym (kept_next n))
+passed_on of o n (m ∷ ms) = passed_on of o (or_else n (Some m)) ms ∙ ap (walk o true) (first_next n m (slice_get ms 0))
+
+-- ---- the first element that passes, or a later one
+
+module _ {X : Type 0} (p : X → Bool) (x : X) (xs : List X) where
+  place_here : p x ≡ true → position_or_len p (x ∷ xs) ≡ 0
+  place_here is = ap (λ b. cond (not b) (1 + position_or_len p xs) 0) is
+
+  place_later : p x ≡ false → position_or_len p (x ∷ xs) ≡ suc (position_or_len p xs)
+  place_later other = ap (λ b. cond (not b) (1 + position_or_len p xs) 0) other ∙ omega arith
+
+  before_here : p x ≡ true → before_first p (x ∷ xs) ≡ []
+  before_here is = ap (λ n. take n (x ∷ xs)) (place_here is)
+
+  before_later : p x ≡ false → before_first p (x ∷ xs) ≡ x ∷ before_first p xs
+  before_later other = ap (λ n. take n (x ∷ xs)) (place_later other)
+
+  after_here : p x ≡ true → after_first p (x ∷ xs) ≡ xs
+  after_here is = ap (λ n. drop (n + 1) (x ∷ xs)) (place_here is)
+
+  after_later : p x ≡ false → after_first p (x ∷ xs) ≡ after_first p xs
+  after_later other =
+      let on : position_or_len p (x ∷ xs) + 1 ≡ suc (position_or_len p xs + 1) = ap (λ n. n + 1) (place_later other) ∙ omega arith in
+      ap (λ n. drop n (x ∷ xs)) on
+
+-- ---- from the start
+
+record Beside (of : ℕ) (o : Option ℕ) (ms : List ℕ) (w : Walk) : Type 0 where
+  previous : w.previous ≡ last_or o (before_first (λ n. nat_eq n of) ms)
+  next : w.next ≡ slice_get (after_first (λ n. nat_eq n of) ms) 0
+
+one_more : (of : ℕ) (o : Option ℕ) (m : ℕ) (ms : List ℕ) (b : Bool) → nat_eq m of ≡ b
+    → Beside of (Some m) ms (fold (pass of) (walk (Some m) false None) ms)
+    → Beside of o (m ∷ ms) (fold (pass of) (cond b (walk o true None) (walk (Some m) false None)) ms)
+one_more of o m ms true is rest =
+    record {
+      previous =
+          ap (λ (w : Walk). w.previous) (passed_on of o None ms) ∙ sym (ap (last_or o) (before_here (λ n. nat_eq n of) m ms is));
+      next =
+          ap (λ (w : Walk). w.next) (passed_on of o None ms)
+          ∙ sym (ap (λ (ns : List ℕ). slice_get ns 0) (after_here (λ n. nat_eq n of) m ms is));
+    }
+one_more of o m ms false other rest =
+    record {
+      previous = rest.previous ∙ sym (ap (last_or o) (before_later (λ n. nat_eq n of) m ms other));
+      next = rest.next ∙ sym (ap (λ (ns : List ℕ). slice_get ns 0) (after_later (λ n. nat_eq n of) m ms other));
+    }
+
+walked : (of : ℕ) (o : Option ℕ) (ms : List ℕ) → Beside of o ms (fold (pass of) (walk o false None) ms)
+walked of o [] = record { previous = refl; next = refl }
+walked of o (m ∷ ms) = one_more of o m ms (nat_eq m of) refl (walked of (Some m) ms)
+
+-- ---- over the entries
+
+entries_walk : (registers : List Register) (dest : List ℕ) (of : ℕ) (w : Walk) (entries : List Entry)
+    → fold (seen_entry registers dest of) w entries ≡ fold (seen registers dest of) w (flat_map (λ (e : Entry). e.slots) entries)
+entries_walk registers dest of w [] = refl
+entries_walk registers dest of w (e ∷ es) =
+    entries_walk registers dest of (seen_entry registers dest of w e) es
+    ∙ sym (fold-append (seen registers dest of) w e.slots (flat_map (λ (e : Entry). e.slots) es))
+
+calls_walk : (s : Kept) (dest : List ℕ) (of : ℕ) (w : Walk) → fold (seen_entry s.registers dest of) w s.entries ≡ fold (pass of) w (calls_to dest s)
+calls_walk s dest of w =
+    entries_walk s.registers dest of w s.entries
+    ∙ fold_filter (λ n. goes_to dest (wanted_call s.registers n)) (pass of) w (flat_map (λ (e : Entry). e.slots) s.entries)
+
+pub next_is : (s : Kept) (dest : List ℕ) (of : ℕ) (w : Walk) → w ≡ fold (seen_entry s.registers dest of) start_walk s.entries
+    → w.next ≡ next_of of (calls_to dest s)
+next_is s dest of w e =
+    ap (λ (w : Walk). w.next) (e ∙ calls_walk s dest of start_walk) ∙ (walked of None (calls_to dest s)).next
+
+pub previous_is : (s : Kept) (dest : List ℕ) (of : ℕ) (w : Walk) → w ≡ fold (seen_entry s.registers dest of) start_walk s.entries
+    → w.previous ≡ previous_of of (calls_to dest s)
+previous_is s dest of w e =
+    ap (λ (w : Walk). w.previous) (e ∙ calls_walk s dest of start_walk) ∙ (walked of None (calls_to dest s)).previous

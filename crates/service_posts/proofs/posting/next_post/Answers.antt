@@ -1,0 +1,15 @@
+use Rattle.std.proofs.Common.{IfSome, map, subst}
+use Rattle.service_meaning.specs.Flying.{awaited}
+use Rattle.service_meaning.specs.Posts.{outstanding}
+use Rattle.service_parts.specs.Parts.{kept}
+use Rattle.repair_queue.specs.Queue.{IsOldest}
+use Rattle.service_posts.proofs.PostLaws.{post_written}
+use Rattle.service_posts.proofs.posting.next_post.Goals as goal
+
+pub returns-clause-written : goal.returns-clause-written
+returns-clause-written c =
+    let s = kept c.args.parts.now in
+    post_written s c.requires.fits c.args.dest.now c.next.result
+    (subst
+    (λ flights. IfSome c.next.result (λ n. IsOldest n (outstanding s.registers s.replies (map awaited flights) c.args.dest.now)))
+    c.as_slice.ensures.list c.next.ensures.oldest)

@@ -1,0 +1,115 @@
+// The post that goes next, and its message.
+ghost use Rattle.std.specs.Prelude.{◌≡◌, None, Some, IfOk, IfSome, IsSome};
+ghost use Rattle.service_meaning.specs.Posts.{answer_post, calls_to, next_of, next_post, previous_of, set_message, where_new, write_post};
+ghost use Rattle.service_parts.specs.Parts.{kept};
+ghost use Rattle.service_parts.specs.Services.{IsService};
+ghost use Rattle.call_registers.specs.Registers.{register};
+ghost use Rattle.call_registers.specs.Replies.{reply};
+
+use crate::answers::last_answer;
+use crate::beside::{Neighbours, neighbours_of};
+use call_registers::{Register, Reply};
+use lang_core::{Copied, Name, NoMemory};
+use repair_messages::{AnswerMessage, Post, PostName, SetMessage, copied_pair};
+use repair_queue::next;
+use request_log::{Entry, Made};
+use service_parts::Parts;
+use std::alloc::Global;
+
+/// The post that goes to this service next: the oldest that is outstanding; None exactly where none is. It has a message.
+/// It takes no memory.
+pub fn next_post(parts: &Parts, dest: &Name) -> Option<PostName>
+    requires { IsService parts.now }
+    ensures next { result ≡ next_post dest.now (kept parts.now) }
+    ensures written { IfSome result (λ name. IsSome (write_post (kept parts.now) name)) }
+{
+    next(
+        &parts.registers,
+        &parts.replies,
+        parts.flights.as_slice(),
+        dest,
+    )
+}
+
+// ---- the message of a call
+
+// A new call names its neighbours among the calls to the same service.
+fn where_new(parts: &Parts, register: &Register) -> Neighbours
+    ensures before { result.before ≡ where_new register.now (next_of register.now.number (calls_to register.now.dest (kept parts.now))) }
+    ensures after { result.after ≡ where_new register.now (previous_of register.now.number (calls_to register.now.dest (kept parts.now))) }
+{
+    if register.version == 1 {
+        neighbours_of(parts, &register.dest, register.number)
+    } else {
+        Neighbours {
+            before: None,
+            after: None,
+        }
+    }
+}
+
+fn set_message(alloc: Global, parts: &Parts, register: &Register) -> Result<SetMessage, NoMemory>
+    ensures { IfOk result (λ set. set ≡ set_message (kept parts.now) register.now) }
+{
+    let (caller, dest) = copied_pair(alloc, &parts.setting.me, &register.dest)?;
+    let (desired, who) = copied_pair(alloc, &register.desired, &register.repair_who)?;
+    let Neighbours { before, after } = where_new(parts, register);
+    Ok(SetMessage {
+        caller,
+        dest,
+        number: register.number,
+        version: register.version,
+        desired,
+        before,
+        after,
+        who,
+    })
+}
+
+fn write_call(alloc: Global, parts: &Parts, number: u64) -> Result<Post, NoMemory>
+    requires { IsSome (register number parts.now.registers.list) }
+    ensures { IfOk result (λ post. write_post (kept parts.now) (PostName.Call number) ≡ Some post) }
+{
+    let register = parts.registers.get(number).unwrap();
+    let set = set_message(alloc, parts, register)?;
+    Ok(Post::Set(set))
+}
+
+// ---- the message of an answer
+
+fn answer_post(
+    alloc: Global,
+    parts: &Parts,
+    reply: &Reply,
+    entry: &Entry,
+    made: &Made,
+) -> Result<Post, NoMemory>
+    ensures { IfOk result (λ post. post ≡ answer_post (kept parts.now) reply.now entry.now made.now) }
+{
+    let who = reply.repair_who.copied(alloc)?;
+    let answer = last_answer(alloc, parts, &reply.caller, reply.number, entry, made)?;
+    Ok(Post::Answer(AnswerMessage { who, ..answer }))
+}
+
+fn write_reply(alloc: Global, parts: &Parts, id: u64) -> Result<Post, NoMemory>
+    requires { IsSome (write_post (kept parts.now) (PostName.Reply id)) }
+    ensures { IfOk result (λ post. write_post (kept parts.now) (PostName.Reply id) ≡ Some post) }
+{
+    let reply = parts.replies.get(id).unwrap();
+    let entry = parts.repairer.log().find(reply.id).unwrap();
+    let made = entry.made.as_ref().unwrap();
+    answer_post(alloc, parts, reply, entry, made)
+}
+
+/// The message of a post as it is now, of which there is one: that of a call of this number, or the last answer of an entry
+/// of this number that has a reply. A call of version 1 names its neighbours among the wanted calls to the same service,
+/// in logged order.
+pub fn write_post(alloc: Global, parts: &Parts, name: PostName) -> Result<Post, NoMemory>
+    requires { IsSome (write_post (kept parts.now) name) }
+    ensures { IfOk result (λ post. write_post (kept parts.now) name ≡ Some post) }
+{
+    match name {
+        PostName::Call(number) => write_call(alloc, parts, number),
+        PostName::Reply(id) => write_reply(alloc, parts, id),
+    }
+}
