@@ -1,3 +1,1 @@
-pub mod Arrivals
-pub mod Changes
 pub mod Events

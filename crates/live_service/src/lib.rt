@@ -1,15 +1,7 @@
-//! A service whose requests call other services. Its type keeps that what it keeps fits its journal.
-//!
-//! Each event does what the event means, or wants memory and changes nothing: all that it is to leave is drafted, then
-//! room is made, and then everything changes without memory.
+//! A service whose requests call other services. Its type keeps that what it keeps fits its journal, and each of its events
+//! does what the event means, or wants memory and changes nothing.
 #![tactic(auto)]
 
-mod applying;
-mod arriving;
-mod calls;
-mod early;
-mod going;
-mod outcome;
 mod service;
 mod stale;
 

@@ -11,8 +11,6 @@ ghost use Rattle.journal_rows.specs.Words.{ordered};
 ghost use Rattle.service_meaning.specs.Orders.{order_event};
 ghost use Rattle.service_repairs.specs.Answers.{answered_by, Steps};
 
-use crate::arriving::arrive;
-use crate::calls::{call_answered, call_failed};
 use crate::stale::first_stale;
 use call_registers::{Registers, Replies, Why};
 use flights::Flights;
@@ -24,6 +22,7 @@ use request_log::Log;
 use service_meaning::{ArriveRefused, Arrived, CallRefused, OrderRefused, Ordered};
 use service_parts::Parts;
 use service_repairs::{order, repair_step};
+use service_requests::{arrive, call_answered, call_failed};
 use std::alloc::Global;
 use std::marker::Model;
 

@@ -1,8 +1,0 @@
-use Rattle.std.proofs.Common.{sym}
-use Rattle.service_parts.specs.Parts.{kept}
-use Rattle.live_service.proofs.ServiceLemmas.{flight_may_end}
-use Rattle.live_service.proofs.calls.draft_answered.Goals as goal
-
-pub hear-requires : goal.hear-requires
-hear-requires c =
-    flight_may_end (kept c.args.parts.now) c.args.id c.in-Some.flight.now c.requires.fits c.requires.few (sym c.in-Some.ensures.found)

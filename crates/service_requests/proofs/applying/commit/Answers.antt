@@ -1,0 +1,14 @@
+use Rattle.std.proofs.Common.{ap, arith}
+use Rattle.service_meaning.specs.State.{Kept}
+use Rattle.service_parts.specs.Rooms.{aloft}
+use Rattle.service_requests.proofs.RoomLemmas.{aloft_without}
+use Rattle.service_requests.proofs.applying.commit.Goals as goal
+
+pub returns-clause-room : goal.returns-clause-room
+returns-clause-room c =
+    let less = aloft_without c.args.flight c.add_entry.new.parts.flights.list in
+    let same = ap (λ (k : Kept). aloft k.flights) c.in_ok-add_entry.ensures.ok in
+    let is = ap aloft c.land.ensures.flights in
+    let rows = c.in_ok-add_entry.ensures.rows in
+    let spare = c.note_counted.ensures.spare in
+    omega (arith, rows, spare, less, same, is)

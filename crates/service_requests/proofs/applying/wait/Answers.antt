@@ -1,0 +1,18 @@
+use Rattle.std.proofs.Common.{◌≡◌, ap, arith}
+use Rattle.flights.specs.Numbers.{with_flight}
+use Rattle.service_meaning.specs.State.{Kept}
+use Rattle.service_parts.specs.Rooms.{aloft}
+use Rattle.service_requests.proofs.RoomLemmas.{aloft_with, on_ok}
+use Rattle.service_requests.proofs.applying.wait.Goals as goal
+
+pub returns-clause-room : goal.returns-clause-room
+returns-clause-room c =
+    let before = c.reserve_flight.new.parts.flights.list in
+    let list : c.put.new.self.list ≡ with_flight c.args.flight before =
+    on_ok c.put.result (c.put.new.self.list ≡ with_flight c.args.flight before) (c.put.ensures.ready c.in_ok-reserve_flight.ensures.flight) c.put.ensures.ok in
+    let put = aloft_with c.args.flight before in
+    let same = ap (λ (k : Kept). aloft k.flights) c.in_ok-reserve_flight.ensures.kept in
+    let is = ap aloft list in
+    let ok = c.in_ok-reserve_flight.ensures.ok in
+    let spare = c.note_counted.ensures.spare in
+    omega (arith, ok, spare, put, same, is)

@@ -1,0 +1,33 @@
+use Rattle.std.proofs.Common.{◌∙◌, ap}
+use Rattle.std.proofs.lemmas.Result.{IfOk-weaker}
+use Rattle.service_meaning.specs.State.{Kept}
+use Rattle.service_meaning.specs.Arriving.{accepted, arrive_event}
+use Rattle.service_meaning.specs.declared.refusals.ArriveRefused.{ArriveRefused}
+use Rattle.event_laws.proofs.BoundLaws.{arrive_bounded}
+use Rattle.event_laws.proofs.FitLaws.{arrive_fits}
+use Rattle.service_parts.specs.Parts.{kept}
+use Rattle.service_requests.specs.Changes.{leaves}
+use Rattle.service_requests.proofs.ArrivalLemmas.{arrive_runs}
+use Rattle.service_requests.proofs.ServiceLemmas.{new_may_end, event_service}
+use Rattle.service_requests.proofs.arriving.enter.Goals as goal
+
+pub begin-requires : goal.begin-requires
+begin-requires c =
+    new_may_end (kept c.args.parts.now) c.args.origin c.args.request c.args.inputs c.requires.service.fits c.requires.runs
+
+pub returns-clause-ok : goal.returns-clause-ok
+returns-clause-ok c =
+    IfOk-weaker c.apply.result _ _
+    (λ arrived h. ap (accepted {E = ArriveRefused}) (h ∙ c.in_ok-outcome.ensures.follows)
+    ∙ arrive_runs (kept c.args.parts.now) c.args.request c.args.inputs c.args.origin c.requires.runs)
+    c.apply.ensures.ok
+
+pub returns-clause-service : goal.returns-clause-service
+returns-clause-service c =
+    let s : Kept = kept c.args.parts.now in
+    event_service c.args.parts.now c.apply.new.parts c.apply.result (leaves s c.in_ok-outcome.outcome)
+    (arrive_event s c.args.origin c.args.request c.args.inputs)
+    (ap (accepted {E = ArriveRefused}) c.in_ok-outcome.ensures.follows ∙ arrive_runs s c.args.request c.args.inputs c.args.origin c.requires.runs)
+    c.apply.ensures.ok c.apply.ensures.err
+    (arrive_fits s c.args.origin c.args.request c.args.inputs c.requires.service.fits) (arrive_bounded s c.args.origin c.args.request c.args.inputs c.requires.service.few)
+    c.apply.ensures.few c.apply.ensures.room c.requires.service

@@ -1,0 +1,17 @@
+use Rattle.std.proofs.Common.{Ok}
+use Rattle.service_meaning.specs.State.{Kept}
+use Rattle.service_meaning.specs.Arriving.{call_answered_event}
+use Rattle.event_laws.proofs.BoundLaws.{call_answered_bounded}
+use Rattle.event_laws.proofs.FitLaws.{call_answered_fits}
+use Rattle.service_parts.specs.Parts.{kept}
+use Rattle.service_requests.specs.Changes.{leaves}
+use Rattle.service_requests.proofs.ServiceLemmas.{event_service}
+use Rattle.service_requests.proofs.calls.call_answered.Goals as goal
+
+pub returns-clause-service : goal.returns-clause-service
+returns-clause-service c =
+    let s : Kept = kept c.args.parts.now in
+    event_service c.args.parts.now c.apply.new.parts (Ok c.in_ok-arrived.arrived) (leaves s c.in_ok-outcome.outcome)
+    (call_answered_event s c.args.id c.args.answer.now) c.in_ok-outcome.ensures.0 c.in_ok-arrived.ensures.ok tt
+    (call_answered_fits s c.args.id c.args.answer.now c.requires.fits) (call_answered_bounded s c.args.id c.args.answer.now c.requires.few)
+    c.in_ok-arrived.ensures.few c.apply.ensures.room c.requires

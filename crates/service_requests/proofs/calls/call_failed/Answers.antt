@@ -1,0 +1,17 @@
+use Rattle.std.proofs.Common.{Ok}
+use Rattle.service_meaning.specs.State.{Kept}
+use Rattle.service_meaning.specs.Arriving.{call_failed_event}
+use Rattle.event_laws.proofs.BoundLaws.{call_failed_bounded}
+use Rattle.event_laws.proofs.FitLaws.{call_failed_fits}
+use Rattle.service_parts.specs.Parts.{kept}
+use Rattle.service_requests.specs.Changes.{leaves}
+use Rattle.service_requests.proofs.ServiceLemmas.{event_service}
+use Rattle.service_requests.proofs.calls.call_failed.Goals as goal
+
+pub returns-clause-service : goal.returns-clause-service
+returns-clause-service c =
+    let s : Kept = kept c.args.parts.now in
+    event_service c.args.parts.now c.apply.new.parts (Ok c.in_ok-arrived.arrived) (leaves s c.in_ok-outcome.outcome)
+    (call_failed_event s c.args.id c.args.number c.args.why) c.in_ok-outcome.ensures.0 c.in_ok-arrived.ensures.ok tt
+    (call_failed_fits s c.args.id c.args.number c.args.why c.requires.fits) (call_failed_bounded s c.args.id c.args.number c.args.why c.requires.few)
+    c.in_ok-arrived.ensures.few c.apply.ensures.room c.requires

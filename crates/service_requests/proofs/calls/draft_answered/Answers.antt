@@ -1,0 +1,8 @@
+use Rattle.std.proofs.Common.{sym}
+use Rattle.service_parts.specs.Parts.{kept}
+use Rattle.service_requests.proofs.ServiceLemmas.{flight_may_end}
+use Rattle.service_requests.proofs.calls.draft_answered.Goals as goal
+
+pub hear-requires : goal.hear-requires
+hear-requires c =
+    flight_may_end (kept c.args.parts.now) c.args.id c.in-Some.flight.now c.requires.fits c.requires.few (sym c.in-Some.ensures.found)

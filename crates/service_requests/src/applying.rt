@@ -1,0 +1,227 @@
+// What is drafted becomes so.
+ghost use Rattle.std.specs.Prelude.{◌≡◌, ◌+◌, ◌<◌, ◌≤◌, ◌^◌, [], ◌∷◌, ◌++◌, length, IfOk, IfSome, OnOk, OnErr, vec_len};
+ghost use Rattle.request_log.specs.Entries.{IsNew};
+ghost use Rattle.call_registers.specs.Replies.{IsAboveAll};
+ghost use Rattle.flights.specs.Numbers.{without_flight};
+ghost use Rattle.service_meaning.specs.State.{after};
+ghost use Rattle.service_parts.specs.Drafts.{with_draft};
+ghost use Rattle.live_drafts.specs.Endings.{ends, listed, CanEnd};
+ghost use Rattle.service_parts.specs.Parts.{kept};
+ghost use Rattle.service_meaning.specs.Flying.{answer_to_caller};
+ghost use Rattle.service_parts.specs.Rooms.{aloft};
+ghost use Rattle.service_parts.specs.declared.draft.Draft.{Draft};
+ghost use Rattle.service_requests.specs.Changes.{leaves, CanLeave, IsReadyFor, with_entries};
+ghost use Rattle.service_parts.specs.Services.{HasRoom};
+
+use crate::early::last_answer;
+use crate::outcome::Outcome;
+use call_registers::{Registers, Replies, Reply};
+use flights::{Flight, Flights};
+use journal_rows::Rows;
+use lang_core::{NoMemory, Origin};
+use live_drafts::Ending;
+use local_repair::Repairer;
+use repair_messages::{AnswerMessage, SetMessage};
+use request_log::Entry;
+use service_meaning::Arrived;
+use service_parts::{Draft, Parts, note_draft, reserve};
+use std::alloc::Global;
+
+// Puts an entry last in a log that isn't full.
+fn append(repairer: &mut Repairer, entry: Entry) -> Result<(), NoMemory>
+    requires is_new { IsNew entry repairer.old.entries }
+    requires few { length repairer.old.entries < 100000 }
+    ensures ok { OnOk result (repairer.new.entries ≡ repairer.old.entries ++ entry ∷ []) }
+    ensures err { OnErr result (repairer.new.entries ≡ repairer.old.entries) }
+{
+    match repairer.append(entry) {
+        Ok(()) => Ok(()),
+        Err(_) => Err(NoMemory),
+    }
+}
+
+#[tactic(auto, using(call_room::proofs::RoomLemmas::made_last))]
+fn ready_reply(replies: &mut Replies, reply: &Option<Reply>) -> Result<(), NoMemory>
+    ensures list { replies.new.list ≡ replies.old.list }
+    ensures ok { OnOk result (IsReadyFor reply.now replies.new.room) }
+{
+    match reply {
+        None => Ok(()),
+        Some(reply) => {
+            replies.ready_add(reply)?;
+            Ok(())
+        }
+    }
+}
+
+fn add_reply(replies: &mut Replies, reply: Option<Reply>)
+    requires above { IfSome reply (λ p. IsAboveAll p.id replies.old.list) }
+    requires ready { IsReadyFor reply replies.old.room }
+    ensures { replies.new.list ≡ replies.old.list ++ listed reply }
+{
+    match reply {
+        None => {}
+        Some(reply) => replies.add(reply).unwrap(),
+    }
+}
+
+// Room for what a commit adds, and then its entry. Refused, nothing changes.
+fn add_entry(
+    parts: &mut Parts,
+    rows: u64,
+    entry: Entry,
+    reply: &Option<Reply>,
+) -> Result<(), NoMemory>
+    requires is_new { IsNew entry parts.old.repairer.entries }
+    requires few { length parts.old.repairer.entries < 100000 }
+    ensures ok { OnOk result (kept parts.new ≡ with_entries (parts.old.repairer.entries ++ entry ∷ []) (kept parts.old)) }
+    ensures rows { OnOk result (rows + aloft parts.old.flights.list ≤ parts.new.journal.spare) }
+    ensures reply { OnOk result (IsReadyFor reply.now parts.new.replies.room) }
+    ensures err { OnErr result (kept parts.new ≡ kept parts.old) }
+    ensures spare { parts.old.journal.spare ≤ parts.new.journal.spare }
+{
+    reserve(&mut parts.journal, rows, parts.flights.as_slice())?;
+    ready_reply(&mut parts.replies, reply)?;
+    append(&mut parts.repairer, entry)
+}
+
+// Puts a draft in place, whose rows and those before can be counted.
+fn note_counted(journal: &mut Rows, registers: &mut Registers, draft: Draft)
+    requires { vec_len draft.rows ≤ journal.old.spare }
+    ensures rows { journal.new.rows ≡ journal.old.rows ++ draft.rows.items }
+    ensures registers { registers.new.list ≡ draft.registers.list }
+    ensures spare { journal.old.spare ≤ journal.new.spare + vec_len draft.rows }
+    ensures few { length journal.new.rows < 2 ^ 64 }
+{
+    note_draft(journal, registers, draft);
+    let _count = journal.len();
+}
+
+// Takes a flight out, and adds its reply.
+fn land(flights: &mut Flights, replies: &mut Replies, flight: u64, reply: Option<Reply>)
+    requires above { IfSome reply (λ p. IsAboveAll p.id replies.old.list) }
+    requires ready { IsReadyFor reply replies.old.room }
+    ensures flights { flights.new.list ≡ without_flight flight flights.old.list }
+    ensures replies { replies.new.list ≡ replies.old.list ++ listed reply }
+{
+    let _landed = flights.remove(flight);
+    add_reply(replies, reply);
+}
+
+// The flight of this number is the last entry of the log.
+fn commit(
+    parts: &mut Parts,
+    draft: Draft,
+    flight: u64,
+    entry: Entry,
+    reply: Option<Reply>,
+    index: u64,
+    answer: Option<AnswerMessage>,
+) -> Result<Arrived, NoMemory>
+    requires can { CanEnd (kept parts.old) (Ending.Commits flight entry reply index) }
+    requires answer { answer ≡ answer_to_caller (with_draft draft (kept parts.old)) entry.origin entry }
+    requires room { HasRoom parts.old }
+    ensures ok { IfOk result (λ arrived. after (kept parts.new) arrived ≡ ends (with_draft draft (kept parts.old)) (Ending.Commits flight entry reply index)) }
+    ensures few { OnOk result (length parts.new.journal.rows < 2 ^ 64) }
+    ensures err { OnErr result (kept parts.new ≡ kept parts.old) }
+    ensures room { HasRoom parts.new }
+{
+    let id = entry.id;
+    add_entry(parts, draft.rows.len() as u64, entry, &reply)?;
+    note_counted(&mut parts.journal, &mut parts.registers, draft);
+    land(&mut parts.flights, &mut parts.replies, flight, reply);
+    Ok(Arrived::Done { index, id, answer })
+}
+
+// Room for a draft's rows and for a flight more, which has so many calls.
+fn reserve_flight(parts: &mut Parts, rows: u64, calls: u64) -> Result<(), NoMemory>
+    ensures kept { kept parts.new ≡ kept parts.old }
+    ensures spare { parts.old.journal.spare ≤ parts.new.journal.spare }
+    ensures ok { OnOk result ((rows + calls) + aloft parts.old.flights.list ≤ parts.new.journal.spare) }
+    ensures flight { OnOk result (0 < parts.new.flights.spare) }
+{
+    let more = rows.checked_add(calls).ok_or(NoMemory)?;
+    reserve(&mut parts.journal, more, parts.flights.as_slice())?;
+    parts.flights.reserve(1)
+}
+
+// The flight waits for the answer of this call.
+fn wait(
+    parts: &mut Parts,
+    draft: Draft,
+    flight: Flight,
+    set: SetMessage,
+) -> Result<Arrived, NoMemory>
+    requires can { CanEnd (kept parts.old) (Ending.Waits flight set) }
+    requires room { HasRoom parts.old }
+    ensures ok { IfOk result (λ arrived. after (kept parts.new) arrived ≡ ends (with_draft draft (kept parts.old)) (Ending.Waits flight set)) }
+    ensures few { OnOk result (length parts.new.journal.rows < 2 ^ 64) }
+    ensures err { OnErr result (kept parts.new ≡ kept parts.old) }
+    ensures room { HasRoom parts.new }
+{
+    let id = flight.id;
+    reserve_flight(parts, draft.rows.len() as u64, flight.calls.len())?;
+    note_counted(&mut parts.journal, &mut parts.registers, draft);
+    parts.flights.put(flight).unwrap();
+    Ok(Arrived::Call { flight: id, set })
+}
+
+// What goes back to the caller of a committed call.
+fn answer_to_caller(
+    alloc: Global,
+    parts: &Parts,
+    entry: &Entry,
+) -> Result<Option<AnswerMessage>, NoMemory>
+    ensures { (d : Draft) → IfOk result (λ answer. answer ≡ answer_to_caller (with_draft d (kept parts.now)) entry.now.origin entry.now) }
+{
+    match (&entry.origin, &entry.made) {
+        (Origin::Call { caller, number }, Some(made)) => {
+            let answer = last_answer(alloc, parts, caller, *number, entry, made)?;
+            Ok(Some(answer))
+        }
+        (Origin::Call { .. }, None) => Ok(None),
+        (Origin::Outside, _) => Ok(None),
+    }
+}
+
+// The same, where what goes back to the caller isn't made yet.
+fn commit_answering(
+    alloc: Global,
+    parts: &mut Parts,
+    draft: Draft,
+    flight: u64,
+    entry: Entry,
+    reply: Option<Reply>,
+    index: u64,
+) -> Result<Arrived, NoMemory>
+    requires can { CanEnd (kept parts.old) (Ending.Commits flight entry reply index) }
+    requires room { HasRoom parts.old }
+    ensures ok { IfOk result (λ arrived. after (kept parts.new) arrived ≡ ends (with_draft draft (kept parts.old)) (Ending.Commits flight entry reply index)) }
+    ensures few { OnOk result (length parts.new.journal.rows < 2 ^ 64) }
+    ensures err { OnErr result (kept parts.new ≡ kept parts.old) }
+    ensures room { HasRoom parts.new }
+{
+    let answer = answer_to_caller(alloc, parts, &entry)?;
+    commit(parts, draft, flight, entry, reply, index, answer)
+}
+
+/// Puts an outcome in place. Room for all of it is made first; refused, nothing changes.
+pub(crate) fn apply(alloc: Global, parts: &mut Parts, outcome: Outcome) -> Result<Arrived, NoMemory>
+    requires can { CanLeave (kept parts.old) outcome }
+    requires room { HasRoom parts.old }
+    ensures ok { IfOk result (λ arrived. after (kept parts.new) arrived ≡ leaves (kept parts.old) outcome) }
+    ensures few { OnOk result (length parts.new.journal.rows < 2 ^ 64) }
+    ensures err { OnErr result (kept parts.new ≡ kept parts.old) }
+    ensures room { HasRoom parts.new }
+{
+    let Outcome { draft, ending } = outcome;
+    match ending {
+        Ending::Commits {
+            flight,
+            entry,
+            reply,
+            index,
+        } => commit_answering(alloc, parts, draft, flight, entry, reply, index),
+        Ending::Waits { flight, set } => wait(parts, draft, flight, set),
+    }
+}

@@ -1,0 +1,145 @@
+// What a live request is answered without a run.
+ghost use Rattle.std.specs.Prelude.{◌≡◌, ◌≤◌, Err, Ok, IfOk, option_map};
+ghost use Rattle.lang_core.specs.declared.ids.Origin.{Origin};
+ghost use Rattle.request_log.specs.Entries.{find_call};
+ghost use Rattle.journal_rows.specs.Words.{last_taken};
+ghost use Rattle.service_meaning.specs.State.{in_all};
+ghost use Rattle.service_meaning.specs.Flying.{last_answer};
+ghost use Rattle.service_parts.specs.Parts.{kept};
+ghost use Rattle.service_meaning.specs.Doing.{arrive_memory};
+ghost use Rattle.service_requests.specs.Arrivals.{Says, early, by_made, by_entry, deletion_in, unless_deleted, known, too_much, refusal, before_run};
+
+use journal_rows::last_taken;
+use lang_core::{Name, NoMemory, Origin};
+use repair_messages::{AnswerMessage, copied_pair};
+use request_log::{Entry, Made};
+use service_meaning::{ArriveRefused, Arrived};
+use service_parts::Parts;
+use service_repairs::{is_crowded, is_heavy};
+use std::alloc::Global;
+
+/// The last answer of an entry, to the call that it comes from.
+pub(crate) fn last_answer(
+    alloc: Global,
+    parts: &Parts,
+    caller: &Name,
+    number: u64,
+    entry: &Entry,
+    made: &Made,
+) -> Result<AnswerMessage, NoMemory>
+    ensures { IfOk result (λ answer. answer ≡ last_answer (kept parts.now) caller.now number entry.now made.now) }
+{
+    let (caller, callee) = copied_pair(alloc, caller, &parts.setting.me)?;
+    let (response, who) = copied_pair(alloc, &made.trace.response, parts.setting.me.text())?;
+    Ok(AnswerMessage {
+        caller,
+        callee,
+        id: entry.id,
+        number,
+        answer_version: entry.answer_version,
+        version: made.version,
+        response,
+        who,
+    })
+}
+
+fn by_made(
+    alloc: Global,
+    parts: &Parts,
+    caller: &Name,
+    number: u64,
+    entry: &Entry,
+) -> Result<Option<Arrived>, ArriveRefused>
+    ensures { Says arrive_memory result (early result ≡ by_made (kept parts.now) caller.now number entry.now entry.now.made) }
+{
+    match &entry.made {
+        None => Err(ArriveRefused::NotYet(number)),
+        Some(made) => {
+            let answer = last_answer(alloc, parts, caller, number, entry, made)?;
+            Ok(Some(Arrived::Known(answer)))
+        }
+    }
+}
+
+fn by_entry(
+    alloc: Global,
+    parts: &Parts,
+    caller: &Name,
+    number: u64,
+) -> Result<Option<Arrived>, ArriveRefused>
+    ensures { Says arrive_memory result (early result ≡ by_entry (kept parts.now) caller.now number (find_call (Origin.Call caller.now number) parts.now.repairer.entries)) }
+{
+    match parts.repairer.log().find_origin(caller, number) {
+        None => Ok(None),
+        Some(entry) => by_made(alloc, parts, caller, number, entry),
+    }
+}
+
+// The version of the call's deletion, if it was deleted.
+fn deletion(parts: &Parts, caller: &Name, number: u64) -> Option<u64>
+    ensures { result ≡ deletion_in (last_taken caller.now number parts.now.journal.rows) }
+{
+    let taken = last_taken(parts.journal.as_slice(), caller, number)?;
+    match &taken.desired {
+        None => Some(taken.version),
+        Some(_) => None,
+    }
+}
+
+fn by_deletion(
+    alloc: Global,
+    parts: &Parts,
+    caller: &Name,
+    number: u64,
+) -> Result<Option<Arrived>, ArriveRefused>
+    ensures { Says arrive_memory result (early result ≡ unless_deleted (deletion_in (last_taken caller.now number parts.now.journal.rows)) (by_entry (kept parts.now) caller.now number (find_call (Origin.Call caller.now number) parts.now.repairer.entries))) }
+{
+    match deletion(parts, caller, number) {
+        Some(version) => Err(ArriveRefused::Gone(version)),
+        None => by_entry(alloc, parts, caller, number),
+    }
+}
+
+// What a call that was here before is answered.
+fn known(alloc: Global, parts: &Parts, origin: &Origin) -> Result<Option<Arrived>, ArriveRefused>
+    ensures { Says arrive_memory result (early result ≡ known (kept parts.now) origin.now) }
+{
+    match origin {
+        Origin::Outside => Ok(None),
+        Origin::Call { caller, number } => {
+            if parts.flights.has_origin(origin) {
+                return Err(ArriveRefused::NotYet(*number));
+            }
+            by_deletion(alloc, parts, caller, *number)
+        }
+    }
+}
+
+// The number of entries and flights counts first.
+fn admit(parts: &Parts) -> Result<Option<Arrived>, ArriveRefused>
+    requires { in_all (kept parts.now) ≤ 100000 }
+    ensures { early result ≡ option_map refusal (too_much (kept parts.now)) }
+{
+    if let Some(count) = is_crowded(parts) {
+        return Err(ArriveRefused::Full(count));
+    }
+    if let Some(weight) = is_heavy(parts) {
+        return Err(ArriveRefused::Full(weight));
+    }
+    Ok(None)
+}
+
+/// What a live request is answered without a run, as it is known or there is too much; None exactly where it is to run.
+pub(crate) fn before_run(
+    alloc: Global,
+    parts: &Parts,
+    origin: &Origin,
+) -> Result<Option<Arrived>, ArriveRefused>
+    requires { in_all (kept parts.now) ≤ 100000 }
+    ensures { Says arrive_memory result (early result ≡ before_run (kept parts.now) origin.now) }
+{
+    match known(alloc, parts, origin)? {
+        Some(arrived) => Ok(Some(arrived)),
+        None => admit(parts),
+    }
+}

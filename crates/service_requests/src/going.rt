@@ -1,0 +1,67 @@
+// What follows where a flight goes on.
+ghost use Rattle.std.specs.Prelude.{◌≡◌, IfOk};
+ghost use Rattle.service_meaning.specs.Arriving.{new_flight};
+ghost use Rattle.service_meaning.specs.Flying.{goes_on};
+ghost use Rattle.service_parts.specs.Drafts.{with_draft};
+ghost use Rattle.live_drafts.specs.Endings.{MayEnd};
+ghost use Rattle.service_parts.specs.Parts.{kept};
+ghost use Rattle.service_requests.specs.Changes.{leaves, CanLeave};
+
+use crate::outcome::Outcome;
+use flights::Flight;
+use lang_core::{Inputs, NoMemory, Origin, Request, Seq};
+use live_drafts::go_on;
+use service_parts::{Draft, Parts, start};
+use std::alloc::Global;
+
+/// What follows where a flight goes on after what is drafted.
+pub(crate) fn follow(
+    alloc: Global,
+    parts: &Parts,
+    mut draft: Draft,
+    flight: &Flight,
+) -> Result<Outcome, NoMemory>
+    requires { MayEnd (kept parts.now) flight.now }
+    ensures follows { IfOk result (λ outcome. leaves (kept parts.now) outcome ≡ goes_on (with_draft draft (kept parts.now)) flight.now) }
+    ensures can { IfOk result (λ outcome. CanLeave (kept parts.now) outcome) }
+{
+    let ending = go_on(alloc, parts, &mut draft, flight)?;
+    Ok(Outcome { draft, ending })
+}
+
+fn new_flight(
+    alloc: Global,
+    parts: &Parts,
+    origin: Origin,
+    request: Request,
+    inputs: Inputs,
+) -> Flight
+    ensures { result ≡ new_flight (kept parts.now) origin request inputs }
+{
+    Flight {
+        id: parts.flights.free_number(),
+        origin,
+        request,
+        inputs,
+        calls: Seq::new(alloc),
+        numbers: Seq::new(alloc),
+        changes: 0,
+    }
+}
+
+/// What follows where a live request begins.
+pub(crate) fn begin(
+    alloc: Global,
+    parts: &Parts,
+    origin: Origin,
+    request: Request,
+    inputs: Inputs,
+) -> Result<Outcome, NoMemory>
+    requires { MayEnd (kept parts.now) (new_flight (kept parts.now) origin request inputs) }
+    ensures follows { IfOk result (λ outcome. leaves (kept parts.now) outcome ≡ goes_on (kept parts.now) (new_flight (kept parts.now) origin request inputs)) }
+    ensures can { IfOk result (λ outcome. CanLeave (kept parts.now) outcome) }
+{
+    let flight = new_flight(alloc, parts, origin, request, inputs);
+    let draft = start(alloc, parts)?;
+    follow(alloc, parts, draft, &flight)
+}
