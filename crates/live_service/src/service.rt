@@ -2,12 +2,13 @@
 ghost use Rattle.std.specs.Prelude.{◌≡◌, [], IfOk, MatchOption, Ok, IfSome};
 ghost use Rattle.local_repair.specs.Current.{AllCurrent, rows_of};
 ghost use Rattle.local_repair.specs.Repairs.{IsStaleId};
-ghost use Rattle.service_meaning.specs.State.{answers};
-ghost use Rattle.service_meaning.specs.Arriving.{arrive_event, call_answered_event, call_failed_event};
+ghost use Rattle.service_meaning.specs.State.{after, answers};
+ghost use Rattle.service_meaning.specs.Arriving.{abandon_event, arrive_event, call_answered_event, call_failed_event};
 ghost use Rattle.service_meaning.specs.Fits.{Fits};
 ghost use Rattle.live_service.specs.Events.{fresh, awaited_by, first_stale};
-ghost use Rattle.service_meaning.specs.Doing.{arrive_memory, call_memory, order_memory, Does};
+ghost use Rattle.service_meaning.specs.Doing.{answer_memory, arrive_memory, call_memory, order_memory, post_memory, Does};
 ghost use Rattle.journal_rows.specs.Words.{ordered};
+ghost use Rattle.service_meaning.specs.Messages.{take_answer_event, posted_event};
 ghost use Rattle.service_meaning.specs.Orders.{order_event};
 ghost use Rattle.service_repairs.specs.Answers.{answered_by, Steps};
 
@@ -17,9 +18,14 @@ use flights::Flights;
 use journal_rows::{Command, Rows};
 use lang_core::{Cells, Inputs, NoMemory, Origin, Request, Setting, Text};
 use local_repair::{Repairer, Stepped};
-use repair_messages::AnswerMessage;
+use repair_messages::{AnswerMessage, Post};
 use request_log::Log;
-use service_meaning::{ArriveRefused, Arrived, CallRefused, OrderRefused, Ordered};
+use service_abandons::abandon;
+use service_hears::{posted, take_answer};
+use service_meaning::{
+    AnswerRefused, ArriveRefused, Arrived, CallRefused, Heard, OrderRefused, Ordered, PostRefused,
+    PostReply, Posted,
+};
 use service_parts::Parts;
 use service_repairs::{order, repair_step};
 use service_requests::{arrive, call_answered, call_failed};
@@ -175,6 +181,14 @@ impl Service {
         call_failed(alloc, &mut self.parts, flight, number, why)
     }
 
+    /// The flight of this number is gone, and its calls are to have no effect; false exactly where there is none, and then
+    /// nothing changes. It takes no memory: room for its rows was made when its calls were named.
+    pub fn abandon(&mut self, flight: u64) -> bool
+        ensures { after self.new result ≡ abandon_event self.old flight }
+    {
+        abandon(&mut self.parts, flight)
+    }
+
     /// Runs the first stale entry again, if there is one, and settles its calls. Where none is stale the answer is Idle, which
     /// takes no memory.
     pub fn repair_step(&mut self, alloc: Global) -> Result<Stepped, NoMemory>
@@ -199,5 +213,31 @@ impl Service {
         ensures repeated { IfSome (answered_by (ordered token self.old.journal)) (λ answer. result ≡ Ok answer) }
     {
         order(alloc, &mut self.parts, command, token, who, inputs)
+    }
+
+    /// An answer to one of its calls came by a message. It is confirmed, and kept where it is newer than the answer that is
+    /// held. It is refused where no call to that service has its number.
+    pub fn take_answer(
+        &mut self,
+        alloc: Global,
+        answer: AnswerMessage,
+    ) -> Result<Heard, AnswerRefused>
+        ensures { Does answer_memory (take_answer_event self.old answer) self.old result self.new }
+    {
+        take_answer(alloc, &mut self.parts, answer)
+    }
+
+    /// Something came back of a post. It is noted where the post was acknowledged or confirmed; a refusal that the receiver's
+    /// rules or its want of knowledge give holds the post, where its version is the current one; else the post is left as it
+    /// is. It is refused where the service never had that post at that version, or the reply is to another one.
+    pub fn posted(
+        &mut self,
+        alloc: Global,
+        post: &Post,
+        reply: PostReply,
+    ) -> Result<Posted, PostRefused>
+        ensures { Does post_memory (posted_event self.old post.now reply) self.old result self.new }
+    {
+        posted(alloc, &mut self.parts, post, reply)
     }
 }

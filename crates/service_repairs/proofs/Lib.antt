@@ -1,2 +1,1 @@
-mod ServiceLemmas
 mod RepairLemmas

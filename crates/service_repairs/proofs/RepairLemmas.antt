@@ -21,7 +21,7 @@ use Rattle.repair_laws.proofs.BoundLaws.{accepted_named, step_bounded, order_bou
 use Rattle.repair_drafts.specs.Ordering.{MayOrder}
 use Rattle.service_parts.specs.Services.{HasRoom, IsService}
 use Rattle.service_repairs.specs.Answers.{Steps}
-use Rattle.service_repairs.proofs.ServiceLemmas.{same_service, next_service}
+use Rattle.service_laws.proofs.ServiceLaws.{same_service, next_service}
 
 -- ---- a step
 

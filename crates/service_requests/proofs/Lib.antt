@@ -1,4 +1,3 @@
 pub mod ArrivalLemmas
 pub mod CallLemmas
-pub mod RoomLemmas
 pub mod ServiceLemmas

@@ -1,5 +1,5 @@
 -- What a service's type keeps: a flight of it may end, and what an event leaves is a service again.
-use Rattle.std.proofs.Common.{◌≡◌, ◌∙◌, sym, ap, subst, ℕ, ◌<◌, ◌≤◌, ◌^◌, Bool, List, [], ◌∷◌, length, find, Some, None, Result, Ok, Err, IfOk, OnOk, OnErr, arith}
+use Rattle.std.proofs.Common.{◌≡◌, ◌∙◌, sym, ap, ℕ, ◌<◌, ◌≤◌, ◌^◌, Bool, List, [], ◌∷◌, length, find, Some, None, Result, Ok, Err, IfOk, OnOk, OnErr, arith}
 use Rattle.lang_base.specs.declared.memory.NoMemory.{NoMemory}
 use Rattle.lang_core.specs.declared.ids.Origin.{Origin}
 use Rattle.lang_core.specs.declared.inputs.Inputs.{Inputs}
@@ -21,6 +21,7 @@ use Rattle.service_parts.specs.Parts.{kept}
 use Rattle.service_parts.specs.declared.parts.Parts.{Parts}
 use Rattle.service_requests.specs.Arrivals.{before_run}
 use Rattle.service_parts.specs.Services.{HasRoom, IsService}
+use Rattle.service_laws.proofs.ServiceLaws.{same_service, next_service}
 use Rattle.service_requests.proofs.ArrivalLemmas.{may_run}
 
 -- ---- the end of a flight
@@ -59,24 +60,6 @@ new_may_end s o q i fits runs =
     }
 
 -- ---- what is left
-
--- where nothing but its room changed
-pub same_service : (p p' : Parts) → kept p' ≡ kept p → HasRoom p' → IsService p → IsService p'
-same_service p p' same room h =
-    record {
-      fits = subst Fits (sym same) h.fits;
-      few = subst IsBounded (sym same) h.few;
-      room = room;
-    }
-
--- where it is what an event leaves that keeps what fits
-pub next_service : (p : Parts) (s : Kept) → kept p ≡ s → (IsFew s → Fits s) → IsBounded s → length p.journal.rows < 2 ^ 64 → HasRoom p → IsService p
-next_service p s same fits few rows room =
-    record {
-      fits = subst Fits (sym same) (fits (subst IsFew same rows));
-      few = subst IsBounded (sym same) few;
-      room = room;
-    }
 
 -- where an outcome of an event that keeps what fits was put in place, or was refused for want of memory
 pub event_service : {A E : Type 0} (p p' : Parts) (result : Result A NoMemory) (left : After A) (event : After (Result A E)) → accepted left ≡ event

@@ -2,7 +2,7 @@ use Rattle.std.proofs.Common.{◌≡◌, ap, arith}
 use Rattle.flights.specs.Numbers.{with_flight}
 use Rattle.service_meaning.specs.State.{Kept}
 use Rattle.service_parts.specs.Rooms.{aloft}
-use Rattle.service_requests.proofs.RoomLemmas.{aloft_with, on_ok}
+use Rattle.service_laws.proofs.RoomLemmas.{aloft_with, on_ok}
 use Rattle.service_requests.proofs.applying.wait.Goals as goal
 
 pub returns-clause-room : goal.returns-clause-room

@@ -1,8 +1,8 @@
 -- Room for the abandonment of flights, as flights come and go.
-use Rattle.std.proofs.Common.{◌≡◌, ℕ, ◌+◌, ◌≤◌, List, [], ◌∷◌, length, Result, Ok, Err, IsOk, OnOk, nat_lt, inl, inr, arith}
+use Rattle.std.proofs.Common.{◌≡◌, ℕ, ◌+◌, ◌≤◌, List, [], ◌∷◌, length, Some, Result, Ok, Err, IsOk, OnOk, ap, nat_lt, inl, inr, arith}
 use Rattle.std.proofs.lemmas.Bool.{cases_Bool}
 use Rattle.std.proofs.lemmas.List.Sums.{sum_by-cons}
-use Rattle.flights.specs.Numbers.{has_flight, without_flight, put_flight, with_flight}
+use Rattle.flights.specs.Numbers.{has_flight, flight_in, without_flight, put_flight, with_flight}
 use Rattle.flights.specs.declared.flight.Flight.{Flight}
 use Rattle.service_parts.specs.Rooms.{aloft}
 
@@ -17,6 +17,22 @@ aloft_without id (f ∷ fs) =
     elim (cases_Bool (has_flight id f)) [
       | inl is ↦ rw is (omega (arith, rest, all))
       | inr other ↦ rw other (let left = aloft_cons f (without_flight id fs) in omega (arith, rest, all, left))
+    ]
+
+-- what a flight that is gone leaves room for
+pub aloft_removed : (id : ℕ) (f : Flight) (fs : List Flight) → flight_in id fs ≡ Some f → length f.calls + aloft (without_flight id fs) ≤ aloft fs
+aloft_removed id f [] found = cc
+aloft_removed id f (g ∷ gs) found =
+    let all = aloft_cons g gs in
+    elim (cases_Bool (has_flight id g)) [
+      | inl is ↦ (let here : Some g ≡ Some f = rw is at found in
+          let same : g ≡ f = cc in
+          let calls : length g.calls ≡ length f.calls = ap (λ (x : Flight). length x.calls) same in
+          let rest = aloft_without id gs in
+          rw is (omega (arith, rest, all, calls)))
+      | inr other ↦ (let rest = aloft_removed id f gs (rw other at found) in
+          let left = aloft_cons g (without_flight id gs) in
+          rw other (omega (arith, rest, all, left)))
     ]
 
 aloft_put : (f : Flight) (gs : List Flight) → aloft (put_flight f gs) ≡ length f.calls + aloft gs

@@ -1,0 +1,2 @@
+mod HearLemmas
+mod PostLemmas
