@@ -1,34 +1,37 @@
 // A service, and its events.
-ghost use Rattle.std.specs.Prelude.{◌≡◌, [], IfOk, MatchOption, Ok, IfSome};
+ghost use Rattle.std.specs.Prelude.{◌≡◌, [], IfOk, MatchOption, Ok, Some, IfSome, IsSome};
 ghost use Rattle.local_repair.specs.Current.{AllCurrent, rows_of};
 ghost use Rattle.local_repair.specs.Repairs.{IsStaleId};
 ghost use Rattle.service_meaning.specs.State.{after, answers};
 ghost use Rattle.service_meaning.specs.Arriving.{abandon_event, arrive_event, call_answered_event, call_failed_event};
 ghost use Rattle.service_meaning.specs.Fits.{Fits};
 ghost use Rattle.live_service.specs.Events.{fresh, awaited_by, first_stale};
-ghost use Rattle.service_meaning.specs.Doing.{answer_memory, arrive_memory, call_memory, order_memory, post_memory, Does};
+ghost use Rattle.service_meaning.specs.Doing.{answer_memory, arrive_memory, call_memory, order_memory, post_memory, take_memory, Does};
 ghost use Rattle.journal_rows.specs.Words.{ordered};
-ghost use Rattle.service_meaning.specs.Messages.{take_answer_event, posted_event};
+ghost use Rattle.service_meaning.specs.Messages.{take_event, take_answer_event, posted_event};
 ghost use Rattle.service_meaning.specs.Orders.{order_event};
+ghost use Rattle.service_meaning.specs.Posts.{next_post, write_post};
 ghost use Rattle.service_repairs.specs.Answers.{answered_by, Steps};
 
 use crate::stale::first_stale;
 use call_registers::{Registers, Replies, Why};
 use flights::Flights;
 use journal_rows::{Command, Rows};
-use lang_core::{Cells, Inputs, NoMemory, Origin, Request, Setting, Text};
+use lang_core::{Cells, Inputs, Name, NoMemory, Origin, Request, Setting, Text};
 use local_repair::{Repairer, Stepped};
-use repair_messages::{AnswerMessage, Post};
+use repair_messages::{AnswerMessage, Post, PostName, SetMessage};
 use request_log::Log;
 use service_abandons::abandon;
 use service_hears::{posted, take_answer};
 use service_meaning::{
     AnswerRefused, ArriveRefused, Arrived, CallRefused, Heard, OrderRefused, Ordered, PostRefused,
-    PostReply, Posted,
+    PostReply, Posted, TakeRefused, Taken,
 };
 use service_parts::Parts;
+use service_posts::{next_post, write_post};
 use service_repairs::{order, repair_step};
 use service_requests::{arrive, call_answered, call_failed};
+use service_takes::take;
 use std::alloc::Global;
 use std::marker::Model;
 
@@ -215,6 +218,20 @@ impl Service {
         order(alloc, &mut self.parts, command, token, who, inputs)
     }
 
+    /// A version of another service's call came by a message. It is refused where that call is in flight, and where there is
+    /// too much. One that isn't above the version that was taken is acknowledged again; any other is taken, and where its
+    /// call has no entry and asks something, one is made, which never ran.
+    pub fn take(
+        &mut self,
+        alloc: Global,
+        set: SetMessage,
+        inputs: Inputs,
+    ) -> Result<Taken, TakeRefused>
+        ensures { Does take_memory (take_event self.old set inputs) self.old result self.new }
+    {
+        take(alloc, &mut self.parts, &set, inputs)
+    }
+
     /// An answer to one of its calls came by a message. It is confirmed, and kept where it is newer than the answer that is
     /// held. It is refused where no call to that service has its number.
     pub fn take_answer(
@@ -239,5 +256,24 @@ impl Service {
         ensures { Does post_memory (posted_event self.old post.now reply) self.old result self.new }
     {
         posted(alloc, &mut self.parts, post, reply)
+    }
+
+    /// The post that goes to another service next: the oldest that is outstanding; None exactly where none is. It has a
+    /// message.
+    pub fn next_post(&self, dest: &Name) -> Option<PostName>
+        ensures next { result ≡ next_post dest.now self.now }
+        ensures written { IfSome result (λ name. IsSome (write_post self.now name)) }
+    {
+        next_post(&self.parts, dest)
+    }
+
+    /// The message of a post as it is now, of which there is one: that of a call of this number, or the last answer of an
+    /// entry of this number that has a reply. A call of version 1 names its neighbours among the wanted calls to the same
+    /// service, in logged order.
+    pub fn write_post(&self, alloc: Global, name: PostName) -> Result<Post, NoMemory>
+        requires { IsSome (write_post self.now name) }
+        ensures { IfOk result (λ post. write_post self.now name ≡ Some post) }
+    {
+        write_post(alloc, &self.parts, name)
     }
 }

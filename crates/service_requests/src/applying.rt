@@ -13,7 +13,6 @@ ghost use Rattle.service_parts.specs.declared.draft.Draft.{Draft};
 ghost use Rattle.service_requests.specs.Changes.{leaves, CanLeave, IsReadyFor, with_entries};
 ghost use Rattle.service_parts.specs.Services.{HasRoom};
 
-use crate::early::last_answer;
 use crate::outcome::Outcome;
 use call_registers::{Registers, Replies, Reply};
 use flights::{Flight, Flights};
@@ -25,6 +24,7 @@ use repair_messages::{AnswerMessage, SetMessage};
 use request_log::Entry;
 use service_meaning::Arrived;
 use service_parts::{Draft, Parts, note_draft, reserve};
+use service_posts::last_answer;
 use std::alloc::Global;
 
 // Puts an entry last in a log that isn't full.

@@ -1,47 +1,21 @@
 // What a live request is answered without a run.
-ghost use Rattle.std.specs.Prelude.{◌≡◌, ◌≤◌, Err, Ok, IfOk, option_map};
+ghost use Rattle.std.specs.Prelude.{◌≡◌, ◌≤◌, Err, Ok, option_map};
 ghost use Rattle.lang_core.specs.declared.ids.Origin.{Origin};
 ghost use Rattle.request_log.specs.Entries.{find_call};
 ghost use Rattle.journal_rows.specs.Words.{last_taken};
 ghost use Rattle.service_meaning.specs.State.{in_all};
-ghost use Rattle.service_meaning.specs.Flying.{last_answer};
 ghost use Rattle.service_parts.specs.Parts.{kept};
 ghost use Rattle.service_meaning.specs.Doing.{arrive_memory};
 ghost use Rattle.service_requests.specs.Arrivals.{Says, early, by_made, by_entry, deletion_in, unless_deleted, known, too_much, refusal, before_run};
 
 use journal_rows::last_taken;
-use lang_core::{Name, NoMemory, Origin};
-use repair_messages::{AnswerMessage, copied_pair};
-use request_log::{Entry, Made};
+use lang_core::{Name, Origin};
+use request_log::Entry;
 use service_meaning::{ArriveRefused, Arrived};
 use service_parts::Parts;
+use service_posts::last_answer;
 use service_repairs::{is_crowded, is_heavy};
 use std::alloc::Global;
-
-/// The last answer of an entry, to the call that it comes from.
-pub(crate) fn last_answer(
-    alloc: Global,
-    parts: &Parts,
-    caller: &Name,
-    number: u64,
-    entry: &Entry,
-    made: &Made,
-) -> Result<AnswerMessage, NoMemory>
-    ensures { IfOk result (λ answer. answer ≡ last_answer (kept parts.now) caller.now number entry.now made.now) }
-{
-    let (caller, callee) = copied_pair(alloc, caller, &parts.setting.me)?;
-    let (response, who) = copied_pair(alloc, &made.trace.response, parts.setting.me.text())?;
-    Ok(AnswerMessage {
-        caller,
-        callee,
-        id: entry.id,
-        number,
-        answer_version: entry.answer_version,
-        version: made.version,
-        response,
-        who,
-    })
-}
 
 fn by_made(
     alloc: Global,
