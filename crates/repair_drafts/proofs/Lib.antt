@@ -1,3 +1,3 @@
-mod BookLemmas
+pub mod BookLemmas
 mod RepairLemmas
-mod OrderLemmas
+pub mod OrderLemmas

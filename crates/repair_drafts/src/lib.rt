@@ -7,5 +7,5 @@ mod ordering;
 mod repairing;
 mod settling;
 
-pub use ordering::{RULE, about, accept};
+pub use ordering::{RULE, about, accept, created, insert, next_id};
 pub use repairing::repair;

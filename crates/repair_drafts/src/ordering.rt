@@ -1,6 +1,6 @@
 // The orders of operators.
 ghost use Rattle.std.specs.Prelude.{◌≡◌, ◌+◌, ◌<◌, ◌≤◌, [], ◌∷◌, ◌++◌, None, IfOk, OnOk, OnErr, find, insert, length, option_map};
-ghost use Rattle.request_log.specs.Entries.{has_id};
+ghost use Rattle.request_log.specs.Entries.{has_id, IsNew};
 ghost use Rattle.create_placement.specs.Placement.{created, place_between};
 ghost use Rattle.service_meaning.specs.State.{next_id};
 ghost use Rattle.service_meaning.specs.Calls.{noted};
@@ -29,7 +29,8 @@ fn next_of(log: &Log) -> u64
     log.as_slice().len() as u64 + 1
 }
 
-fn next_id(parts: &Parts) -> u64
+/// The number of the next entry.
+pub fn next_id(parts: &Parts) -> u64
     ensures { result ≡ next_id (kept parts.now) }
 {
     next_of(parts.repairer.log())
@@ -238,8 +239,8 @@ fn order_rows(
 
 // ---- what it does
 
-// The entry of a request that never ran.
-fn created(alloc: Global, id: u64, request: Request, inputs: Inputs) -> Entry
+/// The entry of a request from outside that never ran.
+pub fn created(alloc: Global, id: u64, request: Request, inputs: Inputs) -> Entry
     ensures { result ≡ created id request inputs }
 {
     Entry {
@@ -254,6 +255,19 @@ fn created(alloc: Global, id: u64, request: Request, inputs: Inputs) -> Entry
         slots: Seq::new(alloc),
         answer_version: 0,
         runs: 0,
+    }
+}
+
+/// Puts an entry at a place of a log that isn't full, counted from 0. Refused, the log stays.
+pub fn insert(repairer: &mut Repairer, at: u64, entry: Entry) -> Result<(), NoMemory>
+    requires within { at ≤ length repairer.old.entries }
+    requires is_new { IsNew entry repairer.old.entries }
+    ensures ok { OnOk result (repairer.new.entries ≡ insert repairer.old.entries at entry) }
+    ensures err { OnErr result (repairer.new.entries ≡ repairer.old.entries) }
+{
+    match repairer.insert(at, entry) {
+        Ok(()) => Ok(()),
+        Err(_) => Err(NoMemory),
     }
 }
 
@@ -272,10 +286,7 @@ fn create(
 {
     let at = place(repairer.log(), before, after);
     let entry = created(alloc, next_of(repairer.log()), request, inputs);
-    match repairer.insert(at, entry) {
-        Ok(()) => Ok(()),
-        Err(_) => Err(NoMemory),
-    }
+    insert(repairer, at, entry)
 }
 
 // A held post is sent again, for this user.
