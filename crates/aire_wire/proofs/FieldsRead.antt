@@ -21,7 +21,7 @@ use Rattle.repair_messages.specs.declared.messages.SetMessage.{SetMessage}
 use Rattle.request_names.specs.Ids.{id_text}
 use Rattle.request_names.specs.Ids.{id_of}
 use Rattle.wire_fields.specs.Forms.{has_form}
-use Rattle.wire_fields.specs.Rows.{field_refusal, first_of, text_at}
+use Rattle.wire_fields.specs.Rows.{field_refusal, text_at}
 use Rattle.wire_fields.specs.Secrets.{has_name}
 use Rattle.wire_fields.specs.declared.refused.WireRefused.{WireRefused}
 use Rattle.wire_fields.specs.declared.refused.WireRefused.TheVariants.{Seal}
@@ -32,6 +32,7 @@ use Rattle.aire_wire.specs.Written.{chain_text}
 use Rattle.aire_wire.specs.declared.incoming.Incoming.{Incoming}
 use Rattle.wire_fields.proofs.SealLemmas.{text_same, seal_form, seal_utf8}
 use Rattle.wire_fields.proofs.SpeltLemmas.{decimal_utf8, id_back, id_utf8, name_utf8, number_back}
+use Rattle.wire_laws.proofs.Refusals.{fits}
 use Rattle.aire_wire.proofs.TextForms.{chain_read, chain_utf8, who_utf8}
 
 -- ---- fields
@@ -81,14 +82,8 @@ none_refused head header text wanted holds fine = rw (holds, fine.utf8, fine.for
 pub text_read : (head : Entries FieldValue) (header : AireHeader) (text : List ℕ) → Holds head header text → is_utf8 text ≡ true → text_at head header ≡ text
 text_read head header text holds utf8 = rw (holds, utf8) refl
 
-pub neither : (first second : Option WireRefused) → first ≡ None → second ≡ None → first_of first second ≡ None
-neither first second a b = rw a b
-
 pub answered : (why : Option WireRefused) (read message : Incoming) → why ≡ None → read ≡ message → unless_refused why read ≡ Ok message
 answered why read message none same = rw none (ap Ok same)
-
-pub fits : (header : AireHeader) (b : Bool) → b ≡ true → bad_unless header b ≡ None
-fits header b is = rw is refl
 
 -- a text that stands where it is expected
 pub stands : (header : AireHeader) (text wanted : List ℕ) → text ≡ wanted → bad_unless header (same_text text wanted) ≡ None

@@ -2,6 +2,7 @@
 use Rattle.std.proofs.Common.{◌≡◌, ℕ, ◌+◌, ◌-◌, ◌<◌, Bool, true, false, not, List, [], ◌∷◌, ◌++◌, length, take, drop, nat_eq, nat_le, ◌==◌, codes, refl, sym, ap, ◌∙◌, ◌&&◌, ◌||◌, arith, length-append}
 use Rattle.std.specs.List.{list_all, flat_map, starts_with, ends_with, All}
 use Rattle.std.specs.Str.{is_utf8, IsAscii}
+use Rattle.std.proofs.Math.Bool.{or-true}
 use Rattle.std.proofs.Math.Seq.{take-append_seam, drop-append-add}
 use Rattle.std.proofs.lemmas.Bool.Decides.{nat_tests}
 use Rattle.std.proofs.lemmas.List.{append-nil, append_assoc}
@@ -57,10 +58,6 @@ chain_read name (next ∷ names) all =
     slice_split_at (λ b. b == 44) name 44 (chain_text (next ∷ names)) (name_without_comma name both.0) refl
     ∙ ap (λ rest. name ∷ rest) (chain_read next names both.1)
 
-or_true : (b : Bool) → b || true ≡ true
-or_true true = refl
-or_true false = refl
-
 behind : (front last : List ℕ) → length (front ++ last) - length last ≡ length front
 behind front last = omega (arith, length-append front last)
 
@@ -73,7 +70,7 @@ ends : (front last : List ℕ) → ends_with nat_eq (front ++ last) last ≡ tru
 ends front last = rw (last_drop front last) (text_same last)
 
 after_comma : (front : List ℕ) → is_behind_comma (front ++ 44 ∷ []) ≡ true
-after_comma front = rw (ends front (44 ∷ [])) (or_true (nat_eq (length (front ++ 44 ∷ [])) 0))
+after_comma front = rw (ends front (44 ∷ [])) (or-true (nat_eq (length (front ++ 44 ∷ [])) 0))
 
 ends_named : (front name : List ℕ) → is_behind_comma front ≡ true → ends_with_name (front ++ name) name ≡ true
 ends_named front name comma =

@@ -1,5 +1,6 @@
 -- Each call of a run hands on who called for its request, the service itself last, and goes to a peer that is none of these.
 use Rattle.std.proofs.Common.{◌≡◌, ℕ, pos, negsuc, ◌+◌, ◌/◌, Bool, true, false, ◌||◌, List, [], ◌∷◌, ◌++◌, Contains, map, length, Option, Some, None, Ok, Err, find, nat_le, nat_eq, nat_lt, slice_get, refl, sym, ◌∙◌, subst, cond}
+use Rattle.std.proofs.lemmas.Bool.{or_parts}
 use Rattle.std.proofs.lemmas.List.Elements.{Contains-append_left, Contains-append_right, Contains-push}
 use Rattle.std.proofs.lemmas.List.Folds.{list_any-append}
 use Rattle.lang_base.specs.Texts.{same_text}
@@ -42,10 +43,6 @@ pub record IsOnward (name : List ℕ) (peers : List (List ℕ)) (q : Request) (c
   pub fresh : is_among c.dest (chain_behind name q) ≡ false
   pub peer : Contains peers c.dest
 
-neither : (a b : Bool) → (a || b) ≡ false → (a ≡ false) × (b ≡ false)
-neither true b h = cc
-neither false b h = (refl, h)
-
 either : (a b : Bool) → a ≡ false → b ≡ false → (b || (a || false)) ≡ false
 either true b h k = cc
 either false true h k = cc
@@ -54,7 +51,7 @@ either false false h k = refl
 -- what is no loop isn't in the chain behind
 not_among : (g : Given) (dest : List ℕ) → is_loop g dest ≡ false → is_among dest (chain_behind g.me g.request) ≡ false
 not_among g dest h =
-    let parts = neither (same_text g.me dest) (is_among dest g.request.chain) h in
+    let parts = or_parts (same_text g.me dest) (is_among dest g.request.chain) h in
     list_any-append (λ n. same_text n dest) g.request.chain (g.me ∷ []) ∙ either (same_text g.me dest) (is_among dest g.request.chain) parts.0 parts.1
 
 in_middle : (before : List (List ℕ)) (peer : List ℕ) (rest : List (List ℕ)) → Contains (before ++ peer ∷ rest) peer

@@ -4,6 +4,7 @@ use Rattle.std.proofs.Math.Nat.{mul-le-mul_left}
 use Rattle.std.proofs.lemmas.Bool.{eq-eqb}
 use Rattle.std.proofs.lemmas.List.Folds.{list_any-append}
 use Rattle.std.proofs.lemmas.List.Sums.{sum_by-cons, sum_by-append}
+use Rattle.std.proofs.lemmas.Slice.Eq.{bytes_eq-Decides}
 use Rattle.lang_base.specs.Texts.{same_text}
 use Rattle.entry_laws.proofs.SearchLemmas.{text_is}
 use Rattle.ask_laws.specs.Weights.{is_among, left_by, cost}
@@ -17,10 +18,6 @@ or_none false false = refl
 
 among_more : (n d : List ℕ) (chain : List (List ℕ)) → is_among n (chain ++ d ∷ []) ≡ (is_among n chain || same_text d n)
 among_more n d chain = list_any-append (λ m. same_text m n) chain (d ∷ []) ∙ or_none (is_among n chain) (same_text d n)
-
-text_same : (t : List ℕ) → same_text t t ≡ true
-text_same [] = refl
-text_same (x ∷ xs) = (let here : nat_eq x x ≡ true = eq-eqb x x refl in rw here (text_same xs))
 
 no_more : (a b : Bool) (j k : ℕ) → j ≤ k → (if a || b then j else suc j) ≤ (if a then k else suc k)
 no_more true b j k h = h
@@ -49,7 +46,7 @@ left_fewer true d n chain names same among fresh rest =
     let F : List ℕ → Type 0 = λ t. is_among t chain ≡ false in
     let here : is_among n chain ≡ false = subst F (sym is) fresh in
     let S : List ℕ → Type 0 = λ t. same_text d t ≡ true in
-    let back : same_text d n ≡ true = subst S (sym is) (text_same d) in
+    let back : same_text d n ≡ true = subst S (sym is) ((bytes_eq-Decides d d).1 refl) in
     rw (among_more n d chain) (less_here (is_among n chain) (same_text d n) (left_by (chain ++ d ∷ []) names) (left_by chain names) here back (left_more d chain names))
 left_fewer false d n chain names same among fresh rest =
     rw (among_more n d chain) (less_there (is_among n chain) (same_text d n) (left_by (chain ++ d ∷ []) names) (left_by chain names) (rest among))

@@ -5,7 +5,7 @@ use Rattle.std.specs.List.{position_or_len}
 use Rattle.std.proofs.lemmas.Bool.{cases_Bool}
 use Rattle.std.proofs.lemmas.List.Folds.{find_at}
 use Rattle.std.proofs.lemmas.List.Sums.{sum_by-set}
-use Rattle.std.proofs.lemmas.Option.{slice_get_within, slice_get-get_or}
+use Rattle.std.proofs.lemmas.Option.{same_Some, slice_get_within, slice_get-get_or}
 use Rattle.std.proofs.Math.Seq.{map-set_same}
 use Rattle.lang_core.specs.declared.ids.Origin.TheVariants.{Outside, Call as CallOrigin}
 use Rattle.lang_core.specs.declared.request.Request.{Request}
@@ -92,9 +92,6 @@ record IsAt (name : List ℕ) (services : List Kept) (s : Kept) : Type 0 where
   is : s ≡ get_or services (position_or_len (has_name name) services) s
   named : me s ≡ name
 
-some_is : {X : Type 0} (x y : X) → Some x ≡ Some y → x ≡ y
-some_is x y e = cc
-
 is_at : (name : List ℕ) (services : List Kept) (s : Kept) → service_of name services ≡ Some s → IsAt name services s
 is_at name services s e =
     let at = position_or_len (has_name name) services in
@@ -102,7 +99,7 @@ is_at name services s e =
     let within = slice_get_within services at s got in
     record {
       within = within;
-      is = some_is s (get_or services at s) (sym got ∙ slice_get-get_or services at s within);
+      is = same_Some s (get_or services at s) (sym got ∙ slice_get-get_or services at s within);
       named = text_is (me s) name (splits (has_name name) services s e).passes;
     }
 

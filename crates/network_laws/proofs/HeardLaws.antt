@@ -1,5 +1,6 @@
 -- A flight waits for one call at most: of each other it heard an answer, or was told why there is none.
 use Rattle.std.proofs.Common.{◌≡◌, ℕ, zero, suc, ◌+◌, ◌-◌, ◌<◌, ◌≤◌, ◌⊎◌, ◌||◌, Bool, true, false, List, [], ◌∷◌, ◌++◌, Option, Some, None, IsSome, IsSomeAnd, All, find, fold, length, max, nat_eq, nat_le, option_map, is_some, set, slice_get, take, inl, inr, refl, sym, ◌∙◌, subst, arith, eq-eqb}
+use Rattle.std.proofs.Math.Bool.{or-true}
 use Rattle.std.proofs.lemmas.Bool.{cases_Bool, cond_both, cond-true}
 use Rattle.std.proofs.lemmas.List.Elements.{All-weaker}
 use Rattle.lang_core.specs.Traces.{dead_trace}
@@ -31,9 +32,10 @@ use Rattle.call_laws.proofs.RegisterLemmas.{find-change}
 use Rattle.call_laws.proofs.RowLemmas.{Each, each_append, each_weaker, each_of_all, all_of_each}
 use Rattle.entry_laws.proofs.AloftLemmas.{IsAloft, named_became, changed_became}
 use Rattle.entry_laws.proofs.LiveRuns.{named_aloft, changed_aloft}
-use Rattle.entry_laws.proofs.OwnLemmas.{AreWithin, within_push, within_set}
+use Rattle.entry_laws.proofs.OwnLemmas.{AreWithin, within_more, within_push, within_set}
 use Rattle.network_meaning.specs.Live.{IsHeardOf, WaitsForOne, is_heard}
-use Rattle.network_laws.proofs.LivedLaws.{without_all, with_all, call_keeps}
+use Rattle.entry_laws.proofs.LiveLaws.{call_keeps}
+use Rattle.network_laws.proofs.LivedLaws.{without_all, with_all}
 
 -- ---- what was heard of stays heard of
 
@@ -64,17 +66,13 @@ named_sound d at = record { number = λ r. refl; heard = λ r h. h }
 ack_sound : (v : ℕ) → IsSound (with_ack v)
 ack_sound v = record { number = λ r. refl; heard = λ r h. h }
 
-or_true : (b : Bool) → (b || true) ≡ true
-or_true true = refl
-or_true false = refl
-
 answer_number : (x : Answer) (r : Register) → (with_answer x r).number ≡ r.number
 answer_number x r = cond_both (is_newer r.answer x.answer_version) (record r { answer = Some x }) r (λ y. y.number ≡ r.number) (λ _. refl) (λ _. refl)
 
 answer_sound : (x : Answer) → IsSound (with_answer x)
 answer_sound x = record {
   number = answer_number x;
-  heard = λ r h. cond_both (is_newer r.answer x.answer_version) (record r { answer = Some x }) r (λ y. is_heard y ≡ true) (λ _. or_true (is_some r.told)) (λ _. h);
+  heard = λ r h. cond_both (is_newer r.answer x.answer_version) (record r { answer = Some x }) r (λ y. is_heard y ≡ true) (λ _. or-true (is_some r.told)) (λ _. h);
 }
 
 cause_sound : (why : Why) → IsSound (with_cause why)
@@ -193,10 +191,6 @@ named_waits rs rs' next f hears within ns is h =
     one : awaited f ≤ next → (n : ℕ) → (next ≤ n) ⊎ IsHeardOf n rs → (awaited f ≤ n) ⊎ IsHeardOf n rs'
     one most n (inl above) = inl (omega (arith, most, above))
     one most n (inr heard) = inr (hears n heard)
-
-within_more : (most more : ℕ) (ns : List ℕ) → most ≤ more → AreWithin most ns → AreWithin more ns
-within_more most more [] l h = tt
-within_more most more (n ∷ ns) l h = (let here = h.0 in (omega (arith, l, here), within_more most more ns l h.1))
 
 not_yet : (rs : List Register) (ns : List ℕ) → AllHeard rs ns → Each (λ n. (next_number rs ≤ n) ⊎ IsHeardOf n rs) ns
 not_yet rs ns h = each_weaker (λ n. IsHeardOf n rs) (λ n. (next_number rs ≤ n) ⊎ IsHeardOf n rs) (λ n x. inr x) ns h

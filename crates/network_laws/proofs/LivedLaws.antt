@@ -28,6 +28,7 @@ use Rattle.service_meaning.specs.declared.answers.Arrived.{Arrived}
 use Rattle.service_meaning.specs.declared.answers.Arrived.TheVariants.{Done, Call as Sends, Known}
 use Rattle.call_laws.proofs.CallLaws.{Grows}
 use Rattle.call_laws.proofs.RowLemmas.{Each, each_append, each_weaker}
+use Rattle.entry_laws.proofs.LiveLaws.{call_keeps}
 use Rattle.world_meaning.specs.Partners.{HasSent, HasAnswered}
 
 -- ---- what it leaves
@@ -195,11 +196,6 @@ change_names : (s : Kept) (f : Flight) (slot : ℕ) (c : CallMade) → Each IsNa
 change_names s f slot c =
     each_append IsNaming (deletion s (slice_get f.numbers slot) (slice_get f.calls slot)) (named (next_number s.registers) c ∷ [])
     (deletion_names s (slice_get f.numbers slot) (slice_get f.calls slot)) (refl, tt)
-
-pub call_keeps : (P : After Arrived → Type 0) (o : Option CallMade) (go : CallMade → After Arrived) (never : After Arrived) → ((c : CallMade) → P (go c)) → P never
-    → P (call_or_none o go never)
-call_keeps P None go never each last = last
-call_keeps P (Some c) go never each last = each c
 
 -- ---- a flight goes on
 

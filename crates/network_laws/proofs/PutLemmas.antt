@@ -3,6 +3,7 @@ use Rattle.std.proofs.Common.{◌≡◌, ℕ, zero, suc, cond, List, [], ◌∷�
 use Rattle.std.specs.List.{position_or_len}
 use Rattle.std.proofs.lemmas.Bool.{cases_Bool, cond-true, cond-false}
 use Rattle.std.proofs.lemmas.List.Elements.{All-cons, All-head, All-tail}
+use Rattle.std.proofs.lemmas.Option.{same_Some}
 use Rattle.lang_base.specs.Texts.{same_text}
 use Rattle.service_meaning.specs.State.{Kept, me}
 use Rattle.call_laws.proofs.CallLaws.{Grows}
@@ -33,9 +34,6 @@ same_name s t g = ap (λ x. x.me) g.setting
 abbrev pub Grew : List Kept → List Kept → Type 0
 Grew old new = (name : List ℕ) (x : Kept) → service_of name old ≡ Some x → (y : Kept) × (service_of name new ≡ Some y) × Grows x y
 
-some_is : (x y : Kept) → Some x ≡ Some y → x ≡ y
-some_is x y e = cc
-
 module _ (name : List ℕ) (s t : Kept) (g : Grows s t) where
   named : (n : List ℕ) (x : Kept) → x ≡ s → has_name n t ≡ has_name n x
   named n x is = ap (λ m. same_text m n) (same_name s t g ∙ ap me (sym is))
@@ -43,7 +41,7 @@ module _ (name : List ℕ) (s t : Kept) (g : Grows s t) where
   pub grew_put : (xs : List Kept) → service_of name xs ≡ Some s → Grew xs (put name t xs)
   grew_put [] here n x found = cc
   grew_put (z ∷ zs) here n x found = elim (cases_Bool (has_name name z)) [
-    | inl is ↦ (let it : z ≡ s = some_is z s (sym (cond-true (has_name name z) (Some z) (service_of name zs) is) ∙ here) in rw is (in_place z zs it n x found))
+    | inl is ↦ (let it : z ≡ s = same_Some z s (sym (cond-true (has_name name z) (Some z) (service_of name zs) is) ∙ here) in rw is (in_place z zs it n x found))
     | inr other ↦ rw other
         (let behind = sym (cond-false (has_name name z) (Some z) (service_of name zs) other) ∙ here in before z zs n x (λ e. grew_put zs behind n x e) found)
   ]
@@ -54,7 +52,7 @@ module _ (name : List ℕ) (s t : Kept) (g : Grows s t) where
         | inl is ↦ (
           t,
           cond-true (has_name n t) (Some t) (service_of n zs) (named n z it ∙ is),
-          subst (λ y. Grows y t) (sym it ∙ some_is z x (sym (cond-true (has_name n z) (Some z) (service_of n zs) is) ∙ found)) g,
+          subst (λ y. Grows y t) (sym it ∙ same_Some z x (sym (cond-true (has_name n z) (Some z) (service_of n zs) is) ∙ found)) g,
         )
         | inr other ↦ (
           x,
@@ -82,7 +80,7 @@ module _ (name : List ℕ) (s t : Kept) (g : Grows s t) where
   pub found_put : (xs : List Kept) → service_of name xs ≡ Some s → service_of name (put name t xs) ≡ Some t
   found_put [] here = cc
   found_put (z ∷ zs) here = elim (cases_Bool (has_name name z)) [
-    | inl is ↦ (let it : z ≡ s = some_is z s (sym (cond-true (has_name name z) (Some z) (service_of name zs) is) ∙ here) in
+    | inl is ↦ (let it : z ≡ s = same_Some z s (sym (cond-true (has_name name z) (Some z) (service_of name zs) is) ∙ here) in
         rw is (cond-true (has_name name t) (Some t) (service_of name zs) (named name z it ∙ is)))
     | inr other ↦ rw other
         (cond-false (has_name name z) (Some z) (service_of name (put name t zs)) other
@@ -93,7 +91,7 @@ module _ (name : List ℕ) (s t : Kept) (g : Grows s t) where
   name_at : (xs : List Kept) → service_of name xs ≡ Some s → (i : ℕ) (d : Kept) → me (get_or (put name t xs) i d) ≡ me (get_or xs i d)
   name_at [] here i d = refl
   name_at (z ∷ zs) here i d = elim (cases_Bool (has_name name z)) [
-    | inl is ↦ (let it : z ≡ s = some_is z s (sym (cond-true (has_name name z) (Some z) (service_of name zs) is) ∙ here) in rw is (in_place z zs it i))
+    | inl is ↦ (let it : z ≡ s = same_Some z s (sym (cond-true (has_name name z) (Some z) (service_of name zs) is) ∙ here) in rw is (in_place z zs it i))
     | inr other ↦ rw other (let behind = sym (cond-false (has_name name z) (Some z) (service_of name zs) other) ∙ here in before z zs (λ k. name_at zs behind k d) i)
   ]
     where

@@ -1,3 +1,4 @@
 pub mod PlainForms
+pub mod Refusals
 pub mod MadeHeads
 pub mod SameFields

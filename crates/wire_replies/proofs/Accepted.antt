@@ -19,6 +19,7 @@ use Rattle.wire_fields.specs.declared.refused.WireRefused.{WireRefused}
 use Rattle.wire_fields.specs.declared.refused.WireRefused.TheVariants as refused
 use Rattle.wire_fields.proofs.SealLemmas.{text_same}
 use Rattle.wire_fields.proofs.SpeltLemmas.{id_back}
+use Rattle.wire_laws.proofs.Refusals.{fits}
 use Rattle.wire_replies.specs.Kinds.{reply_headers}
 use Rattle.wire_replies.specs.Reading.{ids_refusal, reply_refusal, reply_seal_refusal, sealed_bytes}
 use Rattle.wire_replies.specs.declared.kinds.ReplyKind.{ReplyKind}
@@ -38,9 +39,6 @@ said head header text f = rw (f.there, (and_parts (is_utf8 text) (has_form heade
 pub one_more : (head : Entries FieldValue) (header : AireHeader) (others : List AireHeader) (text : List ℕ) → IsField head header text
     → first_refusal head true others ≡ None → first_refusal head true (header ∷ others) ≡ None
 one_more head header others text f rest = rw (fine head header text f, rest) refl
-
-fits : (header : AireHeader) (b : Bool) → b ≡ true → bad_unless header b ≡ None
-fits header b is = rw is refl
 
 same_service : (left right name : List ℕ) → left ≡ name → right ≡ name → same_text left right ≡ true
 same_service left right name l r = rw (l, r) (text_same name)

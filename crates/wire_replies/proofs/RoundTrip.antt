@@ -29,6 +29,7 @@ use Rattle.wire_replies.specs.declared.kinds.ReplyKind.{ReplyKind}
 use Rattle.wire_replies.specs.declared.kinds.ReplyKind.TheVariants as kinds
 use Rattle.wire_replies.specs.declared.replies.Outgoing.{Outgoing}
 use Rattle.wire_replies.specs.declared.replies.Outgoing.TheVariants as replies
+use Rattle.wire_laws.proofs.Refusals.{neither}
 use Rattle.wire_replies.proofs.Accepted.{IsField, accepted, number_of_id, one_more, said, side_fits}
 use Rattle.std.proofs.lemmas.Bool.{and_from}
 
@@ -62,9 +63,6 @@ id_number head header name n is from_one small f =
 
 accepts : (refusal : Option WireRefused) (reply expected : Outgoing) → refusal ≡ None → reply ≡ expected → unless_refused refusal reply ≡ Ok expected
 accepts refusal reply expected none same = rw (none, same) refl
-
-none_of_two : (a b : Option WireRefused) → a ≡ None → b ≡ None → first_of a b ≡ None
-none_of_two a b p q = rw (p, q) refl
 
 -- the services between which a reply goes, and its seal
 record IsBetween (me peer secret : List ℕ) (kind : ReplyKind) (response : WireResponse) : Type 0 where
@@ -107,7 +105,7 @@ live_reads me peer secret i k v a response b i_from i_small k_from k_small v_sma
     (one_more response.head headers.From (headers.Dest ∷ headers.RequestId ∷ headers.ResponseId ∷ headers.Version ∷ headers.AnswerVersion ∷ []) me b.from (one_more response.head headers.Dest (headers.RequestId ∷ headers.ResponseId ∷ headers.Version ∷ headers.AnswerVersion ∷ []) peer b.dest
     (one_more response.head headers.RequestId (headers.ResponseId ∷ headers.Version ∷ headers.AnswerVersion ∷ []) (id_text me i) id (one_more response.head headers.ResponseId (headers.Version ∷ headers.AnswerVersion ∷ []) (id_text peer k) call
     (one_more response.head headers.Version (headers.AnswerVersion ∷ []) (decimal v) version (one_more response.head headers.AnswerVersion [] (decimal a) answer refl))))))
-    (none_of_two (side_refusal response.head headers.RequestId headers.From) (side_refusal response.head headers.ResponseId headers.Dest)
+    (neither (side_refusal response.head headers.RequestId headers.From) (side_refusal response.head headers.ResponseId headers.Dest)
     (side_fits response.head headers.RequestId headers.From me i b.my_name i_from i_small id b.from)
     (side_fits response.head headers.ResponseId headers.Dest peer k b.peer_name k_from k_small call b.dest)))
     (same_live me peer (text_at response.head headers.From) (text_at response.head headers.Dest) i k v a

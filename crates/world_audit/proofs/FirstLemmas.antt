@@ -7,7 +7,7 @@ use Rattle.flights.specs.declared.flight.Flight.{Flight}
 use Rattle.service_meaning.specs.State.{Kept, answers}
 use Rattle.world_meaning.specs.Partners.{HasPartner}
 use Rattle.world_audit.specs.First.{IsFirstWithout}
-use Rattle.world_audit.specs.Verdicts.{IsAcknowledged, IsGiven, IsDone, IsFirstIn, IsFirstOf, IsJoinedIn, IsForged}
+use Rattle.world_audit.specs.Verdicts.{IsAcknowledged, IsGiven, NoneOf, IsFirstIn, IsFirstOf, IsJoinedIn, IsForged}
 use Rattle.world_audit.specs.declared.outstanding.Kind.{Kind}
 use Rattle.world_audit.specs.declared.outstanding.Kind.TheVariants.{Flights, Entries, Calls, Answers}
 
@@ -27,16 +27,16 @@ none_flying : (fs : List Flight) (n : ℕ) → IsSomeAnd (slice_get fs 0) (λ f.
 none_flying [] n f none = f
 none_flying (g ∷ gs) n f none = cc
 
-not_done : (kind : Kind) (s : Kept) (number : ℕ) → IsFirstIn kind s number → ¬ (IsDone kind s)
+not_done : (kind : Kind) (s : Kept) (number : ℕ) → IsFirstIn kind s number → ¬ (NoneOf kind s)
 not_done Flights s number f done = none_flying s.flights number f done
 not_done Entries s number f done = none_first (answers s) s.entries f.place done f.first
 not_done Calls s number f done = not_all IsAcknowledged s.registers f.place f.first done
 not_done Answers s number f done = not_all IsGiven s.replies f.place f.first done
 
-pub found_first : (kind : Kind) (services : List Kept) (at number : ℕ) (s : Kept) → at < length services → AllWithin (IsDone kind) services 0 at → s ≡ get_or services at s
+pub found_first : (kind : Kind) (services : List Kept) (at number : ℕ) (s : Kept) → at < length services → AllWithin (NoneOf kind) services 0 at → s ≡ get_or services at s
     → IsFirstIn kind s number → IsFirstOf kind services at number
 found_first kind services at number s l before is f = record {
-  service = first_without (IsDone kind) services at s l before is (not_done kind s number f);
+  service = first_without (NoneOf kind) services at s l before is (not_done kind s number f);
   first = held_at (λ x. IsFirstIn kind x number) services at s l is f;
 }
 

@@ -3,6 +3,7 @@ use Rattle.std.proofs.Common.{◌≡◌, ◌↔◌, ℕ, zero, suc, Bool, true, 
 use Rattle.std.specs.List.{list_any}
 use Rattle.std.proofs.lemmas.Bool.{cases_Bool, and_from, and_parts}
 use Rattle.std.proofs.lemmas.List.Folds.{list_any_at}
+use Rattle.std.proofs.lemmas.Slice.Eq.{bytes_eq-Decides}
 use Rattle.lang_base.proofs.EqualLemmas.{equal-true, equal-same}
 use Rattle.lang_base.specs.Equal.{equal}
 use Rattle.lang_base.specs.Texts.{same_text}
@@ -122,15 +123,11 @@ sent_told w journal = (
   λ c. passes_any (sends w) journal (Sent w) c (equal-same sent_row.the_row.coded w w refl),
 )
 
-text_same : (t : List ℕ) → same_text t t ≡ true
-text_same [] = refl
-text_same (x ∷ xs) = and_from (nat_eq x x) (same_text xs xs) (eq-eqb x x refl) (text_same xs)
-
 acked_told : (c : List ℕ) (n v : ℕ) (journal : List Row) → IsTold (list_any (acknowledges c n v) journal) (HasAcked c n v journal)
 acked_told c n v journal = (
   λ h. (let x = any_passes (acknowledges c n v) journal h in let P : Row → Type 0 = Contains journal in subst P (acknowledges_is c n v x.element x.passes) x.there),
   λ there. passes_any (acknowledges c n v) journal (Acked (record { caller = c; number = n; version = v })) there
-      (and_from (same_text c c) (nat_eq n n && nat_eq v v) (text_same c) (and_from (nat_eq n n) (nat_eq v v) (eq-eqb n n refl) (eq-eqb v v refl))),
+      (and_from (same_text c c) (nat_eq n n && nat_eq v v) ((bytes_eq-Decides c c).1 refl) (and_from (nat_eq n n) (nat_eq v v) (eq-eqb n n refl) (eq-eqb v v refl))),
 )
 
 confirmed_told : (n av : ℕ) (journal : List Row) → IsTold (list_any (confirms n av) journal) (HasConfirmed n av journal)

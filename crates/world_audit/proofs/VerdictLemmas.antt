@@ -7,17 +7,17 @@ use Rattle.journal_rows.specs.declared.verdict.Verdict.TheVariants.{Legal, Forge
 use Rattle.service_meaning.specs.State.{Kept}
 use Rattle.world_meaning.specs.Partners.{IsJoined}
 use Rattle.world_meaning.specs.Quiet.{IsQuiet, AreQuiet}
-use Rattle.world_audit.specs.Verdicts.{IsDone, IsJoinedIn, IsForged, IsUnsettled, IsVerdict, AreDone, SaysForged, SaysUnsettled, kind_of}
+use Rattle.world_audit.specs.Verdicts.{NoneOf, IsJoinedIn, IsForged, IsUnsettled, IsVerdict, NoneIn, SaysForged, SaysUnsettled, kind_of}
 use Rattle.world_audit.specs.declared.outstanding.Kind.{Kind}
 use Rattle.world_audit.specs.declared.outstanding.Kind.TheVariants.{Flights, Entries, Calls, Answers}
 use Rattle.world_audit.proofs.FirstLemmas.{not_all}
 
 -- quiet is that nothing of any kind is outstanding
-pub all_quiet : (services : List Kept) → AreDone Flights services → AreDone Entries services → AreDone Calls services → AreDone Answers services → AreQuiet services
+pub all_quiet : (services : List Kept) → NoneIn Flights services → NoneIn Entries services → NoneIn Calls services → NoneIn Answers services → AreQuiet services
 all_quiet services flights entries calls answers k d l =
     record { landed = flights k d l; current = entries k d l; acknowledged = calls k d l; given = answers k d l }
 
-done_of : (kind : Kind) (s : Kept) → IsQuiet s → IsDone kind s
+done_of : (kind : Kind) (s : Kept) → IsQuiet s → NoneOf kind s
 done_of Flights s q = q.landed
 done_of Entries s q = q.current
 done_of Calls s q = q.acknowledged
@@ -29,7 +29,7 @@ not_joined services at index f joined = not_all (IsJoinedIn services) services a
 not_quiet : (services : List Kept) (at : ℕ) (what : Outstanding) → IsUnsettled services at what → ¬ (AreQuiet services)
 not_quiet services at what u quiet =
     let kind = kind_of what in
-    not_all (IsDone kind) services at (u.first).service (All-weaker IsQuiet (IsDone kind) (done_of kind) services quiet)
+    not_all (NoneOf kind) services at (u.first).service (All-weaker IsQuiet (NoneOf kind) (done_of kind) services quiet)
 
 pub legal_exactly : (services : List Kept) (v : Verdict) → IsVerdict services v → (v ≡ Legal) ↔ (IsJoined services × AreQuiet services)
 legal_exactly services Legal h = (λ _. h, λ _. refl)

@@ -25,11 +25,11 @@ abbrev pub IsGiven : Reply → Type 0
 IsGiven p = p.due ≡ false
 
 -- nothing of this kind is outstanding of a service
-abbrev pub IsDone : Kind → Kept → Type 0
-IsDone Flights s = s.flights ≡ []
-IsDone Entries s = AllCurrent (answers s) [] s.entries
-IsDone Calls s = All IsAcknowledged s.registers
-IsDone Answers s = All IsGiven s.replies
+abbrev pub NoneOf : Kind → Kept → Type 0
+NoneOf Flights s = s.flights ≡ []
+NoneOf Entries s = AllCurrent (answers s) [] s.entries
+NoneOf Calls s = All IsAcknowledged s.registers
+NoneOf Answers s = All IsGiven s.replies
 
 -- the first of this kind that is outstanding of a service has this number
 abbrev pub IsFirstIn : Kind → Kept → ℕ → Type 0
@@ -40,18 +40,18 @@ IsFirstIn Answers s number = IsFirstNumber IsGiven (λ p. p.id) s.replies number
 
 -- nothing of this kind is outstanding of the services before the one at this place, and the first there has this number
 pub record IsFirstOf (kind : Kind) (services : List Kept) (at number : ℕ) : Type 0 where
-  pub service : IsFirstWithout (IsDone kind) services at
+  pub service : IsFirstWithout (NoneOf kind) services at
   pub first : HoldsAt (λ s. IsFirstIn kind s number) services at
 
-abbrev pub AreDone : Kind → List Kept → Type 0
-AreDone kind services = All (IsDone kind) services
+abbrev pub NoneIn : Kind → List Kept → Type 0
+NoneIn kind services = All (NoneOf kind) services
 
 -- nothing of an earlier kind is outstanding
-abbrev pub EarlierDone : Kind → List Kept → Type 0
-EarlierDone Flights services = Unit {0}
-EarlierDone Entries services = AreDone Flights services
-EarlierDone Calls services = AreDone Flights services × AreDone Entries services
-EarlierDone Answers services = AreDone Flights services × AreDone Entries services × AreDone Calls services
+abbrev pub NoneEarlier : Kind → List Kept → Type 0
+NoneEarlier Flights services = Unit {0}
+NoneEarlier Entries services = NoneIn Flights services
+NoneEarlier Calls services = NoneIn Flights services × NoneIn Entries services
+NoneEarlier Answers services = NoneIn Flights services × NoneIn Entries services × NoneIn Calls services
 
 abbrev pub what_is : Kind → ℕ → Outstanding
 what_is Flights n = OfFlight n
@@ -85,7 +85,7 @@ pub record IsForged (services : List Kept) (at index : ℕ) : Type 0 where
 -- each row has its partner, and this is the first that is outstanding: by kind, then by service, then within it
 pub record IsUnsettled (services : List Kept) (at : ℕ) (what : Outstanding) : Type 0 where
   pub joined : IsJoined services
-  pub earlier : EarlierDone (kind_of what) services
+  pub earlier : NoneEarlier (kind_of what) services
   pub first : IsFirstOf (kind_of what) services at (number_of what)
 
 abbrev pub IsVerdict : List Kept → Verdict → Type 0

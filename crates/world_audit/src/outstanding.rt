@@ -1,7 +1,7 @@
 // What is outstanding of a service.
 ghost use Rattle.std.specs.Prelude.{◌≡◌, [], IsSomeAnd, MatchOption, slice_get, All};
 ghost use Rattle.world_audit.specs.First.{IsFirstNumber};
-ghost use Rattle.world_audit.specs.Verdicts.{IsAcknowledged, IsGiven, IsDone, IsFirstIn, what_is};
+ghost use Rattle.world_audit.specs.Verdicts.{IsAcknowledged, IsGiven, NoneOf, IsFirstIn, what_is};
 
 use call_registers::{Register, Reply};
 use flights::Flight;
@@ -54,7 +54,7 @@ fn first_answer(replies: &[Reply]) -> Option<u64>
 
 /// The number of the first of a kind that is outstanding of a service; None exactly where nothing of it is.
 pub fn first_in(kind: Kind, service: &Service) -> Option<u64>
-    ensures { MatchOption result (IsDone kind service.now) (IsFirstIn kind service.now) }
+    ensures { MatchOption result (NoneOf kind service.now) (IsFirstIn kind service.now) }
 {
     match kind {
         Kind::Flights => first_flight(service.flights().as_slice()),

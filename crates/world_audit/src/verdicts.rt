@@ -5,7 +5,7 @@ ghost use Rattle.journal_rows.specs.declared.verdict.Verdict.TheVariants.{Legal}
 ghost use Rattle.world_meaning.specs.Partners.{HasPartner, IsJoined};
 ghost use Rattle.world_meaning.specs.Quiet.{AreQuiet};
 ghost use Rattle.world_audit.specs.First.{IsFirstWithout};
-ghost use Rattle.world_audit.specs.Verdicts.{IsFirstOf, IsForged, IsVerdict, AreDone, what_is, SaysForged, SaysUnsettled};
+ghost use Rattle.world_audit.specs.Verdicts.{IsFirstOf, IsForged, IsVerdict, NoneIn, what_is, SaysForged, SaysUnsettled};
 
 use crate::outstanding::{Kind, first_in, outstanding};
 use crate::partners::has_partner;
@@ -50,7 +50,7 @@ fn forged(services: &[Service]) -> Option<Found>
 
 // The first of a kind that is outstanding.
 fn first_of(kind: Kind, services: &[Service]) -> Option<Found>
-    ensures { MatchOption result (AreDone kind services.now) (λ f. IsFirstOf kind services.now f.at f.number) }
+    ensures { MatchOption result (NoneIn kind services.now) (λ f. IsFirstOf kind services.now f.at f.number) }
 {
     for (at, service) in services.iter().enumerate() {
         if let Some(number) = first_in(kind, service) {
