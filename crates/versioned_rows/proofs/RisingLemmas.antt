@@ -1,6 +1,7 @@
 -- Which labels of a rising list stand before one.
-use Rattle.std.proofs.Common.{◌≡◌, ◌≢◌, ℕ, zero, suc, ◌<◌, ◌≤◌, Bool, true, false, cond, List, [], ◌∷◌, Option, Some, None, length, get_or, take, drop, not, map, nat_eq, subst, refl, sym, ap, ◌∙◌, inl, inr, arith}
-use Rattle.std.specs.List.{filter, find, Contains}
+use Rattle.std.proofs.Common.{eq-eqb, ◌≡◌, ◌≢◌, ℕ, zero, suc, ◌<◌, ◌≤◌, Bool, true, false, cond, List, [], ◌∷◌, Option, Some, None, length, get_or, take, drop, not, map, nat_eq, subst, refl, sym, ap, ◌∙◌, inl, inr, arith}
+use Rattle.std.specs.List.{filter, find, Contains, position, position_or_len}
+use Rattle.std.proofs.lemmas.List.Sums.{position_or_len_is}
 use Rattle.std.proofs.lemmas.Bool.{ne_eqb, cases_order, cases_lt, ltb-true, lt-ltb, le-ltb, ltb-false}
 use Rattle.std.proofs.lemmas.List.{get_or-map, length-map}
 use Rattle.place_order.specs.Labels.{place_in}
@@ -115,17 +116,45 @@ module _ {X : Type 0} (label : X → ℕ) (order : List ℕ) (xs : List X) (r : 
         | inr ge ↦ (let e : j ≡ i = omega arith in ap (λ n. is_before order end (label (get_or xs n d))) e ∙ h)
       ]
 
-  -- a label that doesn't stand where it would isn't there
-  pub absent : (at lab : ℕ) → ((i : ℕ) (d : X) → i < at → is_before order (Some lab) (label (get_or xs i d)) ≡ true)
-      → ((i : ℕ) (d : X) → at ≤ i → i < length xs → is_before order (Some lab) (label (get_or xs i d)) ≡ false)
-      → (at < length xs → (d : X) → label (get_or xs at d) ≢ lab)
-      → find (λ x. nat_eq (label x) lab) xs ≡ None
-  absent at lab front rest apart =
-      find_nothing (λ x. nat_eq (label x) lab) xs (λ i d lt. ne_eqb (label (get_or xs i d)) lab (λ e.
+  -- a label that doesn't stand where it would is no one's
+  module _ (at lab : ℕ) (front : (i : ℕ) (d : X) → i < at → is_before order (Some lab) (label (get_or xs i d)) ≡ true)
+      (rest : (i : ℕ) (d : X) → at ≤ i → i < length xs → is_before order (Some lab) (label (get_or xs i d)) ≡ false)
+      (apart : at < length xs → (d : X) → label (get_or xs at d) ≢ lab) where
+    differs : (i : ℕ) (d : X) → i < length xs → nat_eq (label (get_or xs i d)) lab ≡ false
+    differs i d lt = ne_eqb (label (get_or xs i d)) lab (λ e.
+        let same = ap (place_in order) e in
+        elim (cases_order i at) [
+          | inl is ↦ apart (omega arith) d (ap (λ n. label (get_or xs n d)) (sym is) ∙ e)
+          | inr (inl before) ↦ (let b = ltb-true (place_in order (label (get_or xs i d))) (place_in order lab) (front i d before) in omega arith)
+          | inr (inr after) ↦ (let r = rises at i d after lt in
+              let b = ltb-false (place_in order (label (get_or xs at d))) (place_in order lab) (rest at d (omega arith) (omega arith)) in omega arith)
+        ])
+
+    pub absent : find (λ x. nat_eq (label x) lab) xs ≡ None
+    absent = find_nothing (λ x. nat_eq (label x) lab) xs differs
+
+    none_from : (d : X) → None ≡ position (λ x. nat_eq (label x) lab) xs
+    none_from d =
+        let end : position_or_len (λ x. nat_eq (label x) lab) xs ≡ length xs =
+        position_or_len_is (λ x. nat_eq (label x) lab) xs (length xs) d (omega arith) (λ k lt. differs k d lt) (λ lt. absurd (omega arith)) in
+        rw (end, le-ltb (length xs) (length xs) (omega arith)) refl
+
+  -- a label that stands where it would is found there
+  pub somewhere : (at lab : ℕ) → at < length xs → ((i : ℕ) (d : X) → i < at → is_before order (Some lab) (label (get_or xs i d)) ≡ true)
+      → (d : X) → label (get_or xs at d) ≡ lab → Some at ≡ position (λ x. nat_eq (label x) lab) xs
+  somewhere at lab lt front d here =
+      let found : position_or_len (λ x. nat_eq (label x) lab) xs ≡ at =
+      position_or_len_is (λ x. nat_eq (label x) lab) xs at d (omega arith)
+      (λ k before. ne_eqb (label (get_or xs k d)) lab (λ e.
       let same = ap (place_in order) e in
-      elim (cases_order i at) [
-        | inl is ↦ apart (omega arith) d (ap (λ n. label (get_or xs n d)) (sym is) ∙ e)
-        | inr (inl before) ↦ (let b = ltb-true (place_in order (label (get_or xs i d))) (place_in order lab) (front i d before) in omega arith)
-        | inr (inr after) ↦ (let r = rises at i d after lt in
-            let b = ltb-false (place_in order (label (get_or xs at d))) (place_in order lab) (rest at d (omega arith) (omega arith)) in omega arith)
-      ]))
+      let b = ltb-true (place_in order (label (get_or xs k d))) (place_in order lab) (front k d before) in
+      omega arith))
+      (λ _. eq-eqb (label (get_or xs at d)) lab here) in
+      rw (found, lt-ltb at (length xs) lt) refl
+
+pub nowhere : {X : Type 0} (label : X → ℕ) (order : List ℕ) (xs : List X) → IsRising order (map label xs) → (at lab : ℕ)
+    → ((i : ℕ) (d : X) → i < at → is_before order (Some lab) (label (get_or xs i d)) ≡ true)
+    → ((i : ℕ) (d : X) → at ≤ i → i < length xs → is_before order (Some lab) (label (get_or xs i d)) ≡ false)
+    → (at < length xs → (d : X) → label (get_or xs at d) ≢ lab) → None ≡ position (λ x. nat_eq (label x) lab) xs
+nowhere label order [] r at lab front rest apart = refl
+nowhere label order (x ∷ xs) r at lab front rest apart = none_from label order (x ∷ xs) r at lab front rest apart x

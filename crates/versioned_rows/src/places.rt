@@ -72,22 +72,43 @@ pub(crate) fn find_place<'a>(
     }
 }
 
-fn position_of(places: &[PlaceWrites], label: u64) -> Option<usize>
+/// Where the place of a label stands, if it is there.
+pub(crate) fn position_of(places: &[PlaceWrites], label: u64) -> Option<usize>
     ensures { result ≡ position (λ p. nat_eq (label_of p) label) places.now }
 {
     places.iter().position(|place| place.label == label)
 }
 
-/// Takes the place of a label out, if it is there.
-pub(crate) fn take_out(places: &mut Vec<PlaceWrites>, rows: &mut Vec<Row>, label: u64)
-    requires { IsIndexed places.old.items rows.old.items }
+/// The same, found by halves in the order.
+pub(crate) fn position_in(order: &Order, places: &[PlaceWrites], label: u64) -> Option<usize>
+    requires rising { IsRising order.now.labels (map label_of places.now) }
+    requires label { Contains order.now.labels label }
+    ensures { result ≡ position (λ p. nat_eq (label_of p) label) places.now }
+{
+    let at = count_before(order, places, Some(label));
+    if at == places.len() {
+        return None;
+    }
+    let place = &places[at];
+    if place.label == label { Some(at) } else { None }
+}
+
+/// Takes the place of a label out, which stands there, if it does.
+pub(crate) fn take_out(
+    places: &mut Vec<PlaceWrites>,
+    rows: &mut Vec<Row>,
+    label: u64,
+    stands: Option<usize>,
+)
+    requires indexed { IsIndexed places.old.items rows.old.items }
+    requires stands { stands ≡ position (λ p. nat_eq (label_of p) label) places.old.items }
     ensures places { places.new.items ≡ without label places.old.items }
     ensures indexed { IsIndexed places.new.items rows.new.items }
     ensures spare { (t k : List ℕ) → spare_in rows.old.items t k ≤ spare_in rows.new.items t k }
     ensures len { vec_len places.new ≤ vec_len places.old }
     ensures capacity { vec_capacity places.new ≡ vec_capacity places.old }
 {
-    match position_of(places, label) {
+    match stands {
         None => {}
         Some(at) => {
             let place = places.remove(at);

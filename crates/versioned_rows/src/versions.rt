@@ -13,7 +13,7 @@ ghost use Rattle.versioned_rows.specs.Places.{label_of, rows_after, before, with
 ghost use Rattle.versioned_rows.specs.Versions.{call_code, write_call, IsIndexed, IsCovered};
 
 use crate::labels::count_before;
-use crate::places::{PlaceWrites, find_place, put_in, take_out, text_at};
+use crate::places::{PlaceWrites, find_place, position_in, position_of, put_in, take_out, text_at};
 use crate::room::{VersionsCall, ready_writes, take_writes};
 use crate::rows::{Row, copied_rows, labels_in};
 use crate::seeking::seek;
@@ -116,6 +116,13 @@ impl Versions {
             rows,
             room: Vec::new(alloc),
         })
+    }
+
+    /// The places with what they wrote, in order.
+    pub fn as_slice(&self) -> &[PlaceWrites]
+        ensures { result.now ≡ self.now.versions }
+    {
+        &self.places
     }
 
     /// The text at a key of a table in the rows that the writes of all places before this one make, or of all places where
@@ -284,7 +291,8 @@ impl Versions {
         ensures room { self.new.room ≡ self.old.room }
         ensures rising { (order : List ℕ) → IsRising order (map label_of self.old.versions) → IsRising order (map label_of self.new.versions) }
     {
-        take_out(&mut self.places, &mut self.rows, label);
+        let stands = position_of(&self.places, label);
+        take_out(&mut self.places, &mut self.rows, label, stands);
     }
 
     /// Puts these writes at the place of a label, instead of those that it had. No other place changes. Refused, none
@@ -305,6 +313,7 @@ impl Versions {
         ensures room { self.new.room ≡ spend call_code (write_call writes.now) self.old.room }
         ensures ready { IsTrue (is_made call_code (write_call writes.now) self.old.room) → IsOk result }
     {
+        let stands = position_in(order, &self.places, label);
         let writes = take_writes(
             alloc,
             &mut self.places,
@@ -312,7 +321,7 @@ impl Versions {
             &mut self.room,
             writes,
         )?;
-        take_out(&mut self.places, &mut self.rows, label);
+        take_out(&mut self.places, &mut self.rows, label, stands);
         let place = PlaceWrites { label, writes };
         put_in(order, &mut self.places, &mut self.rows, place);
         Ok(())
