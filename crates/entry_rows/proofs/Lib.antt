@@ -1,0 +1,4 @@
+pub mod EditLemmas
+pub mod LabelLemmas
+pub mod PlaceLemmas
+pub mod ReadyLemmas
