@@ -1,11 +1,8 @@
 pub mod AloneLemmas
 pub mod CallsLemmas
 pub mod CurrentLemmas
-pub mod EarlierLemmas
 pub mod HandlerLemmas
-pub mod KeyLemmas
-pub mod MemberLemmas
 pub mod ReplayLemmas
-pub mod ScanLemmas
 pub mod StepLemmas
 pub mod TestLemmas
+pub mod WrittenLemmas

@@ -184,7 +184,7 @@ ran_first setting h c entries after place was again first at a runs apart own e 
     )
 
 -- a place within has an entry
-entry_at : (entries : List Entry) (place : ℕ) → place < length entries → (e : Entry) × ((d : Entry) → get_or entries place d ≡ e)
+pub entry_at : (entries : List Entry) (place : ℕ) → place < length entries → (e : Entry) × ((d : Entry) → get_or entries place d ≡ e)
 entry_at [] place l = absurd (omega (arith, l))
 entry_at (x ∷ xs) zero l = (x, λ d. refl)
 entry_at (x ∷ xs) (suc place) l = entry_at xs place (omega (arith, l))

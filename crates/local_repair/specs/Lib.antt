@@ -1,6 +1,5 @@
 pub mod Alone
 pub mod Current
-pub mod Earlier
 pub mod Histories
 pub mod Parts
 pub mod Registers
@@ -8,3 +7,4 @@ pub mod Repairs
 pub mod Settling
 pub mod Steps
 pub mod Tests
+pub mod Written

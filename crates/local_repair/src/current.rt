@@ -2,12 +2,14 @@
 ghost use Rattle.std.specs.Prelude.{◌≡◌, ◌↔◌, [], map, IsTrue, MatchOption};
 ghost use Rattle.std.specs.Option.{option_copied};
 ghost use Rattle.handler_run.specs.Reads.{Gives, GivesAll};
-ghost use Rattle.local_repair.specs.Current.{rows_of, IsCurrentRecord, IsCurrent, AllCurrent, IsFirstStale};
+ghost use Rattle.entry_rows.specs.Rows.{rows_before};
+ghost use Rattle.local_repair.specs.Current.{IsCurrentRecord, IsCurrent, AllCurrent, IsFirstStale};
+ghost use Rattle.local_repair.specs.Written.{all_written};
 ghost use Rattle.local_repair.specs.Parts.{IsOf};
 ghost use Rattle.local_repair.specs.Steps.{answer_or_tentative, tentative};
 
-use crate::earlier::{scan_finds, text_in};
 use crate::slots::Slots;
+use entry_rows::EntryRows;
 use lang_core::{Read, Response, Same, Text};
 use request_log::{Entry, Made};
 
@@ -21,25 +23,25 @@ fn is_text(now: Option<&Text>, found: &Option<Text>) -> bool
     }
 }
 
-// Whether the rows after these entries give what was read.
-fn gives(before: &[Entry], read: &Read) -> bool
-    ensures { IsTrue result ↔ Gives (rows_of before.now) read.now }
+// Whether the rows before the entry at a place give what was read.
+fn gives(rows: &EntryRows, place: usize, read: &Read) -> bool
+    ensures { IsTrue result ↔ Gives (rows_before place rows.now) read.now }
 {
     match read {
-        Read::Key { table, key, found } => is_text(text_in(before, table, key), found),
+        Read::Key { table, key, found } => is_text(rows.text_before(place, table, key), found),
         Read::Scan {
             table,
             prefix,
             found,
-        } => scan_finds(before, table, prefix, found),
+        } => rows.scan_is(place, table, prefix, found),
     }
 }
 
-fn reads_hold(before: &[Entry], reads: &[Read]) -> bool
-    ensures { IsTrue result ↔ GivesAll (rows_of before.now) reads.now }
+fn reads_hold(rows: &EntryRows, place: usize, reads: &[Read]) -> bool
+    ensures { IsTrue result ↔ GivesAll (rows_before place rows.now) reads.now }
 {
     for read in reads {
-        if !gives(before, read) {
+        if !gives(rows, place, read) {
             return false;
         }
     }
@@ -86,29 +88,36 @@ fn is_of<S: Slots>(entry: &Entry, made: &Made, slots: &S) -> bool
         && answers_hold(slots, entry.slots.as_slice(), made.trace.answers.as_slice())
 }
 
-fn is_current_record<S: Slots>(before: &[Entry], entry: &Entry, made: &Made, slots: &S) -> bool
-    ensures { IsTrue result ↔ IsCurrentRecord (S.consumed_of slots.now) (rows_of before.now) entry.now made.now }
+fn is_current_record<S: Slots>(
+    rows: &EntryRows,
+    place: usize,
+    entry: &Entry,
+    made: &Made,
+    slots: &S,
+) -> bool
+    ensures { IsTrue result ↔ IsCurrentRecord (S.consumed_of slots.now) (rows_before place rows.now) entry.now made.now }
 {
-    is_of(entry, made, slots) && reads_hold(before, made.trace.reads.as_slice())
+    is_of(entry, made, slots) && reads_hold(rows, place, made.trace.reads.as_slice())
 }
 
-fn is_current<S: Slots>(before: &[Entry], entry: &Entry, slots: &S) -> bool
-    ensures { IsTrue result ↔ IsCurrent (S.consumed_of slots.now) (rows_of before.now) entry.now }
+fn is_current<S: Slots>(rows: &EntryRows, place: usize, entry: &Entry, slots: &S) -> bool
+    ensures { IsTrue result ↔ IsCurrent (S.consumed_of slots.now) (rows_before place rows.now) entry.now }
 {
     match &entry.made {
-        Some(made) => is_current_record(before, entry, made, slots),
+        Some(made) => is_current_record(rows, place, entry, made, slots),
         None => false,
     }
 }
 
-/// The place of the first stale entry, counted from 0; None exactly where no entry is stale.
-pub fn place_of_stale<S: Slots>(entries: &[Entry], slots: &S) -> Option<usize>
+/// The place of the first stale entry of a log, counted from 0; None exactly where no entry is stale.
+pub fn place_of_stale<S: Slots>(rows: &EntryRows, entries: &[Entry], slots: &S) -> Option<usize>
+    requires { rows.now.writes ≡ all_written entries.now }
     ensures { MatchOption result
         (AllCurrent (S.consumed_of slots.now) [] entries.now)
         (λ place. IsFirstStale (S.consumed_of slots.now) entries.now place) }
 {
     for (place, entry) in entries.iter().enumerate() {
-        if !is_current(&entries[..place], entry, slots) {
+        if !is_current(rows, place, entry, slots) {
             return Some(place);
         }
     }

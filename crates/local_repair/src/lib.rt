@@ -2,21 +2,18 @@
 #![tactic(auto)]
 
 mod current;
-mod earlier;
-mod fit;
 mod remaking;
 mod repairer;
 mod rerun;
 mod rows;
 mod slots;
 mod stepped;
+mod view;
+mod written;
 
-pub use current::place_of_stale;
-pub use earlier::{scan_finds, text_in};
-pub use fit::Fit;
-pub use remaking::{Again, remake};
+pub use remaking::Again;
 pub use repairer::Repairer;
 pub use rerun::{is_new_answer, run_again, tentative};
-pub use rows::rows_after;
 pub use slots::{NoSlots, Slots};
 pub use stepped::Stepped;
+pub use view::RowsBefore;

@@ -1,7 +1,9 @@
 // A log, and its repair.
 ghost use Rattle.std.specs.Prelude.{◌≡◌, ◌↔◌, ◌<◌, ◌≤◌, [], ◌∷◌, ◌++◌, All, Err, Ok, IfOk, OnOk, OnErr, MatchOption, insert, length, take, slice_set, slice_index_or, find, is_some};
 ghost use Rattle.request_log.specs.Entries.{changed, has_id, mark, replace, IsNew, IsKnown, with_entry};
+ghost use Rattle.entry_rows.specs.Rows.{IsReadyToSet};
 ghost use Rattle.local_repair.specs.Current.{AllCurrent, AllRuns, rows_of};
+ghost use Rattle.local_repair.specs.Written.{all_written, rows_seen};
 ghost use Rattle.request_log.specs.declared.entry.Entry.{Entry};
 ghost use Rattle.local_repair.specs.Repairs.{IsAmended, IsStaleId, stale_id};
 ghost use Rattle.local_repair.specs.Settling.{HasItsSlots, HasSlotsOnce, CanSettle, IsAgain, noted};
@@ -12,6 +14,9 @@ use crate::remaking::{Again, remake};
 use crate::rows::rows_after;
 use crate::slots::Slots;
 use crate::stepped::Stepped;
+use crate::view::RowsBefore;
+use crate::written::insert_entry;
+use entry_rows::EntryRows;
 use lang_core::{Cells, Method, NoMemory, Setting, Text};
 use request_log::{Entry, Log, LogFull};
 use std::alloc::Global;
@@ -20,15 +25,22 @@ use std::marker::Model;
 /// A log that is repaired a step at a time.
 #[derive(Drop)]
 pub struct Repairer {
+    alloc: Global,
     log: Log,
+    // What the log's entries wrote.
+    rows: EntryRows,
 }
 
 impl Model for Repairer {
+    ghost use Rattle.std.specs.Prelude.{◌≡◌};
     ghost use Rattle.local_repair.specs.Repairs.{KeptRepairer};
+    ghost use Rattle.local_repair.specs.Written.{all_written};
 
     ghost Value = { KeptRepairer };
 
     ghost view = { λ repairer. record { entries = repairer.log.entries } };
+
+    ghost invariant = { λ repairer. repairer.rows.writes ≡ all_written repairer.log.entries };
 }
 
 fn raised(n: u64) -> u64
@@ -43,11 +55,13 @@ fn raised_if(raise: bool, n: u64) -> u64
     if raise { raised(n) } else { n }
 }
 
-// Runs the entry at a place again on the rows before it. Refused, the registers stay.
+// Runs the entry at a place again on the rows before it, makes room for what it wrote, and settles its calls. Refused,
+// the registers stay.
 fn remake_at<S: Slots>(
     alloc: Global,
     setting: &Setting,
     entries: &[Entry],
+    rows: &mut EntryRows,
     place: usize,
     slots: &mut S,
 ) -> Result<Again, NoMemory>
@@ -55,6 +69,7 @@ fn remake_at<S: Slots>(
     requires own { All HasItsSlots entries.now }
     requires once { All HasSlotsOnce entries.now }
     requires can { All (CanSettle (S.can_settle slots.old) setting.now) entries.now }
+    requires tied { rows.old.writes ≡ all_written entries.now }
     ensures ok { IfOk result (λ again. (d : Entry) → IsAgain setting.now
         (record {
           before = S.consumed_of slots.old;
@@ -65,15 +80,28 @@ fn remake_at<S: Slots>(
           settles = S.settles slots.old slots.new;
         })
         (rows_of (take place entries.now)) (slice_index_or entries.now place d) again) }
+    ensures writes { rows.new.writes ≡ rows.old.writes }
+    ensures ready { IfOk result (λ again. IsReadyToSet again.made.trace.writes rows.new) }
     ensures timely { S.is_timely slots.old → S.is_timely slots.new }
     ensures err { OnErr result (slots.new ≡ slots.old) }
 {
-    let rows = rows_after(alloc, &entries[..place])?;
-    remake(alloc, setting, &rows, &entries[place], slots)
+    remake(alloc, setting, rows, &entries[place], place, slots)
 }
 
-// Notes what came of running the entry at a place again.
-fn note(log: &mut Log, place: usize, again: Again) -> Stepped
+// Notes what came of running the entry at a place again. There is room for what it wrote.
+fn note(alloc: Global, log: &mut Log, rows: &mut EntryRows, place: usize, again: Again) -> Stepped
+    requires within { place < length log.old.entries }
+    requires tied { rows.old.writes ≡ all_written log.old.entries }
+    requires ready { IsReadyToSet again.made.trace.writes rows.old }
+    ensures stepped { (d : Entry) → result ≡ Stepped.Ran (slice_index_or log.old.entries place d).id again.answered }
+    ensures entries { (d : Entry) → log.new.entries ≡ slice_set log.old.entries place (noted again (slice_index_or log.old.entries place d)) }
+    ensures tied { rows.new.writes ≡ all_written log.new.entries }
+{
+    rows.set(alloc, place, &again.made.trace.writes);
+    note_run(log, place, again)
+}
+
+fn note_run(log: &mut Log, place: usize, again: Again) -> Stepped
     requires { place < length log.old.entries }
     ensures stepped { (d : Entry) → result ≡ Stepped.Ran (slice_index_or log.old.entries place d).id again.answered }
     ensures entries { (d : Entry) → log.new.entries ≡ slice_set log.old.entries place (noted again (slice_index_or log.old.entries place d)) }
@@ -105,7 +133,9 @@ impl Repairer {
         ensures { result.entries ≡ [] }
     {
         Repairer {
+            alloc,
             log: Log::new(alloc),
+            rows: EntryRows::new(alloc),
         }
     }
 
@@ -123,6 +153,16 @@ impl Repairer {
         rows_after(alloc, self.log.as_slice())
     }
 
+    /// The rows after the log's entries, as a run reads them.
+    pub fn end(&self) -> RowsBefore<'_>
+        ensures { rows_seen result ≡ rows_of self.now.entries }
+    {
+        RowsBefore {
+            rows: &self.rows,
+            place: self.log.as_slice().len(),
+        }
+    }
+
     /// Puts an entry last. Refused, it is dropped and the log stays.
     pub fn append(&mut self, entry: Entry) -> Result<(), LogFull>
         requires { IsNew entry self.old.entries }
@@ -130,7 +170,8 @@ impl Repairer {
         ensures full { (result ≡ Err LogFull.Full) ↔ (length self.old.entries ≡ 100000) }
         ensures err { OnErr result (self.new ≡ self.old) }
     {
-        self.log.append(entry)
+        let end = self.log.len();
+        insert_entry(self.alloc, &mut self.log, &mut self.rows, end, entry)
     }
 
     /// Puts an entry at a place, counted from 0, before what stands there. Refused, it is dropped and the log stays.
@@ -141,7 +182,7 @@ impl Repairer {
         ensures full { (result ≡ Err LogFull.Full) ↔ (length self.old.entries ≡ 100000) }
         ensures err { OnErr result (self.new ≡ self.old) }
     {
-        self.log.insert(at, entry)
+        insert_entry(self.alloc, &mut self.log, &mut self.rows, at, entry)
     }
 
     /// Puts an entry in place of the one of its number, of which it differs in its version, its request, and whether
@@ -177,7 +218,7 @@ impl Repairer {
         ensures test { result ≡ stale_id (S.consumed_of slots.now) self.now.entries }
     {
         let entries = self.log.as_slice();
-        match place_of_stale(entries, slots) {
+        match place_of_stale(&self.rows, entries, slots) {
             None => None,
             Some(place) => Some(entries[place].id),
         }
@@ -213,11 +254,12 @@ impl Repairer {
         ensures idle { result ≡ Ok Stepped.Idle → (self.new ≡ self.old) × (slots.new ≡ slots.old) }
         ensures err { OnErr result ((self.new ≡ self.old) × (slots.new ≡ slots.old)) }
     {
-        match place_of_stale(self.log.as_slice(), slots) {
+        match place_of_stale(&self.rows, self.log.as_slice(), slots) {
             None => Ok(Stepped::Idle),
             Some(place) => {
-                let again = remake_at(alloc, setting, self.log.as_slice(), place, slots)?;
-                Ok(note(&mut self.log, place, again))
+                let entries = self.log.as_slice();
+                let again = remake_at(alloc, setting, entries, &mut self.rows, place, slots)?;
+                Ok(note(alloc, &mut self.log, &mut self.rows, place, again))
             }
         }
     }

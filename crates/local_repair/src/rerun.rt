@@ -8,10 +8,8 @@ ghost use Rattle.local_repair.specs.Steps.{tentative, answer_at, answers_for, ca
 ghost use Rattle.local_repair.specs.Parts.{same_response};
 
 use crate::slots::Slots;
-use handler_run::{Ran, RowsView, run};
-use lang_core::{
-    Answers, CallMade, Cells, Copied, NoMemory, Response, Same, Seq, Setting, Text, Trace,
-};
+use handler_run::{Ran, View, run};
+use lang_core::{Answers, CallMade, Copied, NoMemory, Response, Same, Seq, Setting, Text, Trace};
 use request_log::{Entry, Made, dead_trace};
 use std::alloc::Global;
 
@@ -70,20 +68,19 @@ fn old_calls(entry: &Entry) -> &[CallMade]
 }
 
 // Runs an entry from its start, with the answers of its old calls.
-fn live_trace<S: Slots>(
+fn live_trace<S: Slots, V: View>(
     alloc: Global,
     setting: &Setting,
-    rows: &Cells,
+    view: &V,
     entry: &Entry,
     old: &[CallMade],
     slots: &S,
 ) -> Result<Trace, NoMemory>
-    ensures run { IfOk result (λ t. run_of setting.now entry.now.request entry.now.inputs t.answers rows.now ≡ Ran.Done t) }
+    ensures run { IfOk result (λ t. run_of setting.now entry.now.request entry.now.inputs t.answers (V.rows view.now) ≡ Ran.Done t) }
     ensures answers { IfOk result (λ t. t.answers ≡ answers_for (S.consumed_of slots.now) old.now entry.now.slots t.calls) }
-    ensures again { IfOk result (λ t. t ≡ trace_through 17 (λ xs. run_of setting.now entry.now.request entry.now.inputs xs rows.now)
+    ensures again { IfOk result (λ t. t ≡ trace_through 17 (λ xs. run_of setting.now entry.now.request entry.now.inputs xs (V.rows view.now))
         (answer_at (S.consumed_of slots.now) old.now entry.now.slots) []) }
 {
-    let view = RowsView { cells: rows };
     let mut answers: Answers = Seq::new(alloc);
     for turn in 0..MOST_TURNS {
         match run(
@@ -92,7 +89,7 @@ fn live_trace<S: Slots>(
             &entry.request,
             &entry.inputs,
             &answers,
-            &view,
+            view,
         )? {
             Ran::Done(trace) => return Ok(trace),
             Ran::Wants {
@@ -110,20 +107,20 @@ fn live_trace<S: Slots>(
 }
 
 // The trace of an entry on these rows: its run, or the dead trace.
-fn new_trace<S: Slots>(
+fn new_trace<S: Slots, V: View>(
     alloc: Global,
     setting: &Setting,
-    rows: &Cells,
+    view: &V,
     entry: &Entry,
     slots: &S,
 ) -> Result<Trace, NoMemory>
-    ensures live { is_alive entry.now ≡ true → IfOk result (λ t. run_of setting.now entry.now.request entry.now.inputs t.answers rows.now ≡ Ran.Done t) }
+    ensures live { is_alive entry.now ≡ true → IfOk result (λ t. run_of setting.now entry.now.request entry.now.inputs t.answers (V.rows view.now) ≡ Ran.Done t) }
     ensures dead { is_alive entry.now ≡ false → IfOk result (λ t. t ≡ dead_trace) }
     ensures answers { IfOk result (λ t. t.answers ≡ answers_for (S.consumed_of slots.now) (calls_of_made entry.now.made) entry.now.slots t.calls) }
-    ensures again { IfOk result (λ t. t ≡ trace_again setting.now (S.consumed_of slots.now) rows.now entry.now) }
+    ensures again { IfOk result (λ t. t ≡ trace_again setting.now (S.consumed_of slots.now) (V.rows view.now) entry.now) }
 {
     if entry.is_alive() {
-        live_trace(alloc, setting, rows, entry, old_calls(entry), slots)
+        live_trace(alloc, setting, view, entry, old_calls(entry), slots)
     } else {
         dead_trace(alloc)
     }
@@ -131,16 +128,16 @@ fn new_trace<S: Slots>(
 
 /// A new record of an entry on the rows before it: its run, whose calls get the old answers where they are the old
 /// calls, or the trace of a dead entry.
-pub fn run_again<S: Slots>(
+pub fn run_again<S: Slots, V: View>(
     alloc: Global,
     setting: &Setting,
-    rows: &Cells,
+    view: &V,
     entry: &Entry,
     slots: &S,
 ) -> Result<Made, NoMemory>
-    ensures { IfOk result (λ m. IsRerun setting.now (S.consumed_of slots.now) rows.now entry.now m) }
+    ensures { IfOk result (λ m. IsRerun setting.now (S.consumed_of slots.now) (V.rows view.now) entry.now m) }
 {
-    let trace = new_trace(alloc, setting, rows, entry, slots)?;
+    let trace = new_trace(alloc, setting, view, entry, slots)?;
     Ok(Made {
         alive: entry.is_alive(),
         version: entry.version,

@@ -1,10 +1,10 @@
 use Rattle.std.proofs.Common.{refl, subst}
 use Rattle.std.proofs.lemmas.List.Elements.{All-more}
 use Rattle.handler_run.specs.Reads.{Gives}
-use Rattle.local_repair.specs.Current.{rows_of}
+use Rattle.entry_rows.specs.Rows.{rows_before}
 use Rattle.local_repair.proofs.current.reads_hold.Goals as goal
 
 pub loop-read-preserved : goal.loop-read-preserved
 loop-read-preserved c =
-    All-more (Gives (rows_of c.args.before.now)) c.args.reads.now c.loop-read.read-index c.read-item.result c.loop-read-test.true c.loop-read.invariant
-    (subst (Gives (rows_of c.args.before.now)) c.read-item.is (c.if-not-gives.ensures.0 refl))
+    All-more (Gives (rows_before c.args.place c.args.rows.now)) c.args.reads.now c.loop-read.read-index c.read-item.result c.loop-read-test.true c.loop-read.invariant
+    (subst (Gives (rows_before c.args.place c.args.rows.now)) c.read-item.is (c.if-not-gives.ensures.0 refl))

@@ -1,9 +1,13 @@
-use Rattle.std.proofs.Common.{◌≡◌, ◌∙◌, ap, subst, List, [], Some, get_or}
+use Rattle.std.proofs.Common.{◌≡◌, ◌∙◌, sym, ap, subst, List, [], Some, get_or}
 use Rattle.request_log.specs.declared.entry.Entry.{Entry}
 use Rattle.local_repair.specs.Current.{AllCurrent}
 use Rattle.local_repair.specs.Repairs.{KeptRepairer, IsStaleId, stale_id}
+use Rattle.local_repair.specs.Written.{all_written}
 use Rattle.local_repair.proofs.TestLemmas.{stale_id_none, stale_id_at, is_stale_id}
 use Rattle.local_repair.proofs.repairer.Repairer.first_stale.Goals as goal
+
+pub place_of_stale-requires : goal.place_of_stale-requires
+place_of_stale-requires g c = c.self.invariant ∙ ap all_written (sym c.as_slice-entries.ensures.entries)
 
 pub returns-in-None-clause-test : goal.returns-in-None-clause-test
 returns-in-None-clause-test g c =

@@ -1,16 +1,23 @@
-use Rattle.std.proofs.Common.{◌≡◌, ◌∙◌, ap, subst, List, get_or, set, take}
+use Rattle.std.proofs.Common.{◌≡◌, ◌∙◌, sym, ap, subst, List, get_or, set, take}
 use Rattle.request_log.specs.declared.entry.Entry.{Entry}
 use Rattle.local_repair.specs.Current.{IsFirstStale, rows_of}
 use Rattle.local_repair.specs.Registers.{Change}
 use Rattle.local_repair.specs.Repairs.{KeptRepairer}
 use Rattle.local_repair.specs.Settling.{IsAgain, Leaves, noted}
 use Rattle.local_repair.specs.Steps.{StepsTo}
+use Rattle.local_repair.specs.Written.{all_written}
 use Rattle.local_repair.specs.declared.stepped.Stepped.TheVariants.{Ran}
 use Rattle.local_repair.proofs.HandlerLemmas.{handler}
 use Rattle.local_repair.proofs.StepLemmas.{stepped, not_idle}
 use Rattle.local_repair.proofs.TestLemmas.{none_first}
 use Rattle.local_repair.proofs.repairer.Repairer.step.Given.{Over}
 use Rattle.local_repair.proofs.repairer.Repairer.step.Goals as goal
+
+pub place_of_stale-requires : goal.place_of_stale-requires
+place_of_stale-requires g c = c.self.invariant ∙ ap all_written (sym c.as_slice.ensures.entries)
+
+pub remake_at-requires-clause-tied : goal.remake_at-requires-clause-tied
+remake_at-requires-clause-tied g c = c.self.invariant ∙ ap all_written (sym c.as_slice-entries.ensures.entries)
 
 -- the registers before and after
 change : (g : Over) (c : goal.After-note g) → Change
@@ -38,7 +45,7 @@ left g c =
     let P : List Entry → Type 0 = λ xs. (d : Entry) → c.note.new.log.entries ≡ set xs place (noted again (get_or xs place d)) in
     stepped c.args.setting.now (handler c.args.setting.now) (change g c) c.args.self.now.entries c.note.new.log.entries place again c.note.result
     (subst F (c.as_slice.ensures.entries ∙ seen) c.in-Some.ensures)
-    (subst A (c.as_slice-in-Some.ensures.entries ∙ seen) c.in_ok-again-in-Some.ensures.ok)
+    (subst A (c.as_slice-entries.ensures.entries ∙ seen) c.in_ok-again-in-Some.ensures.ok)
     (subst T seen c.note.ensures.stepped) (subst P seen c.note.ensures.entries)
     c.requires.runs c.requires.apart c.requires.own
 

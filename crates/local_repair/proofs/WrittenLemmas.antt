@@ -1,0 +1,64 @@
+-- The rows that what entries wrote makes, and what changes of a log leave of it.
+use Rattle.std.proofs.Common.{◌≡◌, ℕ, ◌≤◌, Bool, true, false, cond, List, [], ◌∷◌, Option, Some, None, IsSomeAnd, find, take, set, length, get_or, refl, sym, ap, ◌∙◌}
+use Rattle.std.specs.List.{insert, position_or_len}
+use Rattle.std.proofs.lemmas.List.{take-map, take_all, map-set}
+use Rattle.std.proofs.lemmas.List.Folds.{fold-map, find_at}
+use Rattle.std.proofs.lemmas.Option.{get_or_from_slice_get}
+use Rattle.std.proofs.Math.Seq.{map-set_same}
+use Rattle.lang_core.specs.Rows.{apply}
+use Rattle.lang_core.specs.declared.writes.Write.{Write}
+use Rattle.request_log.specs.Entries.{changed, has_id, with_entry}
+use Rattle.request_log.specs.declared.entry.Entry.{Entry}
+use Rattle.entry_rows.specs.Rows.{KeptWrites, rows_made, rows_before}
+use Rattle.entry_rows.proofs.EditLemmas.{map_insert}
+use Rattle.local_repair.specs.Current.{writes_of, rows_of}
+use Rattle.local_repair.specs.Repairs.{Amends, IsAmended}
+use Rattle.local_repair.specs.Written.{all_written}
+
+abbrev wrote : Entry → List Write
+wrote e = writes_of e.made
+
+made_rows : (entries : List Entry) → rows_made (all_written entries) ≡ rows_of entries
+made_rows entries = fold-map apply wrote [] entries
+
+-- the rows before a place are those of the entries before it
+pub seen_before : (kept : KeptWrites) (entries : List Entry) (place : ℕ) → kept.writes ≡ all_written entries → rows_before place kept ≡ rows_of (take place entries)
+seen_before kept entries place tied =
+    ap (λ w. rows_made (take place w)) tied ∙ ap rows_made (take-map wrote place entries) ∙ made_rows (take place entries)
+
+-- and at the end they are those of all
+pub seen_end : (kept : KeptWrites) (entries : List Entry) (place : ℕ) → length entries ≤ place → kept.writes ≡ all_written entries → rows_before place kept ≡ rows_of entries
+seen_end kept entries place le tied = seen_before kept entries place tied ∙ ap rows_of (take_all place entries le)
+
+pub written_insert : (entries : List Entry) (at : ℕ) (e : Entry) → all_written (insert entries at e) ≡ insert (all_written entries) at (wrote e)
+written_insert entries at e = map_insert wrote entries at e
+
+pub written_set : (entries : List Entry) (at : ℕ) (e : Entry) → all_written (set entries at e) ≡ set (all_written entries) at (wrote e)
+written_set entries at e = map-set wrote entries at e
+
+-- a change that leaves an entry's record leaves what it wrote
+same_if : (change : Entry → Entry) → ((e : Entry) → (change e).made ≡ e.made) → (b : Bool) (e : Entry) → wrote (cond b (change e) e) ≡ wrote e
+same_if change leaves true e = ap writes_of (leaves e)
+same_if change leaves false e = refl
+
+pub written_changed : (change : Entry → Entry) (id : ℕ) (entries : List Entry) → ((e : Entry) → (change e).made ≡ e.made) → all_written (changed id change entries) ≡ all_written entries
+written_changed change id [] leaves = refl
+written_changed change id (e ∷ es) leaves =
+    ap (λ w. w ∷ all_written (changed id change es)) (same_if change leaves (has_id id e) e) ∙ ap (λ l. wrote e ∷ l) (written_changed change id es leaves)
+
+amended_by : (o : Option Entry) (old entry : Entry) → o ≡ Some old → IsSomeAnd o (λ x. Amends x entry) → entry.made ≡ old.made
+amended_by None old entry is amends = cc
+amended_by (Some x) old entry is amends = let same : x ≡ old = cc in ap (λ (e : Entry). e.made) amends ∙ ap (λ (e : Entry). e.made) same
+
+some_amended : (o : Option Entry) (entry : Entry) → IsSomeAnd o (λ x. Amends x entry) → (old : Entry) × (o ≡ Some old)
+some_amended None entry h = absurd h
+some_amended (Some x) entry h = (x, refl)
+
+pub written_amended : (entry : Entry) (entries : List Entry) → IsAmended entry entries → all_written (with_entry entry entries) ≡ all_written entries
+written_amended entry entries amended =
+    let o = find (has_id entry.id) entries in
+    let old = some_amended o entry amended in
+    let at : get_or entries (position_or_len (has_id entry.id) entries) entry ≡ old.0 =
+    get_or_from_slice_get entries (position_or_len (has_id entry.id) entries) old.0 entry (sym (find_at (has_id entry.id) entries) ∙ old.1) in
+    map-set_same wrote entries (position_or_len (has_id entry.id) entries) entry entry
+    (ap writes_of (amended_by o old.0 entry old.1 amended ∙ ap (λ (e : Entry). e.made) (sym at)))
