@@ -1,18 +1,18 @@
 #!/usr/bin/env bash
-# The time of scripts of 1,000 and 2,000 `ask` lines, and their ratio, measured in one run.
+# The time of scripts of 1,000 to 16,000 `ask` lines over a tenth as many keys, and the ratio of each to the one before.
 . "$(dirname "${BASH_SOURCE[0]}")/timing.sh"
 
 script_of() {
     local n=$1 i
     for ((i = 1; i <= n; i++)); do
-        echo "ask notes ann PUT /n/k$i value $i"
+        echo "ask notes ann PUT /n/k$((i % (n / 10))) value $i"
     done
 }
 
-script_of 1000 >"$folder/1000"
-script_of 2000 >"$folder/2000"
-small=$(seconds_of @notes "$folder/1000")
-large=$(seconds_of @notes "$folder/2000")
-echo "1,000 requests: $small s"
-echo "2,000 requests: $large s"
-echo "ratio: $(ratio "$large" "$small")"
+before=""
+for n in 1000 2000 4000 8000 16000; do
+    script_of "$n" >"$folder/asks"
+    took=$(seconds_of @notes "$folder/asks")
+    echo "$n requests: $took s${before:+, ratio $(ratio "$took" "$before")}"
+    before=$took
+done

@@ -8,7 +8,7 @@ ghost use Rattle.service_parts.specs.Parts.{kept};
 
 use call_registers::Registers;
 use flights::Flight;
-use handler_run::{Ran, RowsView, run};
+use handler_run::{Ran, run};
 use lang_core::{Answers, Copied, NoMemory, Response};
 use local_repair::tentative;
 use service_parts::{Draft, Parts};
@@ -43,13 +43,13 @@ pub(crate) fn run_flight(
     ensures { IfOk result (λ ran. ran ≡ flight_run (with_draft draft.now (kept parts.now)) flight.now) }
 {
     let answers = answers_of(alloc, &draft.registers, flight.numbers.as_slice())?;
-    let rows = parts.repairer.rows(alloc)?;
+    let end = parts.repairer.end();
     run(
         alloc,
         &parts.setting,
         &flight.request,
         &flight.inputs,
         &answers,
-        &RowsView { cells: &rows },
+        &end,
     )
 }

@@ -4,7 +4,7 @@ ghost use Rattle.local_repair.specs.Current.{AllCurrent};
 ghost use Rattle.local_repair.specs.Repairs.{IsStaleId};
 ghost use Rattle.service_meaning.specs.State.{answers};
 ghost use Rattle.service_parts.specs.Parts.{kept};
-ghost use Rattle.live_service.specs.Events.{first_stale};
+ghost use Rattle.live_service.specs.Readings.{first_stale};
 
 use call_registers::Registers;
 use lang_core::{NoMemory, Response, Trace};

@@ -13,7 +13,7 @@ mod written;
 
 pub use remaking::Again;
 pub use repairer::Repairer;
-pub use rerun::{is_new_answer, run_again, tentative};
+pub use rerun::tentative;
 pub use slots::{NoSlots, Slots};
 pub use stepped::Stepped;
 pub use view::RowsBefore;

@@ -128,7 +128,7 @@ fn new_trace<S: Slots, V: View>(
 
 /// A new record of an entry on the rows before it: its run, whose calls get the old answers where they are the old
 /// calls, or the trace of a dead entry.
-pub fn run_again<S: Slots, V: View>(
+pub(crate) fn run_again<S: Slots, V: View>(
     alloc: Global,
     setting: &Setting,
     view: &V,
@@ -147,7 +147,7 @@ pub fn run_again<S: Slots, V: View>(
 }
 
 /// Whether a record answers something else than the entry's record, or is its first.
-pub fn is_new_answer(entry: &Entry, made: &Made) -> bool
+pub(crate) fn is_new_answer(entry: &Entry, made: &Made) -> bool
     ensures { result ≡ is_new_answer entry.now.made made.now }
 {
     match &entry.made {

@@ -18,7 +18,7 @@ fn apply_entry(alloc: Global, rows: &mut Cells, entry: &Entry) -> Result<(), NoM
 }
 
 /// The rows after these entries, the first of a log.
-pub fn rows_after(alloc: Global, entries: &[Entry]) -> Result<Cells, NoMemory>
+pub(crate) fn rows_after(alloc: Global, entries: &[Entry]) -> Result<Cells, NoMemory>
     ensures { IfOk result (λ rows. rows ≡ rows_of entries.now) }
 {
     let mut rows = Cells::new(alloc);

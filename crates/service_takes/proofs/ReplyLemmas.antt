@@ -1,7 +1,6 @@
 -- Replies that are changed where there is one, and a reply that is changed twice.
 use Rattle.std.proofs.Common.{◌≡◌, ap, refl, sym, ℕ, ◌∙◌, Bool, true, false, cond, List, [], ◌∷◌, Option, Some, None, is_some, Bor}
 use Rattle.std.specs.Option.{option_copied}
-use Rattle.call_registers.specs.Changes.{change}
 use Rattle.call_registers.specs.Replies.{has_entry, reply, at_entry, made_due, with_taken}
 use Rattle.call_registers.specs.declared.reply.Reply.{Reply}
 use Rattle.repair_drafts.proofs.BookLemmas.{unchanged}

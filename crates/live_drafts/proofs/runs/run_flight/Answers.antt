@@ -4,6 +4,7 @@ use Rattle.lang_core.specs.declared.cells.Cell.{Cell}
 use Rattle.lang_core.specs.declared.request.Response.{Response}
 use Rattle.handler_run.specs.Handlers.{run_of}
 use Rattle.local_repair.specs.Steps.{answer_or_tentative}
+use Rattle.local_repair.specs.Written.{rows_seen}
 use Rattle.call_registers.specs.Registers.{consumed}
 use Rattle.live_drafts.proofs.runs.run_flight.Goals as goal
 
@@ -13,6 +14,6 @@ returns c =
     let consumes : ℕ → Response = λ n. answer_or_tentative (consumed n c.args.draft.now.registers.list) in
     let given : c.in_ok-answers.answers ≡ map consumes f.numbers = c.in_ok-answers.ensures ∙ ap (map consumes) c.as_slice.ensures in
     IfOk-weaker c.run.result _ _
-    (λ ran h. h ∙ ap (λ (xs : List Response). run_of c.args.parts.now.setting f.request f.inputs xs c.in_ok-rows.rows) given
-    ∙ ap (λ (rs : List Cell). run_of c.args.parts.now.setting f.request f.inputs (map consumes f.numbers) rs) c.in_ok-rows.ensures)
+    (λ ran h. h ∙ ap (λ (xs : List Response). run_of c.args.parts.now.setting f.request f.inputs xs (rows_seen c.end.result)) given
+    ∙ ap (λ (rs : List Cell). run_of c.args.parts.now.setting f.request f.inputs (map consumes f.numbers) rs) c.end.ensures)
     c.run.ensures.meaning

@@ -1,14 +1,12 @@
-use Rattle.std.proofs.Common.{◌≡◌, ◌≤◌, IsTrue, List, insert, length, map, sym, ap, ◌∙◌, subst, arith}
+use Rattle.std.proofs.Common.{◌≡◌, insert, length, ap, ◌∙◌, arith}
 use Rattle.std.proofs.lemmas.List.{length-map}
 use Rattle.call_room.specs.Room.{is_made}
 use Rattle.place_order.specs.Rooms.{call_code as label_code}
-use Rattle.place_order.specs.declared.room.OrderCall.{OrderCall}
 use Rattle.place_order.proofs.InsertLemmas.{put_there}
 use Rattle.versioned_rows.specs.Places.{without, with_place}
 use Rattle.versioned_rows.specs.Versions.{call_code, write_call}
 use Rattle.versioned_rows.specs.declared.places.PlaceWrites.{PlaceWrites}
-use Rattle.versioned_rows.specs.declared.room.VersionsCall.{VersionsCall}
-use Rattle.entry_rows.specs.Rows.{KeptWrites, writes_of, label_at, call_before, call_at, place_before}
+use Rattle.entry_rows.specs.Rows.{KeptWrites, label_at, call_before, call_at, place_before}
 use Rattle.entry_rows.proofs.EditLemmas.{call_is, known_label, place_is, inserted_writes, inserted_placed}
 use Rattle.entry_rows.proofs.ReadyLemmas.{where_ok}
 use Rattle.entry_rows.proofs.rows.EntryRows.insert.Goals as goal

@@ -1,4 +1,4 @@
-use Rattle.std.proofs.Common.{◌≡◌, ◌<◌, ℕ, IsTrue, List, set, get_or, length, map, sym, ap, ◌∙◌, subst, arith}
+use Rattle.std.proofs.Common.{◌≡◌, ◌<◌, set, get_or, length, sym, ap, ◌∙◌, subst, arith}
 use Rattle.std.specs.List.{Contains}
 use Rattle.std.proofs.lemmas.List.{length-map}
 use Rattle.call_room.specs.Room.{is_made}
@@ -6,7 +6,7 @@ use Rattle.versioned_rows.specs.Places.{label_of, without, with_place}
 use Rattle.versioned_rows.specs.Versions.{call_code, write_call}
 use Rattle.versioned_rows.specs.declared.places.PlaceWrites.{PlaceWrites}
 use Rattle.versioned_rows.proofs.RisingLemmas.{known}
-use Rattle.entry_rows.specs.Rows.{KeptWrites, writes_of}
+use Rattle.entry_rows.specs.Rows.{KeptWrites}
 use Rattle.entry_rows.proofs.EditLemmas.{replaced_writes, replaced_placed}
 use Rattle.entry_rows.proofs.ReadyLemmas.{where_ok}
 use Rattle.entry_rows.proofs.rows.EntryRows.set.Goals as goal
