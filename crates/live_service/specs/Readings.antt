@@ -1,13 +1,8 @@
--- A service at its start, and what is read of it.
-use Rattle.std.specs.Prelude.{ℕ, [], Option, option_map}
-use Rattle.lang_core.specs.declared.setting.Setting.{Setting}
+-- What is read of a service.
+use Rattle.std.specs.Prelude.{ℕ, Option, option_map}
 use Rattle.local_repair.specs.Repairs.{stale_id}
 use Rattle.service_meaning.specs.State.{Kept, answers, flight_of}
 use Rattle.service_meaning.specs.Flying.{awaited}
-
--- a service that has answered nothing yet
-abbrev pub fresh : Setting → Kept
-fresh setting = record { setting = setting; entries = []; flights = []; journal = []; registers = []; replies = [] }
 
 -- the number of the call for which a flight waits
 abbrev pub awaited_by : ℕ → Kept → Option ℕ

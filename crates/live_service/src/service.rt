@@ -2,10 +2,10 @@
 ghost use Rattle.std.specs.Prelude.{◌≡◌, [], IfOk, MatchOption, Ok, Some, IfSome, IsSome};
 ghost use Rattle.local_repair.specs.Current.{AllCurrent, rows_of};
 ghost use Rattle.local_repair.specs.Repairs.{IsStaleId};
-ghost use Rattle.service_meaning.specs.State.{after, answers};
+ghost use Rattle.service_meaning.specs.State.{after, answers, fresh};
 ghost use Rattle.service_meaning.specs.Arriving.{abandon_event, arrive_event, call_answered_event, call_failed_event};
 ghost use Rattle.service_meaning.specs.Fits.{Fits};
-ghost use Rattle.live_service.specs.Readings.{fresh, awaited_by, first_stale};
+ghost use Rattle.live_service.specs.Readings.{awaited_by, first_stale};
 ghost use Rattle.service_meaning.specs.Doing.{answer_memory, arrive_memory, call_memory, order_memory, post_memory, take_memory, Does};
 ghost use Rattle.journal_rows.specs.Words.{ordered};
 ghost use Rattle.service_meaning.specs.Messages.{take_event, take_answer_event, posted_event};

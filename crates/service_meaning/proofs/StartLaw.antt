@@ -1,11 +1,8 @@
 -- A service without rows fits its journal.
 use Rattle.std.proofs.Common.{◌≡◌, true, false, ℕ, ◌<◌, [], refl, arith}
 use Rattle.lang_core.specs.declared.setting.Setting.{Setting}
-use Rattle.service_meaning.specs.State.{Kept}
+use Rattle.service_meaning.specs.State.{fresh}
 use Rattle.service_meaning.specs.Fits.{Fits}
-
-abbrev pub fresh : Setting → Kept
-fresh setting = record { setting = setting; entries = []; flights = []; journal = []; registers = []; replies = [] }
 
 below_none : (k : ℕ) → k < 0 → ⊥
 below_none k h = omega (arith, h)

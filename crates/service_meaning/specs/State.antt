@@ -1,5 +1,5 @@
 -- What a service keeps, and what an event leaves of it.
-use Rattle.std.specs.Prelude.{ℕ, ◌+◌, Bool, List, Option, Some, None, if◌then◌else◌, nat_le, length, refl}
+use Rattle.std.specs.Prelude.{ℕ, ◌+◌, Bool, List, [], Option, Some, None, if◌then◌else◌, nat_le, length, refl}
 use Rattle.std.specs.Coded.{Coded, code_by, coded×, coded_list}
 use Rattle.lang_core.specs.contracts.setting.Setting as setting
 use Rattle.lang_core.specs.declared.ids.Origin.{Origin}
@@ -48,6 +48,10 @@ kept_code =
       replies = p.1.1.1.1.1;
     })
     (λ _. refl)
+
+-- what a service keeps that has answered nothing yet
+abbrev pub fresh : Setting → Kept
+fresh setting = record { setting = setting; entries = []; flights = []; journal = []; registers = []; replies = [] }
 
 -- what an event leaves, and what it answers
 pub record After (A : Type 0) : Type 0 where

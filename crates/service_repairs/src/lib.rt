@@ -2,10 +2,8 @@
 //! changes nothing, and leaves what always holds of a service.
 #![tactic(auto)]
 
-mod limits;
 mod ordering;
 mod repairing;
 
-pub use limits::{is_crowded, is_heavy};
 pub use ordering::order;
 pub use repairing::repair_step;

@@ -9,7 +9,6 @@ ghost use Rattle.service_parts.specs.Parts.{kept};
 ghost use Rattle.service_parts.specs.Services.{IsService};
 ghost use Rattle.service_repairs.specs.Answers.{answered_by};
 
-use crate::limits::{is_crowded, is_heavy};
 use crate::repairing::count_rows;
 use call_registers::Hold;
 use journal_rows::{Command, OrderedRow, ordered};
@@ -17,7 +16,7 @@ use lang_core::{Inputs, Origin, Text};
 use repair_drafts::{RULE, about, accept};
 use repair_messages::PostName;
 use service_meaning::{OrderRefused, Ordered};
-use service_parts::Parts;
+use service_parts::{Parts, is_crowded, is_heavy};
 use std::alloc::Global;
 
 // ---- why an order is refused

@@ -12,9 +12,8 @@ use journal_rows::last_taken;
 use lang_core::{Name, Origin};
 use request_log::Entry;
 use service_meaning::{ArriveRefused, Arrived};
-use service_parts::Parts;
+use service_parts::{Parts, is_crowded, is_heavy};
 use service_posts::last_answer;
-use service_repairs::{is_crowded, is_heavy};
 use std::alloc::Global;
 
 fn by_made(

@@ -11,8 +11,7 @@ use journal_rows::last_taken;
 use lang_core::NoMemory;
 use repair_messages::SetMessage;
 use service_meaning::TakeRefused;
-use service_parts::Parts;
-use service_repairs::{is_crowded, is_heavy};
+use service_parts::{Parts, is_crowded, is_heavy};
 use std::alloc::Global;
 
 fn taken_version(parts: &Parts, set: &SetMessage) -> u64

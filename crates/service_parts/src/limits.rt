@@ -3,8 +3,8 @@ ghost use Rattle.std.specs.Prelude.{◌≡◌, ◌≤◌};
 ghost use Rattle.service_meaning.specs.State.{in_all, is_crowded, is_heavy};
 ghost use Rattle.service_parts.specs.Parts.{kept};
 
+use crate::parts::Parts;
 use request_log::MOST_ENTRIES;
-use service_parts::Parts;
 
 /// How many entries and flights there are, where there is no place for one more.
 pub fn is_crowded(parts: &Parts) -> Option<u64>
