@@ -110,7 +110,11 @@ fn is_current<S: Slots>(rows: &EntryRows, place: usize, entry: &Entry, slots: &S
 }
 
 /// The place of the first stale entry of a log, counted from 0; None exactly where no entry is stale.
-pub(crate) fn place_of_stale<S: Slots>(rows: &EntryRows, entries: &[Entry], slots: &S) -> Option<usize>
+pub(crate) fn place_of_stale<S: Slots>(
+    rows: &EntryRows,
+    entries: &[Entry],
+    slots: &S,
+) -> Option<usize>
     requires { rows.now.writes ≡ all_written entries.now }
     ensures { MatchOption result
         (AllCurrent (S.consumed_of slots.now) [] entries.now)
