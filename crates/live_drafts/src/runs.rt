@@ -43,13 +43,13 @@ pub(crate) fn run_flight(
     ensures { IfOk result (λ ran. ran ≡ flight_run (with_draft draft.now (kept parts.now)) flight.now) }
 {
     let answers = answers_of(alloc, &draft.registers, flight.numbers.as_slice())?;
-    let end = parts.repairer.end();
+    let rows = parts.repairer.end();
     run(
         alloc,
         &parts.setting,
         &flight.request,
         &flight.inputs,
         &answers,
-        &end,
+        &rows,
     )
 }

@@ -14,6 +14,6 @@ returns c =
     let consumes : ℕ → Response = λ n. answer_or_tentative (consumed n c.args.draft.now.registers.list) in
     let given : c.in_ok-answers.answers ≡ map consumes f.numbers = c.in_ok-answers.ensures ∙ ap (map consumes) c.as_slice.ensures in
     IfOk-weaker c.run.result _ _
-    (λ ran h. h ∙ ap (λ (xs : List Response). run_of c.args.parts.now.setting f.request f.inputs xs (rows_seen c.end.result)) given
-    ∙ ap (λ (rs : List Cell). run_of c.args.parts.now.setting f.request f.inputs (map consumes f.numbers) rs) c.end.ensures)
+    (λ ran h. h ∙ ap (λ (xs : List Response). run_of c.args.parts.now.setting f.request f.inputs xs (rows_seen c.end-rows.result)) given
+    ∙ ap (λ (rs : List Cell). run_of c.args.parts.now.setting f.request f.inputs (map consumes f.numbers) rs) c.end-rows.ensures)
     c.run.ensures.meaning
