@@ -59,7 +59,6 @@ impl Model for Service {
 
 impl Service {
     /// A service that has answered nothing yet.
-    #[tactic(auto, using(service_meaning::proofs::StartLaw::fits_start))]
     pub fn new(alloc: Global, setting: Setting) -> Service
         ensures { result ≡ fresh setting }
     {
