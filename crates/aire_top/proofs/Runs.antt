@@ -2,23 +2,19 @@
 use Rattle.std.specs.Option.{ForSome}
 use Rattle.std.proofs.Common.{◌≡◌, ◌⊎◌, ℕ, ◌<◌, ◌≤◌, Bool, true, false, inl, inr, List, [], ◌∷◌, ◌++◌, Option, Some, None, Result, Ok, Err, OnOk, OnErr, length, nat_lt, codes, refl, ap, sym, subst, ◌∙◌, append_assoc, arith, rules, tests}
 use Rattle.std.proofs.lemmas.List.{append-nil}
-use Rattle.execution.specs.Executions.{History, IsLegal}
 use Rattle.io_edge.specs.Edge.{IsFront, ReadFails, Reads, WriteFails, Writes, Wrote, WroteFront, WroteShort}
 use Rattle.io_edge.specs.Files.{LoadFails, Loads}
 use Rattle.io_edge.proofs.Pieces.{front_whole, wrote_more}
 use Rattle.journal_rows.specs.declared.verdict.Verdict.{Verdict}
-use Rattle.journal_rows.specs.declared.verdict.Verdict.TheVariants.{Legal, Forged, Unsettled}
-use Rattle.service_core.specs.Events.{KeptService}
-use Rattle.world_core.specs.Verdicts.{IsLegalIf}
-use Rattle.world_core.specs.Worlds.{World}
-use Rattle.script_run.specs.Plays.{Played, played, run_of_script}
-use Rattle.script_run.specs.Stops.{DoesAll, IsRefusedAt, StopsEarly, StopsInLine}
-use Rattle.script_run.proofs.Playing.{early_front}
+use Rattle.network_meaning.specs.Worlds.{World}
+use Rattle.script_plays.specs.Plays.{Played, played, run_of_script}
+use Rattle.script_plays.specs.Stops.{DoesAll, IsRefusedAt, StopsEarly, StopsInLine}
+use Rattle.script_plays.proofs.PlayLaws.{early_front}
 use Rattle.world_file.specs.Numbers.{refusal_text}
 use Rattle.world_file.specs.declared.setup.Setup.{Setup}
 use Rattle.aire_top.specs.Causes.{what_of}
 use Rattle.aire_top.specs.Closings.{Closes, ClosesWorldless, IsGot, RunsIn}
-use Rattle.aire_top.specs.Endings.{Answer, Asked, ByScript, EndsWith, IsGoodRun, LacksInScript, LacksMemory, Outside, RunEnds, ScriptEnds, Untouched, lacking_line, nothing, of_services, outside, refused_line, unread_line, usage_line, world_line}
+use Rattle.aire_top.specs.Endings.{Answer, Asked, ByScript, EndsWith, IsGoodRun, LacksInScript, LacksMemory, Outside, RunEnds, ScriptEnds, Untouched, lacking_line, nothing, outside, refused_line, standing, unread_line, usage_line, world_line}
 use Rattle.aire_top.specs.Top.{Is, WorldOrRefusal, Words, fitting, fresh, is_input, misfit, script_told, script_word, words_of, world_path, world_told, world_word}
 use Rattle.aire_top.specs.declared.loading.NoWorld.{NoWorld}
 use Rattle.aire_top.specs.declared.loading.NoWorld.TheVariants.{NoMemory, Failed as LoadFailed, TooLong, Refused}
@@ -72,8 +68,8 @@ long_script start script long = let e : nat_lt 16777216 (length script) ≡ true
 short_script : (start : World) (script : List ℕ) → length script ≤ 16777216 → run_of_script start script ≡ played start script
 short_script start script short = let e : nat_lt 16777216 (length script) ≡ false = search (tests, rules) in rw e refl
 
-services_of : (p q : Played) (world : World) (services : List KeptService) → p ≡ q → world ≡ q.world → services ≡ world.services → services ≡ p.world.services
-services_of p q world services same done is = is ∙ ap (λ (w : World). w.services) (done ∙ sym (ap (λ (x : Played). x.world) same))
+standing_in : (status : ℕ) (p q : Played) (world : World) → p ≡ q → world ≡ q.world → standing status world ≡ standing status p.world
+standing_in status p q world same done = ap (standing status) (done ∙ sym (ap (λ (x : Played). x.world) same))
 
 -- memory is wanting when some of what the script prints is written
 lacks_behind : (start : World) (script : List ℕ) (a b c : Writes) (ans : Answer) → length script ≤ 16777216 → WroteFront a b (played start script).out → a.faults ≤ b.faults → LacksMemory b c ans
@@ -88,38 +84,38 @@ lacks_behind start script a b c ans short f h lacks =
     }
 
 -- all lines are done
-pub all_done : (start : World) (script : List ℕ) (world : World) (services : List KeptService) (a b : Writes) (ans : Answer) → length script ≤ 16777216 → DoesAll (played start script) world a b → (played start script).refused ≡ None
-    → services ≡ world.services → ans ≡ of_services 0 services → ScriptEnds start script a b ans
-all_done start script world services a b ans short does goes is good =
+pub all_done : (start : World) (script : List ℕ) (world : World) (a b : Writes) (ans : Answer) → length script ≤ 16777216 → DoesAll (played start script) world a b → (played start script).refused ≡ None
+    → ans ≡ standing 0 world → ScriptEnds start script a b ans
+all_done start script world a b ans short does goes good =
     let p = short_script start script short in
     let W : Played → Type 0 = λ q. Wrote a b q.out in
     inl (record {
       not_refused = ap (λ (q : Played). q.refused) p ∙ goes;
-      answered = good ∙ ap (of_services 0) (services_of _ _ world services p does.same_world is);
+      answered = good ∙ standing_in 0 _ _ world p does.same_world;
       wrote = subst W (sym p) does.wrote;
     })
 
 -- a line is refused
-pub at_line : (start : World) (script : List ℕ) (line number : ℕ) (world : World) (services : List KeptService) (a b c : Writes) (ans : Answer) → length script ≤ 16777216 → DoesAll (played start script) world a b → IsRefusedAt line number (played start script)
-    → a.faults ≤ b.faults → services ≡ world.services → Closes b c (of_services 3 services) (refused_line line number) ans → ScriptEnds start script a c ans
-at_line start script line number world services a b c ans short does at h is (inl good) =
+pub at_line : (start : World) (script : List ℕ) (line number : ℕ) (world : World) (a b c : Writes) (ans : Answer) → length script ≤ 16777216 → DoesAll (played start script) world a b → IsRefusedAt line number (played start script)
+    → a.faults ≤ b.faults → Closes b c (standing 3 world) (refused_line line number) ans → ScriptEnds start script a c ans
+at_line start script line number world a b c ans short does at h (inl good) =
     let p = short_script start script short in
     let E : Played → Type 0 = λ q. EndsWith a c q.out (refused_line line number) in
     inr (inl (record {
       line = line;
       number = number;
       at_line = ap (λ (q : Played). q.refused) p ∙ at;
-      answered = good.0 ∙ ap (of_services 3) (services_of _ _ world services p does.same_world is);
+      answered = good.0 ∙ standing_in 3 _ _ world p does.same_world;
       ends = subst E (sym p) (ends_behind a b c _ _ does.wrote h good.1);
     }))
-at_line start script line number world services a b c ans short does at h is (inr lacks) =
+at_line start script line number world a b c ans short does at h (inr lacks) =
     inr (inr (inr (lacks_behind start script a b c ans short (front_whole a b _ does.wrote) h lacks)))
 
 -- a write failed in a line
-pub cut_short : (start : World) (script : List ℕ) (world : World) (services : List KeptService) (a b : Writes) (ans : Answer) → StopsInLine start script world a b → WriteFails a b
-    → services ≡ world.services → ans ≡ of_services 5 services → ScriptEnds start script a b ans
-cut_short start script world services a b ans stops fails is good =
-    inr (inr (inl (record { world = world; answered = good ∙ ap (of_services 5) is; in_line = stops; fault = fails })))
+pub cut_short : (start : World) (script : List ℕ) (world : World) (a b : Writes) (ans : Answer) → StopsInLine start script world a b → WriteFails a b
+    → ans ≡ standing 5 world → ScriptEnds start script a b ans
+cut_short start script world a b ans stops fails good =
+    inr (inr (inl (record { world = world; answered = good; in_line = stops; fault = fails })))
 
 -- memory was wanting
 pub lacked : (start : World) (script : List ℕ) (world : World) (a b c : Writes) (ans : Answer) → length script ≤ 16777216 → StopsEarly start script world a b → a.faults ≤ b.faults → LacksMemory b c ans → ScriptEnds start script a c ans
@@ -137,10 +133,10 @@ in_script setups word before now world bytes script ans got start same ends =
     inl (record { script = script; got = got; ended = subst B same (subst W start ends) })
 
 -- a script that is too long
-pub too_long : (setups : List Setup) (word : List ℕ) (before now : Outside) (services : List KeptService) (ans : Answer) → services ≡ (fresh setups).services
-    → ((script : List ℕ) × IsGot word before.loads now.loads before.reads now.reads script × (16777216 < length script)) → Closes before.writes now.writes (of_services 3 services) (refused_line 0 7) ans
+pub too_long : (setups : List Setup) (word : List ℕ) (before now : Outside) (world : World) (ans : Answer) → world ≡ fresh setups
+    → ((script : List ℕ) × IsGot word before.loads now.loads before.reads now.reads script × (16777216 < length script)) → Closes before.writes now.writes (standing 3 world) (refused_line 0 7) ans
     → RunsIn setups word before now ans
-too_long setups word before now services ans is got (inl good) =
+too_long setups word before now world ans is got (inl good) =
     let p = long_script (fresh setups) got.0 got.2 in
     let E : Played → Type 0 = λ q. EndsWith before.writes now.writes q.out (refused_line 0 7) in
     inl (record {
@@ -150,11 +146,11 @@ too_long setups word before now services ans is got (inl good) =
         line = 0;
         number = 7;
         at_line = ap (λ (q : Played). q.refused) p;
-        answered = good.0 ∙ ap (of_services 3) (services_of _ _ (fresh setups) services p refl is);
+        answered = good.0 ∙ standing_in 3 _ _ world p is;
         ends = subst E (sym p) good.1;
       }));
     })
-too_long setups word before now services ans is got (inr lacks) = inr (inr lacks)
+too_long setups word before now world ans is got (inr lacks) = inr (inr lacks)
 
 -- ---- a run of the program
 
@@ -277,8 +273,6 @@ ends_well words before now ans good (inr (inr (inr (inl unread)))) =
     ]
 ends_well words before now ans good (inr (inr (inr (inr lacks)))) = inr (ap (λ (x : Answer). x.status) lacks.answered)
 
--- what a verdict that is Legal says
-pub legal_told : (v : Verdict) (world : List History) → IsLegalIf v world → Some v ≡ Some Legal → IsLegal world
-legal_told Legal world h e = h
-legal_told (Forged at index) world h e = cc
-legal_told (Unsettled at what) world h e = cc
+-- the verdict that is told
+pub verdict_told : (v w : Verdict) → Some v ≡ Some w → v ≡ w
+verdict_told v w e = cc

@@ -1,25 +1,10 @@
 -- What is known of a world that is loaded.
-use Rattle.std.proofs.Common.{◌≡◌, ℕ, ◌<◌, ◌≤◌, List, [], ◌∷◌, length, Option, Some, None, All, map, option_map, Ok, Err, true, false, nat_lt, refl, ap, sym, ◌∙◌, arith, rules, tests, codes}
+use Rattle.std.proofs.Common.{◌≡◌, ℕ, ◌<◌, ◌≤◌, List, [], ◌∷◌, length, Option, Some, None, option_map, Ok, Err, true, false, nat_lt, refl, ap, sym, ◌∙◌, rules, tests, codes}
 use Rattle.std.specs.Option.{ForSome}
-use Rattle.std.proofs.lemmas.List.Elements.{All-cons, All-nil}
-use Rattle.std.proofs.lemmas.Map.Keys.{IsDistinct-from_apart}
-use Rattle.lang_base.specs.Texts.{same_text}
-use Rattle.world_file.specs.Notes.{built_in}
-use Rattle.world_file.specs.Worlds.{IsAlone, world_of}
+use Rattle.world_file.specs.Standard.{built_in}
+use Rattle.world_file.specs.Worlds.{world_of}
 use Rattle.world_file.specs.declared.setup.Setup.{Setup}
-use Rattle.world_core.specs.Worlds.{NamesDiffer}
-use Rattle.aire_top.specs.Top.{HasNoPeers, Is, WorldOrRefusal, file_world, fresh_service, path_unless, world_from, world_or, world_path, world_told, world_within}
-
--- services that stand alone have no peers, and no two of them have one name
-pub none_has_peers : (setups : List Setup) → IsAlone setups → All HasNoPeers setups
-none_has_peers [] h = absurd h
-none_has_peers (setup ∷ []) h = All-cons HasNoPeers setup [] h (All-nil HasNoPeers)
-none_has_peers (setup ∷ other ∷ more) h = absurd h
-
-pub names_differ : (setups : List Setup) → IsAlone setups → NamesDiffer (map fresh_service setups)
-names_differ [] h = absurd h
-names_differ (setup ∷ []) h = IsDistinct-from_apart same_text (setup.setting.me ∷ []) (λ i j d a b. absurd (omega (arith, a, b)))
-names_differ (setup ∷ other ∷ more) h = absurd h
+use Rattle.aire_top.specs.Top.{Is, WorldOrRefusal, file_world, path_unless, world_from, world_or, world_path, world_told, world_within}
 
 within-short : (bytes : List ℕ) → length bytes ≤ 4194304 → world_within bytes ≡ world_from (world_of bytes)
 within-short bytes short = let e : nat_lt 4194304 (length bytes) ≡ false = search (tests, rules) in rw e refl

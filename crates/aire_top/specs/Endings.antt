@@ -3,12 +3,12 @@ use Rattle.std.specs.Prelude.{◌≡◌, ◌⊎◌, ℕ, ◌≤◌, Bool, true, 
 use Rattle.io_edge.specs.Edge.{IsAtEnd, IsFront, ReadFails, Reads, WriteFails, Writes, Wrote}
 use Rattle.io_edge.specs.Files.{LoadFails, Loads}
 use Rattle.journal_rows.specs.declared.verdict.Verdict.{Verdict}
-use Rattle.service_core.specs.Events.{KeptService}
-use Rattle.world_core.specs.Verdicts.{verdict}
-use Rattle.world_core.specs.Worlds.{World}
+use Rattle.service_meaning.specs.State.{Kept}
+use Rattle.network_meaning.specs.Worlds.{World}
 use Rattle.world_file.specs.declared.setup.Setup.{Setup}
-use Rattle.script_run.specs.Plays.{Played, run_of_script}
-use Rattle.script_run.specs.Stops.{StopsInLine}
+use Rattle.script_plays.specs.Audits.{verdict}
+use Rattle.script_plays.specs.Plays.{Played, run_of_script}
+use Rattle.script_plays.specs.Stops.{StopsInLine}
 use Rattle.aire_top.specs.Top.{Is, Words, fresh, is_input, script_path, script_told, world_path, world_told}
 
 -- ---- what a run is told by
@@ -25,23 +25,19 @@ outside loads reads writes = record { loads = loads; reads = reads; writes = wri
 -- what a run answers
 pub record Answer : Type 0 where
   pub status : ℕ
-  pub services : List KeptService
+  pub services : List Kept
   pub verdict : Option Verdict
 
-abbrev pub answer : ℕ → List KeptService → Option Verdict → Answer
+abbrev pub answer : ℕ → List Kept → Option Verdict → Answer
 answer status services told = record { status = status; services = services; verdict = told }
 
 -- no services, and no verdict
 abbrev pub nothing : ℕ → Answer
 nothing status = answer status [] None
 
--- these services, and the verdict over them
-abbrev pub of_services : ℕ → List KeptService → Answer
-of_services status services = answer status services (Some (verdict services))
-
 -- the services of this world, and the verdict over them
 abbrev pub standing : ℕ → World → Answer
-standing status world = of_services status world.services
+standing status world = answer status world.services (Some (verdict world.services))
 
 -- ---- what is written last
 

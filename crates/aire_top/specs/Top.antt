@@ -1,13 +1,12 @@
 -- What the command words mean and name.
-use Rattle.std.specs.Prelude.{◌≡◌, ℕ, ◌+◌, Bool, not, ◌||◌, List, [], ◌∷◌, length, Option, Some, None, option_map, Result, Ok, Err, map, if◌then◌else◌, nat_eq, nat_lt, codes}
+use Rattle.std.specs.Prelude.{◌≡◌, ℕ, ◌+◌, Bool, not, ◌||◌, List, [], ◌∷◌, length, Option, Some, None, option_map, Result, Ok, Err, if◌then◌else◌, nat_eq, nat_lt, codes}
 use Rattle.std.specs.List.{starts_with}
 use Rattle.std.specs.Option.{ForSome}
 use Rattle.lang_base.specs.Texts.{same_text}
-use Rattle.service_core.specs.Events.{KeptService}
-use Rattle.world_core.specs.Worlds.{World, fresh_world}
+pub use Rattle.setup_laws.specs.Fresh.{fresh, fresh_service}
 use Rattle.world_file.specs.declared.setup.Setup.{Setup}
 use Rattle.world_file.specs.declared.refused.WorldRefused.{WorldRefused}
-use Rattle.world_file.specs.Notes.{built_in}
+use Rattle.world_file.specs.Standard.{built_in}
 use Rattle.world_file.specs.Numbers.{refusal_text}
 use Rattle.world_file.specs.Worlds.{world_of}
 
@@ -111,17 +110,3 @@ world_path word = path_unless (built_in word) word
 -- the path of a script's file: the word, unless that means the input
 abbrev pub script_path : List ℕ → List (List ℕ)
 script_path word = if is_input word then [] else word ∷ []
-
--- ---- the world that is run
-
--- it calls no other service
-abbrev pub HasNoPeers : Setup → Type 0
-HasNoPeers setup = setup.setting.peers ≡ []
-
--- a new service that is set up so
-abbrev pub fresh_service : Setup → KeptService
-fresh_service setup = record { setting = setup.setting; entries = []; accepted = [] }
-
--- a new world of services that are set up so
-abbrev pub fresh : List Setup → World
-fresh setups = fresh_world (map fresh_service setups)

@@ -1,17 +1,18 @@
 // How a run ends.
-ghost use Rattle.std.specs.Prelude.{◌≡◌, ◌≤◌, [], Some, map, codes};
-ghost use Rattle.execution.specs.Executions.{IsLegal};
+ghost use Rattle.std.specs.Prelude.{◌≡◌, ◌≤◌, IfSome, Some, codes};
 ghost use Rattle.journal_rows.specs.declared.verdict.Verdict.TheVariants.{Legal};
-ghost use Rattle.service_core.specs.Events.{history};
+ghost use Rattle.network_meaning.specs.Sound.{IsSound};
+ghost use Rattle.script_plays.specs.Audits.{SaysForged};
+ghost use Rattle.world_meaning.specs.Legal.{IsLegalTogether, histories};
 ghost use Rattle.world_file.specs.Numbers.{refusal_text};
 ghost use Rattle.aire_top.specs.Closings.{Closes};
-ghost use Rattle.aire_top.specs.Endings.{LacksMemory, answer, nothing, of_services, refused_line, unread_line, usage_line, world_line};
+ghost use Rattle.aire_top.specs.Endings.{LacksMemory, answer, nothing, refused_line, standing, unread_line, usage_line, world_line};
 
 use crate::last::{lacking_status, write_last};
 use io_edge::Sink;
-use service_core::Service;
+use journal_rows::Verdict;
+use script_run::{Service, World, judge};
 use std::alloc::Global;
-use world_core::{Verdict, audit};
 use world_file::WorldRefused;
 
 /// How a run ended: its status, the services of its last world, and the verdict over them. There are no services and
@@ -26,7 +27,8 @@ pub struct Ended {
 // The end of a run without services.
 fn without(alloc: Global, status: u8) -> Ended
     ensures answer { answer result.status result.services.items result.verdict ≡ nothing status }
-    ensures legal { result.verdict ≡ Some Legal → IsLegal (map history result.services.items) }
+    ensures legal { result.verdict ≡ Some Legal → IsLegalTogether (histories result.services.items) }
+    ensures joined { IfSome result.verdict (λ v. ¬ (SaysForged v)) }
 {
     Ended {
         status,
@@ -38,42 +40,41 @@ fn without(alloc: Global, status: u8) -> Ended
 /// The end of a run for want of memory: 6.
 pub fn lacking<K: Sink>(alloc: Global, out: &mut K) -> Ended
     ensures ends { LacksMemory (K.writes out.old) (K.writes out.new) (answer result.status result.services.items result.verdict) }
-    ensures legal { result.verdict ≡ Some Legal → IsLegal (map history result.services.items) }
+    ensures legal { result.verdict ≡ Some Legal → IsLegalTogether (histories result.services.items) }
+    ensures joined { IfSome result.verdict (λ v. ¬ (SaysForged v)) }
     ensures counted { (K.writes out.old).faults ≤ (K.writes out.new).faults }
 {
     let status = lacking_status(out);
     without(alloc, status)
 }
 
-/// The end of a run whose services stand, with nothing more to write.
-pub fn standing(status: u8, services: Vec<Service>) -> Ended
-    ensures answer { answer result.status result.services.items result.verdict ≡ of_services status services.items }
-    ensures legal { result.verdict ≡ Some Legal → IsLegal (map history result.services.items) }
+/// The end of a run whose world stands, with nothing more to write.
+pub fn standing(status: u8, world: World) -> Ended
+    requires { IsSound world }
+    ensures answer { answer result.status result.services.items result.verdict ≡ standing status world }
+    ensures legal { result.verdict ≡ Some Legal → IsLegalTogether (histories result.services.items) }
+    ensures joined { IfSome result.verdict (λ v. ¬ (SaysForged v)) }
 {
-    let verdict = Some(audit(&services));
+    let verdict = Some(judge(&world));
     Ended {
         status,
-        services,
+        services: world.into_services(),
         verdict,
     }
 }
 
-/// The end of a run whose services stand, at a line of the script that is refused: 3.
-pub fn refusal<K: Sink>(
-    alloc: Global,
-    services: Vec<Service>,
-    out: &mut K,
-    line: u64,
-    number: u64,
-) -> Ended
-    ensures ends { Closes (K.writes out.old) (K.writes out.new) (of_services 3 services.items) (refused_line line number) (answer result.status result.services.items result.verdict) }
-    ensures legal { result.verdict ≡ Some Legal → IsLegal (map history result.services.items) }
+/// The end of a run whose world stands, at a line of the script that is refused: 3.
+pub fn refusal<K: Sink>(alloc: Global, world: World, out: &mut K, line: u64, number: u64) -> Ended
+    requires { IsSound world }
+    ensures ends { Closes (K.writes out.old) (K.writes out.new) (standing 3 world) (refused_line line number) (answer result.status result.services.items result.verdict) }
+    ensures legal { result.verdict ≡ Some Legal → IsLegalTogether (histories result.services.items) }
+    ensures joined { IfSome result.verdict (λ v. ¬ (SaysForged v)) }
     ensures counted { (K.writes out.old).faults ≤ (K.writes out.new).faults }
 {
     match format!(in alloc; "script refused line {line} number {number}\n") {
         Ok(text) => {
             write_last(out, text.as_str());
-            standing(3, services)
+            standing(3, world)
         }
         Err(_) => lacking(alloc, out),
     }
@@ -82,7 +83,8 @@ pub fn refusal<K: Sink>(
 /// The end of a run whose file or input can't be read: 4.
 pub fn unread<K: Sink>(alloc: Global, out: &mut K) -> Ended
     ensures ends { Closes (K.writes out.old) (K.writes out.new) (nothing 4) unread_line (answer result.status result.services.items result.verdict) }
-    ensures legal { result.verdict ≡ Some Legal → IsLegal (map history result.services.items) }
+    ensures legal { result.verdict ≡ Some Legal → IsLegalTogether (histories result.services.items) }
+    ensures joined { IfSome result.verdict (λ v. ¬ (SaysForged v)) }
 {
     write_last(out, "read fault\n");
     without(alloc, 4)
@@ -91,7 +93,8 @@ pub fn unread<K: Sink>(alloc: Global, out: &mut K) -> Ended
 /// The end of a run whose words don't fit: 2.
 pub fn misused<K: Sink>(alloc: Global, out: &mut K, place: u64) -> Ended
     ensures ends { Closes (K.writes out.old) (K.writes out.new) (nothing 2) (usage_line place) (answer result.status result.services.items result.verdict) }
-    ensures legal { result.verdict ≡ Some Legal → IsLegal (map history result.services.items) }
+    ensures legal { result.verdict ≡ Some Legal → IsLegalTogether (histories result.services.items) }
+    ensures joined { IfSome result.verdict (λ v. ¬ (SaysForged v)) }
 {
     match format!(in alloc; "usage: word {place}\n") {
         Ok(text) => {
@@ -105,7 +108,8 @@ pub fn misused<K: Sink>(alloc: Global, out: &mut K, place: u64) -> Ended
 /// The end of a run whose world file is too long: 3.
 pub fn world_too_long<K: Sink>(alloc: Global, out: &mut K) -> Ended
     ensures ends { Closes (K.writes out.old) (K.writes out.new) (nothing 3) (world_line (codes "8")) (answer result.status result.services.items result.verdict) }
-    ensures legal { result.verdict ≡ Some Legal → IsLegal (map history result.services.items) }
+    ensures legal { result.verdict ≡ Some Legal → IsLegalTogether (histories result.services.items) }
+    ensures joined { IfSome result.verdict (λ v. ¬ (SaysForged v)) }
 {
     write_last(out, "world refused 8\n");
     without(alloc, 3)
@@ -114,7 +118,8 @@ pub fn world_too_long<K: Sink>(alloc: Global, out: &mut K) -> Ended
 /// The end of a run whose world file is refused: 3.
 pub fn world_refused<K: Sink>(alloc: Global, out: &mut K, why: &WorldRefused) -> Ended
     ensures ends { Closes (K.writes out.old) (K.writes out.new) (nothing 3) (world_line (refusal_text why.now)) (answer result.status result.services.items result.verdict) }
-    ensures legal { result.verdict ≡ Some Legal → IsLegal (map history result.services.items) }
+    ensures legal { result.verdict ≡ Some Legal → IsLegalTogether (histories result.services.items) }
+    ensures joined { IfSome result.verdict (λ v. ¬ (SaysForged v)) }
 {
     match format!(in alloc; "world refused {why}\n") {
         Ok(text) => {

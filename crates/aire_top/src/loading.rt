@@ -7,7 +7,7 @@ ghost use Rattle.aire_top.specs.Causes.{what_of};
 ghost use Rattle.aire_top.specs.Closings.{IsGot, IsNotGot};
 ghost use Rattle.aire_top.specs.Endings.{Asked};
 ghost use Rattle.aire_top.specs.Top.{Is, file_world, world_from, world_path, world_told};
-ghost use Rattle.world_file.specs.Worlds.{IsAlone, world_of};
+ghost use Rattle.world_file.specs.Worlds.{KnowEachOther, world_of};
 
 use crate::words::is_input;
 use io_edge::{Files, LoadRefused, ReadRefused, Source, read_all};
@@ -37,7 +37,7 @@ pub enum NoWorld {
 // The world that these bytes spell.
 fn world_from(alloc: Global, bytes: &[u8]) -> Result<Vec<Setup>, NoWorld>
     ensures world { IfOk result (λ setups. world_from (world_of bytes.now) ≡ Ok setups.items) }
-    ensures alone { IfOk result (λ setups. IsAlone setups.items) }
+    ensures together { IfOk result (λ setups. KnowEachOther setups.items) }
     ensures refused { IfErr result (λ why. ForSome (what_of why) (λ what. world_from (world_of bytes.now) ≡ Err what)) }
     ensures cause { ¬ (IsErrOf result NoWorld.Failed) }
 {
@@ -52,7 +52,7 @@ fn world_from(alloc: Global, bytes: &[u8]) -> Result<Vec<Setup>, NoWorld>
 #[tactic(auto, using(crate::proofs::Worlds::short_file, crate::proofs::Worlds::long_file))]
 fn load_file<F: Files>(alloc: Global, path: &str, files: &mut F) -> Result<Vec<Setup>, NoWorld>
     ensures world { IfOk result (λ setups. Is (file_world (F.loads files.old).files path.now) (Ok setups.items)) }
-    ensures alone { IfOk result (λ setups. IsAlone setups.items) }
+    ensures together { IfOk result (λ setups. KnowEachOther setups.items) }
     ensures refused { IfErr result (λ why. ForSome (what_of why) (λ what. Is (file_world (F.loads files.old).files path.now) (Err what))) }
     ensures files { (F.loads files.new).files ≡ (F.loads files.old).files }
     ensures asked { ¬ (IsErrOf result NoWorld.NoMemory) → Asked (F.loads files.old) (F.loads files.new) (path.now ∷ []) }
@@ -68,10 +68,10 @@ fn load_file<F: Files>(alloc: Global, path: &str, files: &mut F) -> Result<Vec<S
 }
 
 /// The world that a word names: one that comes with the program, or that of a file.
-#[tactic(auto, using(world_file::proofs::Ones::built_in_alone, crate::proofs::Worlds::standard_told, crate::proofs::Worlds::other_told))]
+#[tactic(auto, using(crate::proofs::Worlds::standard_told, crate::proofs::Worlds::other_told))]
 pub fn load_world<F: Files>(alloc: Global, word: &str, files: &mut F) -> Result<Vec<Setup>, NoWorld>
     ensures world { IfOk result (λ setups. Is (world_told (F.loads files.old).files word.now) (Ok setups.items)) }
-    ensures alone { IfOk result (λ setups. IsAlone setups.items) }
+    ensures together { IfOk result (λ setups. KnowEachOther setups.items) }
     ensures refused { IfErr result (λ why. ForSome (what_of why) (λ what. Is (world_told (F.loads files.old).files word.now) (Err what))) }
     ensures files { (F.loads files.new).files ≡ (F.loads files.old).files }
     ensures asked { ¬ (IsErrOf result NoWorld.NoMemory) → Asked (F.loads files.old) (F.loads files.new) (world_path word.now) }

@@ -1,12 +1,13 @@
 // The top call.
-ghost use Rattle.std.specs.Prelude.{◌≡◌, ◌⊎◌, ◌≤◌, All, IfOk, Some, map, string_bytes, length};
-ghost use Rattle.execution.specs.Executions.{IsLegal};
+ghost use Rattle.std.specs.Prelude.{◌≡◌, ◌⊎◌, ◌≤◌, IfOk, IfSome, Some, map, string_bytes, length};
 ghost use Rattle.journal_rows.specs.declared.verdict.Verdict.TheVariants.{Legal};
-ghost use Rattle.service_core.specs.Events.{history};
-ghost use Rattle.world_file.specs.Worlds.{IsAlone};
+ghost use Rattle.network_meaning.specs.Sound.{IsSound};
+ghost use Rattle.script_plays.specs.Audits.{SaysForged};
+ghost use Rattle.world_meaning.specs.Legal.{IsLegalTogether, histories};
+ghost use Rattle.world_file.specs.Worlds.{KnowEachOther};
 ghost use Rattle.aire_top.specs.Closings.{ClosesWorldless, RunsIn};
 ghost use Rattle.aire_top.specs.Endings.{IsGoodRun, RunEnds, ScriptEnds, answer, outside};
-ghost use Rattle.aire_top.specs.Top.{fitting, fresh, fresh_service, words_of, HasNoPeers};
+ghost use Rattle.aire_top.specs.Top.{fitting, fresh, fresh_service, words_of};
 
 use crate::ending::{
     Ended, lacking, misused, refusal, standing, unread, world_refused, world_too_long,
@@ -15,16 +16,15 @@ use crate::loading::{LONGEST_SCRIPT, NoWorld, load_script, load_world};
 use crate::words::named;
 use io_edge::{Files, ReadRefused, Sink, Source};
 use lang_core::{Copied, NoMemory};
-use script_run::{ScriptRefused, run_script};
-use service_core::Service;
+use script_run::{ScriptRefused, Service, World, run_script};
 use std::alloc::Global;
-use world_core::World;
 use world_file::Setup;
 
 // The end of a run that has no world.
 fn worldless<K: Sink>(alloc: Global, why: NoWorld, out: &mut K) -> Ended
     ensures ends { ClosesWorldless why (K.writes out.old) (K.writes out.new) (answer result.status result.services.items result.verdict) }
-    ensures legal { result.verdict ≡ Some Legal → IsLegal (map history result.services.items) }
+    ensures legal { result.verdict ≡ Some Legal → IsLegalTogether (histories result.services.items) }
+    ensures joined { IfSome result.verdict (λ v. ¬ (SaysForged v)) }
 {
     match why {
         NoWorld::NoMemory => lacking(alloc, out),
@@ -36,16 +36,18 @@ fn worldless<K: Sink>(alloc: Global, why: NoWorld, out: &mut K) -> Ended
 
 // Runs a script, which isn't too long, in a world.
 fn play<K: Sink>(alloc: Global, world: World, script: &[u8], out: &mut K) -> Ended
-    requires { length script.now ≤ LONGEST_SCRIPT }
+    requires short { length script.now ≤ LONGEST_SCRIPT }
+    requires sound { IsSound world }
     ensures ends { ScriptEnds world script.now (K.writes out.old) (K.writes out.new) (answer result.status result.services.items result.verdict) }
-    ensures legal { result.verdict ≡ Some Legal → IsLegal (map history result.services.items) }
+    ensures legal { result.verdict ≡ Some Legal → IsLegalTogether (histories result.services.items) }
+    ensures joined { IfSome result.verdict (λ v. ¬ (SaysForged v)) }
 {
     let mut world = world;
     match run_script(alloc, &mut world, script, out) {
-        Ok(()) => standing(0, world.into_services()),
-        Err(ScriptRefused::WriteFault) => standing(5, world.into_services()),
+        Ok(()) => standing(0, world),
+        Err(ScriptRefused::WriteFault) => standing(5, world),
         Err(ScriptRefused::Refused(line, fault)) => {
-            refusal(alloc, world.into_services(), out, line, fault.number())
+            refusal(alloc, world, out, line, fault.number())
         }
         Err(ScriptRefused::NoMemory) => lacking(alloc, out),
     }
@@ -53,7 +55,6 @@ fn play<K: Sink>(alloc: Global, world: World, script: &[u8], out: &mut K) -> End
 
 // New services that are set up so.
 fn services_of(alloc: Global, setups: &[Setup]) -> Result<Vec<Service>, NoMemory>
-    requires { All HasNoPeers setups.now }
     ensures { IfOk result (λ services. services.items ≡ map fresh_service setups.now) }
 {
     let mut services = Vec::new(alloc);
@@ -65,13 +66,14 @@ fn services_of(alloc: Global, setups: &[Setup]) -> Result<Vec<Service>, NoMemory
 }
 
 // A new world of services that are set up so.
-#[tactic(auto, using(crate::proofs::Worlds::none_has_peers, crate::proofs::Worlds::names_differ))]
+#[tactic(auto, using(setup_laws::proofs::FreshLaws::names_differ, setup_laws::proofs::FreshLaws::setups_sound))]
 fn started(alloc: Global, setups: &[Setup]) -> Result<World, NoMemory>
-    requires { IsAlone setups.now }
-    ensures { IfOk result (λ world. world ≡ fresh setups.now) }
+    requires { KnowEachOther setups.now }
+    ensures fresh { IfOk result (λ world. world ≡ fresh setups.now) }
+    ensures sound { IfOk result (λ world. IsSound world) }
 {
     let services = services_of(alloc, setups)?;
-    Ok(World::new(services))
+    Ok(World::new(alloc, services))
 }
 
 // Runs the script that a word names in a new world of these services.
@@ -83,12 +85,13 @@ fn run_in<F: Files, S: Source, K: Sink>(
     input: &mut S,
     out: &mut K,
 ) -> Ended
-    requires { IsAlone setups.items }
+    requires { KnowEachOther setups.items }
     ensures ends { RunsIn setups.items script.now
         (outside (F.loads files.old) (S.reads input.old) (K.writes out.old))
         (outside (F.loads files.new) (S.reads input.new) (K.writes out.new))
         (answer result.status result.services.items result.verdict) }
-    ensures legal { result.verdict ≡ Some Legal → IsLegal (map history result.services.items) }
+    ensures legal { result.verdict ≡ Some Legal → IsLegalTogether (histories result.services.items) }
+    ensures joined { IfSome result.verdict (λ v. ¬ (SaysForged v)) }
 {
     let Ok(world) = started(alloc, &setups) else {
         return lacking(alloc, out);
@@ -97,7 +100,7 @@ fn run_in<F: Files, S: Source, K: Sink>(
         Ok(script) => play(alloc, world, script.as_slice(), out),
         Err(ReadRefused::NoMemory) => lacking(alloc, out),
         Err(ReadRefused::Fault) => unread(alloc, out),
-        Err(ReadRefused::TooLong) => refusal(alloc, world.into_services(), out, 0, 7),
+        Err(ReadRefused::TooLong) => refusal(alloc, world, out, 0, 7),
     }
 }
 
@@ -114,7 +117,8 @@ fn run<F: Files, S: Source, K: Sink>(
         (outside (F.loads files.old) (S.reads input.old) (K.writes out.old))
         (outside (F.loads files.new) (S.reads input.new) (K.writes out.new))
         (answer result.status result.services.items result.verdict) }
-    ensures legal { result.verdict ≡ Some Legal → IsLegal (map history result.services.items) }
+    ensures legal { result.verdict ≡ Some Legal → IsLegalTogether (histories result.services.items) }
+    ensures joined { IfSome result.verdict (λ v. ¬ (SaysForged v)) }
 {
     match load_world(alloc, world, files) {
         Ok(setups) => run_in(alloc, setups, script, files, input, out),
@@ -123,7 +127,7 @@ fn run<F: Files, S: Source, K: Sink>(
 }
 
 /// What the program does. The words are those after its name. The only row of them is `run WORLD SCRIPT`: WORLD is
-/// `@notes` or a world file, SCRIPT a file or `-` for the input, and the script is run in a new world.
+/// `@notes`, `@shops`, `@posts` or a world file, SCRIPT a file or `-` for the input, and the script is run in a new world.
 ///
 /// A run ends in one of five ways: the script was run (status 0, 3, 5 or 6), the words don't fit (2), the world is
 /// refused (3), a file or the input can't be read (4), or memory is wanting (6).
@@ -146,8 +150,13 @@ pub fn aire<F: Files, S: Source, K: Sink>(
         (outside (F.loads files.new) (S.reads input.new) (K.writes out.new))
         → (result.status ≡ 0) ⊎ (result.status ≡ 6) }
 
-    // Where the verdict is Legal, all logs and rows form one legal execution of the surviving requests in logged order.
-    ensures legal { result.verdict ≡ Some Legal → IsLegal (map history result.services.items) }
+    // Where the verdict is Legal, the logs and rows of all services form one legal execution of the surviving requests,
+    // each service in logged order: with each call of one of them there is exactly one request at its destination, whose
+    // response is what the call consumed, and no other call has one that is wanted.
+    ensures legal { result.verdict ≡ Some Legal → IsLegalTogether (histories result.services.items) }
+
+    // It is never Forged: what each service says of another is what that one says of itself.
+    ensures joined { IfSome result.verdict (λ v. ¬ (SaysForged v)) }
 {
     match named(words) {
         Ok((world, script)) => run(alloc, world, script, files, input, out),

@@ -1,6 +1,7 @@
-pub mod Worlds
 pub mod Events
-pub mod Sound
 pub mod Live
 pub mod Reach
 pub mod Refusals
+pub mod Sound
+pub mod Turns
+pub mod Worlds

@@ -126,7 +126,7 @@ same_byte : (is : Bool) (b c : ℕ) (bytes : List ℕ) → (b == c) ≡ is → (
 same_byte true b c bytes is other = let same : b ≡ c = grind (arith, nat_tests) in absurd (other bytes (ap (λ x. x ∷ bytes) same))
 same_byte false b c bytes is other = refl
 
-other_byte : (b c : ℕ) (bytes : List ℕ) → ((rest : List ℕ) → b ∷ bytes ≢ c ∷ rest) → (b == c) ≡ false
+pub other_byte : (b c : ℕ) (bytes : List ℕ) → ((rest : List ℕ) → b ∷ bytes ≢ c ∷ rest) → (b == c) ≡ false
 other_byte b c bytes other = same_byte (b == c) b c bytes refl other
 
 pub none_of_three : (text : List ℕ) → ((rest : List ℕ) → text ≢ 92 ∷ rest) → ((rest : List ℕ) → text ≢ 110 ∷ rest) → ((rest : List ℕ) → text ≢ 114 ∷ rest) → None ≡ escape_at text

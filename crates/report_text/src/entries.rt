@@ -31,7 +31,8 @@ fn push_origin(text: &mut String, origin: &Origin, who: &Text) -> Result<(), NoM
     Ok(())
 }
 
-fn push_response(text: &mut String, response: &Response) -> Result<(), NoMemory>
+/// Puts a response last: `STATUS BODY`, or its status alone where its body is empty.
+pub fn push_response(text: &mut String, response: &Response) -> Result<(), NoMemory>
     ensures { OnOk result (string_bytes text.new ≡ string_bytes text.old ++ response_text response.now) }
 {
     let status = response.status;

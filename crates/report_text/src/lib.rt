@@ -7,7 +7,7 @@ mod reading;
 mod rows;
 mod verdicts;
 
-pub use entries::{answer_line, log_text};
+pub use entries::{answer_line, log_text, push_response};
 pub use reading::unescaped;
 pub use rows::rows_text;
 pub use verdicts::verdict_text;

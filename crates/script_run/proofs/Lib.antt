@@ -1,3 +1,1 @@
-pub mod Outcomes
-pub mod Playing
-pub mod Telling
+pub mod Following

@@ -1,13 +1,13 @@
-//! Scripts: what a line says, what it does, and what it prints.
+//! Scripts: what a line does in a world of services, and what it prints, line after line.
 #![tactic(auto)]
 
 mod acting;
-mod line;
-mod parts;
-mod read;
+mod asking;
+mod reports;
 mod script;
+mod telling;
 
 pub use acting::act;
-pub use line::{Line, LineFault};
-pub use read::read_line;
+pub use live_world::{Service, World};
+pub use reports::judge;
 pub use script::{ScriptRefused, run_script};

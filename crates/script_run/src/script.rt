@@ -1,19 +1,19 @@
 // A script, line by line.
 ghost use Rattle.std.specs.Prelude.{◌≡◌, ◌==◌, ◌≤◌, ℕ, ◌∷◌, IfOk, OnOk, OnErr, IsErrOf, None, option_map, length, position};
 ghost use Rattle.io_edge.specs.Edge.{WriteFails};
-ghost use Rattle.script_run.specs.Faults.{fault_number};
-ghost use Rattle.script_run.specs.Plays.{bytes_left, events_for, line_for, lines_left, lines_of, played, text_for, world_for};
-ghost use Rattle.script_run.specs.Stops.{DoesAll, HappenedFirst, IsRefusedAt, StopsEarly, StopsInLine};
-ghost use Rattle.script_run.specs.declared.line.LineFault.{LineFault};
+ghost use Rattle.script_lines.specs.Faults.{fault_number};
+ghost use Rattle.script_lines.specs.Lines.{line_at};
+ghost use Rattle.script_plays.specs.Plays.{bytes_left, events_for, lines_left, lines_of, played, said_for, world_for};
+ghost use Rattle.script_plays.specs.Stops.{DoesAll, HappenedFirst, IsRefusedAt, KeepsSound, StopsEarly, StopsInLine};
+ghost use Rattle.script_lines.specs.declared.line.LineFault.{LineFault};
 ghost use Rattle.script_run.specs.declared.script.ScriptRefused.TheVariants.{Refused, NoMemory, WriteFault};
 
 use crate::acting::act;
-use crate::line::LineFault;
-use crate::read::read_line;
 use io_edge::{Failed, Sink, write_all};
 use lang_core::{NoMemory as LacksMemory, Text};
+use live_world::World;
+use script_lines::{LineFault, read_line};
 use std::alloc::Global;
-use world_core::World;
 
 /// Why a script was not done to its end.
 #[derive(Clone, Copy, PartialEq, Eq)]
@@ -48,9 +48,10 @@ fn play_line(
     world: &mut World,
     bytes: &[u8],
 ) -> Result<Result<Text, LineFault>, LacksMemory>
-    ensures said { IfOk result (λ said. said ≡ text_for world.old (line_for world.old bytes.now)) }
-    ensures after { OnOk result (world.new ≡ world_for world.old (line_for world.old bytes.now)) }
-    ensures early { OnErr result (HappenedFirst world.old (events_for world.old (line_for world.old bytes.now)) world.new) }
+    ensures said { IfOk result (λ said. said ≡ said_for world.old (line_at bytes.now)) }
+    ensures after { OnOk result (world.new ≡ world_for world.old (line_at bytes.now)) }
+    ensures early { OnErr result (HappenedFirst world.old (events_for world.old (line_at bytes.now)) world.new) }
+    ensures sound { KeepsSound world.old world.new }
 {
     match read_line(alloc, bytes)? {
         Ok(line) => act(alloc, world, line),
@@ -93,6 +94,9 @@ pub fn run_script<K: Sink>(
     ensures fault { IsErrOf result WriteFault → WriteFails (K.writes out.old) (K.writes out.new) }
     ensures early { IsErrOf result NoMemory → StopsEarly world.old script.now world.new (K.writes out.old) (K.writes out.new) }
     ensures counted { (K.writes out.old).faults ≤ (K.writes out.new).faults }
+
+    // Whatever it does, services that fit their journals and agree on what went between them do so still.
+    ensures sound { KeepsSound world.old world.new }
 {
     let mut left = Some(script);
     let mut number = 0;

@@ -1,7 +1,10 @@
 // Whole runs over memory: the worked examples by their bytes, and what happens where the k-th read or write fails.
+mod calls;
 mod guestbook;
 mod loads;
 mod orders;
+mod refusals;
+mod settling;
 
 use aire_top::aire;
 use io_edge::{MemoryFile, MemoryFiles, MemorySink, MemorySource};

@@ -1,3 +1,6 @@
+pub mod HeldLemmas
 pub mod Json
-pub mod Ones
+pub mod MemberLemmas
+pub mod RefusedLemmas
 pub mod Settings
+pub mod Standards

@@ -1,5 +1,7 @@
 pub mod Fields
-pub mod Notes
 pub mod Numbers
+pub mod Peers
+pub mod Programs
 pub mod Spelled
+pub mod Standard
 pub mod Worlds

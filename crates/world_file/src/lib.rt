@@ -3,6 +3,8 @@
 
 mod field;
 mod fields;
+mod members;
+mod programs;
 mod refused;
 mod setup;
 mod standard;
@@ -13,4 +15,4 @@ pub use fields::MOST_WEIGHT;
 pub use refused::WorldRefused;
 pub use setup::Setup;
 pub use standard::built_in;
-pub use world::read_world;
+pub use world::{MOST_SERVICES, read_world};

@@ -7,8 +7,8 @@ use handler_lang::ProgramRefused;
 use lang_core::{Name, NoMemory};
 use std::fmt;
 
-/// Why the bytes of a file are refused as a world. Tests come in this order: JSON, the list of services, and then for
-/// each service its fields, its name among the earlier ones, and its program. The first is the refusal.
+/// Why the bytes of a file are refused as a world. Tests come in this order: JSON, the list of services, how many they are,
+/// and then for each service in turn its fields, its name among the earlier ones, and its program. The first is the refusal.
 #[derive(Drop)]
 pub enum WorldRefused {
     /// Memory ran out. Nothing is known of the file.
@@ -19,7 +19,7 @@ pub enum WorldRefused {
     Missing(Field),
     /// A field isn't of its form, or is outside its limits.
     BadField(Field),
-    /// An earlier service has this name. It doesn't come as long as a world has one service.
+    /// An earlier service has this name.
     Twice(Name),
     /// There are more services than a world may have.
     TooMany,

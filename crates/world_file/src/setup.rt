@@ -4,7 +4,7 @@ use lang_core::{Setting, Text};
 /// How a service of a world is set up: its setting, and how it is reached.
 #[derive(Drop)]
 pub struct Setup {
-    /// Its name, its peers, its program, and how heavy its journal may grow.
+    /// Its name, the names of the others, its program, and how heavy its journal may grow.
     pub setting: Setting,
     /// The secret that seals its messages, of 1 to 256 bytes.
     pub secret: Text,

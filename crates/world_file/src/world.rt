@@ -1,84 +1,134 @@
 // The world that a file spells.
-ghost use Rattle.std.specs.Prelude.{◌≡◌, Ok, Some, IfOk, IfErr};
-ghost use Rattle.handler_lang.specs.Reading.{read_of};
+ghost use Rattle.std.specs.Prelude.{◌≡◌, Ok, Some, IfOk, IfErr, map};
 ghost use Rattle.serde_json.specs.View.{view, items_view};
-ghost use Rattle.world_file.specs.Spelled.{fields_of};
-ghost use Rattle.world_file.specs.Worlds.{IsAlone, Refuses, service_of, setup_of, with_program, world_of, world_of_items, world_of_json};
+ghost use Rattle.world_file.specs.Peers.{others};
+ghost use Rattle.world_file.specs.Spelled.{member_seen, members_seen};
+ghost use Rattle.world_file.specs.Worlds.{KnowEachOther, Refuses, member_name, setup_of, world_of, world_of_items, world_of_json, world_with};
 
 use crate::field::Field;
-use crate::fields::{Spelled, fields_in};
+use crate::members::{Member, members_of};
 use crate::refused::WorldRefused;
 use crate::setup::Setup;
-use handler_lang::{ProgramRefused, read_program};
-use lang_core::{Program, Seq, Setting, Text};
+use lang_core::{Copied, Name, Names, NoMemory, Program, Setting, Text};
 use serde_json::Value;
 use std::alloc::Global;
 
-// The service with these fields and this program.
-fn set_up(alloc: Global, spelled: Spelled<'_>, program: Program) -> Result<Setup, WorldRefused>
-    ensures setup { IfOk result (λ setup. setup ≡ setup_of (fields_of spelled.entry) program) }
-    ensures refused { IfErr result (λ why. why ≡ WorldRefused.NoMemory) }
+/// The most services of a world.
+pub const MOST_SERVICES: u64 = 16;
+
+fn names_of(alloc: Global, members: &[Member<'_>]) -> Result<Names, NoMemory>
+    ensures { IfOk result (λ names. names ≡ map member_name (members_seen members.now)) }
 {
+    let mut names = Names::new(alloc);
+    for member in members {
+        names.push(member.spelled.name.copied(alloc)?)?;
+    }
+    Ok(names)
+}
+
+// The other ones of these names, in their order.
+fn others(alloc: Global, me: &Name, names: &[Name]) -> Result<Names, NoMemory>
+    ensures { IfOk result (λ peers. peers ≡ others me.now names.now) }
+{
+    let mut peers = Names::new(alloc);
+    for name in names {
+        if name.as_str() != me.as_str() {
+            peers.push(name.copied(alloc)?)?;
+        }
+    }
+    Ok(peers)
+}
+
+// The setting of a service among those of these names.
+fn setting_of(
+    alloc: Global,
+    me: Name,
+    program: Program,
+    weight: u64,
+    names: &[Name],
+) -> Result<Setting, NoMemory>
+    ensures me { IfOk result (λ setting. setting.me ≡ me) }
+    ensures peers { IfOk result (λ setting. setting.peers ≡ others me names.now) }
+    ensures program { IfOk result (λ setting. setting.program ≡ program) }
+    ensures weight { IfOk result (λ setting. setting.weight ≡ weight) }
+{
+    let peers = others(alloc, &me, names)?;
+    Ok(Setting {
+        me,
+        peers,
+        program,
+        weight,
+    })
+}
+
+// A service among those of these names.
+fn set_up(alloc: Global, member: Member<'_>, names: &[Name]) -> Result<Setup, NoMemory>
+    ensures { IfOk result (λ setup. setup ≡ setup_of names.now (member_seen member.entry)) }
+{
+    let Member { spelled, program } = member;
     let secret = Text::of(alloc, spelled.secret)?;
     let console = Text::of(alloc, spelled.console)?;
     let door = Text::of(alloc, spelled.door)?;
-    let setting = Setting {
-        me: spelled.name,
-        peers: Seq::new(alloc),
-        program,
-        weight: spelled.weight,
-    };
+    let workers = spelled.workers;
+    let setting = setting_of(alloc, spelled.name, program, spelled.weight, names)?;
     Ok(Setup {
         setting,
         secret,
         console,
         door,
-        workers: spelled.workers,
+        workers,
     })
 }
 
-/// The service with these fields, or why its program is none.
-pub fn with_program(alloc: Global, spelled: Spelled<'_>) -> Result<Setup, WorldRefused>
-    ensures setup { IfOk result (λ setup.
-        with_program (fields_of spelled.entry) (read_of spelled.entry.program.now) ≡ Ok setup) }
-    ensures refused { IfErr result (λ why.
-        Refuses why (with_program (fields_of spelled.entry) (read_of spelled.entry.program.now))) }
+// These services, each among those of these names.
+fn set_up_all(
+    alloc: Global,
+    members: Vec<Member<'_>>,
+    names: &[Name],
+) -> Result<Vec<Setup>, NoMemory>
+    ensures { IfOk result (λ world. world.items ≡ map (setup_of names.now) (members_seen members.entry.items)) }
 {
-    match read_program(alloc, spelled.program) {
-        Ok(program) => set_up(alloc, spelled, program),
-        Err(ProgramRefused::NoMemory) => Err(WorldRefused::NoMemory),
-        Err(refused) => Err(WorldRefused::Program(spelled.name, refused)),
+    let mut world = Vec::new(alloc);
+    for member in members {
+        world.push(set_up(alloc, member, names)?)?;
     }
+    Ok(world)
 }
 
-// A service, or why it is refused.
-fn service_of(alloc: Global, service: &Value) -> Result<Setup, WorldRefused>
-    ensures setup { IfOk result (λ setup. service_of (view service.now) ≡ Ok setup) }
-    ensures refused { IfErr result (λ why. Refuses why (service_of (view service.now))) }
+/// The world of these services: the others are each one's peers.
+pub fn world_with(alloc: Global, members: Vec<Member<'_>>) -> Result<Vec<Setup>, NoMemory>
+    ensures { IfOk result (λ world. world.items ≡ world_with (members_seen members.entry.items)) }
 {
-    match fields_in(alloc, service)? {
-        Ok(spelled) => with_program(alloc, spelled),
-        Err(fault) => Err(WorldRefused::from(fault)),
+    let names = names_of(alloc, &members)?;
+    set_up_all(alloc, members, names.as_slice())
+}
+
+// The same, refused as a file is.
+fn finished(alloc: Global, members: Vec<Member<'_>>) -> Result<Vec<Setup>, WorldRefused>
+    ensures world { IfOk result (λ world. world.items ≡ world_with (members_seen members.entry.items)) }
+    ensures refused { IfErr result (λ why. why ≡ WorldRefused.NoMemory) }
+{
+    match world_with(alloc, members) {
+        Ok(world) => Ok(world),
+        Err(_) => Err(WorldRefused::NoMemory),
     }
 }
 
 // A list of services, as a world.
-#[tactic(auto, using(crate::proofs::Json::too_many))]
+#[tactic(auto, using(crate::proofs::Json::too_many, crate::proofs::Json::no_services))]
 fn world_of_items(alloc: Global, services: &[Value]) -> Result<Vec<Setup>, WorldRefused>
     ensures world { IfOk result (λ world. world_of_items (items_view services.now) ≡ Ok world.items) }
     ensures refused { IfErr result (λ why. Refuses why (world_of_items (items_view services.now))) }
 {
-    match services {
-        [] => Err(WorldRefused::BadField(Field::Services)),
-        [service] => {
-            let setup = service_of(alloc, service)?;
-            let mut world = Vec::new(alloc);
-            match world.push(setup) {
-                Ok(()) => Ok(world),
-                Err(_) => Err(WorldRefused::NoMemory),
-            }
-        }
-        [_, _, ..] => Err(WorldRefused::TooMany),
+    if services.is_empty() {
+        return Err(WorldRefused::BadField(Field::Services));
+    }
+    if services.len() as u64 > MOST_SERVICES {
+        return Err(WorldRefused::TooMany);
+    }
+    match members_of(alloc, services) {
+        Ok(members) => finished(alloc, members),
+        Err(why) => Err(why),
     }
 }
 
@@ -109,14 +159,14 @@ fn world_of(alloc: Global, bytes: &[u8]) -> Result<Vec<Setup>, WorldRefused>
     }
 }
 
-/// The world that the bytes of a file spell: its services in the file's order. A file is a JSON object whose field
-/// `services` is a list of objects.
+/// The world that the bytes of a file spell: its services in the file's order, each with the others as its peers. A file
+/// is a JSON object whose field `services` is a list of 1 to 16 objects.
 ///
-/// Until services call each other, a world has one service, and its rules allow all.
-#[tactic(auto, using(crate::proofs::Ones::world_alone))]
+/// Until there are rules, those of each service allow all.
+#[tactic(auto, using(crate::proofs::Json::world_knows))]
 pub fn read_world(alloc: Global, bytes: &[u8]) -> Result<Vec<Setup>, WorldRefused>
     ensures world { IfOk result (λ world. world_of bytes.now ≡ Ok world.items) }
-    ensures alone { IfOk result (λ world. IsAlone world.items) }
+    ensures together { IfOk result (λ world. KnowEachOther world.items) }
     ensures refused { IfErr result (λ why. Refuses why (world_of bytes.now)) }
 {
     world_of(alloc, bytes)

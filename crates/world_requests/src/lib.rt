@@ -8,5 +8,6 @@ mod backs;
 mod made;
 mod requests;
 
+pub use live_service::Service;
 pub use made::Made;
 pub use requests::{answered, begin, call, failed};

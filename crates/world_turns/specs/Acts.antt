@@ -3,6 +3,7 @@ use Rattle.std.specs.Prelude.{List}
 use Rattle.service_meaning.specs.State.{Kept}
 use Rattle.network_meaning.specs.Events.{Served, begun, called, answered, failed, takes, hears, gets_back, posts_to, steps, gives_up, orders}
 use Rattle.network_meaning.specs.declared.packet.Packet.{Packet}
+pub use Rattle.world_requests.specs.Made.{Serves}
 use Rattle.world_turns.specs.declared.acts.Act.{Act}
 use Rattle.world_turns.specs.declared.acts.Act.TheVariants.{Begin, Called, Answered, Failed, Take, Hear, GetBack, Step, Order, Post, Abandon}
 

@@ -8,12 +8,11 @@ use crate::steps::{give_up, order, post, step};
 use call_registers::Why;
 use journal_rows::Command;
 use lang_core::{Inputs, Name, NoMemory, Request, Text};
-use live_service::Service;
 use network_meaning::Packet;
 use repair_messages::{AnswerMessage, Post, SetMessage};
 use service_meaning::PostReply;
 use std::alloc::Global;
-use world_requests::{Made, answered, begin, call, failed};
+use world_requests::{Made, Service, answered, begin, call, failed};
 
 /// What a service is to do, with all that it is told.
 #[derive(Drop)]

@@ -8,3 +8,4 @@ mod messages;
 mod steps;
 
 pub use acts::{Act, perform};
+pub use world_requests::{Made, Service};

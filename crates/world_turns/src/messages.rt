@@ -4,12 +4,11 @@ ghost use Rattle.network_meaning.specs.Events.{takes, hears, gets_back, set_repl
 ghost use Rattle.world_requests.specs.Made.{Serves};
 
 use lang_core::{Copied, Inputs, NoMemory};
-use live_service::Service;
 use network_meaning::{Packet, What};
 use repair_messages::{AnswerMessage, Post, SetMessage};
 use service_meaning::{AnswerRefused, PostRefused, PostReply, PostWord, TakeRefused};
 use std::alloc::Global;
-use world_requests::Made;
+use world_requests::{Made, Service};
 
 fn refused(word: PostWord, number: u64) -> PostReply
     ensures { result ≡ PostReply.Refused word number }

@@ -6,11 +6,10 @@ ghost use Rattle.world_requests.specs.Made.{Serves, served};
 
 use journal_rows::Command;
 use lang_core::{Inputs, Name, NoMemory, Text};
-use live_service::Service;
 use network_meaning::{Packet, What};
 use service_meaning::OrderRefused;
 use std::alloc::Global;
-use world_requests::Made;
+use world_requests::{Made, Service};
 
 /// The service makes a repair step.
 pub fn step(alloc: Global, service: &mut Service) -> Result<Made, NoMemory>

@@ -1,5 +1,14 @@
-use Rattle.aire_top.proofs.Runs.{legal_told}
+use Rattle.std.proofs.Common.{List, subst, sym}
+use Rattle.journal_rows.specs.declared.verdict.Verdict.TheVariants.{Legal}
+use Rattle.service_meaning.specs.State.{Kept}
+use Rattle.world_meaning.specs.Legal.{IsLegalTogether, histories}
+use Rattle.aire_top.proofs.Runs.{verdict_told}
 use Rattle.aire_top.proofs.ending.standing.Goals as goal
 
 pub returns-clause-legal : goal.returns-clause-legal
-returns-clause-legal c = λ e. let same = c.deref.ensures.value in rw same at (legal_told c.audit.result _ c.audit.ensures.legal e)
+returns-clause-legal c = λ e.
+    let P : List Kept → Type 0 = λ services. IsLegalTogether (histories services) in
+    subst P (sym c.into_services.ensures) (c.judge.ensures.legal (verdict_told c.judge.result Legal e))
+
+pub returns-clause-joined : goal.returns-clause-joined
+returns-clause-joined c = c.judge.ensures.joined c.requires.joined

@@ -1,7 +1,8 @@
 use Rattle.std.proofs.Common.{◌≡◌, ◌∙◌, List, ℕ, None, Err, IfErr, option_map, ap, sym, subst}
 use Rattle.std.proofs.lemmas.List.{append-nil}
 use Rattle.std.specs.Option.{ForSome}
-use Rattle.world_file.specs.Notes.{built_in}
+use Rattle.world_file.specs.Standard.{built_in}
+use Rattle.world_file.proofs.Standards.{built_in_knows}
 use Rattle.aire_top.specs.Causes.{what_of}
 use Rattle.aire_top.specs.Endings.{Asked}
 use Rattle.aire_top.specs.Top.{Is, Told, WorldOrRefusal}
@@ -26,3 +27,8 @@ returns-in-Ok-Some-clause-asked g c = λ _.
     let some = sym c.in-Ok-Some.ensures ∙ ap (option_map _) c.in-Ok-Some.field-0-is in
     let P : List (List ℕ) → Type 0 = λ paths. Asked (g.F.Files.loads c.args.files.now) (g.F.Files.loads c.args.files.now) paths in
     subst P (sym (standard_path c.args.word.now _ some)) (sym (append-nil _))
+
+pub returns-in-Ok-Some-clause-together : goal.returns-in-Ok-Some-clause-together
+returns-in-Ok-Some-clause-together g c =
+    let some = sym c.in-Ok-Some.ensures ∙ ap (option_map _) c.in-Ok-Some.field-0-is in
+    built_in_knows c.args.word.now c.in-Ok-Some.setups.items some

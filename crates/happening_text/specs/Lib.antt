@@ -1,0 +1,3 @@
+pub mod Cues
+pub mod Happenings
+pub mod Refusals

@@ -1,0 +1,12 @@
+-- Why a line is refused, as numbers.
+use Rattle.std.specs.Prelude.{ℕ}
+use Rattle.script_lines.specs.declared.line.LineFault.{LineFault}
+use Rattle.script_lines.specs.declared.line.LineFault.TheVariants.{Text, Word, Shape, Service, Packet, Flight}
+
+abbrev pub fault_number : LineFault → ℕ
+fault_number Text = 1
+fault_number Word = 2
+fault_number Shape = 3
+fault_number Service = 4
+fault_number Packet = 5
+fault_number Flight = 6

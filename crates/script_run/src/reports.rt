@@ -1,0 +1,85 @@
+// Lines that print what stands in a world.
+ghost use Rattle.std.specs.Prelude.{◌≡◌, All, Ok, IfOk, length, map};
+ghost use Rattle.journal_rows.specs.declared.verdict.Verdict.TheVariants.{Legal};
+ghost use Rattle.report_text.specs.Reports.{IsVerdictOver};
+ghost use Rattle.service_meaning.specs.Fits.{Fits};
+ghost use Rattle.service_meaning.specs.State.{me};
+ghost use Rattle.world_meaning.specs.Legal.{IsLegalTogether, histories};
+ghost use Rattle.world_meaning.specs.Partners.{IsJoined, service_of};
+ghost use Rattle.script_plays.specs.Audits.{SaysForged, verdict};
+ghost use Rattle.script_plays.specs.Plays.{audit_text, log_of_service, report_of, rows_of_service};
+
+use journal_rows::Verdict;
+use lang_core::{Copied, Name, Names, NoMemory, Text};
+use live_world::{Service, World};
+use report_text::{log_text, rows_text, verdict_text};
+use script_lines::LineFault;
+use std::alloc::Global;
+use world_audit::audit;
+
+fn rows_of(alloc: Global, service: &Service) -> Result<Text, NoMemory>
+    ensures { IfOk result (λ text. text ≡ rows_of_service service.now) }
+{
+    rows_text(alloc, &service.rows(alloc)?)
+}
+
+/// The rows of the service of this name, if it is there.
+pub fn rows(alloc: Global, world: &World, name: &Name) -> Result<Result<Text, LineFault>, NoMemory>
+    ensures { IfOk result (λ said. said ≡ report_of rows_of_service (service_of name.now world.now.services)) }
+{
+    match world.service(name) {
+        Some(service) => Ok(Ok(rows_of(alloc, service)?)),
+        None => Ok(Err(LineFault::Service)),
+    }
+}
+
+/// The log of the service of this name, if it is there.
+pub fn log(alloc: Global, world: &World, name: &Name) -> Result<Result<Text, LineFault>, NoMemory>
+    ensures { IfOk result (λ said. said ≡ report_of log_of_service (service_of name.now world.now.services)) }
+{
+    match world.service(name) {
+        Some(service) => Ok(Ok(log_text(alloc, &service.setting().me, service.entries())?)),
+        None => Ok(Err(LineFault::Service)),
+    }
+}
+
+fn names_of(alloc: Global, services: &[Service]) -> Result<Names, NoMemory>
+    ensures { IfOk result (λ names. names ≡ map me services.now) }
+{
+    let mut names = Names::new(alloc);
+    for service in services {
+        names.push(service.setting().me.copied(alloc)?)?;
+    }
+    Ok(names)
+}
+
+// Each fits its journal, which its type keeps.
+fn each_fits(services: &[Service])
+    ensures { All Fits services.now }
+{
+    for service in services {
+        let _journal = service.journal();
+    }
+}
+
+/// The audit's verdict over a world, which is the one that is defined, and speaks of one of its services. Where it is Legal,
+/// the services' histories are one legal execution; where what each says of another is what that one says of itself, it isn't
+/// Forged.
+pub fn judge(world: &World) -> Verdict
+    ensures same { result ≡ verdict world.now.services }
+    ensures over { IsVerdictOver (length world.now.services) result }
+    ensures legal { result ≡ Legal → IsLegalTogether (histories world.now.services) }
+    ensures joined { IsJoined world.now.services → ¬ (SaysForged result) }
+{
+    let services = world.services();
+    each_fits(services);
+    audit(services)
+}
+
+/// The verdict over all services of a world.
+pub fn verdict_over(alloc: Global, world: &World) -> Result<Result<Text, LineFault>, NoMemory>
+    ensures { IfOk result (λ said. said ≡ Ok (audit_text world.now.services)) }
+{
+    let names = names_of(alloc, world.services())?;
+    Ok(Ok(verdict_text(alloc, &names, &judge(world))?))
+}
