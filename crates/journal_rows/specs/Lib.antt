@@ -1,3 +1,4 @@
 pub mod Journals
+pub mod Keys
 pub mod Weights
 pub mod Words

@@ -5,6 +5,7 @@
 
 mod callee;
 mod caller;
+mod keys;
 mod orders;
 mod row;
 mod rows;
@@ -19,6 +20,4 @@ pub use row::Row;
 pub use rows::Rows;
 pub use verdict::{Outstanding, Verdict};
 pub use weights::weight;
-pub use words::{
-    Mark, last_answered, last_mark, last_seen, last_sent, last_taken, ordered, seen_acked,
-};
+pub use words::{Mark, last_answered, last_mark, last_seen, last_sent, seen_acked};

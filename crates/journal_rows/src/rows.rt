@@ -2,11 +2,17 @@
 ghost use Rattle.std.specs.Prelude.{◌≡◌, ◌+◌, ◌<◌, ◌≤◌, [], ◌∷◌, ◌++◌, length, slice_get, OnOk, OnErr, IfOk, IsOk};
 ghost use Rattle.std.specs.Option.{option_copied};
 ghost use Rattle.journal_rows.specs.Weights.{journal_weight};
+ghost use Rattle.journal_rows.specs.Words.{last_taken, ordered};
 
+use crate::callee::TookRow;
+use crate::keys::row_key;
+use crate::orders::OrderedRow;
 use crate::row::Row;
 use crate::weights::weight;
-use lang_base::copied_items;
-use lang_core::NoMemory;
+use crate::words;
+use hash_index::HashIndex;
+use lang_base::{both, copied_items};
+use lang_core::{Name, NoMemory, Text};
 use std::alloc::Global;
 use std::marker::Model;
 
@@ -14,19 +20,22 @@ use std::marker::Model;
 #[derive(Drop)]
 pub struct Rows {
     rows: Vec<Row>,
+    // Of their keys.
+    index: HashIndex,
     weight: u64,
 }
 
 impl Model for Rows {
-    ghost use Rattle.std.specs.Prelude.{◌≡◌, ◌-◌, vec_len, vec_capacity};
+    ghost use Rattle.std.specs.Prelude.{◌≡◌, ◌-◌, min, vec_len, vec_capacity};
     ghost use Rattle.journal_rows.specs.Journals.{Journal};
+    ghost use Rattle.journal_rows.specs.Keys.{AreKeys};
     ghost use Rattle.journal_rows.specs.Weights.{journal_weight};
 
     ghost Value = { Journal };
 
-    ghost view = { λ j. record { rows = j.rows.items; spare = vec_capacity j.rows - vec_len j.rows } };
+    ghost view = { λ j. record { rows = j.rows.items; spare = min (vec_capacity j.rows - vec_len j.rows) j.index.spare } };
 
-    ghost invariant = { λ j. j.weight ≡ journal_weight j.rows.items };
+    ghost invariant = { λ j. (j.weight ≡ journal_weight j.rows.items) × AreKeys j.index.keys j.rows.items };
 }
 
 impl Rows {
@@ -36,6 +45,7 @@ impl Rows {
     {
         Rows {
             rows: Vec::new(alloc),
+            index: HashIndex::new(alloc),
             weight: 0,
         }
     }
@@ -68,6 +78,21 @@ impl Rows {
         self.weight
     }
 
+    /// The last version of a caller's call that was taken; None exactly where none was. It costs with the rows of the
+    /// call's key.
+    pub fn last_taken(&self, caller: &Name, number: u64) -> Option<&TookRow>
+        ensures { option_copied result ≡ last_taken caller.now number self.now.rows }
+    {
+        words::last_taken(&self.rows, &self.index, caller, number)
+    }
+
+    /// The order with a token; None exactly where none was accepted. It costs with the rows of the token's key.
+    pub fn ordered(&self, token: &Text) -> Option<&OrderedRow>
+        ensures { option_copied result ≡ ordered token.now self.now.rows }
+    {
+        words::ordered(&self.rows, &self.index, token)
+    }
+
     /// Makes room for so many rows more. Refused, there is as much as before, and the rows stay.
     pub fn reserve(&mut self, more: u64) -> Result<(), NoMemory>
         ensures rows { self.new.rows ≡ self.old.rows }
@@ -75,7 +100,7 @@ impl Rows {
         ensures spare { self.old.spare ≤ self.new.spare }
     {
         self.rows.reserve(more as usize)?;
-        Ok(())
+        self.index.reserve(more as usize)
     }
 
     /// Puts a row last, which takes no memory where there is room. Refused, it is dropped and the rows stay.
@@ -86,7 +111,10 @@ impl Rows {
         ensures spare { self.old.spare ≤ self.new.spare + 1 }
     {
         let more = weight(&row);
+        let key = row_key(&row);
+        self.index.reserve(1)?;
         self.rows.push(row)?;
+        self.index.push(key);
         self.weight = self.weight.saturating_add(more);
         Ok(())
     }
@@ -95,9 +123,10 @@ impl Rows {
     pub fn copied(&self, alloc: Global) -> Result<Rows, NoMemory>
         ensures { IfOk result (λ copy. copy.rows ≡ self.now.rows) }
     {
-        let rows = copied_items(alloc, &self.rows)?;
+        let (rows, index) = both(copied_items(alloc, &self.rows), self.index.copied(alloc))?;
         Ok(Rows {
             rows,
+            index,
             weight: self.weight,
         })
     }

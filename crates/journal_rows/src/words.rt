@@ -2,12 +2,14 @@
 ghost use Rattle.std.specs.Prelude.{◌≡◌, ◌&&◌, nat_eq};
 ghost use Rattle.std.specs.Option.{option_copied};
 ghost use Rattle.lang_base.specs.Texts.{same_text};
+ghost use Rattle.journal_rows.specs.Keys.{AreKeys};
 ghost use Rattle.journal_rows.specs.Words.{sent_step, last_sent, ack_step, seen_acked, seen_step, last_seen, taken_step, last_taken, answered_step, last_answered, mark_step, last_mark, order_step, ordered};
 
 use crate::callee::{AnsweredRow, TookRow};
 use crate::caller::{SawAnswerRow, SentRow};
 use crate::orders::OrderedRow;
 use crate::row::Row;
+use hash_index::{HashIndex, call_key, text_key};
 use lang_core::{Name, Same, Text};
 
 /// What a journal last said of a reply.
@@ -109,35 +111,36 @@ fn is_of(caller: &Name, number: u64, row_caller: &Name, row_number: u64) -> bool
     row_caller.text().is(caller.text()) && row_number == number
 }
 
-fn taken_step<'a>(
-    caller: &Name,
-    number: u64,
-    last: Option<&'a TookRow>,
-    row: &'a Row,
-) -> Option<&'a TookRow>
-    ensures { option_copied result ≡ taken_step caller.now number (option_copied last.entry) row.now }
+// The row's version of a caller's call, if it is one.
+fn taken_in<'a>(caller: &Name, number: u64, row: &'a Row) -> Option<&'a TookRow>
+    ensures { option_copied result ≡ taken_step caller.now number None row.now }
 {
     match row {
-        Row::Took(took) => {
-            if is_of(caller, number, &took.caller, took.number) {
-                Some(took)
-            } else {
-                last
-            }
-        }
-        _ => last,
+        Row::Took(took) if is_of(caller, number, &took.caller, took.number) => Some(took),
+        _ => None,
     }
 }
 
-/// The last version of a caller's call that was taken; None exactly where none was.
-pub fn last_taken<'a>(rows: &'a [Row], caller: &Name, number: u64) -> Option<&'a TookRow>
+/// The last version of a caller's call that was taken, looked for among the rows of the call's key; None exactly where
+/// none was.
+pub(crate) fn last_taken<'a>(
+    rows: &'a [Row],
+    index: &HashIndex,
+    caller: &Name,
+    number: u64,
+) -> Option<&'a TookRow>
+    requires { AreKeys index.now.keys rows.now }
     ensures { option_copied result ≡ last_taken caller.now number rows.now }
 {
-    let mut last = None;
-    for row in rows {
-        last = taken_step(caller, number, last, row);
+    let mut end = index.end_of(call_key(caller.text(), number));
+    while end > 0 {
+        let taken = taken_in(caller, number, &rows[end - 1]);
+        if taken.is_some() {
+            return taken;
+        }
+        end = index.end_before(end - 1);
     }
-    last
+    None
 }
 
 fn answered_step<'a>(
@@ -201,32 +204,32 @@ pub fn last_mark(rows: &[Row], id: u64, caller: &Name, number: u64) -> Mark
     mark
 }
 
-fn order_step<'a>(
-    token: &Text,
-    last: Option<&'a OrderedRow>,
-    row: &'a Row,
-) -> Option<&'a OrderedRow>
-    ensures { option_copied result ≡ order_step token.now (option_copied last.entry) row.now }
+// The row's order, if it has this token.
+fn order_in<'a>(token: &Text, row: &'a Row) -> Option<&'a OrderedRow>
+    ensures { option_copied result ≡ order_step token.now None row.now }
 {
     match row {
-        Row::Ordered(order) => {
-            if order.token.is(token) {
-                Some(order)
-            } else {
-                last
-            }
-        }
-        _ => last,
+        Row::Ordered(order) if order.token.is(token) => Some(order),
+        _ => None,
     }
 }
 
-/// The order with a token; None exactly where none was accepted.
-pub fn ordered<'a>(rows: &'a [Row], token: &Text) -> Option<&'a OrderedRow>
+/// The order with a token, looked for among the rows of the token's key; None exactly where none was accepted.
+pub(crate) fn ordered<'a>(
+    rows: &'a [Row],
+    index: &HashIndex,
+    token: &Text,
+) -> Option<&'a OrderedRow>
+    requires { AreKeys index.now.keys rows.now }
     ensures { option_copied result ≡ ordered token.now rows.now }
 {
-    let mut last = None;
-    for row in rows {
-        last = order_step(token, last, row);
+    let mut end = index.end_of(text_key(token));
+    while end > 0 {
+        let order = order_in(token, &rows[end - 1]);
+        if order.is_some() {
+            return order;
+        }
+        end = index.end_before(end - 1);
     }
-    last
+    None
 }

@@ -3,7 +3,7 @@ use crate::given::{equal, fine, holds, name, put, same, text};
 use journal_rows::{
     About, AckHow, AckedRow, AnsweredRow, AskedRow, Command, How, Mark, OrderedRow, Row, Rows,
     SawAckRow, SawAnswerRow, SentRow, TookRow, WasConfirmedRow, last_answered, last_mark,
-    last_seen, last_sent, last_taken, ordered, seen_acked, weight,
+    last_seen, last_sent, seen_acked, weight,
 };
 use lang_core::{Copied, Inputs, Method, Origin, Same};
 use std::process::Abort;
@@ -146,12 +146,12 @@ fn callee_rows(rt: &(impl Abort + AllocGlobal), rows: &mut Rows) {
     push(rt, rows, took(rt, 1, "5"), 78);
     push(rt, rows, took(rt, 2, "6"), 78);
     push(rt, rows, acked(rt), 64);
-    let last = last_taken(rows.as_slice(), &name(rt, "shop"), 4).expect(rt, "taken");
+    let last = rows.last_taken(&name(rt, "shop"), 4).expect(rt, "taken");
     equal(rt, last.version, 2);
     holds(
         rt,
         "another caller",
-        last_taken(rows.as_slice(), &name(rt, "bank"), 4).is_none(),
+        rows.last_taken(&name(rt, "bank"), 4).is_none(),
     );
 }
 
@@ -196,13 +196,9 @@ fn caller_rows(rt: &(impl Abort + AllocGlobal), rows: &mut Rows) {
 
 fn orders(rt: &(impl Abort + AllocGlobal), rows: &mut Rows) {
     push(rt, rows, order(rt), 93);
-    let found = ordered(rows.as_slice(), &text(rt, "t1")).expect(rt, "ordered");
+    let found = rows.ordered(&text(rt, "t1")).expect(rt, "ordered");
     holds(rt, "about", found.about == About::Request(1));
-    holds(
-        rt,
-        "another token",
-        ordered(rows.as_slice(), &text(rt, "t2")).is_none(),
-    );
+    holds(rt, "another token", rows.ordered(&text(rt, "t2")).is_none());
 }
 
 fn more_rows(rt: &(impl Abort + AllocGlobal), rows: &mut Rows) {

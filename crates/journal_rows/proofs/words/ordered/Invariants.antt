@@ -1,7 +1,12 @@
-use Rattle.std.proofs.Common.{◌≡◌, take}
-use Rattle.std.specs.Option.{option_copied}
-use Rattle.journal_rows.specs.Words.{ordered}
+use Rattle.std.proofs.Common.{None}
+use Rattle.hash_index.specs.Keys.{text_key}
+use Rattle.hash_index.proofs.SearchLemmas.{IsSought}
+use Rattle.journal_rows.specs.Keys.{row_key}
+use Rattle.journal_rows.specs.Words.{order_step}
 use Rattle.journal_rows.proofs.words.ordered.Given as goal
 
-abbrev pub invariant-loop-row : goal.invariant-loop-row
-invariant-loop-row l = option_copied l.last ≡ ordered l.token (take l.row-index l.rows)
+abbrev pub invariant-loop-end : goal.invariant-loop-end
+invariant-loop-end l = IsSought row_key (order_step l.token) (text_key l.token) None l.rows l.end
+
+abbrev pub decreases-loop-end : goal.decreases-loop-end
+decreases-loop-end l = l.end

@@ -1,0 +1,4 @@
+pub mod ChainLemmas
+pub mod EndLemmas
+pub mod KeyLemmas
+pub mod SearchLemmas

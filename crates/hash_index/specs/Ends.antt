@@ -1,0 +1,12 @@
+-- Where something stands last in a list, by its end: one past its place, or 0 where it is nowhere.
+use Rattle.std.specs.Prelude.{ℕ, zero, suc, Bool, List, [], ◌∷◌, if◌then◌else◌}
+
+-- the end in a list, of whether its first element passes and of the end in what follows
+abbrev pub end_behind : Bool → ℕ → ℕ
+end_behind passes zero = if passes then 1 else 0
+end_behind passes (suc end) = suc (suc end)
+
+-- one past the last element that passes; 0 where none does
+abbrev pub last_end : {X : Type 0} → (X → Bool) → List X → ℕ
+last_end p [] = 0
+last_end p (x ∷ xs) = end_behind (p x) (last_end p xs)

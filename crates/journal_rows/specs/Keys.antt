@@ -1,0 +1,22 @@
+-- Keys under which rows are found.
+use Rattle.std.specs.Prelude.{◌≡◌, ℕ, List, map}
+use Rattle.hash_index.specs.Keys.{text_key, call_key}
+use Rattle.journal_rows.specs.declared.row.Row.{Row}
+use Rattle.journal_rows.specs.declared.row.Row.TheVariants.{Asked, Took, Acked, Answered, WasConfirmed, Sent, SawAck, SawAnswer, Confirmed, Ordered}
+
+-- of a row
+abbrev pub row_key : Row → ℕ
+row_key (Asked a) = a.id
+row_key (Took t) = call_key t.caller t.number
+row_key (Acked a) = a.number
+row_key (Answered a) = a.id
+row_key (WasConfirmed c) = c.number
+row_key (Sent s) = s.number
+row_key (SawAck a) = a.number
+row_key (SawAnswer a) = a.number
+row_key (Confirmed c) = c.number
+row_key (Ordered o) = text_key o.token
+
+-- these are the keys of the rows, in order
+abbrev pub AreKeys : List ℕ → List Row → Type 0
+AreKeys keys rows = keys ≡ map row_key rows
