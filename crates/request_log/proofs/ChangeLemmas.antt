@@ -1,10 +1,10 @@
 -- The entry of a number, changed at its place.
 use Rattle.std.proofs.Common.{◌≡◌, ℕ, ◌+◌, suc, Bool, true, false, cond, not, List, [], ◌∷◌, length, set, get_or, Option, Some, None, IsSome, find, is_some, nat_lt, position, refl, sym, ap, ◌∙◌, subst, eqb-true, arith}
 use Rattle.std.specs.List.{position_or_len}
-use Rattle.std.proofs.Math.ListN.{length-set}
 use Rattle.request_log.specs.declared.entry.Entry.{Entry}
-use Rattle.request_log.specs.Entries.{has_id, changed, IsDistinct, IsLog, KeptLog}
-use Rattle.request_log.proofs.EntryLemmas.{at_place, distinct-set, is_found, placed}
+use Rattle.request_log.specs.Entries.{has_id, changed, IsDistinct, KeptLog}
+use Rattle.request_log.specs.Keys.{IsIndexed}
+use Rattle.request_log.proofs.EntryLemmas.{at_place, is_found, log-set, placed}
 
 -- a change that leaves an entry's number and origin
 pub record Leaves (change : Entry → Entry) : Type 0 where
@@ -48,26 +48,23 @@ changed_at change id (x ∷ xs) e d h =
     subst S (sym (position-head id x xs)) (put_head change (has_id id x) id x e xs refl h d.0.id (changed_at change id xs e d.1))
 
 -- the entries, where the one at the place of a number was changed
-pub record IsChanged (change : Entry → Entry) (id : ℕ) (es es' : List Entry) : Type 0 where
-  pub log : IsLog es'
+pub record IsChanged (change : Entry → Entry) (id : ℕ) (es es' : List Entry) (ns os : List ℕ) : Type 0 where
+  pub log : IsIndexed es' ns os
   pub entries : es' ≡ changed id change es
   pub there : true ≡ is_some (find (has_id id) es)
 
-pub changed_place : (change : Entry → Entry) → Leaves change → (id : ℕ) (k : KeptLog) (es : List Entry) (place : ℕ) (x : Entry) → (record { entries = es }) ≡ k
-    → position (has_id id) es ≡ Some place → x ≡ get_or es place x → IsLog es → IsChanged change id k.entries (set es place (change x))
-changed_place change leaves id k es place x seen is at log =
+pub changed_place : (change : Entry → Entry) → Leaves change → (id : ℕ) (k : KeptLog) (es : List Entry) (ns os : List ℕ) (place : ℕ) (x : Entry) → (record { entries = es }) ≡ k
+    → position (has_id id) es ≡ Some place → x ≡ get_or es place x → IsIndexed es ns os → IsChanged change id k.entries (set es place (change x)) ns os
+changed_place change leaves id k es ns os place x seen is at log =
     let old = at_place id es place x is in
     let n : position_or_len (has_id id) es ≡ place = placed (nat_lt (position_or_len (has_id id) es) (length es)) (position_or_len (has_id id) es) place is in
     let e : Entry = get_or es place x in
-    let P : Entry → KeptLog → Type 0 = λ e k. IsChanged change id k.entries (set es place (change e)) in
+    let P : Entry → KeptLog → Type 0 = λ e k. IsChanged change id k.entries (set es place (change e)) ns os in
     subst (P x) seen
     (subst (λ e. P e (record { entries = es })) (sym at)
     (record {
-      log = record {
-        distinct = distinct-set es place (change e) e old.there (leaves.id e) (leaves.origin e) log.distinct;
-        few = rw (length-set es place (change e)) log.few;
-      };
-      entries = ap (λ k. set es k (change e)) (sym n) ∙ changed_at change id es e log.distinct old.found;
+      log = log-set es ns os place (change e) e old.there (leaves.id e) (leaves.origin e) log;
+      entries = ap (λ k. set es k (change e)) (sym n) ∙ changed_at change id es e log.log.distinct old.found;
       there = ap is_some (sym old.found);
     }))
 
@@ -79,6 +76,10 @@ not_placed : (o : Option ℕ) → o ≡ None → IsSome o → ⊥
 not_placed None e h = cc
 not_placed (Some n) e h = cc
 
+-- a number that has no place is found nowhere
+pub not_found : (id : ℕ) (es : List Entry) → position (has_id id) es ≡ None → find (has_id id) es ≡ None
+not_found id es none = nothing (find (has_id id) es) (λ h. not_placed (position (has_id id) es) none (is_found id es h))
+
 -- where no entry has the number, nothing is changed
 pub record IsUnknown (change : Entry → Entry) (id : ℕ) (es : List Entry) : Type 0 where
   pub entries : es ≡ changed id change es
@@ -86,6 +87,6 @@ pub record IsUnknown (change : Entry → Entry) (id : ℕ) (es : List Entry) : T
 
 pub unknown : (change : Entry → Entry) (id : ℕ) (k : KeptLog) (es : List Entry) → (record { entries = es }) ≡ k → position (has_id id) es ≡ None → IsUnknown change id k.entries
 unknown change id k es is none =
-    let found : find (has_id id) es ≡ None = nothing (find (has_id id) es) (λ h. not_placed (position (has_id id) es) none (is_found id es h)) in
+    let found : find (has_id id) es ≡ None = not_found id es none in
     let P : KeptLog → Type 0 = λ k. IsUnknown change id k.entries in
     subst P is (record { entries = sym (none_changed change id es found); there = ap is_some (sym found) })

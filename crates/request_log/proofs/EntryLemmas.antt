@@ -1,8 +1,9 @@
 -- Changes of a log keep its numbers and calls apart.
-use Rattle.std.proofs.Common.{◌≡◌, ℕ, zero, suc, ◌≤◌, ◌≢◌, Bool, true, false, cond, ◌&&◌, List, [], ◌∷◌, ◌++◌, length, set, Option, Some, None, find, insert, nat_eq, slice_get, get_or, nat_lt, ◌<◌, subst, refl, sym, ap, ◌∙◌, IsSome, IsSomeAnd, position, arith}
+use Rattle.std.proofs.Common.{◌≡◌, ℕ, zero, suc, ◌≤◌, ◌≢◌, Bool, true, false, cond, ◌&&◌, List, [], ◌∷◌, ◌++◌, length, set, Option, Some, None, find, insert, nat_eq, map, slice_get, get_or, nat_lt, ◌<◌, subst, refl, sym, ap, ◌∙◌, IsSome, IsSomeAnd, position, arith, length-append}
 use Rattle.std.specs.List.{position_or_len}
 use Rattle.std.specs.Cmp.{nat_eq_equiv}
 use Rattle.std.specs.Cmp.Lexicographic.{nat_list_eq_equiv}
+use Rattle.std.proofs.lemmas.List.{map-append}
 use Rattle.std.proofs.lemmas.List.Edits.{insert_end, length-insert}
 use Rattle.std.proofs.lemmas.Bool.{eqb-true, lt-ltb}
 use Rattle.std.proofs.lemmas.List.Quantifiers.{position-Some}
@@ -13,7 +14,8 @@ use Rattle.lang_base.specs.Texts.{same_text}
 use Rattle.lang_core.specs.declared.ids.Origin.{Origin}
 use Rattle.lang_core.specs.declared.ids.Origin.TheVariants.{Outside, Call}
 use Rattle.request_log.specs.declared.entry.Entry.{Entry}
-use Rattle.request_log.specs.Entries.{has_id, is_call, find_call, IsNew, IsDistinct, IsKnown, IsLog, KeptLog}
+use Rattle.request_log.specs.Entries.{has_id, is_call, find_call, IsNew, IsDistinct, IsKnown, KeptLog}
+use Rattle.request_log.specs.Keys.{number_of, origin_key, entry_key, IsIndexed}
 
 -- a search that finds nothing finds nothing first, and nothing further on
 not_first : {X : Type 0} (b : Bool) (x : X) (o : Option X) → cond b (Some x) o ≡ None → (b ≡ false) × (o ≡ None)
@@ -114,20 +116,55 @@ distinct-set (x ∷ es) zero y old at id origin all =
 distinct-set (x ∷ es) (suc i) y old at id origin all =
     (new-set x y old es i at id origin all.0, distinct-set es i y old at id origin all.1)
 
+map-insert : {X : Type 0} (key : X → ℕ) (xs : List X) (i : ℕ) (y : X) → map key (insert xs i y) ≡ insert (map key xs) i (key y)
+map-insert key [] zero y = refl
+map-insert key [] (suc i) y = refl
+map-insert key (x ∷ xs) zero y = refl
+map-insert key (x ∷ xs) (suc i) y = ap (λ ys. key x ∷ ys) (map-insert key xs i y)
+
 -- a log with one entry more, where it was seen as that value
-pub log-insert : (es : List Entry) (k : KeptLog) (i : ℕ) (y : Entry) → (record { entries = es }) ≡ k → i ≤ length k.entries → length es ≢ 100000 → IsNew y k.entries → IsLog es → IsLog (insert es i y)
-log-insert es k i y is within room new log =
+pub log-insert : (es : List Entry) (ns os : List ℕ) (k : KeptLog) (i : ℕ) (y : Entry) → (record { entries = es }) ≡ k → i ≤ length k.entries → length es ≢ 100000 → IsNew y k.entries → IsIndexed es ns os
+    → IsIndexed (insert es i y) (insert ns i y.id) (insert os i (entry_key y))
+log-insert es ns os k i y is within room new log =
     let seen : es ≡ k.entries = ap (λ (v : KeptLog). v.entries) is in
     let inside : i ≤ length es = rw seen within in
     record {
-      distinct = distinct-insert es i y (rw seen new) log.distinct;
-      few = omega (arith, length-insert es i y inside, log.few);
+      log = record {
+        distinct = distinct-insert es i y (rw seen new) log.log.distinct;
+        few = omega (arith, length-insert es i y inside, log.log.few);
+      };
+      by_number = ap (λ l. insert l i y.id) log.by_number ∙ sym (map-insert number_of es i y);
+      by_origin = ap (λ l. insert l i (entry_key y)) log.by_origin ∙ sym (map-insert entry_key es i y);
     }
 
-pub log-append : (es : List Entry) (k : KeptLog) (y : Entry) → (record { entries = es }) ≡ k → length es ≢ 100000 → IsNew y k.entries → IsLog es → IsLog (es ++ y ∷ [])
-log-append es k y is room new log =
+pub log-append : (es : List Entry) (ns os : List ℕ) (k : KeptLog) (y : Entry) → (record { entries = es }) ≡ k → length es ≢ 100000 → IsNew y k.entries → IsIndexed es ns os
+    → IsIndexed (es ++ y ∷ []) (ns ++ y.id ∷ []) (os ++ entry_key y ∷ [])
+log-append es ns os k y is room new log =
     let seen : es ≡ k.entries = ap (λ (v : KeptLog). v.entries) is in
-    rw (← insert_end es y) (log-insert es k (length es) y is (rw seen (omega arith)) room new log)
+    record {
+      log = record {
+        distinct = distinct-append es y (rw seen new) log.log.distinct;
+        few = omega (arith, length-append es (y ∷ []), log.log.few);
+      };
+      by_number = ap (λ l. l ++ y.id ∷ []) log.by_number ∙ sym (map-append number_of es (y ∷ []));
+      by_origin = ap (λ l. l ++ entry_key y ∷ []) log.by_origin ∙ sym (map-append entry_key es (y ∷ []));
+    }
+
+keys-set : (key : Entry → ℕ) (es : List Entry) (i : ℕ) (y old : Entry) → slice_get es i ≡ Some old → key y ≡ key old → map key (set es i y) ≡ map key es
+keys-set key [] i y old at same = refl
+keys-set key (x ∷ es) zero y old at same = let is : x ≡ old = cc at in ap (λ k. k ∷ map key es) (same ∙ sym (ap key is))
+keys-set key (x ∷ es) (suc i) y old at same = ap (λ ks. key x ∷ ks) (keys-set key es i y old at same)
+
+-- a log with one entry in place of another of its number and origin
+pub log-set : (es : List Entry) (ns os : List ℕ) (i : ℕ) (y old : Entry) → slice_get es i ≡ Some old → y.id ≡ old.id → y.origin ≡ old.origin → IsIndexed es ns os → IsIndexed (set es i y) ns os
+log-set es ns os i y old at id origin log = record {
+  log = record {
+    distinct = distinct-set es i y old at id origin log.log.distinct;
+    few = rw (length-set es i y) log.log.few;
+  };
+  by_number = log.by_number ∙ sym (keys-set number_of es i y old at id);
+  by_origin = log.by_origin ∙ sym (keys-set entry_key es i y old at (ap (λ n. origin_key n y.origin) id ∙ ap (origin_key old.id) origin));
+}
 
 some_within : {X : Type 0} (xs : List X) (n : ℕ) → IsSome (slice_get xs n) → n < length xs
 some_within [] n h = cc
@@ -182,15 +219,13 @@ known_place k entry es is known =
     is_found entry.id es (some_known (find (has_id entry.id) es) (λ old. old.origin ≡ entry.origin) (rw seen known))
 
 -- a log with an entry in place of the one of its number
-pub log-put : (k : KeptLog) (entry : Entry) (es : List Entry) (place : ℕ) → (record { entries = es }) ≡ k → position (has_id entry.id) es ≡ Some place → IsKnown entry k.entries → IsLog es → IsLog (set es place entry)
-log-put k entry es place is at known log =
+pub log-put : (k : KeptLog) (entry : Entry) (es : List Entry) (ns os : List ℕ) (place : ℕ) → (record { entries = es }) ≡ k → position (has_id entry.id) es ≡ Some place → IsKnown entry k.entries → IsIndexed es ns os
+    → IsIndexed (set es place entry) ns os
+log-put k entry es ns os place is at known log =
     let seen : es ≡ k.entries = ap (λ (v : KeptLog). v.entries) is in
     let old = at_place entry.id es place entry at in
     let origin = some_and (find (has_id entry.id) es) (λ x. x.origin ≡ entry.origin) (get_or es place entry) (rw seen known) old.found in
-    record {
-      distinct = distinct-set es place entry (get_or es place entry) old.there (sym old.id) (sym origin) log.distinct;
-      few = rw (length-set es place entry) log.few;
-    }
+    log-set es ns os place entry (get_or es place entry) old.there (sym old.id) (sym origin) log
 
 -- what is handed back is what was found
 pub put_old : (k : KeptLog) (id : ℕ) (es : List Entry) (place : ℕ) (old : Entry) → (record { entries = es }) ≡ k → position (has_id id) es ≡ Some place → old ≡ get_or es place old → find (has_id id) k.entries ≡ Some old
@@ -199,12 +234,9 @@ put_old k id es place old is at read =
     rw (← seen) ((at_place id es place old at).found ∙ ap Some (sym read))
 
 -- a log with a run noted of the entry at a place
-pub log-note : (k : KeptLog) (es : List Entry) (place : ℕ) (old y : Entry) → (record { entries = es }) ≡ k → place < length k.entries → old ≡ get_or es place old
-    → y.id ≡ old.id → y.origin ≡ old.origin → IsLog es → IsLog (set es place y)
-log-note k es place old y is within read id origin log =
+pub log-note : (k : KeptLog) (es : List Entry) (ns os : List ℕ) (place : ℕ) (old y : Entry) → (record { entries = es }) ≡ k → place < length k.entries → old ≡ get_or es place old
+    → y.id ≡ old.id → y.origin ≡ old.origin → IsIndexed es ns os → IsIndexed (set es place y) ns os
+log-note k es ns os place old y is within read id origin log =
     let seen : es ≡ k.entries = ap (λ (v : KeptLog). v.entries) is in
     let inside : place < length es = rw seen within in
-    record {
-      distinct = distinct-set es place y old (slice_get-get_or es place old inside ∙ ap Some (sym read)) id origin log.distinct;
-      few = rw (length-set es place y) log.few;
-    }
+    log-set es ns os place y old (slice_get-get_or es place old inside ∙ ap Some (sym read)) id origin log

@@ -2,6 +2,7 @@
 #![tactic(auto)]
 
 mod entry;
+mod finding;
 mod log;
 
 pub use entry::{Entry, Made, Numbers, dead_trace};

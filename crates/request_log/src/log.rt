@@ -5,8 +5,10 @@ ghost use Rattle.request_log.specs.Entries.{changed, has_id, has_origin, mark, r
 ghost use Rattle.request_log.specs.declared.entry.Entry.{Entry};
 
 use crate::entry::{Entry, Made, Numbers};
-use lang_base::copied_items;
-use lang_core::{Copied, Method, Name, NoMemory, Origin, Same, Text};
+use crate::finding::{find_origin, make_room, origin_key, place_of};
+use hash_index::HashIndex;
+use lang_base::{both, copied_items};
+use lang_core::{Copied, Method, Name, NoMemory, Text};
 use std::alloc::{AllocFailed, Global};
 use std::marker::Model;
 
@@ -46,34 +48,21 @@ impl<T: Drop> From<AllocFailed<T>> for LogFull {
 #[derive(Drop)]
 pub struct Log {
     items: Vec<Entry>,
+    // By number.
+    numbers: HashIndex,
+    // By the keys of origins.
+    origins: HashIndex,
 }
 
 impl Model for Log {
-    ghost use Rattle.request_log.specs.Entries.{KeptLog, IsLog};
+    ghost use Rattle.request_log.specs.Entries.{KeptLog};
+    ghost use Rattle.request_log.specs.Keys.{IsIndexed};
 
     ghost Value = { KeptLog };
 
     ghost view = { λ log. record { entries = log.items.items } };
 
-    ghost invariant = { λ log. IsLog log.items.items };
-}
-
-fn has_origin(entry: &Entry, caller: &Name, number: u64) -> bool
-    ensures { result ≡ has_origin caller.now number entry.now }
-{
-    match &entry.origin {
-        Origin::Outside => false,
-        Origin::Call {
-            caller: own_caller,
-            number: own_number,
-        } => own_caller.text().is(caller.text()) && *own_number == number,
-    }
-}
-
-fn place_of(entries: &[Entry], id: u64) -> Option<usize>
-    ensures { result ≡ position (has_id id) entries.now }
-{
-    entries.iter().position(|entry| entry.id == id)
+    ghost invariant = { λ log. IsIndexed log.items.items log.numbers.keys log.origins.keys };
 }
 
 impl Log {
@@ -83,6 +72,8 @@ impl Log {
     {
         Log {
             items: Vec::new(alloc),
+            numbers: HashIndex::new(alloc),
+            origins: HashIndex::new(alloc),
         }
     }
 
@@ -112,23 +103,24 @@ impl Log {
     pub fn find(&self, id: u64) -> Option<&Entry>
         ensures { option_copied result ≡ find (has_id id) self.now.entries }
     {
-        self.items.iter().find(|entry| entry.id == id)
+        match self.place_of(id) {
+            None => None,
+            Some(place) => self.at(place),
+        }
     }
 
     /// The entry that comes from a call; None exactly where there is none.
     pub fn find_origin(&self, caller: &Name, number: u64) -> Option<&Entry>
         ensures { option_copied result ≡ find (has_origin caller.now number) self.now.entries }
     {
-        self.items
-            .iter()
-            .find(|entry| has_origin(entry, caller, number))
+        find_origin(&self.items, &self.origins, caller, number)
     }
 
     /// The place of the entry of a number, counted from 0; None exactly where there is none.
     pub fn place_of(&self, id: u64) -> Option<u64>
         ensures { result ≡ position (has_id id) self.now.entries }
     {
-        place_of(&self.items, id).map(|place| place as u64)
+        place_of(&self.items, &self.numbers, id).map(|place| place as u64)
     }
 
     fn is_full(&self) -> bool
@@ -148,12 +140,17 @@ impl Log {
         if self.is_full() {
             return Err(LogFull::Full);
         }
+        make_room(&mut self.numbers, &mut self.origins)?;
+        let id = entry.id;
+        let key = origin_key(id, &entry.origin);
         self.items.push(entry)?;
+        self.numbers.push(id);
+        self.origins.push(key);
         Ok(())
     }
 
     /// Puts an entry, new as for `append`, at a place, counted from 0, before what stands there. Refused, it is
-    /// dropped and the log stays.
+    /// dropped and the log stays. It costs with the number of entries.
     pub fn insert(&mut self, at: u64, entry: Entry) -> Result<(), LogFull>
         requires within { at ≤ length self.old.entries }
         requires is_new { IsNew entry self.old.entries }
@@ -164,7 +161,12 @@ impl Log {
         if self.is_full() {
             return Err(LogFull::Full);
         }
+        make_room(&mut self.numbers, &mut self.origins)?;
+        let id = entry.id;
+        let key = origin_key(id, &entry.origin);
         self.items.insert(at as usize, entry)?;
+        self.numbers.insert(at as usize, id);
+        self.origins.insert(at as usize, key);
         Ok(())
     }
 
@@ -174,7 +176,7 @@ impl Log {
         ensures entries { self.new.entries ≡ with_entry entry self.old.entries }
         ensures old { find (has_id entry.id) self.old.entries ≡ Some result }
     {
-        let place = place_of(&self.items, entry.id).unwrap();
+        let place = place_of(&self.items, &self.numbers, entry.id).unwrap();
         std::mem::replace(&mut self.items[place], entry)
     }
 
@@ -204,7 +206,7 @@ impl Log {
         ensures entries { self.new.entries ≡ changed id (mark struck) self.old.entries }
         ensures there { result ≡ is_some (find (has_id id) self.old.entries) }
     {
-        match place_of(&self.items, id) {
+        match place_of(&self.items, &self.numbers, id) {
             None => false,
             Some(place) => {
                 self.items[place].struck = struck;
@@ -218,7 +220,7 @@ impl Log {
         ensures entries { self.new.entries ≡ changed id (replace method path body) self.old.entries }
         ensures there { result ≡ is_some (find (has_id id) self.old.entries) }
     {
-        match place_of(&self.items, id) {
+        match place_of(&self.items, &self.numbers, id) {
             None => false,
             Some(place) => {
                 let request = &mut self.items[place].request;
@@ -233,7 +235,12 @@ impl Log {
 
 impl Copied for Log {
     fn copied(&self, alloc: Global) -> Result<Log, NoMemory> {
-        let items = copied_items(alloc, &self.items)?;
-        Ok(Log { items })
+        let indexes = both(self.numbers.copied(alloc), self.origins.copied(alloc));
+        let (items, indexes) = both(copied_items(alloc, &self.items), indexes)?;
+        Ok(Log {
+            items,
+            numbers: indexes.0,
+            origins: indexes.1,
+        })
     }
 }

@@ -1,0 +1,51 @@
+use Rattle.std.proofs.Common.{ℕ, ◌≡◌, ◌-◌, ◌≤◌, Bool, cond, List, Option, Some, None, take, get_or, fold, nat_eq, sym, ap, ◌∙◌, arith}
+use Rattle.std.proofs.lemmas.List.{length-take}
+use Rattle.hash_index.specs.Ends.{last_end}
+use Rattle.hash_index.specs.Keys.{call_key}
+use Rattle.hash_index.proofs.EndLemmas.{last_end-within}
+use Rattle.hash_index.proofs.SearchLemmas.{sought_first, sought_here, sought_next}
+use Rattle.request_log.specs.declared.entry.Entry.{Entry}
+use Rattle.request_log.specs.Entries.{has_origin}
+use Rattle.request_log.specs.Keys.{entry_key}
+use Rattle.request_log.proofs.FindLemmas.{last_of, last_found, not_last, call_quiet}
+use Rattle.request_log.proofs.finding.find_origin.Goals as goal
+
+pub loop-end-init : goal.loop-end-init
+loop-end-init c =
+    sought_first entry_key (last_of (has_origin c.args.caller.now c.args.number)) (call_key c.args.caller.now c.args.number) (call_quiet c.args.caller.now c.args.number) None c.args.entries.now c.end_of-end.result
+    (c.end_of-end.ensures
+    ∙ ap (λ k. last_end (nat_eq k) c.args.origins.now.keys) (c.call_key.ensures ∙ ap (λ t. call_key t c.args.number) c.text.ensures.text)
+    ∙ ap (last_end (nat_eq (call_key c.args.caller.now c.args.number))) c.requires.keys)
+
+pub returns-then-has_origin : goal.returns-then-has_origin
+returns-then-has_origin c =
+    let passes = has_origin c.args.caller.now c.args.number in
+    let entry = c.index-entries-end.result in
+    let before : Option Entry = fold (last_of passes) None (take (c.loop-end.end - 1) c.args.entries.now) in
+    let chosen : Bool → Option Entry = λ b. cond b (Some entry) before in
+    let here = sought_here entry_key (last_of passes) (call_key c.args.caller.now c.args.number) (call_quiet c.args.caller.now c.args.number) None c.args.entries.now c.loop-end.end entry c.loop-end.invariant (omega arith) c.index-entries-end.is in
+    sym (sym (last_found c.args.caller.now c.args.number c.args.entries.now c.requires.distinct) ∙ here ∙ ap chosen (sym c.has_origin.ensures ∙ c.if-has_origin.true))
+
+pub loop-end-smaller : goal.loop-end-smaller
+loop-end-smaller c =
+    let keys = c.args.origins.now.keys in
+    let place = c.loop-end.end - 1 in
+    let key = get_or keys place 0 in
+    let short : last_end (nat_eq key) (take place keys) ≤ place = omega (arith, last_end-within (nat_eq key) (take place keys), length-take place keys) in
+    omega (arith, c.end_before-end.ensures, short)
+
+pub loop-end-preserved : goal.loop-end-preserved
+loop-end-preserved c =
+    let passes = has_origin c.args.caller.now c.args.number in
+    let entry = c.index-entries-end.result in
+    sought_next entry_key (last_of passes) (call_key c.args.caller.now c.args.number) (call_quiet c.args.caller.now c.args.number) None c.args.entries.now c.loop-end.end c.end_before-end.result entry
+    c.loop-end.invariant (omega arith) c.index-entries-end.is
+    (not_last (passes entry) entry _ (sym c.has_origin.ensures ∙ c.if-has_origin.false))
+    (c.end_before-end.ensures ∙ ap (λ (ks : List ℕ). last_end (nat_eq (get_or ks (c.loop-end.end - 1) 0)) (take (c.loop-end.end - 1) ks)) c.requires.keys)
+
+pub returns : goal.returns
+returns c =
+    let step = last_of (has_origin c.args.caller.now c.args.number) in
+    let none : c.loop-end.end ≡ 0 = omega arith in
+    let up_to : ℕ → Option Entry = λ n. fold step None (take n c.args.entries.now) in
+    sym (sym (last_found c.args.caller.now c.args.number c.args.entries.now c.requires.distinct) ∙ c.loop-end.invariant.same ∙ ap up_to none)

@@ -1,0 +1,24 @@
+-- Keys under which entries are found.
+use Rattle.std.specs.Prelude.{◌≡◌, ℕ, List, map}
+use Rattle.hash_index.specs.Keys.{call_key}
+use Rattle.lang_core.specs.declared.ids.Origin.{Origin}
+use Rattle.lang_core.specs.declared.ids.Origin.TheVariants.{Outside, Call}
+use Rattle.request_log.specs.declared.entry.Entry.{Entry}
+use Rattle.request_log.specs.Entries.{IsLog}
+
+abbrev pub number_of : Entry → ℕ
+number_of e = e.id
+
+-- of an origin; an entry from outside has that of its number
+abbrev pub origin_key : ℕ → Origin → ℕ
+origin_key id Outside = id
+origin_key id (Call caller number) = call_key caller number
+
+abbrev pub entry_key : Entry → ℕ
+entry_key e = origin_key e.id e.origin
+
+-- a log's entries, their numbers in order, and the keys of their origins in order
+pub record IsIndexed (entries : List Entry) (numbers origins : List ℕ) : Type 0 where
+  pub log : IsLog entries
+  pub by_number : numbers ≡ map number_of entries
+  pub by_origin : origins ≡ map entry_key entries

@@ -1,0 +1,74 @@
+// Entries found by their numbers, and by the calls from which they come.
+ghost use Rattle.std.specs.Prelude.{◌≡◌, ◌<◌, find, map, position, OnOk};
+ghost use Rattle.std.specs.Option.{option_copied};
+ghost use Rattle.request_log.specs.Entries.{has_id, has_origin, IsDistinct};
+ghost use Rattle.request_log.specs.Keys.{number_of, origin_key, entry_key};
+
+use crate::entry::Entry;
+use hash_index::{HashIndex, call_key};
+use lang_core::{Name, NoMemory, Origin, Same};
+
+/// The key of an entry's origin. That of one from outside, for which nothing looks, is its number, which keeps such
+/// entries apart.
+pub(crate) fn origin_key(id: u64, origin: &Origin) -> u64
+    ensures { result ≡ origin_key id origin.now }
+{
+    match origin {
+        Origin::Outside => id,
+        Origin::Call { caller, number } => call_key(caller.text(), *number),
+    }
+}
+
+fn has_origin(entry: &Entry, caller: &Name, number: u64) -> bool
+    ensures { result ≡ has_origin caller.now number entry.now }
+{
+    match &entry.origin {
+        Origin::Outside => false,
+        Origin::Call {
+            caller: own_caller,
+            number: own_number,
+        } => own_caller.text().is(caller.text()) && *own_number == number,
+    }
+}
+
+/// Where the entry of a number stands, by the index of their numbers; None exactly where there is none.
+pub(crate) fn place_of(entries: &[Entry], numbers: &HashIndex, id: u64) -> Option<usize>
+    requires distinct { IsDistinct entries.now }
+    requires keys { numbers.now.keys ≡ map number_of entries.now }
+    ensures { result ≡ position (has_id id) entries.now }
+{
+    let end = numbers.end_of(id);
+    if end == 0 { None } else { Some(end - 1) }
+}
+
+/// The entry that comes from a call, by the index of their origins; None exactly where there is none.
+pub(crate) fn find_origin<'a>(
+    entries: &'a [Entry],
+    origins: &HashIndex,
+    caller: &Name,
+    number: u64,
+) -> Option<&'a Entry>
+    requires distinct { IsDistinct entries.now }
+    requires keys { origins.now.keys ≡ map entry_key entries.now }
+    ensures { option_copied result ≡ find (has_origin caller.now number) entries.now }
+{
+    let mut end = origins.end_of(call_key(caller.text(), number));
+    while end > 0 {
+        let entry = &entries[end - 1];
+        if has_origin(entry, caller, number) {
+            return Some(entry);
+        }
+        end = origins.end_before(end - 1);
+    }
+    None
+}
+
+/// Makes room for an entry more in both indexes.
+pub(crate) fn make_room(numbers: &mut HashIndex, origins: &mut HashIndex) -> Result<(), NoMemory>
+    ensures numbers { numbers.new.keys ≡ numbers.old.keys }
+    ensures origins { origins.new.keys ≡ origins.old.keys }
+    ensures ok { OnOk result ((0 < numbers.new.spare) × (0 < origins.new.spare)) }
+{
+    numbers.reserve(1)?;
+    origins.reserve(1)
+}
