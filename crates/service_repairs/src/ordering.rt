@@ -11,7 +11,7 @@ ghost use Rattle.service_repairs.specs.Answers.{answered_by};
 
 use crate::repairing::count_rows;
 use call_registers::Hold;
-use journal_rows::{Command, OrderedRow, ordered};
+use journal_rows::{Command, OrderedRow};
 use lang_core::{Inputs, Origin, Text};
 use repair_drafts::{RULE, about, accept};
 use repair_messages::PostName;
@@ -142,7 +142,7 @@ fn refused(parts: &Parts, command: &Command) -> Option<OrderRefused>
 fn repeated(parts: &Parts, token: &Text) -> Option<Ordered>
     ensures { result ≡ answered_by (ordered token.now parts.now.journal.rows) }
 {
-    match ordered(parts.journal.as_slice(), token) {
+    match parts.journal.ordered(token) {
         None => None,
         Some(row) => Some(Ordered {
             about: row.about,

@@ -8,7 +8,6 @@ ghost use Rattle.service_parts.specs.Parts.{kept};
 ghost use Rattle.service_meaning.specs.Doing.{arrive_memory};
 ghost use Rattle.service_requests.specs.Arrivals.{Says, early, by_made, by_entry, deletion_in, unless_deleted, known, too_much, refusal, before_run};
 
-use journal_rows::last_taken;
 use lang_core::{Name, Origin};
 use request_log::Entry;
 use service_meaning::{ArriveRefused, Arrived};
@@ -52,7 +51,7 @@ fn by_entry(
 fn deletion(parts: &Parts, caller: &Name, number: u64) -> Option<u64>
     ensures { result ≡ deletion_in (last_taken caller.now number parts.now.journal.rows) }
 {
-    let taken = last_taken(parts.journal.as_slice(), caller, number)?;
+    let taken = parts.journal.last_taken(caller, number)?;
     match &taken.desired {
         None => Some(taken.version),
         Some(_) => None,

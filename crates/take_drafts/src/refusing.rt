@@ -7,7 +7,6 @@ ghost use Rattle.service_parts.specs.Parts.{kept};
 ghost use Rattle.take_drafts.specs.Changes.{refused};
 
 use crate::making::origin_of;
-use journal_rows::last_taken;
 use lang_core::NoMemory;
 use repair_messages::SetMessage;
 use service_meaning::TakeRefused;
@@ -17,7 +16,7 @@ use std::alloc::Global;
 fn taken_version(parts: &Parts, set: &SetMessage) -> u64
     ensures { result ≡ taken_version set.now.caller set.now.number parts.now.journal.rows }
 {
-    match last_taken(parts.journal.as_slice(), &set.caller, set.number) {
+    match parts.journal.last_taken(&set.caller, set.number) {
         None => 0,
         Some(taken) => taken.version,
     }
