@@ -1,14 +1,11 @@
 // Whole runs over memory: the worked examples by their bytes, and what happens where the k-th read or write fails.
-mod calls;
 mod guestbook;
 mod loads;
 mod orders;
-mod refusals;
-mod settling;
 
-use aire_top::aire;
-use io_edge::{MemoryFile, MemoryFiles, MemorySink, MemorySource};
+use io_edge::{MemoryFile, MemoryFiles, MemorySource};
 use lang_core::{Bytes, Seq, Text};
+use memory_runs::{joined, ran, ran_over};
 use std::alloc::{AllocError, Global};
 use std::test::Fail;
 
@@ -60,46 +57,6 @@ const SAME_AGAIN_TOLD: &str = "notes/1 = 200\n\
     notes/2 v0 alive r1 out:ann PUT /n/a = 200\n\
     notes/3 v0 alive r1 out:ann POST /copy/a/b = 200 1\n\
     legal\n";
-
-fn joined(alloc: Global, parts: &[&str]) -> Result<Vec<u8>, AllocError> {
-    let mut text = String::new(alloc);
-    for part in parts {
-        text.push_str(part)?;
-    }
-    text.as_bytes().to_vec(alloc)
-}
-
-// Runs over memory, with these files, of which the first load fails if so told.
-fn ran_over(
-    alloc: Global,
-    words: &[&str],
-    files: MemoryFiles,
-    input: MemorySource,
-    write_fails: u64,
-) -> Result<(u8, MemorySink), AllocError> {
-    let mut owned = Vec::new(alloc);
-    for word in words {
-        owned.push(String::from_str(alloc, word)?)?;
-    }
-    let (mut files, mut input) = (files, input);
-    let mut out = MemorySink::new(alloc, vec![in alloc; write_fails]?);
-    let ended = aire(alloc, &owned, &mut files, &mut input, &mut out);
-    Ok((ended.status, out))
-}
-
-// Runs a script over memory, whose reads and writes fail at these calls.
-fn ran(
-    alloc: Global,
-    words: &[&str],
-    script: &[&str],
-    read_fails: u64,
-    write_fails: u64,
-) -> Result<(u8, MemorySink), AllocError> {
-    let bytes = joined(alloc, script)?;
-    let input = MemorySource::new(bytes, vec![in alloc; read_fails]?);
-    let files = MemoryFiles::new(Seq::new(alloc), Vec::new(alloc));
-    ran_over(alloc, words, files, input, write_fails)
-}
 
 // Whether a run has this status and writes this.
 fn tells(

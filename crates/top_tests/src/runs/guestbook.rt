@@ -1,7 +1,7 @@
 // The run of a guestbook that the first page of the documents shows.
-use super::ran_over;
 use io_edge::{MemoryFile, MemoryFiles, MemorySource};
 use lang_core::{Bytes, Seq, Text};
+use memory_runs::ran_over;
 use std::alloc::{AllocError, Global};
 use std::test::Fail;
 

@@ -1,7 +1,7 @@
 // Lines that name what isn't there, and worlds that can't be: each is refused by its number.
-use super::{ran, ran_over};
 use io_edge::{MemoryFile, MemoryFiles, MemorySource};
 use lang_core::{Bytes, Seq, Text};
+use memory_runs::{ran, ran_over};
 use std::process::Abort;
 
 // What stands before each of the lines: the shop has a live request that waits for the bank, and one packet was written.

@@ -1,7 +1,7 @@
 // Services that call one another: worked examples, by the bytes that their scripts print.
-use super::{ran, ran_over};
 use io_edge::{MemoryFile, MemoryFiles, MemorySource};
 use lang_core::{Bytes, Seq, Text};
+use memory_runs::{ran, ran_over};
 use std::process::Abort;
 
 // What `examples/undo-a-purchase.script` holds.

@@ -1,7 +1,7 @@
 // Worlds whose services repair themselves and tell one another until nothing is outstanding: worked examples, by the bytes
 // that their scripts print.
-use super::calls::{GIVEN_UP, GIVEN_UP_TOLD, HURRIED, HURRIED_TOLD, PLACED, PLACED_TOLD};
-use super::{joined, ran};
+use crate::calls::{GIVEN_UP, GIVEN_UP_TOLD, HURRIED, HURRIED_TOLD, PLACED, PLACED_TOLD};
+use memory_runs::{joined, ran};
 use std::alloc::{AllocError, Global};
 use std::test::Fail;
 

@@ -1,0 +1,9 @@
+//! Tests of whole runs over services that call one another.
+#![tactic(auto)]
+
+#[cfg(test)]
+mod calls;
+#[cfg(test)]
+mod refusals;
+#[cfg(test)]
+mod settling;

@@ -1,0 +1,47 @@
+// Runs over memory.
+use aire_top::aire;
+use io_edge::{MemoryFiles, MemorySink, MemorySource};
+use lang_core::Seq;
+use std::alloc::{AllocError, Global};
+
+/// These texts, one behind the other.
+pub fn joined(alloc: Global, parts: &[&str]) -> Result<Vec<u8>, AllocError> {
+    let mut text = String::new(alloc);
+    for part in parts {
+        text.push_str(part)?;
+    }
+    text.as_bytes().to_vec(alloc)
+}
+
+/// A run with these words, files and input, in which the write of this number, counted from 1, fails, and none where that is 0:
+/// its status, and what was written.
+pub fn ran_over(
+    alloc: Global,
+    words: &[&str],
+    files: MemoryFiles,
+    input: MemorySource,
+    write_fails: u64,
+) -> Result<(u8, MemorySink), AllocError> {
+    let mut owned = Vec::new(alloc);
+    for word in words {
+        owned.push(String::from_str(alloc, word)?)?;
+    }
+    let (mut files, mut input) = (files, input);
+    let mut out = MemorySink::new(alloc, vec![in alloc; write_fails]?);
+    let ended = aire(alloc, &owned, &mut files, &mut input, &mut out);
+    Ok((ended.status, out))
+}
+
+/// A run with these words and a script as its input, without files, in which the read and the write of these numbers fail.
+pub fn ran(
+    alloc: Global,
+    words: &[&str],
+    script: &[&str],
+    read_fails: u64,
+    write_fails: u64,
+) -> Result<(u8, MemorySink), AllocError> {
+    let bytes = joined(alloc, script)?;
+    let input = MemorySource::new(bytes, vec![in alloc; read_fails]?);
+    let files = MemoryFiles::new(Seq::new(alloc), Vec::new(alloc));
+    ran_over(alloc, words, files, input, write_fails)
+}
