@@ -292,7 +292,7 @@ kept_by p z x xs true false e f h = rw f h
 kept_by p z x xs false true e f h = let same : p z ≡ false = ap p (eqb-true z x f) ∙ e in h ∙ rw same refl
 kept_by p z x xs false false e f h = h
 
-member_kept : (p : ℕ → Bool) (z : ℕ) (xs : List ℕ) → member z (filter p xs) ≡ (p z && member z xs)
+pub member_kept : (p : ℕ → Bool) (z : ℕ) (xs : List ℕ) → member z (filter p xs) ≡ (p z && member z xs)
 member_kept p z [] = none (p z)
   where
     none : (b : Bool) → false ≡ (b && false)

@@ -10,5 +10,6 @@ mod rows;
 
 pub use index::{Index, Labels};
 pub use noted::Noted;
+pub use numbers::{put_reserved, seek_number};
 pub use reads::{ReadAt, ReadKind, ReadsAt};
 pub use room::IndexCall;

@@ -39,7 +39,7 @@ fn stands_at<T: Labelled>(items: &[T], at: usize, label: u64) -> bool
 }
 
 /// How many of these have lower labels, and whether one has this one.
-pub(crate) fn seek_number<T: Labelled>(items: &[T], label: u64) -> (usize, bool)
+pub fn seek_number<T: Labelled>(items: &[T], label: u64) -> (usize, bool)
     requires { Rises (map T.label items.now) }
     ensures below { filter (λ x. nat_lt (T.label x) label) items.now ≡ take result.0 items.now }
     ensures above { filter (λ x. nat_lt label (T.label x)) items.now ≡ drop (past result.1 result.0) items.now }
@@ -51,7 +51,7 @@ pub(crate) fn seek_number<T: Labelled>(items: &[T], label: u64) -> (usize, bool)
 }
 
 /// Puts a number in, if it isn't there yet, where there is room for it.
-pub(crate) fn put_reserved(numbers: &mut Vec<u64>, number: u64)
+pub fn put_reserved(numbers: &mut Vec<u64>, number: u64)
     requires rising { Rises numbers.old.items }
     requires fits { length (with_number number numbers.old.items) ≤ vec_capacity numbers.old }
     ensures items { numbers.new.items ≡ with_number number numbers.old.items }

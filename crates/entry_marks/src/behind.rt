@@ -1,0 +1,91 @@
+// Marks behind a place.
+ghost use Rattle.std.specs.Prelude.{ℕ, ◌≡◌, ◌<◌, ◌≤◌, ◌||◌, ◌∷◌, [], length, IsTrue, OnOk, OnErr, vec_capacity};
+ghost use Rattle.std.specs.List.{All, Contains};
+ghost use Rattle.dependency_index.specs.Numbers.{with_numbers};
+ghost use Rattle.lang_core.specs.declared.writes.Write.{Write};
+ghost use Rattle.entry_marks.specs.Marks.{is_marked, places_behind, reads_by, sees_behind, AreMarks, IsNoted};
+
+use crate::places::Places;
+use dependency_index::{Index, put_reserved};
+use lang_core::{NoMemory, Write};
+use std::alloc::Global;
+
+// Marks where a label stands, if that is behind a place.
+fn put_one(places: &Places, marks: &mut Vec<u64>, place: usize, label: u64)
+    requires there { Contains places.now.labels label }
+    requires marks { AreMarks (length places.now.labels) marks.old.items }
+    requires room { length places.now.labels ≤ vec_capacity marks.old }
+    ensures items { marks.new.items ≡ with_numbers (places_behind places.now.labels place (label ∷ [])) marks.old.items }
+    ensures marks { AreMarks (length places.now.labels) marks.new.items }
+    ensures capacity { vec_capacity marks.old ≤ vec_capacity marks.new }
+{
+    let at = places.place_of(label);
+    if place < at {
+        put_reserved(marks, at as u64);
+    }
+}
+
+// Marks where these labels stand, those behind a place.
+fn put_behind(places: &Places, marks: &mut Vec<u64>, place: usize, found: &[u64])
+    requires there { All (Contains places.now.labels) found.now }
+    requires marks { AreMarks (length places.now.labels) marks.old.items }
+    requires room { length places.now.labels ≤ vec_capacity marks.old }
+    ensures items { marks.new.items ≡ with_numbers (places_behind places.now.labels place found.now) marks.old.items }
+    ensures marks { AreMarks (length places.now.labels) marks.new.items }
+    ensures capacity { vec_capacity marks.old ≤ vec_capacity marks.new }
+{
+    for label in found {
+        put_one(places, marks, place, *label);
+    }
+}
+
+// Marks the entries behind a place that look at the cell of a write. Refused, the marks stay.
+fn mark_write(
+    alloc: Global,
+    places: &Places,
+    index: &Index,
+    marks: &mut Vec<u64>,
+    place: usize,
+    write: &Write,
+) -> Result<(), NoMemory>
+    requires within { place < length places.now.labels }
+    requires noted { IsNoted places.now.labels index.now.reads marks.old.items }
+    requires room { length places.now.labels ≤ vec_capacity marks.old }
+    ensures ok { OnOk result ((q : ℕ) → is_marked q marks.new.items
+        ≡ (is_marked q marks.old.items || sees_behind place (write.now ∷ []) (reads_by index.now.reads places.now.labels) q)) }
+    ensures err { OnErr result (marks.new.items ≡ marks.old.items) }
+    ensures noted { IsNoted places.now.labels index.now.reads marks.new.items }
+    ensures capacity { vec_capacity marks.old ≤ vec_capacity marks.new }
+{
+    let order = places.order();
+    let from = places.label_at(place);
+    let readers = index.readers_between(alloc, order, &write.table, &write.key, from, None)?;
+    let scanners = index.scanners(alloc, &write.table, &write.key)?;
+    put_behind(places, marks, place, readers.as_slice());
+    put_behind(places, marks, place, scanners.as_slice());
+    Ok(())
+}
+
+/// Marks the entries behind a place that look at a cell of these writes. Refused, some of them may be marked.
+pub(crate) fn mark_writes(
+    alloc: Global,
+    places: &Places,
+    index: &Index,
+    marks: &mut Vec<u64>,
+    place: usize,
+    writes: &[Write],
+) -> Result<(), NoMemory>
+    requires within { place < length places.now.labels }
+    requires noted { IsNoted places.now.labels index.now.reads marks.old.items }
+    requires room { length places.now.labels ≤ vec_capacity marks.old }
+    ensures ok { OnOk result ((q : ℕ) → is_marked q marks.new.items
+        ≡ (is_marked q marks.old.items || sees_behind place writes.now (reads_by index.now.reads places.now.labels) q)) }
+    ensures err { OnErr result ((q : ℕ) → IsTrue (is_marked q marks.old.items) → IsTrue (is_marked q marks.new.items)) }
+    ensures noted { IsNoted places.now.labels index.now.reads marks.new.items }
+    ensures capacity { vec_capacity marks.old ≤ vec_capacity marks.new }
+{
+    for write in writes {
+        mark_write(alloc, places, index, marks, place, write)?;
+    }
+    Ok(())
+}
