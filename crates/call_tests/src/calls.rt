@@ -1,7 +1,5 @@
 // Services that call one another: worked examples, by the bytes that their scripts print.
-use io_edge::{MemoryFile, MemoryFiles, MemorySource};
-use lang_core::{Bytes, Seq, Text};
-use memory_runs::{ran, ran_over};
+use memory_runs::{ran, ran_in};
 use std::process::Abort;
 
 // What `examples/undo-a-purchase.script` holds.
@@ -385,17 +383,6 @@ fn what_waits(rt: HostRuntime) {
 #[test]
 fn what_is_too_heavy(rt: HostRuntime) {
     let alloc = rt.alloc();
-    let mut files = Seq::new(alloc);
-    let path = Text::of(alloc, "light").expect(&rt, "memory");
-    let bytes = Bytes::of(alloc, LIGHT.as_bytes()).expect(&rt, "memory");
-    files
-        .push(MemoryFile { path, bytes })
-        .ok()
-        .expect(&rt, "memory");
-    let files = MemoryFiles::new(files, Vec::new(alloc));
-    let script = FILLED.as_bytes().to_vec(alloc).expect(&rt, "memory");
-    let input = MemorySource::new(script, Vec::new(alloc));
-    let words = &["run", "light", "-"];
-    let (status, out) = ran_over(alloc, words, files, input, 0).expect(&rt, "memory");
+    let (status, out) = ran_in(alloc, LIGHT, FILLED).expect(&rt, "memory");
     tells(&rt, status, out.bytes(), FILLED_TOLD);
 }

@@ -4,6 +4,8 @@
 #[cfg(test)]
 mod calls;
 #[cfg(test)]
+mod late;
+#[cfg(test)]
 mod refusals;
 #[cfg(test)]
 mod settling;

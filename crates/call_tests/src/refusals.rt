@@ -1,7 +1,5 @@
 // Lines that name what isn't there, and worlds that can't be: each is refused by its number.
-use io_edge::{MemoryFile, MemoryFiles, MemorySource};
-use lang_core::{Bytes, Seq, Text};
-use memory_runs::{ran, ran_over};
+use memory_runs::{ran, ran_in};
 use std::process::Abort;
 
 // What stands before each of the lines: the shop has a live request that waits for the bank, and one packet was written.
@@ -91,18 +89,8 @@ fn world_of(rt: &(impl Abort + AllocGlobal), names: &[&str]) -> String {
 
 fn check_world(rt: &(impl Abort + AllocGlobal), names: &[&str], status: u8, told: &str) {
     let alloc = rt.alloc();
-    let path = Text::of(alloc, "world").expect(rt, "memory");
-    let bytes = Bytes::of(alloc, world_of(rt, names).as_bytes()).expect(rt, "memory");
-    let mut files = Seq::new(alloc);
-    files
-        .push(MemoryFile { path, bytes })
-        .ok()
-        .expect(rt, "memory");
-    let files = MemoryFiles::new(files, Vec::new(alloc));
-    let script = b"ask a ann GET /x\n".to_vec(alloc).expect(rt, "memory");
-    let input = MemorySource::new(script, Vec::new(alloc));
-    let words: &[&str] = &["run", "world", "-"];
-    let (given, out) = ran_over(alloc, words, files, input, 0).expect(rt, "memory");
+    let file = world_of(rt, names);
+    let (given, out) = ran_in(alloc, file.as_str(), "ask a ann GET /x\n").expect(rt, "memory");
     assert_eq!(rt; out.bytes(), told.as_bytes());
     assert_eq!(rt; given, status);
 }

@@ -3,4 +3,4 @@
 
 mod runs;
 
-pub use runs::{joined, ran, ran_over};
+pub use runs::{joined, ran, ran_in, ran_over};

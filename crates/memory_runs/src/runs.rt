@@ -1,7 +1,7 @@
 // Runs over memory.
 use aire_top::aire;
-use io_edge::{MemoryFiles, MemorySink, MemorySource};
-use lang_core::Seq;
+use io_edge::{MemoryFile, MemoryFiles, MemorySink, MemorySource};
+use lang_core::{Bytes, NoMemory, Seq, Text};
 use std::alloc::{AllocError, Global};
 
 /// These texts, one behind the other.
@@ -44,4 +44,16 @@ pub fn ran(
     let input = MemorySource::new(bytes, vec![in alloc; read_fails]?);
     let files = MemoryFiles::new(Seq::new(alloc), Vec::new(alloc));
     ran_over(alloc, words, files, input, write_fails)
+}
+
+/// A run of a script in the world of this file.
+pub fn ran_in(alloc: Global, world: &str, script: &str) -> Result<(u8, MemorySink), NoMemory> {
+    let mut files = Seq::new(alloc);
+    files.push(MemoryFile {
+        path: Text::of(alloc, "world")?,
+        bytes: Bytes::of(alloc, world.as_bytes())?,
+    })?;
+    let files = MemoryFiles::new(files, Vec::new(alloc));
+    let input = MemorySource::new(script.as_bytes().to_vec(alloc)?, Vec::new(alloc));
+    Ok(ran_over(alloc, &["run", "world", "-"], files, input, 0)?)
 }
