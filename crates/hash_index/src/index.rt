@@ -83,17 +83,21 @@ impl HashIndex {
         link(&self.keys, &mut self.before, &mut self.last, place);
     }
 
-    /// Puts a key, for which there has to be room, at a place, counted from 0, before what stands there. It costs with the
-    /// number of keys, as all of them are chained afresh.
+    /// Puts a key, for which there has to be room, at a place, counted from 0, before what stands there. Last it costs as a push
+    /// does; else with the number of keys, as all of them are chained afresh.
     pub fn insert(&mut self, at: usize, key: u64)
         requires within { at ≤ length self.old.keys }
         requires room { 0 < self.old.spare }
         ensures keys { self.new.keys ≡ insert self.old.keys at key }
         ensures spare { self.old.spare ≤ self.new.spare + 1 }
     {
-        let _ = self.keys.insert(at, key);
-        self.before.push_reserved(0);
-        chain(&self.keys, &mut self.before, &mut self.last);
+        if at == self.keys.len() {
+            self.push(key);
+        } else {
+            let _ = self.keys.insert(at, key);
+            self.before.push_reserved(0);
+            chain(&self.keys, &mut self.before, &mut self.last);
+        }
     }
 
     /// The end of the last key that is this one; 0 where none is.

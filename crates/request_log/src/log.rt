@@ -150,7 +150,7 @@ impl Log {
     }
 
     /// Puts an entry, new as for `append`, at a place, counted from 0, before what stands there. Refused, it is
-    /// dropped and the log stays. It costs with the number of entries.
+    /// dropped and the log stays. Last it costs as an append does; else with the number of entries.
     pub fn insert(&mut self, at: u64, entry: Entry) -> Result<(), LogFull>
         requires within { at ≤ length self.old.entries }
         requires is_new { IsNew entry self.old.entries }
