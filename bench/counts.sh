@@ -1,0 +1,76 @@
+#!/usr/bin/env bash
+# Instructions of the processor, counted by valgrind's callgrind, so that other work on the machine changes nothing: by request
+# over a tenth as many keys, by purchase with its call, of a repair of one request with its one reader, and by entry of a chain of
+# copies that runs again. The number of lines doubles from 1,000 to 4,000, or to what is told; that of purchases and of the chain
+# is a quarter of it.
+# usage: bench/counts.sh [MOST]
+most=${1:-4000}
+. "$(dirname "${BASH_SOURCE[0]}")/timing.sh"
+command -v valgrind >/dev/null || {
+    echo "counts.sh: valgrind isn't here" >&2
+    exit 1
+}
+
+# The instructions of a run of this script in this world.
+count() {
+    valgrind --tool=callgrind --callgrind-out-file=/dev/null "$top/crates/aire/out/aire" run "$1" "$2" 2>&1 >"$folder/told" |
+        sed -n 's/.*Collected : *//p'
+}
+
+asks() {
+    local n=$1 i
+    for ((i = 0; i < n; i++)); do
+        echo "ask notes ann PUT /n/k$((i % (n / 10))) value $i"
+    done
+}
+
+purchases() {
+    local n=$1 i
+    for ((i = 0; i < n; i++)); do
+        echo "ask shop ann POST /buy/k$i $i"
+    done
+}
+
+# A note, and copies each of the one before.
+chain() {
+    local n=$1 i
+    echo "ask notes eve PUT /n/c0 evil"
+    for ((i = 1; i < n; i++)); do
+        echo "ask notes ann POST /copy/c$((i - 1))/c$i"
+    done
+}
+
+# The first request is cancelled, and so many steps are made.
+repair() {
+    local n=$1 i
+    echo "cancel notes/1 t1 root"
+    for ((i = 0; i <= n; i++)); do
+        echo "step notes"
+    done
+}
+
+# A note and its one reader, before so many requests for others.
+early() {
+    echo "ask notes eve PUT /n/early evil"
+    echo "ask notes ann GET /n/early"
+    asks "$1"
+}
+
+# The instructions of a script in @notes beyond those of another.
+beyond() { echo $(($(count @notes "$1") - $(count @notes "$2"))); }
+
+: >"$folder/none"
+none=$(count @notes "$folder/none")
+shops=$(count @shops "$folder/none")
+for ((n = 1000; n <= most; n *= 2)); do
+    asks "$n" >"$folder/asks"
+    purchases $((n / 4)) >"$folder/purchases"
+    chain $((n / 4)) >"$folder/chain"
+    (chain $((n / 4)); repair $((n / 4))) >"$folder/chained"
+    early "$n" >"$folder/early"
+    (early "$n"; repair 2) >"$folder/undone"
+    echo "$n requests: $((($(count @notes "$folder/asks") - none) / n)) each"
+    echo "$n requests, one repaired with its reader: $(beyond "$folder/undone" "$folder/early") in all"
+    echo "$((n / 4)) purchases: $((($(count @shops "$folder/purchases") - shops) / (n / 4))) each"
+    echo "a chain of $((n / 4)): $(($(beyond "$folder/chained" "$folder/chain") / (n / 4))) by entry"
+done
