@@ -1,8 +1,14 @@
+pub mod AgreeLemmas
 pub mod AloneLemmas
 pub mod CallsLemmas
+pub mod ChangedLemmas
 pub mod CurrentLemmas
+pub mod GivesLemmas
 pub mod HandlerLemmas
+pub mod HeldLemmas
+pub mod MarkingLemmas
 pub mod ReplayLemmas
+pub mod StaleLemmas
 pub mod StepLemmas
 pub mod TestLemmas
 pub mod WrittenLemmas

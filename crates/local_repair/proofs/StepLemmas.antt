@@ -38,7 +38,7 @@ rerun_is setting h consumed rows e m r = record {
 }
 
 -- its reads are what the rows give
-rerun_reads : (setting : Setting) → IsHandler setting → (consumed : Consumed) (rows : List Cell) (e : Entry) (m : Made) → IsRerun setting consumed rows e m → GivesAll rows m.trace.reads
+pub rerun_reads : (setting : Setting) → IsHandler setting → (consumed : Consumed) (rows : List Cell) (e : Entry) (m : Made) → IsRerun setting consumed rows e m → GivesAll rows m.trace.reads
 rerun_reads setting h consumed rows e m r = elim (cases_Bool (is_alive e)) [
   | inl alive ↦ h.reads e.request e.inputs m.trace.answers rows m.trace (r.live alive)
   | inr dead ↦ (let P : Trace → Type 0 = λ t. GivesAll rows t.reads in subst P (sym (r.dead dead)) (All-nil (Gives rows)))

@@ -18,7 +18,7 @@ use Rattle.local_repair.specs.Written.{all_written}
 abbrev wrote : Entry → List Write
 wrote e = writes_of e.made
 
-made_rows : (entries : List Entry) → rows_made (all_written entries) ≡ rows_of entries
+pub made_rows : (entries : List Entry) → rows_made (all_written entries) ≡ rows_of entries
 made_rows entries = fold-map apply wrote [] entries
 
 -- the rows before a place are those of the entries before it
@@ -35,30 +35,3 @@ written_insert entries at e = map_insert wrote entries at e
 
 pub written_set : (entries : List Entry) (at : ℕ) (e : Entry) → all_written (set entries at e) ≡ set (all_written entries) at (wrote e)
 written_set entries at e = map-set wrote entries at e
-
--- a change that leaves an entry's record leaves what it wrote
-same_if : (change : Entry → Entry) → ((e : Entry) → (change e).made ≡ e.made) → (b : Bool) (e : Entry) → wrote (cond b (change e) e) ≡ wrote e
-same_if change leaves true e = ap writes_of (leaves e)
-same_if change leaves false e = refl
-
-pub written_changed : (change : Entry → Entry) (id : ℕ) (entries : List Entry) → ((e : Entry) → (change e).made ≡ e.made) → all_written (changed id change entries) ≡ all_written entries
-written_changed change id [] leaves = refl
-written_changed change id (e ∷ es) leaves =
-    ap (λ w. w ∷ all_written (changed id change es)) (same_if change leaves (has_id id e) e) ∙ ap (λ l. wrote e ∷ l) (written_changed change id es leaves)
-
-amended_by : (o : Option Entry) (old entry : Entry) → o ≡ Some old → IsSomeAnd o (λ x. Amends x entry) → entry.made ≡ old.made
-amended_by None old entry is amends = cc
-amended_by (Some x) old entry is amends = let same : x ≡ old = cc in ap (λ (e : Entry). e.made) amends ∙ ap (λ (e : Entry). e.made) same
-
-some_amended : (o : Option Entry) (entry : Entry) → IsSomeAnd o (λ x. Amends x entry) → (old : Entry) × (o ≡ Some old)
-some_amended None entry h = absurd h
-some_amended (Some x) entry h = (x, refl)
-
-pub written_amended : (entry : Entry) (entries : List Entry) → IsAmended entry entries → all_written (with_entry entry entries) ≡ all_written entries
-written_amended entry entries amended =
-    let o = find (has_id entry.id) entries in
-    let old = some_amended o entry amended in
-    let at : get_or entries (position_or_len (has_id entry.id) entries) entry ≡ old.0 =
-    get_or_from_slice_get entries (position_or_len (has_id entry.id) entries) old.0 entry (sym (find_at (has_id entry.id) entries) ∙ old.1) in
-    map-set_same wrote entries (position_or_len (has_id entry.id) entries) entry entry
-    (ap writes_of (amended_by o old.0 entry old.1 amended ∙ ap (λ (e : Entry). e.made) (sym at)))

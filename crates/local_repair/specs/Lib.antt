@@ -1,5 +1,6 @@
 pub mod Alone
 pub mod Current
+pub mod Held
 pub mod Histories
 pub mod Parts
 pub mod Registers

@@ -1,14 +1,18 @@
 // Which entries are stale, told without memory.
-ghost use Rattle.std.specs.Prelude.{◌≡◌, ◌↔◌, [], map, IsTrue, MatchOption};
+ghost use Rattle.std.specs.Prelude.{ℕ, ◌≡◌, ◌↔◌, ◌<◌, ◌≤◌, [], true, length, map, IsTrue, MatchOption};
+ghost use Rattle.std.specs.List.{HoldsAt};
 ghost use Rattle.std.specs.Option.{option_copied};
 ghost use Rattle.handler_run.specs.Reads.{Gives, GivesAll};
 ghost use Rattle.entry_rows.specs.Rows.{rows_before};
+ghost use Rattle.entry_marks.specs.Marks.{AreMarks};
 ghost use Rattle.local_repair.specs.Current.{IsCurrentRecord, IsCurrent, AllCurrent, IsFirstStale};
+ghost use Rattle.local_repair.specs.Held.{AreCurrent, IsAnswered, IsFirstChanged, IsFirstMarked, IsHeld, IsHeldRecord, IsKept, IsOfNow};
 ghost use Rattle.local_repair.specs.Written.{all_written};
 ghost use Rattle.local_repair.specs.Parts.{IsOf};
 ghost use Rattle.local_repair.specs.Steps.{answer_or_tentative, tentative};
 
 use crate::slots::Slots;
+use entry_marks::EntryMarks;
 use entry_rows::EntryRows;
 use lang_core::{Read, Response, Same, Text};
 use request_log::{Entry, Made};
@@ -109,21 +113,115 @@ fn is_current<S: Slots>(rows: &EntryRows, place: usize, entry: &Entry, slots: &S
     }
 }
 
-/// The place of the first stale entry of a log, counted from 0; None exactly where no entry is stale.
-pub(crate) fn place_of_stale<S: Slots>(
+// Whether a record is of the entry as it is now, with an answer for each of its slots.
+fn is_of_now(entry: &Entry, made: &Made) -> bool
+    ensures { IsTrue result ↔ IsOfNow entry.now made.now }
+{
+    made.alive == entry.is_alive()
+        && made.version == entry.version
+        && made.request.is(&entry.request)
+        && made.trace.answers.len() == entry.slots.len()
+}
+
+fn is_held_record(rows: &EntryRows, place: usize, entry: &Entry, made: &Made) -> bool
+    ensures { IsTrue result ↔ IsHeldRecord (rows_before place rows.now) entry.now made.now }
+{
+    is_of_now(entry, made) && reads_hold(rows, place, made.trace.reads.as_slice())
+}
+
+/// Whether an entry that stands or is to stand at a place can be stale by an answer alone.
+pub(crate) fn is_held(rows: &EntryRows, place: usize, entry: &Entry) -> bool
+    ensures { IsTrue result ↔ IsHeld (rows_before place rows.now) entry.now }
+{
+    match &entry.made {
+        Some(made) => is_held_record(rows, place, entry, made),
+        None => false,
+    }
+}
+
+// Whether an entry's record consumed what its slots consume now.
+fn is_answered<S: Slots>(entry: &Entry, slots: &S) -> bool
+    ensures { IsTrue result ↔ IsAnswered (S.consumed_of slots.now) entry.now }
+{
+    match &entry.made {
+        Some(made) => { answers_hold(slots, entry.slots.as_slice(), made.trace.answers.as_slice()) }
+        None => false,
+    }
+}
+
+// The place of the first marked entry that is stale.
+fn place_of_marked<S: Slots>(
     rows: &EntryRows,
+    marks: &[u64],
     entries: &[Entry],
     slots: &S,
 ) -> Option<usize>
-    requires { rows.now.writes ≡ all_written entries.now }
+    requires tied { rows.now.writes ≡ all_written entries.now }
+    requires marks { AreMarks (length entries.now) marks.now }
     ensures { MatchOption result
-        (AllCurrent (S.consumed_of slots.now) [] entries.now)
-        (λ place. IsFirstStale (S.consumed_of slots.now) entries.now place) }
+        (AreCurrent (S.consumed_of slots.now) entries.now marks.now (length entries.now))
+        (λ place. IsFirstMarked (S.consumed_of slots.now) entries.now marks.now place) }
 {
-    for (place, entry) in entries.iter().enumerate() {
-        if !is_current(rows, place, entry, slots) {
+    for mark in marks {
+        let place = *mark as usize;
+        if !is_current(rows, place, &entries[place], slots) {
             return Some(place);
         }
     }
     None
+}
+
+// The place of the first entry, of so many, whose record consumed something else than its slots consume now. Where no
+// entry has calls there is none, and no entry is looked at.
+fn place_of_changed<S: Slots>(
+    calls: bool,
+    entries: &[Entry],
+    end: usize,
+    slots: &S,
+) -> Option<usize>
+    requires { end ≤ length entries.now }
+    ensures { MatchOption result
+        (calls ≡ true → (q : ℕ) → q < end → HoldsAt (IsAnswered (S.consumed_of slots.now)) entries.now q)
+        (λ place. (place < end) × IsFirstChanged (S.consumed_of slots.now) entries.now place) }
+{
+    if !calls {
+        return None;
+    }
+    for place in 0..end {
+        if !is_answered(&entries[place], slots) {
+            return Some(place);
+        }
+    }
+    None
+}
+
+fn end_of(marked: Option<usize>, count: usize) -> usize
+    ensures { MatchOption marked (result ≡ count) (λ place. result ≡ place) }
+{
+    match marked {
+        None => count,
+        Some(place) => place,
+    }
+}
+
+/// The place of the first stale entry of a log, counted from 0; None exactly where no entry is stale. Only what is marked
+/// is tested on its rows; where an entry may have calls, what stands before that is tested by its answers.
+pub(crate) fn place_of_stale<S: Slots>(
+    rows: &EntryRows,
+    marks: &EntryMarks,
+    calls: bool,
+    entries: &[Entry],
+    slots: &S,
+) -> Option<usize>
+    requires { IsKept entries.now rows.now.writes marks.now calls }
+    ensures { MatchOption result
+        (AllCurrent (S.consumed_of slots.now) [] entries.now)
+        (λ place. IsFirstStale (S.consumed_of slots.now) entries.now place) }
+{
+    let marked = place_of_marked(rows, marks.marks(), entries, slots);
+    let end = end_of(marked, entries.len());
+    match place_of_changed(calls, entries, end, slots) {
+        Some(place) => Some(place),
+        None => marked,
+    }
 }

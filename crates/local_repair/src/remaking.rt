@@ -1,16 +1,21 @@
 // An entry run again, its calls settled.
-ghost use Rattle.std.specs.Prelude.{ℕ, List, ◌≡◌, IfOk, OnErr};
+ghost use Rattle.std.specs.Prelude.{ℕ, List, ◌≡◌, ◌+◌, ◌<◌, [], ◌++◌, length, IfOk, OnOk, OnErr};
 ghost use Rattle.lang_core.specs.declared.cells.Cell.{Cell};
 ghost use Rattle.lang_core.specs.declared.setting.Setting.{Setting};
+ghost use Rattle.entry_marks.specs.Marks.{IsReadyToSet as IsReadyToMark};
 ghost use Rattle.entry_rows.specs.Rows.{rows_before, IsReadyToSet};
+ghost use Rattle.local_repair.specs.Current.{writes_of};
+ghost use Rattle.local_repair.specs.Held.{IsMarkedFrom};
 ghost use Rattle.local_repair.specs.Settling.{HasItsSlots, HasSlotsOnce, CanSettle, IsAgain};
 ghost use Rattle.local_repair.specs.Steps.{answers_for, calls_of_made, IsRerun};
 
 use crate::rerun::{is_new_answer, run_again};
 use crate::slots::Slots;
 use crate::view::RowsBefore;
+use crate::written::writes_of;
+use entry_marks::EntryMarks;
 use entry_rows::EntryRows;
-use lang_core::{NoMemory, Setting};
+use lang_core::{NoMemory, Setting, Writes};
 use request_log::{Entry, Made, Numbers};
 use std::alloc::Global;
 
@@ -72,12 +77,67 @@ fn made_at<S: Slots>(
     run_again(alloc, setting, &view, entry, slots)
 }
 
-/// Runs the entry at a place again on the rows before it, makes room for what it wrote, and settles its calls. Refused,
-/// the registers stay.
+// Marks what stands behind the entry at a place and looks at what it wrote, or at what its new record writes.
+fn mark_behind(
+    alloc: Global,
+    marks: &mut EntryMarks,
+    place: usize,
+    entry: &Entry,
+    made: &Made,
+) -> Result<(), NoMemory>
+    requires { place < length marks.old.reads }
+    ensures ok { OnOk result (IsMarkedFrom (place + 1) (writes_of entry.now.made ++ made.now.trace.writes) marks.old marks.new) }
+    ensures err { OnErr result (IsMarkedFrom (place + 1) [] marks.old marks.new) }
+{
+    let none = Writes::new(alloc);
+    marks.mark_readers(alloc, place, writes_of(entry, &none))?;
+    marks.mark_readers(alloc, place, &made.trace.writes)
+}
+
+// Makes room for what a new record of an entry wrote and for where it looked.
+fn ready_made(
+    alloc: Global,
+    rows: &mut EntryRows,
+    marks: &mut EntryMarks,
+    made: &Made,
+) -> Result<(), NoMemory>
+    ensures writes { rows.new.writes ≡ rows.old.writes }
+    ensures reads { marks.new.reads ≡ marks.old.reads }
+    ensures marks { marks.new.marks ≡ marks.old.marks }
+    ensures ready_rows { OnOk result (IsReadyToSet made.now.trace.writes rows.new) }
+    ensures ready_marks { OnOk result (IsReadyToMark made.now.trace.reads marks.new) }
+{
+    rows.ready_set(alloc, &made.trace.writes)?;
+    marks.ready_set(alloc, &made.trace.reads)
+}
+
+// The same, once what looks at other writes is marked.
+fn ready_again(
+    alloc: Global,
+    rows: &mut EntryRows,
+    marks: &mut EntryMarks,
+    place: usize,
+    entry: &Entry,
+    made: &Made,
+) -> Result<(), NoMemory>
+    requires { place < length marks.old.reads }
+    ensures writes { rows.new.writes ≡ rows.old.writes }
+    ensures ok { OnOk result (IsMarkedFrom (place + 1) (writes_of entry.now.made ++ made.now.trace.writes) marks.old marks.new) }
+    ensures err { OnErr result (IsMarkedFrom (place + 1) [] marks.old marks.new) }
+    ensures ready_rows { OnOk result (IsReadyToSet made.now.trace.writes rows.new) }
+    ensures ready_marks { OnOk result (IsReadyToMark made.now.trace.reads marks.new) }
+{
+    mark_behind(alloc, marks, place, entry, made)?;
+    ready_made(alloc, rows, marks, made)
+}
+
+/// Runs the entry at a place again on the rows before it, marks what looks at what that changes, makes room for what it
+/// wrote and for where it looked, and settles its calls. Refused, the registers stay.
 pub(crate) fn remake<S: Slots>(
     alloc: Global,
     setting: &Setting,
     rows: &mut EntryRows,
+    marks: &mut EntryMarks,
     entry: &Entry,
     place: usize,
     slots: &mut S,
@@ -85,6 +145,7 @@ pub(crate) fn remake<S: Slots>(
     requires own { HasItsSlots entry.now }
     requires once { HasSlotsOnce entry.now }
     requires can { CanSettle (S.can_settle slots.old) setting.now entry.now }
+    requires within { place < length marks.old.reads }
     ensures ok { IfOk result (λ again. IsAgain setting.now
         (record {
           before = S.consumed_of slots.old;
@@ -97,10 +158,13 @@ pub(crate) fn remake<S: Slots>(
         (rows_before place rows.old) entry.now again) }
     ensures writes { rows.new.writes ≡ rows.old.writes }
     ensures ready { IfOk result (λ again. IsReadyToSet again.made.trace.writes rows.new) }
+    ensures ready_marks { IfOk result (λ again. IsReadyToMark again.made.trace.reads marks.new) }
+    ensures marked { IfOk result (λ again. IsMarkedFrom (place + 1) (writes_of entry.now.made ++ again.made.trace.writes) marks.old marks.new) }
+    ensures stays { OnErr result (IsMarkedFrom (place + 1) [] marks.old marks.new) }
     ensures timely { S.is_timely slots.old → S.is_timely slots.new }
     ensures err { OnErr result (slots.new ≡ slots.old) }
 {
     let made = made_at(alloc, setting, rows, entry, place, slots)?;
-    rows.ready_set(alloc, &made.trace.writes)?;
+    ready_again(alloc, rows, marks, place, entry, &made)?;
     settle(alloc, entry, made, slots)
 }

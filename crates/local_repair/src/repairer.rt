@@ -1,8 +1,11 @@
 // A log, and its repair.
-ghost use Rattle.std.specs.Prelude.{◌≡◌, ◌↔◌, ◌<◌, ◌≤◌, [], ◌∷◌, ◌++◌, All, Err, Ok, IfOk, OnOk, OnErr, MatchOption, insert, length, take, slice_set, slice_index_or, find, is_some};
+ghost use Rattle.std.specs.Prelude.{ℕ, ◌≡◌, ◌↔◌, ◌+◌, ◌<◌, ◌≤◌, ◌&&◌, not, nat_lt, [], ◌∷◌, ◌++◌, All, Err, Ok, IfOk, OnOk, OnErr, MatchOption, insert, length, map, take, slice_set, slice_index_or, find, is_some};
 ghost use Rattle.request_log.specs.Entries.{changed, has_id, mark, replace, IsNew, IsKnown, with_entry};
+ghost use Rattle.dependency_index.specs.Reads.{read_at};
+ghost use Rattle.entry_marks.specs.Marks.{is_marked, IsReadyToSet as IsReadyToMark};
 ghost use Rattle.entry_rows.specs.Rows.{IsReadyToSet};
-ghost use Rattle.local_repair.specs.Current.{AllCurrent, AllRuns, rows_of};
+ghost use Rattle.local_repair.specs.Current.{AllCurrent, AllRuns, rows_of, writes_of};
+ghost use Rattle.local_repair.specs.Held.{all_looked, IsIdMarked, IsKept, IsMarkedFrom};
 ghost use Rattle.local_repair.specs.Written.{all_written, rows_seen};
 ghost use Rattle.request_log.specs.declared.entry.Entry.{Entry};
 ghost use Rattle.local_repair.specs.Repairs.{IsAmended, IsStaleId, stale_id};
@@ -15,7 +18,8 @@ use crate::rows::rows_after;
 use crate::slots::Slots;
 use crate::stepped::Stepped;
 use crate::view::RowsBefore;
-use crate::written::insert_entry;
+use crate::written::{insert_entry, may_call};
+use entry_marks::EntryMarks;
 use entry_rows::EntryRows;
 use lang_core::{Cells, Method, NoMemory, Setting, Text};
 use request_log::{Entry, Log, LogFull};
@@ -29,18 +33,22 @@ pub struct Repairer {
     log: Log,
     // What the log's entries wrote.
     rows: EntryRows,
+    // Where they looked, and which of them may be stale by something else than the answer of a call. All others were
+    // current when they last ran or were tested, and nothing that they read has changed since.
+    marks: EntryMarks,
+    // Whether some entry may have calls.
+    calls: bool,
 }
 
 impl Model for Repairer {
-    ghost use Rattle.std.specs.Prelude.{◌≡◌};
+    ghost use Rattle.local_repair.specs.Held.{IsKept};
     ghost use Rattle.local_repair.specs.Repairs.{KeptRepairer};
-    ghost use Rattle.local_repair.specs.Written.{all_written};
 
     ghost Value = { KeptRepairer };
 
     ghost view = { λ repairer. record { entries = repairer.log.entries } };
 
-    ghost invariant = { λ repairer. repairer.rows.writes ≡ all_written repairer.log.entries };
+    ghost invariant = { λ repairer. IsKept repairer.log.entries repairer.rows.writes repairer.marks repairer.calls };
 }
 
 fn raised(n: u64) -> u64
@@ -55,13 +63,14 @@ fn raised_if(raise: bool, n: u64) -> u64
     if raise { raised(n) } else { n }
 }
 
-// Runs the entry at a place again on the rows before it, makes room for what it wrote, and settles its calls. Refused,
-// the registers stay.
+// Runs the entry at a place again on the rows before it, marks what looks at what that changes, makes room for what it
+// wrote and for where it looked, and settles its calls. Refused, the registers stay.
 fn remake_at<S: Slots>(
     alloc: Global,
     setting: &Setting,
     entries: &[Entry],
     rows: &mut EntryRows,
+    marks: &mut EntryMarks,
     place: usize,
     slots: &mut S,
 ) -> Result<Again, NoMemory>
@@ -70,6 +79,7 @@ fn remake_at<S: Slots>(
     requires once { All HasSlotsOnce entries.now }
     requires can { All (CanSettle (S.can_settle slots.old) setting.now) entries.now }
     requires tied { rows.old.writes ≡ all_written entries.now }
+    requires looked { marks.old.reads ≡ all_looked entries.now }
     ensures ok { IfOk result (λ again. (d : Entry) → IsAgain setting.now
         (record {
           before = S.consumed_of slots.old;
@@ -82,22 +92,40 @@ fn remake_at<S: Slots>(
         (rows_of (take place entries.now)) (slice_index_or entries.now place d) again) }
     ensures writes { rows.new.writes ≡ rows.old.writes }
     ensures ready { IfOk result (λ again. IsReadyToSet again.made.trace.writes rows.new) }
+    ensures ready_marks { IfOk result (λ again. IsReadyToMark again.made.trace.reads marks.new) }
+    ensures marked { IfOk result (λ again. (d : Entry) → IsMarkedFrom (place + 1) (writes_of (slice_index_or entries.now place d).made ++ again.made.trace.writes) marks.old marks.new) }
+    ensures stays { OnErr result (IsMarkedFrom (place + 1) [] marks.old marks.new) }
     ensures timely { S.is_timely slots.old → S.is_timely slots.new }
     ensures err { OnErr result (slots.new ≡ slots.old) }
 {
-    remake(alloc, setting, rows, &entries[place], place, slots)
+    remake(alloc, setting, rows, marks, &entries[place], place, slots)
 }
 
-// Notes what came of running the entry at a place again. There is room for what it wrote.
-fn note(alloc: Global, log: &mut Log, rows: &mut EntryRows, place: usize, again: Again) -> Stepped
+// Notes what came of running the entry at a place again. There is room for what it wrote and for where it looked. No entry
+// up to it is marked any more.
+fn note(
+    alloc: Global,
+    log: &mut Log,
+    rows: &mut EntryRows,
+    marks: &mut EntryMarks,
+    place: usize,
+    again: Again,
+) -> Stepped
     requires within { place < length log.old.entries }
+    requires few { length log.old.entries ≤ 100000 }
+    requires within_marks { place < length marks.old.reads }
     requires tied { rows.old.writes ≡ all_written log.old.entries }
     requires ready { IsReadyToSet again.made.trace.writes rows.old }
+    requires ready_marks { IsReadyToMark again.made.trace.reads marks.old }
     ensures stepped { (d : Entry) → result ≡ Stepped.Ran (slice_index_or log.old.entries place d).id again.answered }
     ensures entries { (d : Entry) → log.new.entries ≡ slice_set log.old.entries place (noted again (slice_index_or log.old.entries place d)) }
     ensures tied { rows.new.writes ≡ all_written log.new.entries }
+    ensures reads { marks.new.reads ≡ slice_set marks.old.reads place (map read_at again.made.trace.reads) }
+    ensures marks { (q : ℕ) → is_marked q marks.new.marks ≡ (not (nat_lt q (place + 1)) && is_marked q marks.old.marks) }
 {
     rows.set(alloc, place, &again.made.trace.writes);
+    marks.set(alloc, place, &again.made.trace.reads);
+    marks.clear_before(place + 1);
     note_run(log, place, again)
 }
 
@@ -119,6 +147,19 @@ fn note_run(log: &mut Log, place: usize, again: Again) -> Stepped
     Stepped::Ran { id, answered }
 }
 
+// Marks the entry of a number, if there is one.
+fn mark_id(log: &Log, marks: &mut EntryMarks, id: u64)
+    requires { length log.now.entries ≡ length marks.old.reads }
+    ensures { IsIdMarked id log.now.entries marks.old marks.new }
+{
+    // Asked for what it promises alone: no number stands twice.
+    let _entries = log.as_slice();
+    match log.place_of(id) {
+        None => {}
+        Some(place) => marks.mark(place as usize),
+    }
+}
+
 // Puts an entry in place of the one of its number.
 fn replace(log: &mut Log, entry: Entry)
     requires { IsKnown entry log.old.entries }
@@ -136,6 +177,8 @@ impl Repairer {
             alloc,
             log: Log::new(alloc),
             rows: EntryRows::new(alloc),
+            marks: EntryMarks::new(alloc),
+            calls: false,
         }
     }
 
@@ -163,6 +206,24 @@ impl Repairer {
         }
     }
 
+    fn insert_at(&mut self, at: u64, entry: Entry) -> Result<(), LogFull>
+        requires within { at ≤ length self.old.entries }
+        requires is_new { IsNew entry self.old.entries }
+        ensures ok { OnOk result (self.new.entries ≡ insert self.old.entries at entry) }
+        ensures full { (result ≡ Err LogFull.Full) ↔ (length self.old.entries ≡ 100000) }
+        ensures err { OnErr result (self.new ≡ self.old) }
+    {
+        insert_entry(
+            self.alloc,
+            &mut self.log,
+            &mut self.rows,
+            &mut self.marks,
+            at,
+            entry,
+            &mut self.calls,
+        )
+    }
+
     /// Puts an entry last. Refused, it is dropped and the log stays.
     pub fn append(&mut self, entry: Entry) -> Result<(), LogFull>
         requires { IsNew entry self.old.entries }
@@ -171,7 +232,7 @@ impl Repairer {
         ensures err { OnErr result (self.new ≡ self.old) }
     {
         let end = self.log.len();
-        insert_entry(self.alloc, &mut self.log, &mut self.rows, end, entry)
+        self.insert_at(end, entry)
     }
 
     /// Puts an entry at a place, counted from 0, before what stands there. Refused, it is dropped and the log stays.
@@ -182,7 +243,7 @@ impl Repairer {
         ensures full { (result ≡ Err LogFull.Full) ↔ (length self.old.entries ≡ 100000) }
         ensures err { OnErr result (self.new ≡ self.old) }
     {
-        insert_entry(self.alloc, &mut self.log, &mut self.rows, at, entry)
+        self.insert_at(at, entry)
     }
 
     /// Puts an entry in place of the one of its number, of which it differs in its version, its request, and whether
@@ -191,6 +252,7 @@ impl Repairer {
         requires { IsAmended entry self.old.entries }
         ensures { self.new.entries ≡ with_entry entry self.old.entries }
     {
+        mark_id(&self.log, &mut self.marks, entry.id);
         replace(&mut self.log, entry);
     }
 
@@ -199,6 +261,7 @@ impl Repairer {
         ensures entries { self.new.entries ≡ changed id (mark struck) self.old.entries }
         ensures there { result ≡ is_some (find (has_id id) self.old.entries) }
     {
+        mark_id(&self.log, &mut self.marks, id);
         self.log.strike(id, struck)
     }
 
@@ -207,6 +270,7 @@ impl Repairer {
         ensures entries { self.new.entries ≡ changed id (replace method path body) self.old.entries }
         ensures there { result ≡ is_some (find (has_id id) self.old.entries) }
     {
+        mark_id(&self.log, &mut self.marks, id);
         self.log.rewrite(id, method, path, body)
     }
 
@@ -218,7 +282,7 @@ impl Repairer {
         ensures test { result ≡ stale_id (S.consumed_of slots.now) self.now.entries }
     {
         let entries = self.log.as_slice();
-        match place_of_stale(&self.rows, entries, slots) {
+        match place_of_stale(&self.rows, &self.marks, self.calls, entries, slots) {
             None => None,
             Some(place) => Some(entries[place].id),
         }
@@ -254,12 +318,32 @@ impl Repairer {
         ensures idle { result ≡ Ok Stepped.Idle → (self.new ≡ self.old) × (slots.new ≡ slots.old) }
         ensures err { OnErr result ((self.new ≡ self.old) × (slots.new ≡ slots.old)) }
     {
-        match place_of_stale(&self.rows, self.log.as_slice(), slots) {
-            None => Ok(Stepped::Idle),
+        let entries = self.log.as_slice();
+        let stale = place_of_stale(&self.rows, &self.marks, self.calls, entries, slots);
+        match stale {
+            None => {
+                self.marks.clear_before(entries.len());
+                Ok(Stepped::Idle)
+            }
             Some(place) => {
-                let entries = self.log.as_slice();
-                let again = remake_at(alloc, setting, entries, &mut self.rows, place, slots)?;
-                Ok(note(alloc, &mut self.log, &mut self.rows, place, again))
+                let again = remake_at(
+                    alloc,
+                    setting,
+                    entries,
+                    &mut self.rows,
+                    &mut self.marks,
+                    place,
+                    slots,
+                )?;
+                self.calls = may_call(self.calls, &again.numbers);
+                Ok(note(
+                    alloc,
+                    &mut self.log,
+                    &mut self.rows,
+                    &mut self.marks,
+                    place,
+                    again,
+                ))
             }
         }
     }

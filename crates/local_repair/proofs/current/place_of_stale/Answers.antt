@@ -1,32 +1,47 @@
-use Rattle.std.proofs.Common.{◌≡◌, [], List, true, false, refl, subst, ◌∙◌, sym, get_or, take}
-use Rattle.std.proofs.lemmas.List.{get_or_default}
-use Rattle.lang_core.specs.declared.cells.Cell.{Cell}
-use Rattle.request_log.specs.declared.entry.Entry.{Entry}
-use Rattle.local_repair.specs.Current.{IsCurrent, rows_of}
-use Rattle.local_repair.proofs.CurrentLemmas.{AllCurrent-more}
-use Rattle.local_repair.proofs.WrittenLemmas.{seen_before}
+use Rattle.std.proofs.Common.{◌≡◌, ◌<◌, ◌∙◌, ℕ, List, length, sym, ap, subst, MatchOption, arith}
+use Rattle.std.proofs.lemmas.List.{length-map}
+use Rattle.entry_marks.specs.Marks.{AreMarks}
+use Rattle.local_repair.specs.Held.{looked, AreCurrent, IsFirstMarked}
+use Rattle.local_repair.proofs.StaleLemmas.{changed_first, end_within, marked_first}
+use Rattle.local_repair.proofs.current.place_of_stale.Given.{Over}
 use Rattle.local_repair.proofs.current.place_of_stale.Goals as goal
 
-pub loop-place-preserved : goal.loop-place-preserved
-loop-place-preserved g c =
-    let P : List Cell → Type 0 = λ rows. IsCurrent (g.S.Slots.consumed_of c.args.slots.now) rows c.index-entries-place.result in
-    AllCurrent-more (g.S.Slots.consumed_of c.args.slots.now) c.args.entries.now c.loop-place.place c.index-entries-place.result []
-    c.loop-place-test.true c.index-entries-place.is c.loop-place.invariant
-    (subst P (seen_before c.args.rows.now c.args.entries.now c.loop-place.place c.requires) (c.if-not-is_current.ensures.0 refl))
+pub place_of_marked-marked-requires-clause-tied : goal.place_of_marked-marked-requires-clause-tied
+place_of_marked-marked-requires-clause-tied g c = c.requires.tied
 
-pub returns-then-not-is_current : goal.returns-then-not-is_current
-returns-then-not-is_current g c =
+pub place_of_marked-marked-requires-clause-marks : goal.place_of_marked-marked-requires-clause-marks
+place_of_marked-marked-requires-clause-marks g c =
+    let P : ℕ → Type 0 = λ n. AreMarks n c.marks.result.now in
+    subst P (ap length c.requires.looked ∙ length-map c.args.entries.now looked) c.marks.ensures.marks
+
+-- what was told of the marks
+tested : (g : Over) (c : goal.After-end_of-end g)
+    → MatchOption c.place_of_marked-marked.result (AreCurrent (g.S.Slots.consumed_of c.args.slots.now) c.args.entries.now c.args.marks.now.marks (length c.args.entries.now))
+    (λ place. IsFirstMarked (g.S.Slots.consumed_of c.args.slots.now) c.args.entries.now c.args.marks.now.marks place)
+tested g c =
     let consumed = g.S.Slots.consumed_of c.args.slots.now in
     let es = c.args.entries.now in
-    let place = c.loop-place.place in
-    let x = c.index-entries-place.result in
-    let P : List Cell → Entry → Type 0 = λ rows e. IsCurrent consumed rows e in
-    record {
-      within = c.loop-place-test.true;
-      before = c.loop-place.invariant;
-      stale = λ d current.
-          let same : get_or es place d ≡ x = get_or_default es place d x c.loop-place-test.true ∙ sym c.index-entries-place.is in
-          let seen = sym (seen_before c.args.rows.now es place c.requires) in
-          let never : false ≡ true = c.if-not-is_current.ensures.1 (subst (λ rows. P rows x) seen (subst (P (rows_of (take place es))) same current)) in
-          cc;
-    }
+    let P : List ℕ → Type 0 = λ marks. MatchOption c.place_of_marked-marked.result (AreCurrent consumed es marks (length es)) (λ place. IsFirstMarked consumed es marks place) in
+    subst P c.marks.ensures.is c.place_of_marked-marked.ensures
+
+pub place_of_changed-requires : goal.place_of_changed-requires
+unfolding tested
+place_of_changed-requires g c =
+    (end_within (g.S.Slots.consumed_of c.args.slots.now) c.args.entries.now c.args.rows.now.writes c.args.marks.now c.args.calls c.requires
+    c.place_of_marked-marked.result c.end_of-end.result c.end_of-end.ensures (tested g c)).0
+
+pub returns-in-Some : goal.returns-in-Some
+returns-in-Some g c =
+    let consumed = g.S.Slots.consumed_of c.args.slots.now in
+    let es = c.args.entries.now in
+    let P : List ℕ → Type 0 = λ marks. MatchOption c.place_of_marked-marked.result (AreCurrent consumed es marks (length es)) (λ place. IsFirstMarked consumed es marks place) in
+    changed_first consumed es c.args.rows.now.writes c.args.marks.now c.args.calls c.requires c.place_of_marked-marked.result c.end_of-end.result c.in-Some.place
+    c.end_of-end.ensures (subst P c.marks.ensures.is c.place_of_marked-marked.ensures) c.in-Some.ensures.0 c.in-Some.ensures.1
+
+pub returns-in-None : goal.returns-in-None
+returns-in-None g c =
+    let consumed = g.S.Slots.consumed_of c.args.slots.now in
+    let es = c.args.entries.now in
+    let P : List ℕ → Type 0 = λ marks. MatchOption c.place_of_marked-marked.result (AreCurrent consumed es marks (length es)) (λ place. IsFirstMarked consumed es marks place) in
+    marked_first consumed es c.args.rows.now.writes c.args.marks.now c.args.calls c.requires c.place_of_marked-marked.result c.end_of-end.result
+    c.end_of-end.ensures (subst P c.marks.ensures.is c.place_of_marked-marked.ensures) c.in-None.ensures

@@ -1,9 +1,15 @@
-use Rattle.std.proofs.Common.{sym, ap, ◌∙◌, get_or, set}
+use Rattle.std.proofs.Common.{sym, ap, ◌∙◌, get_or, set, arith}
 use Rattle.local_repair.specs.Settling.{noted}
 use Rattle.local_repair.specs.Written.{all_written}
 use Rattle.local_repair.proofs.StepLemmas.{entry_at}
 use Rattle.local_repair.proofs.WrittenLemmas.{written_set}
 use Rattle.local_repair.proofs.repairer.note.Goals as goal
+
+pub overflow_add-place : goal.overflow_add-place
+overflow_add-place c =
+    let within = c.requires.within in
+    let few = c.requires.few in
+    omega arith
 
 pub returns-clause-tied : goal.returns-clause-tied
 returns-clause-tied c =

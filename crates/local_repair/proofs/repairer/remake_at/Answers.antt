@@ -1,8 +1,20 @@
+use Rattle.std.proofs.Common.{◌+◌, ◌++◌, ◌∙◌, ap, length, subst, arith}
+use Rattle.std.proofs.lemmas.List.{get_or_default, length-map}
+use Rattle.std.proofs.lemmas.Result.{IfOk-weaker}
+use Rattle.request_log.specs.declared.entry.Entry.{Entry}
+use Rattle.local_repair.specs.Current.{writes_of}
+use Rattle.local_repair.specs.Held.{looked, IsMarkedFrom}
 use Rattle.local_repair.specs.Registers.{Change}
 use Rattle.entry_rows.specs.Rows.{rows_before}
 use Rattle.local_repair.proofs.StepLemmas.{again_at}
 use Rattle.local_repair.proofs.WrittenLemmas.{seen_before}
 use Rattle.local_repair.proofs.repairer.remake_at.Goals as goal
+
+pub remake-requires-clause-within : goal.remake-requires-clause-within
+remake-requires-clause-within g c =
+    let count = ap length c.requires.looked ∙ length-map c.args.entries.now looked in
+    let within = c.requires.within in
+    omega arith
 
 pub returns-clause-ok : goal.returns-clause-ok
 returns-clause-ok g c =
@@ -17,3 +29,13 @@ returns-clause-ok g c =
     } in
     again_at c.args.setting.now change c.args.entries.now c.args.place c.index-entries-place.result (rows_before c.args.place c.args.rows.now) c.remake.result
     c.requires.within c.index-entries-place.is (seen_before c.args.rows.now c.args.entries.now c.args.place c.requires.tied) c.remake.ensures.ok
+
+pub returns-clause-marked : goal.returns-clause-marked
+returns-clause-marked g c =
+    let es = c.args.entries.now in
+    let place = c.args.place in
+    let e = c.index-entries-place.result in
+    IfOk-weaker c.remake.result _ _
+    (λ again from d. (let P : Entry → Type 0 = λ x. IsMarkedFrom (place + 1) (writes_of x.made ++ again.made.trace.writes) c.args.marks.now c.remake.new.marks in
+    subst P (c.index-entries-place.is ∙ get_or_default es place e d c.requires.within) from))
+    c.remake.ensures.marked

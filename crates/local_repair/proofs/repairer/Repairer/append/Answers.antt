@@ -1,14 +1,12 @@
-use Rattle.std.proofs.Common.{ap, ◌∙◌, insert, List, [], ◌∷◌, ◌++◌}
+use Rattle.std.proofs.Common.{ap, ◌∙◌, sym, insert, length}
 use Rattle.std.proofs.lemmas.List.Edits.{insert_end}
 use Rattle.std.proofs.lemmas.Result.{on_ok_weaker}
-use Rattle.request_log.specs.declared.entry.Entry.{Entry}
 use Rattle.local_repair.specs.Repairs.{KeptRepairer}
 use Rattle.local_repair.proofs.repairer.Repairer.append.Goals as goal
 
 pub returns-clause-ok : goal.returns-clause-ok
 returns-clause-ok c =
-    let es = c.self.inside.log.entries in
-    on_ok_weaker c.insert_entry.result
-    (λ put. put ∙ ap (λ n. insert es n c.args.entry) c.len-end.ensures ∙ insert_end es c.args.entry
-    ∙ ap (λ (l : List Entry). l ++ c.args.entry ∷ []) (ap (λ (k : KeptRepairer). k.entries) c.self.view_is))
-    c.insert_entry.ensures.ok
+    let es = c.args.self.now.entries in
+    on_ok_weaker c.insert_at.result
+    (λ put. put ∙ ap (λ n. insert es n c.args.entry) (c.len-end.ensures ∙ ap (λ (k : KeptRepairer). length k.entries) c.self.view_is) ∙ insert_end es c.args.entry)
+    c.insert_at.ensures.ok

@@ -7,5 +7,5 @@ use Rattle.local_repair.proofs.repairer.Repairer.end.Goals as goal
 pub returns : goal.returns
 returns c =
     let many = ap length c.as_slice.ensures.entries in
-    seen_end c.self.inside.rows c.self.inside.log.entries (length c.as_slice.result.now) (omega arith) c.self.invariant
+    seen_end c.self.inside.rows c.self.inside.log.entries (length c.as_slice.result.now) (omega arith) c.self.invariant.tied
     ∙ ap rows_of (ap (λ (k : KeptRepairer). k.entries) c.self.view_is)

@@ -1,13 +1,16 @@
 use Rattle.std.proofs.Common.{◌≡◌, ◌∙◌, sym, ap, subst, List, [], Some, get_or}
 use Rattle.request_log.specs.declared.entry.Entry.{Entry}
 use Rattle.local_repair.specs.Current.{AllCurrent}
+use Rattle.local_repair.specs.Held.{IsKept}
 use Rattle.local_repair.specs.Repairs.{KeptRepairer, IsStaleId, stale_id}
-use Rattle.local_repair.specs.Written.{all_written}
 use Rattle.local_repair.proofs.TestLemmas.{stale_id_none, stale_id_at, is_stale_id}
 use Rattle.local_repair.proofs.repairer.Repairer.first_stale.Goals as goal
 
 pub place_of_stale-requires : goal.place_of_stale-requires
-place_of_stale-requires g c = c.self.invariant ∙ ap all_written (sym c.as_slice-entries.ensures.entries)
+place_of_stale-requires g c =
+    let inside = c.self.inside in
+    let P : List Entry → Type 0 = λ l. IsKept l inside.rows.writes inside.marks inside.calls in
+    subst P (sym c.as_slice-entries.ensures.entries) c.self.invariant
 
 pub returns-in-None-clause-test : goal.returns-in-None-clause-test
 returns-in-None-clause-test g c =

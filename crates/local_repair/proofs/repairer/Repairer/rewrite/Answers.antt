@@ -1,10 +1,10 @@
-use Rattle.std.proofs.Common.{sym, ap, ◌∙◌, refl}
+use Rattle.std.proofs.Common.{refl}
 use Rattle.request_log.specs.Entries.{replace}
-use Rattle.local_repair.specs.Written.{all_written}
-use Rattle.local_repair.proofs.WrittenLemmas.{written_changed}
+use Rattle.local_repair.proofs.ChangedLemmas.{kept_changed}
 use Rattle.local_repair.proofs.repairer.Repairer.rewrite.Goals as goal
 
 pub invariant_of-self : goal.invariant_of-self
 invariant_of-self c =
-    c.self.invariant
-    ∙ sym (ap all_written c.rewrite.ensures.entries ∙ written_changed (replace c.args.method c.args.path c.args.body) c.args.id c.self.inside.log.entries (λ e. refl))
+    let inside = c.self.inside in
+    kept_changed inside.log.entries c.rewrite.new.self.entries inside.rows.writes inside.marks c.mark_id.new.marks inside.calls c.self.invariant (replace c.args.method c.args.path c.args.body)
+    (record { number = record { id = λ e. refl; origin = λ e. refl }; made = λ e. refl; slots = λ e. refl }) c.args.id c.mark_id.ensures c.rewrite.ensures.entries

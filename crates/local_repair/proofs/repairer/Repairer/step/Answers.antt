@@ -1,23 +1,52 @@
-use Rattle.std.proofs.Common.{◌≡◌, ◌∙◌, sym, ap, subst, List, get_or, set, take}
+use Rattle.std.proofs.Common.{◌≡◌, ◌∙◌, ◌+◌, ◌++◌, sym, ap, subst, List, [], length, get_or, set, take, arith}
+use Rattle.std.proofs.lemmas.List.{length-map}
 use Rattle.request_log.specs.declared.entry.Entry.{Entry}
-use Rattle.local_repair.specs.Current.{IsFirstStale, rows_of}
+use Rattle.local_repair.specs.Current.{AllCurrent, IsFirstStale, rows_of, writes_of}
+use Rattle.local_repair.specs.Held.{all_looked, looked, IsKept, IsMarkedFrom}
 use Rattle.local_repair.specs.Registers.{Change}
 use Rattle.local_repair.specs.Repairs.{KeptRepairer}
 use Rattle.local_repair.specs.Settling.{IsAgain, Leaves, noted}
 use Rattle.local_repair.specs.Steps.{StepsTo}
 use Rattle.local_repair.specs.Written.{all_written}
 use Rattle.local_repair.specs.declared.stepped.Stepped.TheVariants.{Ran}
+use Rattle.local_repair.proofs.ChangedLemmas.{kept_idle, kept_run}
 use Rattle.local_repair.proofs.HandlerLemmas.{handler}
-use Rattle.local_repair.proofs.StepLemmas.{stepped, not_idle}
+use Rattle.local_repair.proofs.StepLemmas.{entry_at, stepped, not_idle}
 use Rattle.local_repair.proofs.TestLemmas.{none_first}
 use Rattle.local_repair.proofs.repairer.Repairer.step.Given.{Over}
 use Rattle.local_repair.proofs.repairer.Repairer.step.Goals as goal
 
-pub place_of_stale-requires : goal.place_of_stale-requires
-place_of_stale-requires g c = c.self.invariant ∙ ap all_written (sym c.as_slice.ensures.entries)
+pub place_of_stale-stale-requires : goal.place_of_stale-stale-requires
+place_of_stale-stale-requires g c =
+    let inside = c.self.inside in
+    let P : List Entry → Type 0 = λ l. IsKept l inside.rows.writes inside.marks inside.calls in
+    subst P (sym c.as_slice-entries.ensures.entries) c.self.invariant
 
 pub remake_at-requires-clause-tied : goal.remake_at-requires-clause-tied
-remake_at-requires-clause-tied g c = c.self.invariant ∙ ap all_written (sym c.as_slice-entries.ensures.entries)
+remake_at-requires-clause-tied g c = c.self.invariant.tied ∙ ap all_written (sym c.as_slice-entries.ensures.entries)
+
+pub remake_at-requires-clause-looked : goal.remake_at-requires-clause-looked
+remake_at-requires-clause-looked g c = c.self.invariant.looked ∙ ap all_looked (sym c.as_slice-entries.ensures.entries)
+
+pub note-requires-clause-within_marks : goal.note-requires-clause-within_marks
+note-requires-clause-within_marks g c =
+    let entries = c.self.inside.log.entries in
+    let seen = ap length c.as_slice-entries.ensures.entries in
+    let count = ap length (c.in_ok-again-in-Some.ensures.marked (entry_at c.as_slice-entries.result.now c.in-Some.place c.in-Some.ensures.within).0).reads in
+    let many = ap length c.self.invariant.looked ∙ length-map entries looked in
+    let within = c.in-Some.ensures.within in
+    omega arith
+
+pub note-requires-clause-few : goal.note-requires-clause-few
+note-requires-clause-few g c = c.as_slice-entries.ensures.log.few
+
+-- none is stale
+pub invariant_of-self : goal.invariant_of-self
+invariant_of-self g c =
+    let inside = c.self.inside in
+    let P : List Entry → Type 0 = λ l. AllCurrent (g.S.Slots.consumed_of c.args.slots.now) [] l in
+    kept_idle (g.S.Slots.consumed_of c.args.slots.now) inside.log.entries inside.rows.writes inside.marks c.clear_before.new.self inside.calls c.self.invariant
+    (subst P c.as_slice-entries.ensures.entries c.in-None.ensures) c.clear_before.ensures.reads
 
 -- the registers before and after
 change : (g : Over) (c : goal.After-note g) → Change
@@ -44,10 +73,25 @@ left g c =
     let T : List Entry → Type 0 = λ xs. (d : Entry) → c.note.result ≡ Ran (get_or xs place d).id again.answered in
     let P : List Entry → Type 0 = λ xs. (d : Entry) → c.note.new.log.entries ≡ set xs place (noted again (get_or xs place d)) in
     stepped c.args.setting.now (handler c.args.setting.now) (change g c) c.args.self.now.entries c.note.new.log.entries place again c.note.result
-    (subst F (c.as_slice.ensures.entries ∙ seen) c.in-Some.ensures)
+    (subst F (c.as_slice-entries.ensures.entries ∙ seen) c.in-Some.ensures)
     (subst A (c.as_slice-entries.ensures.entries ∙ seen) c.in_ok-again-in-Some.ensures.ok)
     (subst T seen c.note.ensures.stepped) (subst P seen c.note.ensures.entries)
     c.requires.runs c.requires.apart c.requires.own
+
+-- the first stale entry ran
+pub invariant_of-self-in-Some : goal.invariant_of-self-in-Some
+unfolding change
+invariant_of-self-in-Some g c =
+    let inside = c.self.inside in
+    let place = c.in-Some.place in
+    let again = c.in_ok-again-in-Some.again in
+    let seen = c.as_slice-entries.ensures.entries in
+    let F : List Entry → Type 0 = λ xs. IsFirstStale (g.S.Slots.consumed_of c.args.slots.now) xs place in
+    let A : List Entry → Type 0 = λ xs. (d : Entry) → IsAgain c.args.setting.now (change g c) (rows_of (take place xs)) (get_or xs place d) again in
+    let M : List Entry → Type 0 = λ xs. (d : Entry) → IsMarkedFrom (place + 1) (writes_of (get_or xs place d).made ++ again.made.trace.writes) inside.marks c.remake_at.new.marks in
+    kept_run c.args.setting.now (handler c.args.setting.now) (change g c) inside.log.entries c.note.new.log.entries inside.rows.writes c.note.new.rows.writes inside.marks c.remake_at.new.marks c.note.new.marks
+    place again inside.calls c.may_call-self-inside.result c.self.invariant (subst F seen c.in-Some.ensures) (subst A seen c.in_ok-again-in-Some.ensures.ok) (subst M seen c.in_ok-again-in-Some.ensures.marked)
+    c.note.ensures.entries c.note.ensures.reads c.note.ensures.marks c.may_call-self-inside.ensures c.note.ensures.tied
 
 pub returns-in_ok-again-in-Some-clause-runs : goal.returns-in_ok-again-in-Some-clause-runs
 returns-in_ok-again-in-Some-clause-runs g c = (left g c).0.runs
@@ -65,18 +109,18 @@ returns-in_ok-again-in-Some-clause-steps g c = (left g c).1
 
 pub returns-in_ok-again-in-Some-clause-free : goal.returns-in_ok-again-in-Some-clause-free
 returns-in_ok-again-in-Some-clause-free g c = λ all.
-    let seen = c.as_slice.ensures.entries ∙ ap (λ (k : KeptRepairer). k.entries) c.self.view_is in
+    let seen = c.as_slice-entries.ensures.entries ∙ ap (λ (k : KeptRepairer). k.entries) c.self.view_is in
     let F : List Entry → Type 0 = λ xs. IsFirstStale (g.S.Slots.consumed_of c.args.slots.now) xs c.in-Some.place in
     absurd (none_first (g.S.Slots.consumed_of c.args.slots.now) c.args.self.now.entries c.in-Some.place all (subst F seen c.in-Some.ensures))
 
 pub returns-in_err-again-in-Some-clause-free : goal.returns-in_err-again-in-Some-clause-free
 returns-in_err-again-in-Some-clause-free g c = λ all.
-    let seen = c.as_slice.ensures.entries ∙ ap (λ (k : KeptRepairer). k.entries) c.self.view_is in
+    let seen = c.as_slice-entries.ensures.entries ∙ ap (λ (k : KeptRepairer). k.entries) c.self.view_is in
     let F : List Entry → Type 0 = λ xs. IsFirstStale (g.S.Slots.consumed_of c.args.slots.now) xs c.in-Some.place in
     absurd (none_first (g.S.Slots.consumed_of c.args.slots.now) c.args.self.now.entries c.in-Some.place all (subst F seen c.in-Some.ensures))
 
 pub returns-in_ok-again-in-Some-clause-idle : goal.returns-in_ok-again-in-Some-clause-idle
 returns-in_ok-again-in-Some-clause-idle g c = λ idle.
     let F : List Entry → Type 0 = λ xs. IsFirstStale (g.S.Slots.consumed_of c.args.slots.now) xs c.in-Some.place in
-    let first = subst F c.as_slice.ensures.entries c.in-Some.ensures in
+    let first = subst F c.as_slice-entries.ensures.entries c.in-Some.ensures in
     absurd (not_idle c.self.inside.log.entries c.in-Some.place c.in_ok-again-in-Some.again.answered c.note.result first.within c.note.ensures.stepped idle)

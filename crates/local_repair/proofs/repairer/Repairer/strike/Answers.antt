@@ -1,9 +1,10 @@
-use Rattle.std.proofs.Common.{sym, ap, ◌∙◌, refl}
+use Rattle.std.proofs.Common.{refl}
 use Rattle.request_log.specs.Entries.{mark}
-use Rattle.local_repair.specs.Written.{all_written}
-use Rattle.local_repair.proofs.WrittenLemmas.{written_changed}
+use Rattle.local_repair.proofs.ChangedLemmas.{kept_changed}
 use Rattle.local_repair.proofs.repairer.Repairer.strike.Goals as goal
 
 pub invariant_of-self : goal.invariant_of-self
 invariant_of-self c =
-    c.self.invariant ∙ sym (ap all_written c.strike.ensures.entries ∙ written_changed (mark c.args.struck) c.args.id c.self.inside.log.entries (λ e. refl))
+    let inside = c.self.inside in
+    kept_changed inside.log.entries c.strike.new.self.entries inside.rows.writes inside.marks c.mark_id.new.marks inside.calls c.self.invariant (mark c.args.struck)
+    (record { number = record { id = λ e. refl; origin = λ e. refl }; made = λ e. refl; slots = λ e. refl }) c.args.id c.mark_id.ensures c.strike.ensures.entries
