@@ -13,13 +13,13 @@ use Rattle.lang_base.proofs.EqualLemmas.{nat_same}
 not_equal : (m n : ℕ) → n < m → nat_eq m n ≡ false
 not_equal m n h = grind (arith, nat_tests)
 
-not_same : (m n : ℕ) → n ≢ m → nat_eq m n ≡ false
+pub not_same : (m n : ℕ) → n ≢ m → nat_eq m n ≡ false
 not_same m n h = grind (arith, nat_tests)
 
 no_none : IsSome {T = Register} None → ⊥
 no_none h = cc
 
-skip : {X : Type 0} (b : Bool) (x : X) (o o' : Option X) → b ≡ false → o ≡ o' → cond b (Some x) o ≡ o'
+pub skip : {X : Type 0} (b : Bool) (x : X) (o o' : Option X) → b ≡ false → o ≡ o' → cond b (Some x) o ≡ o'
 skip true x o o' h e = cc
 skip false x o o' h e = e
 
@@ -27,14 +27,14 @@ take_it : {X : Type 0} (b : Bool) (x : X) (o : Option X) → b ≡ true → cond
 take_it true x o h = refl
 take_it false x o h = cc
 
-none_below : (m n : ℕ) (rs : List Register) → CountFrom m rs → n < m → find (has_number n) rs ≡ None
+pub none_below : (m n : ℕ) (rs : List Register) → CountFrom m rs → n < m → find (has_number n) rs ≡ None
 none_below m n [] h w = refl
 none_below m n (r ∷ rs) h w =
     let other : nat_eq r.number n ≡ false = rw h.0 (not_equal m n w) in
     skip (nat_eq r.number n) r (find (has_number n) rs) None other (none_below (m + 1) n rs h.1 (omega (arith, w)))
 
 -- the register of a number stands at that place
-at_place : (m n place : ℕ) (rs : List Register) → CountFrom m rs → m + place ≡ n → find (has_number n) rs ≡ slice_get rs place
+pub at_place : (m n place : ℕ) (rs : List Register) → CountFrom m rs → m + place ≡ n → find (has_number n) rs ≡ slice_get rs place
 at_place m n place [] h e = refl
 at_place m n zero (r ∷ rs) h e =
     let is : m ≡ n = omega (arith, e) in

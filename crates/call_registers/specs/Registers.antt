@@ -11,10 +11,12 @@ use Rattle.call_registers.specs.declared.register.Register.{Register}
 use Rattle.call_registers.specs.declared.register.Why.{Why}
 use Rattle.call_registers.specs.declared.calls.RegistersCall.{RegistersCall}
 
--- the registers in the order of their numbers, and the calls for which room was made
+-- the registers in the order of their numbers, the calls for which room was made, and how many more can be put behind
+-- the registers without memory
 pub record KeptRegisters : Type 0 where
   pub list : List Register
   pub room : List RegistersCall
+  pub spare : ℕ
 
 -- ---- which register has a number
 

@@ -4,6 +4,7 @@
 #![tactic(auto)]
 
 mod calls;
+mod changes;
 mod register;
 mod registers;
 mod replaces;
@@ -12,7 +13,8 @@ mod reply;
 mod wants;
 
 pub use calls::RegistersCall;
-pub use register::{Answer, Hold, Register, Why, is_newer};
+pub use changes::RegisterChanges;
+pub use register::{Answer, Change, Hold, Register, Why, is_newer};
 pub use registers::Registers;
 pub use replies::{Replies, RepliesCall};
 pub use reply::Reply;

@@ -92,7 +92,7 @@ impl Copied for Register {
 
 /// A change of a register that takes no memory.
 #[derive(Drop)]
-pub(crate) enum Change {
+pub enum Change {
     /// A new version, which asks this from this index of the journal on.
     Send {
         desired: Option<Request>,

@@ -1,12 +1,14 @@
 // The registers of a service.
-ghost use Rattle.std.specs.Prelude.{◌≡◌, ◌+◌, ◌<◌, [], ◌∷◌, ◌++◌, length, slice_get, IfOk, IsOk, OnOk, OnErr, IsTrue, vec_len, vec_capacity};
+ghost use Rattle.std.specs.Prelude.{◌≡◌, ◌+◌, ◌<◌, ◌≤◌, [], ◌∷◌, ◌++◌, length, slice_get, is_some, IfOk, IsOk, OnOk, OnErr, IsTrue, vec_len, vec_capacity};
 ghost use Rattle.std.specs.Option.{option_copied};
 ghost use Rattle.call_room.specs.Room.{is_made, spend};
 ghost use Rattle.call_registers.specs.Registers.{register, IsThere, IsNumbered, consumed, answer_to, next_number, with_call, at_number, sent_anew, with_ack, with_answer, with_cause, with_hold, released, changed, want_call, replace_call};
+ghost use Rattle.call_registers.specs.Overlays.{overlaid, put, put_all, numbered_from};
 ghost use Rattle.call_registers.specs.Rooms.{call_code};
 ghost use Rattle.call_registers.specs.declared.register.Change.{Change};
 
 use crate::calls::RegistersCall;
+use crate::changes::RegisterChanges;
 use crate::register::{Answer, Change, Hold, Register, Why, apply};
 use crate::replaces::{make_replace, ready_replace, take_replace};
 use crate::wants::{make_want, ready_want, take_want};
@@ -15,7 +17,7 @@ use lang_core::{Name, NoMemory, Request, Response, Text};
 use std::alloc::Global;
 use std::marker::Model;
 
-/// The registers of a service, in the order of their numbers, which are 1, 2, 3 and so on.
+/// The registers of a service, in the order of their numbers, which are 1, 2, 3 and so on, with spare room for more.
 #[derive(Drop)]
 pub struct Registers {
     list: Vec<Register>,
@@ -23,12 +25,12 @@ pub struct Registers {
 }
 
 impl Model for Registers {
-    ghost use Rattle.std.specs.Prelude.{◌+◌, vec_len, vec_capacity};
+    ghost use Rattle.std.specs.Prelude.{◌+◌, ◌-◌, vec_len, vec_capacity};
     ghost use Rattle.call_registers.specs.Registers.{KeptRegisters, IsKept};
 
     ghost Value = { KeptRegisters };
 
-    ghost view = { λ r. record { list = r.list.items; room = r.room.items } };
+    ghost view = { λ r. record { list = r.list.items; room = r.room.items; spare = vec_capacity r.list - (vec_len r.list + vec_len r.room) } };
 
     ghost invariant = { λ r. IsKept r.list.items (vec_len r.list + vec_len r.room) (vec_capacity r.list) };
 }
@@ -76,7 +78,13 @@ fn next_number(list: &[Register]) -> u64
     list.len() as u64 + 1
 }
 
-fn new_register(number: u64, dest: Name, request: Request, repair_who: Text, since: u64) -> Register
+pub(crate) fn new_register(
+    number: u64,
+    dest: Name,
+    request: Request,
+    repair_who: Text,
+    since: u64,
+) -> Register
     ensures { result ≡ record {
       number = number;
       dest = dest;
@@ -101,6 +109,58 @@ fn new_register(number: u64, dest: Name, request: Request, repair_who: Text, sin
         held: None,
         repair_who,
         since,
+    }
+}
+
+fn is_there(list: &[Register], number: u64) -> bool
+    requires { IsNumbered list.now }
+    ensures { result ≡ is_some (register number list.now) }
+{
+    find_in(list, number).is_some()
+}
+
+// A register stands in place of the one of its number, where there is one.
+fn put(list: &mut Vec<Register>, register: Register)
+    requires { IsNumbered list.old.items }
+    ensures items { list.new.items ≡ put list.old.items register }
+    ensures numbered { IsNumbered list.new.items }
+    ensures len { vec_len list.new ≡ vec_len list.old }
+    ensures capacity { vec_capacity list.new ≡ vec_capacity list.old }
+{
+    if is_there(list, register.number) {
+        let place = place_of(list, register.number);
+        list[place] = register;
+    }
+}
+
+fn put_all(list: &mut Vec<Register>, changed: Vec<Register>)
+    requires { IsNumbered list.old.items }
+    ensures items { list.new.items ≡ put_all changed.items list.old.items }
+    ensures numbered { IsNumbered list.new.items }
+    ensures len { vec_len list.new ≡ vec_len list.old }
+    ensures capacity { vec_capacity list.new ≡ vec_capacity list.old }
+{
+    let mut rest = changed;
+    while !rest.is_empty() {
+        let register = rest.remove(0);
+        put(list, register);
+    }
+}
+
+// Puts new registers last, with the numbers that come next.
+fn add_all(list: &mut Vec<Register>, added: Vec<Register>)
+    requires numbered { IsNumbered list.old.items }
+    requires room { vec_len list.old + vec_len added ≤ vec_capacity list.old }
+    ensures items { list.new.items ≡ list.old.items ++ numbered_from (next_number list.old.items) added.items }
+    ensures numbered { IsNumbered list.new.items }
+    ensures len { vec_len list.new ≡ vec_len list.old + vec_len added }
+    ensures capacity { vec_capacity list.new ≡ vec_capacity list.old }
+{
+    let mut rest = added;
+    while !rest.is_empty() {
+        let mut register = rest.remove(0);
+        register.number = next_number(list);
+        list.push_reserved(register);
     }
 }
 
@@ -315,6 +375,28 @@ impl Registers {
         self.room.clear();
     }
 
+    /// Makes room for so many registers more, beside the calls for which room was made. Refused, the registers stay.
+    pub fn reserve(&mut self, more: u64) -> Result<(), NoMemory>
+        ensures list { self.new.list ≡ self.old.list }
+        ensures room { self.new.room ≡ self.old.room }
+        ensures ok { OnOk result (more ≤ self.new.spare) }
+    {
+        let places = self.room.len().checked_add(more as usize).ok_or(NoMemory)?;
+        self.list.reserve(places)?;
+        Ok(())
+    }
+
+    /// Makes changes, for whose new registers there is room.
+    pub fn put_changes(&mut self, changes: RegisterChanges)
+        requires { vec_len changes.added ≤ self.old.spare }
+        ensures list { self.new.list ≡ overlaid changes self.old.list }
+        ensures room { self.new.room ≡ self.old.room }
+    {
+        let RegisterChanges { changed, added } = changes;
+        put_all(&mut self.list, changed);
+        add_all(&mut self.list, added);
+    }
+
     /// Equal registers, without room.
     pub fn copied(&self, alloc: Global) -> Result<Registers, NoMemory>
         ensures { IfOk result (λ copy. copy.list ≡ self.now.list) }
@@ -327,8 +409,8 @@ impl Registers {
     }
 }
 
-// The answer that is held, where it answers the register's version.
-fn answer_of(register: &Register) -> Option<&Response>
+/// The answer that is held, where it answers the register's version.
+pub(crate) fn answer_of(register: &Register) -> Option<&Response>
     ensures { option_copied result ≡ answer_to register.now.version register.now.answer }
 {
     match &register.answer {

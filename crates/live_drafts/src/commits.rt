@@ -12,7 +12,7 @@ use journal_rows::{AnsweredRow, AskedRow, How, Row, TookRow};
 use lang_core::{Copied, Name, NoMemory, Origin, Request, Seq, Trace};
 use repair_messages::copied_pair;
 use request_log::{Entry, Made, Numbers};
-use service_parts::{Draft, Parts, next_index, note, push_deleted};
+use service_parts::{Draft, Parts, drafted, next_index, note, push_deleted};
 use std::alloc::Global;
 
 fn live_version(origin: &Origin) -> u64
@@ -97,7 +97,8 @@ fn before_answer(
     let calls = trace.calls.len();
     let numbers = from_place(flight.numbers.as_slice(), calls);
     let surplus = from_place(flight.calls.as_slice(), calls);
-    push_deleted(alloc, &draft.registers, numbers, surplus, &mut rows)?;
+    let registers = drafted(parts, draft);
+    push_deleted(alloc, &registers, numbers, surplus, &mut rows)?;
     rows.push(asked(alloc, next_id(parts), flight)?)?;
     push_took(alloc, &flight.origin, &flight.request, &mut rows)?;
     Ok(rows)

@@ -1,11 +1,12 @@
 // What a live request does after a run.
-ghost use Rattle.std.specs.Prelude.{◌≡◌, ℕ, IfOk, OnOk};
+ghost use Rattle.std.specs.Prelude.{◌≡◌, ◌∷◌, [], ℕ, IfOk, OnOk};
 ghost use Rattle.local_repair.specs.Alone.{trace_or_dead};
 ghost use Rattle.lang_core.specs.Traces.{dead_trace};
 ghost use Rattle.flights.specs.declared.flight.Flight.{Flight};
 ghost use Rattle.service_meaning.specs.State.{Kept, After};
 ghost use Rattle.service_meaning.specs.declared.answers.Arrived.{Arrived};
 ghost use Rattle.service_meaning.specs.Flying.{live_call, waits, untold, named_unsent, changed_unsent, with_slot, with_change, flight_run, goes_on, moved, changed, committed, completing, completed};
+ghost use Rattle.service_meaning.specs.Calls.{named, noted};
 ghost use Rattle.flights.specs.Moves.{next_move};
 ghost use Rattle.service_parts.specs.Drafts.{with_draft};
 ghost use Rattle.live_drafts.specs.Endings.{ends, follows, CanEnd, CanStep, MayEnd, named_service, named_flight, changed_service, changed_flight, named_sent, changed_sent};
@@ -21,7 +22,7 @@ use flights::{Flight, Move, advance, call_at};
 use handler_run::Ran;
 use lang_core::{CallMade, NoMemory, Trace};
 use request_log::dead_trace;
-use service_parts::{Draft, Parts, change_rows, named, next_number, note, tell};
+use service_parts::{Draft, Parts, change_rows, drafted, named, next_number, note, tell};
 use std::alloc::Global;
 
 /// More than the runs of any flight that is completed, by one.
@@ -52,6 +53,37 @@ fn wait(
     Ok(Ending::Waits { flight, set })
 }
 
+// Drafts the row of a new call.
+fn note_named(
+    alloc: Global,
+    parts: &Parts,
+    draft: &mut Draft,
+    number: u64,
+    call: &CallMade,
+) -> Result<(), NoMemory>
+    ensures { OnOk result (with_draft draft.new (kept parts.now) ≡ noted (named number call.now ∷ []) (with_draft draft.old (kept parts.now))) }
+{
+    let row = named(alloc, number, call)?;
+    let mut rows = Vec::new(alloc);
+    rows.push(row)?;
+    note(alloc, parts, draft, rows)
+}
+
+// Drafts the rows of another call at a slot of a flight.
+fn note_changed(
+    alloc: Global,
+    parts: &Parts,
+    draft: &mut Draft,
+    flight: &Flight,
+    slot: u64,
+    call: &CallMade,
+) -> Result<(), NoMemory>
+    ensures { OnOk result (with_draft draft.new (kept parts.now) ≡ changed_service (with_draft draft.old (kept parts.now)) flight.now slot call.now) }
+{
+    let rows = change_rows(alloc, &drafted(parts, draft), flight, slot, call)?;
+    note(alloc, parts, draft, rows)
+}
+
 // Drafts the row of a new call of a flight, which is then the flight's last.
 fn name(
     alloc: Global,
@@ -63,11 +95,9 @@ fn name(
     ensures flight { IfOk result (λ f. f ≡ named_flight (with_draft draft.old (kept parts.now)) flight.now call.now) }
     ensures draft { OnOk result (with_draft draft.new (kept parts.now) ≡ named_service (with_draft draft.old (kept parts.now)) call.now) }
 {
-    let number = next_number(&draft.registers);
+    let number = next_number(parts, draft);
+    note_named(alloc, parts, draft, number, call)?;
     let next = with_slot(alloc, flight, number, call)?;
-    let mut rows = Vec::new(alloc);
-    rows.push(named(alloc, number, call)?)?;
-    note(alloc, parts, draft, rows)?;
     Ok(next)
 }
 
@@ -83,10 +113,9 @@ fn change(
     ensures flight { IfOk result (λ f. f ≡ changed_flight (with_draft draft.old (kept parts.now)) flight.now slot call.now) }
     ensures draft { OnOk result (with_draft draft.new (kept parts.now) ≡ changed_service (with_draft draft.old (kept parts.now)) flight.now slot call.now) }
 {
-    let number = next_number(&draft.registers);
+    let number = next_number(parts, draft);
+    note_changed(alloc, parts, draft, flight, slot, call)?;
     let next = with_change(alloc, flight, slot, number, call)?;
-    let rows = change_rows(alloc, &draft.registers, flight, slot, call)?;
-    note(alloc, parts, draft, rows)?;
     Ok(next)
 }
 
@@ -100,9 +129,10 @@ fn name_unsent(
     ensures flight { IfOk result (λ f. f ≡ named_flight (with_draft draft.old (kept parts.now)) flight.now call.now) }
     ensures draft { OnOk result (with_draft draft.new (kept parts.now) ≡ named_unsent (with_draft draft.old (kept parts.now)) call.now) }
 {
-    let number = next_number(&draft.registers);
-    let next = name(alloc, parts, draft, flight, call)?;
-    tell(draft, number, Why::Changes);
+    let number = next_number(parts, draft);
+    note_named(alloc, parts, draft, number, call)?;
+    tell(alloc, parts, draft, number, Why::Changes)?;
+    let next = with_slot(alloc, flight, number, call)?;
     Ok(next)
 }
 
@@ -117,9 +147,10 @@ fn change_unsent(
     ensures flight { IfOk result (λ f. f ≡ changed_flight (with_draft draft.old (kept parts.now)) flight.now slot call.now) }
     ensures draft { OnOk result (with_draft draft.new (kept parts.now) ≡ changed_unsent (with_draft draft.old (kept parts.now)) flight.now slot call.now) }
 {
-    let number = next_number(&draft.registers);
-    let next = change(alloc, parts, draft, flight, slot, call)?;
-    tell(draft, number, Why::Changes);
+    let number = next_number(parts, draft);
+    note_changed(alloc, parts, draft, flight, slot, call)?;
+    tell(alloc, parts, draft, number, Why::Changes)?;
+    let next = with_change(alloc, flight, slot, number, call)?;
     Ok(next)
 }
 
@@ -135,7 +166,7 @@ fn name_sent(
     ensures ends { IfOk result (λ ending. ends (with_draft draft.new (kept parts.now)) ending ≡ named_sent (with_draft draft.old (kept parts.now)) flight.now call.now) }
     ensures can { IfOk result (λ ending. CanEnd (kept parts.now) ending) }
 {
-    let number = next_number(&draft.registers);
+    let number = next_number(parts, draft);
     let next = name(alloc, parts, draft, flight, call)?;
     let ending = wait(alloc, parts, next, number, call)?;
     Ok(ending)
@@ -154,7 +185,7 @@ fn change_sent(
     ensures ends { IfOk result (λ ending. ends (with_draft draft.new (kept parts.now)) ending ≡ changed_sent (with_draft draft.old (kept parts.now)) flight.now slot call.now) }
     ensures can { IfOk result (λ ending. CanEnd (kept parts.now) ending) }
 {
-    let number = next_number(&draft.registers);
+    let number = next_number(parts, draft);
     let next = change(alloc, parts, draft, flight, slot, call)?;
     let ending = wait(alloc, parts, next, number, call)?;
     Ok(ending)

@@ -6,7 +6,6 @@ ghost use Rattle.service_meaning.specs.Flying.{flight_run};
 ghost use Rattle.service_parts.specs.Drafts.{with_draft};
 ghost use Rattle.service_parts.specs.Parts.{kept};
 
-use call_registers::Registers;
 use flights::Flight;
 use handler_run::{Ran, run};
 use lang_core::{Answers, Copied, NoMemory, Response};
@@ -14,21 +13,26 @@ use local_repair::tentative;
 use service_parts::{Draft, Parts};
 use std::alloc::Global;
 
-fn answer_of(alloc: Global, registers: &Registers, number: u64) -> Result<Response, NoMemory>
-    ensures { IfOk result (λ r. r ≡ answer_or_tentative (consumed number registers.now.list)) }
+fn answer_of(alloc: Global, parts: &Parts, draft: &Draft, number: u64) -> Result<Response, NoMemory>
+    ensures { IfOk result (λ r. r ≡ answer_or_tentative (consumed number (with_draft draft.now (kept parts.now)).registers)) }
 {
-    match registers.consumed(number) {
+    match draft.changes.consumed(&parts.registers, number) {
         Some(answer) => answer.copied(alloc),
         None => tentative(alloc),
     }
 }
 
-fn answers_of(alloc: Global, registers: &Registers, numbers: &[u64]) -> Result<Answers, NoMemory>
-    ensures { IfOk result (λ answers. answers ≡ map (λ n. answer_or_tentative (consumed n registers.now.list)) numbers.now) }
+fn answers_of(
+    alloc: Global,
+    parts: &Parts,
+    draft: &Draft,
+    numbers: &[u64],
+) -> Result<Answers, NoMemory>
+    ensures { IfOk result (λ answers. answers ≡ map (λ n. answer_or_tentative (consumed n (with_draft draft.now (kept parts.now)).registers)) numbers.now) }
 {
     let mut answers = Answers::new(alloc);
     for number in numbers {
-        answers.push(answer_of(alloc, registers, *number)?)?;
+        answers.push(answer_of(alloc, parts, draft, *number)?)?;
     }
     Ok(answers)
 }
@@ -42,7 +46,7 @@ pub(crate) fn run_flight(
 ) -> Result<Ran, NoMemory>
     ensures { IfOk result (λ ran. ran ≡ flight_run (with_draft draft.now (kept parts.now)) flight.now) }
 {
-    let answers = answers_of(alloc, &draft.registers, flight.numbers.as_slice())?;
+    let answers = answers_of(alloc, parts, draft, flight.numbers.as_slice())?;
     let rows = parts.repairer.end();
     run(
         alloc,

@@ -4,19 +4,20 @@ ghost use Rattle.std.specs.Option.{option_copied};
 ghost use Rattle.lang_core.specs.declared.trace.Trace.{Trace};
 ghost use Rattle.request_log.specs.declared.entry.Entry.{Entry};
 ghost use Rattle.local_repair.specs.Steps.{raised};
+ghost use Rattle.call_registers.specs.Overlays.{overlaid};
 ghost use Rattle.call_registers.specs.Replies.{reply, at_entry, with_answer};
 ghost use Rattle.service_meaning.specs.Calls.{after_rows};
 ghost use Rattle.repair_drafts.specs.Books.{answers, answer_rows, replied, entered, Settles, IsOwn, IsTimely};
 
 use crate::settling::{Plan, plan_calls};
-use call_registers::{Registers, Replies};
+use call_registers::{RegisterChanges, Registers, Replies};
 use flights::Flights;
 use journal_rows::{AnsweredRow, Row, Rows};
 use lang_core::{NoMemory, Response, Trace};
 use local_repair::Slots;
 use repair_messages::copied_pair;
 use request_log::{Entry, Numbers};
-use service_parts::{Draft, note_draft, note_rows, reserve};
+use service_parts::{Draft, note_draft, note_rows, reserve_draft};
 use std::alloc::Global;
 use std::marker::Model;
 
@@ -77,18 +78,18 @@ fn push_answer(
     Ok(())
 }
 
-// The registers after rows that are to stand last in the journal.
-fn registers_after(
+// The changes of the registers by rows that are to stand last in the journal.
+fn changes_by(
     alloc: Global,
     journal: &Rows,
     registers: &Registers,
     rows: &[Row],
-) -> Result<Registers, NoMemory>
-    ensures { IfOk result (λ after. after.list ≡ after_rows (length journal.now.rows) registers.now.list rows.now) }
+) -> Result<RegisterChanges, NoMemory>
+    ensures { IfOk result (λ changes. overlaid changes registers.now.list ≡ after_rows (length journal.now.rows) registers.now.list rows.now) }
 {
-    let mut after = registers.copied(alloc)?;
-    note_rows(alloc, &mut after, journal.len(), rows)?;
-    Ok(after)
+    let mut changes = RegisterChanges::none(alloc);
+    note_rows(alloc, registers, &mut changes, journal.len(), rows)?;
+    Ok(changes)
 }
 
 // A draft of the rows of an entry that ran again, where these are those of its calls.
@@ -102,12 +103,12 @@ fn drafted(
     sent: Vec<Row>,
 ) -> Result<Draft, NoMemory>
     ensures rows { IfOk result (λ d. d.rows.items ≡ sent.items ++ answer_rows entry.now trace.now answered) }
-    ensures registers { IfOk result (λ d. d.registers.list ≡ after_rows (length journal.now.rows) registers.now.list (sent.items ++ answer_rows entry.now trace.now answered)) }
+    ensures registers { IfOk result (λ d. overlaid d.changes registers.now.list ≡ after_rows (length journal.now.rows) registers.now.list (sent.items ++ answer_rows entry.now trace.now answered)) }
 {
     let mut rows = sent;
     push_answer(alloc, entry, trace, answered, &mut rows)?;
-    let registers = registers_after(alloc, journal, registers, &rows)?;
-    Ok(Draft { rows, registers })
+    let changes = changes_by(alloc, journal, registers, &rows)?;
+    Ok(Draft { rows, changes })
 }
 
 // The index of the row that comes behind these.
@@ -165,8 +166,13 @@ impl Book {
             answered,
             sent,
         )?;
-        let rows = draft.rows.len() as u64;
-        reserve(&mut self.journal, rows, self.flights.as_slice())?;
+        reserve_draft(
+            &mut self.journal,
+            &mut self.registers,
+            draft.rows.len() as u64,
+            draft.changes.added.len() as u64,
+            self.flights.as_slice(),
+        )?;
         note_draft(&mut self.journal, &mut self.registers, draft);
         note_reply(&mut self.replies, entry, index, answered);
         let _count = self.journal.len();

@@ -9,7 +9,7 @@ use call_registers::Registers;
 use journal_rows::Row;
 use lang_core::{CallMade, NoMemory, Same, Trace};
 use request_log::{Entry, Numbers};
-use service_parts::{deleted, named, next_number, push_deleted, replaced};
+use service_parts::{RegistersView, deleted, named, push_deleted, replaced};
 use std::alloc::Global;
 
 /// The rows that tell how an entry's calls become those of its new trace, and the numbers of these.
@@ -187,7 +187,7 @@ pub(crate) fn plan_calls(
     plan_slots(
         alloc,
         registers,
-        next_number(registers),
+        registers.next_number(),
         entry.slots.as_slice(),
         old_calls(entry),
         trace.calls.as_slice(),

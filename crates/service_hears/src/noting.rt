@@ -7,14 +7,14 @@ ghost use Rattle.service_parts.specs.Services.{HasRoom};
 
 use journal_rows::Row;
 use lang_core::NoMemory;
-use service_parts::{Draft, Parts, note, note_draft, reserve, start};
+use service_parts::{Draft, Parts, note, note_draft, reserve_draft, start};
 use std::alloc::Global;
 
 // A draft of these rows.
 fn drafted(alloc: Global, parts: &Parts, rows: Vec<Row>) -> Result<Draft, NoMemory>
     ensures { IfOk result (λ draft. with_draft draft (kept parts.now) ≡ noted rows.items (kept parts.now)) }
 {
-    let mut draft = start(alloc, parts)?;
+    let mut draft = start(alloc);
     note(alloc, parts, &mut draft, rows)?;
     Ok(draft)
 }
@@ -27,8 +27,13 @@ pub(crate) fn note_at_once(alloc: Global, parts: &mut Parts, rows: Vec<Row>) -> 
     ensures room { HasRoom parts.new }
 {
     let draft = drafted(alloc, parts, rows)?;
-    let more = draft.rows.len() as u64;
-    reserve(&mut parts.journal, more, parts.flights.as_slice())?;
+    reserve_draft(
+        &mut parts.journal,
+        &mut parts.registers,
+        draft.rows.len() as u64,
+        draft.changes.added.len() as u64,
+        parts.flights.as_slice(),
+    )?;
     note_draft(&mut parts.journal, &mut parts.registers, draft);
     Ok(())
 }

@@ -1,39 +1,31 @@
 -- Rows that are drafted one after another.
-use Rattle.std.proofs.Common.{◌≡◌, ◌∙◌, sym, ap, refl, ℕ, zero, suc, ◌+◌, ◌<◌, Bool, true, false, cond, List, [], ◌∷◌, ◌++◌, length, get_or, slice_get, drop, Option, Some, None, is_some, add-one, drop-cons, append_assoc}
+use Rattle.std.proofs.Common.{◌≡◌, ◌∙◌, sym, ap, refl, ℕ, zero, suc, ◌+◌, ◌<◌, List, [], ◌∷◌, ◌++◌, length, get_or, slice_get, drop, Option, Some, None, is_some, option_map, add-one, drop-cons, append_assoc}
 use Rattle.std.proofs.lemmas.List.{append-nil}
 use Rattle.std.proofs.lemmas.Option.{slice_get_within, get_or_from_slice_get}
 use Rattle.lang_core.specs.declared.trace.CallMade.{CallMade}
 use Rattle.journal_rows.specs.declared.row.Row.{Row}
-use Rattle.call_registers.specs.Changes.{change}
-use Rattle.call_registers.specs.Registers.{register, has_number, at_number}
+use Rattle.call_registers.specs.Overlays.{numbered_from, put_all}
+use Rattle.call_registers.specs.Registers.{next_number}
 use Rattle.call_registers.specs.declared.register.Register.{Register}
 use Rattle.service_meaning.specs.State.{Kept}
 use Rattle.service_meaning.specs.Calls.{after_row, after_rows, noted, deleted, all_deleted}
 
--- ---- a number that isn't there
+-- ---- a draft without rows
 
-absent_if : (b : Bool) (r : Register) (o : Option Register) → cond b (Some r) o ≡ None → (b ≡ false) × (o ≡ None)
-absent_if true r o h = cc
-absent_if false r o h = (refl, h)
+pub nothing_drafted : (s : Kept) (rows : List Row) (changed added : List Register) → rows ≡ [] → changed ≡ [] → added ≡ []
+    → (record s { journal = s.journal ++ rows; registers = put_all changed s.registers ++ numbered_from (next_number s.registers) added }) ≡ s
+nothing_drafted s rows changed added r c a =
+    ap (λ (l : List Row). record s { journal = s.journal ++ l; registers = put_all changed s.registers ++ numbered_from (next_number s.registers) added }) r
+    ∙ ap (λ (l : List Row). record s { journal = l; registers = put_all changed s.registers ++ numbered_from (next_number s.registers) added }) (append-nil s.journal)
+    ∙ ap (λ (l : List Register). record s { registers = put_all l s.registers ++ numbered_from (next_number s.registers) added }) c
+    ∙ ap (λ (l : List Register). record s { registers = s.registers ++ numbered_from (next_number s.registers) l }) a
+    ∙ ap (λ (l : List Register). record s { registers = l }) (append-nil s.registers)
 
-fails : (b : Bool) (xs ys : List Register) → b ≡ false → cond b xs ys ≡ ys
-fails true xs ys h = cc
-fails false xs ys h = refl
+-- ---- a number that is there
 
-unchanged_from : (number : ℕ) (f : Register → Register) (rs : List Register) → register number rs ≡ None → rs ≡ at_number number f rs
-unchanged_from number f [] h = refl
-unchanged_from number f (r ∷ rs) h =
-    let a = absent_if (has_number number r) r (register number rs) h in
-    ap (λ l. r ∷ l) (unchanged_from number f rs a.1)
-    ∙ sym (fails (has_number number r) (f r ∷ rs) (r ∷ change (has_number number) f rs) a.0)
-
-no_some : (o : Option Register) → is_some o ≡ false → o ≡ None
-no_some None h = refl
-no_some (Some r) h = cc
-
--- a change of a number that isn't there changes nothing
-pub unchanged : (there : Bool) (number : ℕ) (f : Register → Register) (rs : List Register) → there ≡ is_some (register number rs) → there ≡ false → rs ≡ at_number number f rs
-unchanged there number f rs h e = unchanged_from number f rs (no_some (register number rs) (sym h ∙ e))
+pub there_mapped : {X : Type 0} (f : Register → Register) (g : X → Register) (found : Option Register) (o : Option X) → found ≡ option_map f (option_map g o) → is_some o ≡ is_some found
+there_mapped f g found None h = sym (ap is_some h)
+there_mapped f g found (Some r) h = sym (ap is_some h)
 
 -- ---- rows one by one
 

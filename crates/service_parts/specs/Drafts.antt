@@ -2,6 +2,7 @@
 use Rattle.std.specs.Prelude.{ℕ, List, [], ◌∷◌, ◌++◌, Option, Some, None, slice_get}
 use Rattle.lang_core.specs.declared.trace.CallMade.{CallMade}
 use Rattle.journal_rows.specs.declared.row.Row.{Row}
+use Rattle.call_registers.specs.Overlays.{overlaid}
 use Rattle.call_registers.specs.Registers.{next_number}
 use Rattle.call_registers.specs.declared.register.Register.{Register}
 use Rattle.flights.specs.declared.flight.Flight.{Flight}
@@ -9,9 +10,9 @@ use Rattle.service_meaning.specs.State.{Kept}
 use Rattle.service_meaning.specs.Calls.{deleted, named}
 use Rattle.service_parts.specs.declared.draft.Draft.{Draft}
 
--- its rows stand last in the journal, and the registers are what they make of them
+-- its rows stand last in the journal, and its changes are made of the registers
 abbrev pub with_draft : Draft → Kept → Kept
-with_draft d s = record s { journal = s.journal ++ d.rows.items; registers = d.registers.list }
+with_draft d s = record s { journal = s.journal ++ d.rows.items; registers = overlaid d.changes s.registers }
 
 -- the row of a deletion, where there is a call
 abbrev pub deletion_in : List Register → Option ℕ → Option CallMade → List Row

@@ -1,5 +1,6 @@
 // What is drafted becomes so.
 ghost use Rattle.std.specs.Prelude.{◌≡◌, ◌+◌, ◌≤◌, ◌++◌, IfOk, OnOk, vec_len};
+ghost use Rattle.call_registers.specs.Overlays.{overlaid};
 ghost use Rattle.service_parts.specs.Rooms.{aloft};
 
 use crate::draft::Draft;
@@ -42,13 +43,34 @@ pub fn push_rows(journal: &mut Rows, rows: Vec<Row>)
     }
 }
 
-/// Puts a draft's rows last, for which there is room, and its registers in place.
+/// Makes room for a draft: in the journal for so many rows, with that for the abandonment of each flight left, and for so
+/// many new registers. Refused, both stay.
+pub fn reserve_draft(
+    journal: &mut Rows,
+    registers: &mut Registers,
+    rows: u64,
+    added: u64,
+    flights: &[Flight],
+) -> Result<(), NoMemory>
+    ensures rows { journal.new.rows ≡ journal.old.rows }
+    ensures list { registers.new.list ≡ registers.old.list }
+    ensures spare { journal.old.spare ≤ journal.new.spare }
+    ensures ok { OnOk result (rows + aloft flights.now ≤ journal.new.spare) }
+    ensures added { OnOk result (added ≤ registers.new.spare) }
+{
+    reserve(journal, rows, flights)?;
+    registers.reserve(added)
+}
+
+/// Puts a draft's rows last and its changes in place, for which there is room.
 pub fn note_draft(journal: &mut Rows, registers: &mut Registers, draft: Draft)
-    requires { vec_len draft.rows ≤ journal.old.spare }
+    requires rows { vec_len draft.rows ≤ journal.old.spare }
+    requires added { vec_len draft.changes.added ≤ registers.old.spare }
     ensures rows { journal.new.rows ≡ journal.old.rows ++ draft.rows.items }
-    ensures registers { registers.new.list ≡ draft.registers.list }
+    ensures registers { registers.new.list ≡ overlaid draft.changes registers.old.list }
     ensures spare { journal.old.spare ≤ journal.new.spare + vec_len draft.rows }
 {
-    push_rows(journal, draft.rows);
-    *registers = draft.registers;
+    let Draft { rows, changes } = draft;
+    push_rows(journal, rows);
+    registers.put_changes(changes);
 }

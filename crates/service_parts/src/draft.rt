@@ -1,23 +1,25 @@
-// Rows that are drafted, and the registers after them.
-ghost use Rattle.std.specs.Prelude.{◌≡◌, ◌++◌, length, OnOk, IfOk};
+// Rows that are drafted, and what they change of the registers.
+ghost use Rattle.std.specs.Prelude.{◌≡◌, ◌++◌, length, OnOk};
+ghost use Rattle.call_registers.specs.Registers.{next_number};
 ghost use Rattle.service_meaning.specs.State.{Kept};
 ghost use Rattle.service_meaning.specs.Calls.{noted};
 ghost use Rattle.service_meaning.specs.Arriving.{told};
 ghost use Rattle.service_parts.specs.Drafts.{with_draft};
 ghost use Rattle.service_parts.specs.Parts.{kept};
 
-use crate::noting::{note_rows, note_told};
+use crate::noting::note_rows;
 use crate::parts::Parts;
-use call_registers::{Registers, Why};
+use call_registers::{Change, RegisterChanges, Why};
 use journal_rows::Row;
 use lang_core::NoMemory;
 use std::alloc::Global;
 
-/// Rows that are to stand last in a journal, and copies of the registers, which are what the rows make of them.
+/// Rows that are to stand last in a journal, and the changes that they make of the registers. It is read together with the
+/// service whose draft it is, so that it costs no more than what it changes.
 #[derive(Drop)]
 pub struct Draft {
     pub rows: Vec<Row>,
-    pub registers: Registers,
+    pub changes: RegisterChanges,
 }
 
 // The index after these rows.
@@ -28,13 +30,13 @@ fn index_after(journal: &[Row], drafted: &[Row]) -> u64
 }
 
 /// A draft without rows.
-pub fn start(alloc: Global, parts: &Parts) -> Result<Draft, NoMemory>
-    ensures { IfOk result (λ draft. with_draft draft (kept parts.now) ≡ kept parts.now) }
+pub fn start(alloc: Global) -> Draft
+    ensures { (s : Kept) → with_draft result s ≡ s }
 {
-    Ok(Draft {
+    Draft {
         rows: Vec::new(alloc),
-        registers: parts.registers.copied(alloc)?,
-    })
+        changes: RegisterChanges::none(alloc),
+    }
 }
 
 /// The index in the journal of the row that comes next.
@@ -54,14 +56,30 @@ pub fn note(
     ensures { OnOk result (with_draft draft.new (kept parts.now) ≡ noted rows.items (with_draft draft.old (kept parts.now))) }
 {
     let first = next_index(parts, draft);
-    note_rows(alloc, &mut draft.registers, first, &rows)?;
+    note_rows(alloc, &parts.registers, &mut draft.changes, first, &rows)?;
     draft.rows.append(&mut rows)?;
     Ok(())
 }
 
-/// Drafts why the call of a number goes on without an answer.
-pub fn tell(draft: &mut Draft, number: u64, why: Why)
-    ensures { (s : Kept) → with_draft draft.new s ≡ told number why (with_draft draft.old s) }
+/// Drafts why the call of a number goes on without an answer. Refused, the draft is no use any more.
+pub fn tell(
+    alloc: Global,
+    parts: &Parts,
+    draft: &mut Draft,
+    number: u64,
+    why: Why,
+) -> Result<(), NoMemory>
+    ensures { OnOk result (with_draft draft.new (kept parts.now) ≡ told number why (with_draft draft.old (kept parts.now))) }
 {
-    note_told(&mut draft.registers, number, why);
+    let change = Change::Tell(why);
+    draft
+        .changes
+        .change(alloc, &parts.registers, number, change)
+}
+
+/// The number of the next call.
+pub fn next_number(parts: &Parts, draft: &Draft) -> u64
+    ensures { result ≡ next_number (with_draft draft.now (kept parts.now)).registers }
+{
+    draft.changes.next_number(&parts.registers)
 }

@@ -1,4 +1,4 @@
-//! What a service with calls keeps, part by part; rows that are drafted beside it, with the registers after them; and how
+//! What a service with calls keeps, part by part; rows that are drafted beside it, with what they change of the registers; and how
 //! such a draft is put in place.
 #![tactic(auto)]
 
@@ -8,10 +8,12 @@ mod limits;
 mod noting;
 mod parts;
 mod rows;
+mod view;
 
-pub use applying::{note_draft, push_rows, reserve};
-pub use draft::{Draft, next_index, note, start, tell};
+pub use applying::{note_draft, push_rows, reserve, reserve_draft};
+pub use draft::{Draft, next_index, next_number, note, start, tell};
 pub use limits::{is_crowded, is_heavy};
 pub use noting::note_rows;
 pub use parts::Parts;
-pub use rows::{change_rows, deleted, named, next_number, push_deleted, replaced};
+pub use rows::{change_rows, deleted, named, push_deleted, replaced};
+pub use view::{DraftedRegisters, RegistersView, drafted};

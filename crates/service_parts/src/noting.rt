@@ -1,94 +1,85 @@
 // Rows as changes of registers.
 ghost use Rattle.std.specs.Prelude.{◌≡◌, ◌+◌, OnOk, IfOk, is_some};
 ghost use Rattle.service_meaning.specs.Calls.{put_sent, after_row, after_rows};
-ghost use Rattle.call_registers.specs.Registers.{register, with_ack, with_answer, with_cause, at_number};
+ghost use Rattle.call_registers.specs.Registers.{register, with_ack, with_answer, at_number, sent_anew};
+ghost use Rattle.call_registers.specs.Overlays.{overlaid};
 ghost use Rattle.service_meaning.specs.Calls.{seen_answer};
 
-use call_registers::{Answer, Registers, Why};
-use journal_rows::{Row, SawAckRow, SawAnswerRow, SentRow};
+use call_registers::{Answer, Change, RegisterChanges, Registers};
+use journal_rows::{Row, SawAnswerRow, SentRow};
 use lang_core::{Copied, NoMemory};
 use std::alloc::Global;
 
 // Whether there is a register of this number.
-fn is_there(registers: &Registers, number: u64) -> bool
-    ensures { result ≡ is_some (register number registers.now.list) }
+fn is_there(standing: &Registers, changes: &RegisterChanges, number: u64) -> bool
+    ensures { result ≡ is_some (register number (overlaid changes.now standing.now.list)) }
 {
-    registers.get(number).is_some()
+    changes.find(standing, number).is_some()
+}
+
+// Another version of a call.
+fn note_version(
+    alloc: Global,
+    standing: &Registers,
+    changes: &mut RegisterChanges,
+    at: u64,
+    sent: &SentRow,
+) -> Result<(), NoMemory>
+    ensures { OnOk result (overlaid changes.new standing.now.list ≡ at_number sent.now.number (sent_anew sent.now.desired at) (overlaid changes.old standing.now.list)) }
+{
+    let desired = Copied::copied(&sent.desired, alloc)?;
+    let change = Change::Send { desired, since: at };
+    changes.change(alloc, standing, sent.number, change)
 }
 
 // A call's first row names it; a later one is another version of it.
 fn note_sent(
     alloc: Global,
-    registers: &mut Registers,
+    standing: &Registers,
+    changes: &mut RegisterChanges,
     at: u64,
     sent: &SentRow,
 ) -> Result<(), NoMemory>
-    ensures { OnOk result (registers.new.list ≡ put_sent at sent.now (register sent.now.number registers.old.list) registers.old.list) }
+    ensures { OnOk result (overlaid changes.new standing.now.list ≡ put_sent at sent.now (register sent.now.number (overlaid changes.old standing.now.list)) (overlaid changes.old standing.now.list)) }
 {
-    let known = is_there(registers, sent.number);
+    if is_there(standing, changes, sent.number) {
+        return note_version(alloc, standing, changes, at, sent);
+    }
     match &sent.desired {
-        Some(request) => {
-            if known {
-                registers.replace(alloc, sent.number, request, at)
-            } else {
-                let _number = registers.want(alloc, &sent.dest, request, at)?;
-                Ok(())
-            }
-        }
-        None => {
-            if known {
-                registers.unwant(sent.number, at);
-            }
-            Ok(())
-        }
-    }
-}
-
-fn note_ack(registers: &mut Registers, ack: &SawAckRow)
-    ensures { registers.new.list ≡ at_number ack.now.number (with_ack ack.now.version) registers.old.list }
-{
-    if is_there(registers, ack.number) {
-        registers.saw_ack(ack.number, ack.version);
-    }
-}
-
-/// Notes why the call of a number, if there is one, goes on without an answer.
-pub fn note_told(registers: &mut Registers, number: u64, why: Why)
-    ensures { registers.new.list ≡ at_number number (with_cause why) registers.old.list }
-{
-    if is_there(registers, number) {
-        registers.tell(number, why);
+        Some(request) => changes.want(alloc, standing, &sent.dest, request, at),
+        None => Ok(()),
     }
 }
 
 fn note_answer(
     alloc: Global,
-    registers: &mut Registers,
+    standing: &Registers,
+    changes: &mut RegisterChanges,
     seen: &SawAnswerRow,
 ) -> Result<(), NoMemory>
-    ensures { OnOk result (registers.new.list ≡ at_number seen.now.number (with_answer (seen_answer seen.now)) registers.old.list) }
+    ensures { OnOk result (overlaid changes.new standing.now.list ≡ at_number seen.now.number (with_answer (seen_answer seen.now)) (overlaid changes.old standing.now.list)) }
 {
     let answer = Answer {
         answer_version: seen.answer_version,
         version: seen.version,
         response: seen.response.copied(alloc)?,
     };
-    if is_there(registers, seen.number) {
-        registers.saw_answer(seen.number, answer);
-    }
-    Ok(())
+    changes.change(alloc, standing, seen.number, Change::Hear(answer))
 }
 
-fn note_row(alloc: Global, registers: &mut Registers, at: u64, row: &Row) -> Result<(), NoMemory>
-    ensures { OnOk result (registers.new.list ≡ after_row at registers.old.list row.now) }
+fn note_row(
+    alloc: Global,
+    standing: &Registers,
+    changes: &mut RegisterChanges,
+    at: u64,
+    row: &Row,
+) -> Result<(), NoMemory>
+    ensures { OnOk result (overlaid changes.new standing.now.list ≡ after_row at (overlaid changes.old standing.now.list) row.now) }
 {
     match row {
-        Row::Sent(sent) => note_sent(alloc, registers, at, sent),
-        Row::SawAck(ack) => {
-            note_ack(registers, ack);
-            Ok(())
-        }
-        Row::SawAnswer(seen) => note_answer(alloc, registers, seen),
+        Row::Sent(sent) => note_sent(alloc, standing, changes, at, sent),
+        Row::SawAck(ack) => changes.change(alloc, standing, ack.number, Change::Ack(ack.version)),
+        Row::SawAnswer(seen) => note_answer(alloc, standing, changes, seen),
         _ => Ok(()),
     }
 }
@@ -100,19 +91,20 @@ fn next_of(at: u64) -> Result<u64, NoMemory>
     at.checked_add(1).ok_or(NoMemory)
 }
 
-/// Makes of registers what these rows make of them, the first of which has this index in the journal. Refused, the
-/// registers are no use any more.
+/// Changes registers as these rows do, the first of which has this index in the journal. Refused, the changes are no use
+/// any more.
 pub fn note_rows(
     alloc: Global,
-    registers: &mut Registers,
+    standing: &Registers,
+    changes: &mut RegisterChanges,
     first: u64,
     rows: &[Row],
 ) -> Result<(), NoMemory>
-    ensures { OnOk result (registers.new.list ≡ after_rows first registers.old.list rows.now) }
+    ensures { OnOk result (overlaid changes.new standing.now.list ≡ after_rows first (overlaid changes.old standing.now.list) rows.now) }
 {
     let mut at = first;
     for row in rows {
-        note_row(alloc, registers, at, row)?;
+        note_row(alloc, standing, changes, at, row)?;
         at = next_of(at)?;
     }
     Ok(())

@@ -1,26 +1,17 @@
 // Rows that tell of calls.
 ghost use Rattle.std.specs.Prelude.{◌≡◌, ◌+◌, ◌≤◌, [], ◌∷◌, ◌++◌, drop, slice_get, IfOk, OnOk};
 ghost use Rattle.call_registers.specs.Changes.{raised};
-ghost use Rattle.service_meaning.specs.Calls.{version_of, replaced, deleted, named, all_deleted};
+ghost use Rattle.service_meaning.specs.Calls.{replaced, deleted, named, all_deleted};
 ghost use Rattle.std.specs.Option.{option_copied};
 ghost use Rattle.call_registers.specs.Registers.{next_number};
 ghost use Rattle.service_parts.specs.Drafts.{deletion_in, change_rows_in};
 
-use call_registers::Registers;
+use crate::view::RegistersView;
 use flights::Flight;
 use journal_rows::{Row, SentRow};
 use lang_core::{CallMade, Copied, Name, NoMemory, Request};
 use repair_messages::copied_pair;
 use std::alloc::Global;
-
-fn version_of(registers: &Registers, number: u64) -> u64
-    ensures { result ≡ version_of registers.now.list number }
-{
-    match registers.get(number) {
-        None => 0,
-        Some(register) => register.version,
-    }
-}
 
 fn raised(version: u64) -> u64
     ensures { result ≡ raised version }
@@ -29,37 +20,37 @@ fn raised(version: u64) -> u64
 }
 
 /// The row of a call that asks another request.
-pub fn replaced(
+pub fn replaced<R: RegistersView>(
     alloc: Global,
-    registers: &Registers,
+    registers: &R,
     number: u64,
     dest: &Name,
     request: &Request,
 ) -> Result<Row, NoMemory>
-    ensures { IfOk result (λ row. row ≡ replaced registers.now.list number dest.now request.now) }
+    ensures { IfOk result (λ row. row ≡ replaced (R.list registers.now) number dest.now request.now) }
 {
     let (dest, request) = copied_pair(alloc, dest, request)?;
     Ok(Row::Sent(SentRow {
         number,
         dest,
-        version: raised(version_of(registers, number)),
+        version: raised(registers.version_of(number)),
         desired: Some(request),
     }))
 }
 
 /// The row of a deleted call.
-pub fn deleted(
+pub fn deleted<R: RegistersView>(
     alloc: Global,
-    registers: &Registers,
+    registers: &R,
     number: u64,
     call: &CallMade,
 ) -> Result<Row, NoMemory>
-    ensures { IfOk result (λ row. row ≡ deleted registers.now.list number call.now) }
+    ensures { IfOk result (λ row. row ≡ deleted (R.list registers.now) number call.now) }
 {
     Ok(Row::Sent(SentRow {
         number,
         dest: call.dest.copied(alloc)?,
-        version: raised(version_of(registers, number)),
+        version: raised(registers.version_of(number)),
         desired: None,
     }))
 }
@@ -85,14 +76,14 @@ fn call_in(calls: &[CallMade], place: usize) -> Option<&CallMade>
 
 /// The rows of deleted calls, from these numbers and calls on, after the rows that are there. Refused, the rows are no
 /// use any more.
-pub fn push_deleted(
+pub fn push_deleted<R: RegistersView>(
     alloc: Global,
-    registers: &Registers,
+    registers: &R,
     numbers: &[u64],
     calls: &[CallMade],
     rows: &mut Vec<Row>,
 ) -> Result<(), NoMemory>
-    ensures { OnOk result (rows.new.items ≡ rows.old.items ++ all_deleted registers.now.list numbers.now calls.now) }
+    ensures { OnOk result (rows.new.items ≡ rows.old.items ++ all_deleted (R.list registers.now) numbers.now calls.now) }
 {
     for (i, number) in numbers.iter().enumerate() {
         match call_in(calls, i) {
@@ -104,14 +95,14 @@ pub fn push_deleted(
 }
 
 // The row of a call as deleted, where there is a call.
-fn push_deletion(
+fn push_deletion<R: RegistersView>(
     alloc: Global,
-    registers: &Registers,
+    registers: &R,
     number: Option<&u64>,
     call: Option<&CallMade>,
     rows: &mut Vec<Row>,
 ) -> Result<(), NoMemory>
-    ensures { OnOk result (rows.new.items ≡ rows.old.items ++ deletion_in registers.now.list (option_copied number.entry) (option_copied call.entry)) }
+    ensures { OnOk result (rows.new.items ≡ rows.old.items ++ deletion_in (R.list registers.now) (option_copied number.entry) (option_copied call.entry)) }
 {
     match (number, call) {
         (Some(number), Some(call)) => {
@@ -123,15 +114,16 @@ fn push_deletion(
     }
 }
 
-/// The rows of a change: the flight's call at the slot is deleted, and another one is named under this number.
-pub fn change_rows(
+/// The rows of a change: the flight's call at the slot is deleted, and another one is named under the next
+/// number.
+pub fn change_rows<R: RegistersView>(
     alloc: Global,
-    registers: &Registers,
+    registers: &R,
     flight: &Flight,
     slot: u64,
     call: &CallMade,
 ) -> Result<Vec<Row>, NoMemory>
-    ensures { IfOk result (λ rows. rows.items ≡ change_rows_in registers.now.list flight.now slot call.now) }
+    ensures { IfOk result (λ rows. rows.items ≡ change_rows_in (R.list registers.now) flight.now slot call.now) }
 {
     let mut rows = Vec::new(alloc);
     push_deletion(
@@ -141,14 +133,7 @@ pub fn change_rows(
         flight.calls.at(slot),
         &mut rows,
     )?;
-    let row = named(alloc, next_number(registers), call)?;
+    let row = named(alloc, registers.next_number(), call)?;
     rows.push(row)?;
     Ok(rows)
-}
-
-/// The number of the next call.
-pub fn next_number(registers: &Registers) -> u64
-    ensures { result ≡ next_number registers.now.list }
-{
-    registers.as_slice().len() as u64 + 1
 }

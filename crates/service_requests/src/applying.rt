@@ -1,6 +1,7 @@
 // What is drafted becomes so.
 ghost use Rattle.std.specs.Prelude.{◌≡◌, ◌+◌, ◌<◌, ◌≤◌, ◌^◌, [], ◌∷◌, ◌++◌, length, IfOk, IfSome, OnOk, OnErr, vec_len};
 ghost use Rattle.request_log.specs.Entries.{IsNew};
+ghost use Rattle.call_registers.specs.Overlays.{overlaid};
 ghost use Rattle.call_registers.specs.Replies.{IsAboveAll};
 ghost use Rattle.flights.specs.Numbers.{without_flight};
 ghost use Rattle.service_meaning.specs.State.{after};
@@ -23,7 +24,7 @@ use local_repair::Repairer;
 use repair_messages::{AnswerMessage, SetMessage};
 use request_log::Entry;
 use service_meaning::Arrived;
-use service_parts::{Draft, Parts, note_draft, reserve};
+use service_parts::{Draft, Parts, note_draft, reserve_draft};
 use service_posts::last_answer;
 use std::alloc::Global;
 
@@ -65,31 +66,53 @@ fn add_reply(replies: &mut Replies, reply: Option<Reply>)
     }
 }
 
+// Room for a draft, and for so many rows more. Refused, nothing changes.
+fn reserve_for(parts: &mut Parts, draft: &Draft, calls: u64) -> Result<(), NoMemory>
+    ensures kept { kept parts.new ≡ kept parts.old }
+    ensures flights { parts.new.flights ≡ parts.old.flights }
+    ensures spare { parts.old.journal.spare ≤ parts.new.journal.spare }
+    ensures rows { OnOk result ((vec_len draft.now.rows + calls) + aloft parts.old.flights.list ≤ parts.new.journal.spare) }
+    ensures added { OnOk result (vec_len draft.now.changes.added ≤ parts.new.registers.spare) }
+{
+    let rows = (draft.rows.len() as u64)
+        .checked_add(calls)
+        .ok_or(NoMemory)?;
+    reserve_draft(
+        &mut parts.journal,
+        &mut parts.registers,
+        rows,
+        draft.changes.added.len() as u64,
+        parts.flights.as_slice(),
+    )
+}
+
 // Room for what a commit adds, and then its entry. Refused, nothing changes.
 fn add_entry(
     parts: &mut Parts,
-    rows: u64,
+    draft: &Draft,
     entry: Entry,
     reply: &Option<Reply>,
 ) -> Result<(), NoMemory>
     requires is_new { IsNew entry parts.old.repairer.entries }
     requires few { length parts.old.repairer.entries < 100000 }
     ensures ok { OnOk result (kept parts.new ≡ with_entries (parts.old.repairer.entries ++ entry ∷ []) (kept parts.old)) }
-    ensures rows { OnOk result (rows + aloft parts.old.flights.list ≤ parts.new.journal.spare) }
+    ensures rows { OnOk result (vec_len draft.now.rows + aloft parts.old.flights.list ≤ parts.new.journal.spare) }
+    ensures added { OnOk result (vec_len draft.now.changes.added ≤ parts.new.registers.spare) }
     ensures reply { OnOk result (IsReadyFor reply.now parts.new.replies.room) }
     ensures err { OnErr result (kept parts.new ≡ kept parts.old) }
     ensures spare { parts.old.journal.spare ≤ parts.new.journal.spare }
 {
-    reserve(&mut parts.journal, rows, parts.flights.as_slice())?;
+    reserve_for(parts, draft, 0)?;
     ready_reply(&mut parts.replies, reply)?;
     append(&mut parts.repairer, entry)
 }
 
 // Puts a draft in place, whose rows and those before can be counted.
 fn note_counted(journal: &mut Rows, registers: &mut Registers, draft: Draft)
-    requires { vec_len draft.rows ≤ journal.old.spare }
+    requires rows { vec_len draft.rows ≤ journal.old.spare }
+    requires added { vec_len draft.changes.added ≤ registers.old.spare }
     ensures rows { journal.new.rows ≡ journal.old.rows ++ draft.rows.items }
-    ensures registers { registers.new.list ≡ draft.registers.list }
+    ensures registers { registers.new.list ≡ overlaid draft.changes registers.old.list }
     ensures spare { journal.old.spare ≤ journal.new.spare + vec_len draft.rows }
     ensures few { length journal.new.rows < 2 ^ 64 }
 {
@@ -127,21 +150,21 @@ fn commit(
     ensures room { HasRoom parts.new }
 {
     let id = entry.id;
-    add_entry(parts, draft.rows.len() as u64, entry, &reply)?;
+    add_entry(parts, &draft, entry, &reply)?;
     note_counted(&mut parts.journal, &mut parts.registers, draft);
     land(&mut parts.flights, &mut parts.replies, flight, reply);
     Ok(Arrived::Done { index, id, answer })
 }
 
-// Room for a draft's rows and for a flight more, which has so many calls.
-fn reserve_flight(parts: &mut Parts, rows: u64, calls: u64) -> Result<(), NoMemory>
+// Room for a draft and for a flight more, which has so many calls.
+fn reserve_flight(parts: &mut Parts, draft: &Draft, calls: u64) -> Result<(), NoMemory>
     ensures kept { kept parts.new ≡ kept parts.old }
     ensures spare { parts.old.journal.spare ≤ parts.new.journal.spare }
-    ensures ok { OnOk result ((rows + calls) + aloft parts.old.flights.list ≤ parts.new.journal.spare) }
+    ensures ok { OnOk result ((vec_len draft.now.rows + calls) + aloft parts.old.flights.list ≤ parts.new.journal.spare) }
+    ensures added { OnOk result (vec_len draft.now.changes.added ≤ parts.new.registers.spare) }
     ensures flight { OnOk result (0 < parts.new.flights.spare) }
 {
-    let more = rows.checked_add(calls).ok_or(NoMemory)?;
-    reserve(&mut parts.journal, more, parts.flights.as_slice())?;
+    reserve_for(parts, draft, calls)?;
     parts.flights.reserve(1)
 }
 
@@ -160,7 +183,7 @@ fn wait(
     ensures room { HasRoom parts.new }
 {
     let id = flight.id;
-    reserve_flight(parts, draft.rows.len() as u64, flight.calls.len())?;
+    reserve_flight(parts, &draft, flight.calls.len())?;
     note_counted(&mut parts.journal, &mut parts.registers, draft);
     parts.flights.put(flight).unwrap();
     Ok(Arrived::Call { flight: id, set })

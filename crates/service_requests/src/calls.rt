@@ -99,7 +99,7 @@ fn heard(alloc: Global, parts: &Parts, answer: &AnswerMessage) -> Result<Draft, 
     ensures { IfOk result (λ draft. with_draft draft (kept parts.now) ≡ noted (heard_rows (kept parts.now) answer.now) (kept parts.now)) }
 {
     let rows = heard_rows(alloc, parts, answer)?;
-    let mut draft = start(alloc, parts)?;
+    let mut draft = start(alloc);
     note(alloc, parts, &mut draft, rows)?;
     Ok(draft)
 }
@@ -122,8 +122,8 @@ fn hear(
 fn failed(alloc: Global, parts: &Parts, number: u64, why: Why) -> Result<Draft, NoMemory>
     ensures { IfOk result (λ draft. with_draft draft (kept parts.now) ≡ told number why (kept parts.now)) }
 {
-    let mut draft = start(alloc, parts)?;
-    tell(&mut draft, number, why);
+    let mut draft = start(alloc);
+    tell(alloc, parts, &mut draft, number, why)?;
     Ok(draft)
 }
 

@@ -62,6 +62,5 @@ pub(crate) fn begin(
     ensures can { IfOk result (λ outcome. CanLeave (kept parts.now) outcome) }
 {
     let flight = new_flight(alloc, parts, origin, request, inputs);
-    let draft = start(alloc, parts)?;
-    follow(alloc, parts, draft, &flight)
+    follow(alloc, parts, start(alloc), &flight)
 }

@@ -8,5 +8,5 @@ use Rattle.live_drafts.proofs.completing.change_unsent.Goals as goal
 
 pub returns-clause-draft : goal.returns-clause-draft
 returns-clause-draft c =
-    c.tell.ensures (kept c.args.parts.now) ∙ ap (told c.next_number-number.result Changes) c.in_ok-next.ensures.draft
+    c.in_ok-tell.ensures ∙ ap (told c.next_number-number.result Changes) c.in_ok-note_changed.ensures
     ∙ ap (λ (n : ℕ). told n Changes (changed_service (with_draft c.args.draft.now (kept c.args.parts.now)) c.args.flight.now c.args.slot c.args.call.now)) c.next_number-number.ensures

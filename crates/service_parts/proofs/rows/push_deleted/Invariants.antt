@@ -3,5 +3,5 @@ use Rattle.service_meaning.specs.Calls.{all_deleted}
 use Rattle.service_parts.proofs.rows.push_deleted.Given as goal
 
 abbrev pub invariant-loop-i : goal.invariant-loop-i
-invariant-loop-i l =
-    l.rows.items ++ all_deleted l.registers.list (drop l.i l.numbers) (drop l.i l.calls) ≡ l.initial.rows.items ++ all_deleted l.registers.list l.numbers l.calls
+invariant-loop-i g l =
+    l.rows.items ++ all_deleted (g.R.RegistersView.list l.registers) (drop l.i l.numbers) (drop l.i l.calls) ≡ l.initial.rows.items ++ all_deleted (g.R.RegistersView.list l.registers) l.numbers l.calls

@@ -4,4 +4,4 @@ use Rattle.service_parts.specs.Parts.{kept}
 use Rattle.service_requests.proofs.calls.failed.Goals as goal
 
 pub returns : goal.returns
-returns c = c.tell.ensures (kept c.args.parts.now) ∙ ap (told c.args.number c.args.why) c.in_ok-draft.ensures
+returns c = c.in_ok-tell.ensures ∙ ap (told c.args.number c.args.why) (c.start-draft.ensures (kept c.args.parts.now))
