@@ -1,5 +1,8 @@
 #!/usr/bin/env bash
-# The time of scripts of 1,000 to 16,000 `ask` lines over a tenth as many keys, and the ratio of each to the one before.
+# The time of scripts of 1,000 to 64,000 `ask` lines over a tenth as many keys, or to what is told, by line, and its ratio to that
+# of the fewest; and, where GNU time is there, the greatest memory that a line takes besides, from a quarter of the lines to all.
+# usage: bench/ask.sh [MOST]
+most=${1:-64000}
 . "$(dirname "${BASH_SOURCE[0]}")/timing.sh"
 
 script_of() {
@@ -9,10 +12,23 @@ script_of() {
     done
 }
 
-before=""
-for n in 1000 2000 4000 8000 16000; do
+# The most memory in KiB that a run of this script has at once.
+peak_of() {
+    "$timer" -f %M -o "$folder/peak" "$program" run @notes "$1" >"$folder/told"
+    cat "$folder/peak"
+}
+
+first=
+for ((n = 1000; n <= most; n *= 2)); do
     script_of "$n" >"$folder/asks"
     took=$(seconds_of @notes "$folder/asks")
-    echo "$n requests: $took s${before:+, ratio $(ratio "$took" "$before")}"
-    before=$took
+    each=$(echo "$took $n" | awk '{ printf "%.5f", 1000 * $1 / $2 }')
+    first=${first:-$each}
+    echo "$n requests: $each ms each, ratio to the first $(ratio "$each" "$first")"
 done
+
+timer=$(type -P time) || exit 0
+script_of $((most / 4)) >"$folder/quarter"
+script_of "$most" >"$folder/asks"
+bytes=$((($(peak_of "$folder/asks") - $(peak_of "$folder/quarter")) * 1024 / (most * 3 / 4)))
+echo "memory by request: $bytes bytes, with $(wc -c <"$folder/asks" | awk -v n="$most" '{ printf "%d", $1 / n }') of the script's"

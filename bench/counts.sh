@@ -13,7 +13,7 @@ command -v valgrind >/dev/null || {
 
 # The instructions of a run of this script in this world.
 count() {
-    valgrind --tool=callgrind --callgrind-out-file=/dev/null "$top/crates/aire/out/aire" run "$1" "$2" 2>&1 >"$folder/told" |
+    valgrind --tool=callgrind --callgrind-out-file=/dev/null "$program" run "$1" "$2" 2>&1 >"$folder/told" |
         sed -n 's/.*Collected : *//p'
 }
 

@@ -1,17 +1,19 @@
-# What the benchmarks share: the program built, a folder for scripts, and seconds of a run.
+# What the benchmarks share: the program built, a folder for scripts, and the processor's seconds of a run.
 set -eu
 top=$(cd "$(dirname "${BASH_SOURCE[0]}")/.." && pwd)
+program=$top/crates/aire/out/aire
+[ -x "$program" ] || {
+    echo "the program isn't built yet; ./aire build does it" >&2
+    exit 1
+}
 folder=$(mktemp -d)
 trap 'rm -rf "$folder"' EXIT
-"$top/aire" run @notes - </dev/null
 
-# The seconds that a run of this script takes in this world.
+# The seconds that the processor takes for a run of this script in this world.
 seconds_of() {
-    local begin end
-    begin=$(date +%s.%N)
-    "$top/aire" run "$1" "$2" >"$folder/told"
-    end=$(date +%s.%N)
-    echo "$begin $end" | awk '{ printf "%.3f", $2 - $1 }'
+    local TIMEFORMAT='%U %S'
+    { time "$program" run "$1" "$2" >"$folder/told"; } 2>"$folder/took"
+    awk '{ printf "%.3f", $1 + $2 }' "$folder/took"
 }
 
 # The first number less the second, at least a millisecond.
