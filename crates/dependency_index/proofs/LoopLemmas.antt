@@ -11,7 +11,7 @@ use Rattle.dependency_index.specs.declared.reads.ReadKind.{ReadKind}
 use Rattle.dependency_index.specs.declared.reads.ReadKind.TheVariants.{Key, Scan}
 use Rattle.dependency_index.specs.declared.rows.ReadRows.{ReadRows}
 use Rattle.std.proofs.Math.Bool.{or-false, or-true, or_assoc}
-use Rattle.versioned_rows.proofs.WriteLemmas.{made_by}
+use Rattle.versioned_rows.proofs.WriteLemmas.{either_by}
 
 any_more : {X : Type 0} (p : X → Bool) (xs : List X) (i : ℕ) (d : X) → i < length xs → list_any p (take (suc i) xs) ≡ (list_any p (take i xs) || p (get_or xs i d))
 any_more p [] i d lt = absurd (omega arith)
@@ -76,7 +76,7 @@ pub spare_made : (n : ℕ) (before after : ReadRows) (rs : List ReadAt) (i : ℕ
     → ((kind : ReadKind) (t k : List ℕ) → spare_by before kind t k ≤ spare_by after kind t k) → n ≤ spare_by after r.kind r.table r.key
     → (kind : ReadKind) (t k : List ℕ) → list_any (is_at kind t k) (take (i + 1) rs) ≡ true → n ≤ spare_by after kind t k
 spare_made n before after rs i r lt is had more here kind t k h =
-    made_by n (list_any (is_at kind t k) (take i rs)) (is_at kind t k r) (spare_by after kind t k) (sym (one_more kind t k rs i r lt is) ∙ h)
+    either_by (n ≤ spare_by after kind t k) (list_any (is_at kind t k) (take i rs)) (is_at kind t k r) (sym (one_more kind t k rs i r lt is) ∙ h)
     (λ e. let a = had kind t k e in let b = more kind t k in omega arith)
     (λ e. at_row (λ kind t k. n ≤ spare_by after kind t k) kind t k r e here)
 

@@ -9,6 +9,7 @@ use Rattle.lang_core.specs.Rows.{apply}
 use Rattle.place_order.specs.Labels.{place_in}
 use Rattle.place_order.specs.Rising.{IsBeforeAll, IsRising, is_before}
 use Rattle.versioned_rows.specs.Places.{label_of, rows_after, before, is_other, without, with_place}
+use Rattle.versioned_rows.specs.Versions.{KeptVersions, rows_before_label}
 use Rattle.versioned_rows.specs.declared.places.PlaceWrites.{PlaceWrites}
 use Rattle.entry_rows.specs.Rows.{KeptWrites, rows_made, rows_before, writes_of, label_at}
 
@@ -135,12 +136,13 @@ module _ (order : List ℕ) where
   before_is ps place r = front_from [] ps place r
 
 -- the rows that places make are those of their writes
-pub rows_are : (ps : List PlaceWrites) → rows_after ps ≡ rows_made (writes_of ps)
+pub rows_are : (ps : List PlaceWrites) → rows_after [] ps ≡ rows_made (writes_of ps)
 rows_are ps = sym (fold-map apply (λ (p : PlaceWrites). p.writes) [] ps)
 
 -- the rows before the label at a place are those before the place
-pub rows_seen : (order : List ℕ) (ps : List PlaceWrites) (place : ℕ) (label : Option ℕ) (kept : KeptWrites) → IsRising order (map label_of ps) → label ≡ label_at place ps → writes_of ps ≡ kept.writes
-    → rows_after (before order label ps) ≡ rows_before place kept
-rows_seen order ps place label kept r at same =
-    ap (λ l. rows_after (before order l ps)) at ∙ ap rows_after (before_is order ps place r) ∙ rows_are (take place ps)
-    ∙ ap rows_made (sym (take-map (λ (p : PlaceWrites). p.writes) place ps)) ∙ ap (λ w. rows_made (take place w)) same
+pub rows_seen : (order : List ℕ) (vs : KeptVersions) (place : ℕ) (label : Option ℕ) (kept : KeptWrites) → vs.base ≡ [] → IsRising order (map label_of vs.versions) → label ≡ label_at place vs.versions
+    → writes_of vs.versions ≡ kept.writes → rows_before_label order label vs ≡ rows_before place kept
+rows_seen order vs place label kept bare r at same =
+    ap (λ l. rows_before_label order l vs) at ∙ ap (λ b. rows_after b (before order (label_at place vs.versions) vs.versions)) bare
+    ∙ ap (rows_after []) (before_is order vs.versions place r) ∙ rows_are (take place vs.versions)
+    ∙ ap rows_made (sym (take-map (λ (p : PlaceWrites). p.writes) place vs.versions)) ∙ ap (λ w. rows_made (take place w)) same

@@ -17,17 +17,19 @@ use versioned_rows::Versions;
 pub struct EntryRows {
     // One label for each entry.
     order: Order,
+    // No rows stand before all entries.
     versions: Versions,
 }
 
 impl Model for EntryRows {
+    ghost use Rattle.std.specs.Prelude.{◌≡◌, []};
     ghost use Rattle.entry_rows.specs.Rows.{KeptWrites, IsPlaced, writes_of};
 
     ghost Value = { KeptWrites };
 
     ghost view = { λ r. record { writes = writes_of r.versions.versions; places = r.order.room; copies = r.versions.room } };
 
-    ghost invariant = { λ r. IsPlaced r.order.labels r.versions.versions };
+    ghost invariant = { λ r. IsPlaced r.order.labels r.versions.versions × (r.versions.base ≡ []) };
 }
 
 impl EntryRows {

@@ -9,9 +9,9 @@ use Rattle.lang_core.specs.Rows.{get, apply, cell_place, cell_size, is_beneath, 
 use Rattle.lang_core.specs.declared.cells.Cell.{Cell}
 use Rattle.lang_core.proofs.RowLemmas.{ordered-kept, ordered-apply}
 use Rattle.place_order.specs.Rising.{IsRising}
-use Rattle.versioned_rows.specs.Places.{label_of, rows_after, before, writers}
-use Rattle.versioned_rows.specs.Rows.{row_place, labels_in}
-use Rattle.versioned_rows.specs.Versions.{IsIndexed}
+use Rattle.versioned_rows.specs.Places.{label_of, rows_after, before, is_held, writers}
+use Rattle.versioned_rows.specs.Rows.{row_place, labels_in, has_row}
+use Rattle.versioned_rows.specs.Versions.{IsBased, IsIndexed}
 use Rattle.versioned_rows.specs.Scans.{beneath, is_under, while, cell_at, with_cell, row_cells}
 use Rattle.versioned_rows.specs.declared.rows.Row.{Row}
 use Rattle.versioned_rows.specs.declared.places.PlaceWrites.{PlaceWrites}
@@ -121,15 +121,28 @@ filter_rows t prefix cells (r ∷ rs) =
     ∙ ap (λ l. cond (is_under t prefix r) (with_cell (cell_at cells r) l) l) (filter_rows t prefix cells rs)
     ∙ row_if cells r (filter (is_under t prefix) rs) (is_under t prefix r)
 
-module _ (order : List ℕ) (end : Option ℕ) (ps : List PlaceWrites) (rows : List Row) (indexed : IsIndexed ps rows) (rising : IsRising order (map label_of ps)) where
+nothing_by : {X Y : Type 0} (f : X → Y) (o : Option X) → is_some o ≡ false → option_map f o ≡ None
+nothing_by f None h = refl
+nothing_by f (Some x) h = cc
+
+-- nothing stands before all places at a key without a row
+bare : (base : List Cell) (rows : List Row) (p : Place) → IsBased base rows → find (λ r. same_place (row_place r) p) rows ≡ None → get base p.table p.key ≡ None
+bare base rows p based none = elim (cases_Bool (is_held p.table p.key base)) [
+  | inl e ↦ (let there = based.keys p.table p.key e in
+      let not_there : has_row rows p.table p.key ≡ false = ap (λ o. option_map_or (λ (r : Row). true) o false) none in
+      cc)
+  | inr e ↦ nothing_by (λ (c : Cell). c.text) (find (λ c. same_place (cell_place c) p) base) e
+]
+
+module _ (order : List ℕ) (end : Option ℕ) (base : List Cell) (ps : List PlaceWrites) (rows : List Row) (based : IsBased base rows) (indexed : IsIndexed ps rows) (rising : IsRising order (map label_of ps)) where
   abbrev cells : List Cell
-  cells = rows_after (before order end ps)
+  cells = rows_after base (before order end ps)
 
   no_row : (p : Place) → find (λ r. same_place (row_place r) p) rows ≡ None → at p cells ≡ None
   no_row p none =
       let labels : labels_in rows p.table p.key ≡ [] = ap (λ o. option_map_or (λ (r : Row). r.labels.items) o []) none in
       let wrote : [] ≡ writers p.table p.key ps = sym labels ∙ indexed.each p.table p.key in
-      at_is p cells ∙ ap (option_map (cell_of p)) (get_nothing order end ps p.table p.key indexed.writes rising [] 0 wrote refl refl)
+      at_is p cells ∙ ap (option_map (cell_of p)) (get_nothing order end base ps p.table p.key based.ordered indexed.writes rising [] 0 wrote refl refl ∙ bare base rows p based none)
 
   rows_ordered : (qs : List PlaceWrites) (start : List Cell) → IsOrdered cell_place start → IsOrdered cell_place (fold (λ rows (p : PlaceWrites). apply rows p.writes) start qs)
   rows_ordered [] start o = o
@@ -140,7 +153,7 @@ module _ (order : List ℕ) (end : Option ℕ) (ps : List PlaceWrites) (rows : L
   scan_is t prefix =
       ap (kept_from 0 0) (ap (row_cells cells) (sym (under_together row_place t prefix rows indexed.ordered))
       ∙ sym (filter_rows t prefix cells rows)
-      ∙ ap (filter (is_beneath t prefix)) (cells_are cells rows (rows_ordered (before order end ps) [] tt) indexed.ordered no_row))
+      ∙ ap (filter (is_beneath t prefix)) (cells_are cells rows (rows_ordered (before order end ps) base based.ordered) indexed.ordered no_row))
 
 -- a front of an ordered list is ordered
 front_below : (q : Place) (c : Cell) (xs ys : List Cell) → IsBelowAll cell_place q (xs ++ c ∷ ys) → IsBelowAll cell_place q (xs ++ c ∷ [])

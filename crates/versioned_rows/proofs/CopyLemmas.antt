@@ -3,7 +3,7 @@ use Rattle.std.proofs.Common.{◌≡◌, ℕ, Bool, true, false, cond, List, [],
 use Rattle.std.specs.List.{find, AllZip}
 use Rattle.std.specs.Option.{option_map_or}
 use Rattle.lang_core.specs.Places.{Place, place_of, place_order, same_place, IsBelowAll, IsOrdered}
-use Rattle.versioned_rows.specs.Rows.{row_place, labels_in, IsCopy}
+use Rattle.versioned_rows.specs.Rows.{row_place, labels_in, IsCopy, KeepsRows}
 use Rattle.versioned_rows.specs.declared.rows.Row.{Row}
 
 below_copy : (p : Place) (rs ss : List Row) → AllZip IsCopy rs ss → IsBelowAll row_place p rs → IsBelowAll row_place p ss
@@ -37,3 +37,19 @@ labels_copy (r ∷ rs) (s ∷ ss) z t k =
     copy_by (same_place (row_place r) (place_of t k)) (same_place (row_place s) (place_of t k)) r s
     (find (λ r. same_place (row_place r) (place_of t k)) rs) (find (λ r. same_place (row_place r) (place_of t k)) ss)
     (ap (λ p. same_place p (place_of t k)) z.0.place) z.0.labels (labels_copy rs ss z.1 t k)
+
+has_by : (a b : Bool) (r s : Row) (o q : Option Row) → b ≡ a → (option_map_or (λ _. true) o false ≡ true → option_map_or (λ _. true) q false ≡ true)
+    → option_map_or (λ _. true) (cond a (Some r) o) false ≡ true → option_map_or (λ _. true) (cond b (Some s) q) false ≡ true
+has_by true true r s o q e rest h = refl
+has_by true false r s o q e rest h = cc
+has_by false true r s o q e rest h = refl
+has_by false false r s o q e rest h = rest h
+
+pub rows_copy : (rs ss : List Row) → AllZip IsCopy rs ss → KeepsRows rs ss
+rows_copy [] [] z t k h = h
+rows_copy [] (s ∷ ss) z t k h = absurd z
+rows_copy (r ∷ rs) [] z t k h = absurd z
+rows_copy (r ∷ rs) (s ∷ ss) z t k h =
+    has_by (same_place (row_place r) (place_of t k)) (same_place (row_place s) (place_of t k)) r s
+    (find (λ r. same_place (row_place r) (place_of t k)) rs) (find (λ r. same_place (row_place r) (place_of t k)) ss)
+    (ap (λ p. same_place p (place_of t k)) z.0.place) (rows_copy rs ss z.1 t k) h

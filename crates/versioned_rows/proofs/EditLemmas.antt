@@ -7,7 +7,7 @@ use Rattle.std.proofs.lemmas.List.{set_split}
 use Rattle.lang_core.specs.Places.{Place, place_of, same_place, IsOrdered, set_in, rank, is_taken, past}
 use Rattle.lang_core.proofs.PlaceLemmas.{set_edits, ordered-set}
 use Rattle.lang_core.proofs.ReadLemmas.{find-set_in, place_is, place_same}
-use Rattle.versioned_rows.specs.Rows.{row_place, held, labels_in, spare_of, spare_in}
+use Rattle.versioned_rows.specs.Rows.{row_place, held, labels_in, spare_of, spare_in, has_row, KeepsRows}
 use Rattle.versioned_rows.specs.declared.rows.Row.{Row}
 use Rattle.versioned_rows.proofs.SeekLemmas.{find_some, find_none}
 
@@ -35,6 +35,10 @@ least_if false x y z here there = there
 less_if : (b : Bool) (x y z : ℕ) → (b ≡ true → z ≤ x + 1) → z ≤ y → z ≤ cond b x y + cond b 1 0
 less_if true x y z here there = here refl
 less_if false x y z here there = omega arith
+
+has_if : (b c : Bool) → c ≡ true → cond b true c ≡ true
+has_if true c h = refl
+has_if false c h = h
 
 -- an edit at one key that leaves what was there
 pub edits_nothing : (rows : List Row) (t k labels : List ℕ) → labels_in rows t k ≡ labels → (u v : List ℕ) → labels_in rows u v ≡ cond (same_place (place_of t k) (place_of u v)) labels (labels_in rows u v)
@@ -108,6 +112,12 @@ module _ (rows : List Row) (t k : List ℕ) (at : ℕ) (row : Row) (o : IsOrdere
         let m = less_if (same_place (place_of t k) (place_of u v)) (spare_of new) (spare_in rows u v) (spare_in rows u v) (λ s. let a = at_key rows t k u v s in omega arith) (omega arith) in
         omega arith
 
+    pub set_rows : KeepsRows rows (set rows at new)
+    set_rows u v h = now_held (λ _. true) false u v ∙ has_if (same_place (place_of t k) (place_of u v)) (has_row rows u v) h
+
+    pub set_there : has_row (set rows at new) t k ≡ true
+    set_there = set_rows t k (held_here (λ _. true) false)
+
     pub set_made : (n : ℕ) → n ≤ spare_of new → n ≤ spare_in (set rows at new) t k
     set_made n le =
         let e = set_spare t k ∙ ap (λ b. cond b (spare_of new) (spare_in rows t k)) (place_same (place_of t k) (place_of t k) refl) in
@@ -145,14 +155,20 @@ module _ (rows : List Row) (t k : List ℕ) (at : ℕ) (new : Row) (o : IsOrdere
       let m = least_if (same_place (place_of t k) (place_of u v)) (spare_of new) (spare_in rows u v) (spare_in rows u v) (λ s. let a = at_key rows t k u v s in omega arith) (omega arith) in
       omega arith
 
+  pub new_rows : KeepsRows rows (take at rows ++ new ∷ drop at rows)
+  new_rows u v h = new_held (λ _. true) false u v ∙ has_if (same_place (place_of t k) (place_of u v)) (has_row rows u v) h
+
+  pub new_there : has_row (take at rows ++ new ∷ drop at rows) t k ≡ true
+  new_there = new_held (λ _. true) false t k ∙ ap (λ b. cond b true (has_row rows t k)) (place_same (place_of t k) (place_of t k) refl)
+
   pub new_made : (n : ℕ) → n ≤ spare_of new → n ≤ spare_in (take at rows ++ new ∷ drop at rows) t k
   new_made n le =
       let e = new_held spare_of 0 t k ∙ ap (λ b. cond b (spare_of new) (spare_in rows t k)) (place_same (place_of t k) (place_of t k) refl) in
       omega arith
 
 -- a key with a place for a label has a row
-pub has_row : (rows : List Row) (t k : List ℕ) → IsOrdered row_place rows → 0 < spare_in rows t k → is_taken row_place (place_of t k) rows ≡ true
-has_row rows t k o spare = elim (cases_Bool (is_taken row_place (place_of t k) rows)) [
+pub spare_stands : (rows : List Row) (t k : List ℕ) → IsOrdered row_place rows → 0 < spare_in rows t k → is_taken row_place (place_of t k) rows ≡ true
+spare_stands rows t k o spare = elim (cases_Bool (is_taken row_place (place_of t k) rows)) [
   | inl e ↦ e
   | inr free ↦ (let none : spare_in rows t k ≡ 0 = ap (λ o. option_map_or spare_of o 0) (find_none row_place (place_of t k) rows o free) in absurd (omega arith))
 ]

@@ -137,40 +137,40 @@ abbrev pub text_of : List ℕ → List ℕ → Option PlaceWrites → Option (Li
 text_of t k None = None
 text_of t k (Some p) = written p.writes t k None
 
-module _ (order : List ℕ) (end : Option ℕ) (ps : List PlaceWrites) (t k : List ℕ)
-    (writes : AllByRecursion (λ (p : PlaceWrites). IsOrdered write_place p.writes) ps) (rising : IsRising order (map label_of ps)) where
+module _ (order : List ℕ) (end : Option ℕ) (base : List Cell) (ps : List PlaceWrites) (t k : List ℕ)
+    (ordered : IsOrdered cell_place base) (writes : AllByRecursion (λ (p : PlaceWrites). IsOrdered write_place p.writes) ps) (rising : IsRising order (map label_of ps)) where
   abbrev those : List PlaceWrites
   those = filter (λ p. is_written t k p.writes) (before order end ps)
 
-  read : get (rows_after (before order end ps)) t k ≡ fold (step t k) None those
-  read = get_from t k [] (before order end ps) tt (all_kept (λ (p : PlaceWrites). IsOrdered write_place p.writes) (λ p. is_before order end (label_of p)) ps writes)
-      ∙ by_writers t k (before order end ps) None
+  read : get (rows_after base (before order end ps)) t k ≡ fold (step t k) (get base t k) those
+  read = get_from t k base (before order end ps) ordered (all_kept (λ (p : PlaceWrites). IsOrdered write_place p.writes) (λ p. is_before order end (label_of p)) ps writes)
+      ∙ by_writers t k (before order end ps) (get base t k)
 
   labels_are : map label_of those ≡ filter (is_before order end) (writers t k ps)
   labels_are = ap (map label_of) (filter_filter (λ p. is_written t k p.writes) (λ p. is_before order end (label_of p)) ps)
       ∙ sym (filter-map label_of (is_before order end) (filter (λ p. is_written t k p.writes) ps))
 
-  none_by : (ms : List PlaceWrites) → length (map label_of ms) ≡ 0 → fold (step t k) None ms ≡ None
+  none_by : (ms : List PlaceWrites) → length (map label_of ms) ≡ 0 → fold (step t k) (get base t k) ms ≡ get base t k
   none_by [] h = refl
   none_by (m ∷ ms) h = absurd (omega arith)
 
   -- nothing wrote the key before
-  pub get_none : filter (is_before order end) (writers t k ps) ≡ take 0 (writers t k ps) → get (rows_after (before order end ps)) t k ≡ None
+  pub get_none : filter (is_before order end) (writers t k ps) ≡ take 0 (writers t k ps) → get (rows_after base (before order end ps)) t k ≡ get base t k
   get_none h = read ∙ none_by those (ap length (labels_are ∙ h))
 
   some_by : (ms : List PlaceWrites) (n last : ℕ) → ((m : PlaceWrites) → In m ms → In m ps) → AllByRecursion (λ q. is_written t k q.writes ≡ true) ms
       → length (map label_of ms) ≡ n + 1 → get_or (map label_of ms) n 0 ≡ last
-      → fold (step t k) None ms ≡ text_of t k (find (λ p. nat_eq (label_of p) last) ps)
+      → fold (step t k) (get base t k) ms ≡ text_of t k (find (λ p. nat_eq (label_of p) last) ps)
   some_by [] n last inside all len at = absurd (omega arith)
   some_by (m ∷ ms) n last inside all len at =
       let size : n ≡ length (map label_of ms) = omega arith in
       let is : last ≡ label_of (last_or m ms) = sym at ∙ ap (λ i. get_or (map label_of (m ∷ ms)) i 0) size ∙ last_at (label_of m) (map label_of ms) 0 ∙ last-map label_of m ms in
-      by_last t k m ms None all
+      by_last t k m ms (get base t k) all
       ∙ sym (ap (text_of t k) (ap (λ l. find (λ p. nat_eq (label_of p) l) ps) is ∙ found order ps (last_or m ms) rising (inside (last_or m ms) (last_in m ms))))
 
   -- the last of those that wrote the key before
   pub get_last : (n last : ℕ) → filter (is_before order end) (writers t k ps) ≡ take (n + 1) (writers t k ps) → n + 1 ≤ length (writers t k ps) → get_or (writers t k ps) n 0 ≡ last
-      → get (rows_after (before order end ps)) t k ≡ text_of t k (find (λ p. nat_eq (label_of p) last) ps)
+      → get (rows_after base (before order end ps)) t k ≡ text_of t k (find (λ p. nat_eq (label_of p) last) ps)
   get_last n last h within at =
       let labels = labels_are ∙ h in
       read ∙ some_by those n last
@@ -180,10 +180,10 @@ module _ (order : List ℕ) (end : Option ℕ) (ps : List PlaceWrites) (t k : Li
       (ap (λ l. get_or l n 0) labels ∙ get_or-take (n + 1) (writers t k ps) n 0 (omega arith) ∙ at)
 
   module _ (labels : List ℕ) (n : ℕ) (are : labels ≡ writers t k ps) (count : filter (is_before order end) labels ≡ take n labels) where
-    pub get_nothing : n ≡ 0 → get (rows_after (before order end ps)) t k ≡ None
+    pub get_nothing : n ≡ 0 → get (rows_after base (before order end ps)) t k ≡ get base t k
     get_nothing e = get_none (rw (e, are) at count)
 
-    pub get_found : n ≤ length labels → (n ≡ 0 → ⊥) → get (rows_after (before order end ps)) t k ≡ text_of t k (find (λ p. nat_eq (label_of p) (get_or labels (n - 1) 0)) ps)
+    pub get_found : n ≤ length labels → (n ≡ 0 → ⊥) → get (rows_after base (before order end ps)) t k ≡ text_of t k (find (λ p. nat_eq (label_of p) (get_or labels (n - 1) 0)) ps)
     get_found within some =
         let more : n ≡ (n - 1) + 1 = omega arith in
         let P : ℕ → List ℕ → Type 0 = λ m ls. filter (is_before order end) ls ≡ take m ls in

@@ -1,49 +1,49 @@
--- Places for the labels of the calls for which room was made.
-use Rattle.std.proofs.Common.{◌≡◌, ℕ, ◌+◌, ◌<◌, ◌≤◌, Bool, true, false, cond, List, [], ◌∷◌, ◌++◌, length, get_or, refl, sym, ap, ◌∙◌, arith}
-use Rattle.std.specs.List.{remove}
-use Rattle.std.proofs.lemmas.List.Sums.{count_by-le-length, sum_by-append, sum_by-remove}
+-- Rows of labels have what the calls need for which room was made.
+use Rattle.std.proofs.Common.{◌≡◌, ℕ, ◌+◌, ◌<◌, ◌≤◌, Bool, true, false, cond, List, [], length, get_or, refl, sym, ap, ◌∙◌, subst, arith}
+use Rattle.std.specs.List.{count_by, remove}
+use Rattle.std.proofs.lemmas.List.Sums.{sum_by-remove}
+use Rattle.lang_core.specs.declared.cells.Cell.{Cell}
 use Rattle.lang_core.specs.declared.writes.Write.{Write}
-use Rattle.versioned_rows.specs.Places.{is_written}
-use Rattle.versioned_rows.specs.Rows.{spare_in}
-use Rattle.versioned_rows.specs.Versions.{asked, call_writes, write_call, IsCovered}
+use Rattle.versioned_rows.specs.Places.{is_written, is_held}
+use Rattle.versioned_rows.specs.Versions.{asked, set_by, call_writes, call_cells, write_call, base_call, HaveRows, IsCovered}
 use Rattle.versioned_rows.specs.declared.room.VersionsCall.{VersionsCall}
 use Rattle.versioned_rows.specs.declared.rows.Row.{Row}
 
-plus_none : (n : ℕ) → 0 + n ≡ n
-plus_none n = omega arith
+-- how many pass without one call
+module _ (p : VersionsCall → Bool) (room : List VersionsCall) where
+  counted_less : (place : ℕ) (call : VersionsCall) → place < length room → get_or room place call ≡ call → count_by p (remove room place) + cond (p call) 1 0 ≡ count_by p room
+  counted_less place call lt is =
+      sym (ap (λ c. count_by p (remove room place) + cond (p c) 1 0) is) ∙ sum_by-remove (λ c. cond (p c) 1 0) room place call lt
 
-pub asked_more : (t k : List ℕ) (room : List VersionsCall) (writes : List Write) → asked t k (room ++ write_call writes ∷ []) ≡ asked t k room + cond (is_written t k writes) 1 0
-asked_more t k room writes =
-    let g : VersionsCall → ℕ = λ call. cond (is_written t k (call_writes call)) 1 0 in
-    sum_by-append g room (write_call writes ∷ []) ∙ ap (λ n. asked t k room + n) (plus_none (cond (is_written t k writes) 1 0))
-
--- a call that leaves the room
 pub asked_less : (t k : List ℕ) (room : List VersionsCall) (place : ℕ) (writes : List Write) → place < length room → get_or room place (write_call writes) ≡ write_call writes
     → asked t k (remove room place) + cond (is_written t k writes) 1 0 ≡ asked t k room
-asked_less t k room place writes lt is =
-    let g : VersionsCall → ℕ = λ call. cond (is_written t k (call_writes call)) 1 0 in
-    sym (ap (λ c. asked t k (remove room place) + g c) is) ∙ sum_by-remove g room place (write_call writes) lt
+asked_less t k room place writes lt is = counted_less (λ call. is_written t k (call_writes call)) room place (write_call writes) lt is
+
+-- a call leaves the room
+pub covered_less : (room : List VersionsCall) (rows : List Row) (place : ℕ) (call : VersionsCall) → place < length room → get_or room place call ≡ call → IsCovered room rows → IsCovered (remove room place) rows
+covered_less room rows place call lt is had = record {
+  labels = λ t k. let h = had.labels t k in let e = counted_less (λ call. is_written t k (call_writes call)) room place call lt is in omega arith;
+  keys = λ t k some. had.keys t k (let e = counted_less (λ call. is_held t k (call_cells call)) room place call lt is in omega arith);
+}
+
+pub covered_none : (room : List VersionsCall) (rows : List Row) → room ≡ [] → IsCovered room rows
+covered_none room rows none =
+    let P : List VersionsCall → Type 0 = λ l. IsCovered l rows in
+    subst P (sym none) (record { labels = λ t k. omega arith; keys = λ t k some. absurd (omega arith) })
 
 pub covers_by : (a : Bool) (n m x y : ℕ) → n ≤ m → n ≤ x → x ≤ y → (a ≡ true → m + 1 ≤ y) → n + cond a 1 0 ≤ y
 covers_by true n m x y small had more here = let h = here refl in omega arith
 covers_by false n m x y small had more here = omega arith
 
--- one call more, with places for one label more than there were calls
-pub covered_more : (room : List VersionsCall) (rows after : List Row) (writes : List Write) → IsCovered room rows → ((t k : List ℕ) → spare_in rows t k ≤ spare_in after t k)
-    → ((t k : List ℕ) → is_written t k writes ≡ true → length room + 1 ≤ spare_in after t k) → IsCovered (room ++ write_call writes ∷ []) after
-covered_more room rows after writes had more here t k =
-    let e = asked_more t k room writes in
-    let m = covers_by (is_written t k writes) (asked t k room) (length room) (spare_in rows t k) (spare_in after t k) (count_by-le-length (λ call. is_written t k (call_writes call)) room) (had t k) (more t k) (here t k) in
-    omega arith
-
 pub one_by : (a : Bool) (y : ℕ) → (a ≡ true → 1 ≤ y) → 0 + cond a 1 0 ≤ y
 one_by true y here = here refl
 one_by false y here = omega arith
 
--- places for one label each, where no room is left
-pub spare_one : (rows : List Row) (room : List VersionsCall) (writes : List Write) → room ≡ [] → ((t k : List ℕ) → is_written t k writes ≡ true → 1 ≤ spare_in rows t k)
-    → (t k : List ℕ) → asked t k room + cond (is_written t k writes) 1 0 ≤ spare_in rows t k
-spare_one rows room writes none here t k =
-    let e = ap (asked t k) none in
-    let m = one_by (is_written t k writes) (spare_in rows t k) (here t k) in
-    omega arith
+-- a call's rows have their rows of labels
+pub rows_there : (room : List VersionsCall) (rows : List Row) (place : ℕ) (cells : List Cell) → place < length room → get_or room place (base_call cells) ≡ base_call cells
+    → IsCovered room rows → HaveRows cells rows
+rows_there room rows place cells lt is had t k e =
+    let n : set_by t k (remove room place) + cond (is_held t k cells) 1 0 ≡ set_by t k room = counted_less (λ call. is_held t k (call_cells call)) room place (base_call cells) lt is in
+    let P : Bool → Type 0 = λ b. set_by t k (remove room place) + cond b 1 0 ≡ set_by t k room in
+    let one_more : set_by t k (remove room place) + 1 ≡ set_by t k room = subst P e n in
+    had.keys t k (omega arith)

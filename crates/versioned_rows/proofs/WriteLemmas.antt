@@ -8,7 +8,7 @@ use Rattle.std.proofs.lemmas.List.{get_or_default}
 use Rattle.lang_core.specs.Places.{Place, place_of, place_order, same_place, IsBelowAll, IsOrdered}
 use Rattle.lang_core.specs.Rows.{write_place}
 use Rattle.lang_core.specs.declared.writes.Write.{Write}
-use Rattle.versioned_rows.specs.Places.{is_written}
+use Rattle.versioned_rows.specs.Places.{is_among, is_written}
 use Rattle.versioned_rows.specs.Rows.{labels_in, spare_in, IsEdited}
 use Rattle.versioned_rows.specs.declared.rows.Row.{Row}
 use Rattle.lang_core.proofs.ReadLemmas.{place_is, place_same, same-order}
@@ -25,9 +25,9 @@ order_at (w ∷ ws) i zero d o lt within = absurd (omega arith)
 order_at (w ∷ ws) zero (suc j) d o lt within = below_at (write_place w) ws j d o.0 (omega arith)
 order_at (w ∷ ws) (suc i) (suc j) d o lt within = order_at ws i j d o.1 (omega arith) (omega arith)
 
-pub made_by : (n : ℕ) (a b : Bool) (z : ℕ) → (a || b) ≡ true → (a ≡ true → n ≤ z) → (b ≡ true → n ≤ z) → n ≤ z
-made_by n true b z h f g = f refl
-made_by n false b z h f g = g h
+pub either_by : (P : Type 0) (a b : Bool) → (a || b) ≡ true → (a ≡ true → P) → (b ≡ true → P) → P
+either_by P true b h f g = f refl
+either_by P false b h f g = g h
 
 -- no two writes are at one place
 pub writes_apart : (ws : List Write) (i j : ℕ) (d : Write) → IsOrdered write_place ws → i < j → j < length ws → same_place (write_place (get_or ws i d)) (write_place (get_or ws j d)) ≡ false
@@ -45,9 +45,9 @@ found_more p (x ∷ xs) (suc i) d lt =
     ∙ sym (or_assoc (p x) (is_some (find p (take i xs))) (p (get_or xs i d)))
     ∙ ap (λ b. b || p (get_or xs i d)) (sym (some_if (p x) (is_some (find p (take i xs))) x (find p (take i xs)) refl))
 
-pub written_more : (t k : List ℕ) (ws : List Write) (i : ℕ) (d : Write) → i < length ws
-    → is_written t k (take (i + 1) ws) ≡ (is_written t k (take i ws) || same_place (write_place (get_or ws i d)) (place_of t k))
-written_more t k ws i d lt = rw add-one (found_more (λ w. same_place (write_place w) (place_of t k)) ws i d lt)
+pub among_more : {X : Type 0} (place : X → Place) (t k : List ℕ) (xs : List X) (i : ℕ) (d : X) → i < length xs
+    → is_among place t k (take (i + 1) xs) ≡ (is_among place t k (take i xs) || same_place (place (get_or xs i d)) (place_of t k))
+among_more place t k xs i d lt = rw add-one (found_more (λ x. same_place (place x) (place_of t k)) xs i d lt)
 
 none_in : {X : Type 0} (p : X → Bool) (xs : List X) (i : ℕ) → ((j : ℕ) (d : X) → j < i → j < length xs → p (get_or xs j d) ≡ false) → is_some (find p (take i xs)) ≡ false
 none_in p [] zero h = refl
@@ -80,7 +80,7 @@ module _ (edit : List ℕ → List ℕ) (start before after : List Row) (ws : Li
       → (t k : List ℕ) → labels_in after t k ≡ cond (is_written t k (take (i + 1) ws)) (edit (labels_in start t k)) (labels_in start t k)
   edit_more edited t k =
       let more : is_written t k (take (i + 1) ws) ≡ (is_written t k (take i ws) || same_place (write_place w) (place_of t k)) =
-      written_more t k ws i w lt ∙ ap (λ v. is_written t k (take i ws) || same_place (write_place v) (place_of t k)) (sym is) in
+      among_more write_place t k ws i w lt ∙ ap (λ v. is_written t k (take i ws) || same_place (write_place v) (place_of t k)) (sym is) in
       edited t k ∙ elim (cases_Bool (same_place (write_place w) (place_of t k))) [
         | inl e ↦ (let p : write_place w ≡ place_of t k = place_is (write_place w) (place_of t k) e in
             let now : edit (labels_in before w.table w.key) ≡ edit (labels_in start t k) = ap edit (unedited ∙ ap (λ (q : Place). labels_in start q.table q.key) p) in
@@ -91,7 +91,7 @@ module _ (edit : List ℕ → List ℕ) (start before after : List Row) (ws : Li
 -- and places for labels: one less at each key that is written
 module _ (start before after : List Row) (ws : List Write) (i : ℕ) (w : Write) (lt : i < length ws) (is : w ≡ get_or ws i w) where
   same_more : (t k : List ℕ) → is_written t k (take (i + 1) ws) ≡ (is_written t k (take i ws) || same_place (write_place w) (place_of t k))
-  same_more t k = written_more t k ws i w lt ∙ ap (λ v. is_written t k (take i ws) || same_place (write_place v) (place_of t k)) (sym is)
+  same_more t k = among_more write_place t k ws i w lt ∙ ap (λ v. is_written t k (take i ws) || same_place (write_place v) (place_of t k)) (sym is)
 
   -- where a key is written at most once
   less_by : (a b : Bool) (x y z : ℕ) → x ≤ y + cond a 1 0 → y ≤ z + cond b 1 0 → (b ≡ true → a ≡ false) → x ≤ z + cond (a || b) 1 0
@@ -121,11 +121,13 @@ module _ (start before after : List Row) (ws : List Write) (i : ℕ) (w : Write)
       let more : spare_in start w.table w.key ≤ spare_in before w.table w.key + 0 = subst P none rest in
       omega arith
 
-  -- places for one key more
-  pub spare_made : (n : ℕ) → ((t k : List ℕ) → is_written t k (take i ws) ≡ true → n ≤ spare_in before t k) → ((t k : List ℕ) → spare_in before t k ≤ spare_in after t k) → n ≤ spare_in after w.table w.key
-      → (t k : List ℕ) → is_written t k (take (i + 1) ws) ≡ true → n ≤ spare_in after t k
-  spare_made n had more here t k h =
-      made_by n (is_written t k (take i ws)) (same_place (write_place w) (place_of t k)) (spare_in after t k) (sym (same_more t k) ∙ h)
-      (λ e. let a = had t k e in let b = more t k in omega arith)
-      (λ e. let p : write_place w ≡ place_of t k = place_is (write_place w) (place_of t k) e in
-      let P : Place → Type 0 = λ q. n ≤ spare_in after q.table q.key in subst P p here)
+-- what holds at the keys of the first of these, and at that of the next one
+module _ {X : Type 0} (place : X → Place) (xs : List X) (i : ℕ) (x : X) (lt : i < length xs) (is : x ≡ get_or xs i x) where
+  with_next : (t k : List ℕ) → is_among place t k (take (i + 1) xs) ≡ (is_among place t k (take i xs) || same_place (place x) (place_of t k))
+  with_next t k = among_more place t k xs i x lt ∙ ap (λ y. is_among place t k (take i xs) || same_place (place y) (place_of t k)) (sym is)
+
+  pub keys_more : (P : Place → Type 0) → ((t k : List ℕ) → is_among place t k (take i xs) ≡ true → P (place_of t k)) → P (place x)
+      → (t k : List ℕ) → is_among place t k (take (i + 1) xs) ≡ true → P (place_of t k)
+  keys_more P had here t k h =
+      either_by (P (place_of t k)) (is_among place t k (take i xs)) (same_place (place x) (place_of t k)) (sym (with_next t k) ∙ h)
+      (had t k) (λ e. subst P (place_is (place x) (place_of t k) e) here)

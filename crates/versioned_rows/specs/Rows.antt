@@ -1,5 +1,5 @@
 -- Rows of labels by key.
-use Rattle.std.specs.Prelude.{ℕ, ◌≡◌, ◌-◌, List, [], vec_len, vec_capacity, if◌then◌else◌}
+use Rattle.std.specs.Prelude.{ℕ, ◌≡◌, ◌-◌, Bool, true, false, List, [], vec_len, vec_capacity, if◌then◌else◌}
 use Rattle.std.specs.List.{find}
 use Rattle.std.specs.Option.{option_map_or}
 use Rattle.lang_core.specs.Places.{Place, place_of, same_place}
@@ -22,6 +22,13 @@ labels_in rows t k = held (λ (r : Row). r.labels.items) [] rows t k
 
 abbrev pub spare_in : List Row → List ℕ → List ℕ → ℕ
 spare_in rows t k = held spare_of 0 rows t k
+
+abbrev pub has_row : List Row → List ℕ → List ℕ → Bool
+has_row rows t k = held (λ _. true) false rows t k
+
+-- each key that had a row still has one
+abbrev pub KeepsRows : List Row → List Row → Type 0
+KeepsRows old new = (t k : List ℕ) → has_row old t k ≡ true → has_row new t k ≡ true
 
 -- the row of one key has these labels now, and the others have what they had
 abbrev pub IsEdited : List ℕ → List ℕ → List ℕ → List Row → List Row → Type 0

@@ -1,20 +1,22 @@
 -- What contracts see of versions, and what their rows keep.
-use Rattle.std.specs.Prelude.{ℕ, ◌≡◌, ◌≤◌, List, [], ◌∷◌, false, nat_eq, map, count_by}
+use Rattle.std.specs.Prelude.{ℕ, ◌≡◌, ◌<◌, ◌≤◌, List, [], ◌∷◌, Option, true, false, nat_eq, map, count_by}
 use Rattle.std.specs.List.{AllByRecursion}
 use Rattle.lang_core.specs.Places.{IsOrdered}
-use Rattle.lang_core.specs.Rows.{write_place}
+use Rattle.lang_core.specs.Rows.{cell_place, write_place}
+use Rattle.lang_core.specs.declared.cells.Cell.{Cell}
 use Rattle.lang_core.specs.declared.writes.Write.{Write}
-use Rattle.versioned_rows.specs.Places.{label_of, is_written, writers}
-use Rattle.versioned_rows.specs.Rows.{row_place, labels_in, spare_in}
+use Rattle.versioned_rows.specs.Places.{label_of, rows_after, before, is_written, is_held, writers}
+use Rattle.versioned_rows.specs.Rows.{row_place, labels_in, spare_in, has_row}
 use Rattle.versioned_rows.specs.contracts.room.VersionsCall as call
 use Rattle.versioned_rows.specs.declared.room.VersionsCall.{VersionsCall}
-use Rattle.versioned_rows.specs.declared.room.VersionsCall.TheVariants.{WriteAt}
+use Rattle.versioned_rows.specs.declared.room.VersionsCall.TheVariants.{WriteAt, InsertBase}
 use Rattle.versioned_rows.specs.declared.rows.Row.{Row}
 use Rattle.versioned_rows.specs.declared.places.PlaceWrites.{PlaceWrites}
 use base.Stored.{Coded}
 
--- what each place wrote, in the order of the places, and the calls for which room was made
+-- the rows before all places, what each place wrote, in the order of the places, and the calls for which room was made
 pub record KeptVersions : Type 0 where
+  pub base : List Cell
   pub versions : List PlaceWrites
   pub room : List VersionsCall
 
@@ -26,16 +28,39 @@ call_code = call.the_row.coded
 abbrev pub write_call : List Write → VersionsCall
 write_call writes = WriteAt writes
 
+-- the call that sets these rows before all places
+abbrev pub base_call : List Cell → VersionsCall
+base_call cells = InsertBase cells
+
 abbrev pub call_writes : VersionsCall → List Write
 call_writes (WriteAt writes) = writes
+call_writes (InsertBase cells) = []
+
+abbrev pub call_cells : VersionsCall → List Cell
+call_cells (WriteAt writes) = []
+call_cells (InsertBase cells) = cells
 
 -- how many of these calls write the key
 abbrev pub asked : List ℕ → List ℕ → List VersionsCall → ℕ
 asked t k room = count_by (λ call. is_written t k (call_writes call)) room
 
--- each row has places for the labels of the calls for which room was made
-abbrev pub IsCovered : List VersionsCall → List Row → Type 0
-IsCovered room rows = (t k : List ℕ) → asked t k room ≤ spare_in rows t k
+-- how many of them set a row at the key
+abbrev pub set_by : List ℕ → List ℕ → List VersionsCall → ℕ
+set_by t k room = count_by (λ call. is_held t k (call_cells call)) room
+
+-- the rows of labels have what the calls need for which room was made
+pub record IsCovered (room : List VersionsCall) (rows : List Row) : Type 0 where
+  pub labels : (t k : List ℕ) → asked t k room ≤ spare_in rows t k
+  pub keys : (t k : List ℕ) → 0 < set_by t k room → has_row rows t k ≡ true
+
+-- each key of these cells has a row of labels, which may be empty
+abbrev pub HaveRows : List Cell → List Row → Type 0
+HaveRows cells rows = (t k : List ℕ) → is_held t k cells ≡ true → has_row rows t k ≡ true
+
+-- cells that may stand before all places
+pub record IsBased (base : List Cell) (rows : List Row) : Type 0 where
+  pub ordered : IsOrdered cell_place base
+  pub keys : HaveRows base rows
 
 -- no two of these are equal
 abbrev pub IsApart : List ℕ → Type 0
@@ -48,3 +73,7 @@ pub record IsIndexed (places : List PlaceWrites) (rows : List Row) : Type 0 wher
   pub writes : AllByRecursion (λ (p : PlaceWrites). IsOrdered write_place p.writes) places
   pub ordered : IsOrdered row_place rows
   pub each : (t k : List ℕ) → labels_in rows t k ≡ writers t k places
+
+-- the rows before a label, or after all places where that is the end
+abbrev pub rows_before_label : List ℕ → Option ℕ → KeptVersions → List Cell
+rows_before_label order end kept = rows_after kept.base (before order end kept.versions)

@@ -1,8 +1,10 @@
 //! Versions of rows: what each place of an order wrote, and what is read before a place, without a walk over the places.
+//! Before all places stand base rows, which are none at first.
 //!
 //! Rows of labels, in the order of table and key, are handed on: an index of readers keeps them too.
 #![tactic(auto)]
 
+mod base;
 mod labels;
 mod places;
 mod room;

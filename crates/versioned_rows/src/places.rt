@@ -6,7 +6,7 @@ ghost use Rattle.lang_core.specs.Places.{IsOrdered};
 ghost use Rattle.lang_core.specs.Rows.{written, write_place};
 ghost use Rattle.place_order.specs.Rising.{IsRising};
 ghost use Rattle.versioned_rows.specs.Places.{label_of, is_other, is_written, without, with_place};
-ghost use Rattle.versioned_rows.specs.Rows.{spare_in};
+ghost use Rattle.versioned_rows.specs.Rows.{spare_in, KeepsRows};
 ghost use Rattle.versioned_rows.specs.Versions.{IsIndexed};
 
 use crate::labels::{Labelled, count_before};
@@ -105,6 +105,7 @@ pub(crate) fn take_out(
     ensures places { places.new.items ≡ without label places.old.items }
     ensures indexed { IsIndexed places.new.items rows.new.items }
     ensures spare { (t k : List ℕ) → spare_in rows.old.items t k ≤ spare_in rows.new.items t k }
+    ensures rows { KeepsRows rows.old.items rows.new.items }
     ensures len { vec_len places.new ≤ vec_len places.old }
     ensures capacity { vec_capacity places.new ≡ vec_capacity places.old }
 {
@@ -136,6 +137,7 @@ pub(crate) fn put_in(
     ensures indexed { IsIndexed places.new.items rows.new.items }
     ensures spare { (t k : List ℕ) → spare_in rows.old.items t k
         ≤ spare_in rows.new.items t k + (if is_written t k place.writes then 1 else 0) }
+    ensures rows { KeepsRows rows.old.items rows.new.items }
     ensures len { vec_len places.new ≡ vec_len places.old + 1 }
     ensures capacity { vec_capacity places.old ≤ vec_capacity places.new }
 {

@@ -1,16 +1,18 @@
 // Room for writes to come: a place in the list of places, a place for a label in the row of each key, and a copy.
-ghost use Rattle.std.specs.Prelude.{ℕ, List, ◌≡◌, ◌↔◌, ◌+◌, ◌≤◌, [], ◌∷◌, ◌++◌, None, true, IsTrue, IsSome, IfSome, IfOk, OnOk, OnErr, IsOk, position, vec_len, vec_capacity, if◌then◌else◌};
+ghost use Rattle.std.specs.Prelude.{ℕ, List, ◌≡◌, ◌↔◌, ◌+◌, ◌≤◌, [], ◌∷◌, ◌++◌, Some, None, true, IsTrue, IsSome, IfSome, IfOk, OnOk, OnErr, IsOk, position, vec_len, vec_capacity, if◌then◌else◌};
 ghost use Rattle.lang_base.specs.Equal.{equal};
 ghost use Rattle.call_room.specs.Room.{is_made, spend};
 ghost use Rattle.lang_core.specs.Places.{IsOrdered};
+ghost use Rattle.lang_core.specs.declared.writes.Write.{Write};
 ghost use Rattle.versioned_rows.specs.Places.{is_written};
-ghost use Rattle.versioned_rows.specs.Rows.{row_place, labels_in, spare_in};
+ghost use Rattle.versioned_rows.specs.Rows.{row_place, labels_in, spare_in, KeepsRows};
 ghost use Rattle.versioned_rows.specs.Versions.{asked, call_code, write_call, IsCovered};
+ghost use Rattle.versioned_rows.specs.declared.rows.Row.{Row};
 
 use crate::places::PlaceWrites;
 use crate::rows::{Row, make_rows};
 use call_room::take_room;
-use lang_core::{Copied, NoMemory, Same, Writes};
+use lang_core::{Cells, Copied, NoMemory, Same, Writes};
 use std::alloc::Global;
 
 /// A call of versions that grows them, with the copy that it needs. Room for it is such a call in advance.
@@ -18,6 +20,8 @@ use std::alloc::Global;
 pub enum VersionsCall {
     /// The writes of a place, whichever it is.
     WriteAt { writes: Writes },
+    /// The rows before all places.
+    InsertBase { cells: Cells },
 }
 
 fn is_write(call: &VersionsCall, writes: &Writes) -> bool
@@ -25,6 +29,7 @@ fn is_write(call: &VersionsCall, writes: &Writes) -> bool
 {
     match call {
         VersionsCall::WriteAt { writes: own } => own.is(writes),
+        VersionsCall::InsertBase { .. } => false,
     }
 }
 
@@ -40,11 +45,12 @@ fn room_place(room: &[VersionsCall], writes: &Writes) -> Option<usize>
     room.iter().position(|call| passes(call, writes))
 }
 
-fn writes_of(call: VersionsCall) -> Writes
-    ensures { call ≡ write_call result }
+fn writes_of(call: VersionsCall) -> Option<Writes>
+    ensures { (writes : List Write) → call ≡ write_call writes → result ≡ Some writes }
 {
     match call {
-        VersionsCall::WriteAt { writes } => writes,
+        VersionsCall::WriteAt { writes } => Some(writes),
+        VersionsCall::InsertBase { .. } => None,
     }
 }
 
@@ -55,10 +61,11 @@ fn spend_room(room: &mut Vec<VersionsCall>, writes: &Writes) -> Option<Writes>
     ensures copy { IfSome result (λ copy. copy ≡ writes.now) }
     ensures less { IfSome result (λ _. vec_len room.new + 1 ≡ vec_len room.old) }
     ensures asked { IfSome result (λ _. (t k : List ℕ) → asked t k room.new.items + (if is_written t k writes.now then 1 else 0) ≡ asked t k room.old.items) }
+    ensures covered { (rows : List Row) → IsCovered room.old.items rows → IsCovered room.new.items rows }
     ensures none { result ≡ None → room.new.items ≡ [] }
 {
     match room_place(room, writes) {
-        Some(place) => Some(writes_of(take_room(room, place))),
+        Some(place) => writes_of(take_room(room, place)),
         None => {
             room.clear();
             None
@@ -82,6 +89,7 @@ fn new_writes(
     ensures ordered { IsOrdered row_place rows.new.items }
     ensures each { (t k : List ℕ) → labels_in rows.new.items t k ≡ labels_in rows.old.items t k }
     ensures kept { (t k : List ℕ) → spare_in rows.old.items t k ≤ spare_in rows.new.items t k }
+    ensures rows { KeepsRows rows.old.items rows.new.items }
     ensures spare { OnOk result ((t k : List ℕ) → is_written t k writes.now ≡ true → more ≤ spare_in rows.new.items t k) }
     ensures copy { IfOk result (λ copy. copy ≡ writes.now) }
 {
@@ -104,6 +112,7 @@ pub(crate) fn ready_writes(
     ensures items { places.new.items ≡ places.old.items }
     ensures ordered { IsOrdered row_place rows.new.items }
     ensures each { (t k : List ℕ) → labels_in rows.new.items t k ≡ labels_in rows.old.items t k }
+    ensures rows { KeepsRows rows.old.items rows.new.items }
     ensures ok { OnOk result (room.new.items ≡ room.old.items ++ write_call writes.now ∷ []) }
     ensures err { OnErr result (room.new.items ≡ room.old.items) }
     ensures places { vec_len places.new + vec_len room.new ≤ vec_capacity places.new }
@@ -129,6 +138,7 @@ pub(crate) fn take_writes(
     ensures items { places.new.items ≡ places.old.items }
     ensures ordered { IsOrdered row_place rows.new.items }
     ensures each { (t k : List ℕ) → labels_in rows.new.items t k ≡ labels_in rows.old.items t k }
+    ensures rows { KeepsRows rows.old.items rows.new.items }
     ensures copy { IfOk result (λ copy. copy ≡ writes.now) }
     ensures room { room.new.items ≡ spend call_code (write_call writes.now) room.old.items }
     ensures ready { IsTrue (is_made call_code (write_call writes.now) room.old.items) → IsOk result }

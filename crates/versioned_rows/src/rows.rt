@@ -4,8 +4,8 @@ ghost use Rattle.std.specs.List.{Contains};
 ghost use Rattle.lang_core.specs.Places.{IsOrdered, place_of, same_place};
 ghost use Rattle.lang_core.specs.Rows.{write_place};
 ghost use Rattle.place_order.specs.Rising.{IsRising};
-ghost use Rattle.versioned_rows.specs.Places.{is_written, is_other, with_writer};
-ghost use Rattle.versioned_rows.specs.Rows.{row_place, labels_in, spare_of, spare_in, IsCopy, IsEdited};
+ghost use Rattle.versioned_rows.specs.Places.{is_among, is_written, is_other, with_writer};
+ghost use Rattle.versioned_rows.specs.Rows.{row_place, labels_in, spare_of, spare_in, has_row, IsCopy, IsEdited, KeepsRows};
 
 use crate::labels::count_before;
 use crate::seeking::{seek, seek_bytes};
@@ -85,7 +85,9 @@ pub fn make_row(
     ensures ordered { IsOrdered row_place rows.new.items }
     ensures each { (t k : List ℕ) → labels_in rows.new.items t k ≡ labels_in rows.old.items t k }
     ensures kept { (t k : List ℕ) → spare_in rows.old.items t k ≤ spare_in rows.new.items t k }
+    ensures rows { KeepsRows rows.old.items rows.new.items }
     ensures spare { OnOk result (spare ≤ spare_in rows.new.items table.now key.now) }
+    ensures row { OnOk result (has_row rows.new.items table.now key.now ≡ true) }
 {
     let (at, taken) = seek(rows, table, key);
     if taken {
@@ -110,6 +112,7 @@ pub fn copied_rows(alloc: Global, rows: &[Row]) -> Result<Vec<Row>, NoMemory>
     requires { IsOrdered row_place rows.now }
     ensures ordered { IfOk result (λ copies. IsOrdered row_place copies.items) }
     ensures each { IfOk result (λ copies. (t k : List ℕ) → labels_in copies.items t k ≡ labels_in rows.now t k) }
+    ensures rows { IfOk result (λ copies. KeepsRows rows.now copies.items) }
 {
     let mut copies = Vec::new(alloc);
     for row in rows {
@@ -128,6 +131,7 @@ pub(crate) fn put_label(order: &Order, rows: &mut Vec<Row>, table: &Text, key: &
     ensures edited { IsEdited table.now key.now (with_writer order.now.labels label (labels_in rows.old.items table.now key.now)) rows.old.items rows.new.items }
     ensures spare { (t k : List ℕ) → spare_in rows.old.items t k
         ≤ spare_in rows.new.items t k + (if same_place (place_of table.now key.now) (place_of t k) then 1 else 0) }
+    ensures rows { KeepsRows rows.old.items rows.new.items }
 {
     let (at, _) = seek(rows, table, key);
     let n = count_before(order, &rows[at].labels, Some(label));
@@ -140,6 +144,7 @@ pub fn drop_label(rows: &mut Vec<Row>, table: &Text, key: &Text, label: u64)
     ensures ordered { IsOrdered row_place rows.new.items }
     ensures edited { IsEdited table.now key.now (filter (is_other label) (labels_in rows.old.items table.now key.now)) rows.old.items rows.new.items }
     ensures spare { (t k : List ℕ) → spare_in rows.old.items t k ≤ spare_in rows.new.items t k }
+    ensures rows { KeepsRows rows.old.items rows.new.items }
 {
     let (at, taken) = seek(rows, table, key);
     if taken {
@@ -147,21 +152,23 @@ pub fn drop_label(rows: &mut Vec<Row>, table: &Text, key: &Text, label: u64)
     }
 }
 
-/// Sees to it that each key that these write has a row with places for so many labels more. No label changes.
-pub(crate) fn make_rows(
+/// Sees to it that the key of each of these has a row with places for so many labels more. No label changes.
+pub(crate) fn make_rows<T: Placed>(
     alloc: Global,
     rows: &mut Vec<Row>,
-    writes: &[Write],
+    items: &[T],
     spare: usize,
 ) -> Result<(), NoMemory>
     requires { IsOrdered row_place rows.old.items }
     ensures ordered { IsOrdered row_place rows.new.items }
     ensures each { (t k : List ℕ) → labels_in rows.new.items t k ≡ labels_in rows.old.items t k }
     ensures kept { (t k : List ℕ) → spare_in rows.old.items t k ≤ spare_in rows.new.items t k }
-    ensures spare { OnOk result ((t k : List ℕ) → is_written t k writes.now ≡ true → spare ≤ spare_in rows.new.items t k) }
+    ensures rows { KeepsRows rows.old.items rows.new.items }
+    ensures spare { OnOk result ((t k : List ℕ) → is_among T.place t k items.now ≡ true → spare ≤ spare_in rows.new.items t k) }
+    ensures keys { OnOk result ((t k : List ℕ) → is_among T.place t k items.now ≡ true → has_row rows.new.items t k ≡ true) }
 {
-    for write in writes {
-        make_row(alloc, rows, &write.table, &write.key, spare)?;
+    for item in items {
+        make_row(alloc, rows, item.table(), item.key(), spare)?;
     }
     Ok(())
 }
@@ -178,6 +185,7 @@ pub(crate) fn put_labels(order: &Order, rows: &mut Vec<Row>, writes: &[Write], l
         ≡ (if is_written t k writes.now then with_writer order.now.labels label (labels_in rows.old.items t k) else labels_in rows.old.items t k) }
     ensures spare { (t k : List ℕ) → spare_in rows.old.items t k
         ≤ spare_in rows.new.items t k + (if is_written t k writes.now then 1 else 0) }
+    ensures rows { KeepsRows rows.old.items rows.new.items }
 {
     for write in writes {
         put_label(order, rows, &write.table, &write.key, label);
@@ -192,6 +200,7 @@ pub(crate) fn drop_labels(rows: &mut Vec<Row>, writes: &[Write], label: u64)
     ensures each { (t k : List ℕ) → labels_in rows.new.items t k
         ≡ (if is_written t k writes.now then filter (is_other label) (labels_in rows.old.items t k) else labels_in rows.old.items t k) }
     ensures spare { (t k : List ℕ) → spare_in rows.old.items t k ≤ spare_in rows.new.items t k }
+    ensures rows { KeepsRows rows.old.items rows.new.items }
 {
     for write in writes {
         drop_label(rows, &write.table, &write.key, label);

@@ -9,9 +9,10 @@ ghost use Rattle.versioned_rows.specs.Rows.{row_place};
 ghost use Rattle.versioned_rows.specs.Scans.{is_under, while, cell_at, row_cells};
 ghost use Rattle.call_room.specs.Room.{is_made, spend};
 ghost use Rattle.place_order.specs.Rising.{IsRising};
-ghost use Rattle.versioned_rows.specs.Places.{label_of, rows_after, before, without, with_place};
-ghost use Rattle.versioned_rows.specs.Versions.{call_code, write_call, IsIndexed, IsCovered};
+ghost use Rattle.versioned_rows.specs.Places.{label_of, without, with_place};
+ghost use Rattle.versioned_rows.specs.Versions.{call_code, write_call, base_call, rows_before_label, IsBased, IsIndexed, IsCovered};
 
+use crate::base::{ready_base, take_base, text_in};
 use crate::labels::count_before;
 use crate::places::{PlaceWrites, find_place, position_in, position_of, put_in, take_out, text_at};
 use crate::room::{VersionsCall, ready_writes, take_writes};
@@ -25,27 +26,29 @@ use place_order::Order;
 use std::alloc::Global;
 use std::marker::Model;
 
-/// What each place of an order wrote, which contracts see as the list of the places with their writes, in order, and the
-/// room that was made for calls to come.
+/// What each place of an order wrote, which contracts see as the list of the places with their writes, in order, the rows
+/// before all places, and the room that was made for calls to come.
 ///
 /// The order is the caller's: each call that takes one asks that the labels of the list rise in it.
 #[derive(Drop)]
 pub struct Versions {
+    base: Cells,
     places: Vec<PlaceWrites>,
-    // By table and key. A row stays when its last label goes.
+    // By table and key, those of base rows among them. A row stays when its last label goes.
     rows: Vec<Row>,
     room: Vec<VersionsCall>,
 }
 
 impl Model for Versions {
     ghost use Rattle.std.specs.Prelude.{◌+◌, ◌≤◌, vec_len, vec_capacity};
-    ghost use Rattle.versioned_rows.specs.Versions.{KeptVersions, IsIndexed, IsCovered};
+    ghost use Rattle.versioned_rows.specs.Versions.{KeptVersions, IsBased, IsIndexed, IsCovered};
 
     ghost Value = { KeptVersions };
 
-    ghost view = { λ v. record { versions = v.places.items; room = v.room.items } };
+    ghost view = { λ v. record { base = v.base; versions = v.places.items; room = v.room.items } };
 
     ghost invariant = { λ v. IsIndexed v.places.items v.rows.items
+        × IsBased v.base v.rows.items
         × (vec_len v.places + vec_len v.room ≤ vec_capacity v.places)
         × IsCovered v.room.items v.rows.items };
 }
@@ -93,12 +96,14 @@ fn is_too_much(cells: u64, bytes: u64, key: u64, text: u64) -> bool
 }
 
 impl Versions {
-    /// Versions of no place.
+    /// Versions of no place, with no rows before all places.
     pub fn new(alloc: Global) -> Versions
+        ensures base { result.base ≡ [] }
         ensures versions { result.versions ≡ [] }
         ensures room { result.room ≡ [] }
     {
         Versions {
+            base: Cells::new(alloc),
             places: Vec::new(alloc),
             rows: Vec::new(alloc),
             room: Vec::new(alloc),
@@ -107,11 +112,14 @@ impl Versions {
 
     /// Equal versions, without room.
     pub fn copied(&self, alloc: Global) -> Result<Versions, NoMemory>
-        ensures { IfOk result (λ copy. copy.versions ≡ self.now.versions) }
+        ensures base { IfOk result (λ copy. copy.base ≡ self.now.base) }
+        ensures versions { IfOk result (λ copy. copy.versions ≡ self.now.versions) }
     {
         let places = copied_items(alloc, &self.places)?;
         let rows = copied_rows(alloc, &self.rows)?;
+        let base = self.base.copied(alloc)?;
         Ok(Versions {
+            base,
             places,
             rows,
             room: Vec::new(alloc),
@@ -125,8 +133,8 @@ impl Versions {
         &self.places
     }
 
-    /// The text at a key of a table in the rows that the writes of all places before this one make, or of all places where
-    /// there is none; None exactly where those rows have no such key.
+    /// The text at a key of a table in the rows that the writes of all places before this one make of the base rows, or of
+    /// all places where there is none; None exactly where those rows have no such key.
     pub fn get_before(
         &self,
         order: &Order,
@@ -136,12 +144,12 @@ impl Versions {
     ) -> Option<&Text>
         requires rising { IsRising order.now.labels (map label_of self.now.versions) }
         requires label { ForSome label (Contains order.now.labels) }
-        ensures { option_copied result ≡ get (rows_after (before order.now.labels label self.now.versions)) table.now key.now }
+        ensures { option_copied result ≡ get (rows_before_label order.now.labels label self.now) table.now key.now }
     {
         let labels = labels_in(&self.rows, table, key);
         let n = count_before(order, labels, label);
         if n == 0 {
-            return None;
+            return text_in(self.base.as_slice(), table, key);
         }
         match find_place(order, &self.places, labels[n - 1]) {
             None => None,
@@ -158,7 +166,7 @@ impl Versions {
     ) -> Result<Option<Cell>, NoMemory>
         requires rising { IsRising order.now.labels (map label_of self.now.versions) }
         requires label { ForSome label (Contains order.now.labels) }
-        ensures { IfOk result (λ cell. cell ≡ cell_at (rows_after (before order.now.labels label self.now.versions)) row.now) }
+        ensures { IfOk result (λ cell. cell ≡ cell_at (rows_before_label order.now.labels label self.now) row.now) }
     {
         match self.get_before(order, label, &row.table, &row.key) {
             None => Ok(None),
@@ -179,7 +187,7 @@ impl Versions {
         requires rising { IsRising order.now.labels (map label_of self.now.versions) }
         requires label { ForSome label (Contains order.now.labels) }
         requires rows { IsOrdered row_place rows.now }
-        ensures { IfOk result (λ found. found ≡ kept_from 0 0 (row_cells (rows_after (before order.now.labels label self.now.versions))
+        ensures { IfOk result (λ found. found ≡ kept_from 0 0 (row_cells (rows_before_label order.now.labels label self.now)
             (while (is_under table.now prefix.now) rows.now))) }
     {
         let mut kept = Cells::new(alloc);
@@ -204,8 +212,8 @@ impl Versions {
         Ok(kept)
     }
 
-    /// The cells of a table under a prefix in the rows that the writes of all places before this one make, or of all places
-    /// where there is none: those that `row_scan` gives on these rows.
+    /// The cells of a table under a prefix in the rows that the writes of all places before this one make of the base rows,
+    /// or of all places where there is none: those that `row_scan` gives on these rows.
     pub fn scan_before(
         &self,
         alloc: Global,
@@ -216,7 +224,7 @@ impl Versions {
     ) -> Result<Cells, NoMemory>
         requires rising { IsRising order.now.labels (map label_of self.now.versions) }
         requires label { ForSome label (Contains order.now.labels) }
-        ensures { IfOk result (λ found. found ≡ scan (rows_after (before order.now.labels label self.now.versions)) table.now prefix.now) }
+        ensures { IfOk result (λ found. found ≡ scan (rows_before_label order.now.labels label self.now) table.now prefix.now) }
     {
         let from = seek(&self.rows, table, prefix).0;
         self.scanned(alloc, order, label, table, prefix, &self.rows[from..])
@@ -235,7 +243,7 @@ impl Versions {
     ) -> bool
         requires rising { IsRising order.now.labels (map label_of self.now.versions) }
         requires label { ForSome label (Contains order.now.labels) }
-        ensures { IsTrue result ↔ (found.now ≡ kept_from 0 0 (row_cells (rows_after (before order.now.labels label self.now.versions))
+        ensures { IsTrue result ↔ (found.now ≡ kept_from 0 0 (row_cells (rows_before_label order.now.labels label self.now)
             (while (is_under table.now prefix.now) rows.now))) }
     {
         let mut n = 0;
@@ -272,7 +280,7 @@ impl Versions {
     ) -> bool
         requires rising { IsRising order.now.labels (map label_of self.now.versions) }
         requires label { ForSome label (Contains order.now.labels) }
-        ensures { IsTrue result ↔ (found.now ≡ scan (rows_after (before order.now.labels label self.now.versions)) table.now prefix.now) }
+        ensures { IsTrue result ↔ (found.now ≡ scan (rows_before_label order.now.labels label self.now) table.now prefix.now) }
     {
         let from = seek(&self.rows, table, prefix).0;
         self.agrees(
@@ -288,6 +296,7 @@ impl Versions {
     /// Takes the writes of a place out, if it has some. No other place changes.
     pub fn take_back(&mut self, label: u64)
         ensures versions { self.new.versions ≡ without label self.old.versions }
+        ensures base { self.new.base ≡ self.old.base }
         ensures room { self.new.room ≡ self.old.room }
         ensures rising { (order : List ℕ) → IsRising order (map label_of self.old.versions) → IsRising order (map label_of self.new.versions) }
     {
@@ -310,6 +319,7 @@ impl Versions {
             ≡ with_place order.now.labels (record { label = label; writes = writes.now }) (without label self.old.versions)) }
         ensures rising { OnOk result (IsRising order.now.labels (map label_of self.new.versions)) }
         ensures err { OnErr result (self.new.versions ≡ self.old.versions) }
+        ensures base { self.new.base ≡ self.old.base }
         ensures room { self.new.room ≡ spend call_code (write_call writes.now) self.old.room }
         ensures ready { IsTrue (is_made call_code (write_call writes.now) self.old.room) → IsOk result }
     {
@@ -330,6 +340,7 @@ impl Versions {
     /// Makes room for a `write_at` of these writes, at whichever place.
     pub fn ready_write_at(&mut self, alloc: Global, writes: &Writes) -> Result<(), NoMemory>
         ensures versions { self.new.versions ≡ self.old.versions }
+        ensures base { self.new.base ≡ self.old.base }
         ensures ok { OnOk result (self.new.room ≡ self.old.room ++ write_call writes.now ∷ []) }
         ensures err { OnErr result (self.new.room ≡ self.old.room) }
     {
@@ -339,6 +350,33 @@ impl Versions {
             &mut self.rows,
             &mut self.room,
             writes,
+        )
+    }
+    /// Sets the rows before all places, instead of those that stood there. No place changes. Refused, nothing does.
+    pub fn insert_base(&mut self, alloc: Global, cells: &Cells) -> Result<(), NoMemory>
+        ensures ok { OnOk result (self.new.base ≡ cells.now) }
+        ensures err { OnErr result (self.new.base ≡ self.old.base) }
+        ensures versions { self.new.versions ≡ self.old.versions }
+        ensures room { self.new.room ≡ spend call_code (base_call cells.now) self.old.room }
+        ensures ready { IsTrue (is_made call_code (base_call cells.now) self.old.room) → IsOk result }
+    {
+        self.base = take_base(alloc, &mut self.rows, &mut self.room, cells)?;
+        Ok(())
+    }
+
+    /// Makes room for an `insert_base` of these rows.
+    pub fn ready_insert_base(&mut self, alloc: Global, cells: &Cells) -> Result<(), NoMemory>
+        ensures versions { self.new.versions ≡ self.old.versions }
+        ensures base { self.new.base ≡ self.old.base }
+        ensures ok { OnOk result (self.new.room ≡ self.old.room ++ base_call cells.now ∷ []) }
+        ensures err { OnErr result (self.new.room ≡ self.old.room) }
+    {
+        ready_base(
+            alloc,
+            &mut self.places,
+            &mut self.rows,
+            &mut self.room,
+            cells,
         )
     }
 }

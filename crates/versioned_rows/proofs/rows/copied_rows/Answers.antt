@@ -4,7 +4,7 @@ use Rattle.std.proofs.lemmas.List.Elements.{all_zip_more}
 use Rattle.versioned_rows.specs.Rows.{IsCopy}
 use Rattle.versioned_rows.specs.declared.rows.Row.{Row}
 use Rattle.versioned_rows.proofs.AgreeLemmas.{take_whole}
-use Rattle.versioned_rows.proofs.CopyLemmas.{ordered_copy, labels_copy}
+use Rattle.versioned_rows.proofs.CopyLemmas.{ordered_copy, labels_copy, rows_copy}
 use Rattle.versioned_rows.proofs.rows.copied_rows.Goals as goal
 
 pub loop-row-preserved : goal.loop-row-preserved
@@ -26,3 +26,9 @@ returns-clause-each c =
     let rows = c.args.rows.now in
     let P : List Row → Type 0 = λ l. AllZip IsCopy l c.loop-row.copies.items in
     labels_copy rows c.loop-row.copies.items (subst P (take_whole rows c.loop-row.row-index (omega arith)) c.loop-row.invariant)
+
+pub returns-clause-rows : goal.returns-clause-rows
+returns-clause-rows c =
+    let rows = c.args.rows.now in
+    let P : List Row → Type 0 = λ l. AllZip IsCopy l c.loop-row.copies.items in
+    rows_copy rows c.loop-row.copies.items (subst P (take_whole rows c.loop-row.row-index (omega arith)) c.loop-row.invariant)

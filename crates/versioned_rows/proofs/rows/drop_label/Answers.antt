@@ -5,7 +5,7 @@ use Rattle.lang_core.specs.Places.{place_of, rank, is_taken}
 use Rattle.versioned_rows.specs.Rows.{row_place, labels_in}
 use Rattle.versioned_rows.specs.Places.{is_other}
 use Rattle.versioned_rows.specs.declared.rows.Row.{Row}
-use Rattle.versioned_rows.proofs.EditLemmas.{labels_here, set_ordered, set_labels, set_kept, edits_nothing}
+use Rattle.versioned_rows.proofs.EditLemmas.{labels_here, set_ordered, set_labels, set_kept, set_rows, edits_nothing}
 use Rattle.versioned_rows.proofs.SeekLemmas.{find_none}
 use Rattle.versioned_rows.proofs.rows.drop_label.Goals as goal
 
@@ -36,6 +36,20 @@ returns-then-taken-clause-spare c =
     let is : row ≡ get_or rows at row = c.index_mut.ensures.value in
     let new : Row = record { table = row.table; key = row.key; labels = c.retain.new.self } in
     set_kept rows t k at row c.requires rank_is taken is lt new refl (omega arith)
+
+pub returns-then-taken-clause-rows : goal.returns-then-taken-clause-rows
+returns-then-taken-clause-rows c =
+    let rows = c.args.rows.now.items in
+    let t = c.args.table.now in
+    let k = c.args.key.now in
+    let at = c.seek-at.result.0 in
+    let rank_is : at ≡ rank row_place (place_of t k) rows = rw c.deref.ensures.value at c.seek-at.ensures.rank in
+    let taken : is_taken row_place (place_of t k) rows ≡ true = sym (rw c.deref.ensures.value at c.seek-at.ensures.taken) ∙ c.if-taken.true in
+    let row = c.index_mut.result.now in
+    let lt : at < length rows = omega arith in
+    let is : row ≡ get_or rows at row = c.index_mut.ensures.value in
+    let new : Row = record { table = row.table; key = row.key; labels = c.retain.new.self } in
+    set_rows rows t k at row c.requires rank_is taken is lt new refl
 
 pub returns-then-taken-clause-edited : goal.returns-then-taken-clause-edited
 returns-then-taken-clause-edited c =

@@ -10,4 +10,5 @@ loop-write-preserved c =
       ordered = c.drop_label.ensures.ordered;
       each = edit_more (filter (is_other c.args.label)) c.args.rows.now.items c.loop-write.rows.items c.drop_label.new.rows.items c.args.writes.now c.loop-write.write-index c.write-item.result c.requires.writes lt c.write-item.is c.loop-write.invariant.each c.drop_label.ensures.edited;
       spare = λ t k. let a = c.drop_label.ensures.spare t k in let b = c.loop-write.invariant.spare t k in omega arith;
+      rows = λ t k h. c.drop_label.ensures.rows t k (c.loop-write.invariant.rows t k h);
     }

@@ -6,7 +6,7 @@ use Rattle.versioned_rows.specs.Rows.{row_place, labels_in}
 use Rattle.versioned_rows.specs.Places.{with_writer}
 use Rattle.versioned_rows.specs.declared.rows.Row.{Row}
 use Rattle.versioned_rows.proofs.RisingLemmas.{filter_rest}
-use Rattle.versioned_rows.proofs.EditLemmas.{has_row, labels_here, spare_here, set_ordered, set_labels, set_less, ok_is}
+use Rattle.versioned_rows.proofs.EditLemmas.{spare_stands, labels_here, spare_here, set_ordered, set_labels, set_less, set_rows, ok_is}
 use Rattle.versioned_rows.proofs.rows.put_label.Goals as goal
 
 pub index-requires : goal.index-requires
@@ -16,7 +16,7 @@ index-requires c =
     let k = c.args.key.now in
     let at = c.seek-at.result.0 in
     let rank_is : at ≡ rank row_place (place_of t k) rows = rw c.deref.ensures.value at c.seek-at.ensures.rank in
-    let taken : is_taken row_place (place_of t k) rows ≡ true = has_row rows t k c.requires.ordered c.requires.spare in
+    let taken : is_taken row_place (place_of t k) rows ≡ true = spare_stands rows t k c.requires.ordered c.requires.spare in
     let seen : c.seek-at.result.1 ≡ true = (rw c.deref.ensures.value at c.seek-at.ensures.taken) ∙ taken in
     let lt : at < length rows = (rw c.deref.ensures.value at c.seek-at.ensures.within).there seen in
     omega arith
@@ -28,7 +28,7 @@ index_mut-requires c =
     let k = c.args.key.now in
     let at = c.seek-at.result.0 in
     let rank_is : at ≡ rank row_place (place_of t k) rows = rw c.deref.ensures.value at c.seek-at.ensures.rank in
-    let taken : is_taken row_place (place_of t k) rows ≡ true = has_row rows t k c.requires.ordered c.requires.spare in
+    let taken : is_taken row_place (place_of t k) rows ≡ true = spare_stands rows t k c.requires.ordered c.requires.spare in
     let seen : c.seek-at.result.1 ≡ true = (rw c.deref.ensures.value at c.seek-at.ensures.taken) ∙ taken in
     let lt : at < length rows = (rw c.deref.ensures.value at c.seek-at.ensures.within).there seen in
     omega arith
@@ -40,7 +40,7 @@ count_before-n-requires-clause-rising c =
     let k = c.args.key.now in
     let at = c.seek-at.result.0 in
     let rank_is : at ≡ rank row_place (place_of t k) rows = rw c.deref.ensures.value at c.seek-at.ensures.rank in
-    let taken : is_taken row_place (place_of t k) rows ≡ true = has_row rows t k c.requires.ordered c.requires.spare in
+    let taken : is_taken row_place (place_of t k) rows ≡ true = spare_stands rows t k c.requires.ordered c.requires.spare in
     let seen : c.seek-at.result.1 ≡ true = (rw c.deref.ensures.value at c.seek-at.ensures.taken) ∙ taken in
     let lt : at < length rows = (rw c.deref.ensures.value at c.seek-at.ensures.within).there seen in
     let row = c.index.result.now in
@@ -56,7 +56,7 @@ insert-requires c =
     let k = c.args.key.now in
     let at = c.seek-at.result.0 in
     let rank_is : at ≡ rank row_place (place_of t k) rows = rw c.deref.ensures.value at c.seek-at.ensures.rank in
-    let taken : is_taken row_place (place_of t k) rows ≡ true = has_row rows t k c.requires.ordered c.requires.spare in
+    let taken : is_taken row_place (place_of t k) rows ≡ true = spare_stands rows t k c.requires.ordered c.requires.spare in
     let seen : c.seek-at.result.1 ≡ true = (rw c.deref.ensures.value at c.seek-at.ensures.taken) ∙ taken in
     let lt : at < length rows = (rw c.deref.ensures.value at c.seek-at.ensures.within).there seen in
     let row = c.index_mut.result.now in
@@ -74,7 +74,7 @@ returns-clause-ordered c =
     let k = c.args.key.now in
     let at = c.seek-at.result.0 in
     let rank_is : at ≡ rank row_place (place_of t k) rows = rw c.deref.ensures.value at c.seek-at.ensures.rank in
-    let taken : is_taken row_place (place_of t k) rows ≡ true = has_row rows t k c.requires.ordered c.requires.spare in
+    let taken : is_taken row_place (place_of t k) rows ≡ true = spare_stands rows t k c.requires.ordered c.requires.spare in
     let seen : c.seek-at.result.1 ≡ true = (rw c.deref.ensures.value at c.seek-at.ensures.taken) ∙ taken in
     let lt : at < length rows = (rw c.deref.ensures.value at c.seek-at.ensures.within).there seen in
     let row = c.index_mut.result.now in
@@ -91,7 +91,7 @@ returns-clause-spare c =
     let k = c.args.key.now in
     let at = c.seek-at.result.0 in
     let rank_is : at ≡ rank row_place (place_of t k) rows = rw c.deref.ensures.value at c.seek-at.ensures.rank in
-    let taken : is_taken row_place (place_of t k) rows ≡ true = has_row rows t k c.requires.ordered c.requires.spare in
+    let taken : is_taken row_place (place_of t k) rows ≡ true = spare_stands rows t k c.requires.ordered c.requires.spare in
     let seen : c.seek-at.result.1 ≡ true = (rw c.deref.ensures.value at c.seek-at.ensures.taken) ∙ taken in
     let lt : at < length rows = (rw c.deref.ensures.value at c.seek-at.ensures.within).there seen in
     let row = c.index_mut.result.now in
@@ -112,7 +112,7 @@ returns-clause-edited c =
     let k = c.args.key.now in
     let at = c.seek-at.result.0 in
     let rank_is : at ≡ rank row_place (place_of t k) rows = rw c.deref.ensures.value at c.seek-at.ensures.rank in
-    let taken : is_taken row_place (place_of t k) rows ≡ true = has_row rows t k c.requires.ordered c.requires.spare in
+    let taken : is_taken row_place (place_of t k) rows ≡ true = spare_stands rows t k c.requires.ordered c.requires.spare in
     let seen : c.seek-at.result.1 ≡ true = (rw c.deref.ensures.value at c.seek-at.ensures.taken) ∙ taken in
     let lt : at < length rows = (rw c.deref.ensures.value at c.seek-at.ensures.within).there seen in
     let row = c.index_mut.result.now in
@@ -136,3 +136,18 @@ returns-clause-edited c =
     put ∙ ap (λ l. take n l ++ label ∷ drop n l) (sym labels) ∙ sym (ap (λ f. f ++ label ∷ drop n c.deref-2.result.now) front)
     ∙ sym (ap (λ r. filter (is_before order (Some label)) c.deref-2.result.now ++ label ∷ r) rest) ∙ ap (with_writer order label) same in
     λ u v. rw (← all) (set_labels rows t k at row c.requires.ordered rank_is taken is lt new refl u v)
+
+pub returns-clause-rows : goal.returns-clause-rows
+returns-clause-rows c =
+    let rows = c.args.rows.now.items in
+    let t = c.args.table.now in
+    let k = c.args.key.now in
+    let at = c.seek-at.result.0 in
+    let rank_is : at ≡ rank row_place (place_of t k) rows = rw c.deref.ensures.value at c.seek-at.ensures.rank in
+    let taken : is_taken row_place (place_of t k) rows ≡ true = spare_stands rows t k c.requires.ordered c.requires.spare in
+    let seen : c.seek-at.result.1 ≡ true = (rw c.deref.ensures.value at c.seek-at.ensures.taken) ∙ taken in
+    let lt : at < length rows = (rw c.deref.ensures.value at c.seek-at.ensures.within).there seen in
+    let row = c.index_mut.result.now in
+    let is : row ≡ get_or rows at row = c.index_mut.ensures.value in
+    let new : Row = record { table = row.table; key = row.key; labels = c.insert.new.self } in
+    set_rows rows t k at row c.requires.ordered rank_is taken is lt new refl

@@ -28,4 +28,5 @@ loop-write-preserved c =
       ordered = c.put_label.ensures.ordered;
       each = edit_more (with_writer c.args.order.now.labels c.args.label) c.args.rows.now.items c.loop-write.rows.items c.put_label.new.rows.items ws i w c.requires.writes lt c.write-item.is c.loop-write.invariant.each c.put_label.ensures.edited;
       spare = spare_less c.args.rows.now.items c.loop-write.rows.items c.put_label.new.rows.items ws i w lt c.write-item.is c.requires.writes c.loop-write.invariant.spare c.put_label.ensures.spare;
+      rows = λ t k h. c.put_label.ensures.rows t k (c.loop-write.invariant.rows t k h);
     }

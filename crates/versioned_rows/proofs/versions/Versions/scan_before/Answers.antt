@@ -5,6 +5,7 @@ use Rattle.lang_core.specs.Rows.{kept_from, scan}
 use Rattle.place_order.specs.Rising.{IsRising}
 use Rattle.versioned_rows.specs.Places.{label_of, rows_after, before}
 use Rattle.versioned_rows.specs.Rows.{row_place}
+use Rattle.versioned_rows.specs.Versions.{rows_before_label}
 use Rattle.versioned_rows.specs.Scans.{is_under, while, row_cells}
 use Rattle.versioned_rows.proofs.CellLemmas.{scan_is, slice_from, slice_ordered}
 use Rattle.versioned_rows.proofs.versions.Versions.scan_before.Goals as goal
@@ -19,6 +20,7 @@ returns c =
     let prefix = c.args.prefix.now in
     let order = c.args.order.now.labels in
     let end = c.args.label in
+    let base = c.self.inside.base in
     let ps = c.self.inside.places.items in
     let rows = c.self.inside.rows.items in
     let from = c.seek-from.result.0 in
@@ -26,15 +28,16 @@ returns c =
     let same : c.args.self.now.versions ≡ ps = sym (ap (λ v. v.versions) c.self.view_is) in
     let rising : IsRising order (map label_of ps) = rw same at c.requires.rising in
     let rank_is : from ≡ rank row_place (place_of t prefix) rows = rw c.deref.ensures.value at c.seek-from.ensures.rank in
-    let cells = rows_after (before order end ps) in
+    let cells = rows_after base (before order end ps) in
+    let seen : rows_before_label order end c.args.self.now ≡ cells = sym (ap (rows_before_label order end) c.self.view_is) in
     let is =
-    ap (λ qs. kept_from 0 0 (row_cells (rows_after (before order end qs)) (while (is_under t prefix) (take (length shown - from) (drop from shown))))) same
+    ap (λ cs. kept_from 0 0 (row_cells cs (while (is_under t prefix) (take (length shown - from) (drop from shown))))) seen
     ∙ ap (λ rs. kept_from 0 0 (row_cells cells (while (is_under t prefix) (take (length rs - from) (drop from rs))))) c.deref-2.ensures.value
     ∙ ap (λ rs. kept_from 0 0 (row_cells cells (while (is_under t prefix) rs))) (slice_from rows from)
     ∙ ap (λ n. kept_from 0 0 (row_cells cells (while (is_under t prefix) (drop n rows)))) rank_is
-    ∙ scan_is order end ps rows c.self.invariant.0 rising t prefix
-    ∙ ap (λ qs. scan (rows_after (before order end qs)) t prefix) (sym same) in
+    ∙ scan_is order end base ps rows c.self.invariant.1 c.self.invariant.0 rising t prefix
+    ∙ ap (λ cs. scan cs t prefix) (sym seen) in
     IfOk-weaker c.scanned.result
-    (λ found. found ≡ kept_from 0 0 (row_cells (rows_after (before order end c.args.self.now.versions)) (while (is_under t prefix) (take (length shown - from) (drop from shown)))))
-    (λ found. found ≡ scan (rows_after (before order end c.args.self.now.versions)) t prefix)
+    (λ found. found ≡ kept_from 0 0 (row_cells (rows_before_label order end c.args.self.now) (while (is_under t prefix) (take (length shown - from) (drop from shown)))))
+    (λ found. found ≡ scan (rows_before_label order end c.args.self.now) t prefix)
     (λ found h. h ∙ is) c.scanned.ensures

@@ -1,7 +1,7 @@
 use Rattle.std.proofs.Common.{◌≡◌, ◌<◌, ◌+◌, ◌++◌, ◌∷◌, [], true, false, Some, length, drop, sym, ap, ◌∙◌, arith, length-append}
 use Rattle.lang_core.specs.Rows.{is_over, cell_size, kept_from}
 use Rattle.lang_core.specs.declared.cells.Cell.{Cell}
-use Rattle.versioned_rows.specs.Places.{rows_after, before}
+use Rattle.versioned_rows.specs.Versions.{rows_before_label}
 use Rattle.versioned_rows.specs.Scans.{is_under, while, cell_at, row_cells}
 use Rattle.versioned_rows.proofs.CellLemmas.{next_ordered, last_cell, next_cell, no_cell, kept_ordered}
 use Rattle.versioned_rows.proofs.versions.Versions.scanned.Goals as goal
@@ -11,7 +11,7 @@ pub push-requires : goal.push-requires
 push-requires c =
     let t = c.args.table.now in
     let prefix = c.args.prefix.now in
-    let cells = rows_after (before c.args.order.now.labels c.args.label c.args.self.now.versions) in
+    let cells = rows_before_label c.args.order.now.labels c.args.label c.args.self.now in
     let rows = c.args.rows.now in
     let r = c.row-item.result in
     let i = c.loop-row.row-index in
@@ -27,7 +27,7 @@ pub returns-then-is_too_much : goal.returns-then-is_too_much
 returns-then-is_too_much c =
     let t = c.args.table.now in
     let prefix = c.args.prefix.now in
-    let cells = rows_after (before c.args.order.now.labels c.args.label c.args.self.now.versions) in
+    let cells = rows_before_label c.args.order.now.labels c.args.label c.args.self.now in
     let rows = c.args.rows.now in
     let r = c.row-item.result in
     let i = c.loop-row.row-index in
@@ -48,7 +48,7 @@ pub loop-row-preserved : goal.loop-row-preserved
 loop-row-preserved c =
     let t = c.args.table.now in
     let prefix = c.args.prefix.now in
-    let cells = rows_after (before c.args.order.now.labels c.args.label c.args.self.now.versions) in
+    let cells = rows_before_label c.args.order.now.labels c.args.label c.args.self.now in
     let rows = c.args.rows.now in
     let r = c.row-item.result in
     let i = c.loop-row.row-index in
