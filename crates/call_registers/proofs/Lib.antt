@@ -1,3 +1,4 @@
 pub mod ChangeLemmas
 pub mod ReplyLemmas
 pub mod OverlayLemmas
+pub mod WaitingLemmas

@@ -1,17 +1,14 @@
 -- Registers after changes that are drafted.
-use Rattle.std.proofs.Common.{◌≡◌, ◌∙◌, sym, ap, refl, ℕ, zero, suc, ◌+◌, ◌-◌, ◌<◌, ◌≤◌, ◌≢◌, Bool, true, false, cond, List, [], ◌∷◌, ◌++◌, length, set, get_or, slice_get, Option, Some, None, option_map, find, fold, nat_eq, is_some, arith, subst, drop, add-one, drop-cons, length-append, append_assoc}
+use Rattle.std.proofs.Common.{◌≡◌, ◌∙◌, sym, ap, refl, ℕ, zero, suc, ◌+◌, ◌<◌, ◌≤◌, ◌≢◌, Bool, true, false, cond, List, [], ◌∷◌, ◌++◌, length, set, get_or, slice_get, Option, Some, None, option_map, fold, nat_eq, is_some, arith, subst, drop, add-one, drop-cons, length-append, append_assoc}
 use Rattle.std.specs.Option.{option_or}
 use Rattle.std.proofs.lemmas.Bool.{eqb-true}
 use Rattle.std.proofs.lemmas.Bool.Decides.{nat_tests}
-use Rattle.std.proofs.lemmas.List.{append-nil}
 use Rattle.std.proofs.lemmas.List.Folds.{find-append}
 use Rattle.std.proofs.lemmas.List.Sums.{fold-append}
 use Rattle.lang_base.proofs.EqualLemmas.{nat_same}
 use Rattle.lang_core.specs.declared.request.Request.{Request}
-use Rattle.call_registers.specs.Changes.{change as change_first}
 use Rattle.call_registers.specs.Registers.{has_number, CountFrom, IsNumbered, register, at_number, changed, first_register, next_number, is_newer, with_call}
-use Rattle.call_registers.specs.Overlays.{put, put_all, numbered, numbered_from, overlaid, later}
-use Rattle.call_registers.specs.declared.changes.RegisterChanges.{RegisterChanges}
+use Rattle.call_registers.specs.Overlays.{put, put_all, numbered, numbered_from, later}
 use Rattle.call_registers.specs.declared.register.Register.{Register}
 use Rattle.call_registers.specs.declared.register.Change.{Change}
 use Rattle.call_registers.specs.declared.register.Change.TheVariants.{Send, Ack, Hear, Tell, Hold, Release}

@@ -1,5 +1,6 @@
 pub mod Changes
 pub mod Registers
+pub mod Waiting
 pub mod Rooms
 pub mod Replies
 pub mod Overlays

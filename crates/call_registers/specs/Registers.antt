@@ -1,5 +1,5 @@
 -- Registers: which call has a number, what it consumes, and what each change makes of them.
-use Rattle.std.specs.Prelude.{ℕ, ◌≡◌, ◌+◌, ◌≤◌, Bool, true, List, [], ◌∷◌, ◌++◌, Option, Some, None, IsSome, if◌then◌else◌, nat_eq, nat_lt, max, length, find}
+use Rattle.std.specs.Prelude.{ℕ, ◌≡◌, ◌+◌, Bool, true, List, [], ◌∷◌, ◌++◌, Option, Some, None, IsSome, if◌then◌else◌, nat_eq, nat_lt, max, length, find}
 use Rattle.lang_core.specs.declared.request.Request.{Request}
 use Rattle.lang_core.specs.declared.request.Response.{Response}
 use Rattle.call_registers.specs.Changes.{change, raised}
@@ -116,11 +116,6 @@ changed (Hear answer) r = with_answer answer r
 changed (Tell why) r = with_cause why r
 changed (HoldBack hold) r = with_hold hold r
 changed (Release who) r = released who r
-
--- what registers keep: numbers in order, and places for the calls for which room was made
-pub record IsKept (registers : List Register) (taken places : ℕ) : Type 0 where
-  pub numbered : IsNumbered registers
-  pub room : taken ≤ places
 
 -- ---- room
 

@@ -1,7 +1,7 @@
 // Calls of registers that grow them.
-ghost use Rattle.std.specs.Prelude.{◌≡◌, ◌+◌, ◌≤◌, ◌<◌, OnOk, vec_len, vec_capacity};
+ghost use Rattle.std.specs.Prelude.{◌≡◌, ◌+◌, ◌≤◌, ◌<◌, length, OnOk, vec_len, vec_capacity};
 
-use crate::register::Register;
+use crate::register_list::RegisterList;
 use lang_core::{Name, NoMemory, Request, Text};
 
 /// A call of registers that grows them, with the copies that it needs. Room for it is such a call in advance.
@@ -24,15 +24,14 @@ pub enum RegistersCall {
 
 /// A place for one more call, and one for one more register beside those for which there is room.
 pub(crate) fn make_place(
-    list: &mut Vec<Register>,
+    list: &mut RegisterList,
     room: &mut Vec<RegistersCall>,
 ) -> Result<(), NoMemory>
-    ensures list { list.new.items ≡ list.old.items }
-    ensures list_len { vec_len list.new ≡ vec_len list.old }
+    ensures list { list.new.list ≡ list.old.list }
+    ensures places { list.old.places ≤ list.new.places }
     ensures room { room.new.items ≡ room.old.items }
     ensures room_len { vec_len room.new ≡ vec_len room.old }
-    ensures capacity { vec_capacity list.old ≤ vec_capacity list.new }
-    ensures fits { OnOk result (vec_len list.new + vec_len room.new + 1 ≤ vec_capacity list.new) }
+    ensures fits { OnOk result (length list.new.list + vec_len room.new + 1 ≤ list.new.places) }
     ensures place { OnOk result (vec_len room.new < vec_capacity room.new) }
 {
     list.reserve(room.len() + 1)?;

@@ -6,6 +6,7 @@
 mod calls;
 mod changes;
 mod register;
+mod register_list;
 mod registers;
 mod replaces;
 mod replies;

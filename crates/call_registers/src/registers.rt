@@ -3,79 +3,39 @@ ghost use Rattle.std.specs.Prelude.{◌≡◌, ◌+◌, ◌<◌, ◌≤◌, [], 
 ghost use Rattle.std.specs.Option.{option_copied};
 ghost use Rattle.call_room.specs.Room.{is_made, spend};
 ghost use Rattle.call_registers.specs.Registers.{register, IsThere, IsNumbered, consumed, answer_to, next_number, with_call, at_number, sent_anew, with_ack, with_answer, with_cause, with_hold, released, changed, want_call, replace_call};
-ghost use Rattle.call_registers.specs.Overlays.{overlaid, put, put_all, numbered_from};
+ghost use Rattle.call_registers.specs.Overlays.{overlaid, put_all, numbered_from};
 ghost use Rattle.call_registers.specs.Rooms.{call_code};
+ghost use Rattle.call_registers.specs.Waiting.{AreWaiting};
 ghost use Rattle.call_registers.specs.declared.register.Change.{Change};
 
 use crate::calls::RegistersCall;
 use crate::changes::RegisterChanges;
-use crate::register::{Answer, Change, Hold, Register, Why, apply};
+use crate::register::{Answer, Change, Hold, Register, Why};
+use crate::register_list::RegisterList;
 use crate::replaces::{make_replace, ready_replace, take_replace};
 use crate::wants::{make_want, ready_want, take_want};
-use lang_base::copied_items;
+use age_queue::AgeKey;
 use lang_core::{Name, NoMemory, Request, Response, Text};
 use std::alloc::Global;
 use std::marker::Model;
 
-/// The registers of a service, in the order of their numbers, which are 1, 2, 3 and so on, with spare room for more.
+/// The registers of a service, in the order of their numbers, which are 1, 2, 3 and so on, with spare room for more. Of those
+/// whose last version isn't acknowledged it keeps the order by receiver and age.
 #[derive(Drop)]
 pub struct Registers {
-    list: Vec<Register>,
+    list: RegisterList,
     room: Vec<RegistersCall>,
 }
 
 impl Model for Registers {
-    ghost use Rattle.std.specs.Prelude.{◌+◌, ◌-◌, vec_len, vec_capacity};
-    ghost use Rattle.call_registers.specs.Registers.{KeptRegisters, IsKept};
+    ghost use Rattle.std.specs.Prelude.{◌+◌, ◌-◌, ◌≤◌, length, vec_len};
+    ghost use Rattle.call_registers.specs.Registers.{KeptRegisters};
 
     ghost Value = { KeptRegisters };
 
-    ghost view = { λ r. record { list = r.list.items; room = r.room.items; spare = vec_capacity r.list - (vec_len r.list + vec_len r.room) } };
+    ghost view = { λ r. record { list = r.list.list; room = r.room.items; spare = r.list.places - (length r.list.list + vec_len r.room) } };
 
-    ghost invariant = { λ r. IsKept r.list.items (vec_len r.list + vec_len r.room) (vec_capacity r.list) };
-}
-
-fn item_at(list: &[Register], place: usize) -> Option<&Register>
-    ensures { option_copied result ≡ slice_get list.now place }
-{
-    list.get(place)
-}
-
-fn find_in(list: &[Register], number: u64) -> Option<&Register>
-    requires { IsNumbered list.now }
-    ensures { option_copied result ≡ register number list.now }
-{
-    if number == 0 {
-        return None;
-    }
-    item_at(list, (number - 1) as usize)
-}
-
-fn place_of(list: &[Register], number: u64) -> usize
-    requires numbered { IsNumbered list.now }
-    requires there { IsThere number list.now }
-    ensures place { result + 1 ≡ number }
-    ensures within { result < length list.now }
-{
-    (number - 1) as usize
-}
-
-fn change_in(list: &mut Vec<Register>, number: u64, change: Change)
-    requires numbered { IsNumbered list.old.items }
-    requires there { IsThere number list.old.items }
-    ensures items { list.new.items ≡ at_number number (changed change) list.old.items }
-    ensures numbered { IsNumbered list.new.items }
-    ensures len { vec_len list.new ≡ vec_len list.old }
-    ensures capacity { vec_capacity list.new ≡ vec_capacity list.old }
-{
-    let place = place_of(list, number);
-    apply(&mut list[place], change);
-}
-
-fn next_number(list: &[Register]) -> u64
-    ensures { result ≡ next_number list.now }
-{
-    list.len() as u64 + 1
+    ghost invariant = { λ r. length r.list.list + vec_len r.room ≤ r.list.places };
 }
 
 pub(crate) fn new_register(
@@ -112,55 +72,30 @@ pub(crate) fn new_register(
     }
 }
 
-fn is_there(list: &[Register], number: u64) -> bool
-    requires { IsNumbered list.now }
-    ensures { result ≡ is_some (register number list.now) }
-{
-    find_in(list, number).is_some()
-}
-
-// A register stands in place of the one of its number, where there is one.
-fn put(list: &mut Vec<Register>, register: Register)
-    requires { IsNumbered list.old.items }
-    ensures items { list.new.items ≡ put list.old.items register }
-    ensures numbered { IsNumbered list.new.items }
-    ensures len { vec_len list.new ≡ vec_len list.old }
-    ensures capacity { vec_capacity list.new ≡ vec_capacity list.old }
-{
-    if is_there(list, register.number) {
-        let place = place_of(list, register.number);
-        list[place] = register;
-    }
-}
-
-fn put_all(list: &mut Vec<Register>, changed: Vec<Register>)
-    requires { IsNumbered list.old.items }
-    ensures items { list.new.items ≡ put_all changed.items list.old.items }
-    ensures numbered { IsNumbered list.new.items }
-    ensures len { vec_len list.new ≡ vec_len list.old }
-    ensures capacity { vec_capacity list.new ≡ vec_capacity list.old }
+fn put_all(list: &mut RegisterList, changed: Vec<Register>)
+    ensures list { list.new.list ≡ put_all changed.items list.old.list }
+    ensures len { length list.new.list ≡ length list.old.list }
+    ensures places { list.old.places ≤ list.new.places }
 {
     let mut rest = changed;
     while !rest.is_empty() {
         let register = rest.remove(0);
-        put(list, register);
+        list.put(register);
     }
 }
 
 // Puts new registers last, with the numbers that come next.
-fn add_all(list: &mut Vec<Register>, added: Vec<Register>)
-    requires numbered { IsNumbered list.old.items }
-    requires room { vec_len list.old + vec_len added ≤ vec_capacity list.old }
-    ensures items { list.new.items ≡ list.old.items ++ numbered_from (next_number list.old.items) added.items }
-    ensures numbered { IsNumbered list.new.items }
-    ensures len { vec_len list.new ≡ vec_len list.old + vec_len added }
-    ensures capacity { vec_capacity list.new ≡ vec_capacity list.old }
+fn add_all(list: &mut RegisterList, added: Vec<Register>)
+    requires { length list.old.list + vec_len added ≤ list.old.places }
+    ensures list { list.new.list ≡ list.old.list ++ numbered_from (next_number list.old.list) added.items }
+    ensures len { length list.new.list ≡ length list.old.list + vec_len added }
+    ensures places { list.old.places ≤ list.new.places }
 {
     let mut rest = added;
     while !rest.is_empty() {
         let mut register = rest.remove(0);
-        register.number = next_number(list);
-        list.push_reserved(register);
+        register.number = list.next_number();
+        list.push(register);
     }
 }
 
@@ -171,7 +106,7 @@ impl Registers {
         ensures room { result.room ≡ [] }
     {
         Registers {
-            list: Vec::new(alloc),
+            list: RegisterList::new(alloc),
             room: Vec::new(alloc),
         }
     }
@@ -188,14 +123,23 @@ impl Registers {
     pub fn len(&self) -> u64
         ensures { result ≡ length self.now.list }
     {
-        self.list.len() as u64
+        self.list.len()
     }
 
     /// The register of a number; None exactly where there is none.
     pub fn get(&self, number: u64) -> Option<&Register>
         ensures { option_copied result ≡ register number self.now.list }
     {
-        find_in(&self.list, number)
+        self.list.get(number)
+    }
+
+    /// The keys of the calls to this service whose last version isn't acknowledged, the oldest first, found by halves. Those to
+    /// another service are among them where the names of both have one key.
+    pub fn waiting(&self, dest: &Name) -> &[AgeKey]
+        ensures waiting { AreWaiting dest.now self.now.list result.now }
+        ensures numbered { IsNumbered self.now.list }
+    {
+        self.list.waiting(dest)
     }
 
     /// The answer that a call consumes: the one that is held, where it answers the call's version. None is the tentative
@@ -214,7 +158,7 @@ impl Registers {
         ensures list { self.new.list ≡ at_number number (changed change) self.old.list }
         ensures room { self.new.room ≡ self.old.room }
     {
-        change_in(&mut self.list, number, change);
+        self.list.change(number, change);
     }
 
     /// Notes why a call that is there goes on without an answer.
@@ -309,10 +253,10 @@ impl Registers {
         ensures ready { IsTrue (is_made call_code (want_call dest.now request.now since) self.old.room) → IsOk result }
     {
         make_want(&mut self.list, &mut self.room, alloc, dest, request, since)?;
-        let number = next_number(&self.list);
+        let number = self.list.next_number();
         let (dest, request, repair_who) = take_want(&mut self.room, dest, request, since);
         let register = new_register(number, dest, request, repair_who, since);
-        self.list.push_reserved(register);
+        self.list.push(register);
         Ok(number)
     }
 
@@ -401,7 +345,7 @@ impl Registers {
     pub fn copied(&self, alloc: Global) -> Result<Registers, NoMemory>
         ensures { IfOk result (λ copy. copy.list ≡ self.now.list) }
     {
-        let list = copied_items(alloc, &self.list)?;
+        let list = self.list.copied(alloc)?;
         Ok(Registers {
             list,
             room: Vec::new(alloc),

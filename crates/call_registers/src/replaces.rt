@@ -1,12 +1,12 @@
 // Room for other requests of calls.
-ghost use Rattle.std.specs.Prelude.{◌≡◌, ◌↔◌, ◌+◌, ◌≤◌, [], ◌∷◌, ◌++◌, IsTrue, IfOk, OnOk, OnErr, IsOk, position, vec_len, vec_capacity};
+ghost use Rattle.std.specs.Prelude.{◌≡◌, ◌↔◌, ◌+◌, ◌≤◌, [], ◌∷◌, ◌++◌, IsTrue, IfOk, OnOk, OnErr, IsOk, length, position, vec_len};
 ghost use Rattle.lang_base.specs.Equal.{equal};
 ghost use Rattle.call_room.specs.Room.{is_made, spend};
 ghost use Rattle.call_registers.specs.Registers.{replace_call};
 ghost use Rattle.call_registers.specs.Rooms.{call_code};
 
 use crate::calls::{RegistersCall, make_place};
-use crate::register::Register;
+use crate::register_list::RegisterList;
 use call_room::take_room;
 use lang_core::{Copied, NoMemory, Request, Same};
 use std::alloc::Global;
@@ -61,18 +61,18 @@ fn replace_call(
 
 /// Makes room for another request of a call: a copy.
 pub(crate) fn ready_replace(
-    list: &mut Vec<Register>,
+    list: &mut RegisterList,
     room: &mut Vec<RegistersCall>,
     alloc: Global,
     number: u64,
     request: &Request,
     since: u64,
 ) -> Result<(), NoMemory>
-    requires { vec_len list.old + vec_len room.old ≤ vec_capacity list.old }
-    ensures list { list.new.items ≡ list.old.items }
+    requires { length list.old.list + vec_len room.old ≤ list.old.places }
+    ensures list { list.new.list ≡ list.old.list }
     ensures ok { OnOk result (room.new.items ≡ room.old.items ++ replace_call number request.now since ∷ []) }
     ensures err { OnErr result (room.new.items ≡ room.old.items) }
-    ensures fits { vec_len list.new + vec_len room.new ≤ vec_capacity list.new }
+    ensures fits { length list.new.list + vec_len room.new ≤ list.new.places }
 {
     make_place(list, room)?;
     let call = replace_call(alloc, number, request, since)?;
@@ -82,20 +82,20 @@ pub(crate) fn ready_replace(
 
 /// Sees to it that there is room for another request of a call. Where none was made, all other room goes.
 pub(crate) fn make_replace(
-    list: &mut Vec<Register>,
+    list: &mut RegisterList,
     room: &mut Vec<RegistersCall>,
     alloc: Global,
     number: u64,
     request: &Request,
     since: u64,
 ) -> Result<(), NoMemory>
-    requires { vec_len list.old + vec_len room.old ≤ vec_capacity list.old }
-    ensures list { list.new.items ≡ list.old.items }
+    requires { length list.old.list + vec_len room.old ≤ list.old.places }
+    ensures list { list.new.list ≡ list.old.list }
     ensures made { OnOk result (IsTrue (is_made call_code (replace_call number request.now since) room.new.items)) }
     ensures left { OnOk result (spend call_code (replace_call number request.now since) room.new.items ≡ spend call_code (replace_call number request.now since) room.old.items) }
     ensures err { OnErr result (room.new.items ≡ spend call_code (replace_call number request.now since) room.old.items) }
     ensures ready { IsTrue (is_made call_code (replace_call number request.now since) room.old.items) → IsOk result }
-    ensures fits { vec_len list.new + vec_len room.new ≤ vec_capacity list.new }
+    ensures fits { length list.new.list + vec_len room.new ≤ list.new.places }
 {
     if has_replace(room, number, request, since) {
         return Ok(());

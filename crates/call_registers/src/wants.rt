@@ -1,12 +1,12 @@
 // Room for new calls.
-ghost use Rattle.std.specs.Prelude.{◌≡◌, ◌↔◌, ◌+◌, ◌≤◌, [], ◌∷◌, ◌++◌, IsTrue, IfOk, OnOk, OnErr, IsOk, position, vec_len, vec_capacity};
+ghost use Rattle.std.specs.Prelude.{◌≡◌, ◌↔◌, ◌+◌, ◌≤◌, [], ◌∷◌, ◌++◌, IsTrue, IfOk, OnOk, OnErr, IsOk, length, position, vec_len};
 ghost use Rattle.lang_base.specs.Equal.{equal};
 ghost use Rattle.call_room.specs.Room.{is_made, spend};
 ghost use Rattle.call_registers.specs.Registers.{want_call};
 ghost use Rattle.call_registers.specs.Rooms.{call_code};
 
 use crate::calls::{RegistersCall, make_place};
-use crate::register::Register;
+use crate::register_list::RegisterList;
 use call_room::take_room;
 use lang_core::{Copied, Name, NoMemory, Request, Same, Text};
 use repair_messages::copied_pair;
@@ -70,18 +70,18 @@ fn want_call(
 
 /// Makes room for a new call: a place, and copies.
 pub(crate) fn ready_want(
-    list: &mut Vec<Register>,
+    list: &mut RegisterList,
     room: &mut Vec<RegistersCall>,
     alloc: Global,
     dest: &Name,
     request: &Request,
     since: u64,
 ) -> Result<(), NoMemory>
-    requires { vec_len list.old + vec_len room.old ≤ vec_capacity list.old }
-    ensures list { list.new.items ≡ list.old.items }
+    requires { length list.old.list + vec_len room.old ≤ list.old.places }
+    ensures list { list.new.list ≡ list.old.list }
     ensures ok { OnOk result (room.new.items ≡ room.old.items ++ want_call dest.now request.now since ∷ []) }
     ensures err { OnErr result (room.new.items ≡ room.old.items) }
-    ensures fits { vec_len list.new + vec_len room.new ≤ vec_capacity list.new }
+    ensures fits { length list.new.list + vec_len room.new ≤ list.new.places }
 {
     make_place(list, room)?;
     let call = want_call(alloc, dest, request, since)?;
@@ -91,20 +91,20 @@ pub(crate) fn ready_want(
 
 /// Sees to it that there is room for a new call. Where none was made, all other room goes.
 pub(crate) fn make_want(
-    list: &mut Vec<Register>,
+    list: &mut RegisterList,
     room: &mut Vec<RegistersCall>,
     alloc: Global,
     dest: &Name,
     request: &Request,
     since: u64,
 ) -> Result<(), NoMemory>
-    requires { vec_len list.old + vec_len room.old ≤ vec_capacity list.old }
-    ensures list { list.new.items ≡ list.old.items }
+    requires { length list.old.list + vec_len room.old ≤ list.old.places }
+    ensures list { list.new.list ≡ list.old.list }
     ensures made { OnOk result (IsTrue (is_made call_code (want_call dest.now request.now since) room.new.items)) }
     ensures left { OnOk result (spend call_code (want_call dest.now request.now since) room.new.items ≡ spend call_code (want_call dest.now request.now since) room.old.items) }
     ensures err { OnErr result (room.new.items ≡ spend call_code (want_call dest.now request.now since) room.old.items) }
     ensures ready { IsTrue (is_made call_code (want_call dest.now request.now since) room.old.items) → IsOk result }
-    ensures fits { vec_len list.new + vec_len room.new ≤ vec_capacity list.new }
+    ensures fits { length list.new.list + vec_len room.new ≤ list.new.places }
 {
     if has_want(room, dest, request, since) {
         return Ok(());

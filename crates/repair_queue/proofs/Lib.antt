@@ -1,2 +1,3 @@
 pub mod FoldLemmas
+mod FirstLemmas
 mod QueueLemmas

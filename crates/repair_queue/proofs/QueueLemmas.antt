@@ -96,14 +96,13 @@ oldest_is (p ∷ ps) (Some name) e =
 
 -- ---- the code's way there
 
-pub next_is : (rs registers : List Register) (ps replies : List Reply) (awaited dest : List ℕ) (call first : Option Aged) (name : Option PostName) → rs ≡ registers → ps ≡ replies
-    → call ≡ fold (with_call awaited dest) None rs → first ≡ fold (with_reply dest) call ps → name ≡ option_map (λ (p : Aged). p.name) first
+pub next_is : (registers : List Register) (ps replies : List Reply) (awaited dest : List ℕ) (call first : Option Aged) (name : Option PostName) → ps ≡ replies
+    → call ≡ fold (with_call awaited dest) None registers → first ≡ fold (with_reply dest) call ps → name ≡ option_map (λ (p : Aged). p.name) first
     → name ≡ first_name (outstanding registers replies awaited dest)
-next_is rs registers ps replies awaited dest call first name same_rs same_ps of_calls of_replies of_first =
+next_is registers ps replies awaited dest call first name same_ps of_calls of_replies of_first =
     of_first
     ∙ ap (option_map (λ (p : Aged). p.name))
     (of_replies
     ∙ ap (λ o. fold (with_reply dest) o ps) of_calls
-    ∙ ap (λ qs. fold (with_reply dest) (fold (with_call awaited dest) None rs) qs) same_ps
-    ∙ ap (λ qs. fold (with_reply dest) (fold (with_call awaited dest) None qs) replies) same_rs
+    ∙ ap (λ qs. fold (with_reply dest) (fold (with_call awaited dest) None registers) qs) same_ps
     ∙ walk_is registers replies awaited dest)

@@ -1,6 +1,10 @@
--- The oldest post, by what stands beside it, and by a walk over registers and replies.
-use Rattle.std.specs.Prelude.{ℕ, ◌≡◌, ◌≤◌, List, Option, All, Contains, if◌then◌else◌, option_map}
+-- The oldest post, by what stands beside it, and by a walk over registers and replies; which keys of calls are outstanding.
+use Rattle.std.specs.Prelude.{ℕ, ◌≡◌, ◌≤◌, Bool, false, List, Option, All, Contains, if◌then◌else◌, option_map}
+use Rattle.std.specs.Option.{option_map_or}
+use Rattle.age_queue.specs.declared.keys.AgeKey.{AgeKey}
 use Rattle.repair_messages.specs.declared.posts.PostName.{PostName}
+use Rattle.repair_messages.specs.declared.posts.PostName.TheVariants.{Call}
+use Rattle.call_registers.specs.Registers.{register}
 use Rattle.call_registers.specs.declared.register.Register.{Register}
 use Rattle.call_registers.specs.declared.reply.Reply.{Reply}
 use Rattle.service_meaning.specs.Posts.{Aged, aged_call, aged_reply, is_owed, is_unacknowledged, older, oldest}
@@ -23,3 +27,13 @@ with_call awaited dest first r = if is_unacknowledged awaited dest r then older 
 
 abbrev pub with_reply : List ℕ → Option Aged → Reply → Option Aged
 with_reply dest first p = if is_owed dest p then older first (aged_reply p) else first
+
+-- ---- by keys
+
+-- the call of a number is outstanding
+abbrev pub goes_out : List ℕ → List ℕ → List Register → ℕ → Bool
+goes_out awaited dest registers number = option_map_or (is_unacknowledged awaited dest) (register number registers) false
+
+-- the post of the call of a key
+abbrev pub aged_key : AgeKey → Aged
+aged_key k = record { name = Call k.number; since = k.since }

@@ -1,11 +1,14 @@
 // The oldest post that is outstanding.
-ghost use Rattle.std.specs.Prelude.{◌≡◌, ◌↔◌, [], None, IfSome, fold, map, option_map};
+ghost use Rattle.std.specs.Prelude.{◌≡◌, ◌↔◌, [], None, IfSome, find, fold, map, option_map};
+ghost use Rattle.std.specs.Option.{option_copied};
 ghost use Rattle.service_meaning.specs.Flying.{awaited};
 ghost use Rattle.service_meaning.specs.Posts.{Aged as OldPost, older, outstanding};
-ghost use Rattle.repair_queue.specs.Queue.{IsOldest, first_name, with_call, with_reply};
+ghost use Rattle.age_queue.specs.declared.keys.AgeKey.{AgeKey as Key};
+ghost use Rattle.repair_queue.specs.Queue.{IsOldest, first_name, goes_out, with_call, with_reply};
 
-use crate::outstanding::{Aged, aged_call, aged_reply, is_owed, is_unacknowledged};
-use call_registers::{Register, Registers, Replies, Reply};
+use crate::outstanding::{Aged, aged_key, aged_reply, is_owed, is_unacknowledged};
+use age_queue::AgeKey;
+use call_registers::{Registers, Replies, Reply};
 use flights::Flight;
 use lang_core::Name;
 use repair_messages::PostName;
@@ -25,21 +28,6 @@ fn older(first: Option<Aged>, post: Aged) -> Option<Aged>
     }
 }
 
-fn with_call(
-    first: Option<Aged>,
-    register: &Register,
-    flights: &[Flight],
-    dest: &Name,
-) -> Option<Aged>
-    ensures { result ≡ with_call (map awaited flights.now) dest.now first register.now }
-{
-    if is_unacknowledged(register, flights, dest) {
-        older(first, aged_call(register))
-    } else {
-        first
-    }
-}
-
 fn with_reply(first: Option<Aged>, reply: &Reply, dest: &Name) -> Option<Aged>
     ensures { result ≡ with_reply dest.now first reply.now }
 {
@@ -50,13 +38,36 @@ fn with_reply(first: Option<Aged>, reply: &Reply, dest: &Name) -> Option<Aged>
     }
 }
 
-fn oldest_call(registers: &[Register], flights: &[Flight], dest: &Name) -> Option<Aged>
-    ensures { result ≡ fold (with_call (map awaited flights.now) dest.now) None registers.now }
+// Whether the call of a number is outstanding.
+fn goes_out(registers: &Registers, flights: &[Flight], dest: &Name, number: u64) -> bool
+    ensures { result ≡ goes_out (map awaited flights.now) dest.now registers.now.list number }
 {
-    registers.iter().fold(
-        None,
-        |first, register| with_call(first, register, flights, dest),
-    )
+    match registers.get(number) {
+        None => false,
+        Some(register) => is_unacknowledged(register, flights, dest),
+    }
+}
+
+// The first of these keys whose call is outstanding.
+fn first_key<'a>(
+    keys: &'a [AgeKey],
+    registers: &Registers,
+    flights: &[Flight],
+    dest: &Name,
+) -> Option<&'a AgeKey>
+    ensures { option_copied result ≡ find (λ (k : Key). goes_out (map awaited flights.now) dest.now registers.now.list k.number) keys.now }
+{
+    keys.iter()
+        .find(|key| goes_out(registers, flights, dest, key.number))
+}
+
+fn oldest_call(registers: &Registers, flights: &[Flight], dest: &Name) -> Option<Aged>
+    ensures { result ≡ fold (with_call (map awaited flights.now) dest.now) None registers.now.list }
+{
+    match first_key(registers.waiting(dest), registers, flights, dest) {
+        None => None,
+        Some(key) => Some(aged_key(key)),
+    }
 }
 
 // The older of this and the oldest post of these replies.
@@ -90,6 +101,6 @@ pub fn next(
     ensures none { (result ≡ None) ↔ (outstanding registers.now.list replies.now.list (map awaited flights.now) dest.now ≡ []) }
     ensures oldest { IfSome result (λ name. IsOldest name (outstanding registers.now.list replies.now.list (map awaited flights.now) dest.now)) }
 {
-    let call = oldest_call(registers.as_slice(), flights, dest);
+    let call = oldest_call(registers, flights, dest);
     name_of(older_reply(call, replies.as_slice(), dest))
 }

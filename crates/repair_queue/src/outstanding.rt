@@ -3,8 +3,10 @@ ghost use Rattle.std.specs.Prelude.{◌≡◌, map, nat_eq};
 ghost use Rattle.std.specs.List.{list_any};
 ghost use Rattle.flights.specs.declared.flight.Flight.{Flight as FlightValue};
 ghost use Rattle.service_meaning.specs.Flying.{awaited};
-ghost use Rattle.service_meaning.specs.Posts.{aged_call, aged_reply, is_owed, is_unacknowledged};
+ghost use Rattle.service_meaning.specs.Posts.{aged_reply, is_owed, is_unacknowledged};
+ghost use Rattle.repair_queue.specs.Queue.{aged_key};
 
+use age_queue::AgeKey;
 use call_registers::{Register, Reply};
 use flights::Flight;
 use lang_core::{Name, Same};
@@ -56,13 +58,13 @@ pub(crate) fn is_owed(reply: &Reply, dest: &Name) -> bool
     reply.caller.is(dest) && reply.due && 0 < reply.answer_version && reply.held.is_none()
 }
 
-/// The post of a call.
-pub(crate) fn aged_call(register: &Register) -> Aged
-    ensures { result ≡ aged_call register.now }
+/// The post of the call of a key.
+pub(crate) fn aged_key(key: &AgeKey) -> Aged
+    ensures { result ≡ aged_key key.now }
 {
     Aged {
-        name: PostName::Call(register.number),
-        since: register.since,
+        name: PostName::Call(key.number),
+        since: key.since,
     }
 }
 

@@ -1,16 +1,15 @@
-use Rattle.std.proofs.Common.{◌≡◌, ◌+◌, ◌≤◌, ◌++◌, vec_capacity, vec_len}
+use Rattle.std.proofs.Common.{◌≡◌, ◌+◌, ◌≤◌, ◌++◌, length, vec_len}
 use Rattle.call_registers.specs.Overlays.{numbered_from}
-use Rattle.call_registers.specs.Registers.{IsNumbered, next_number}
+use Rattle.call_registers.specs.Registers.{next_number}
 use Rattle.call_registers.proofs.registers.add_all.Given as goal
 
 abbrev pub invariant-loop-rest : goal.invariant-loop-rest
 invariant-loop-rest l =
     record {
-      items : l.list.items ++ numbered_from (next_number l.list.items) l.rest.items ≡ l.initial.list.items ++ numbered_from (next_number l.initial.list.items) l.initial.rest.items;
-      numbered : IsNumbered l.list.items;
-      room : vec_len l.list + vec_len l.rest ≤ vec_capacity l.list;
-      len : vec_len l.list + vec_len l.rest ≡ vec_len l.initial.list + vec_len l.initial.rest;
-      capacity : vec_capacity l.list ≡ vec_capacity l.initial.list;
+      list : l.list.list ++ numbered_from (next_number l.list.list) l.rest.items ≡ l.initial.list.list ++ numbered_from (next_number l.initial.list.list) l.initial.rest.items;
+      room : length l.list.list + vec_len l.rest ≤ l.list.places;
+      len : length l.list.list + vec_len l.rest ≡ length l.initial.list.list + vec_len l.initial.rest;
+      places : l.initial.list.places ≤ l.list.places;
     }
 
 abbrev pub decreases-loop-rest : goal.decreases-loop-rest

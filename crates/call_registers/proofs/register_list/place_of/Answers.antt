@@ -1,6 +1,6 @@
 use Rattle.std.proofs.Common.{arith}
 use Rattle.call_registers.proofs.ChangeLemmas.{there_within}
-use Rattle.call_registers.proofs.registers.place_of.Goals as goal
+use Rattle.call_registers.proofs.register_list.place_of.Goals as goal
 
 pub overflow_sub-result : goal.overflow_sub-result
 overflow_sub-result c = (there_within c.args.list.now c.args.number c.requires.numbered c.requires.there).0

@@ -1,6 +1,6 @@
 use Rattle.std.proofs.Common.{sym, ◌∙◌}
 use Rattle.call_registers.proofs.ChangeLemmas.{found_at, none_zero}
-use Rattle.call_registers.proofs.registers.find_in.Goals as goal
+use Rattle.call_registers.proofs.register_list.find_in.Goals as goal
 
 pub returns-then-number-eq0 : goal.returns-then-number-eq0
 returns-then-number-eq0 c = rw c.if-number-eq0.true (sym (none_zero c.args.list.now c.requires))

@@ -1,0 +1,2 @@
+pub mod AgeLemmas
+pub mod SumLemmas
