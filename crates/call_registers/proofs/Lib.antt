@@ -1,4 +1,5 @@
 pub mod ChangeLemmas
-pub mod ReplyLemmas
 pub mod OverlayLemmas
+pub mod PlaceLemmas
+pub mod ReplyLemmas
 pub mod WaitingLemmas

@@ -1,5 +1,6 @@
 // The replies of a service.
 ghost use Rattle.std.specs.Prelude.{◌≡◌, ◌↔◌, ◌+◌, ◌<◌, ◌≤◌, [], ◌∷◌, ◌++◌, length, slice_get, position, IfOk, IsOk, OnOk, OnErr, IsTrue, vec_len, vec_capacity};
+ghost use Rattle.std.specs.List.Sorted.{IsPartitionPoint};
 ghost use Rattle.std.specs.Option.{option_copied};
 ghost use Rattle.lang_base.specs.Equal.{equal};
 ghost use Rattle.call_room.specs.Room.{is_made, spend};
@@ -38,10 +39,29 @@ impl Model for Replies {
     ghost invariant = { λ r. IsKept r.list.items (vec_len r.list + vec_len r.room) (vec_capacity r.list) };
 }
 
+// How many of these are replies of lower entries, found by halves.
+fn count_below(list: &[Reply], id: u64) -> usize
+    requires { IsRising list.now }
+    ensures { IsPartitionPoint (λ p. p.id < id) (λ p. id ≤ p.id) list.now result }
+{
+    list.partition_point(|reply| reply.id < id)
+}
+
+fn item_at(list: &[Reply], place: usize) -> Option<&Reply>
+    ensures { option_copied result ≡ slice_get list.now place }
+{
+    list.get(place)
+}
+
 fn place_of(list: &[Reply], id: u64) -> Option<usize>
+    requires { IsRising list.now }
     ensures { result ≡ position (has_entry id) list.now }
 {
-    list.iter().position(|reply| reply.id == id)
+    let below = count_below(list, id);
+    match item_at(list, below) {
+        None => None,
+        Some(reply) => { if reply.id == id { Some(below) } else { None } }
+    }
 }
 
 fn change_in(list: &mut Vec<Reply>, id: u64, change: Change)
@@ -156,7 +176,10 @@ impl Replies {
     pub fn get(&self, id: u64) -> Option<&Reply>
         ensures { option_copied result ≡ reply id self.now.list }
     {
-        self.list.iter().find(|reply| reply.id == id)
+        match place_of(&self.list, id) {
+            None => None,
+            Some(place) => item_at(&self.list, place),
+        }
     }
 
     fn change(&mut self, id: u64, change: Change)
