@@ -1,6 +1,8 @@
 // The rows of a journal, in order.
-ghost use Rattle.std.specs.Prelude.{◌≡◌, ◌+◌, ◌<◌, ◌≤◌, [], ◌∷◌, ◌++◌, length, slice_get, OnOk, OnErr, IfOk, IsOk};
+ghost use Rattle.std.specs.Prelude.{◌≡◌, ◌+◌, ◌<◌, ◌≤◌, [], ◌∷◌, ◌++◌, length, map, nat_eq, slice_get, slice_index, take, OnOk, OnErr, IfOk, IsOk};
 ghost use Rattle.std.specs.Option.{option_copied};
+ghost use Rattle.hash_index.specs.Ends.{last_end};
+ghost use Rattle.journal_rows.specs.Keys.{row_key};
 ghost use Rattle.journal_rows.specs.Weights.{journal_weight};
 ghost use Rattle.journal_rows.specs.Words.{last_taken, ordered};
 
@@ -91,6 +93,22 @@ impl Rows {
         ensures { option_copied result ≡ ordered token.now self.now.rows }
     {
         words::ordered(&self.rows, &self.index, token)
+    }
+
+    /// One past the place of the last row of a key; 0 where none has it.
+    pub fn end_of(&self, key: u64) -> usize
+        ensures { result ≡ last_end (nat_eq key) (map row_key self.now.rows) }
+    {
+        self.index.end_of(key)
+    }
+
+    /// One past the place of the last row before a place, counted from 0, that has the key of the row there; 0 where none
+    /// has it.
+    pub fn end_before(&self, place: usize) -> usize
+        requires { place < length self.now.rows }
+        ensures { result ≡ last_end (nat_eq (slice_index (map row_key self.now.rows) place)) (take place (map row_key self.now.rows)) }
+    {
+        self.index.end_before(place)
     }
 
     /// Makes room for so many rows more. Refused, there is as much as before, and the rows stay.
