@@ -1,3 +1,4 @@
-pub mod PartnerLemmas
 pub mod FirstLemmas
+pub mod PartnerLemmas
+pub mod SoughtLemmas
 pub mod VerdictLemmas

@@ -3,6 +3,7 @@
 
 mod outstanding;
 mod partners;
+mod sought;
 mod tests;
 mod verdicts;
 

@@ -1,13 +1,12 @@
 // Whether another service did what a row says of it.
 ghost use Rattle.std.specs.Prelude.{◌≡◌, ◌↔◌, IsTrue, option_map};
-ghost use Rattle.std.specs.List.{list_any};
 ghost use Rattle.journal_rows.specs.Words.{last_sent};
 ghost use Rattle.service_meaning.specs.State.{me};
 ghost use Rattle.world_meaning.specs.Partners.{service_of, HasPartner};
 ghost use Rattle.world_audit.specs.Tests.{sends, gives, confirms, acknowledges_so, named_has, callee_of, dest_has, is_partnered};
 
-use crate::tests::{acknowledges_so, confirms, gives, sends};
-use journal_rows::{Row, SawAckRow, SawAnswerRow, TookRow, WasConfirmedRow, last_sent};
+use crate::sought::{Sought, is_in};
+use journal_rows::{Row, SawAckRow, SawAnswerRow, TookRow, WasConfirmedRow};
 use lang_core::{Name, Same};
 use live_service::Service;
 
@@ -19,102 +18,58 @@ fn service_of<'a>(services: &'a [Service], name: &Name) -> Option<&'a Service>
         .find(|service| service.setting().me.text().is(name.text()))
 }
 
-// The service to which a call of this one was sent.
+// The service to which a call of this one was sent, as its register says.
 fn callee_of<'a>(services: &'a [Service], service: &Service, number: u64) -> Option<&'a Service>
     ensures { option_map (λ s. s.now) result ≡ callee_of services.now (last_sent number service.now.journal) }
 {
-    match last_sent(service.journal().as_slice(), number) {
+    // Asked for what it promises alone: registers fit it.
+    let _journal = service.journal();
+    match service.registers().get(number) {
         None => None,
-        Some(sent) => service_of(services, &sent.dest),
+        Some(register) => service_of(services, &register.dest),
     }
 }
 
-// Whether a caller sent to the service of this name what was taken there.
-fn sent(caller: &Service, dest: &Name, took: &TookRow) -> bool
-    ensures { result ≡ list_any (sends (record { number = took.now.number; dest = dest.now; version = took.now.version; desired = took.now.desired })) caller.now.journal }
-{
-    caller.journal().as_slice().iter().any(|row| sends(
-        row,
-        took.number,
-        dest,
-        took.version,
-        &took.desired,
-    ))
-}
-
+// Whether a caller sent to this service what was taken here.
 fn was_sent(services: &[Service], service: &Service, took: &TookRow) -> bool
     ensures { result ≡ named_has services.now took.now.caller (sends (record { number = took.now.number; dest = me service.now; version = took.now.version; desired = took.now.desired })) }
 {
+    let dest = &service.setting().me;
     match service_of(services, &took.caller) {
         None => false,
-        Some(caller) => sent(caller, &service.setting().me, took),
+        Some(caller) => is_in(caller.journal(), Sought::Sent { dest, took }),
     }
 }
 
-// Whether a callee acknowledged what the service of this name saw.
-fn acknowledged(callee: &Service, caller: &Name, seen: SawAckRow) -> bool
-    ensures { result ≡ list_any (acknowledges_so caller.now seen.number seen.version seen.how) callee.now.journal }
-{
-    callee.journal().as_slice().iter().any(|row| acknowledges_so(
-        row,
-        caller,
-        seen.number,
-        seen.version,
-        seen.how,
-    ))
-}
-
+// Whether a callee acknowledged what this service saw.
 fn was_acknowledged(services: &[Service], service: &Service, seen: SawAckRow) -> bool
     ensures { result ≡ dest_has services.now service.now seen.number (acknowledges_so (me service.now) seen.number seen.version seen.how) }
 {
+    let caller = &service.setting().me;
     match callee_of(services, service, seen.number) {
         None => false,
-        Some(callee) => acknowledged(callee, &service.setting().me, seen),
+        Some(callee) => is_in(callee.journal(), Sought::Acknowledged { caller, seen }),
     }
 }
 
-// Whether a callee gave the answer that the service of this name saw.
-fn gave(callee: &Service, caller: &Name, seen: &SawAnswerRow) -> bool
-    ensures { result ≡ list_any (gives caller.now seen.now.number seen.now.answer_version seen.now.version seen.now.response) callee.now.journal }
-{
-    callee.journal().as_slice().iter().any(|row| {
-        gives(
-            row,
-            caller,
-            seen.number,
-            seen.answer_version,
-            seen.version,
-            &seen.response,
-        )
-    })
-}
-
+// Whether a callee gave the answer that this service saw.
 fn was_given(services: &[Service], service: &Service, seen: &SawAnswerRow) -> bool
     ensures { result ≡ dest_has services.now service.now seen.now.number (gives (me service.now) seen.now.number seen.now.answer_version seen.now.version seen.now.response) }
 {
+    let caller = &service.setting().me;
     match callee_of(services, service, seen.number) {
         None => false,
-        Some(callee) => gave(callee, &service.setting().me, seen),
+        Some(callee) => is_in(callee.journal(), Sought::Answered { caller, seen }),
     }
 }
 
 // Whether a caller confirmed what was noted as confirmed.
-fn confirmed(caller: &Service, noted: &WasConfirmedRow) -> bool
-    ensures { result ≡ list_any (confirms noted.now.number noted.now.answer_version) caller.now.journal }
-{
-    caller
-        .journal()
-        .as_slice()
-        .iter()
-        .any(|row| confirms(row, noted.number, noted.answer_version))
-}
-
 fn was_confirmed(services: &[Service], noted: &WasConfirmedRow) -> bool
     ensures { result ≡ named_has services.now noted.now.caller (confirms noted.now.number noted.now.answer_version) }
 {
     match service_of(services, &noted.caller) {
         None => false,
-        Some(caller) => confirmed(caller, noted),
+        Some(caller) => is_in(caller.journal(), Sought::Confirmed(noted)),
     }
 }
 
