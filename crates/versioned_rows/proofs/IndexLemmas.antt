@@ -76,7 +76,7 @@ at_by label x p ps false e lt is more =
     let n : 1 + position_or_len (λ q. nat_eq (label_of q) label) ps ≡ suc (position_or_len (λ q. nat_eq (label_of q) label) ps) = omega arith in
     more (omega arith) (is ∙ ap (λ i. get_or (p ∷ ps) i x) n)
 
-labels_at : (label : ℕ) (ps : List PlaceWrites) (p : PlaceWrites) → position_or_len (λ q. nat_eq (label_of q) label) ps < length ps → p ≡ get_or ps (position_or_len (λ q. nat_eq (label_of q) label) ps) p → label_of p ≡ label
+pub labels_at : (label : ℕ) (ps : List PlaceWrites) (p : PlaceWrites) → position_or_len (λ q. nat_eq (label_of q) label) ps < length ps → p ≡ get_or ps (position_or_len (λ q. nat_eq (label_of q) label) ps) p → label_of p ≡ label
 labels_at label [] p lt is = absurd (omega arith)
 labels_at label (q ∷ qs) p lt is = at_by label p q qs (nat_eq (label_of q) label) refl lt is (labels_at label qs p)
 

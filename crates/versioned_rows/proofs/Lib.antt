@@ -4,6 +4,7 @@ pub mod CopyLemmas
 pub mod EditLemmas
 pub mod GetLemmas
 pub mod IndexLemmas
+pub mod InsteadLemmas
 pub mod PrefixLemmas
 pub mod PutLemmas
 pub mod RisingLemmas

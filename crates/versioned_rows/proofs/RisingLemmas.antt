@@ -37,7 +37,7 @@ find_nothing : {X : Type 0} (p : X → Bool) (xs : List X) → ((i : ℕ) (d : X
 find_nothing p [] h = refl
 find_nothing p (x ∷ xs) h = let here : p x ≡ false = h 0 x (omega arith) in rw here (find_nothing p xs (λ i d lt. h (suc i) d (omega arith)))
 
-each_later : (order : List ℕ) (x : ℕ) (ys : List ℕ) (j : ℕ) → IsBeforeAll order x ys → j < length ys → place_in order x < place_in order (get_or ys j 0)
+pub each_later : (order : List ℕ) (x : ℕ) (ys : List ℕ) (j : ℕ) → IsBeforeAll order x ys → j < length ys → place_in order x < place_in order (get_or ys j 0)
 each_later order x [] j all lt = absurd (omega arith)
 each_later order x (y ∷ ys) zero all lt = all.0
 each_later order x (y ∷ ys) (suc j) all lt = each_later order x ys j all.1 (omega arith)

@@ -1,5 +1,5 @@
 -- Places with their writes, and the rows before a place.
-use Rattle.std.specs.Prelude.{ℕ, Bool, List, [], ◌∷◌, ◌++◌, Option, Some, not, nat_eq, fold, filter, map, is_some}
+use Rattle.std.specs.Prelude.{ℕ, Bool, List, ◌∷◌, ◌++◌, Option, Some, not, nat_eq, fold, filter, map, is_some}
 use Rattle.std.specs.List.{find}
 use Rattle.lang_core.specs.Places.{Place, place_of, same_place}
 use Rattle.lang_core.specs.Rows.{apply, cell_place, write_place}
@@ -35,6 +35,10 @@ with_place order p places =
 -- whether one of these stands at the key
 abbrev pub is_among : {X : Type 0} → (X → Place) → List ℕ → List ℕ → List X → Bool
 is_among place t k xs = is_some (find (λ x. same_place (place x) (place_of t k)) xs)
+
+-- the keys that these write, in order
+abbrev pub keys_of : List Write → List Place
+keys_of writes = map write_place writes
 
 -- whether these write the key
 abbrev pub is_written : List ℕ → List ℕ → List Write → Bool

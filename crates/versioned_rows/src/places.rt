@@ -1,17 +1,17 @@
 // Places with their writes, and the rows that name them.
-ghost use Rattle.std.specs.Prelude.{ℕ, List, ◌≡◌, ◌+◌, ◌<◌, ◌≤◌, None, true, find, position, nat_eq, map, vec_len, vec_capacity, if◌then◌else◌};
+ghost use Rattle.std.specs.Prelude.{ℕ, List, ◌≡◌, ◌↔◌, ◌+◌, ◌<◌, ◌≤◌, None, Some, true, IsTrue, IfSome, length, slice_index_or, find, position, nat_eq, map, vec_len, vec_capacity, if◌then◌else◌};
 ghost use Rattle.std.specs.List.{Contains, AllByRecursion};
 ghost use Rattle.std.specs.Option.{option_copied};
 ghost use Rattle.lang_core.specs.Places.{IsOrdered};
 ghost use Rattle.lang_core.specs.Rows.{written, write_place};
 ghost use Rattle.place_order.specs.Rising.{IsRising};
-ghost use Rattle.versioned_rows.specs.Places.{label_of, is_other, is_written, without, with_place};
+ghost use Rattle.versioned_rows.specs.Places.{label_of, keys_of, is_other, is_written, without, with_place};
 ghost use Rattle.versioned_rows.specs.Rows.{spare_in, KeepsRows};
 ghost use Rattle.versioned_rows.specs.Versions.{IsIndexed};
 
 use crate::labels::{Labelled, count_before};
 use crate::rows::{Row, drop_labels, put_labels};
-use lang_core::{Copied, NoMemory, Text, Writes};
+use lang_core::{Copied, NoMemory, Same, Text, Write, Writes};
 use place_order::Order;
 use std::alloc::Global;
 
@@ -118,13 +118,8 @@ pub(crate) fn take_out(
     }
 }
 
-/// Puts in the place of a label that isn't there, where there is room for it.
-pub(crate) fn put_in(
-    order: &Order,
-    places: &mut Vec<PlaceWrites>,
-    rows: &mut Vec<Row>,
-    place: PlaceWrites,
-)
+// Puts in the place of a label that isn't there, where there is room for it.
+fn put_in(order: &Order, places: &mut Vec<PlaceWrites>, rows: &mut Vec<Row>, place: PlaceWrites)
     requires indexed { IsIndexed places.old.items rows.old.items }
     requires rising { IsRising order.now.labels (map label_of places.old.items) }
     requires label { Contains order.now.labels place.label }
@@ -144,4 +139,72 @@ pub(crate) fn put_in(
     put_labels(order, rows, place.writes.as_slice(), place.label);
     let at = count_before(order, places, Some(place.label));
     let _ = places.insert(at, place);
+}
+
+fn is_at_key(left: &Write, right: &Write) -> bool
+    ensures { IsTrue result ↔ (write_place left.now ≡ write_place right.now) }
+{
+    left.table.is(&right.table) && left.key.is(&right.key)
+}
+
+fn are_at_keys(left: &[Write], right: &[Write]) -> bool
+    ensures { IsTrue result ↔ (keys_of left.now ≡ keys_of right.now) }
+{
+    if left.len() != right.len() {
+        return false;
+    }
+    for (i, write) in left.iter().enumerate() {
+        if !is_at_key(write, &right[i]) {
+            return false;
+        }
+    }
+    true
+}
+
+// Where a place stands, if it wrote the same keys as these.
+fn stands_alike(places: &[PlaceWrites], stands: Option<usize>, writes: &Writes) -> Option<usize>
+    requires { IfSome stands (λ at. at < length places.now) }
+    ensures stands { IfSome result (λ at. stands ≡ Some at) }
+    ensures keys { IfSome result (λ at. (d : PlaceWrites) → keys_of (slice_index_or places.now at d).writes ≡ keys_of writes.now) }
+{
+    let at = stands?;
+    if are_at_keys(places[at].writes.as_slice(), writes.as_slice()) {
+        Some(at)
+    } else {
+        None
+    }
+}
+
+/// Puts in a place instead of that of its label, which stands there, if it does. Where both wrote the same keys, nothing
+/// moves.
+pub(crate) fn put_instead(
+    order: &Order,
+    places: &mut Vec<PlaceWrites>,
+    rows: &mut Vec<Row>,
+    place: PlaceWrites,
+    stands: Option<usize>,
+)
+    requires indexed { IsIndexed places.old.items rows.old.items }
+    requires rising { IsRising order.now.labels (map label_of places.old.items) }
+    requires label { Contains order.now.labels place.label }
+    requires stands { stands ≡ position (λ p. nat_eq (label_of p) place.label) places.old.items }
+    requires writes { IsOrdered write_place place.writes }
+    requires room { vec_len places.old < vec_capacity places.old }
+    requires spare { (t k : List ℕ) → is_written t k place.writes ≡ true → 0 < spare_in rows.old.items t k }
+    ensures places { places.new.items ≡ with_place order.now.labels place (without place.label places.old.items) }
+    ensures rising { IsRising order.now.labels (map label_of places.new.items) }
+    ensures indexed { IsIndexed places.new.items rows.new.items }
+    ensures spare { (t k : List ℕ) → spare_in rows.old.items t k
+        ≤ spare_in rows.new.items t k + (if is_written t k place.writes then 1 else 0) }
+    ensures rows { KeepsRows rows.old.items rows.new.items }
+    ensures len { vec_len places.new ≤ vec_len places.old + 1 }
+    ensures capacity { vec_capacity places.old ≤ vec_capacity places.new }
+{
+    match stands_alike(places, stands, &place.writes) {
+        Some(at) => places[at] = place,
+        None => {
+            take_out(places, rows, place.label, stands);
+            put_in(order, places, rows, place);
+        }
+    }
 }

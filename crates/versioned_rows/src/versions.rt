@@ -14,7 +14,9 @@ ghost use Rattle.versioned_rows.specs.Versions.{call_code, write_call, base_call
 
 use crate::base::{ready_base, take_base, text_in};
 use crate::labels::count_before;
-use crate::places::{PlaceWrites, find_place, position_in, position_of, put_in, take_out, text_at};
+use crate::places::{
+    PlaceWrites, find_place, position_in, position_of, put_instead, take_out, text_at,
+};
 use crate::room::{VersionsCall, ready_writes, take_writes};
 use crate::rows::{Row, copied_rows, labels_in};
 use crate::seeking::seek;
@@ -331,9 +333,8 @@ impl Versions {
             &mut self.room,
             writes,
         )?;
-        take_out(&mut self.places, &mut self.rows, label, stands);
         let place = PlaceWrites { label, writes };
-        put_in(order, &mut self.places, &mut self.rows, place);
+        put_instead(order, &mut self.places, &mut self.rows, place, stands);
         Ok(())
     }
 
