@@ -9,7 +9,7 @@ use Rattle.dependency_index.specs.Numbers.{Rises, with_number}
 use Rattle.dependency_index.specs.Reads.{label_of, labels_with, with_noted, without}
 use Rattle.dependency_index.specs.declared.noted.Noted.{Noted}
 use Rattle.dependency_index.specs.declared.reads.ReadAt.{ReadAt}
-use Rattle.dependency_index.proofs.NumberLemmas.{rises_kept, rises_put, others, put_anew, parted, take-drop, rises_if}
+use Rattle.dependency_index.proofs.NumberLemmas.{rises_kept, rises_put, join_ends, others, put_anew, parted, take-drop, rises_if}
 
 pub map_if : (n : Noted) (ns : List Noted) (b : Bool) → map label_of (cond b (n ∷ ns) ns) ≡ cond b (label_of n ∷ map label_of ns) (map label_of ns)
 map_if n ns true = refl
@@ -101,6 +101,16 @@ module _ (test : ReadAt → Bool) where
           ≡ cond b (with_number (label_of own) (filter (is_other (label_of own)) (labels_with test ns))) (filter (is_other (label_of own)) (labels_with test ns))
       by true e = sym (put_anew (label_of own) (labels_with test ns))
       by false e = sym (others (label_of own) (labels_with test ns) (labels_rise ns r))
+
+same_noted : (m n : Noted) → label_of m ≡ label_of n → m.reads ≡ n.reads → m ≡ n
+same_noted m n e f = λ i. record { label = e i; reads = f i }
+
+-- what is noted of a label is noted again
+pub noted_again : (at : ℕ) (found own : Noted) (ns : List Noted) → at < length ns → found ≡ get_or ns at found → label_of found ≡ label_of own → found.reads ≡ own.reads
+    → filter (λ n. nat_lt (label_of n) (label_of own)) ns ≡ take at ns → filter (λ n. nat_lt (label_of own) (label_of n)) ns ≡ drop (suc at) ns → with_noted own ns ≡ ns
+noted_again at found own ns lt is label reads below above =
+    join_ends (filter (λ n. nat_lt (label_of n) (label_of own)) ns) (filter (λ n. nat_lt (label_of own) (label_of n)) ns) (take at ns) (drop (suc at) ns) own below above
+    ∙ ap (λ n. take at ns ++ n ∷ drop (suc at) ns) (sym (same_noted found own label reads)) ∙ parted at found ns lt is
 
 -- the labels of all that is noted
 labels_anew : (own : Noted) (ns : List Noted) → map label_of (with_noted own ns) ≡ with_number (label_of own) (map label_of ns)

@@ -12,7 +12,7 @@ ghost use Rattle.dependency_index.specs.Reads.{read_at, is_at, is_between, label
 ghost use Rattle.dependency_index.specs.Rows.{AreOrdered, labels_by, spare_by, under};
 ghost use Rattle.dependency_index.specs.declared.reads.ReadKind.{ReadKind};
 
-use crate::noted::{Noted, set_noted, unset_noted};
+use crate::noted::{Noted, has_noted, set_noted, unset_noted};
 use crate::numbers::{put_number, seek_number};
 use crate::reads::ReadsAt;
 use crate::room::{IndexCall, ready_reads, take_reads};
@@ -62,7 +62,8 @@ fn drop_noted(noted: &[Noted], rows: &mut ReadRows, label: u64)
     }
 }
 
-// Notes a label's reads in place of those that it had.
+// Notes a label's reads in place of those that it had. A label that reads the same again, as most do when they run again,
+// leaves the rows of its keys as they are: to take it out of a row and put it back is a walk over all that read the key.
 fn note(noted: &mut Vec<Noted>, rows: &mut ReadRows, own: Noted)
     requires indexed { IsIndexed noted.old.items rows.old }
     requires room { vec_len noted.old < vec_capacity noted.old }
@@ -74,6 +75,9 @@ fn note(noted: &mut Vec<Noted>, rows: &mut ReadRows, own: Noted)
     ensures len { vec_len noted.new ≤ vec_len noted.old + 1 }
     ensures capacity { vec_capacity noted.old ≤ vec_capacity noted.new }
 {
+    if has_noted(noted, &own) {
+        return;
+    }
     drop_noted(noted, rows, own.label);
     put_labels(rows, own.reads.as_slice(), own.label);
     set_noted(noted, own);

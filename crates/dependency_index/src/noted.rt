@@ -1,11 +1,11 @@
 // What was noted of each label, in the order of the labels' numbers.
-ghost use Rattle.std.specs.Prelude.{◌≡◌, ◌+◌, ◌<◌, ◌≤◌, map, vec_len, vec_capacity};
+ghost use Rattle.std.specs.Prelude.{◌≡◌, ◌+◌, ◌<◌, ◌≤◌, IsTrue, map, vec_len, vec_capacity};
 ghost use Rattle.dependency_index.specs.Numbers.{Rises};
 ghost use Rattle.dependency_index.specs.Reads.{label_of, with_noted, without};
 
 use crate::numbers::seek_number;
 use crate::reads::ReadsAt;
-use lang_core::{Copied, NoMemory};
+use lang_core::{Copied, NoMemory, Same};
 use std::alloc::Global;
 use versioned_rows::Labelled;
 
@@ -32,6 +32,18 @@ impl Labelled for Noted {
     fn label(&self) -> u64 {
         self.label
     }
+}
+
+/// Whether the label has these very reads already, in this order: to note them again changes nothing.
+pub(crate) fn has_noted(noted: &[Noted], own: &Noted) -> bool
+    requires { Rises (map label_of noted.now) }
+    ensures { IsTrue result → with_noted own.now noted.now ≡ noted.now }
+{
+    let (at, taken) = seek_number(noted, own.label);
+    if !taken {
+        return false;
+    }
+    noted[at].reads.is(&own.reads)
 }
 
 /// Notes a label's reads in place of those that it had, where there is room for one label more.

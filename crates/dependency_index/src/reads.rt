@@ -29,6 +29,12 @@ impl Copied for ReadAt {
     }
 }
 
+impl Same for ReadAt {
+    fn is(&self, other: &ReadAt) -> bool {
+        is_place(self, other.kind, &other.table, &other.key)
+    }
+}
+
 /// Where reads looked, in the order in which they were made.
 pub type ReadsAt = Seq<ReadAt>;
 
