@@ -1,9 +1,9 @@
 -- The entries behind a place that look at what was written there are those whose labels the index gives.
-use Rattle.std.proofs.Common.{◌≡◌, ◌≢◌, ℕ, ◌+◌, ◌<◌, ◌≤◌, Bool, true, false, cond, ◌&&◌, ◌||◌, List, [], ◌∷◌, ◌++◌, None, nat_eq, nat_lt, length, get_or, map, IsTrue, refl, sym, ap, ◌∙◌, inl, inr, arith, eq-eqb}
+use Rattle.std.proofs.Common.{◌≡◌, ◌≢◌, ℕ, ◌<◌, ◌≤◌, Bool, true, false, cond, not, ◌&&◌, ◌||◌, List, [], ◌∷◌, ◌++◌, None, nat_eq, nat_lt, length, get_or, map, IsTrue, refl, sym, ap, ◌∙◌, inl, inr, arith, eq-eqb}
 use Rattle.std.specs.List.{All, AllByRecursion, Contains, filter, list_any}
 use Rattle.std.proofs.lemmas.Bool.{cases_order, cases_lt, ne_eqb}
 use Rattle.std.proofs.lemmas.List.{get_or-map, get_or_default, get_or_past, length-map}
-use Rattle.std.proofs.lemmas.List.Elements.{recursion_from_All}
+use Rattle.std.proofs.lemmas.List.Elements.{filter-append, recursion_from_All}
 use Rattle.std.proofs.lemmas.List.Folds.{list_any-append}
 use Rattle.lang_core.specs.declared.writes.Write.{Write}
 use Rattle.place_order.specs.Labels.{place_in}
@@ -16,7 +16,7 @@ use Rattle.dependency_index.specs.declared.reads.ReadAt.{ReadAt}
 use Rattle.dependency_index.specs.declared.reads.ReadKind.TheVariants.{Key}
 use Rattle.dependency_index.proofs.IndexLemmas.{map_if, labels_all}
 use Rattle.dependency_index.proofs.NumberLemmas.{member_kept, member_puts}
-use Rattle.entry_marks.specs.Marks.{is_marked, looks_at, places_behind, reads_by, reads_under, sees, sees_behind}
+use Rattle.entry_marks.specs.Marks.{KeptMarks, is_among, is_marked, lacking, looks_at, places_behind, reads_by, reads_under, sees, sees_behind}
 
 -- ---- where labels stand
 
@@ -143,28 +143,52 @@ module _ (labels : List ℕ) (apart : IsApart labels) (ns : List Noted) (known :
       ∙ together (nat_lt place q) (list_any by_scan rs) (list_any by_key rs) (is_marked q marks)
       ∙ ap (λ b. is_marked q marks || (nat_lt place q && (b || false))) (sym (either by_key by_scan rs))
 
--- ---- one write more
+-- ---- writes that are among others
 
-one_more : (m p a b : Bool) → ((m || (p && a)) || (p && (b || false))) ≡ (m || (p && (a || b)))
+-- all, where there are no others
+pub lacking_all : (writes : List Write) → lacking [] writes ≡ writes
+lacking_all [] = refl
+lacking_all (w ∷ ws) = ap (λ l. w ∷ l) (lacking_all ws)
+
+lacking_by : (others : List Write) (w : Write) (b : Bool) → is_among others w ≡ b → lacking others (w ∷ []) ≡ cond b [] (w ∷ [])
+lacking_by others w true e = rw e refl
+lacking_by others w false e = rw e refl
+
+-- one that is among them is left out
+pub lacking_none : (others : List Write) (w : Write) → is_among others w ≡ true → lacking others (w ∷ []) ≡ []
+lacking_none others w e = lacking_by others w true e
+
+pub lacking_one : (others : List Write) (w : Write) → is_among others w ≡ false → lacking others (w ∷ []) ≡ w ∷ []
+lacking_one others w e = lacking_by others w false e
+
+pub lacking_more : (others writes next : List Write) (w : Write) → next ≡ writes ++ w ∷ [] → lacking others next ≡ lacking others writes ++ lacking others (w ∷ [])
+lacking_more others writes next w is = ap (lacking others) is ∙ filter-append (λ v. not (is_among others v)) writes (w ∷ [])
+
+-- ---- more writes
+
+one_more : (m p a b : Bool) → ((m || (p && a)) || (p && b)) ≡ (m || (p && (a || b)))
 one_more true p a b = refl
 one_more false true true b = refl
-one_more false true false true = refl
-one_more false true false false = refl
+one_more false true false b = refl
 one_more false false a b = refl
 
-pub sees_more : (before marks now : List ℕ) (reads : List (List ReadAt)) (place : ℕ) (front next : List Write) (w : Write) → next ≡ front ++ w ∷ []
-    → ((q : ℕ) → is_marked q marks ≡ (is_marked q before || sees_behind place front reads q)) → ((q : ℕ) → is_marked q now ≡ (is_marked q marks || sees_behind place (w ∷ []) reads q))
+pub sees_more : (before marks now : List ℕ) (reads : List (List ReadAt)) (place : ℕ) (front more next : List Write) → next ≡ front ++ more
+    → ((q : ℕ) → is_marked q marks ≡ (is_marked q before || sees_behind place front reads q)) → ((q : ℕ) → is_marked q now ≡ (is_marked q marks || sees_behind place more reads q))
     → (q : ℕ) → is_marked q now ≡ (is_marked q before || sees_behind place next reads q)
-sees_more before marks now reads place front next w is h k q =
-    let own = list_any (looks_at w.table w.key) (get_or reads q []) in
+sees_more before marks now reads place front more next is h k q =
+    let own = sees more (get_or reads q []) in
     let old = sees front (get_or reads q []) in
     let seen : (Write → Bool) = λ v. list_any (looks_at v.table v.key) (get_or reads q []) in
-    k q ∙ ap (λ b. b || sees_behind place (w ∷ []) reads q) (h q) ∙ one_more (is_marked q before) (nat_lt place q) old own
-    ∙ ap (λ b. is_marked q before || (nat_lt place q && b)) (sym (ap (list_any seen) is ∙ list_any-append seen front (w ∷ []) ∙ ap (λ b. old || b) (or_nothing own)))
-  where
-    or_nothing : (b : Bool) → (b || false) ≡ b
-    or_nothing true = refl
-    or_nothing false = refl
+    k q ∙ ap (λ b. b || sees_behind place more reads q) (h q) ∙ one_more (is_marked q before) (nat_lt place q) old own
+    ∙ ap (λ b. is_marked q before || (nat_lt place q && b)) (sym (ap (list_any seen) is ∙ list_any-append seen front more))
+
+-- first what looks at some writes was marked, and then what looks at others
+pub marked_both : (m m1 m2 : KeptMarks) (place : ℕ) (some more : List Write) → m1.reads ≡ m.reads
+    → ((q : ℕ) → is_marked q m1.marks ≡ (is_marked q m.marks || sees_behind place some m.reads q)) → ((q : ℕ) → is_marked q m2.marks ≡ (is_marked q m1.marks || sees_behind place more m1.reads q))
+    → (q : ℕ) → is_marked q m2.marks ≡ (is_marked q m.marks || sees_behind place (some ++ more) m.reads q)
+marked_both m m1 m2 place some more same h k q =
+    sees_more m.marks m1.marks m2.marks m.reads place some more (some ++ more) refl h
+    (λ p. k p ∙ ap (λ reads. is_marked p m1.marks || sees_behind place more reads p) same) q
 
 -- no write is seen by nobody
 pub nothing_seen : (m p : Bool) → m ≡ (m || (p && false))

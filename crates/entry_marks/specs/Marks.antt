@@ -1,7 +1,9 @@
 -- Where the reads of entries looked, and which entries are marked.
-use Rattle.std.specs.Prelude.{ℕ, ◌+◌, ◌<◌, Bool, ◌&&◌, ◌||◌, List, [], ◌∷◌, ◌++◌, IsTrue, nat_eq, nat_lt, length, map, filter, slice_index_or, if◌then◌else◌}
+use Rattle.std.specs.Prelude.{ℕ, ◌+◌, ◌<◌, Bool, not, ◌&&◌, ◌||◌, List, [], ◌∷◌, ◌++◌, IsTrue, nat_eq, nat_lt, length, map, filter, slice_index_or, if◌then◌else◌}
 use Rattle.std.specs.List.{All, Contains, list_any}
+use Rattle.lang_base.specs.Equal.{equal}
 use Rattle.call_room.specs.Room.{is_made}
+use Rattle.lang_core.specs.contracts.writes.Write as write
 use Rattle.lang_core.specs.declared.trace.Read.{Read}
 use Rattle.lang_core.specs.declared.writes.Write.{Write}
 use Rattle.place_order.specs.Labels.{place_in}
@@ -44,6 +46,18 @@ looks_at t k r = is_at Key t k r || is_scan_of t k r
 -- one of these reads looks at a cell of these writes
 abbrev pub sees : List Write → List ReadAt → Bool
 sees writes reads = list_any (λ (w : Write). list_any (looks_at w.table w.key) reads) writes
+
+-- a write is one of these
+abbrev pub is_among : List Write → Write → Bool
+is_among writes w = list_any (equal write.the_row.coded w) writes
+
+-- those of these writes that aren't among the others
+abbrev pub lacking : List Write → List Write → List Write
+lacking others writes = filter (λ w. not (is_among others w)) writes
+
+-- the writes of two lists that only one of them has
+abbrev pub changes : List Write → List Write → List Write
+changes old new = lacking new old ++ lacking old new
 
 -- the entry behind a place looks at a cell of these writes
 abbrev pub sees_behind : ℕ → List Write → List (List ReadAt) → ℕ → Bool

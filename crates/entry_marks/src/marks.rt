@@ -1,7 +1,7 @@
 // Where the reads of entries looked, and which entries are marked.
 ghost use Rattle.std.specs.Prelude.{ℕ, ◌≡◌, ◌+◌, ◌<◌, ◌≤◌, ◌&&◌, ◌||◌, not, nat_eq, nat_lt, [], length, map, insert, slice_set, IsTrue, OnOk, OnErr};
 ghost use Rattle.dependency_index.specs.Reads.{read_at};
-ghost use Rattle.entry_marks.specs.Marks.{is_marked, sees_behind, AreMarks, IsReadyToInsert, IsReadyToSet};
+ghost use Rattle.entry_marks.specs.Marks.{changes, is_marked, lacking, sees_behind, AreMarks, IsReadyToInsert, IsReadyToSet};
 
 use crate::behind::mark_writes;
 use crate::numbers::{drop_below, insert_mark};
@@ -147,6 +147,43 @@ impl EntryMarks {
             ≡ (is_marked q self.old.marks || sees_behind place writes.now self.old.reads q)) }
         ensures err { OnErr result ((q : ℕ) → IsTrue (is_marked q self.old.marks) → IsTrue (is_marked q self.new.marks)) }
     {
+        let none = Writes::new(alloc);
+        self.mark_apart(alloc, place, writes, &none)
+    }
+
+    /// Marks the entries behind a place that read the key of a write that only one of the two lists has, or scan under a
+    /// prefix of it. Refused, some of them may be marked, and no mark is lost.
+    pub fn mark_changes(
+        &mut self,
+        alloc: Global,
+        place: usize,
+        old: &Writes,
+        new: &Writes,
+    ) -> Result<(), NoMemory>
+        requires { place < length self.old.reads }
+        ensures reads { self.new.reads ≡ self.old.reads }
+        ensures ok { OnOk result ((q : ℕ) → is_marked q self.new.marks
+            ≡ (is_marked q self.old.marks || sees_behind place (changes old.now new.now) self.old.reads q)) }
+        ensures err { OnErr result ((q : ℕ) → IsTrue (is_marked q self.old.marks) → IsTrue (is_marked q self.new.marks)) }
+    {
+        self.mark_apart(alloc, place, old, new)?;
+        self.mark_apart(alloc, place, new, old)
+    }
+
+    // Marks the entries behind a place that look at a cell of these writes, those apart that are among others.
+    fn mark_apart(
+        &mut self,
+        alloc: Global,
+        place: usize,
+        writes: &Writes,
+        others: &Writes,
+    ) -> Result<(), NoMemory>
+        requires { place < length self.old.reads }
+        ensures reads { self.new.reads ≡ self.old.reads }
+        ensures ok { OnOk result ((q : ℕ) → is_marked q self.new.marks
+            ≡ (is_marked q self.old.marks || sees_behind place (lacking others.now writes.now) self.old.reads q)) }
+        ensures err { OnErr result ((q : ℕ) → IsTrue (is_marked q self.old.marks) → IsTrue (is_marked q self.new.marks)) }
+    {
         mark_writes(
             alloc,
             &self.places,
@@ -154,6 +191,7 @@ impl EntryMarks {
             &mut self.marks,
             place,
             writes.as_slice(),
+            others.as_slice(),
         )
     }
 }
