@@ -1,5 +1,5 @@
 -- What a repairer keeps where an entry was changed and its record left, ran again, or none is stale.
-use Rattle.std.proofs.Common.{◌≡◌, ℕ, ◌+◌, ◌<◌, ◌&&◌, ◌||◌, not, Bool, false, List, [], ◌++◌, Option, Some, None, IsSomeAnd, MatchOption, nat_eq, nat_lt, find, position, length, get_or, take, set, map, refl, sym, ap, ◌∙◌, subst, arith}
+use Rattle.std.proofs.Common.{◌≡◌, ℕ, ◌+◌, ◌&&◌, ◌||◌, not, Bool, false, List, [], Option, Some, None, IsSomeAnd, MatchOption, nat_eq, nat_lt, find, position, length, get_or, take, set, map, refl, sym, ap, ◌∙◌, subst, arith}
 use Rattle.std.specs.List.{position_or_len}
 use Rattle.std.proofs.lemmas.List.{take_all}
 use Rattle.std.proofs.lemmas.List.Folds.{find_at}
@@ -13,14 +13,15 @@ use Rattle.request_log.specs.declared.entry.Entry.{Entry}
 use Rattle.request_log.proofs.ChangeLemmas.{changed_place, not_found, unknown, Leaves}
 use Rattle.versioned_rows.proofs.IndexLemmas.{position_is}
 use Rattle.dependency_index.specs.Reads.{read_at}
-use Rattle.entry_marks.specs.Marks.{KeptMarks, is_marked}
+use Rattle.entry_marks.specs.Marks.{KeptMarks, changes, is_marked}
 use Rattle.local_repair.specs.Current.{Consumed, AllCurrent, IsFirstStale, rows_of, writes_of}
-use Rattle.local_repair.specs.Held.{IsHeld, IsIdMarked, IsKept, IsMarkedFrom}
+use Rattle.local_repair.specs.Held.{IsHeld, IsIdMarked, IsKept, IsMarkedBehind}
 use Rattle.local_repair.specs.Registers.{Change}
 use Rattle.local_repair.specs.Repairs.{Amends, IsAmended}
 use Rattle.local_repair.specs.Settling.{IsAgain, noted}
 use Rattle.local_repair.specs.Written.{all_written}
 use Rattle.local_repair.specs.declared.remaking.Again.{Again}
+use Rattle.local_repair.proofs.AgreeLemmas.{alike_but_changes}
 use Rattle.local_repair.proofs.CurrentLemmas.{current_at}
 use Rattle.local_repair.proofs.GivesLemmas.{wrote}
 use Rattle.local_repair.proofs.HandlerLemmas.{IsHandler}
@@ -103,7 +104,7 @@ kept_calls entries writes m calls now kept called = record { tied = kept.tied; l
 -- the first stale entry ran again, and that was noted
 pub kept_run : (setting : Setting) → IsHandler setting → (c : Change) (entries after : List Entry) (writes written : List (List Write)) (m m1 m2 : KeptMarks) (place : ℕ) (again : Again) (calls now : Bool)
     → IsKept entries writes m calls → IsFirstStale c.before entries place → ((d : Entry) → IsAgain setting c (rows_of (take place entries)) (get_or entries place d) again)
-    → ((d : Entry) → IsMarkedFrom (place + 1) (writes_of (get_or entries place d).made ++ again.made.trace.writes) m m1)
+    → ((d : Entry) → IsMarkedBehind place (writes_of (get_or entries place d).made) again.made.trace.writes m m1)
     → ((d : Entry) → after ≡ set entries place (noted again (get_or entries place d)))
     → m2.reads ≡ set m1.reads place (map read_at again.made.trace.reads) → ((q : ℕ) → is_marked q m2.marks ≡ (not (nat_lt q (place + 1)) && is_marked q m1.marks))
     → (now ≡ false → (calls ≡ false) × (again.numbers ≡ [])) → written ≡ all_written after → IsKept after written m2 now
@@ -114,9 +115,10 @@ kept_run setting h c entries after writes written m m1 m2 place again calls now 
     let rows : List Cell = rows_of (take place entries) in
     let A : Entry → Type 0 = λ e. IsAgain setting c rows e again in
     let P : Entry → Type 0 = λ e. after ≡ set entries place (noted again e) in
-    let M : Entry → Type 0 = λ e. IsMarkedFrom (place + 1) (wrote e ++ again.made.trace.writes) m m1 in
+    let M : Entry → Type 0 = λ e. IsMarkedBehind place (wrote e) again.made.trace.writes m m1 in
+    let behind = subst M (at was) (marked was) in
     let ran = subst A (at was) (a was) in
     let held : IsHeld rows (noted again was) =
     record { alive = ran.rerun.alive; version = ran.rerun.version; request = ran.rerun.request; count = sym ran.settled.count; reads = rerun_reads setting h c.before rows was again.made ran.rerun } in
-    kept_stepped c.before entries after writes written m m1 m2 place was (noted again was) (wrote was ++ again.made.trace.writes) calls now
-    kept called first at refl (subst M (at was) (marked was)) reads cleared held (subst P (at was) (put was)) tied
+    kept_stepped c.before entries after writes written m m1 m2 place was (noted again was) (changes (wrote was) again.made.trace.writes) calls now
+    kept called first at (alike_but_changes (wrote was) again.made.trace.writes behind.old behind.new) behind.marked reads cleared held (subst P (at was) (put was)) tied

@@ -1,15 +1,14 @@
 -- What a repairer keeps of its entries, after each change of them.
-use Rattle.std.proofs.Common.{◌≡◌, ◌≢◌, ℕ, zero, suc, ◌+◌, ◌-◌, ◌<◌, ◌≤◌, Bool, true, false, cond, not, ◌&&◌, ◌||◌, List, [], ◌∷◌, ◌++◌, Option, Some, None, IsTrue, IsSomeAnd, All, nat_eq, nat_lt, length, get_or, take, drop, set, map, refl, sym, ap, ◌∙◌, subst, inl, inr, arith, get_or-set_same, get_or-set_other, eq-eqb}
-use Rattle.std.specs.List.{insert, list_any}
-use Rattle.std.proofs.lemmas.Bool.{cases_order, cases_lt, lt-ltb, le-ltb, ne_eqb}
-use Rattle.std.proofs.lemmas.List.{take-map, take-set, take-set-le, get_or-map, length-map, map-set}
+use Rattle.std.proofs.Common.{◌≡◌, ◌≢◌, ℕ, zero, suc, ◌+◌, ◌-◌, ◌<◌, ◌≤◌, Bool, true, false, not, ◌&&◌, ◌||◌, List, [], ◌∷◌, Option, Some, None, IsSomeAnd, All, nat_eq, nat_lt, length, get_or, take, drop, set, map, refl, sym, ap, ◌∙◌, subst, inl, inr, arith, get_or-set_same, get_or-set_other, eq-eqb}
+use Rattle.std.specs.List.{insert}
+use Rattle.std.proofs.lemmas.Bool.{cases_order, lt-ltb, le-ltb}
+use Rattle.std.proofs.lemmas.List.{take-map, take-set-le, get_or-map, length-map, map-set}
 use Rattle.std.proofs.lemmas.List.Edits.{get_or-insert_at, get_or-insert_below, get_or-insert_above, length-insert}
 use Rattle.std.proofs.lemmas.List.Elements.{All-append, All-cons, All-drop, All-get_or, All-set, All-take}
-use Rattle.std.proofs.lemmas.List.Folds.{list_any-append}
 use Rattle.std.proofs.Math.ListN.{length-set}
 use Rattle.std.proofs.Math.Seq.{map-set_same}
 use Rattle.lang_core.specs.Places.{IsOrdered}
-use Rattle.lang_core.specs.Rows.{apply, cell_place}
+use Rattle.lang_core.specs.Rows.{cell_place}
 use Rattle.lang_core.specs.declared.cells.Cell.{Cell}
 use Rattle.lang_core.specs.declared.writes.Write.{Write}
 use Rattle.lang_core.proofs.RowLemmas.{ordered-apply}
@@ -20,10 +19,11 @@ use Rattle.dependency_index.specs.Reads.{read_at}
 use Rattle.dependency_index.specs.declared.reads.ReadAt.{ReadAt}
 use Rattle.entry_rows.specs.Rows.{rows_made}
 use Rattle.entry_rows.proofs.EditLemmas.{map_insert}
-use Rattle.entry_marks.specs.Marks.{KeptMarks, is_marked, sees, looks_at}
-use Rattle.local_repair.specs.Current.{Consumed, after_entry, rows_after, rows_of, writes_of, IsCurrent, IsCurrentRecord, AllCurrent, IsFirstStale}
+use Rattle.entry_marks.specs.Marks.{KeptMarks, is_marked, sees, sees_behind}
+use Rattle.local_repair.specs.Current.{Consumed, after_entry, rows_after, rows_of, writes_of, IsCurrent, IsCurrentRecord, IsFirstStale}
 use Rattle.local_repair.specs.Held.{IsHeld, IsHeldRecord, IsKept, IsMarkedFrom, all_looked, looked, reads_of}
 use Rattle.local_repair.specs.Written.{all_written}
+use Rattle.local_repair.proofs.AgreeLemmas.{AlikeBut}
 use Rattle.local_repair.proofs.CurrentLemmas.{current_at}
 use Rattle.local_repair.proofs.GivesLemmas.{wrote, set_gives, insert_gives}
 use Rattle.local_repair.proofs.WrittenLemmas.{made_rows}
@@ -79,6 +79,24 @@ kept_grown entries writes after m m' calls kept same reads more = record {
 pub marked_none : (place : ℕ) (ws : List Write) (m m' : KeptMarks) → IsMarkedFrom place ws m m' → IsMarkedFrom place [] m m'
 marked_none place ws m m' from = record { reads = from.reads; stays = from.stays; sees = λ q le within bare. refl }
 
+or_parts : (a b : Bool) → (a || b) ≡ false → (a ≡ false) × (b ≡ false)
+or_parts true b h = let bare : true ≡ false = h in cc
+or_parts false b h = (refl, h)
+
+-- what looks at these writes behind a place was marked besides
+pub marked_behind : (place : ℕ) (ws : List Write) (m m' : KeptMarks) → m'.reads ≡ m.reads → ((q : ℕ) → is_marked q m'.marks ≡ (is_marked q m.marks || sees_behind place ws m.reads q))
+    → IsMarkedFrom (place + 1) ws m m'
+marked_behind place ws m m' reads marks =
+    let parts : (q : ℕ) → is_marked q m'.marks ≡ false → (is_marked q m.marks ≡ false) × (sees_behind place ws m.reads q ≡ false) =
+    λ q bare. or_parts (is_marked q m.marks) (sees_behind place ws m.reads q) (sym (marks q) ∙ bare) in
+    record {
+      reads = reads;
+      stays = λ q bare. (parts q bare).0;
+      sees = λ q le within bare.
+          let e : nat_lt place q ≡ true = lt-ltb place q (omega arith) in
+          sym (ap (λ b. b && sees ws (get_or m.reads q [])) e) ∙ (parts q bare).1;
+    }
+
 either_false : (a b : Bool) → (not a && b) ≡ false → a ≡ false → b ≡ false
 either_false true b h bare = let never : true ≡ false = bare in cc
 either_false false b h bare = h
@@ -98,16 +116,16 @@ module _ (entries after : List Entry) (place : ℕ) (z : Entry) (within : place 
   many : length after ≡ length entries
   many = ap length is ∙ length-set entries place z
 
-  -- an entry behind it that looks at nothing that either record wrote
-  behind_set : (q : ℕ) (d : Entry) → place < q → sees (wrote (get_or entries place d)) (looked (get_or entries q d)) ≡ false → sees (wrote z) (looked (get_or entries q d)) ≡ false
+  -- an entry behind it that looks at nothing that the new record changed
+  behind_set : (q : ℕ) (d : Entry) (changed : List Write) → place < q → AlikeBut changed (wrote (get_or entries place d)) (wrote z) → sees changed (looked (get_or entries q d)) ≡ false
       → IsHeld (rows_of (take q entries)) (get_or entries q d) → IsHeld (rows_of (take q after)) (get_or after q d)
-  behind_set q d lt no_old no_new h =
+  behind_set q d changed lt alike bare h =
       let e : Entry = get_or entries q d in
       let P : List Entry → Type 0 = λ l. GivesAll (rows_of (take q l)) (reads_of e.made) in
       let Q : Entry → Type 0 = λ x. IsHeld (rows_of (take q after)) x in
       subst Q (sym (other_is q d (λ same. omega arith)))
       (moved (rows_of (take q entries)) (rows_of (take q after)) e
-      (λ g. subst P (sym is) (set_gives entries place q z d [] (reads_of e.made) tt lt within no_old no_new g)) h)
+      (λ g. subst P (sym is) (set_gives entries place q z d changed [] (reads_of e.made) tt lt within alike bare g)) h)
 
   -- an entry before it
   before_set : (q : ℕ) (d : Entry) → q < place → IsHeld (rows_of (take q entries)) (get_or entries q d) → IsHeld (rows_of (take q after)) (get_or after q d)
@@ -125,12 +143,12 @@ module _ (entries after : List Entry) (place : ℕ) (z : Entry) (within : place 
       subst R (sym (front_is place (omega arith))) (subst Q (sym (here_is d)) h)
 
 -- what is kept after the first stale entry ran again
-pub kept_stepped : (consumed : Consumed) (entries after : List Entry) (writes written : List (List Write)) (m m1 m2 : KeptMarks) (place : ℕ) (was z : Entry) (both : List Write) (calls now : Bool)
+pub kept_stepped : (consumed : Consumed) (entries after : List Entry) (writes written : List (List Write)) (m m1 m2 : KeptMarks) (place : ℕ) (was z : Entry) (changed : List Write) (calls now : Bool)
     → IsKept entries writes m calls → (now ≡ false → (calls ≡ false) × (z.slots ≡ [])) → IsFirstStale consumed entries place → ((d : Entry) → get_or entries place d ≡ was)
-    → both ≡ wrote was ++ wrote z → IsMarkedFrom (place + 1) both m m1
+    → AlikeBut changed (wrote was) (wrote z) → IsMarkedFrom (place + 1) changed m m1
     → m2.reads ≡ set m1.reads place (looked z) → ((q : ℕ) → is_marked q m2.marks ≡ (not (nat_lt q (place + 1)) && is_marked q m1.marks))
     → IsHeld (rows_of (take place entries)) z → after ≡ set entries place z → written ≡ all_written after → IsKept after written m2 now
-kept_stepped consumed entries after writes written m m1 m2 place was z both calls now kept called first there both_are marked reads cleared held is tied =
+kept_stepped consumed entries after writes written m m1 m2 place was z changed calls now kept called first there alike marked reads cleared held is tied =
     let within = first.within in
     record {
       tied = tied;
@@ -144,24 +162,15 @@ kept_stepped consumed entries after writes written m m1 m2 place was z both call
             let inside : q < length entries = omega arith in
             let no_mark : is_marked q m1.marks ≡ false = either_false (nat_lt q (place + 1)) (is_marked q m1.marks) (sym (cleared q) ∙ bare) e in
             let count : length m.reads ≡ length entries = ap length kept.looked ∙ length-map entries looked in
-            let nothing : sees both (looked (get_or entries q d)) ≡ false = ap (sees both) (sym (looked_at entries m.reads q d kept.looked inside)) ∙ marked.sees q (omega arith) (omega arith) no_mark in
-            let parts = apart (wrote was) (wrote z) (looked (get_or entries q d)) (ap (λ w. sees w (looked (get_or entries q d))) (sym both_are) ∙ nothing) in
-            behind_set entries after place z within is q d more (ap (λ x. sees (wrote x) (looked (get_or entries q d))) (there d) ∙ parts.0) parts.1 (kept.held q d inside (marked.stays q no_mark)))
+            let nothing : sees changed (looked (get_or entries q d)) ≡ false = ap (sees changed) (sym (looked_at entries m.reads q d kept.looked inside)) ∙ marked.sees q (omega arith) (omega arith) no_mark in
+            let A : Entry → Type 0 = λ x. AlikeBut changed (wrote x) (wrote z) in
+            behind_set entries after place z within is q d changed more (subst A (sym (there d)) alike) nothing (kept.held q d inside (marked.stays q no_mark)))
       ];
       quiet = λ none.
           let before = called none in
           let P : List Entry → Type 0 = λ l. All (λ (e : Entry). e.slots ≡ []) l in
           subst P (sym is) (All-set (λ (e : Entry). e.slots ≡ []) entries place z before.1 (kept.quiet before.0));
     }
-  where
-    or_parts : (a b : Bool) → (a || b) ≡ false → (a ≡ false) × (b ≡ false)
-    or_parts true b h = let bare : true ≡ false = h in cc
-    or_parts false b h = (refl, h)
-
-    apart : (old new : List Write) (reads : List ReadAt) → sees (old ++ new) reads ≡ false → (sees old reads ≡ false) × (sees new reads ≡ false)
-    apart old new reads h =
-        let test : Write → Bool = λ w. list_any (looks_at w.table w.key) reads in
-        or_parts (sees old reads) (sees new reads) (sym (list_any-append test old new) ∙ h)
 
 -- ---- an entry changed, its record left
 

@@ -1,6 +1,8 @@
 -- Entries that can be stale by an answer alone, and what a repairer keeps of them.
 use Rattle.std.specs.Prelude.{ℕ, ◌≡◌, ◌+◌, ◌<◌, ◌≤◌, Bool, false, List, [], Option, Some, None, ◌||◌, IsTrue, IsSomeAnd, MatchOption, All, length, map, nat_eq, position, take, slice_index_or}
 use Rattle.std.specs.List.{HoldsAt, insert}
+use Rattle.lang_core.specs.Places.{IsOrdered}
+use Rattle.lang_core.specs.Rows.{write_place}
 use Rattle.lang_core.specs.declared.cells.Cell.{Cell}
 use Rattle.lang_core.specs.declared.trace.Read.{Read}
 use Rattle.lang_core.specs.declared.writes.Write.{Write}
@@ -10,7 +12,7 @@ use Rattle.request_log.specs.declared.entry.Entry.{Entry}
 use Rattle.request_log.specs.declared.entry.Made.{Made}
 use Rattle.dependency_index.specs.Reads.{read_at}
 use Rattle.dependency_index.specs.declared.reads.ReadAt.{ReadAt}
-use Rattle.entry_marks.specs.Marks.{KeptMarks, is_marked, sees}
+use Rattle.entry_marks.specs.Marks.{KeptMarks, changes, is_marked, sees}
 use Rattle.local_repair.specs.Current.{Consumed, IsCurrent, rows_of}
 use Rattle.local_repair.specs.Written.{all_written}
 
@@ -82,6 +84,12 @@ pub record IsMarkedFrom (place : ℕ) (writes : List Write) (before after : Kept
   pub reads : after.reads ≡ before.reads
   pub stays : (q : ℕ) → is_marked q after.marks ≡ false → is_marked q before.marks ≡ false
   pub sees : (q : ℕ) → place ≤ q → q < length before.reads → is_marked q after.marks ≡ false → sees writes (slice_index_or before.reads q []) ≡ false
+
+-- the same behind a place, where an entry writes these and wrote those before, each key once: what both write changes nothing
+pub record IsMarkedBehind (place : ℕ) (was now : List Write) (before after : KeptMarks) : Type 0 where
+  pub old : IsOrdered write_place was
+  pub new : IsOrdered write_place now
+  pub marked : IsMarkedFrom (place + 1) (changes was now) before after
 
 -- an entry was put at a place before these rows: marked unless it is held on them
 pub record IsPutAt (place : ℕ) (e : Entry) (rows : List Cell) (before after : KeptMarks) : Type 0 where

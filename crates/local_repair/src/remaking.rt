@@ -1,11 +1,11 @@
 // An entry run again, its calls settled.
-ghost use Rattle.std.specs.Prelude.{ℕ, List, ◌≡◌, ◌+◌, ◌<◌, [], ◌++◌, length, IfOk, OnOk, OnErr};
+ghost use Rattle.std.specs.Prelude.{ℕ, List, ◌≡◌, ◌+◌, ◌<◌, [], length, IfOk, OnOk, OnErr};
 ghost use Rattle.lang_core.specs.declared.cells.Cell.{Cell};
 ghost use Rattle.lang_core.specs.declared.setting.Setting.{Setting};
 ghost use Rattle.entry_marks.specs.Marks.{IsReadyToSet as IsReadyToMark};
 ghost use Rattle.entry_rows.specs.Rows.{rows_before, IsReadyToSet};
 ghost use Rattle.local_repair.specs.Current.{writes_of};
-ghost use Rattle.local_repair.specs.Held.{IsMarkedFrom};
+ghost use Rattle.local_repair.specs.Held.{IsMarkedBehind, IsMarkedFrom};
 ghost use Rattle.local_repair.specs.Settling.{HasItsSlots, HasSlotsOnce, CanSettle, IsAgain};
 ghost use Rattle.local_repair.specs.Steps.{answers_for, calls_of_made, IsRerun};
 
@@ -77,7 +77,7 @@ fn made_at<S: Slots>(
     run_again(alloc, setting, &view, entry, slots)
 }
 
-// Marks what stands behind the entry at a place and looks at what it wrote, or at what its new record writes.
+// Marks what stands behind the entry at a place and looks at a write that either its record or the new one has, but not both.
 fn mark_behind(
     alloc: Global,
     marks: &mut EntryMarks,
@@ -86,12 +86,16 @@ fn mark_behind(
     made: &Made,
 ) -> Result<(), NoMemory>
     requires { place < length marks.old.reads }
-    ensures ok { OnOk result (IsMarkedFrom (place + 1) (writes_of entry.now.made ++ made.now.trace.writes) marks.old marks.new) }
+    ensures ok { OnOk result (IsMarkedBehind place (writes_of entry.now.made) made.now.trace.writes marks.old marks.new) }
     ensures err { OnErr result (IsMarkedFrom (place + 1) [] marks.old marks.new) }
 {
     let none = Writes::new(alloc);
-    marks.mark_readers(alloc, place, writes_of(entry, &none))?;
-    marks.mark_readers(alloc, place, &made.trace.writes)
+    let old = writes_of(entry, &none);
+    let new = &made.trace.writes;
+    // Asked for what they promise alone: no key stands twice.
+    let _old = old.as_slice();
+    let _new = new.as_slice();
+    marks.mark_changes(alloc, place, old, new)
 }
 
 // Makes room for what a new record of an entry wrote and for where it looked.
@@ -122,7 +126,7 @@ fn ready_again(
 ) -> Result<(), NoMemory>
     requires { place < length marks.old.reads }
     ensures writes { rows.new.writes ≡ rows.old.writes }
-    ensures ok { OnOk result (IsMarkedFrom (place + 1) (writes_of entry.now.made ++ made.now.trace.writes) marks.old marks.new) }
+    ensures ok { OnOk result (IsMarkedBehind place (writes_of entry.now.made) made.now.trace.writes marks.old marks.new) }
     ensures err { OnErr result (IsMarkedFrom (place + 1) [] marks.old marks.new) }
     ensures ready_rows { OnOk result (IsReadyToSet made.now.trace.writes rows.new) }
     ensures ready_marks { OnOk result (IsReadyToMark made.now.trace.reads marks.new) }
@@ -159,7 +163,7 @@ pub(crate) fn remake<S: Slots>(
     ensures writes { rows.new.writes ≡ rows.old.writes }
     ensures ready { IfOk result (λ again. IsReadyToSet again.made.trace.writes rows.new) }
     ensures ready_marks { IfOk result (λ again. IsReadyToMark again.made.trace.reads marks.new) }
-    ensures marked { IfOk result (λ again. IsMarkedFrom (place + 1) (writes_of entry.now.made ++ again.made.trace.writes) marks.old marks.new) }
+    ensures marked { IfOk result (λ again. IsMarkedBehind place (writes_of entry.now.made) again.made.trace.writes marks.old marks.new) }
     ensures stays { OnErr result (IsMarkedFrom (place + 1) [] marks.old marks.new) }
     ensures timely { S.is_timely slots.old → S.is_timely slots.new }
     ensures err { OnErr result (slots.new ≡ slots.old) }

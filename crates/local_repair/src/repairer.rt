@@ -5,7 +5,7 @@ ghost use Rattle.dependency_index.specs.Reads.{read_at};
 ghost use Rattle.entry_marks.specs.Marks.{is_marked, IsReadyToSet as IsReadyToMark};
 ghost use Rattle.entry_rows.specs.Rows.{IsReadyToSet};
 ghost use Rattle.local_repair.specs.Current.{AllCurrent, AllRuns, rows_of, writes_of};
-ghost use Rattle.local_repair.specs.Held.{all_looked, IsIdMarked, IsKept, IsMarkedFrom};
+ghost use Rattle.local_repair.specs.Held.{all_looked, IsIdMarked, IsKept, IsMarkedBehind, IsMarkedFrom};
 ghost use Rattle.local_repair.specs.Written.{all_written, rows_seen};
 ghost use Rattle.request_log.specs.declared.entry.Entry.{Entry};
 ghost use Rattle.local_repair.specs.Repairs.{IsAmended, IsStaleId, stale_id};
@@ -93,7 +93,7 @@ fn remake_at<S: Slots>(
     ensures writes { rows.new.writes ≡ rows.old.writes }
     ensures ready { IfOk result (λ again. IsReadyToSet again.made.trace.writes rows.new) }
     ensures ready_marks { IfOk result (λ again. IsReadyToMark again.made.trace.reads marks.new) }
-    ensures marked { IfOk result (λ again. (d : Entry) → IsMarkedFrom (place + 1) (writes_of (slice_index_or entries.now place d).made ++ again.made.trace.writes) marks.old marks.new) }
+    ensures marked { IfOk result (λ again. (d : Entry) → IsMarkedBehind place (writes_of (slice_index_or entries.now place d).made) again.made.trace.writes marks.old marks.new) }
     ensures stays { OnErr result (IsMarkedFrom (place + 1) [] marks.old marks.new) }
     ensures timely { S.is_timely slots.old → S.is_timely slots.new }
     ensures err { OnErr result (slots.new ≡ slots.old) }

@@ -1,10 +1,10 @@
-use Rattle.std.proofs.Common.{◌+◌, ◌++◌, sym, subst}
+use Rattle.std.proofs.Common.{◌+◌, sym, subst}
 use Rattle.std.proofs.lemmas.Result.{IfOk-weaker, on_err_weaker}
 use Rattle.request_log.specs.declared.entry.Made.{Made}
 use Rattle.entry_marks.specs.Marks.{IsReadyToSet as IsReadyToMark}
 use Rattle.entry_rows.specs.Rows.{rows_before, IsReadyToSet}
 use Rattle.local_repair.specs.Current.{writes_of}
-use Rattle.local_repair.specs.Held.{IsMarkedFrom}
+use Rattle.local_repair.specs.Held.{IsMarkedBehind}
 use Rattle.local_repair.proofs.HeldLemmas.{marked_none}
 use Rattle.local_repair.proofs.StepLemmas.{rerun_settles}
 use Rattle.local_repair.proofs.remaking.remake.Goals as goal
@@ -32,8 +32,8 @@ returns-clause-ready_marks g c =
 
 pub returns-clause-marked : goal.returns-clause-marked
 returns-clause-marked g c =
-    let P : Made → Type 0 = λ m. IsMarkedFrom (c.args.place + 1) (writes_of c.args.entry.now.made ++ m.trace.writes) c.args.marks.now c.ready_again.new.marks in
+    let P : Made → Type 0 = λ m. IsMarkedBehind c.args.place (writes_of c.args.entry.now.made) m.trace.writes c.args.marks.now c.ready_again.new.marks in
     IfOk-weaker c.settle.result _ _ (λ again same. subst P (sym same) c.in_ok-ready_again.ensures.ok) c.settle.ensures.made
 
 pub returns-clause-stays : goal.returns-clause-stays
-returns-clause-stays g c = on_err_weaker c.settle.result (λ e. marked_none (c.args.place + 1) _ c.args.marks.now c.ready_again.new.marks c.in_ok-ready_again.ensures.ok) c.settle.ensures.err
+returns-clause-stays g c = on_err_weaker c.settle.result (λ e. marked_none (c.args.place + 1) _ c.args.marks.now c.ready_again.new.marks c.in_ok-ready_again.ensures.ok.marked) c.settle.ensures.err

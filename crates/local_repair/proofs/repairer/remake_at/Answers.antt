@@ -1,9 +1,9 @@
-use Rattle.std.proofs.Common.{◌+◌, ◌++◌, ◌∙◌, ap, length, subst, arith}
+use Rattle.std.proofs.Common.{◌∙◌, ap, length, subst, arith}
 use Rattle.std.proofs.lemmas.List.{get_or_default, length-map}
 use Rattle.std.proofs.lemmas.Result.{IfOk-weaker}
 use Rattle.request_log.specs.declared.entry.Entry.{Entry}
 use Rattle.local_repair.specs.Current.{writes_of}
-use Rattle.local_repair.specs.Held.{looked, IsMarkedFrom}
+use Rattle.local_repair.specs.Held.{looked, IsMarkedBehind}
 use Rattle.local_repair.specs.Registers.{Change}
 use Rattle.entry_rows.specs.Rows.{rows_before}
 use Rattle.local_repair.proofs.StepLemmas.{again_at}
@@ -36,6 +36,6 @@ returns-clause-marked g c =
     let place = c.args.place in
     let e = c.index-entries-place.result in
     IfOk-weaker c.remake.result _ _
-    (λ again from d. (let P : Entry → Type 0 = λ x. IsMarkedFrom (place + 1) (writes_of x.made ++ again.made.trace.writes) c.args.marks.now c.remake.new.marks in
+    (λ again from d. (let P : Entry → Type 0 = λ x. IsMarkedBehind place (writes_of x.made) again.made.trace.writes c.args.marks.now c.remake.new.marks in
     subst P (c.index-entries-place.is ∙ get_or_default es place e d c.requires.within) from))
     c.remake.ensures.marked

@@ -1,8 +1,8 @@
-use Rattle.std.proofs.Common.{◌≡◌, ◌∙◌, ◌+◌, ◌++◌, sym, ap, subst, List, [], length, get_or, set, take, arith}
+use Rattle.std.proofs.Common.{◌≡◌, ◌∙◌, ◌+◌, sym, ap, subst, List, [], length, get_or, set, take, arith}
 use Rattle.std.proofs.lemmas.List.{length-map}
 use Rattle.request_log.specs.declared.entry.Entry.{Entry}
 use Rattle.local_repair.specs.Current.{AllCurrent, IsFirstStale, rows_of, writes_of}
-use Rattle.local_repair.specs.Held.{all_looked, looked, IsKept, IsMarkedFrom}
+use Rattle.local_repair.specs.Held.{all_looked, looked, IsKept, IsMarkedBehind}
 use Rattle.local_repair.specs.Registers.{Change}
 use Rattle.local_repair.specs.Repairs.{KeptRepairer}
 use Rattle.local_repair.specs.Settling.{IsAgain, Leaves, noted}
@@ -32,7 +32,7 @@ pub note-requires-clause-within_marks : goal.note-requires-clause-within_marks
 note-requires-clause-within_marks g c =
     let entries = c.self.inside.log.entries in
     let seen = ap length c.as_slice-entries.ensures.entries in
-    let count = ap length (c.in_ok-again-in-Some.ensures.marked (entry_at c.as_slice-entries.result.now c.in-Some.place c.in-Some.ensures.within).0).reads in
+    let count = ap length (c.in_ok-again-in-Some.ensures.marked (entry_at c.as_slice-entries.result.now c.in-Some.place c.in-Some.ensures.within).0).marked.reads in
     let many = ap length c.self.invariant.looked ∙ length-map entries looked in
     let within = c.in-Some.ensures.within in
     omega arith
@@ -88,7 +88,7 @@ invariant_of-self-in-Some g c =
     let seen = c.as_slice-entries.ensures.entries in
     let F : List Entry → Type 0 = λ xs. IsFirstStale (g.S.Slots.consumed_of c.args.slots.now) xs place in
     let A : List Entry → Type 0 = λ xs. (d : Entry) → IsAgain c.args.setting.now (change g c) (rows_of (take place xs)) (get_or xs place d) again in
-    let M : List Entry → Type 0 = λ xs. (d : Entry) → IsMarkedFrom (place + 1) (writes_of (get_or xs place d).made ++ again.made.trace.writes) inside.marks c.remake_at.new.marks in
+    let M : List Entry → Type 0 = λ xs. (d : Entry) → IsMarkedBehind place (writes_of (get_or xs place d).made) again.made.trace.writes inside.marks c.remake_at.new.marks in
     kept_run c.args.setting.now (handler c.args.setting.now) (change g c) inside.log.entries c.note.new.log.entries inside.rows.writes c.note.new.rows.writes inside.marks c.remake_at.new.marks c.note.new.marks
     place again inside.calls c.may_call-self-inside.result c.self.invariant (subst F seen c.in-Some.ensures) (subst A seen c.in_ok-again-in-Some.ensures.ok) (subst M seen c.in_ok-again-in-Some.ensures.marked)
     c.note.ensures.entries c.note.ensures.reads c.note.ensures.marks c.may_call-self-inside.ensures c.note.ensures.tied
