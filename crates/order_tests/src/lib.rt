@@ -2,6 +2,10 @@
 #![tactic(auto)]
 
 #[cfg(test)]
+mod base;
+#[cfg(test)]
+mod drawn;
+#[cfg(test)]
 mod index;
 #[cfg(test)]
 mod labels;

@@ -9,15 +9,20 @@ use place_order::Order;
 use std::alloc::Global;
 use versioned_rows::Versions;
 
-fn write(alloc: Global, key: &str, text: Option<&str>) -> Result<Writes, NoMemory> {
+// That text put at a key, or the key dropped.
+pub(crate) fn write(alloc: Global, key: &str, text: Option<&str>) -> Result<Write, NoMemory> {
     let text = match text {
         None => None,
         Some(text) => Some(Text::of(alloc, text)?),
     };
     let table = Text::of(alloc, "notes")?;
     let key = Text::of(alloc, key)?;
+    Ok(Write { table, key, text })
+}
+
+fn one_write(alloc: Global, key: &str, text: Option<&str>) -> Result<Writes, NoMemory> {
     let mut writes = Writes::new(alloc);
-    writes.set(Write { table, key, text })?;
+    writes.set(write(alloc, key, text)?)?;
     Ok(writes)
 }
 
@@ -32,12 +37,11 @@ fn put(
     requires label { Contains order.now.labels label }
     ensures { OnOk result (IsRising order.now.labels (map label_of versions.new.versions)) }
 {
-    let writes = write(alloc, "a", text)?;
+    let writes = one_write(alloc, "a", text)?;
     versions.ready_write_at(alloc, &writes)?;
     versions.write_at(alloc, order, label, &writes)
 }
 
-// Whether that text stands at the key before the label.
 fn stands(
     alloc: Global,
     order: &Order,
@@ -48,8 +52,23 @@ fn stands(
     requires rising { IsRising order.now.labels (map label_of versions.now.versions) }
     requires label { ForSome label (Contains order.now.labels) }
 {
+    stands_at(alloc, order, versions, label, "a", expected)
+}
+
+// Whether that text stands at the key before the label.
+pub(crate) fn stands_at(
+    alloc: Global,
+    order: &Order,
+    versions: &Versions,
+    label: Option<u64>,
+    key: &str,
+    expected: &str,
+) -> Result<bool, NoMemory>
+    requires rising { IsRising order.now.labels (map label_of versions.now.versions) }
+    requires label { ForSome label (Contains order.now.labels) }
+{
     let table = Text::of(alloc, "notes")?;
-    let key = Text::of(alloc, "a")?;
+    let key = Text::of(alloc, key)?;
     match versions.get_before(order, label, &table, &key) {
         None => Ok(expected == "nothing"),
         Some(text) => Ok(text.as_str() == expected),

@@ -1,0 +1,320 @@
+// A thousand drawn operations on versions, and on a list of what each place wrote beside them.
+ghost use Rattle.std.specs.Prelude.{ℕ, List, ◌≡◌, ◌<◌, [], ◌∷◌, ◌++◌, map, IfOk, OnOk};
+ghost use Rattle.std.specs.List.{All, Contains};
+ghost use Rattle.std.specs.Option.{ForSome};
+ghost use Rattle.place_order.specs.Rising.{IsRising};
+ghost use Rattle.versioned_rows.specs.Places.{label_of};
+
+use crate::versions::write;
+use lang_core::{
+    Cells, Copied, NoMemory, Same, Text, Write, Writes, apply_writes, row_get, row_scan,
+};
+use place_order::{Order, OrderFull};
+use std::alloc::Global;
+use versioned_rows::Versions;
+
+const PLACES: u64 = 12;
+
+const TURNS: u64 = 1000;
+
+/// Numbers that are the same in each run.
+#[derive(Drop)]
+struct Draws {
+    last: u64,
+}
+
+impl Draws {
+    fn below(&mut self, end: u64) -> u64
+        requires { 0 < end }
+        ensures { result < end }
+    {
+        self.last = self
+            .last
+            .wrapping_mul(6364136223846793005)
+            .wrapping_add(1442695040888963407);
+        (self.last >> 33) % end
+    }
+}
+
+/// The rows before all places, and what each place wrote.
+#[derive(Drop)]
+struct Plain {
+    base: Cells,
+    places: Vec<Writes>,
+}
+
+impl Plain {
+    fn new(alloc: Global) -> Result<Plain, NoMemory> {
+        let mut places = Vec::new(alloc);
+        for _ in 0..PLACES {
+            places.push(Writes::new(alloc))?;
+        }
+        Ok(Plain {
+            base: Cells::new(alloc),
+            places,
+        })
+    }
+
+    // The rows before a place, made by all writes before it.
+    fn rows_before(&self, alloc: Global, place: u64) -> Result<Cells, NoMemory> {
+        let mut rows = self.base.copied(alloc)?;
+        for at in 0..place {
+            match self.places.get(at as usize) {
+                None => {}
+                Some(writes) => apply_writes(alloc, &mut rows, writes)?,
+            }
+        }
+        Ok(rows)
+    }
+
+    fn put(&mut self, place: u64, writes: Writes) {
+        match self.places.get_mut(place as usize) {
+            None => {}
+            Some(own) => *own = writes,
+        }
+    }
+}
+
+fn push(labels: &mut Vec<u64>, label: u64) -> Result<(), NoMemory>
+    ensures { OnOk result (labels.new.items ≡ labels.old.items ++ label ∷ []) }
+{
+    labels.push(label)?;
+    Ok(())
+}
+
+fn labels_of(alloc: Global, order: &mut Order) -> Result<Vec<u64>, OrderFull>
+    ensures { IfOk result (λ labels. All (Contains order.new.labels) labels.items) }
+{
+    let mut labels = Vec::new(alloc);
+    for _turn in 0..PLACES {
+        let label = order.append()?;
+        push(&mut labels, label)?;
+    }
+    Ok(labels)
+}
+
+fn label_at(labels: &[u64], place: u64) -> Option<u64>
+    ensures { (known : List ℕ) → All (Contains known) labels.now → ForSome result (Contains known) }
+{
+    match labels.get(place as usize) {
+        None => None,
+        Some(label) => Some(*label),
+    }
+}
+
+fn drawn_key(draws: &mut Draws) -> &'static str {
+    match draws.below(6) {
+        0 => "",
+        1 => "a",
+        2 => "ab",
+        3 => "abc",
+        4 => "b",
+        _ => "ba",
+    }
+}
+
+fn drawn_write(alloc: Global, draws: &mut Draws) -> Result<Write, NoMemory> {
+    let key = drawn_key(draws);
+    match draws.below(3) {
+        0 => write(alloc, key, None),
+        1 => write(alloc, key, Some("one")),
+        _ => write(alloc, key, Some("two")),
+    }
+}
+
+// None to three writes.
+fn drawn_writes(alloc: Global, draws: &mut Draws) -> Result<Writes, NoMemory> {
+    let mut writes = Writes::new(alloc);
+    for _ in 0..draws.below(4) {
+        writes.set(drawn_write(alloc, draws)?)?;
+    }
+    Ok(writes)
+}
+
+fn write_at(
+    alloc: Global,
+    order: &Order,
+    versions: &mut Versions,
+    plain: &mut Plain,
+    place: u64,
+    label: u64,
+    draws: &mut Draws,
+) -> Result<(), NoMemory>
+    requires rising { IsRising order.now.labels (map label_of versions.old.versions) }
+    requires label { Contains order.now.labels label }
+    ensures { OnOk result (IsRising order.now.labels (map label_of versions.new.versions)) }
+{
+    let writes = drawn_writes(alloc, draws)?;
+    versions.write_at(alloc, order, label, &writes)?;
+    plain.put(place, writes);
+    Ok(())
+}
+
+// The rows before a place become those before all places.
+fn set_base(
+    alloc: Global,
+    versions: &mut Versions,
+    plain: &mut Plain,
+    place: u64,
+) -> Result<(), NoMemory>
+    ensures { versions.new.versions ≡ versions.old.versions }
+{
+    let rows = plain.rows_before(alloc, place)?;
+    versions.insert_base(alloc, &rows)?;
+    plain.base = rows;
+    Ok(())
+}
+
+fn change(
+    alloc: Global,
+    order: &Order,
+    versions: &mut Versions,
+    plain: &mut Plain,
+    place: u64,
+    label: u64,
+    draws: &mut Draws,
+) -> Result<(), NoMemory>
+    requires rising { IsRising order.now.labels (map label_of versions.old.versions) }
+    requires label { Contains order.now.labels label }
+    ensures { OnOk result (IsRising order.now.labels (map label_of versions.new.versions)) }
+{
+    match draws.below(8) {
+        0 => {
+            set_base(alloc, versions, plain, place)?;
+            Ok(())
+        }
+        1 => {
+            versions.take_back(label);
+            plain.put(place, Writes::new(alloc));
+            Ok(())
+        }
+        _ => write_at(alloc, order, versions, plain, place, label, draws),
+    }
+}
+
+fn gets_agree(
+    order: &Order,
+    versions: &Versions,
+    rows: &Cells,
+    label: Option<u64>,
+    table: &Text,
+    key: &Text,
+) -> bool
+    requires rising { IsRising order.now.labels (map label_of versions.now.versions) }
+    requires label { ForSome label (Contains order.now.labels) }
+{
+    match row_get(rows, table, key) {
+        None => versions.get_before(order, label, table, key).is_none(),
+        Some(text) => match versions.get_before(order, label, table, key) {
+            None => false,
+            Some(found) => found.is(text),
+        },
+    }
+}
+
+fn scans_agree(
+    alloc: Global,
+    order: &Order,
+    versions: &Versions,
+    rows: &Cells,
+    label: Option<u64>,
+    table: &Text,
+    prefix: &Text,
+) -> Result<bool, NoMemory>
+    requires rising { IsRising order.now.labels (map label_of versions.now.versions) }
+    requires label { ForSome label (Contains order.now.labels) }
+{
+    let found = versions.scan_before(alloc, order, label, table, prefix)?;
+    let expected = row_scan(alloc, rows, table, prefix)?;
+    Ok(found.is(&expected) && versions.scan_is(order, label, table, prefix, &expected))
+}
+
+// Whether both say the same of a key, and of what begins with it.
+fn agree(
+    alloc: Global,
+    order: &Order,
+    versions: &Versions,
+    rows: &Cells,
+    label: Option<u64>,
+    key: &str,
+) -> Result<bool, NoMemory>
+    requires rising { IsRising order.now.labels (map label_of versions.now.versions) }
+    requires label { ForSome label (Contains order.now.labels) }
+{
+    let table = Text::of(alloc, "notes")?;
+    let key = Text::of(alloc, key)?;
+    let scans = scans_agree(alloc, order, versions, rows, label, &table, &key)?;
+    Ok(scans && gets_agree(order, versions, rows, label, &table, &key))
+}
+
+fn compared(
+    alloc: Global,
+    order: &Order,
+    labels: &[u64],
+    versions: &Versions,
+    plain: &Plain,
+    draws: &mut Draws,
+) -> Result<bool, NoMemory>
+    requires rising { IsRising order.now.labels (map label_of versions.now.versions) }
+    requires known { All (Contains order.now.labels) labels.now }
+{
+    let place = draws.below(PLACES + 1);
+    let rows = plain.rows_before(alloc, place)?;
+    let label = label_at(labels, place);
+    agree(alloc, order, versions, &rows, label, drawn_key(draws))
+}
+
+fn changed(
+    alloc: Global,
+    order: &Order,
+    labels: &[u64],
+    versions: &mut Versions,
+    plain: &mut Plain,
+    draws: &mut Draws,
+) -> Result<(), NoMemory>
+    requires rising { IsRising order.now.labels (map label_of versions.old.versions) }
+    requires known { All (Contains order.now.labels) labels.now }
+    ensures { OnOk result (IsRising order.now.labels (map label_of versions.new.versions)) }
+{
+    let place = draws.below(PLACES);
+    match label_at(labels, place) {
+        None => Ok(()),
+        Some(label) => change(alloc, order, versions, plain, place, label, draws),
+    }
+}
+
+// How many turns agree until one doesn't.
+fn turns(
+    alloc: Global,
+    order: &Order,
+    labels: &[u64],
+    versions: &mut Versions,
+) -> Result<u64, NoMemory>
+    requires rising { IsRising order.now.labels (map label_of versions.old.versions) }
+    requires known { All (Contains order.now.labels) labels.now }
+{
+    let mut plain = Plain::new(alloc)?;
+    let mut draws = Draws { last: 1 };
+    for turn in 0..TURNS {
+        changed(alloc, order, labels, versions, &mut plain, &mut draws)?;
+        if !compared(alloc, order, labels, versions, &plain, &mut draws)? {
+            return Ok(turn);
+        }
+    }
+    Ok(TURNS)
+}
+
+fn played(alloc: Global, order: &Order, labels: &Vec<u64>) -> Result<u64, NoMemory>
+    requires { All (Contains order.now.labels) labels.now.items }
+{
+    let mut versions = Versions::new(alloc);
+    turns(alloc, order, labels, &mut versions)
+}
+
+#[test]
+fn a_list_and_versions_side_by_side(rt: HostRuntime) {
+    let alloc = rt.alloc();
+    let mut order = Order::new(alloc);
+    let labels = labels_of(alloc, &mut order).expect(&rt, "labels");
+    assert!(rt; played(alloc, &order, &labels).expect(&rt, "memory") == TURNS);
+}
