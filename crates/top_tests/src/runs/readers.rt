@@ -3,7 +3,8 @@ use memory_runs::ran_in;
 use std::process::Abort;
 
 // Pages under one seal: each is written or dropped together with the seal, which always says the same.
-const SEALED: &str = r#"{"services":[{"name":"pages","program":"route PUT \"/page/*\" { put notes \"seal\" = \"wax\"; put notes path(2) = body; reply 200 \"\"; } route POST \"/page/*\" { put notes \"seal\" = \"wax\"; put notes path(2) = body; reply 201 \"\"; } route DELETE \"/page/*\" { put notes \"seal\" = \"wax\"; drop notes path(2); reply 200 \"\"; } route GET \"/note/*\" { get v = notes path(2); if (v = nothing) { reply 404 \"\"; } reply 200 v; } route GET \"/all/*\" { let all = \"\"; each k, t in notes path(2) { let all = (all ++ t); } reply 200 all; }",
+const SEALED: &str =
+    r#"{"services":[{"name":"pages","program":"route PUT \"/page/*\" { put notes \"seal\" = \"wax\"; put notes path(2) = body; reply 200 \"\"; } route POST \"/page/*\" { put notes \"seal\" = \"wax\"; put notes path(2) = body; reply 201 \"\"; } route DELETE \"/page/*\" { put notes \"seal\" = \"wax\"; drop notes path(2); reply 200 \"\"; } route GET \"/note/*\" { get v = notes path(2); if (v = nothing) { reply 404 \"\"; } reply 200 v; } route GET \"/all/*\" { let all = \"\"; each k, t in notes path(2) { let all = (all ++ t); } reply 200 all; }",
 "rules":"allow any any any /","secret":"s","console":"c","door":"d","workers":1}]}"#;
 
 // The first request writes the same by another method. Then it writes another text, and the earlier one before its readers
