@@ -1,10 +1,12 @@
-//! Tests of whole runs over services that call one another.
+//! Tests of whole runs over services that call one another, and of which requests a repair runs again.
 #![tactic(auto)]
 
 #[cfg(test)]
 mod calls;
 #[cfg(test)]
 mod late;
+#[cfg(test)]
+mod readers;
 #[cfg(test)]
 mod refusals;
 #[cfg(test)]

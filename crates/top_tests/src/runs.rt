@@ -2,7 +2,6 @@
 mod guestbook;
 mod loads;
 mod orders;
-mod readers;
 
 use io_edge::{MemoryFile, MemoryFiles, MemorySource};
 use lang_core::{Bytes, Seq, Text};
