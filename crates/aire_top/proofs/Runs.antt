@@ -6,10 +6,10 @@ use Rattle.io_edge.specs.Edge.{IsFront, ReadFails, Reads, WriteFails, Writes, Wr
 use Rattle.io_edge.specs.Files.{LoadFails, Loads}
 use Rattle.io_edge.proofs.Pieces.{front_whole, wrote_more}
 use Rattle.journal_rows.specs.declared.verdict.Verdict.{Verdict}
-use Rattle.network_meaning.specs.Worlds.{World}
-use Rattle.script_plays.specs.Plays.{Played, played, run_of_script}
-use Rattle.script_plays.specs.Stops.{DoesAll, IsRefusedAt, StopsEarly, StopsInLine}
-use Rattle.script_plays.proofs.PlayLaws.{early_front}
+use Rattle.world_events.specs.Worlds.{World}
+use Rattle.script_run.specs.Plays.{Played, played, run_of_script}
+use Rattle.script_run.specs.Stops.{DoesAll, IsRefusedAt, StopsEarly, StopsInLine}
+use Rattle.script_run.proofs.PlayLaws.{early_front}
 use Rattle.world_file.specs.Numbers.{refusal_text}
 use Rattle.world_file.specs.declared.setup.Setup.{Setup}
 use Rattle.aire_top.specs.Causes.{what_of}

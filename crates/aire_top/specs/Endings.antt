@@ -3,12 +3,12 @@ use Rattle.std.specs.Prelude.{◌≡◌, ◌⊎◌, ℕ, ◌≤◌, Bool, true, 
 use Rattle.io_edge.specs.Edge.{IsAtEnd, IsFront, ReadFails, Reads, WriteFails, Writes, Wrote}
 use Rattle.io_edge.specs.Files.{LoadFails, Loads}
 use Rattle.journal_rows.specs.declared.verdict.Verdict.{Verdict}
-use Rattle.service_meaning.specs.State.{Kept}
-use Rattle.network_meaning.specs.Worlds.{World}
+use Rattle.service_events.specs.State.{Kept}
+use Rattle.world_events.specs.Worlds.{World}
 use Rattle.world_file.specs.declared.setup.Setup.{Setup}
-use Rattle.script_plays.specs.Audits.{verdict}
-use Rattle.script_plays.specs.Plays.{Played, run_of_script}
-use Rattle.script_plays.specs.Stops.{StopsInLine}
+use Rattle.script_run.specs.Audits.{verdict}
+use Rattle.script_run.specs.Plays.{Played, run_of_script}
+use Rattle.script_run.specs.Stops.{StopsInLine}
 use Rattle.aire_top.specs.Top.{Is, Words, fresh, is_input, script_path, script_told, world_path, world_told}
 
 -- ---- what a run is told by

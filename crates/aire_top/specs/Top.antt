@@ -3,7 +3,7 @@ use Rattle.std.specs.Prelude.{◌≡◌, ℕ, ◌+◌, Bool, not, ◌||◌, List
 use Rattle.std.specs.List.{starts_with}
 use Rattle.std.specs.Option.{ForSome}
 use Rattle.lang_base.specs.Texts.{same_text}
-pub use Rattle.setup_laws.specs.Fresh.{fresh, fresh_service}
+pub use Rattle.aire_top.specs.Fresh.{fresh, fresh_service}
 use Rattle.world_file.specs.declared.setup.Setup.{Setup}
 use Rattle.world_file.specs.declared.refused.WorldRefused.{WorldRefused}
 use Rattle.world_file.specs.Standard.{built_in}

@@ -1,9 +1,9 @@
 // How a run ends.
 ghost use Rattle.std.specs.Prelude.{◌≡◌, ◌≤◌, IfSome, Some, codes};
 ghost use Rattle.journal_rows.specs.declared.verdict.Verdict.TheVariants.{Legal};
-ghost use Rattle.network_meaning.specs.Sound.{IsSound};
-ghost use Rattle.script_plays.specs.Audits.{SaysForged};
-ghost use Rattle.world_meaning.specs.Legal.{IsLegalTogether, histories};
+ghost use Rattle.world_events.specs.Sound.{IsSound};
+ghost use Rattle.script_run.specs.Audits.{SaysForged};
+ghost use Rattle.world_agreement.specs.Legal.{IsLegalTogether, histories};
 ghost use Rattle.world_file.specs.Numbers.{refusal_text};
 ghost use Rattle.aire_top.specs.Closings.{Closes};
 ghost use Rattle.aire_top.specs.Endings.{LacksMemory, answer, nothing, refused_line, standing, unread_line, usage_line, world_line};

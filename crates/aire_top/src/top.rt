@@ -1,9 +1,9 @@
 // The top call.
 ghost use Rattle.std.specs.Prelude.{◌≡◌, ◌⊎◌, ◌≤◌, IfOk, IfSome, Some, map, string_bytes, length};
 ghost use Rattle.journal_rows.specs.declared.verdict.Verdict.TheVariants.{Legal};
-ghost use Rattle.network_meaning.specs.Sound.{IsSound};
-ghost use Rattle.script_plays.specs.Audits.{SaysForged};
-ghost use Rattle.world_meaning.specs.Legal.{IsLegalTogether, histories};
+ghost use Rattle.world_events.specs.Sound.{IsSound};
+ghost use Rattle.script_run.specs.Audits.{SaysForged};
+ghost use Rattle.world_agreement.specs.Legal.{IsLegalTogether, histories};
 ghost use Rattle.world_file.specs.Worlds.{KnowEachOther};
 ghost use Rattle.aire_top.specs.Closings.{ClosesWorldless, RunsIn};
 ghost use Rattle.aire_top.specs.Endings.{IsGoodRun, RunEnds, ScriptEnds, answer, outside};
@@ -66,7 +66,7 @@ fn services_of(alloc: Global, setups: &[Setup]) -> Result<Vec<Service>, NoMemory
 }
 
 // A new world of services that are set up so.
-#[tactic(auto, using(setup_laws::proofs::FreshLaws::names_differ, setup_laws::proofs::FreshLaws::setups_sound))]
+#[tactic(auto, using(crate::proofs::FreshLaws::names_differ, crate::proofs::FreshLaws::setups_sound))]
 fn started(alloc: Global, setups: &[Setup]) -> Result<World, NoMemory>
     requires { KnowEachOther setups.now }
     ensures fresh { IfOk result (λ world. world ≡ fresh setups.now) }

@@ -3,12 +3,12 @@ use Rattle.std.proofs.Common.{◌≡◌, ℕ, true, List, Some, refl, ap, ◌∙
 use Rattle.lang_core.specs.declared.request.Request.{Request}
 use Rattle.lang_tree.specs.Forms.{is_path}
 use Rattle.http_front.specs.declared.message.WireRequest.{WireRequest}
-use Rattle.http_laws.specs.ReadBack.{IsSendable, request_read}
-use Rattle.http_laws.proofs.RequestsBack.{request_reads_back}
+use Rattle.http_front.specs.ReadBack.{IsSendable, request_read}
+use Rattle.http_front.proofs.RequestsBack.{request_reads_back}
 use Rattle.repair_messages.specs.declared.messages.AnswerMessage.{AnswerMessage}
 use Rattle.repair_messages.specs.declared.messages.SetMessage.{SetMessage}
-use Rattle.wire_laws.proofs.MadeHeads.{ArePlain, AreSingle, table_plain}
-use Rattle.wire_laws.proofs.SameFields.{request_agrees, same_lines}
+use Rattle.wire_fields.proofs.MadeHeads.{ArePlain, AreSingle, table_plain}
+use Rattle.wire_fields.proofs.SameFields.{request_agrees, same_lines}
 use Rattle.aire_wire.specs.ReadBack.{AnswerBytesReadBack, AreReadAs, CallBytesReadBack, IsReadAs, SetBytesReadBack}
 use Rattle.aire_wire.specs.Written.{call_asking, written_answer, written_set}
 use Rattle.aire_wire.specs.declared.incoming.Incoming.{Incoming}

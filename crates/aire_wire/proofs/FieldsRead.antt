@@ -32,7 +32,7 @@ use Rattle.aire_wire.specs.Written.{chain_text}
 use Rattle.aire_wire.specs.declared.incoming.Incoming.{Incoming}
 use Rattle.wire_fields.proofs.SealLemmas.{text_same, seal_form, seal_utf8}
 use Rattle.wire_fields.proofs.SpeltLemmas.{decimal_utf8, id_back, id_utf8, name_utf8, number_back}
-use Rattle.wire_laws.proofs.Refusals.{fits}
+use Rattle.wire_fields.proofs.Refusals.{fits}
 use Rattle.aire_wire.proofs.TextForms.{chain_read, chain_utf8, who_utf8}
 
 -- ---- fields

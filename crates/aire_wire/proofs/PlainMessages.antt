@@ -11,9 +11,9 @@ use Rattle.lang_tree.specs.declared.method.Method.{Method}
 use Rattle.lang_tree.specs.declared.method.Method.TheVariants as methods
 use Rattle.http_front.specs.declared.header.AireHeader.{AireHeader}
 use Rattle.http_front.specs.declared.header.AireHeader.TheVariants as headers
-use Rattle.http_laws.specs.ReadBack.{is_plain}
+use Rattle.http_front.specs.ReadBack.{is_plain}
 use Rattle.std.proofs.lemmas.Bool.{and_from, and_parts}
-use Rattle.http_laws.proofs.PlainLemmas.{decimal_plain, visible_plain}
+use Rattle.http_front.proofs.PlainLemmas.{decimal_plain, visible_plain}
 use Rattle.repair_messages.specs.Kinds.{kind_word, spelling as message_kind}
 use Rattle.repair_messages.specs.declared.kinds.Kind.{Kind}
 use Rattle.repair_messages.specs.declared.kinds.Kind.TheVariants.{Create, Replace, Delete, ReplaceResponse, Retry}
@@ -21,8 +21,8 @@ use Rattle.repair_messages.specs.declared.messages.AnswerMessage.{AnswerMessage}
 use Rattle.repair_messages.specs.declared.messages.SetMessage.{SetMessage}
 use Rattle.request_names.specs.Ids.{id_text}
 use Rattle.wire_fields.specs.Heads.{Field, with_field, with_fields}
-use Rattle.wire_laws.proofs.MadeHeads.{ArePlain, AreSingle, all_plain, are_single, each_single, is_plain_field, none_plain, one_plain}
-use Rattle.wire_laws.proofs.PlainForms.{id_plain, name_bytes, name_plain, path_plain, seal_plain, who_plain}
+use Rattle.wire_fields.proofs.MadeHeads.{ArePlain, AreSingle, all_plain, are_single, each_single, is_plain_field, none_plain, one_plain}
+use Rattle.wire_fields.proofs.PlainForms.{id_plain, name_bytes, name_plain, path_plain, seal_plain, who_plain}
 use Rattle.aire_wire.specs.ReadBack.{IsAnswered, IsCalled, IsNumber, IsSent}
 use Rattle.aire_wire.specs.Written.{answer_fields, behind_comma, call_asking, call_fields, chain_text, desired_fields, neighbour_field, set_message_fields, version_fields, written_answer, written_set}
 use Rattle.aire_wire.proofs.ReadSets.{listed}

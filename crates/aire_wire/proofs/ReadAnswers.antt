@@ -21,7 +21,7 @@ use Rattle.aire_wire.specs.Written.{answer_fields, written_answer}
 use Rattle.wire_fields.specs.Heads.{with_fields}
 use Rattle.aire_wire.specs.declared.incoming.Incoming.TheVariants.{Answer}
 use Rattle.aire_wire.proofs.FieldsRead.{IsFine, answered, fine_id, fine_name, fine_number, fine_seal, fine_who, none_refused, id_number, on_side, replaces_response, same_answer, sealed_well, stands, text_read}
-use Rattle.wire_laws.proofs.Refusals.{neither}
+use Rattle.wire_fields.proofs.Refusals.{neither}
 use Rattle.aire_wire.proofs.ReadSets.{word_fine}
 use Rattle.wire_fields.proofs.SpeltLemmas.{decimal_utf8, number_back}
 

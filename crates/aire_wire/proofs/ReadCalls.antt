@@ -22,7 +22,7 @@ use Rattle.aire_wire.specs.Written.{call_asking, call_fields, call_or_deletion, 
 use Rattle.wire_fields.specs.Heads.{with_fields}
 use Rattle.aire_wire.specs.declared.incoming.Incoming.TheVariants.{Live}
 use Rattle.aire_wire.proofs.FieldsRead.{IsFine, answered, chain_back, fine_chain, fine_id, fine_name, fine_seal, fine_who, none_refused, id_number, on_side, same_request, same_set, sealed_well, stands, text_read}
-use Rattle.wire_laws.proofs.Refusals.{fits, neither}
+use Rattle.wire_fields.proofs.Refusals.{fits, neither}
 use Rattle.aire_wire.proofs.TextForms.{chain_ends}
 use Rattle.std.proofs.lemmas.Bool.{and_parts}
 

@@ -32,7 +32,7 @@ use Rattle.aire_wire.specs.Written.{body_of, chain_text, desired_fields, neighbo
 use Rattle.wire_fields.specs.Heads.{Field, with_field, with_fields}
 use Rattle.aire_wire.specs.declared.incoming.Incoming.TheVariants.{Set}
 use Rattle.aire_wire.proofs.FieldsRead.{Holds, IsFine, answered, chain_back, fine_chain, fine_id, fine_name, fine_number, fine_seal, fine_who, neighbour_back, neighbour_fine, neighbour_values, none_refused, id_number, on_side, same_request, same_set, sealed_well, stands, text_read}
-use Rattle.wire_laws.proofs.Refusals.{neither}
+use Rattle.wire_fields.proofs.Refusals.{neither}
 use Rattle.aire_wire.proofs.TextForms.{path_utf8, visible_utf8}
 use Rattle.wire_fields.proofs.SpeltLemmas.{number_back}
 

@@ -16,7 +16,7 @@ use Rattle.wire_fields.specs.declared.kinds.RequestKind.TheVariants as kinds
 use Rattle.wire_fields.specs.declared.refused.WireRefused.{WireRefused}
 use Rattle.wire_fields.specs.declared.secrets.Peer.{Peer}
 use Rattle.wire_fields.specs.declared.secrets.Secrets.{Secrets}
-use Rattle.wire_laws.proofs.SameFields.{Agree, of_table, same_table}
+use Rattle.wire_fields.proofs.SameFields.{Agree, of_table, same_table}
 use Rattle.lang_base.specs.Texts.{same_text}
 use Rattle.aire_wire.specs.Incoming.{desired_in, desired_refusal, incoming, incoming_as, is_deletion, says_replace_response, seal_refusal, set_answer, set_fields, set_with, set_word, unless_refused}
 use Rattle.aire_wire.specs.declared.incoming.Incoming.{Incoming}

@@ -15,7 +15,7 @@ use Rattle.http_front.specs.declared.header.AireHeader.{AireHeader}
 use Rattle.http_front.specs.declared.header.AireHeader.TheVariants.{NotifierUrl}
 use Rattle.http_front.specs.declared.message.FrontRefused.{FrontRefused}
 use Rattle.http_front.specs.declared.message.WireRequest.{WireRequest}
-use Rattle.http_laws.specs.ReadBack.{IsWithin, is_plain_line}
+use Rattle.http_front.specs.ReadBack.{IsWithin, is_plain_line}
 use Rattle.repair_messages.specs.declared.messages.AnswerMessage.{AnswerMessage}
 use Rattle.repair_messages.specs.declared.messages.SetMessage.{SetMessage}
 use Rattle.repair_messages.specs.declared.posts.Post.{Post}

@@ -8,10 +8,10 @@ use Rattle.std.proofs.lemmas.List.{length-set}
 use Rattle.std.proofs.lemmas.List.Elements.{All-from_get_or}
 use Rattle.std.proofs.lemmas.List.Sums.{sum_by_push, sum_by-set, sum_by-le, get_or-le-sum_by}
 use Rattle.std.proofs.lemmas.Option.{cond_some, option_and_then_some, slice_get-get_or, slice_get_within, get_or_from_slice_get}
-use Rattle.hash_index.specs.Keys.{text_key}
-use Rattle.age_queue.specs.Ages.{weigh, each_once, of_code, IsExchanged, IsRising}
-use Rattle.age_queue.specs.declared.keys.AgeKey.{AgeKey}
-use Rattle.age_queue.proofs.SumLemmas.{count_all, some_adds, filter_keeps, filter_from, IsKept}
+use Rattle.lang_lists.specs.Keys.{text_key}
+use Rattle.lang_lists.specs.Ages.{weigh, each_once, of_code, IsExchanged, IsRising}
+use Rattle.lang_lists.specs.declared.age_keys.AgeKey.{AgeKey}
+use Rattle.lang_lists.proofs.SumLemmas.{count_all, some_adds, filter_keeps, filter_from, IsKept}
 use Rattle.call_registers.specs.Registers.{register, CountFrom, IsNumbered}
 use Rattle.call_registers.specs.Waiting.{adds, age_key, key_of, waiting_key, AreWaiting, IsQueue}
 use Rattle.call_registers.specs.declared.register.Register.{Register}

@@ -2,9 +2,9 @@
 use Rattle.std.specs.Prelude.{ℕ, ◌≡◌, ◌≤◌, List, Option, Some, None, if◌then◌else◌, nat_lt, length}
 use Rattle.std.specs.List.{Contains, sum_by}
 use Rattle.std.specs.Option.{option_and_then}
-use Rattle.hash_index.specs.Keys.{text_key}
-use Rattle.age_queue.specs.Ages.{weigh, IsRising}
-use Rattle.age_queue.specs.declared.keys.AgeKey.{AgeKey}
+use Rattle.lang_lists.specs.Keys.{text_key}
+use Rattle.lang_lists.specs.Ages.{weigh, IsRising}
+use Rattle.lang_lists.specs.declared.age_keys.AgeKey.{AgeKey}
 use Rattle.call_registers.specs.Registers.{register, IsNumbered}
 use Rattle.call_registers.specs.declared.register.Register.{Register}
 

@@ -6,10 +6,9 @@ ghost use Rattle.call_registers.specs.Overlays.{put};
 ghost use Rattle.call_registers.specs.Waiting.{waiting_key, AreWaiting, IsListed};
 
 use crate::register::{Change, Register, apply};
-use age_queue::{AgeKey, AgeQueue};
-use hash_index::text_key;
 use lang_base::copied_items;
 use lang_core::{Name, NoMemory};
+use lang_lists::{AgeKey, AgeQueue, text_key};
 use std::alloc::Global;
 use std::marker::Model;
 

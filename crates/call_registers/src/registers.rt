@@ -1,7 +1,7 @@
 // The registers of a service.
 ghost use Rattle.std.specs.Prelude.{◌≡◌, ◌+◌, ◌<◌, ◌≤◌, [], ◌∷◌, ◌++◌, length, slice_get, is_some, IfOk, IsOk, OnOk, OnErr, IsTrue, vec_len, vec_capacity};
 ghost use Rattle.std.specs.Option.{option_copied};
-ghost use Rattle.call_room.specs.Room.{is_made, spend};
+ghost use Rattle.lang_lists.specs.Room.{is_made, spend};
 ghost use Rattle.call_registers.specs.Registers.{register, IsThere, IsNumbered, consumed, answer_to, next_number, with_call, at_number, sent_anew, with_ack, with_answer, with_cause, with_hold, released, changed, want_call, replace_call};
 ghost use Rattle.call_registers.specs.Overlays.{overlaid, put_all, numbered_from};
 ghost use Rattle.call_registers.specs.Rooms.{call_code};
@@ -14,8 +14,8 @@ use crate::register::{Answer, Change, Hold, Register, Why};
 use crate::register_list::RegisterList;
 use crate::replaces::{make_replace, ready_replace, take_replace};
 use crate::wants::{make_want, ready_want, take_want};
-use age_queue::AgeKey;
 use lang_core::{Name, NoMemory, Request, Response, Text};
+use lang_lists::AgeKey;
 use std::alloc::Global;
 use std::marker::Model;
 

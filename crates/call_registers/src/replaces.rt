@@ -1,14 +1,14 @@
 // Room for other requests of calls.
 ghost use Rattle.std.specs.Prelude.{◌≡◌, ◌↔◌, ◌+◌, ◌≤◌, [], ◌∷◌, ◌++◌, IsTrue, IfOk, OnOk, OnErr, IsOk, length, position, vec_len};
 ghost use Rattle.lang_base.specs.Equal.{equal};
-ghost use Rattle.call_room.specs.Room.{is_made, spend};
+ghost use Rattle.lang_lists.specs.Room.{is_made, spend};
 ghost use Rattle.call_registers.specs.Registers.{replace_call};
 ghost use Rattle.call_registers.specs.Rooms.{call_code};
 
 use crate::calls::{RegistersCall, make_place};
 use crate::register_list::RegisterList;
-use call_room::take_room;
 use lang_core::{Copied, NoMemory, Request, Same};
+use lang_lists::take_room;
 use std::alloc::Global;
 
 fn is_replace(call: &RegistersCall, number: u64, request: &Request, since: u64) -> bool

@@ -3,15 +3,15 @@ ghost use Rattle.std.specs.Prelude.{◌≡◌, ◌↔◌, ◌+◌, ◌<◌, ◌�
 ghost use Rattle.std.specs.List.Sorted.{IsPartitionPoint};
 ghost use Rattle.std.specs.Option.{option_copied};
 ghost use Rattle.lang_base.specs.Equal.{equal};
-ghost use Rattle.call_room.specs.Room.{is_made, spend};
+ghost use Rattle.lang_lists.specs.Room.{is_made, spend};
 ghost use Rattle.call_registers.specs.Replies.{has_entry, reply, IsThere, IsAboveAll, IsRising, at_entry, with_taken, with_answer, with_confirm, made_due, with_hold, released, changed, call_code, add_call};
 ghost use Rattle.call_registers.specs.declared.reply.Change.{Change};
 
 use crate::register::Hold;
 use crate::reply::{Change, Reply, apply};
-use call_room::take_room;
 use lang_base::copied_items;
 use lang_core::{NoMemory, Text};
+use lang_lists::take_room;
 use std::alloc::Global;
 use std::marker::Model;
 

@@ -10,7 +10,7 @@ use Rattle.versioned_rows.specs.Places.{is_other}
 use Rattle.dependency_index.specs.Numbers.{Rises, with_number, with_numbers}
 use Rattle.versioned_rows.proofs.GetLemmas.{all_if}
 use Rattle.std.proofs.Math.Bool.{or-false}
-use Rattle.call_room.proofs.RoomLemmas.{not_less}
+use Rattle.lang_lists.proofs.RoomLemmas.{not_less}
 
 -- ---- filters
 

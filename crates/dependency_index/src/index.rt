@@ -2,7 +2,7 @@
 ghost use Rattle.std.specs.Prelude.{ℕ, List, ◌≡◌, ◌+◌, ◌<◌, ◌≤◌, ◌++◌, ◌∷◌, [], true, length, map, filter, IfOk, IsTrue, IsOk, OnOk, OnErr, vec_len, vec_capacity, if◌then◌else◌};
 ghost use Rattle.std.specs.List.{All, Contains, list_any};
 ghost use Rattle.std.specs.Option.{ForSome};
-ghost use Rattle.call_room.specs.Room.{is_made, spend};
+ghost use Rattle.lang_lists.specs.Room.{is_made, spend};
 ghost use Rattle.lang_core.specs.Places.{IsOrdered};
 ghost use Rattle.versioned_rows.specs.Places.{is_other};
 ghost use Rattle.versioned_rows.specs.Rows.{row_place};

@@ -2,7 +2,7 @@
 ghost use Rattle.std.specs.Prelude.{ℕ, List, ◌≡◌, ◌↔◌, ◌+◌, ◌≤◌, [], ◌∷◌, ◌++◌, None, true, map, IsTrue, IsSome, IfSome, IfOk, OnOk, OnErr, IsOk, position, vec_len, vec_capacity, if◌then◌else◌};
 ghost use Rattle.std.specs.List.{list_any};
 ghost use Rattle.lang_base.specs.Equal.{equal};
-ghost use Rattle.call_room.specs.Room.{is_made, spend};
+ghost use Rattle.lang_lists.specs.Room.{is_made, spend};
 ghost use Rattle.dependency_index.specs.Index.{asked, call_code, note_call, IsCovered};
 ghost use Rattle.dependency_index.specs.Reads.{read_at, is_at};
 ghost use Rattle.dependency_index.specs.Rows.{AreOrdered, labels_by, spare_by};
@@ -11,8 +11,8 @@ ghost use Rattle.dependency_index.specs.declared.reads.ReadKind.{ReadKind};
 use crate::noted::Noted;
 use crate::reads::{ReadsAt, are_read, places_read};
 use crate::rows::{ReadRows, make_rows};
-use call_room::take_room;
 use lang_core::{NoMemory, Reads};
+use lang_lists::take_room;
 use std::alloc::Global;
 
 /// A call of an index that grows it, with the copy that it needs. Room for it is such a call in advance.

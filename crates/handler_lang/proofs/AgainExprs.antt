@@ -1,8 +1,8 @@
 -- An expression that is spelled so is read.
 use Rattle.std.proofs.Common.{◌≡◌, ℕ, ℤ, pos, zero, suc, true, false, List, [], ◌∷◌, ◌++◌, Result, Ok, refl, sym, ap, subst, ◌∙◌, append_assoc}
 use Rattle.std.specs.Prelude.{nat_le, ◌&&◌}
-use Rattle.handler_tokens.specs.declared.token.Token.{Token}
-use Rattle.handler_tokens.specs.declared.token.Token.TheVariants as token
+use Rattle.lang_tokens.specs.declared.token.Token.{Token}
+use Rattle.lang_tokens.specs.declared.token.Token.TheVariants as token
 use Rattle.lang_tree.specs.Depths.{expr_within}
 use Rattle.lang_tree.specs.declared.expr.Op.{Op}
 use Rattle.lang_tree.specs.declared.expr.Op.TheVariants as op
@@ -11,13 +11,13 @@ use Rattle.lang_tree.specs.declared.expr.Expr.TheVariants as expr
 use Rattle.lang_tree.specs.declared.expr.Expr.TheVariants.{rolls-Integer, rolls-Str, rolls-Nothing, rolls-Body, rolls-Who, rolls-Var, rolls-Path, rolls-Part, rolls-Number, rolls-AsText, rolls-Pair}
 use Rattle.lang_tree.specs.declared.expr.Expr.TheOpen.{Expr-F}
 use Rattle.lang_tree.specs.declared.expr.Expr.TheFolds.{ind-Expr}
-use Rattle.handler_reader.specs.declared.stop.Stop.{Stop}
-use Rattle.handler_grammar.specs.Grammar.{expr_tokens, op_token, segment}
-use Rattle.reader_laws.specs.Reading.{◌>>=◌}
-use Rattle.handler_reader.specs.Readers.{expr_at, expr_in, number_in, op_at, pair_in, part_in, path_in, right_at, segment_at, text_in}
+use Rattle.lang_reader.specs.declared.stop.Stop.{Stop}
+use Rattle.lang_grammar.specs.Grammar.{expr_tokens, op_token, segment}
+use Rattle.lang_reader.specs.Reading.{◌>>=◌}
+use Rattle.lang_reader.specs.Readers.{expr_at, expr_in, number_in, op_at, pair_in, part_in, path_in, right_at, segment_at, text_in}
 use Rattle.std.proofs.lemmas.Bool.{and_parts}
 use Rattle.handler_lang.proofs.Conjuncts.{three}
-use Rattle.handler_grammar.proofs.Layers.{expr_layer, expr_layer_fits, expr_layer_tokens}
+use Rattle.lang_grammar.proofs.Layers.{expr_layer, expr_layer_fits, expr_layer_tokens}
 
 pub record IsReadAgain (e : Expr) : Type 0 where
   pub at : (n : ℕ) (rest : List Token) → expr_within e n ≡ true → expr_at n (expr_tokens e ++ rest) ≡ Ok (e, rest)

@@ -1,8 +1,8 @@
 -- A program that is spelled so is read.
 use Rattle.std.proofs.Common.{◌≡◌, ℕ, zero, suc, ◌≤◌, ◌<◌, true, false, List, [], ◌∷◌, ◌++◌, map, length, Option, Some, None, Ok, refl, sym, ap, subst, ◌∙◌, append_assoc, arith}
 use Rattle.std.proofs.lemmas.List.{length-append}
-use Rattle.handler_tokens.specs.declared.token.Token.{Token}
-use Rattle.handler_tokens.specs.declared.token.Token.TheVariants as token
+use Rattle.lang_tokens.specs.declared.token.Token.{Token}
+use Rattle.lang_tokens.specs.declared.token.Token.TheVariants as token
 use Rattle.lang_tree.specs.Depths.{all_fit, block_fits, expr_within, routes_fit, stmt_fits}
 use Rattle.lang_tree.specs.Forms.{is_path, is_word}
 use Rattle.lang_tree.specs.declared.method.Method.{Method}
@@ -14,13 +14,13 @@ use Rattle.lang_tree.specs.declared.stmt.Stmt.TheOpen.{Stmt-F, Block-F}
 use Rattle.lang_tree.specs.declared.stmt.Stmt.TheFolds.{ind-Block}
 use Rattle.lang_tree.specs.declared.stmt.Block.{Block, roll-Block}
 use Rattle.lang_tree.specs.declared.program.Route.{Route}
-use Rattle.handler_grammar.specs.Grammar.{block_tokens, expr_tokens, joined, program_tokens, route_tokens, stmt_tokens}
-use Rattle.reader_laws.specs.Reading.{◌>>=◌}
-use Rattle.handler_reader.specs.Readers.{Read, block_at, block_in, call_in, close_at, drop_in, each_in, else_in, expr_at, get_in, if_in, let_in, most, now_in, pattern_at, put_in, random_in, reply_in, route_at, route_in, routes_in, stmt_in, stmts_in}
+use Rattle.lang_grammar.specs.Grammar.{block_tokens, expr_tokens, joined, program_tokens, route_tokens, stmt_tokens}
+use Rattle.lang_reader.specs.Reading.{◌>>=◌}
+use Rattle.lang_reader.specs.Readers.{Read, block_at, block_in, call_in, close_at, drop_in, each_in, else_in, expr_at, get_in, if_in, let_in, most, now_in, pattern_at, put_in, random_in, reply_in, route_at, route_in, routes_in, stmt_in, stmts_in}
 use Rattle.std.proofs.lemmas.Bool.{and_parts}
 use Rattle.handler_lang.proofs.Conjuncts.{five, three}
-use Rattle.handler_grammar.proofs.Layers.{block_layer, block_of, stmt_layer, stmt_layer_fits, stmt_layer_tokens}
-use Rattle.handler_reader.proofs.Loops.{routes_ended, routes_next, stmts_closed, stmts_next}
+use Rattle.lang_grammar.proofs.Layers.{block_layer, block_of, stmt_layer, stmt_layer_fits, stmt_layer_tokens}
+use Rattle.lang_reader.proofs.Loops.{routes_ended, routes_next, stmts_closed, stmts_next}
 use Rattle.handler_lang.proofs.AgainExprs.{expr_again, then_ok}
 
 abbrev one : ℕ → List Token → Read Stmt

@@ -1,16 +1,16 @@
 -- What is read of a text is spelled so, and what is spelled so is read.
 use Rattle.std.proofs.Common.{◌≡◌, ℕ, ◌≤◌, Bool, true, false, cond, List, length, Result, Ok, Err}
 use Rattle.std.specs.Prelude.{nat_lt}
-use Rattle.handler_tokens.specs.Lexing.{lex, places, tokens}
+use Rattle.lang_tokens.specs.Lexing.{lex, places, tokens}
 use Rattle.lang_tree.specs.Depths.{routes_fit}
 use Rattle.lang_tree.specs.declared.program.Route.{Route}
-use Rattle.handler_reader.specs.declared.stop.Stop.{Stop}
-use Rattle.handler_reader.specs.Readers.{most, program_of}
+use Rattle.lang_reader.specs.declared.stop.Stop.{Stop}
+use Rattle.lang_reader.specs.Readers.{most, program_of}
 use Rattle.handler_lang.specs.declared.refused.ProgramRefused.{ProgramRefused}
 use Rattle.handler_lang.specs.declared.refused.ProgramRefused.TheVariants as refusal
 use Rattle.handler_lang.specs.Reading.{Answers, placed, read_of}
 use Rattle.handler_lang.specs.Spelled.{Spells}
-use Rattle.handler_laws.proofs.StmtLaws.{routes_exact}
+use Rattle.handler_lang.proofs.StmtLaws.{routes_exact}
 use Rattle.handler_lang.proofs.Spelled.{read_only}
 
 placed_ok : (total : ℕ) (ats : List ℕ) (r : Result (List Route) Stop) (rs : List Route) → placed total ats r ≡ Ok rs → r ≡ Ok rs

@@ -1,3 +1,6 @@
+pub mod TokenLaws
+pub mod ExprLaws
+pub mod StmtLaws
 pub mod AgainExprs
 pub mod AgainStmts
 pub mod Conjuncts

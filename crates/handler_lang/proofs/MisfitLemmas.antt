@@ -3,21 +3,21 @@ use Rattle.std.proofs.Common.{◌≡◌, ℕ, suc, ◌-◌, ◌≤◌, Bool, tru
 use Rattle.std.specs.Prelude.{nat_lt}
 use Rattle.std.proofs.lemmas.Bool.Decides.{nat_tests}
 use Rattle.std.proofs.lemmas.List.{drop_all, length-append, length-map}
-use Rattle.handler_tokens.specs.declared.token.Token.{Token}
-use Rattle.handler_tokens.specs.Lexing.{lex, start_of, places, token_of, tokens}
+use Rattle.lang_tokens.specs.declared.token.Token.{Token}
+use Rattle.lang_tokens.specs.Lexing.{lex, start_of, places, token_of, tokens}
 use Rattle.lang_tree.specs.declared.program.Route.{Route}
-use Rattle.handler_reader.specs.declared.stop.Cause.{Cause}
-use Rattle.handler_reader.specs.declared.stop.Cause.TheVariants as cause
-use Rattle.handler_reader.specs.declared.stop.Stop.{Stop}
-use Rattle.handler_reader.specs.Readers.{most, program_of}
-use Rattle.handler_grammar.specs.Grammar.{program_tokens}
+use Rattle.lang_reader.specs.declared.stop.Cause.{Cause}
+use Rattle.lang_reader.specs.declared.stop.Cause.TheVariants as cause
+use Rattle.lang_reader.specs.declared.stop.Stop.{Stop}
+use Rattle.lang_reader.specs.Readers.{most, program_of}
+use Rattle.lang_grammar.specs.Grammar.{program_tokens}
 use Rattle.handler_lang.specs.declared.refused.ProgramRefused.{ProgramRefused}
 use Rattle.handler_lang.specs.declared.refused.ProgramRefused.TheVariants as refusal
 use Rattle.handler_lang.specs.Misfits.{BeginsProgram, StandsFirst, place_at}
 use Rattle.handler_lang.specs.Reading.{Answers, first_or, place_left, placed, read_of, refusal_at}
-use Rattle.handler_laws.proofs.StmtLaws.{routes_begun, routes_refuse}
-use Rattle.handler_laws.proofs.TokenLaws.{by_tokens}
-use Rattle.reader_laws.proofs.Laws.{Begun, StopsFirst}
+use Rattle.handler_lang.proofs.StmtLaws.{routes_begun, routes_refuse}
+use Rattle.handler_lang.proofs.TokenLaws.{by_tokens}
+use Rattle.lang_reader.proofs.Laws.{Begun, StopsFirst}
 
 abbrev refusing : ProgramRefused → Result (List Route) ProgramRefused
 refusing r = Err r

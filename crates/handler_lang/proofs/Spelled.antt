@@ -3,15 +3,15 @@ use Rattle.std.proofs.Common.{◌≡◌, ℕ, ◌≤◌, true, false, List, leng
 use Rattle.std.specs.Prelude.{nat_lt}
 use Rattle.std.specs.List.{list_all}
 use Rattle.std.proofs.lemmas.Bool.Decides.{nat_tests}
-use Rattle.handler_tokens.specs.Lexing.{lex, places, tokens}
-use Rattle.handler_tokens.specs.Spelling.{is_held}
-use Rattle.handler_tokens.proofs.KeptLemmas.{lex_count}
-use Rattle.handler_tokens.proofs.WrittenLemmas.{lex_again}
+use Rattle.lang_tokens.specs.Lexing.{lex, places, tokens}
+use Rattle.lang_tokens.specs.Spelling.{is_held}
+use Rattle.lang_tokens.proofs.KeptLemmas.{lex_count}
+use Rattle.lang_tokens.proofs.WrittenLemmas.{lex_again}
 use Rattle.lang_tree.specs.Depths.{routes_fit}
 use Rattle.lang_tree.specs.declared.program.Route.{Route}
-use Rattle.handler_grammar.specs.Grammar.{program_tokens}
-use Rattle.handler_grammar.specs.Printing.{text_of}
-use Rattle.handler_reader.specs.Readers.{most, program_of}
+use Rattle.lang_grammar.specs.Grammar.{program_tokens}
+use Rattle.lang_grammar.specs.Printing.{text_of}
+use Rattle.lang_reader.specs.Readers.{most, program_of}
 use Rattle.handler_lang.specs.Reading.{placed, read_of}
 use Rattle.handler_lang.specs.Spelled.{Spells}
 use Rattle.handler_lang.proofs.AgainStmts.{routes_again, routes_count}

@@ -2,9 +2,9 @@
 use Rattle.std.proofs.Common.{◌≡◌, ℕ, zero, suc, true, false, List, [], ◌∷◌, ◌++◌, map, length, Some, None, refl, sym, subst, ◌∙◌, arith}
 use Rattle.std.specs.Prelude.{nat_eq, nat_le}
 use Rattle.std.specs.List.{AllByRecursion, list_all, starts_with}
-use Rattle.handler_tokens.specs.declared.token.Token.{Token}
-use Rattle.handler_tokens.specs.declared.token.Token.TheVariants as token
-use Rattle.handler_tokens.specs.Spelling.{IsSpelled}
+use Rattle.lang_tokens.specs.declared.token.Token.{Token}
+use Rattle.lang_tokens.specs.declared.token.Token.TheVariants as token
+use Rattle.lang_tokens.specs.Spelling.{IsSpelled}
 use Rattle.lang_tree.specs.Depths.{all_fit, block_fits, expr_within, is_natural, routes_fit, stmt_fits}
 use Rattle.lang_base.specs.Characters.{is_visible}
 use Rattle.lang_tree.specs.Forms.{is_literal, is_literal_byte, is_path, is_word}
@@ -19,10 +19,10 @@ use Rattle.lang_tree.specs.declared.stmt.Stmt.TheFolds.{ind-Block}
 use Rattle.lang_tree.specs.declared.stmt.Block.{Block, roll-Block}
 use Rattle.lang_tree.specs.declared.program.Route.{Route}
 use Rattle.std.proofs.lemmas.Bool.Decides.{nat_tests}
-use Rattle.handler_grammar.specs.Grammar.{block_tokens, expr_tokens, joined, op_token, program_tokens, route_tokens, segment, stmt_tokens}
+use Rattle.lang_grammar.specs.Grammar.{block_tokens, expr_tokens, joined, op_token, program_tokens, route_tokens, segment, stmt_tokens}
 use Rattle.std.proofs.lemmas.Bool.{and_from, and_parts}
 use Rattle.handler_lang.proofs.Conjuncts.{five, three}
-use Rattle.handler_grammar.proofs.Layers.{block_layer, block_of, expr_layer, expr_layer_fits, expr_layer_tokens, stmt_layer, stmt_layer_fits, stmt_layer_tokens}
+use Rattle.lang_grammar.proofs.Layers.{block_layer, block_of, expr_layer, expr_layer_fits, expr_layer_tokens, stmt_layer, stmt_layer_fits, stmt_layer_tokens}
 
 abbrev pub AreSpelled : List Token → Type 0
 AreSpelled ts = AllByRecursion IsSpelled ts

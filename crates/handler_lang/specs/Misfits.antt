@@ -1,11 +1,11 @@
 -- A refusal stands at the first token with which no program goes on: it depends on the tokens up to that one, and on
 -- no other.
 use Rattle.std.specs.Prelude.{◌≡◌, ◌≤◌, ℕ, List, ◌∷◌, ◌++◌, length, drop, Err, ◌⊎◌}
-use Rattle.handler_tokens.specs.declared.token.Token.{Token}
-use Rattle.handler_tokens.specs.Lexing.{lex, places, tokens}
+use Rattle.lang_tokens.specs.declared.token.Token.{Token}
+use Rattle.lang_tokens.specs.Lexing.{lex, places, tokens}
 use Rattle.lang_tree.specs.declared.program.Route.{Route}
-use Rattle.handler_grammar.specs.Grammar.{program_tokens}
-use Rattle.handler_reader.specs.declared.stop.Cause.{Cause}
+use Rattle.lang_grammar.specs.Grammar.{program_tokens}
+use Rattle.lang_reader.specs.declared.stop.Cause.{Cause}
 use Rattle.handler_lang.specs.Reading.{first_or, read_of, refusal_at}
 
 -- the place of a text's token, counted from 0, or the text's end

@@ -1,12 +1,12 @@
 -- Which program a text is read as, or which refusal stands where.
 use Rattle.std.specs.Prelude.{◌≡◌, ℕ, ◌-◌, Bool, true, false, List, [], ◌∷◌, length, drop, Result, Ok, Err, nat_lt, if◌then◌else◌}
 use Rattle.lang_base.specs.Memory.{Unless, lacks}
-use Rattle.handler_tokens.specs.Lexing.{lex, places, tokens}
+use Rattle.lang_tokens.specs.Lexing.{lex, places, tokens}
 use Rattle.lang_tree.specs.declared.program.Route.{Route}
-use Rattle.handler_reader.specs.declared.stop.Cause.{Cause}
-use Rattle.handler_reader.specs.declared.stop.Cause.TheVariants as cause
-use Rattle.handler_reader.specs.declared.stop.Stop.{Stop}
-use Rattle.handler_reader.specs.Readers.{program_of}
+use Rattle.lang_reader.specs.declared.stop.Cause.{Cause}
+use Rattle.lang_reader.specs.declared.stop.Cause.TheVariants as cause
+use Rattle.lang_reader.specs.declared.stop.Stop.{Stop}
+use Rattle.lang_reader.specs.Readers.{program_of}
 use Rattle.handler_lang.specs.declared.refused.ProgramRefused.{ProgramRefused}
 use Rattle.handler_lang.specs.declared.refused.ProgramRefused.TheVariants as refusal
 

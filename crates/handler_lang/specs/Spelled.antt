@@ -1,8 +1,8 @@
 -- Which text spells which program.
 use Rattle.std.specs.Prelude.{◌≡◌, ℕ, List}
-use Rattle.handler_tokens.specs.Lexing.{lex, tokens}
+use Rattle.lang_tokens.specs.Lexing.{lex, tokens}
 use Rattle.lang_tree.specs.declared.program.Route.{Route}
-use Rattle.handler_grammar.specs.Grammar.{program_tokens}
+use Rattle.lang_grammar.specs.Grammar.{program_tokens}
 
 -- the text's tokens are the program's
 abbrev pub Spells : List ℕ → List Route → Type 0

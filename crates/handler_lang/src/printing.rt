@@ -1,11 +1,11 @@
 // Programs, printed as texts.
 ghost use Rattle.std.specs.Prelude.{◌≡◌, ◌≤◌, Ok, IfOk, length};
-ghost use Rattle.handler_grammar.specs.Printing.{text_of};
+ghost use Rattle.lang_grammar.specs.Printing.{text_of};
 ghost use Rattle.handler_lang.specs.Reading.{read_of};
 ghost use Rattle.handler_lang.specs.Spelled.{Spells};
 
-use handler_grammar::print_routes;
 use lang_base::{NoMemory, Text};
+use lang_grammar::print_routes;
 use lang_tree::Program;
 use std::alloc::Global;
 

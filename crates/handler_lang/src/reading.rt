@@ -2,16 +2,16 @@
 ghost use Rattle.std.specs.Prelude.{◌≡◌, ◌≤◌, ℕ, List, Ok, Err, IfOk, IsTrue, length};
 ghost use Rattle.lang_tree.specs.Depths.{routes_fit};
 ghost use Rattle.lang_tree.specs.declared.program.Route.{Route};
-ghost use Rattle.handler_tokens.specs.Lexing.{lex, places, tokens};
-ghost use Rattle.handler_reader.specs.declared.stop.Cause.{Cause};
-ghost use Rattle.handler_reader.specs.Readers.{program_of};
+ghost use Rattle.lang_tokens.specs.Lexing.{lex, places, tokens};
+ghost use Rattle.lang_reader.specs.declared.stop.Cause.{Cause};
+ghost use Rattle.lang_reader.specs.Readers.{program_of};
 ghost use Rattle.handler_lang.specs.Misfits.{BeginsProgram, StandsFirst};
 ghost use Rattle.handler_lang.specs.Reading.{Answers, place_left, placed, read_of, refusal_at};
 ghost use Rattle.handler_lang.specs.Spelled.{Spells};
 
 use crate::refused::ProgramRefused;
-use handler_reader::{Cause, ReadFailed, routes};
-use handler_tokens::lex;
+use lang_reader::{Cause, ReadFailed, routes};
+use lang_tokens::lex;
 use lang_tree::{LONGEST_TEXT, Program, Routes};
 use std::alloc::Global;
 

@@ -8,9 +8,9 @@ use Rattle.lang_tree.specs.declared.stmt.Stmt.TheVariants.{Each}
 use Rattle.lang_tree.specs.declared.stmt.Stmt.TheOpen.{Stmt-F}
 use Rattle.lang_tree.specs.declared.stmt.Stmt.TheFolds.{fold-roll-Stmt}
 use Rattle.lang_core.specs.declared.cells.Cell.{Cell}
-use Rattle.handler_values.specs.declared.given.Fault.{Fault}
+use Rattle.lang_values.specs.declared.given.Fault.{Fault}
 use Rattle.handler_run.specs.declared.state.Flow.{Flow}
-use Rattle.handler_values.specs.declared.given.Given.{Given}
+use Rattle.lang_values.specs.declared.given.Given.{Given}
 use Rattle.handler_run.specs.declared.state.State.{State}
 use Rattle.handler_run.specs.Runs.{Effect, Ended, ended, faulted, turns, act, block_step, each_of, stmt_of, block_of}
 

@@ -12,10 +12,10 @@ use Rattle.lang_core.specs.declared.trace.CallMade.{CallMade}
 use Rattle.lang_core.specs.declared.trace.Read.{Read}
 use Rattle.lang_core.specs.declared.trace.Trace.{Trace}
 use Rattle.handler_run.specs.Reads.{Gives, GivesAll}
-use Rattle.handler_values.specs.Paths.{route_of, segments_of}
+use Rattle.lang_values.specs.Paths.{route_of, segments_of}
 use Rattle.handler_run.specs.Handlers.{given, run_route, run_of}
 use Rattle.handler_run.specs.Laws.{IfDone, IfWants, IsDone, calls_of}
-use Rattle.handler_values.specs.declared.given.Given.{Given}
+use Rattle.lang_values.specs.declared.given.Given.{Given}
 use Rattle.handler_run.specs.declared.state.Ran.{Ran}
 use Rattle.handler_run.specs.declared.state.Ran.TheVariants.{Done, Wants}
 use Rattle.handler_run.proofs.TwoRuns.{with_answers}

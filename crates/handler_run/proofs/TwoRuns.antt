@@ -9,12 +9,12 @@ use Rattle.lang_core.specs.declared.trace.Read.{Read}
 use Rattle.lang_core.specs.declared.value.Value.{Value}
 use Rattle.lang_core.specs.declared.value.Value.TheVariants.{Int, Str, Nothing}
 use Rattle.handler_run.specs.Reads.{Gives, GivesAll}
-use Rattle.handler_values.specs.Values.{Outcome}
+use Rattle.lang_values.specs.Values.{Outcome}
 use Rattle.handler_run.specs.Runs.{Ended, ended, Effect, goes_on, faulted, go_on, then_do, begin, step, with_value, with_text, within, key_fits, text_fits, with_key, with_short, note_read, reads_fit, noted}
-use Rattle.handler_values.specs.declared.given.Fault.{Fault}
+use Rattle.lang_values.specs.declared.given.Fault.{Fault}
 use Rattle.handler_run.specs.declared.state.Flow.{Flow}
 use Rattle.handler_run.specs.declared.state.Flow.TheVariants.{GoesOn, Replied, Wants, Faulted}
-use Rattle.handler_values.specs.declared.given.Given.{Given}
+use Rattle.lang_values.specs.declared.given.Given.{Given}
 use Rattle.handler_run.specs.declared.state.State.{State}
 use Rattle.handler_run.proofs.RunLists.{all_last}
 

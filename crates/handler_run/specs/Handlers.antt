@@ -8,13 +8,13 @@ use Rattle.lang_core.specs.declared.request.Request.{Request}
 use Rattle.lang_core.specs.declared.request.Response.{Response}
 use Rattle.lang_core.specs.declared.setting.Setting.{Setting}
 use Rattle.lang_core.specs.declared.trace.Trace.{Trace}
-use Rattle.handler_values.specs.Paths.{route_of, segments_of}
+use Rattle.lang_values.specs.Paths.{route_of, segments_of}
 use Rattle.handler_run.specs.Runs.{Ended, block_of}
-use Rattle.handler_values.specs.declared.given.Fault.{Fault}
-use Rattle.handler_values.specs.declared.given.Fault.TheVariants.{Steps, Range, Kind, Limit, Words}
+use Rattle.lang_values.specs.declared.given.Fault.{Fault}
+use Rattle.lang_values.specs.declared.given.Fault.TheVariants.{Steps, Range, Kind, Limit, Words}
 use Rattle.handler_run.specs.declared.state.Flow.{Flow}
 use Rattle.handler_run.specs.declared.state.Flow.TheVariants.{GoesOn, Replied, Wants, Faulted}
-use Rattle.handler_values.specs.declared.given.Given.{Given}
+use Rattle.lang_values.specs.declared.given.Given.{Given}
 use Rattle.handler_run.specs.declared.state.Ran.{Ran}
 use Rattle.handler_run.specs.declared.state.Ran.TheVariants.{Done, Wants as Asks}
 use Rattle.handler_run.specs.declared.state.State.{State}

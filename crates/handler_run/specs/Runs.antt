@@ -22,14 +22,14 @@ use Rattle.lang_core.specs.declared.trace.Read.{Read}
 use Rattle.lang_core.specs.declared.trace.Read.TheVariants.{Key, Scan}
 use Rattle.lang_core.specs.declared.value.Value.{Value}
 use Rattle.lang_core.specs.declared.value.Value.TheVariants.{Int, Str, Nothing}
-use Rattle.handler_values.specs.Sizes.{read_size}
-use Rattle.handler_values.specs.Values.{Outcome, value_of, text_or_nothing}
-use Rattle.handler_values.specs.Variables.{bind}
-use Rattle.handler_values.specs.declared.given.Fault.{Fault}
-use Rattle.handler_values.specs.declared.given.Fault.TheVariants.{Steps, Kind, Limit, Words}
+use Rattle.lang_values.specs.Sizes.{read_size}
+use Rattle.lang_values.specs.Values.{Outcome, value_of, text_or_nothing}
+use Rattle.lang_values.specs.Variables.{bind}
+use Rattle.lang_values.specs.declared.given.Fault.{Fault}
+use Rattle.lang_values.specs.declared.given.Fault.TheVariants.{Steps, Kind, Limit, Words}
 use Rattle.handler_run.specs.declared.state.Flow.{Flow}
 use Rattle.handler_run.specs.declared.state.Flow.TheVariants.{GoesOn, Replied, Wants, Faulted}
-use Rattle.handler_values.specs.declared.given.Given.{Given}
+use Rattle.lang_values.specs.declared.given.Given.{Given}
 use Rattle.handler_run.specs.declared.state.State.{State}
 
 -- how a statement ends, and the state there

@@ -9,8 +9,8 @@ use crate::state::{Flow, State};
 use crate::statements::{run_drop, run_let, run_now, run_put, run_random, run_reply};
 use crate::steps::value_in;
 use crate::view::View;
-use handler_values::{Fault, Given};
 use lang_core::{Block, Cell, Copied, Expr, NoMemory, Stmt, Text, Value};
+use lang_values::{Fault, Given};
 use std::alloc::Global;
 
 // Whether an `if` goes into its first block.

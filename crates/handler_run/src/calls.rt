@@ -7,12 +7,12 @@ ghost use Rattle.handler_run.specs.Runs.{ended, goes_on, answered, take_answer, 
 
 use crate::state::{Flow, State};
 use crate::steps::{text_fits, value_in};
-use handler_values::{Fault, Given, pair_up};
 use lang_base::both;
 use lang_core::{
     CallMade, Copied, Expr, Method, Name, Names, NoMemory, Request, Response, Same, Text, Value,
     is_path,
 };
+use lang_values::{Fault, Given, pair_up};
 use std::alloc::Global;
 
 const MOST_CALLS: u64 = 16;

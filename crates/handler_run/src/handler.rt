@@ -5,19 +5,19 @@ ghost use Rattle.lang_core.specs.declared.cells.Cell.{Cell};
 ghost use Rattle.lang_core.specs.declared.request.Response.{Response};
 ghost use Rattle.handler_run.specs.Handlers.{fault_number, fault_text, replied, faulted_trace, finish, start, given, not_found, run_block, run_route, run_of};
 ghost use Rattle.handler_run.specs.Laws.{IfDone, IfWants, IsDone, calls_of};
-ghost use Rattle.handler_values.specs.Paths.{route_of};
+ghost use Rattle.lang_values.specs.Paths.{route_of};
 ghost use Rattle.handler_run.specs.Reads.{GivesAll};
 ghost use Rattle.handler_run.specs.declared.state.Ran.TheVariants.{Done};
 
 use crate::blocks::run_block;
 use crate::state::{Flow, Ran, State};
 use crate::view::View;
-use handler_values::{Fault, Given, Recorded, Variables, route_of, segments_of};
 use lang_base::both;
 use lang_core::{
     Answers, Block, Calls, Copied, Inputs, Method, NoMemory, Reads, Request, Response, Route,
     Setting, Text, Trace, Writes,
 };
+use lang_values::{Fault, Given, Recorded, Variables, route_of, segments_of};
 use std::alloc::Global;
 
 fn fault_number(fault: Fault) -> u64

@@ -11,6 +11,6 @@ mod steps;
 mod view;
 
 pub use handler::run;
-pub use handler_values::{Fault, MOST_READ_BYTES};
+pub use lang_values::{Fault, MOST_READ_BYTES};
 pub use state::Ran;
 pub use view::{RowsView, View};

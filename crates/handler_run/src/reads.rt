@@ -5,19 +5,19 @@ ghost use Rattle.lang_core.specs.Places.{IsOrdered};
 ghost use Rattle.lang_core.specs.Rows.{cell_size, write_place};
 ghost use Rattle.lang_core.specs.declared.cells.Cell.{Cell};
 ghost use Rattle.lang_core.specs.declared.trace.Read.TheVariants.{Key, Scan};
-ghost use Rattle.handler_values.specs.Values.{text_or_nothing};
-ghost use Rattle.handler_values.specs.declared.given.Fault.TheVariants.{Limit};
+ghost use Rattle.lang_values.specs.Values.{text_or_nothing};
+ghost use Rattle.lang_values.specs.declared.given.Fault.TheVariants.{Limit};
 ghost use Rattle.handler_run.specs.Runs.{Effect, ended, faulted, goes_on, note_read, noted, own, read_or, reads_fit, set_var, within, get_at, get_of, scan_fits, own_beneath, laid_over, turns, with_cells, each_at, each_of};
 
 use crate::state::{Flow, State};
 use crate::steps::{key_fits, own, value_in};
 use crate::view::View;
-use handler_values::{Fault, Given, text_or_nothing};
 use lang_base::both;
 use lang_core::{
     Cell, Cells, Copied, Expr, MOST_SCAN_BYTES, MOST_SCAN_CELLS, NoMemory, Read, Same, Text, Value,
     Write, Writes, apply_writes,
 };
+use lang_values::{Fault, Given, text_or_nothing};
 use std::alloc::Global;
 
 const LONGEST_PREFIX: u64 = 256;

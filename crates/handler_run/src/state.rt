@@ -1,6 +1,6 @@
 // What a run has so far, and what it comes to.
-use handler_values::{Fault, Recorded, Variables};
 use lang_core::{Answers, CallMade, Calls, Response, Trace, Writes};
+use lang_values::{Fault, Recorded, Variables};
 
 /// What a run has so far: its variables, its own writes, the reads that it recorded, its calls and the
 /// answers that they took, how many random words it drew, and how many steps it began.

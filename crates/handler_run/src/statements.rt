@@ -5,8 +5,8 @@ ghost use Rattle.handler_run.specs.Runs.{ended, let_of, put_at, put_of, drop_at,
 
 use crate::state::{Flow, State};
 use crate::steps::{key_fits, text_fits, value_in};
-use handler_values::{Fault, Given};
 use lang_core::{Expr, Inputs, NoMemory, Response, Text, Value};
+use lang_values::{Fault, Given};
 use std::alloc::Global;
 
 /// Runs a `let`.

@@ -2,14 +2,14 @@
 ghost use Rattle.std.specs.Prelude.{◌≡◌, Some, None, OnOk, IfOk};
 ghost use Rattle.std.specs.Bool.{MatchBool};
 ghost use Rattle.std.specs.Option.{option_copied};
-ghost use Rattle.handler_values.specs.Values.{value_of};
+ghost use Rattle.lang_values.specs.Values.{value_of};
 ghost use Rattle.handler_run.specs.Runs.{begun, set_var, note_read, write_own, answered, note_call, own, key_fits, text_fits};
 
 use crate::state::State;
-use handler_values::{Given, Outcome, value_of};
 use lang_core::{
     CallMade, Copied, Expr, LONGEST_TEXT, NoMemory, Read, Response, Text, Value, Write, Writes,
 };
+use lang_values::{Given, Outcome, value_of};
 use std::alloc::Global;
 
 const MOST_STEPS: u64 = 10000;

@@ -7,3 +7,4 @@ pub mod Requests
 pub mod Responses
 pub mod Table
 pub mod Writing
+pub mod ReadBack

@@ -1,4 +1,5 @@
-//! HTTP messages as bytes.
+//! HTTP messages as bytes: heads and bodies read from a source, and written. Bytes spell one answer at most, and the bytes
+//! that are written for a message spell it.
 #![tactic(auto)]
 
 mod ends;

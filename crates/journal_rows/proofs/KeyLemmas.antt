@@ -1,9 +1,9 @@
 -- A search along the rows of a key.
 use Rattle.std.proofs.Common.{◌≡◌, ℕ, Bool, true, false, cond, List, Option, Some, None, Bor, is_some, nat_eq, refl, sym, ap, ◌∙◌}
 use Rattle.std.specs.Option.{option_copied}
-use Rattle.hash_index.specs.Keys.{text_key, call_key}
-use Rattle.hash_index.proofs.KeyLemmas.{text_other, call_other}
-use Rattle.hash_index.proofs.SearchLemmas.{IsQuiet}
+use Rattle.lang_lists.specs.Keys.{text_key, call_key}
+use Rattle.lang_lists.proofs.KeyLemmas.{text_other, call_other}
+use Rattle.lang_lists.proofs.SearchLemmas.{IsQuiet}
 use Rattle.lang_base.specs.Texts.{same_text}
 use Rattle.journal_rows.specs.declared.callee.TookRow.{TookRow}
 use Rattle.journal_rows.specs.declared.orders.OrderedRow.{OrderedRow}

@@ -1,6 +1,6 @@
 -- Keys under which rows are found.
 use Rattle.std.specs.Prelude.{◌≡◌, ℕ, List, map}
-use Rattle.hash_index.specs.Keys.{text_key, call_key}
+use Rattle.lang_lists.specs.Keys.{text_key, call_key}
 use Rattle.lang_core.specs.declared.ids.Origin.{Origin}
 use Rattle.lang_core.specs.declared.ids.Origin.TheVariants.{Outside, Call}
 use Rattle.journal_rows.specs.declared.row.Row.{Row}

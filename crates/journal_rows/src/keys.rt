@@ -3,8 +3,8 @@ ghost use Rattle.std.specs.Prelude.{◌≡◌};
 ghost use Rattle.journal_rows.specs.Keys.{row_key, origin_key};
 
 use crate::row::Row;
-use hash_index::{call_key, text_key};
 use lang_core::Origin;
+use lang_lists::{call_key, text_key};
 
 fn origin_key(id: u64, origin: &Origin) -> u64
     ensures { result ≡ origin_key id origin.now }

@@ -1,7 +1,7 @@
 // The rows of a journal, in order.
 ghost use Rattle.std.specs.Prelude.{◌≡◌, ◌+◌, ◌<◌, ◌≤◌, [], ◌∷◌, ◌++◌, length, map, nat_eq, slice_get, slice_index, take, OnOk, OnErr, IfOk, IsOk};
 ghost use Rattle.std.specs.Option.{option_copied};
-ghost use Rattle.hash_index.specs.Ends.{last_end};
+ghost use Rattle.lang_lists.specs.Ends.{last_end};
 ghost use Rattle.journal_rows.specs.Keys.{row_key};
 ghost use Rattle.journal_rows.specs.Weights.{journal_weight};
 ghost use Rattle.journal_rows.specs.Words.{last_taken, ordered};
@@ -12,9 +12,9 @@ use crate::orders::OrderedRow;
 use crate::row::Row;
 use crate::weights::weight;
 use crate::words;
-use hash_index::HashIndex;
 use lang_base::{both, copied_items};
 use lang_core::{Name, NoMemory, Text};
+use lang_lists::HashIndex;
 use std::alloc::Global;
 use std::marker::Model;
 

@@ -9,8 +9,8 @@ use crate::callee::{AnsweredRow, TookRow};
 use crate::caller::{SawAnswerRow, SentRow};
 use crate::orders::OrderedRow;
 use crate::row::Row;
-use hash_index::{HashIndex, call_key, text_key};
 use lang_core::{Name, Same, Text};
+use lang_lists::{HashIndex, call_key, text_key};
 
 /// What a journal last said of a reply.
 #[derive(Clone, Copy, PartialEq, Eq)]

@@ -16,7 +16,7 @@ use Rattle.lang_core.proofs.ReadLemmas.{find-set_in, find-unset_in, other_place,
 use Rattle.lang_core.proofs.RowLemmas.{ordered-apply, ordered-filter, ordered-text}
 use Rattle.versioned_rows.proofs.PrefixLemmas.{same_ordered}
 use Rattle.dependency_index.specs.declared.reads.ReadAt.{ReadAt}
-use Rattle.entry_marks.specs.Marks.{changes, is_among, lacking, looks_at, sees}
+use Rattle.log_index.specs.Marks.{changes, is_among, lacking, looks_at, sees}
 
 -- the cell at a place
 abbrev pub at : Place → List Cell → Option Cell

@@ -13,7 +13,7 @@ use Rattle.request_log.specs.declared.entry.Entry.{Entry}
 use Rattle.request_log.proofs.ChangeLemmas.{changed_place, not_found, unknown, Leaves}
 use Rattle.versioned_rows.proofs.IndexLemmas.{position_is}
 use Rattle.dependency_index.specs.Reads.{read_at}
-use Rattle.entry_marks.specs.Marks.{KeptMarks, changes, is_marked}
+use Rattle.log_index.specs.Marks.{KeptMarks, changes, is_marked}
 use Rattle.local_repair.specs.Current.{Consumed, AllCurrent, IsFirstStale, rows_of, writes_of}
 use Rattle.local_repair.specs.Held.{IsHeld, IsIdMarked, IsKept, IsMarkedBehind}
 use Rattle.local_repair.specs.Registers.{Change}

@@ -13,7 +13,7 @@ use Rattle.lang_core.proofs.RowLemmas.{ordered-apply}
 use Rattle.handler_run.specs.Reads.{Gives, GivesAll}
 use Rattle.request_log.specs.declared.entry.Entry.{Entry}
 use Rattle.dependency_index.specs.Reads.{read_at}
-use Rattle.entry_marks.specs.Marks.{looks_at, sees}
+use Rattle.log_index.specs.Marks.{looks_at, sees}
 use Rattle.local_repair.proofs.AgreeLemmas.{AlikeBut, alike_but_all, get_same, place_same_after, scan_same, key_not_written, scan_not_written, sees_parts, ordered_rows}
 use Rattle.local_repair.specs.Current.{writes_of, after_entry, rows_after}
 

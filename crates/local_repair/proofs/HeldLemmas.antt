@@ -17,9 +17,9 @@ use Rattle.request_log.specs.declared.entry.Entry.{Entry}
 use Rattle.request_log.specs.declared.entry.Made.{Made}
 use Rattle.dependency_index.specs.Reads.{read_at}
 use Rattle.dependency_index.specs.declared.reads.ReadAt.{ReadAt}
-use Rattle.entry_rows.specs.Rows.{rows_made}
-use Rattle.entry_rows.proofs.EditLemmas.{map_insert}
-use Rattle.entry_marks.specs.Marks.{KeptMarks, is_marked, sees, sees_behind}
+use Rattle.log_index.specs.Rows.{rows_made}
+use Rattle.log_index.proofs.EditLemmas.{map_insert}
+use Rattle.log_index.specs.Marks.{KeptMarks, is_marked, sees, sees_behind}
 use Rattle.local_repair.specs.Current.{Consumed, after_entry, rows_after, rows_of, writes_of, IsCurrent, IsCurrentRecord, IsFirstStale}
 use Rattle.local_repair.specs.Held.{IsHeld, IsHeldRecord, IsKept, IsMarkedFrom, all_looked, looked, reads_of}
 use Rattle.local_repair.specs.Written.{all_written}

@@ -3,7 +3,7 @@ use Rattle.std.proofs.Common.{◌≡◌, ℕ, zero, suc, ◌<◌, Bool, true, fa
 use Rattle.std.specs.List.{AllByRecursion}
 use Rattle.std.proofs.lemmas.Bool.{cases_Bool}
 use Rattle.dependency_index.specs.Numbers.{Rises}
-use Rattle.entry_marks.specs.Marks.{is_marked}
+use Rattle.log_index.specs.Marks.{is_marked}
 
 rest_marked : (q x : ℕ) (xs : List ℕ) → nat_eq q x ≡ false → is_marked q (x ∷ xs) ≡ true → is_marked q xs ≡ true
 rest_marked q x xs e h = sym (ap (λ b. b || is_marked q xs) e) ∙ h

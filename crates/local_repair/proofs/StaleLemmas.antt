@@ -9,7 +9,7 @@ use Rattle.lang_core.specs.declared.request.Response.{Response}
 use Rattle.lang_core.specs.declared.writes.Write.{Write}
 use Rattle.request_log.specs.declared.entry.Entry.{Entry}
 use Rattle.request_log.specs.declared.entry.Made.{Made}
-use Rattle.entry_marks.specs.Marks.{KeptMarks, is_marked}
+use Rattle.log_index.specs.Marks.{KeptMarks, is_marked}
 use Rattle.local_repair.specs.Current.{Consumed, AllCurrent, IsCurrent, IsCurrentRecord, IsFirstStale, rows_of}
 use Rattle.local_repair.specs.Held.{AreCurrent, IsAnswered, IsCurrentAt, IsFirstChanged, IsFirstMarked, IsHeld, IsHeldRecord, IsKept}
 use Rattle.local_repair.proofs.CurrentLemmas.{AllCurrent-more}

@@ -9,8 +9,8 @@ use Rattle.lang_core.specs.Rows.{apply}
 use Rattle.lang_core.specs.declared.writes.Write.{Write}
 use Rattle.request_log.specs.Entries.{changed, has_id, with_entry}
 use Rattle.request_log.specs.declared.entry.Entry.{Entry}
-use Rattle.entry_rows.specs.Rows.{KeptWrites, rows_made, rows_before}
-use Rattle.entry_rows.proofs.EditLemmas.{map_insert}
+use Rattle.log_index.specs.Rows.{KeptWrites, rows_made, rows_before}
+use Rattle.log_index.proofs.EditLemmas.{map_insert}
 use Rattle.local_repair.specs.Current.{writes_of, rows_of}
 use Rattle.local_repair.specs.Repairs.{Amends, IsAmended}
 use Rattle.local_repair.specs.Written.{all_written}

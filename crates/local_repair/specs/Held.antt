@@ -12,7 +12,7 @@ use Rattle.request_log.specs.declared.entry.Entry.{Entry}
 use Rattle.request_log.specs.declared.entry.Made.{Made}
 use Rattle.dependency_index.specs.Reads.{read_at}
 use Rattle.dependency_index.specs.declared.reads.ReadAt.{ReadAt}
-use Rattle.entry_marks.specs.Marks.{KeptMarks, changes, is_marked, sees}
+use Rattle.log_index.specs.Marks.{KeptMarks, changes, is_marked, sees}
 use Rattle.local_repair.specs.Current.{Consumed, IsCurrent, rows_of}
 use Rattle.local_repair.specs.Written.{all_written}
 

@@ -3,7 +3,7 @@ use Rattle.std.specs.Prelude.{List, map}
 use Rattle.lang_core.specs.declared.cells.Cell.{Cell}
 use Rattle.lang_core.specs.declared.writes.Write.{Write}
 use Rattle.request_log.specs.declared.entry.Entry.{Entry}
-use Rattle.entry_rows.specs.Rows.{rows_before}
+use Rattle.log_index.specs.Rows.{rows_before}
 use Rattle.local_repair.specs.Current.{writes_of}
 use Rattle.local_repair.specs.declared.view.RowsBefore.{RowsBefore}
 

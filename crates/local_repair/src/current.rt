@@ -3,8 +3,8 @@ ghost use Rattle.std.specs.Prelude.{ℕ, ◌≡◌, ◌↔◌, ◌<◌, ◌≤�
 ghost use Rattle.std.specs.List.{HoldsAt};
 ghost use Rattle.std.specs.Option.{option_copied};
 ghost use Rattle.handler_run.specs.Reads.{Gives, GivesAll};
-ghost use Rattle.entry_rows.specs.Rows.{rows_before};
-ghost use Rattle.entry_marks.specs.Marks.{AreMarks};
+ghost use Rattle.log_index.specs.Rows.{rows_before};
+ghost use Rattle.log_index.specs.Marks.{AreMarks};
 ghost use Rattle.local_repair.specs.Current.{IsCurrentRecord, IsCurrent, AllCurrent, IsFirstStale};
 ghost use Rattle.local_repair.specs.Held.{AreCurrent, IsAnswered, IsFirstChanged, IsFirstMarked, IsHeld, IsHeldRecord, IsKept, IsOfNow};
 ghost use Rattle.local_repair.specs.Written.{all_written};
@@ -12,9 +12,8 @@ ghost use Rattle.local_repair.specs.Parts.{IsOf};
 ghost use Rattle.local_repair.specs.Steps.{answer_or_tentative, tentative};
 
 use crate::slots::Slots;
-use entry_marks::EntryMarks;
-use entry_rows::EntryRows;
 use lang_core::{Read, Response, Same, Text};
+use log_index::{EntryMarks, EntryRows};
 use request_log::{Entry, Made};
 
 fn is_text(now: Option<&Text>, found: &Option<Text>) -> bool

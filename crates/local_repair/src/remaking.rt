@@ -2,8 +2,8 @@
 ghost use Rattle.std.specs.Prelude.{ℕ, List, ◌≡◌, ◌+◌, ◌<◌, [], length, IfOk, OnOk, OnErr};
 ghost use Rattle.lang_core.specs.declared.cells.Cell.{Cell};
 ghost use Rattle.lang_core.specs.declared.setting.Setting.{Setting};
-ghost use Rattle.entry_marks.specs.Marks.{IsReadyToSet as IsReadyToMark};
-ghost use Rattle.entry_rows.specs.Rows.{rows_before, IsReadyToSet};
+ghost use Rattle.log_index.specs.Marks.{IsReadyToSet as IsReadyToMark};
+ghost use Rattle.log_index.specs.Rows.{rows_before, IsReadyToSet};
 ghost use Rattle.local_repair.specs.Current.{writes_of};
 ghost use Rattle.local_repair.specs.Held.{IsMarkedBehind, IsMarkedFrom};
 ghost use Rattle.local_repair.specs.Settling.{HasItsSlots, HasSlotsOnce, CanSettle, IsAgain};
@@ -13,9 +13,8 @@ use crate::rerun::{is_new_answer, run_again};
 use crate::slots::Slots;
 use crate::view::RowsBefore;
 use crate::written::writes_of;
-use entry_marks::EntryMarks;
-use entry_rows::EntryRows;
 use lang_core::{NoMemory, Setting, Writes};
+use log_index::{EntryMarks, EntryRows};
 use request_log::{Entry, Made, Numbers};
 use std::alloc::Global;
 

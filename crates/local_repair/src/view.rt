@@ -1,7 +1,7 @@
 // The rows at a place of a log, as a run sees them.
-use entry_rows::EntryRows;
 use handler_run::View;
 use lang_core::{Cells, Copied, NoMemory, Text};
+use log_index::EntryRows;
 use std::alloc::Global;
 
 /// The rows before the entry at a place of a log, or those after all entries where it is past the end. They are read where

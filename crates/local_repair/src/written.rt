@@ -1,16 +1,15 @@
 // What an entry wrote and where it looked, put beside it.
 ghost use Rattle.std.specs.Prelude.{◌≡◌, ◌↔◌, ◌<◌, ◌≤◌, [], false, Err, OnOk, OnErr, insert, length};
 ghost use Rattle.request_log.specs.Entries.{IsNew};
-ghost use Rattle.entry_marks.specs.Marks.{IsReadyToInsert as IsReadyToMark};
-ghost use Rattle.entry_rows.specs.Rows.{rows_before, IsReadyToInsert};
+ghost use Rattle.log_index.specs.Marks.{IsReadyToInsert as IsReadyToMark};
+ghost use Rattle.log_index.specs.Rows.{rows_before, IsReadyToInsert};
 ghost use Rattle.local_repair.specs.Current.{writes_of};
 ghost use Rattle.local_repair.specs.Held.{reads_of, IsKept, IsMarkedFrom, IsPutAt};
 ghost use Rattle.local_repair.specs.Written.{all_written};
 
 use crate::current::is_held;
-use entry_marks::EntryMarks;
-use entry_rows::EntryRows;
 use lang_core::{NoMemory, Reads, Seq, Writes};
+use log_index::{EntryMarks, EntryRows};
 use request_log::{Entry, Log, LogFull, MOST_ENTRIES, Numbers};
 use std::alloc::Global;
 

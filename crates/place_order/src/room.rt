@@ -1,11 +1,11 @@
 // Room for labels to come.
 ghost use Rattle.std.specs.Prelude.{◌≡◌, ◌↔◌, ◌+◌, ◌≤◌, [], ◌∷◌, ◌++◌, false, IsTrue, OnOk, OnErr, IsOk, position, vec_len, vec_capacity};
 ghost use Rattle.lang_base.specs.Equal.{equal};
-ghost use Rattle.call_room.specs.Room.{is_made, spend};
+ghost use Rattle.lang_lists.specs.Room.{is_made, spend};
 ghost use Rattle.place_order.specs.Rooms.{call_code};
 
-use call_room::take_room;
 use lang_base::NoMemory;
+use lang_lists::take_room;
 
 /// A call of an order that makes a label. Room for it is such a call in advance.
 #[derive(Clone, Copy, PartialEq, Eq)]

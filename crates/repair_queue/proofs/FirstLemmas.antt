@@ -7,16 +7,16 @@ use Rattle.std.proofs.lemmas.Bool.{cases_Bool, cases_order, le-ltb, lt-ltb}
 use Rattle.std.proofs.lemmas.Bool.Decides.{nat_tests}
 use Rattle.std.proofs.lemmas.List.{get_or_default}
 use Rattle.std.proofs.lemmas.Option.{cond_some, option_and_then_some}
-use Rattle.hash_index.specs.Keys.{text_key}
+use Rattle.lang_lists.specs.Keys.{text_key}
 use Rattle.lang_base.specs.Texts.{same_text}
-use Rattle.age_queue.specs.Ages.{is_before}
-use Rattle.age_queue.specs.declared.keys.AgeKey.{AgeKey}
-use Rattle.age_queue.proofs.AgeLemmas.{not_itself}
+use Rattle.lang_lists.specs.Ages.{is_before}
+use Rattle.lang_lists.specs.declared.age_keys.AgeKey.{AgeKey}
+use Rattle.lang_lists.proofs.AgeLemmas.{not_itself}
 use Rattle.call_registers.specs.Registers.{register, IsNumbered}
 use Rattle.call_registers.specs.Waiting.{age_key, waiting_key, AreWaiting}
 use Rattle.call_registers.specs.declared.register.Register.{Register}
 use Rattle.call_registers.proofs.WaitingLemmas.{found_itself, numbered_at, stands_at, StandsAt}
-use Rattle.service_meaning.specs.Posts.{Aged, aged_call, is_unacknowledged, older}
+use Rattle.service_events.specs.Posts.{Aged, aged_call, is_unacknowledged, older}
 use Rattle.repair_queue.specs.Queue.{aged_key, goes_out, with_call}
 
 -- ---- a walk in which one call is the oldest

@@ -8,7 +8,7 @@ use borrow.Author.Tests.{ltb-true, ltb-false}
 use Rattle.repair_messages.specs.declared.posts.PostName.{PostName}
 use Rattle.call_registers.specs.declared.register.Register.{Register}
 use Rattle.call_registers.specs.declared.reply.Reply.{Reply}
-use Rattle.service_meaning.specs.Posts.{Aged, aged_call, aged_reply, is_owed, is_unacknowledged, older, oldest, outstanding}
+use Rattle.service_events.specs.Posts.{Aged, aged_call, aged_reply, is_owed, is_unacknowledged, older, oldest, outstanding}
 use Rattle.repair_queue.specs.Queue.{IsOldest, first_name, with_call, with_reply}
 use Rattle.repair_queue.proofs.FoldLemmas.{fold_filter}
 

@@ -1,13 +1,13 @@
 -- The oldest post, by what stands beside it, and by a walk over registers and replies; which keys of calls are outstanding.
 use Rattle.std.specs.Prelude.{ℕ, ◌≡◌, ◌≤◌, Bool, false, List, Option, All, Contains, if◌then◌else◌, option_map}
 use Rattle.std.specs.Option.{option_map_or}
-use Rattle.age_queue.specs.declared.keys.AgeKey.{AgeKey}
+use Rattle.lang_lists.specs.declared.age_keys.AgeKey.{AgeKey}
 use Rattle.repair_messages.specs.declared.posts.PostName.{PostName}
 use Rattle.repair_messages.specs.declared.posts.PostName.TheVariants.{Call}
 use Rattle.call_registers.specs.Registers.{register}
 use Rattle.call_registers.specs.declared.register.Register.{Register}
 use Rattle.call_registers.specs.declared.reply.Reply.{Reply}
-use Rattle.service_meaning.specs.Posts.{Aged, aged_call, aged_reply, is_owed, is_unacknowledged, older, oldest}
+use Rattle.service_events.specs.Posts.{Aged, aged_call, aged_reply, is_owed, is_unacknowledged, older, oldest}
 
 -- the name of the oldest of these
 abbrev pub first_name : List Aged → Option PostName

@@ -1,16 +1,16 @@
 // The oldest post that is outstanding.
 ghost use Rattle.std.specs.Prelude.{◌≡◌, ◌↔◌, [], None, IfSome, find, fold, map, option_map};
 ghost use Rattle.std.specs.Option.{option_copied};
-ghost use Rattle.service_meaning.specs.Flying.{awaited};
-ghost use Rattle.service_meaning.specs.Posts.{Aged as OldPost, older, outstanding};
-ghost use Rattle.age_queue.specs.declared.keys.AgeKey.{AgeKey as Key};
+ghost use Rattle.service_events.specs.Flying.{awaited};
+ghost use Rattle.service_events.specs.Posts.{Aged as OldPost, older, outstanding};
+ghost use Rattle.lang_lists.specs.declared.age_keys.AgeKey.{AgeKey as Key};
 ghost use Rattle.repair_queue.specs.Queue.{IsOldest, first_name, goes_out, with_call, with_reply};
 
 use crate::outstanding::{Aged, aged_key, aged_reply, is_owed, is_unacknowledged};
-use age_queue::AgeKey;
 use call_registers::{Registers, Replies, Reply};
 use flights::Flight;
 use lang_core::Name;
+use lang_lists::AgeKey;
 use repair_messages::PostName;
 
 fn older(first: Option<Aged>, post: Aged) -> Option<Aged>

@@ -2,14 +2,14 @@
 ghost use Rattle.std.specs.Prelude.{◌≡◌, map, nat_eq};
 ghost use Rattle.std.specs.List.{list_any};
 ghost use Rattle.flights.specs.declared.flight.Flight.{Flight as FlightValue};
-ghost use Rattle.service_meaning.specs.Flying.{awaited};
-ghost use Rattle.service_meaning.specs.Posts.{aged_reply, is_owed, is_unacknowledged};
+ghost use Rattle.service_events.specs.Flying.{awaited};
+ghost use Rattle.service_events.specs.Posts.{aged_reply, is_owed, is_unacknowledged};
 ghost use Rattle.repair_queue.specs.Queue.{aged_key};
 
-use age_queue::AgeKey;
 use call_registers::{Register, Reply};
 use flights::Flight;
 use lang_core::{Name, Same};
+use lang_lists::AgeKey;
 use repair_messages::PostName;
 use std::marker::Model;
 
@@ -21,7 +21,7 @@ pub(crate) struct Aged {
 }
 
 impl Model for Aged {
-    ghost use Rattle.service_meaning.specs.Posts.{Aged};
+    ghost use Rattle.service_events.specs.Posts.{Aged};
 
     ghost Value = { Aged };
 

@@ -8,11 +8,11 @@ use lib.Pointwise.{bytes_decides}
 use Rattle.lang_base.specs.Texts.{same_text}
 use Rattle.lang_core.specs.declared.ids.Origin.{Origin}
 use Rattle.lang_core.specs.declared.ids.Origin.TheVariants.{Outside, Call}
-use Rattle.hash_index.specs.Ends.{end_behind, last_end}
-use Rattle.hash_index.specs.Keys.{call_key}
-use Rattle.hash_index.proofs.EndLemmas.{last_end-within}
-use Rattle.hash_index.proofs.KeyLemmas.{call_other}
-use Rattle.hash_index.proofs.SearchLemmas.{IsQuiet}
+use Rattle.lang_lists.specs.Ends.{end_behind, last_end}
+use Rattle.lang_lists.specs.Keys.{call_key}
+use Rattle.lang_lists.proofs.HashEndLemmas.{last_end-within}
+use Rattle.lang_lists.proofs.KeyLemmas.{call_other}
+use Rattle.lang_lists.proofs.SearchLemmas.{IsQuiet}
 use Rattle.request_log.specs.declared.entry.Entry.{Entry}
 use Rattle.request_log.specs.Entries.{has_id, has_origin, is_call, find_call, IsDistinct}
 use Rattle.request_log.specs.Keys.{number_of, origin_key, entry_key}

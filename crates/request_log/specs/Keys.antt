@@ -1,6 +1,6 @@
 -- Keys under which entries are found.
 use Rattle.std.specs.Prelude.{◌≡◌, ℕ, List, map}
-use Rattle.hash_index.specs.Keys.{call_key}
+use Rattle.lang_lists.specs.Keys.{call_key}
 use Rattle.lang_core.specs.declared.ids.Origin.{Origin}
 use Rattle.lang_core.specs.declared.ids.Origin.TheVariants.{Outside, Call}
 use Rattle.request_log.specs.declared.entry.Entry.{Entry}

@@ -5,8 +5,8 @@ ghost use Rattle.request_log.specs.Entries.{has_id, has_origin, IsDistinct};
 ghost use Rattle.request_log.specs.Keys.{number_of, origin_key, entry_key};
 
 use crate::entry::Entry;
-use hash_index::{HashIndex, call_key};
 use lang_core::{Name, NoMemory, Origin, Same};
+use lang_lists::{HashIndex, call_key};
 
 /// The key of an entry's origin. That of one from outside, for which nothing looks, is its number, which keeps such
 /// entries apart.

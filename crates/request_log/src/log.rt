@@ -6,9 +6,9 @@ ghost use Rattle.request_log.specs.declared.entry.Entry.{Entry};
 
 use crate::entry::{Entry, Made, Numbers};
 use crate::finding::{find_origin, make_room, origin_key, place_of};
-use hash_index::HashIndex;
 use lang_base::{both, copied_items};
 use lang_core::{Copied, Method, Name, NoMemory, Text};
+use lang_lists::HashIndex;
 use std::alloc::{AllocFailed, Global};
 use std::marker::Model;
 

@@ -3,24 +3,24 @@ use Rattle.std.proofs.Common.{◌≡◌, ℕ, suc, Bool, true, false, List, [], 
 use Rattle.std.proofs.lemmas.List.{append-nil}
 use Rattle.lang_base.specs.Memory.{Unless, lacks}
 use Rattle.lang_core.specs.declared.request.Request.{Request}
-use Rattle.network_meaning.specs.Events.{Answer, Turn, after_event, after_events, answer_to, turn}
-use Rattle.network_meaning.specs.Sound.{AreFew, IsSound}
-use Rattle.network_meaning.specs.Worlds.{World}
-use Rattle.network_meaning.specs.declared.event.Event.{Event}
-use Rattle.network_meaning.specs.declared.event.Event.TheVariants.{Begin, Deliver}
-use Rattle.network_meaning.specs.declared.event.WorldStepRefused.{WorldStepRefused}
-use Rattle.network_meaning.specs.declared.happened.Happened.{Happened}
-use Rattle.delivery_laws.specs.WorldWeights.{IsInHand, world_weight, written_at}
-use Rattle.delivery_laws.proofs.DeliveryLaws.{begin_writes_live}
-use Rattle.delivery_runs.specs.Runs.{asking, deliveries, written}
-use Rattle.network_meaning.specs.Turns.{Turns, turned_to, world_memory}
-use Rattle.network_laws.proofs.WorldLaws.{turn_sound}
-use Rattle.delivery_runs.proofs.RunLaws.{hand_falls, hand_hands, next_delivery, no_deliveries}
-use Rattle.happening_text.specs.declared.cue.Cue.{Cue}
-use Rattle.happening_text.specs.declared.cue.Cue.TheVariants.{Nothing, Packet}
+use Rattle.world_events.specs.Events.{Answer, Turn, after_event, after_events, answer_to, turn}
+use Rattle.world_events.specs.Sound.{AreFew, IsSound}
+use Rattle.world_events.specs.Worlds.{World}
+use Rattle.world_events.specs.declared.event.Event.{Event}
+use Rattle.world_events.specs.declared.event.Event.TheVariants.{Begin, Deliver}
+use Rattle.world_events.specs.declared.event.WorldStepRefused.{WorldStepRefused}
+use Rattle.world_events.specs.declared.happened.Happened.{Happened}
+use Rattle.world_delivery_laws.specs.WorldWeights.{IsInHand, world_weight, written_at}
+use Rattle.world_delivery_laws.proofs.DeliveryLaws.{begin_writes_live}
+use Rattle.world_delivery_laws.specs.Runs.{asking, deliveries, written}
+use Rattle.world_events.specs.Turns.{Turns, turned_to, world_memory}
+use Rattle.world_laws.proofs.WorldLaws.{turn_sound}
+use Rattle.world_delivery_laws.proofs.RunLaws.{hand_falls, hand_hands, next_delivery, no_deliveries}
+use Rattle.script_text.specs.declared.cue.Cue.{Cue}
+use Rattle.script_text.specs.declared.cue.Cue.TheVariants.{Nothing, Packet}
 use Rattle.script_lines.specs.declared.line.LineFault.{LineFault}
-use Rattle.script_plays.specs.Told.{events_said, fault_of, happened_or, last_at, last_line, last_of, line_of, said_of}
-use Rattle.script_plays.specs.Stops.{HappenedFirst, KeepsSound}
+use Rattle.script_run.specs.Told.{events_said, fault_of, happened_or, last_at, last_line, last_of, line_of, said_of}
+use Rattle.script_run.specs.Stops.{HappenedFirst, KeepsSound}
 
 -- ---- what an event answers, as a line takes it
 

@@ -1,1 +1,4 @@
+pub mod LineLaws
+pub mod PlayLaws
+pub mod AuditLaws
 pub mod Following

@@ -1,0 +1,4 @@
+pub mod Told
+pub mod Audits
+pub mod Plays
+pub mod Stops

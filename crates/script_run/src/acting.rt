@@ -1,19 +1,19 @@
 // What a line does, and what it prints.
 ghost use Rattle.std.specs.Prelude.{◌≡◌, ◌∷◌, [], Ok, IfOk, OnOk, OnErr};
-ghost use Rattle.network_meaning.specs.Events.{after_event};
-ghost use Rattle.script_plays.specs.Told.{events_said};
-ghost use Rattle.script_plays.specs.Plays.{after, events_of, said_by};
-ghost use Rattle.script_plays.specs.Stops.{HappenedFirst, KeepsSound};
+ghost use Rattle.world_events.specs.Events.{after_event};
+ghost use Rattle.script_run.specs.Told.{events_said};
+ghost use Rattle.script_run.specs.Plays.{after, events_of, said_by};
+ghost use Rattle.script_run.specs.Stops.{HappenedFirst, KeepsSound};
 
 use crate::asking::ask;
 use crate::reports::{log, rows, verdict_over};
 use crate::telling::happen;
-use happening_text::Cue;
 use journal_rows::Command;
 use lang_core::{Copied, Name, NoMemory, Text};
-use live_world::{Event, World};
 use script_lines::{Line, LineFault};
+use script_text::Cue;
 use std::alloc::Global;
+use world_core::{Event, World};
 
 // An order, which is told with its token.
 fn order(

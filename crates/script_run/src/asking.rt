@@ -1,17 +1,17 @@
 // A request, and the deliveries that follow it.
 ghost use Rattle.std.specs.Prelude.{◌≡◌, IfOk, OnOk, OnErr, Some};
-ghost use Rattle.network_meaning.specs.Events.{after_events};
-ghost use Rattle.delivery_laws.specs.WorldWeights.{IsInHand};
-ghost use Rattle.delivery_runs.specs.Runs.{asking, deliveries};
-ghost use Rattle.script_plays.specs.Told.{events_said, last_at};
-ghost use Rattle.script_plays.specs.Stops.{HappenedFirst, KeepsSound};
+ghost use Rattle.world_events.specs.Events.{after_events};
+ghost use Rattle.world_delivery_laws.specs.WorldWeights.{IsInHand};
+ghost use Rattle.world_delivery_laws.specs.Runs.{asking, deliveries};
+ghost use Rattle.script_run.specs.Told.{events_said, last_at};
+ghost use Rattle.script_run.specs.Stops.{HappenedFirst, KeepsSound};
 
 use crate::telling::{step, tell};
-use happening_text::Cue;
 use lang_core::{Name, NoMemory, Request, Text};
-use live_world::{Event, Happened, World};
 use script_lines::LineFault;
+use script_text::Cue;
 use std::alloc::Global;
+use world_core::{Event, Happened, World};
 
 /// What happened last, and what its event was told.
 #[derive(Drop)]

@@ -1,4 +1,5 @@
-//! Scripts: what a line does in a world of services, and what it prints, line after line.
+//! Scripts: what a line does in a world of services, and what it prints, line after line. `specs/Plays.antt` says what a
+//! script is to do, and the code does that.
 #![tactic(auto)]
 
 mod acting;
@@ -8,6 +9,6 @@ mod script;
 mod telling;
 
 pub use acting::act;
-pub use live_world::{Service, World};
 pub use reports::judge;
 pub use script::{ScriptRefused, run_script};
+pub use world_core::{Service, World};

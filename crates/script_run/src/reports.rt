@@ -2,20 +2,20 @@
 ghost use Rattle.std.specs.Prelude.{◌≡◌, All, Ok, IfOk, length, map};
 ghost use Rattle.journal_rows.specs.declared.verdict.Verdict.TheVariants.{Legal};
 ghost use Rattle.report_text.specs.Reports.{IsVerdictOver};
-ghost use Rattle.service_meaning.specs.Fits.{Fits};
-ghost use Rattle.service_meaning.specs.State.{me};
-ghost use Rattle.world_meaning.specs.Legal.{IsLegalTogether, histories};
-ghost use Rattle.world_meaning.specs.Partners.{IsJoined, service_of};
-ghost use Rattle.script_plays.specs.Audits.{SaysForged, verdict};
-ghost use Rattle.script_plays.specs.Plays.{audit_text, log_of_service, report_of, rows_of_service};
+ghost use Rattle.service_events.specs.Fits.{Fits};
+ghost use Rattle.service_events.specs.State.{me};
+ghost use Rattle.world_agreement.specs.Legal.{IsLegalTogether, histories};
+ghost use Rattle.world_agreement.specs.Partners.{IsJoined, service_of};
+ghost use Rattle.script_run.specs.Audits.{SaysForged, verdict};
+ghost use Rattle.script_run.specs.Plays.{audit_text, log_of_service, report_of, rows_of_service};
 
 use journal_rows::Verdict;
 use lang_core::{Copied, Name, Names, NoMemory, Text};
-use live_world::{Service, World};
 use report_text::{log_text, rows_text, verdict_text};
 use script_lines::LineFault;
 use std::alloc::Global;
 use world_audit::audit;
+use world_core::{Service, World};
 
 fn rows_of(alloc: Global, service: &Service) -> Result<Text, NoMemory>
     ensures { IfOk result (λ text. text ≡ rows_of_service service.now) }

@@ -3,17 +3,17 @@ ghost use Rattle.std.specs.Prelude.{◌≡◌, ◌==◌, ◌≤◌, ℕ, ◌∷�
 ghost use Rattle.io_edge.specs.Edge.{WriteFails};
 ghost use Rattle.script_lines.specs.Faults.{fault_number};
 ghost use Rattle.script_lines.specs.Lines.{line_at};
-ghost use Rattle.script_plays.specs.Plays.{bytes_left, events_for, lines_left, lines_of, played, said_for, world_for};
-ghost use Rattle.script_plays.specs.Stops.{DoesAll, HappenedFirst, IsRefusedAt, KeepsSound, StopsEarly, StopsInLine};
+ghost use Rattle.script_run.specs.Plays.{bytes_left, events_for, lines_left, lines_of, played, said_for, world_for};
+ghost use Rattle.script_run.specs.Stops.{DoesAll, HappenedFirst, IsRefusedAt, KeepsSound, StopsEarly, StopsInLine};
 ghost use Rattle.script_lines.specs.declared.line.LineFault.{LineFault};
 ghost use Rattle.script_run.specs.declared.script.ScriptRefused.TheVariants.{Refused, NoMemory, WriteFault};
 
 use crate::acting::act;
 use io_edge::{Failed, Sink, write_all};
 use lang_core::{NoMemory as LacksMemory, Text};
-use live_world::World;
 use script_lines::{LineFault, read_line};
 use std::alloc::Global;
+use world_core::World;
 
 /// Why a script was not done to its end.
 #[derive(Clone, Copy, PartialEq, Eq)]

@@ -1,19 +1,19 @@
 // Events, and the lines that are printed of them.
 ghost use Rattle.std.specs.Prelude.{◌≡◌, ◌<◌, ◌^◌, ◌∷◌, [], All, IfOk, OnOk, OnErr, Some, length};
-ghost use Rattle.happening_text.specs.Cues.{cue_of};
-ghost use Rattle.happening_text.specs.Happenings.{journal_of};
-ghost use Rattle.network_meaning.specs.Turns.{Turns};
-ghost use Rattle.network_meaning.specs.Events.{after_event, answer_to, turn};
-ghost use Rattle.service_meaning.specs.State.{Kept};
-ghost use Rattle.script_plays.specs.Told.{events_said, fault_of, happened_or, line_of};
-ghost use Rattle.script_plays.specs.Stops.{HappenedFirst, KeepsSound};
+ghost use Rattle.script_text.specs.Cues.{cue_of};
+ghost use Rattle.script_text.specs.Happenings.{journal_of};
+ghost use Rattle.world_events.specs.Turns.{Turns};
+ghost use Rattle.world_events.specs.Events.{after_event, answer_to, turn};
+ghost use Rattle.service_events.specs.State.{Kept};
+ghost use Rattle.script_run.specs.Told.{events_said, fault_of, happened_or, line_of};
+ghost use Rattle.script_run.specs.Stops.{HappenedFirst, KeepsSound};
 
-use happening_text::{Cue, happened_line};
 use journal_rows::Row;
 use lang_core::{Name, NoMemory, Text};
-use live_world::{Event, Happened, Service, World, WorldStepRefused, world_step};
 use script_lines::LineFault;
+use script_text::{Cue, happened_line};
 use std::alloc::Global;
+use world_core::{Event, Happened, Service, World, WorldStepRefused, world_step};
 
 // What an event names that isn't there.
 fn fault_of(why: WorldStepRefused) -> LineFault

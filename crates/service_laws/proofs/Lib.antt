@@ -1,2 +1,14 @@
+pub mod BoundLaws
+pub mod MessageBounds
+pub mod FitLaws
+pub mod CommitLaws
+pub mod SilentLaws
+pub mod TraceLaws
+pub mod SettledLaws
+pub mod ApartLaws
+pub mod StaleLaws
+pub mod StepLaws
+pub mod ReplayLaws
+pub mod StepBoundLaws
 pub mod RoomLemmas
 pub mod ServiceLaws

@@ -1,11 +1,11 @@
 -- What a call leaves of a service's parts is a service again.
 use Rattle.std.proofs.Common.{◌≡◌, sym, ap, subst, ◌<◌, ◌≤◌, ◌^◌, Bool, true, false, Result, length}
 use Rattle.lang_base.specs.Memory.{Unless, lacks}
-use Rattle.service_meaning.specs.State.{Kept, After, after}
-use Rattle.service_meaning.specs.Doing.{Does}
-use Rattle.service_meaning.specs.Fits.{Fits}
-use Rattle.call_laws.proofs.CallLaws.{IsFew}
-use Rattle.event_laws.proofs.BoundLaws.{IsBounded}
+use Rattle.service_events.specs.State.{Kept, After, after}
+use Rattle.service_events.specs.Doing.{Does}
+use Rattle.service_events.specs.Fits.{Fits}
+use Rattle.service_call_laws.proofs.CallLaws.{IsFew}
+use Rattle.service_laws.proofs.BoundLaws.{IsBounded}
 use Rattle.service_parts.specs.Parts.{kept}
 use Rattle.service_parts.specs.declared.parts.Parts.{Parts}
 use Rattle.service_parts.specs.Services.{HasRoom, IsService}

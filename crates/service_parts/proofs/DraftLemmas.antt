@@ -7,8 +7,8 @@ use Rattle.journal_rows.specs.declared.row.Row.{Row}
 use Rattle.call_registers.specs.Overlays.{numbered_from, put_all}
 use Rattle.call_registers.specs.Registers.{next_number}
 use Rattle.call_registers.specs.declared.register.Register.{Register}
-use Rattle.service_meaning.specs.State.{Kept}
-use Rattle.service_meaning.specs.Calls.{after_row, after_rows, noted, deleted, all_deleted}
+use Rattle.service_events.specs.State.{Kept}
+use Rattle.service_events.specs.Calls.{after_row, after_rows, noted, deleted, all_deleted}
 
 -- ---- a draft without rows
 

@@ -6,8 +6,8 @@ use Rattle.call_registers.specs.Overlays.{overlaid}
 use Rattle.call_registers.specs.Registers.{next_number}
 use Rattle.call_registers.specs.declared.register.Register.{Register}
 use Rattle.flights.specs.declared.flight.Flight.{Flight}
-use Rattle.service_meaning.specs.State.{Kept}
-use Rattle.service_meaning.specs.Calls.{deleted, named}
+use Rattle.service_events.specs.State.{Kept}
+use Rattle.service_events.specs.Calls.{deleted, named}
 use Rattle.service_parts.specs.declared.draft.Draft.{Draft}
 
 -- its rows stand last in the journal, and its changes are made of the registers

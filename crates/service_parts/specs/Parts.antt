@@ -1,5 +1,5 @@
 -- What the parts of a service keep together.
-use Rattle.service_meaning.specs.State.{Kept}
+use Rattle.service_events.specs.State.{Kept}
 use Rattle.service_parts.specs.declared.parts.Parts.{Parts}
 
 abbrev pub kept : Parts → Kept

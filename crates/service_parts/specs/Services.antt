@@ -1,7 +1,7 @@
 -- What always holds of a service's parts.
 use Rattle.std.specs.Prelude.{◌≤◌}
-use Rattle.service_meaning.specs.State.{in_all}
-use Rattle.service_meaning.specs.Fits.{Fits}
+use Rattle.service_events.specs.State.{in_all}
+use Rattle.service_events.specs.Fits.{Fits}
 use Rattle.service_parts.specs.Parts.{kept}
 use Rattle.service_parts.specs.Rooms.{aloft}
 use Rattle.service_parts.specs.declared.parts.Parts.{Parts}

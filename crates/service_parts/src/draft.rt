@@ -1,9 +1,9 @@
 // Rows that are drafted, and what they change of the registers.
 ghost use Rattle.std.specs.Prelude.{◌≡◌, ◌++◌, length, OnOk};
 ghost use Rattle.call_registers.specs.Registers.{next_number};
-ghost use Rattle.service_meaning.specs.State.{Kept};
-ghost use Rattle.service_meaning.specs.Calls.{noted};
-ghost use Rattle.service_meaning.specs.Arriving.{told};
+ghost use Rattle.service_events.specs.State.{Kept};
+ghost use Rattle.service_events.specs.Calls.{noted};
+ghost use Rattle.service_events.specs.Arriving.{told};
 ghost use Rattle.service_parts.specs.Drafts.{with_draft};
 ghost use Rattle.service_parts.specs.Parts.{kept};
 

@@ -1,6 +1,6 @@
 // How much there is where there is too much.
 ghost use Rattle.std.specs.Prelude.{◌≡◌, ◌≤◌};
-ghost use Rattle.service_meaning.specs.State.{in_all, is_crowded, is_heavy};
+ghost use Rattle.service_events.specs.State.{in_all, is_crowded, is_heavy};
 ghost use Rattle.service_parts.specs.Parts.{kept};
 
 use crate::parts::Parts;

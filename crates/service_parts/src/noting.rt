@@ -1,9 +1,9 @@
 // Rows as changes of registers.
 ghost use Rattle.std.specs.Prelude.{◌≡◌, ◌+◌, OnOk, IfOk, is_some};
-ghost use Rattle.service_meaning.specs.Calls.{put_sent, after_row, after_rows};
+ghost use Rattle.service_events.specs.Calls.{put_sent, after_row, after_rows};
 ghost use Rattle.call_registers.specs.Registers.{register, with_ack, with_answer, at_number, sent_anew};
 ghost use Rattle.call_registers.specs.Overlays.{overlaid};
-ghost use Rattle.service_meaning.specs.Calls.{seen_answer};
+ghost use Rattle.service_events.specs.Calls.{seen_answer};
 
 use call_registers::{Answer, Change, RegisterChanges, Registers};
 use journal_rows::{Row, SawAnswerRow, SentRow};

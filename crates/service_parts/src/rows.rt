@@ -1,7 +1,7 @@
 // Rows that tell of calls.
 ghost use Rattle.std.specs.Prelude.{◌≡◌, ◌+◌, ◌≤◌, [], ◌∷◌, ◌++◌, drop, slice_get, IfOk, OnOk};
 ghost use Rattle.call_registers.specs.Changes.{raised};
-ghost use Rattle.service_meaning.specs.Calls.{replaced, deleted, named, all_deleted};
+ghost use Rattle.service_events.specs.Calls.{replaced, deleted, named, all_deleted};
 ghost use Rattle.std.specs.Option.{option_copied};
 ghost use Rattle.call_registers.specs.Registers.{next_number};
 ghost use Rattle.service_parts.specs.Drafts.{deletion_in, change_rows_in};

@@ -2,7 +2,7 @@
 ghost use Rattle.std.specs.Prelude.{◌≡◌, List};
 ghost use Rattle.call_registers.specs.Registers.{next_number};
 ghost use Rattle.call_registers.specs.declared.register.Register.{Register};
-ghost use Rattle.service_meaning.specs.Calls.{version_of};
+ghost use Rattle.service_events.specs.Calls.{version_of};
 
 use crate::draft::Draft;
 use crate::parts::Parts;

@@ -13,15 +13,15 @@ use Rattle.call_registers.specs.Registers.{has_number, register}
 use Rattle.call_registers.specs.Replies.{reply, IsBelowAll, IsRising}
 use Rattle.call_registers.specs.declared.register.Register.{Register}
 use Rattle.call_registers.specs.declared.reply.Reply.{Reply}
-use Rattle.service_meaning.specs.Fits.{Fits, HasAnswered}
-use Rattle.service_meaning.specs.Flying.{awaited}
-use Rattle.service_meaning.specs.Posts.{is_unacknowledged, is_owed, Aged, aged_call, aged_reply, outstanding, set_message, answer_post, reply_post, where_there, write_post}
-use Rattle.service_meaning.specs.State.{Kept}
-use Rattle.entry_laws.proofs.EntryLemmas.{found_itself}
-use Rattle.entry_laws.proofs.PartLemmas.{logged}
-use Rattle.entry_laws.proofs.PostedLaw.{of_entry}
-use Rattle.entry_laws.proofs.SearchLemmas.{found_all}
-use Rattle.world_meaning.proofs.ListLemmas.{contains_here, contains_cases}
+use Rattle.service_events.specs.Fits.{Fits, HasAnswered}
+use Rattle.service_events.specs.Flying.{awaited}
+use Rattle.service_events.specs.Posts.{is_unacknowledged, is_owed, Aged, aged_call, aged_reply, outstanding, set_message, answer_post, reply_post, where_there, write_post}
+use Rattle.service_events.specs.State.{Kept}
+use Rattle.service_entry_laws.proofs.EntryLemmas.{found_itself}
+use Rattle.service_entry_laws.proofs.PartLemmas.{logged}
+use Rattle.service_entry_laws.proofs.PostedLaw.{of_entry}
+use Rattle.service_entry_laws.proofs.SearchLemmas.{found_all}
+use Rattle.world_agreement.proofs.ListLemmas.{contains_here, contains_cases}
 use Rattle.repair_queue.specs.Queue.{IsOldest}
 
 -- ---- what is in a list

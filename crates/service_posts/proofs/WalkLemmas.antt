@@ -4,9 +4,9 @@ use Rattle.std.proofs.lemmas.List.Sums.{fold-append}
 use Rattle.std.specs.List.{after_first, before_first, last_or, position_or_len}
 use Rattle.request_log.specs.declared.entry.Entry.{Entry}
 use Rattle.call_registers.specs.declared.register.Register.{Register}
-use Rattle.service_meaning.specs.Fits.{wanted_call}
-use Rattle.service_meaning.specs.Posts.{calls_to, goes_to, next_of, previous_of}
-use Rattle.service_meaning.specs.State.{Kept, or_else}
+use Rattle.service_events.specs.Fits.{wanted_call}
+use Rattle.service_events.specs.Posts.{calls_to, goes_to, next_of, previous_of}
+use Rattle.service_events.specs.State.{Kept, or_else}
 use Rattle.repair_queue.proofs.FoldLemmas.{fold_filter}
 use Rattle.service_posts.specs.Walks.{pass, seen, seen_entry}
 use Rattle.service_posts.specs.declared.beside.Walk.{Walk}

@@ -2,9 +2,9 @@
 use Rattle.std.specs.Prelude.{ℕ, true, List, Some, fold, if◌then◌else◌, nat_eq}
 use Rattle.request_log.specs.declared.entry.Entry.{Entry}
 use Rattle.call_registers.specs.declared.register.Register.{Register}
-use Rattle.service_meaning.specs.Fits.{wanted_call}
-use Rattle.service_meaning.specs.Posts.{goes_to}
-use Rattle.service_meaning.specs.State.{or_else}
+use Rattle.service_events.specs.Fits.{wanted_call}
+use Rattle.service_events.specs.Posts.{goes_to}
+use Rattle.service_events.specs.State.{or_else}
 use Rattle.service_posts.specs.declared.beside.Walk.{Walk}
 
 -- one call more on the way past the call `of`

@@ -1,6 +1,6 @@
 // The last answer of an entry.
 ghost use Rattle.std.specs.Prelude.{◌≡◌, IfOk};
-ghost use Rattle.service_meaning.specs.Flying.{last_answer};
+ghost use Rattle.service_events.specs.Flying.{last_answer};
 ghost use Rattle.service_parts.specs.Parts.{kept};
 
 use lang_core::{Name, NoMemory};

@@ -1,7 +1,7 @@
 // The neighbours of a call among the calls to the same service.
 ghost use Rattle.std.specs.Prelude.{◌≡◌, None, false, fold};
-ghost use Rattle.service_meaning.specs.Fits.{wanted_call};
-ghost use Rattle.service_meaning.specs.Posts.{calls_to, goes_to, next_of, previous_of};
+ghost use Rattle.service_events.specs.Fits.{wanted_call};
+ghost use Rattle.service_events.specs.Posts.{calls_to, goes_to, next_of, previous_of};
 ghost use Rattle.service_parts.specs.Parts.{kept};
 ghost use Rattle.service_posts.specs.Walks.{pass, seen, seen_entry};
 

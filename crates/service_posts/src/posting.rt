@@ -1,6 +1,6 @@
 // The post that goes next, and its message.
 ghost use Rattle.std.specs.Prelude.{◌≡◌, None, Some, IfOk, IfSome, IsSome};
-ghost use Rattle.service_meaning.specs.Posts.{answer_post, calls_to, next_of, next_post, previous_of, set_message, where_new, write_post};
+ghost use Rattle.service_events.specs.Posts.{answer_post, calls_to, next_of, next_post, previous_of, set_message, where_new, write_post};
 ghost use Rattle.service_parts.specs.Parts.{kept};
 ghost use Rattle.service_parts.specs.Services.{IsService};
 ghost use Rattle.call_registers.specs.Registers.{register};

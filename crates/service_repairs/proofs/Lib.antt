@@ -1,1 +1,4 @@
+pub mod BookLemmas
+mod StepDraftLemmas
+pub mod OrderLemmas
 mod RepairLemmas

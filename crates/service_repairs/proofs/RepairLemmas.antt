@@ -5,20 +5,20 @@ use Rattle.lang_core.specs.declared.inputs.Inputs.{Inputs}
 use Rattle.local_repair.specs.declared.stepped.Stepped.{Stepped}
 use Rattle.journal_rows.specs.Words.{ordered}
 use Rattle.journal_rows.specs.declared.orders.Command.{Command}
-use Rattle.service_meaning.specs.State.{Kept, After, after}
-use Rattle.service_meaning.specs.Calls.{noted}
-use Rattle.service_meaning.specs.Messages.{rule}
-use Rattle.service_meaning.specs.Orders.{about, carried_out, order_by, order_event, order_rows, order_where, refused}
-use Rattle.service_meaning.specs.Steps.{step_event}
-use Rattle.service_meaning.specs.declared.answers.Ordered.{Ordered}
-use Rattle.service_meaning.specs.declared.refusals.OrderRefused.{OrderRefused}
-use Rattle.entry_laws.proofs.FreshLemmas.{unfound}
-use Rattle.entry_laws.proofs.PartLemmas.{logged}
-use Rattle.event_laws.proofs.FitLaws.{step_fits, order_fits}
+use Rattle.service_events.specs.State.{Kept, After, after}
+use Rattle.service_events.specs.Calls.{noted}
+use Rattle.service_events.specs.Messages.{rule}
+use Rattle.service_events.specs.Orders.{about, carried_out, order_by, order_event, order_rows, order_where, refused}
+use Rattle.service_events.specs.Steps.{step_event}
+use Rattle.service_events.specs.declared.answers.Ordered.{Ordered}
+use Rattle.service_events.specs.declared.refusals.OrderRefused.{OrderRefused}
+use Rattle.service_entry_laws.proofs.FreshLemmas.{unfound}
+use Rattle.service_entry_laws.proofs.PartLemmas.{logged}
+use Rattle.service_laws.proofs.FitLaws.{step_fits, order_fits}
 use Rattle.service_parts.specs.Parts.{kept}
 use Rattle.service_parts.specs.declared.parts.Parts.{Parts}
-use Rattle.repair_laws.proofs.BoundLaws.{accepted_named, step_bounded, order_bounded}
-use Rattle.repair_drafts.specs.Ordering.{MayOrder}
+use Rattle.service_laws.proofs.StepBoundLaws.{accepted_named, step_bounded, order_bounded}
+use Rattle.service_repairs.specs.Ordering.{MayOrder}
 use Rattle.service_parts.specs.Services.{HasRoom, IsService}
 use Rattle.service_repairs.specs.Answers.{Steps}
 use Rattle.service_laws.proofs.ServiceLaws.{same_service, next_service}

@@ -4,9 +4,9 @@ use Rattle.lang_base.specs.Memory.{Unless}
 use Rattle.lang_base.specs.declared.memory.NoMemory.{NoMemory as LacksMemory}
 use Rattle.local_repair.specs.declared.stepped.Stepped.{Stepped}
 use Rattle.journal_rows.specs.declared.orders.OrderedRow.{OrderedRow}
-use Rattle.service_meaning.specs.State.{Kept, after}
-use Rattle.service_meaning.specs.Steps.{step_event}
-use Rattle.service_meaning.specs.declared.answers.Ordered.{Ordered}
+use Rattle.service_events.specs.State.{Kept, after}
+use Rattle.service_events.specs.Steps.{step_event}
+use Rattle.service_events.specs.declared.answers.Ordered.{Ordered}
 
 -- a step does what its event means; for want of memory, which is its only refusal, nothing changed
 abbrev pub Steps : Kept → Result Stepped LacksMemory → Kept → Type 0

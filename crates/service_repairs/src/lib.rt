@@ -1,9 +1,14 @@
-//! A repair step and an order of a service with calls, on its parts: each does what its event means, or wants memory and
-//! changes nothing, and leaves what always holds of a service.
+//! A repair step and an order of a service that calls others, on its parts: each does what its event means, or runs out of
+//! memory and changes nothing, and leaves what always holds of a service. All of it is drafted before anything changes.
 #![tactic(auto)]
 
+mod book;
+mod order_drafts;
 mod ordering;
 mod repairing;
+mod settling;
+mod step_drafts;
 
+pub use order_drafts::{RULE, created, insert, next_id};
 pub use ordering::order;
 pub use repairing::repair_step;

@@ -2,20 +2,20 @@
 ghost use Rattle.std.specs.Prelude.{◌≡◌, ◌≤◌, Ok, None, IfSome, if◌then◌else◌, option_map};
 ghost use Rattle.journal_rows.specs.Words.{ordered};
 ghost use Rattle.journal_rows.specs.declared.orders.OrderedRow.{OrderedRow};
-ghost use Rattle.service_meaning.specs.State.{in_all, is_crowded};
-ghost use Rattle.service_meaning.specs.Doing.{Does, order_memory};
-ghost use Rattle.service_meaning.specs.Orders.{entry_of, hold_on, is_too_much, makes_entry, misnamed, order_event, refused, unless_held, unless_outside, unless_replaced, unless_there};
+ghost use Rattle.service_events.specs.State.{in_all, is_crowded};
+ghost use Rattle.service_events.specs.Doing.{Does, order_memory};
+ghost use Rattle.service_events.specs.Orders.{entry_of, hold_on, is_too_much, makes_entry, misnamed, order_event, refused, unless_held, unless_outside, unless_replaced, unless_there};
 ghost use Rattle.service_parts.specs.Parts.{kept};
 ghost use Rattle.service_parts.specs.Services.{IsService};
 ghost use Rattle.service_repairs.specs.Answers.{answered_by};
 
+use crate::order_drafts::{RULE, about, accept};
 use crate::repairing::count_rows;
 use call_registers::Hold;
 use journal_rows::{Command, OrderedRow};
 use lang_core::{Inputs, Origin, Text};
-use repair_drafts::{RULE, about, accept};
 use repair_messages::PostName;
-use service_meaning::{OrderRefused, Ordered};
+use service_events::{OrderRefused, Ordered};
 use service_parts::{Parts, is_crowded, is_heavy};
 use std::alloc::Global;
 

@@ -1,15 +1,15 @@
 // A repair step.
 ghost use Rattle.std.specs.Prelude.{◌≡◌, ◌<◌, ◌^◌, [], Ok, length};
 ghost use Rattle.local_repair.specs.Current.{AllCurrent};
-ghost use Rattle.service_meaning.specs.State.{answers};
+ghost use Rattle.service_events.specs.State.{answers};
 ghost use Rattle.service_parts.specs.Parts.{kept};
 ghost use Rattle.service_parts.specs.Services.{IsService};
 ghost use Rattle.service_repairs.specs.Answers.{Steps};
 
+use crate::step_drafts::repair;
 use journal_rows::Rows;
 use lang_core::NoMemory;
 use local_repair::Stepped;
-use repair_drafts::repair;
 use service_parts::Parts;
 use std::alloc::Global;
 

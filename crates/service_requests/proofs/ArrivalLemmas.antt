@@ -9,13 +9,13 @@ use Rattle.request_log.specs.declared.entry.Entry.{Entry}
 use Rattle.request_log.specs.declared.entry.Made.{Made}
 use Rattle.journal_rows.specs.Words.{last_taken}
 use Rattle.journal_rows.specs.declared.callee.TookRow.{TookRow}
-use Rattle.service_meaning.specs.State.{Kept, After, after, in_all, or_else, is_heavy, is_in_flight}
-use Rattle.service_meaning.specs.Arriving.{accepted, new_flight, admitted, arrives, known_by, arrives_or_known, by_version, unless_gone, arrive_event}
-use Rattle.service_meaning.specs.Flying.{goes_on}
-use Rattle.service_meaning.specs.declared.answers.Arrived.{Arrived}
-use Rattle.service_meaning.specs.declared.refusals.ArriveRefused.{ArriveRefused}
-use Rattle.service_meaning.specs.declared.refusals.ArriveRefused.TheVariants.{NotYet}
-use Rattle.event_laws.proofs.BoundLaws.{uncrowded}
+use Rattle.service_events.specs.State.{Kept, After, after, in_all, or_else, is_heavy, is_in_flight}
+use Rattle.service_events.specs.Arriving.{accepted, new_flight, admitted, arrives, known_by, arrives_or_known, by_version, unless_gone, arrive_event}
+use Rattle.service_events.specs.Flying.{goes_on}
+use Rattle.service_events.specs.declared.answers.Arrived.{Arrived}
+use Rattle.service_events.specs.declared.refusals.ArriveRefused.{ArriveRefused}
+use Rattle.service_events.specs.declared.refusals.ArriveRefused.TheVariants.{NotYet}
+use Rattle.service_laws.proofs.BoundLaws.{uncrowded}
 use Rattle.service_requests.specs.Arrivals.{Early, by_made, by_entry, deletion_of, deletion_in, unless_deleted, known, too_much, refusal, before_run}
 
 -- what is left where it is answered early, or not

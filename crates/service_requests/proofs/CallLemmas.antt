@@ -3,10 +3,10 @@ use Rattle.std.proofs.Common.{◌≡◌, ◌∙◌, sym, ap, ℕ, Some, Err, nat
 use Rattle.std.proofs.lemmas.Bool.{cond-true}
 use Rattle.call_registers.specs.declared.register.Why.{Why}
 use Rattle.flights.specs.declared.flight.Flight.{Flight}
-use Rattle.service_meaning.specs.State.{Kept, after, flight_of}
-use Rattle.service_meaning.specs.Arriving.{accepted, told, failed_flight, call_failed_event}
-use Rattle.service_meaning.specs.Flying.{awaited, goes_on}
-use Rattle.service_meaning.specs.declared.refusals.CallRefused.TheVariants.{NoFlight}
+use Rattle.service_events.specs.State.{Kept, after, flight_of}
+use Rattle.service_events.specs.Arriving.{accepted, told, failed_flight, call_failed_event}
+use Rattle.service_events.specs.Flying.{awaited, goes_on}
+use Rattle.service_events.specs.declared.refusals.CallRefused.TheVariants.{NoFlight}
 
 -- the flight that waits for it goes on
 pub failed_is : (s : Kept) (id number : ℕ) (why : Why) (f : Flight) → flight_of id s ≡ Some f → awaited f ≡ number

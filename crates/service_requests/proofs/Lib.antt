@@ -1,3 +1,5 @@
+pub mod EndLemmas
 pub mod ArrivalLemmas
 pub mod CallLemmas
 pub mod ServiceLemmas
+mod DeletionLemmas

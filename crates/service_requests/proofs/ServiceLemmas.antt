@@ -6,17 +6,17 @@ use Rattle.lang_core.specs.declared.inputs.Inputs.{Inputs}
 use Rattle.lang_core.specs.declared.request.Request.{Request}
 use Rattle.journal_rows.specs.Words.{last_taken_of}
 use Rattle.flights.specs.declared.flight.Flight.{Flight}
-use Rattle.service_meaning.specs.State.{Kept, After, after, in_all, next_id, has_flight, flight_of}
-use Rattle.service_meaning.specs.Arriving.{accepted, new_flight}
-use Rattle.service_meaning.specs.Fits.{Fits}
-use Rattle.entry_laws.proofs.FreshLemmas.{unfound, alone, below_next, untaken_of}
-use Rattle.entry_laws.proofs.PartLemmas.{logged}
-use Rattle.entry_laws.proofs.ReplyLemmas.{above_all}
-use Rattle.entry_laws.proofs.SearchLemmas.{found_all}
-use Rattle.call_laws.proofs.CallLaws.{IsFew}
-use Rattle.call_laws.proofs.FlightLemmas.{flies_from, free_number}
-use Rattle.event_laws.proofs.BoundLaws.{IsBounded}
-use Rattle.live_drafts.specs.Endings.{MayEnd}
+use Rattle.service_events.specs.State.{Kept, After, after, in_all, next_id, has_flight, flight_of}
+use Rattle.service_events.specs.Arriving.{accepted, new_flight}
+use Rattle.service_events.specs.Fits.{Fits}
+use Rattle.service_entry_laws.proofs.FreshLemmas.{unfound, alone, below_next, untaken_of}
+use Rattle.service_entry_laws.proofs.PartLemmas.{logged}
+use Rattle.service_entry_laws.proofs.ReplyLemmas.{above_all}
+use Rattle.service_entry_laws.proofs.SearchLemmas.{found_all}
+use Rattle.service_call_laws.proofs.CallLaws.{IsFew}
+use Rattle.service_call_laws.proofs.FlightLemmas.{flies_from, free_number}
+use Rattle.service_laws.proofs.BoundLaws.{IsBounded}
+use Rattle.service_requests.specs.Endings.{MayEnd}
 use Rattle.service_parts.specs.Parts.{kept}
 use Rattle.service_parts.specs.declared.parts.Parts.{Parts}
 use Rattle.service_requests.specs.Arrivals.{before_run}

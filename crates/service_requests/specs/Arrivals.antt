@@ -9,12 +9,12 @@ use Rattle.request_log.specs.declared.entry.Entry.{Entry}
 use Rattle.request_log.specs.declared.entry.Made.{Made}
 use Rattle.journal_rows.specs.Words.{last_taken}
 use Rattle.journal_rows.specs.declared.callee.TookRow.{TookRow}
-use Rattle.service_meaning.specs.State.{Kept, or_else, is_crowded, is_heavy, is_in_flight}
-use Rattle.service_meaning.specs.Flying.{last_answer}
-use Rattle.service_meaning.specs.declared.answers.Arrived.{Arrived}
-use Rattle.service_meaning.specs.declared.answers.Arrived.TheVariants.{Known}
-use Rattle.service_meaning.specs.declared.refusals.ArriveRefused.{ArriveRefused}
-use Rattle.service_meaning.specs.declared.refusals.ArriveRefused.TheVariants.{Full, NotYet, Gone}
+use Rattle.service_events.specs.State.{Kept, or_else, is_crowded, is_heavy, is_in_flight}
+use Rattle.service_events.specs.Flying.{last_answer}
+use Rattle.service_events.specs.declared.answers.Arrived.{Arrived}
+use Rattle.service_events.specs.declared.answers.Arrived.TheVariants.{Known}
+use Rattle.service_events.specs.declared.refusals.ArriveRefused.{ArriveRefused}
+use Rattle.service_events.specs.declared.refusals.ArriveRefused.TheVariants.{Full, NotYet, Gone}
 
 -- unless memory is wanting, this
 abbrev pub Says : {X E : Type 0} → (E → Bool) → Result X E → Type 0 → Type 0

@@ -1,2 +1,4 @@
+pub mod Endings
 pub mod Arrivals
 pub mod Changes
+pub mod Deletions

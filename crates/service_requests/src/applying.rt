@@ -4,26 +4,26 @@ ghost use Rattle.request_log.specs.Entries.{IsNew};
 ghost use Rattle.call_registers.specs.Overlays.{overlaid};
 ghost use Rattle.call_registers.specs.Replies.{IsAboveAll};
 ghost use Rattle.flights.specs.Numbers.{without_flight};
-ghost use Rattle.service_meaning.specs.State.{after};
+ghost use Rattle.service_events.specs.State.{after};
 ghost use Rattle.service_parts.specs.Drafts.{with_draft};
-ghost use Rattle.live_drafts.specs.Endings.{ends, listed, CanEnd};
+ghost use Rattle.service_requests.specs.Endings.{ends, listed, CanEnd};
 ghost use Rattle.service_parts.specs.Parts.{kept};
-ghost use Rattle.service_meaning.specs.Flying.{answer_to_caller};
+ghost use Rattle.service_events.specs.Flying.{answer_to_caller};
 ghost use Rattle.service_parts.specs.Rooms.{aloft};
 ghost use Rattle.service_parts.specs.declared.draft.Draft.{Draft};
 ghost use Rattle.service_requests.specs.Changes.{leaves, CanLeave, IsReadyFor, with_entries};
 ghost use Rattle.service_parts.specs.Services.{HasRoom};
 
+use crate::endings::Ending;
 use crate::outcome::Outcome;
 use call_registers::{Registers, Replies, Reply};
 use flights::{Flight, Flights};
 use journal_rows::Rows;
 use lang_core::{NoMemory, Origin};
-use live_drafts::Ending;
 use local_repair::Repairer;
 use repair_messages::{AnswerMessage, SetMessage};
 use request_log::Entry;
-use service_meaning::Arrived;
+use service_events::Arrived;
 use service_parts::{Draft, Parts, note_draft, reserve_draft};
 use service_posts::last_answer;
 use std::alloc::Global;
@@ -41,7 +41,7 @@ fn append(repairer: &mut Repairer, entry: Entry) -> Result<(), NoMemory>
     }
 }
 
-#[tactic(auto, using(call_room::proofs::RoomLemmas::made_last))]
+#[tactic(auto, using(lang_lists::proofs::RoomLemmas::made_last))]
 fn ready_reply(replies: &mut Replies, reply: &Option<Reply>) -> Result<(), NoMemory>
     ensures list { replies.new.list ≡ replies.old.list }
     ensures ok { OnOk result (IsReadyFor reply.now replies.new.room) }

@@ -1,17 +1,17 @@
 // The arrival of a live request.
 ghost use Rattle.std.specs.Prelude.{◌≡◌, None, Ok, IfOk, OnErr};
-ghost use Rattle.service_meaning.specs.State.{after};
-ghost use Rattle.service_meaning.specs.Arriving.{arrive_event};
+ghost use Rattle.service_events.specs.State.{after};
+ghost use Rattle.service_events.specs.Arriving.{arrive_event};
 ghost use Rattle.service_parts.specs.Parts.{kept};
 ghost use Rattle.service_requests.specs.Arrivals.{before_run};
 ghost use Rattle.service_parts.specs.Services.{IsService};
-ghost use Rattle.service_meaning.specs.Doing.{Does, arrive_memory};
+ghost use Rattle.service_events.specs.Doing.{Does, arrive_memory};
 
 use crate::applying::apply;
 use crate::early::before_run;
 use crate::going::begin;
 use lang_core::{Inputs, NoMemory, Origin, Request};
-use service_meaning::{ArriveRefused, Arrived};
+use service_events::{ArriveRefused, Arrived};
 use service_parts::Parts;
 use std::alloc::Global;
 

@@ -2,16 +2,16 @@
 ghost use Rattle.std.specs.Prelude.{◌≡◌, [], ◌∷◌, ◌++◌, if◌then◌else◌, IfOk, OnOk};
 ghost use Rattle.std.specs.Option.{option_copied};
 ghost use Rattle.call_registers.specs.Registers.{register};
-ghost use Rattle.service_meaning.specs.Arriving.{answers_register, is_for, is_new_to, seen_live, heard_rows, told, call_answered_event, call_failed_event};
-ghost use Rattle.service_meaning.specs.Calls.{noted};
-ghost use Rattle.service_meaning.specs.Flying.{goes_on};
+ghost use Rattle.service_events.specs.Arriving.{answers_register, is_for, is_new_to, seen_live, heard_rows, told, call_answered_event, call_failed_event};
+ghost use Rattle.service_events.specs.Calls.{noted};
+ghost use Rattle.service_events.specs.Flying.{goes_on};
 ghost use Rattle.service_parts.specs.Drafts.{with_draft};
-ghost use Rattle.live_drafts.specs.Endings.{MayEnd};
+ghost use Rattle.service_requests.specs.Endings.{MayEnd};
 ghost use Rattle.service_parts.specs.Parts.{kept};
 ghost use Rattle.service_requests.specs.Arrivals.{Says};
 ghost use Rattle.service_requests.specs.Changes.{leaves, CanLeave, Drafts};
 ghost use Rattle.service_parts.specs.Services.{IsService};
-ghost use Rattle.service_meaning.specs.Doing.{Does, call_memory};
+ghost use Rattle.service_events.specs.Doing.{Does, call_memory};
 
 use crate::applying::apply;
 use crate::going::follow;
@@ -21,7 +21,7 @@ use flights::Flight;
 use journal_rows::{AckHow, How, Row, SawAckRow, SawAnswerRow};
 use lang_core::{Copied, NoMemory, Same};
 use repair_messages::{AnswerMessage, copied_pair};
-use service_meaning::{Arrived, CallRefused};
+use service_events::{Arrived, CallRefused};
 use service_parts::{Draft, Parts, note, start, tell};
 use std::alloc::Global;
 

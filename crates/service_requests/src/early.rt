@@ -3,14 +3,14 @@ ghost use Rattle.std.specs.Prelude.{◌≡◌, ◌≤◌, Err, Ok, option_map};
 ghost use Rattle.lang_core.specs.declared.ids.Origin.{Origin};
 ghost use Rattle.request_log.specs.Entries.{find_call};
 ghost use Rattle.journal_rows.specs.Words.{last_taken};
-ghost use Rattle.service_meaning.specs.State.{in_all};
+ghost use Rattle.service_events.specs.State.{in_all};
 ghost use Rattle.service_parts.specs.Parts.{kept};
-ghost use Rattle.service_meaning.specs.Doing.{arrive_memory};
+ghost use Rattle.service_events.specs.Doing.{arrive_memory};
 ghost use Rattle.service_requests.specs.Arrivals.{Says, early, by_made, by_entry, deletion_in, unless_deleted, known, too_much, refusal, before_run};
 
 use lang_core::{Name, Origin};
 use request_log::Entry;
-use service_meaning::{ArriveRefused, Arrived};
+use service_events::{ArriveRefused, Arrived};
 use service_parts::{Parts, is_crowded, is_heavy};
 use service_posts::last_answer;
 use std::alloc::Global;

@@ -1,16 +1,16 @@
 // What follows where a flight goes on.
 ghost use Rattle.std.specs.Prelude.{◌≡◌, IfOk};
-ghost use Rattle.service_meaning.specs.Arriving.{new_flight};
-ghost use Rattle.service_meaning.specs.Flying.{goes_on};
+ghost use Rattle.service_events.specs.Arriving.{new_flight};
+ghost use Rattle.service_events.specs.Flying.{goes_on};
 ghost use Rattle.service_parts.specs.Drafts.{with_draft};
-ghost use Rattle.live_drafts.specs.Endings.{MayEnd};
+ghost use Rattle.service_requests.specs.Endings.{MayEnd};
 ghost use Rattle.service_parts.specs.Parts.{kept};
 ghost use Rattle.service_requests.specs.Changes.{leaves, CanLeave};
 
+use crate::completing::go_on;
 use crate::outcome::Outcome;
 use flights::Flight;
 use lang_core::{Inputs, NoMemory, Origin, Request, Seq};
-use live_drafts::go_on;
 use service_parts::{Draft, Parts, start};
 use std::alloc::Global;
 

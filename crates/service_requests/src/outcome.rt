@@ -1,5 +1,5 @@
 // What an event of a live request is to leave.
-use live_drafts::Ending;
+use crate::endings::Ending;
 use service_parts::Draft;
 
 /// What an event of a live request is to leave of a service, and how it ends.

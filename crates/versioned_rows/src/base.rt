@@ -2,7 +2,7 @@
 ghost use Rattle.std.specs.Prelude.{ℕ, List, ◌≡◌, ◌↔◌, ◌+◌, ◌≤◌, [], ◌∷◌, ◌++◌, Some, None, IsTrue, IsSome, IfSome, IfOk, OnOk, OnErr, IsOk, position, vec_len, vec_capacity};
 ghost use Rattle.std.specs.Option.{option_copied};
 ghost use Rattle.lang_base.specs.Equal.{equal};
-ghost use Rattle.call_room.specs.Room.{is_made, spend};
+ghost use Rattle.lang_lists.specs.Room.{is_made, spend};
 ghost use Rattle.lang_core.specs.Places.{IsOrdered};
 ghost use Rattle.lang_core.specs.Rows.{cell_place, get};
 ghost use Rattle.lang_core.specs.declared.cells.Cell.{Cell};
@@ -14,8 +14,8 @@ use crate::places::PlaceWrites;
 use crate::room::VersionsCall;
 use crate::rows::{Row, make_rows};
 use crate::seeking::seek;
-use call_room::take_room;
 use lang_core::{Cell, Cells, Copied, NoMemory, Same, Text};
+use lang_lists::take_room;
 use std::alloc::Global;
 
 /// The text at a key of a table, found by halves.

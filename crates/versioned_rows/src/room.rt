@@ -1,7 +1,7 @@
 // Room for writes to come: a place in the list of places, a place for a label in the row of each key, and a copy.
 ghost use Rattle.std.specs.Prelude.{ℕ, List, ◌≡◌, ◌↔◌, ◌+◌, ◌≤◌, [], ◌∷◌, ◌++◌, Some, None, true, IsTrue, IsSome, IfSome, IfOk, OnOk, OnErr, IsOk, position, vec_len, vec_capacity, if◌then◌else◌};
 ghost use Rattle.lang_base.specs.Equal.{equal};
-ghost use Rattle.call_room.specs.Room.{is_made, spend};
+ghost use Rattle.lang_lists.specs.Room.{is_made, spend};
 ghost use Rattle.lang_core.specs.Places.{IsOrdered};
 ghost use Rattle.lang_core.specs.declared.writes.Write.{Write};
 ghost use Rattle.versioned_rows.specs.Places.{is_written};
@@ -11,8 +11,8 @@ ghost use Rattle.versioned_rows.specs.declared.rows.Row.{Row};
 
 use crate::places::PlaceWrites;
 use crate::rows::{Row, make_rows};
-use call_room::take_room;
 use lang_core::{Cells, Copied, NoMemory, Same, Writes};
+use lang_lists::take_room;
 use std::alloc::Global;
 
 /// A call of versions that grows them, with the copy that it needs. Room for it is such a call in advance.

@@ -7,7 +7,7 @@ ghost use Rattle.lang_core.specs.Rows.{get, scan, kept_from, is_over};
 ghost use Rattle.lang_core.specs.declared.cells.Cell.{Cell};
 ghost use Rattle.versioned_rows.specs.Rows.{row_place};
 ghost use Rattle.versioned_rows.specs.Scans.{is_under, while, cell_at, row_cells};
-ghost use Rattle.call_room.specs.Room.{is_made, spend};
+ghost use Rattle.lang_lists.specs.Room.{is_made, spend};
 ghost use Rattle.place_order.specs.Rising.{IsRising};
 ghost use Rattle.versioned_rows.specs.Places.{label_of, without, with_place};
 ghost use Rattle.versioned_rows.specs.Versions.{call_code, write_call, base_call, rows_before_label, IsBased, IsIndexed, IsCovered};

@@ -2,3 +2,7 @@ mod ChainLemmas
 pub mod SealLemmas
 pub mod SpeltLemmas
 pub mod WordLemmas
+pub mod PlainForms
+pub mod Refusals
+pub mod MadeHeads
+pub mod SameFields

@@ -1,5 +1,5 @@
-//! What HTTP messages between services are made of: the forms of their header fields, which of them each kind of message
-//! has and the first that is missing or bad, heads made field by field, the bytes that are sealed, and the secrets of peers.
+//! The header fields of messages between services: their forms, which of them a message has, heads made field by field, what
+//! is sealed, the words of refusals, and the secrets of peers.
 #![tactic(auto)]
 
 mod console;

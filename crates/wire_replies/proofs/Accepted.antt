@@ -19,7 +19,7 @@ use Rattle.wire_fields.specs.declared.refused.WireRefused.{WireRefused}
 use Rattle.wire_fields.specs.declared.refused.WireRefused.TheVariants as refused
 use Rattle.wire_fields.proofs.SealLemmas.{text_same}
 use Rattle.wire_fields.proofs.SpeltLemmas.{id_back}
-use Rattle.wire_laws.proofs.Refusals.{fits}
+use Rattle.wire_fields.proofs.Refusals.{fits}
 use Rattle.wire_replies.specs.Kinds.{reply_headers}
 use Rattle.wire_replies.specs.Reading.{ids_refusal, reply_refusal, reply_seal_refusal, sealed_bytes}
 use Rattle.wire_replies.specs.declared.kinds.ReplyKind.{ReplyKind}

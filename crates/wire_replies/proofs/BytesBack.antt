@@ -3,10 +3,10 @@ use Rattle.std.proofs.Common.{◌≡◌, ℕ, true, List, Option, Some, sym, ap,
 use Rattle.std.specs.Option.{ForSome}
 use Rattle.lang_core.specs.Names.{is_name}
 use Rattle.http_front.specs.declared.message.WireResponse.{WireResponse}
-use Rattle.http_laws.specs.ReadBack.{IsRepliable, response_read}
-use Rattle.http_laws.proofs.ResponsesBack.{response_reads_back}
-use Rattle.wire_laws.proofs.MadeHeads.{table_plain}
-use Rattle.wire_laws.proofs.SameFields.{response_agrees, same_lines}
+use Rattle.http_front.specs.ReadBack.{IsRepliable, response_read}
+use Rattle.http_front.proofs.ResponsesBack.{response_reads_back}
+use Rattle.wire_fields.proofs.MadeHeads.{table_plain}
+use Rattle.wire_fields.proofs.SameFields.{response_agrees, same_lines}
 use Rattle.wire_replies.specs.Sent.{BytesReadBack}
 use Rattle.wire_replies.specs.Writing.{AreNumbers, IsFor, sealed_reply}
 use Rattle.wire_replies.specs.declared.replies.Outgoing.{Outgoing}

@@ -3,9 +3,9 @@ use Rattle.std.proofs.Common.{◌≡◌, ℕ, ◌<◌, ◌^◌, true, List, [], 
 use Rattle.std.specs.List.{list_all}
 use Rattle.lang_core.specs.Names.{is_name}
 use Rattle.std.proofs.lemmas.Bool.{and_from}
-use Rattle.http_laws.proofs.PlainLemmas.{decimal_plain}
-use Rattle.wire_laws.proofs.MadeHeads.{ArePlain, AreSingle, all_plain, are_single, is_plain_field, none_plain, one_plain}
-use Rattle.wire_laws.proofs.PlainForms.{id_plain, name_plain, refusal_plain, seal_plain}
+use Rattle.http_front.proofs.PlainLemmas.{decimal_plain}
+use Rattle.wire_fields.proofs.MadeHeads.{ArePlain, AreSingle, all_plain, are_single, is_plain_field, none_plain, one_plain}
+use Rattle.wire_fields.proofs.PlainForms.{id_plain, name_plain, refusal_plain, seal_plain}
 use Rattle.http_front.specs.Table.{aire_headers}
 use Rattle.http_front.specs.declared.header.AireHeader.TheVariants as headers
 use Rattle.peer_seal.specs.Seal.{seal_digits}

@@ -29,7 +29,7 @@ use Rattle.wire_replies.specs.declared.kinds.ReplyKind.{ReplyKind}
 use Rattle.wire_replies.specs.declared.kinds.ReplyKind.TheVariants as kinds
 use Rattle.wire_replies.specs.declared.replies.Outgoing.{Outgoing}
 use Rattle.wire_replies.specs.declared.replies.Outgoing.TheVariants as replies
-use Rattle.wire_laws.proofs.Refusals.{neither}
+use Rattle.wire_fields.proofs.Refusals.{neither}
 use Rattle.wire_replies.proofs.Accepted.{IsField, accepted, number_of_id, one_more, said, side_fits}
 use Rattle.std.proofs.lemmas.Bool.{and_from}
 

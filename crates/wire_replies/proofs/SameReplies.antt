@@ -3,7 +3,7 @@ use Rattle.std.proofs.Common.{◌≡◌, ℕ, List, codes, refl, sym, ap, ◌∙
 use Rattle.http_header.specs.FieldValue.{FieldValue}
 use Rattle.http_header.specs.HeaderMap.{Entries, get}
 use Rattle.http_front.specs.declared.message.WireResponse.{WireResponse}
-use Rattle.wire_laws.proofs.SameFields.{Agree, of_table, same_table}
+use Rattle.wire_fields.proofs.SameFields.{Agree, of_table, same_table}
 use Rattle.wire_replies.specs.Kinds.{reply_kind}
 use Rattle.wire_replies.specs.Reading.{replied, reply_of}
 use Rattle.wire_replies.specs.declared.kinds.Asking.{Asking}

@@ -8,7 +8,7 @@ use Rattle.http_front.specs.Writing.{response_bytes, type_line}
 use Rattle.http_front.specs.declared.header.AireHeader.{AireHeader}
 use Rattle.http_front.specs.declared.message.FrontRefused.{FrontRefused}
 use Rattle.http_front.specs.declared.message.WireResponse.{WireResponse}
-use Rattle.http_laws.specs.ReadBack.{IsWithin, is_plain_line}
+use Rattle.http_front.specs.ReadBack.{IsWithin, is_plain_line}
 use Rattle.wire_replies.specs.Reading.{replied}
 use Rattle.wire_replies.specs.Writing.{Answers, IsSpelt}
 use Rattle.wire_replies.specs.declared.kinds.Asking.{Asking}

@@ -4,8 +4,8 @@ use Rattle.std.specs.List.{AllWithin, HoldsAt}
 use Rattle.std.proofs.lemmas.List.{get_or_default}
 use Rattle.local_repair.proofs.TestLemmas.{none_first}
 use Rattle.flights.specs.declared.flight.Flight.{Flight}
-use Rattle.service_meaning.specs.State.{Kept, answers}
-use Rattle.world_meaning.specs.Partners.{HasPartner}
+use Rattle.service_events.specs.State.{Kept, answers}
+use Rattle.world_agreement.specs.Partners.{HasPartner}
 use Rattle.world_audit.specs.First.{IsFirstWithout}
 use Rattle.world_audit.specs.Verdicts.{IsAcknowledged, IsGiven, NoneOf, IsFirstIn, IsFirstOf, IsJoinedIn, IsForged}
 use Rattle.world_audit.specs.declared.outstanding.Kind.{Kind}

@@ -9,9 +9,9 @@ use Rattle.lang_core.specs.declared.ids.Origin.{Origin}
 use Rattle.lang_core.specs.declared.ids.Origin.TheVariants.{Outside, Call}
 use Rattle.lang_core.specs.declared.request.Response.{Response}
 use Rattle.request_log.specs.Entries.{is_call}
-use Rattle.hash_index.specs.Keys.{call_key}
-use Rattle.hash_index.proofs.KeyLemmas.{call_other}
-use Rattle.hash_index.proofs.SearchLemmas.{IsQuiet}
+use Rattle.lang_lists.specs.Keys.{call_key}
+use Rattle.lang_lists.proofs.KeyLemmas.{call_other}
+use Rattle.lang_lists.proofs.SearchLemmas.{IsQuiet}
 use Rattle.journal_rows.specs.Keys.{row_key, origin_key}
 use Rattle.journal_rows.specs.contracts.caller.SentRow as sent_row
 use Rattle.journal_rows.specs.declared.callee.AnsweredRow.{AnsweredRow}

@@ -4,9 +4,9 @@ use Rattle.std.proofs.lemmas.List.Elements.{All-weaker}
 use Rattle.journal_rows.specs.declared.verdict.Outstanding.{Outstanding}
 use Rattle.journal_rows.specs.declared.verdict.Verdict.{Verdict}
 use Rattle.journal_rows.specs.declared.verdict.Verdict.TheVariants.{Legal, Forged, Unsettled}
-use Rattle.service_meaning.specs.State.{Kept}
-use Rattle.world_meaning.specs.Partners.{IsJoined}
-use Rattle.world_meaning.specs.Quiet.{IsQuiet, AreQuiet}
+use Rattle.service_events.specs.State.{Kept}
+use Rattle.world_agreement.specs.Partners.{IsJoined}
+use Rattle.world_agreement.specs.Quiet.{IsQuiet, AreQuiet}
 use Rattle.world_audit.specs.Verdicts.{NoneOf, IsJoinedIn, IsForged, IsUnsettled, IsVerdict, NoneIn, SaysForged, SaysUnsettled, kind_of}
 use Rattle.world_audit.specs.declared.outstanding.Kind.{Kind}
 use Rattle.world_audit.specs.declared.outstanding.Kind.TheVariants.{Flights, Entries, Calls, Answers}

@@ -1,6 +1,6 @@
 -- Rows that are sought in another service's journal.
 use Rattle.std.specs.Prelude.{ℕ, Bool}
-use Rattle.hash_index.specs.Keys.{call_key}
+use Rattle.lang_lists.specs.Keys.{call_key}
 use Rattle.journal_rows.specs.declared.row.Row.{Row}
 use Rattle.world_audit.specs.Tests.{sends, gives, confirms, acknowledges_so}
 use Rattle.world_audit.specs.declared.sought.Sought.{Sought}

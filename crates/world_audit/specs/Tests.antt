@@ -14,8 +14,8 @@ use Rattle.journal_rows.specs.declared.caller.SentRow.{SentRow}
 use Rattle.journal_rows.specs.declared.callee.AnsweredRow.{AnsweredRow}
 use Rattle.journal_rows.specs.declared.row.Row.{Row}
 use Rattle.journal_rows.specs.declared.row.Row.TheVariants.{Took, Acked, Answered, WasConfirmed, Sent, SawAck, SawAnswer, Confirmed}
-use Rattle.service_meaning.specs.State.{Kept, me}
-use Rattle.world_meaning.specs.Partners.{service_of}
+use Rattle.service_events.specs.State.{Kept, me}
+use Rattle.world_agreement.specs.Partners.{service_of}
 
 -- ---- a row of the other service
 

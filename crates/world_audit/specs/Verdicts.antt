@@ -9,9 +9,9 @@ use Rattle.journal_rows.specs.declared.verdict.Verdict.{Verdict}
 use Rattle.journal_rows.specs.declared.verdict.Verdict.TheVariants.{Legal, Forged, Unsettled}
 use Rattle.call_registers.specs.declared.register.Register.{Register}
 use Rattle.call_registers.specs.declared.reply.Reply.{Reply}
-use Rattle.service_meaning.specs.State.{Kept, answers}
-use Rattle.world_meaning.specs.Partners.{HasPartner, IsJoined}
-use Rattle.world_meaning.specs.Quiet.{AreQuiet}
+use Rattle.service_events.specs.State.{Kept, answers}
+use Rattle.world_agreement.specs.Partners.{HasPartner, IsJoined}
+use Rattle.world_agreement.specs.Quiet.{AreQuiet}
 use Rattle.world_audit.specs.First.{IsFirstWithout, IsFirstNumber}
 use Rattle.world_audit.specs.declared.outstanding.Kind.{Kind}
 use Rattle.world_audit.specs.declared.outstanding.Kind.TheVariants.{Flights, Entries, Calls, Answers}

@@ -6,7 +6,7 @@ ghost use Rattle.world_audit.specs.Verdicts.{IsAcknowledged, IsGiven, NoneOf, Is
 use call_registers::{Register, Reply};
 use flights::Flight;
 use journal_rows::Outstanding;
-use live_service::Service;
+use service_core::Service;
 
 /// The kinds of what may be outstanding, in the order in which the audit looks for them.
 #[derive(Clone, Copy, PartialEq, Eq)]

@@ -1,14 +1,14 @@
 // Whether another service did what a row says of it.
 ghost use Rattle.std.specs.Prelude.{◌≡◌, ◌↔◌, IsTrue, option_map};
 ghost use Rattle.journal_rows.specs.Words.{last_sent};
-ghost use Rattle.service_meaning.specs.State.{me};
-ghost use Rattle.world_meaning.specs.Partners.{service_of, HasPartner};
+ghost use Rattle.service_events.specs.State.{me};
+ghost use Rattle.world_agreement.specs.Partners.{service_of, HasPartner};
 ghost use Rattle.world_audit.specs.Tests.{sends, gives, confirms, acknowledges_so, named_has, callee_of, dest_has, is_partnered};
 
 use crate::sought::{Sought, is_in};
 use journal_rows::{Row, SawAckRow, SawAnswerRow, TookRow, WasConfirmedRow};
 use lang_core::{Name, Same};
-use live_service::Service;
+use service_core::Service;
 
 fn service_of<'a>(services: &'a [Service], name: &Name) -> Option<&'a Service>
     ensures { option_map (λ s. s.now) result ≡ service_of name.now services.now }

@@ -4,9 +4,9 @@ ghost use Rattle.std.specs.List.{list_any};
 ghost use Rattle.world_audit.specs.Sought.{is_sought, key_of};
 
 use crate::tests::{acknowledges_so, confirms, gives, sends};
-use hash_index::call_key;
 use journal_rows::{Row, Rows, SawAckRow, SawAnswerRow, TookRow, WasConfirmedRow};
 use lang_core::Name;
+use lang_lists::call_key;
 
 /// What a row of another service is to say, by the row that says it of that service.
 #[derive(Clone, Copy)]

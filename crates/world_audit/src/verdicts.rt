@@ -2,15 +2,15 @@
 ghost use Rattle.std.specs.Prelude.{◌≡◌, ◌↔◌, All, MatchOption};
 ghost use Rattle.journal_rows.specs.declared.verdict.Verdict.{Verdict};
 ghost use Rattle.journal_rows.specs.declared.verdict.Verdict.TheVariants.{Legal};
-ghost use Rattle.world_meaning.specs.Partners.{HasPartner, IsJoined};
-ghost use Rattle.world_meaning.specs.Quiet.{AreQuiet};
+ghost use Rattle.world_agreement.specs.Partners.{HasPartner, IsJoined};
+ghost use Rattle.world_agreement.specs.Quiet.{AreQuiet};
 ghost use Rattle.world_audit.specs.First.{IsFirstWithout};
 ghost use Rattle.world_audit.specs.Verdicts.{IsFirstOf, IsForged, IsVerdict, NoneIn, what_is, SaysForged, SaysUnsettled};
 
 use crate::outstanding::{Kind, first_in, outstanding};
 use crate::partners::has_partner;
 use journal_rows::{Row, Verdict};
-use live_service::Service;
+use service_core::Service;
 
 /// A number found at a service.
 #[derive(Clone, Copy, PartialEq, Eq)]

@@ -1,7 +1,7 @@
 use Rattle.std.proofs.Common.{List, subst, sym}
 use Rattle.journal_rows.specs.declared.verdict.Verdict.TheVariants.{Legal}
-use Rattle.service_meaning.specs.State.{Kept}
-use Rattle.world_meaning.specs.Legal.{IsLegalTogether, histories}
+use Rattle.service_events.specs.State.{Kept}
+use Rattle.world_agreement.specs.Legal.{IsLegalTogether, histories}
 use Rattle.aire_top.proofs.Runs.{verdict_told}
 use Rattle.aire_top.proofs.ending.standing.Goals as goal
 

@@ -1,6 +1,6 @@
 use Rattle.std.proofs.Common.{◌∙◌, sym}
 use Rattle.std.proofs.lemmas.Result.{on_ok_weaker, on_err_weaker}
-use Rattle.call_room.proofs.RoomLemmas.{lone_made, lone_spent, spent_untested}
+use Rattle.lang_lists.proofs.RoomLemmas.{lone_made, lone_spent, spent_untested}
 use Rattle.call_registers.specs.Replies.{call_code, add_call}
 use Rattle.call_registers.proofs.replies.make_add.Goals as goal
 

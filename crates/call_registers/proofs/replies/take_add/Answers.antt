@@ -1,5 +1,5 @@
 use Rattle.std.proofs.Common.{refl}
-use Rattle.call_room.proofs.RoomLemmas.{made_there}
+use Rattle.lang_lists.proofs.RoomLemmas.{made_there}
 use Rattle.call_registers.specs.Replies.{call_code, add_call}
 use Rattle.call_registers.proofs.replies.take_add.Goals as goal
 

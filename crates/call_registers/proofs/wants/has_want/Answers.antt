@@ -1,5 +1,5 @@
 use Rattle.std.proofs.Common.{ap, ◌∙◌, is_some}
-use Rattle.call_room.proofs.RoomLemmas.{some_made}
+use Rattle.lang_lists.proofs.RoomLemmas.{some_made}
 use Rattle.call_registers.specs.Registers.{want_call}
 use Rattle.call_registers.specs.Rooms.{call_code}
 use Rattle.call_registers.proofs.wants.has_want.Goals as goal

@@ -1,6 +1,6 @@
 use Rattle.std.proofs.Common.{◌≡◌, ◌∙◌, sym, refl, Some, position}
 use Rattle.lang_base.specs.Equal.{equal}
-use Rattle.call_room.proofs.RoomLemmas.{found, made_there}
+use Rattle.lang_lists.proofs.RoomLemmas.{found, made_there}
 use Rattle.call_registers.specs.Registers.{want_call}
 use Rattle.call_registers.specs.Rooms.{call_code}
 use Rattle.call_registers.specs.declared.calls.RegistersCall.TheVariants.{Want, Replace}

@@ -2,8 +2,8 @@ use Rattle.std.proofs.Common.{◌≡◌, ◌∙◌, ◌+◌, sym, ap, refl, true
 use Rattle.std.specs.List.{list_any, remove}
 use Rattle.std.proofs.lemmas.Option.{get_or_from_slice_get}
 use Rattle.lang_base.specs.Equal.{equal}
-use Rattle.call_room.specs.Room.{is_made}
-use Rattle.call_room.proofs.RoomLemmas.{some_made, found}
+use Rattle.lang_lists.specs.Room.{is_made}
+use Rattle.lang_lists.proofs.RoomLemmas.{some_made, found}
 use Rattle.versioned_rows.proofs.IndexLemmas.{position_is}
 use Rattle.dependency_index.specs.Index.{asked, call_code, call_reads, note_call}
 use Rattle.dependency_index.specs.Reads.{is_at, read_at}

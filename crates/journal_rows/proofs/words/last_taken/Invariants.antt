@@ -1,6 +1,6 @@
 use Rattle.std.proofs.Common.{None}
-use Rattle.hash_index.specs.Keys.{call_key}
-use Rattle.hash_index.proofs.SearchLemmas.{IsSought}
+use Rattle.lang_lists.specs.Keys.{call_key}
+use Rattle.lang_lists.proofs.SearchLemmas.{IsSought}
 use Rattle.journal_rows.specs.Keys.{row_key}
 use Rattle.journal_rows.specs.Words.{taken_step}
 use Rattle.journal_rows.proofs.words.last_taken.Given as goal

@@ -1,9 +1,9 @@
 use Rattle.std.proofs.Common.{ℕ, ◌-◌, ◌≤◌, false, List, None, take, get_or, nat_eq, sym, ap, ◌∙◌, arith}
 use Rattle.std.proofs.lemmas.List.{length-take}
-use Rattle.hash_index.specs.Ends.{last_end}
-use Rattle.hash_index.specs.Keys.{text_key}
-use Rattle.hash_index.proofs.EndLemmas.{last_end-within}
-use Rattle.hash_index.proofs.SearchLemmas.{sought_first, sought_next}
+use Rattle.lang_lists.specs.Ends.{last_end}
+use Rattle.lang_lists.specs.Keys.{text_key}
+use Rattle.lang_lists.proofs.HashEndLemmas.{last_end-within}
+use Rattle.lang_lists.proofs.SearchLemmas.{sought_first, sought_next}
 use Rattle.journal_rows.specs.Keys.{row_key}
 use Rattle.journal_rows.specs.Words.{order_step}
 use Rattle.journal_rows.proofs.KeyLemmas.{lent, order_quiet, order_passed}

@@ -1,6 +1,6 @@
 use Rattle.std.proofs.Common.{None}
-use Rattle.hash_index.specs.Keys.{text_key}
-use Rattle.hash_index.proofs.SearchLemmas.{IsSought}
+use Rattle.lang_lists.specs.Keys.{text_key}
+use Rattle.lang_lists.proofs.SearchLemmas.{IsSought}
 use Rattle.journal_rows.specs.Keys.{row_key}
 use Rattle.journal_rows.specs.Words.{order_step}
 use Rattle.journal_rows.proofs.words.ordered.Given as goal

@@ -1,6 +1,6 @@
 use Rattle.std.proofs.Common.{Option, sym, subst, ◌↔◌, IsTrue, IsSomeAnd}
 use Rattle.request_log.specs.declared.entry.Made.{Made}
-use Rattle.entry_rows.specs.Rows.{rows_before}
+use Rattle.log_index.specs.Rows.{rows_before}
 use Rattle.local_repair.specs.Current.{IsCurrentRecord}
 use Rattle.local_repair.proofs.current.is_current.Goals as goal
 

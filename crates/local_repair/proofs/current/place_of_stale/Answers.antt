@@ -1,6 +1,6 @@
 use Rattle.std.proofs.Common.{◌≡◌, ◌<◌, ◌∙◌, ℕ, List, length, sym, ap, subst, MatchOption, arith}
 use Rattle.std.proofs.lemmas.List.{length-map}
-use Rattle.entry_marks.specs.Marks.{AreMarks}
+use Rattle.log_index.specs.Marks.{AreMarks}
 use Rattle.local_repair.specs.Held.{looked, AreCurrent, IsFirstMarked}
 use Rattle.local_repair.proofs.StaleLemmas.{changed_first, end_within, marked_first}
 use Rattle.local_repair.proofs.current.place_of_stale.Given.{Over}

@@ -1,7 +1,7 @@
 use Rattle.std.proofs.Common.{refl, subst}
 use Rattle.std.proofs.lemmas.List.Elements.{All-more}
 use Rattle.handler_run.specs.Reads.{Gives}
-use Rattle.entry_rows.specs.Rows.{rows_before}
+use Rattle.log_index.specs.Rows.{rows_before}
 use Rattle.local_repair.proofs.current.reads_hold.Goals as goal
 
 pub loop-read-preserved : goal.loop-read-preserved

@@ -1,6 +1,6 @@
 use Rattle.std.proofs.Common.{take}
 use Rattle.handler_run.specs.Reads.{GivesAll}
-use Rattle.entry_rows.specs.Rows.{rows_before}
+use Rattle.log_index.specs.Rows.{rows_before}
 use Rattle.local_repair.proofs.current.reads_hold.Given as goal
 
 abbrev pub invariant-loop-read : goal.invariant-loop-read

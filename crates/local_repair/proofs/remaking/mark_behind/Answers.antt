@@ -1,7 +1,7 @@
 use Rattle.std.proofs.Common.{List, subst}
 use Rattle.std.proofs.lemmas.Result.{on_ok_weaker}
 use Rattle.lang_core.specs.declared.writes.Write.{Write}
-use Rattle.entry_marks.specs.Marks.{changes}
+use Rattle.log_index.specs.Marks.{changes}
 use Rattle.local_repair.specs.Held.{IsMarkedBehind}
 use Rattle.local_repair.proofs.HeldLemmas.{marked_behind}
 use Rattle.local_repair.proofs.remaking.mark_behind.Goals as goal

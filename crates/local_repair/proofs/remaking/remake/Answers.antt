@@ -1,8 +1,8 @@
 use Rattle.std.proofs.Common.{◌+◌, sym, subst}
 use Rattle.std.proofs.lemmas.Result.{IfOk-weaker, on_err_weaker}
 use Rattle.request_log.specs.declared.entry.Made.{Made}
-use Rattle.entry_marks.specs.Marks.{IsReadyToSet as IsReadyToMark}
-use Rattle.entry_rows.specs.Rows.{rows_before, IsReadyToSet}
+use Rattle.log_index.specs.Marks.{IsReadyToSet as IsReadyToMark}
+use Rattle.log_index.specs.Rows.{rows_before, IsReadyToSet}
 use Rattle.local_repair.specs.Current.{writes_of}
 use Rattle.local_repair.specs.Held.{IsMarkedBehind}
 use Rattle.local_repair.proofs.HeldLemmas.{marked_none}

@@ -5,7 +5,7 @@ use Rattle.request_log.specs.declared.entry.Entry.{Entry}
 use Rattle.local_repair.specs.Current.{writes_of}
 use Rattle.local_repair.specs.Held.{looked, IsMarkedBehind}
 use Rattle.local_repair.specs.Registers.{Change}
-use Rattle.entry_rows.specs.Rows.{rows_before}
+use Rattle.log_index.specs.Rows.{rows_before}
 use Rattle.local_repair.proofs.StepLemmas.{again_at}
 use Rattle.local_repair.proofs.WrittenLemmas.{seen_before}
 use Rattle.local_repair.proofs.repairer.remake_at.Goals as goal

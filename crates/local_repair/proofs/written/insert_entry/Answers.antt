@@ -4,8 +4,8 @@ use Rattle.std.proofs.lemmas.List.Edits.{get_or-insert_at, length-insert}
 use Rattle.lang_core.specs.declared.cells.Cell.{Cell}
 use Rattle.request_log.specs.declared.entry.Entry.{Entry}
 use Rattle.request_log.specs.Entries.{KeptLog}
-use Rattle.entry_marks.specs.Marks.{is_marked, IsReadyToInsert as IsReadyToMark}
-use Rattle.entry_rows.specs.Rows.{IsReadyToInsert}
+use Rattle.log_index.specs.Marks.{is_marked, IsReadyToInsert as IsReadyToMark}
+use Rattle.log_index.specs.Rows.{IsReadyToInsert}
 use Rattle.local_repair.specs.Current.{rows_of, writes_of}
 use Rattle.local_repair.specs.Held.{looked, reads_of, IsKept, IsPutAt}
 use Rattle.local_repair.specs.Written.{all_written}

@@ -1,6 +1,6 @@
 use Rattle.std.proofs.Common.{◌≡◌, ◌∙◌, sym, ap, Some, None, position, is_some}
 use Rattle.lang_base.specs.Equal.{equal}
-use Rattle.call_room.proofs.RoomLemmas.{some_made}
+use Rattle.lang_lists.proofs.RoomLemmas.{some_made}
 use Rattle.place_order.specs.Rooms.{call_code}
 use Rattle.place_order.proofs.room.spend_room.Goals as goal
 

@@ -1,6 +1,6 @@
 use Rattle.std.proofs.Common.{◌≡◌, ◌↔◌, sym, subst, map, [], None}
-use Rattle.service_meaning.specs.Flying.{awaited}
-use Rattle.service_meaning.specs.Posts.{outstanding}
+use Rattle.service_events.specs.Flying.{awaited}
+use Rattle.service_events.specs.Posts.{outstanding}
 use Rattle.repair_queue.proofs.QueueLemmas.{next_is, none_is, oldest_is}
 use Rattle.repair_queue.proofs.oldest.next.Goals as goal
 

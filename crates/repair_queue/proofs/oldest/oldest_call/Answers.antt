@@ -1,6 +1,6 @@
 use Rattle.std.proofs.Common.{◌≡◌, ◌∙◌, Some, sym, ap, map, option_map}
 use Rattle.std.specs.Option.{option_copied}
-use Rattle.service_meaning.specs.Flying.{awaited}
+use Rattle.service_events.specs.Flying.{awaited}
 use Rattle.repair_queue.specs.Queue.{aged_key}
 use Rattle.repair_queue.proofs.FirstLemmas.{first_is}
 use Rattle.repair_queue.proofs.oldest.oldest_call.Goals as goal

@@ -1,5 +1,5 @@
 use Rattle.std.proofs.Common.{◌∙◌, sym, nat_eq}
-use Rattle.service_meaning.specs.Flying.{awaited}
+use Rattle.service_events.specs.Flying.{awaited}
 use Rattle.repair_queue.proofs.FoldLemmas.{any_map}
 use Rattle.repair_queue.proofs.outstanding.is_awaited.Goals as goal
 

@@ -1,9 +1,9 @@
 use Rattle.std.proofs.Common.{ℕ, ◌≡◌, ◌-◌, ◌≤◌, Bool, cond, List, Option, Some, None, take, get_or, fold, nat_eq, sym, ap, ◌∙◌, arith}
 use Rattle.std.proofs.lemmas.List.{length-take}
-use Rattle.hash_index.specs.Ends.{last_end}
-use Rattle.hash_index.specs.Keys.{call_key}
-use Rattle.hash_index.proofs.EndLemmas.{last_end-within}
-use Rattle.hash_index.proofs.SearchLemmas.{sought_first, sought_here, sought_next}
+use Rattle.lang_lists.specs.Ends.{last_end}
+use Rattle.lang_lists.specs.Keys.{call_key}
+use Rattle.lang_lists.proofs.HashEndLemmas.{last_end-within}
+use Rattle.lang_lists.proofs.SearchLemmas.{sought_first, sought_here, sought_next}
 use Rattle.request_log.specs.declared.entry.Entry.{Entry}
 use Rattle.request_log.specs.Entries.{has_origin}
 use Rattle.request_log.specs.Keys.{entry_key}

@@ -1,6 +1,6 @@
 use Rattle.std.proofs.Common.{None}
-use Rattle.hash_index.specs.Keys.{call_key}
-use Rattle.hash_index.proofs.SearchLemmas.{IsSought}
+use Rattle.lang_lists.specs.Keys.{call_key}
+use Rattle.lang_lists.proofs.SearchLemmas.{IsSought}
 use Rattle.request_log.specs.Entries.{has_origin}
 use Rattle.request_log.specs.Keys.{entry_key}
 use Rattle.request_log.proofs.FindLemmas.{last_of}

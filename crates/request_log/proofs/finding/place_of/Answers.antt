@@ -1,6 +1,6 @@
 use Rattle.std.proofs.Common.{ℕ, ◌≡◌, ◌-◌, Bool, cond, Option, Some, None, map, nat_eq, sym, ap, ◌∙◌}
 use Rattle.std.proofs.lemmas.Bool.{ne_eqb}
-use Rattle.hash_index.specs.Ends.{last_end}
+use Rattle.lang_lists.specs.Ends.{last_end}
 use Rattle.request_log.specs.Keys.{number_of}
 use Rattle.request_log.proofs.FindLemmas.{position_end}
 use Rattle.request_log.proofs.finding.place_of.Goals as goal

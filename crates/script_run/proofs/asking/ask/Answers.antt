@@ -1,6 +1,6 @@
 use Rattle.std.proofs.Common.{Ok, sym, ◌∙◌}
-use Rattle.network_meaning.specs.Events.{answer_to}
-use Rattle.network_meaning.specs.declared.event.Event.TheVariants.{Begin}
+use Rattle.world_events.specs.Events.{answer_to}
+use Rattle.world_events.specs.declared.event.Event.TheVariants.{Begin}
 use Rattle.script_run.proofs.Following.{asked_all_first, asked_first, asked_hand, heard_err, heard_ok, on_err, unasked_world}
 use Rattle.script_run.proofs.asking.ask.Goals as goal
 

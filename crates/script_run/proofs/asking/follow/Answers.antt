@@ -1,9 +1,9 @@
 use Rattle.std.proofs.Common.{Option, Some, Ok, Err, ℕ, sym, subst, ◌∙◌}
-use Rattle.network_meaning.specs.Events.{answer_to}
-use Rattle.network_meaning.specs.declared.event.Event.TheVariants.{Deliver}
-use Rattle.delivery_runs.specs.Runs.{deliveries}
-use Rattle.happening_text.specs.declared.cue.Cue.TheVariants.{Nothing}
-use Rattle.script_plays.specs.Stops.{HappenedFirst}
+use Rattle.world_events.specs.Events.{answer_to}
+use Rattle.world_events.specs.declared.event.Event.TheVariants.{Deliver}
+use Rattle.world_delivery_laws.specs.Runs.{deliveries}
+use Rattle.script_text.specs.declared.cue.Cue.TheVariants.{Nothing}
+use Rattle.script_run.specs.Stops.{HappenedFirst}
 use Rattle.script_run.proofs.Following.{Follows, falls_answer, followed_first, followed_last, followed_world, follows_answer, follows_first, heard_err, heard_ok, nothing_next, on_err}
 use Rattle.script_run.proofs.asking.follow.Goals as goal
 

@@ -1,7 +1,7 @@
 use Rattle.std.proofs.Common.{Some}
-use Rattle.happening_text.specs.declared.cue.Cue.TheVariants.{Nothing}
-use Rattle.delivery_laws.specs.WorldWeights.{world_weight}
-use Rattle.script_plays.specs.Stops.{KeepsSound}
+use Rattle.script_text.specs.declared.cue.Cue.TheVariants.{Nothing}
+use Rattle.world_delivery_laws.specs.WorldWeights.{world_weight}
+use Rattle.script_run.specs.Stops.{KeepsSound}
 use Rattle.script_run.proofs.Following.{Follows}
 use Rattle.script_run.proofs.asking.follow.Given as goal
 

@@ -1,7 +1,7 @@
 use Rattle.std.proofs.Common.{All, subst, arith}
 use Rattle.std.proofs.lemmas.List.{take_all}
 use Rattle.std.proofs.lemmas.List.Elements.{All-more}
-use Rattle.service_meaning.specs.Fits.{Fits}
+use Rattle.service_events.specs.Fits.{Fits}
 use Rattle.script_run.proofs.reports.each_fits.Goals as goal
 
 pub loop-service-preserved : goal.loop-service-preserved

@@ -1,5 +1,5 @@
-use Rattle.script_plays.proofs.AuditLaws.{verdict_is, verdict_within}
-use Rattle.world_meaning.proofs.LegalLaws.{legal_together}
+use Rattle.script_run.proofs.AuditLaws.{verdict_is, verdict_within}
+use Rattle.world_agreement.proofs.LegalLaws.{legal_together}
 use Rattle.script_run.proofs.reports.judge.Goals as goal
 
 pub returns-clause-same : goal.returns-clause-same

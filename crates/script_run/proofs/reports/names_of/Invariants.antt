@@ -1,5 +1,5 @@
 use Rattle.std.proofs.Common.{◌≡◌, map, take}
-use Rattle.service_meaning.specs.State.{me}
+use Rattle.service_events.specs.State.{me}
 use Rattle.script_run.proofs.reports.names_of.Given as goal
 
 abbrev pub invariant-loop-service : goal.invariant-loop-service

@@ -1,6 +1,6 @@
 use Rattle.std.proofs.Common.{◌∙◌, sym}
 use Rattle.io_edge.proofs.Pieces.{slice_rest}
-use Rattle.script_plays.proofs.PlayLaws.{line_found, line_last}
+use Rattle.script_run.proofs.PlayLaws.{line_found, line_last}
 use Rattle.script_run.proofs.script.cut_line.Goals as goal
 
 pub returns-in-Some-clause-line : goal.returns-in-Some-clause-line

@@ -1,10 +1,10 @@
 use Rattle.std.proofs.Common.{◌≡◌, ◌+◌, Ok, Err, option_map, ap, sym, ◌∙◌, subst, arith}
-use Rattle.network_meaning.specs.Worlds.{World}
+use Rattle.world_events.specs.Worlds.{World}
 use Rattle.script_lines.specs.Lines.{line_at}
-use Rattle.script_plays.specs.Plays.{bytes_left, lines_left, played, said_for}
-use Rattle.script_plays.specs.Stops.{DoesAll}
-use Rattle.script_plays.proofs.LineLaws.{refused_still}
-use Rattle.script_plays.proofs.PlayLaws.{Stands, all_does, all_good, cut_short, done_goes, done_world, done_wrote, nothing_left, refused_does, rest_behind, stopped}
+use Rattle.script_run.specs.Plays.{bytes_left, lines_left, played, said_for}
+use Rattle.script_run.specs.Stops.{DoesAll}
+use Rattle.script_run.proofs.LineLaws.{refused_still}
+use Rattle.script_run.proofs.PlayLaws.{Stands, all_does, all_good, cut_short, done_goes, done_world, done_wrote, nothing_left, refused_does, rest_behind, stopped}
 use Rattle.script_run.proofs.script.run_script.Goals as goal
 
 pub returns-in_err-text-clause-early : goal.returns-in_err-text-clause-early

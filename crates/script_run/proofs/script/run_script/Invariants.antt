@@ -1,7 +1,7 @@
 use Rattle.std.proofs.Common.{◌≡◌, ◌+◌, ◌≤◌, None, length, drop, option_map}
 use Rattle.io_edge.specs.Edge.{Wrote}
-use Rattle.script_plays.specs.Plays.{bytes_left, first_lines, lines_left, lines_of}
-use Rattle.script_plays.specs.Stops.{KeepsSound}
+use Rattle.script_run.specs.Plays.{bytes_left, first_lines, lines_left, lines_of}
+use Rattle.script_run.specs.Stops.{KeepsSound}
 use Rattle.script_run.proofs.script.run_script.Given as goal
 
 abbrev pub invariant-loop-left : goal.invariant-loop-left

@@ -1,7 +1,7 @@
 use Rattle.std.proofs.Common.{◌<◌, ◌^◌, All, length, ap, subst, arith}
 use Rattle.std.proofs.lemmas.List.{take_all}
 use Rattle.std.proofs.lemmas.List.Elements.{All-more}
-use Rattle.service_meaning.specs.State.{Kept}
+use Rattle.service_events.specs.State.{Kept}
 use Rattle.script_run.proofs.telling.counted.Goals as goal
 
 pub loop-service-preserved : goal.loop-service-preserved

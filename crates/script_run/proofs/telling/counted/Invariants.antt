@@ -1,5 +1,5 @@
 use Rattle.std.proofs.Common.{◌<◌, ◌^◌, All, length, take}
-use Rattle.service_meaning.specs.State.{Kept}
+use Rattle.service_events.specs.State.{Kept}
 use Rattle.script_run.proofs.telling.counted.Given as goal
 
 abbrev pub invariant-loop-service : goal.invariant-loop-service

@@ -1,5 +1,5 @@
 use Rattle.std.proofs.Common.{[], ◌∷◌}
-use Rattle.script_plays.specs.Stops.{HappenedFirst}
+use Rattle.script_run.specs.Stops.{HappenedFirst}
 use Rattle.script_run.proofs.Following.{on_err}
 use Rattle.script_run.proofs.telling.happen.Goals as goal
 

@@ -1,6 +1,6 @@
 use Rattle.std.proofs.Common.{◌≡◌, drop}
 use Rattle.call_registers.specs.Overlays.{overlaid}
-use Rattle.service_meaning.specs.Calls.{after_rows}
+use Rattle.service_events.specs.Calls.{after_rows}
 use Rattle.service_parts.proofs.noting.note_rows.Given as goal
 
 abbrev pub invariant-loop-row : goal.invariant-loop-row

@@ -1,5 +1,5 @@
 use Rattle.std.proofs.Common.{◌≡◌, ◌++◌, drop}
-use Rattle.service_meaning.specs.Calls.{all_deleted}
+use Rattle.service_events.specs.Calls.{all_deleted}
 use Rattle.service_parts.proofs.rows.push_deleted.Given as goal
 
 abbrev pub invariant-loop-i : goal.invariant-loop-i

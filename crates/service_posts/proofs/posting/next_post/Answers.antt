@@ -1,6 +1,6 @@
 use Rattle.std.proofs.Common.{IfSome, map, subst}
-use Rattle.service_meaning.specs.Flying.{awaited}
-use Rattle.service_meaning.specs.Posts.{outstanding}
+use Rattle.service_events.specs.Flying.{awaited}
+use Rattle.service_events.specs.Posts.{outstanding}
 use Rattle.service_parts.specs.Parts.{kept}
 use Rattle.repair_queue.specs.Queue.{IsOldest}
 use Rattle.service_posts.proofs.PostLaws.{post_written}

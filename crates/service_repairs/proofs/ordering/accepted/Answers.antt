@@ -1,5 +1,5 @@
 use Rattle.std.proofs.Common.{refl}
-use Rattle.service_meaning.specs.declared.answers.Ordered.{Ordered}
+use Rattle.service_events.specs.declared.answers.Ordered.{Ordered}
 use Rattle.service_parts.specs.Parts.{kept}
 use Rattle.service_repairs.proofs.RepairLemmas.{accepted_is, may_order, order_service}
 use Rattle.service_repairs.proofs.ordering.accepted.Goals as goal

@@ -1,6 +1,6 @@
 use Rattle.std.proofs.Common.{◌≡◌, ap, arith}
 use Rattle.flights.specs.Numbers.{with_flight}
-use Rattle.service_meaning.specs.State.{Kept}
+use Rattle.service_events.specs.State.{Kept}
 use Rattle.service_parts.specs.Rooms.{aloft}
 use Rattle.service_laws.proofs.RoomLemmas.{aloft_with, on_ok}
 use Rattle.service_requests.proofs.applying.wait.Goals as goal

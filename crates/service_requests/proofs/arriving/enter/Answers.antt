@@ -1,10 +1,10 @@
 use Rattle.std.proofs.Common.{◌∙◌, ap}
 use Rattle.std.proofs.lemmas.Result.{IfOk-weaker}
-use Rattle.service_meaning.specs.State.{Kept}
-use Rattle.service_meaning.specs.Arriving.{accepted, arrive_event}
-use Rattle.service_meaning.specs.declared.refusals.ArriveRefused.{ArriveRefused}
-use Rattle.event_laws.proofs.BoundLaws.{arrive_bounded}
-use Rattle.event_laws.proofs.FitLaws.{arrive_fits}
+use Rattle.service_events.specs.State.{Kept}
+use Rattle.service_events.specs.Arriving.{accepted, arrive_event}
+use Rattle.service_events.specs.declared.refusals.ArriveRefused.{ArriveRefused}
+use Rattle.service_laws.proofs.BoundLaws.{arrive_bounded}
+use Rattle.service_laws.proofs.FitLaws.{arrive_fits}
 use Rattle.service_parts.specs.Parts.{kept}
 use Rattle.service_requests.specs.Changes.{leaves}
 use Rattle.service_requests.proofs.ArrivalLemmas.{arrive_runs}

@@ -1,7 +1,7 @@
 use Rattle.std.proofs.Common.{◌≡◌, ◌∙◌, sym, ap, arith}
-use Rattle.service_meaning.specs.Arriving.{accepted}
-use Rattle.service_meaning.specs.Flying.{awaited}
-use Rattle.service_meaning.specs.declared.refusals.CallRefused.{CallRefused}
+use Rattle.service_events.specs.Arriving.{accepted}
+use Rattle.service_events.specs.Flying.{awaited}
+use Rattle.service_events.specs.declared.refusals.CallRefused.{CallRefused}
 use Rattle.service_parts.specs.Parts.{kept}
 use Rattle.service_requests.proofs.CallLemmas.{failed_is}
 use Rattle.service_requests.proofs.ServiceLemmas.{flight_may_end}

@@ -1,5 +1,5 @@
 use Rattle.std.proofs.Common.{◌∙◌, ap}
-use Rattle.service_meaning.specs.Arriving.{told}
+use Rattle.service_events.specs.Arriving.{told}
 use Rattle.service_parts.specs.Parts.{kept}
 use Rattle.service_requests.proofs.calls.failed.Goals as goal
 

@@ -1,7 +1,7 @@
 use Rattle.std.proofs.Common.{List, ◌∙◌, ap}
 use Rattle.journal_rows.specs.declared.row.Row.{Row}
-use Rattle.service_meaning.specs.Arriving.{heard_rows}
-use Rattle.service_meaning.specs.Calls.{noted}
+use Rattle.service_events.specs.Arriving.{heard_rows}
+use Rattle.service_events.specs.Calls.{noted}
 use Rattle.service_parts.specs.Parts.{kept}
 use Rattle.service_requests.proofs.calls.heard.Goals as goal
 

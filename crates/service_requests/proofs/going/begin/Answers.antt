@@ -1,7 +1,7 @@
 use Rattle.std.proofs.Common.{◌∙◌, ap}
 use Rattle.std.proofs.lemmas.Result.{IfOk-weaker}
-use Rattle.service_meaning.specs.State.{Kept}
-use Rattle.service_meaning.specs.Flying.{goes_on}
+use Rattle.service_events.specs.State.{Kept}
+use Rattle.service_events.specs.Flying.{goes_on}
 use Rattle.service_parts.specs.Parts.{kept}
 use Rattle.service_requests.proofs.going.begin.Goals as goal
 

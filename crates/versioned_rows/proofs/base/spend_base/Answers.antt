@@ -2,8 +2,8 @@ use Rattle.std.proofs.Common.{◌≡◌, ◌∙◌, List, sym, ap, refl, subst, 
 use Rattle.std.proofs.lemmas.Option.{get_or_from_slice_get}
 use Rattle.lang_base.specs.Equal.{equal}
 use Rattle.lang_core.specs.declared.cells.Cell.{Cell}
-use Rattle.call_room.specs.Room.{is_made}
-use Rattle.call_room.proofs.RoomLemmas.{some_made, found}
+use Rattle.lang_lists.specs.Room.{is_made}
+use Rattle.lang_lists.proofs.RoomLemmas.{some_made, found}
 use Rattle.versioned_rows.specs.Versions.{call_code, base_call, HaveRows, IsCovered}
 use Rattle.versioned_rows.specs.declared.room.VersionsCall.{VersionsCall}
 use Rattle.versioned_rows.specs.declared.rows.Row.{Row}

@@ -2,8 +2,8 @@ use Rattle.std.proofs.Common.{◌≡◌, ◌∙◌, ◌+◌, ℕ, List, sym, ap,
 use Rattle.std.proofs.lemmas.Option.{get_or_from_slice_get}
 use Rattle.lang_base.specs.Equal.{equal}
 use Rattle.lang_core.specs.declared.writes.Write.{Write}
-use Rattle.call_room.specs.Room.{is_made}
-use Rattle.call_room.proofs.RoomLemmas.{some_made, found}
+use Rattle.lang_lists.specs.Room.{is_made}
+use Rattle.lang_lists.proofs.RoomLemmas.{some_made, found}
 use Rattle.versioned_rows.specs.Places.{is_written}
 use Rattle.versioned_rows.specs.Versions.{asked, call_code, write_call}
 use Rattle.versioned_rows.specs.declared.room.VersionsCall.{VersionsCall}

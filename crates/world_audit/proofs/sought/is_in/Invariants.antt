@@ -1,5 +1,5 @@
 use Rattle.std.proofs.Common.{false}
-use Rattle.hash_index.proofs.SearchLemmas.{IsSought}
+use Rattle.lang_lists.proofs.SearchLemmas.{IsSought}
 use Rattle.journal_rows.specs.Keys.{row_key}
 use Rattle.world_audit.specs.Sought.{key_of}
 use Rattle.world_audit.proofs.SoughtLemmas.{or_sought}

@@ -1,5 +1,5 @@
 use Rattle.std.proofs.Common.{◌∙◌, ap, subst}
-use Rattle.hash_index.specs.Keys.{text_key}
+use Rattle.lang_lists.specs.Keys.{text_key}
 use Rattle.call_registers.specs.Waiting.{AreWaiting, KeptList}
 use Rattle.call_registers.proofs.WaitingLemmas.{are_waiting}
 use Rattle.call_registers.proofs.register_list.RegisterList.waiting.Goals as goal

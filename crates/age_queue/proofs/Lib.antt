@@ -1,2 +1,0 @@
-pub mod AgeLemmas
-pub mod SumLemmas

@@ -1,5 +1,0 @@
-pub mod ChainLaws
-pub mod LandingLaws
-pub mod WeightLemmas
-pub mod GoingWeights
-pub mod AskLaws

@@ -1,3 +1,0 @@
-pub mod BehindLemmas
-pub mod MarkLemmas
-pub mod NotedLemmas

@@ -1,9 +1,0 @@
-use Rattle.std.proofs.Common.{◌≡◌, ◌≤◌, ◌<◌, ◌++◌, ℕ, get_or, length, map, take, drop}
-use Rattle.entry_marks.specs.Marks.{shifted}
-use Rattle.entry_marks.proofs.numbers.shift_all.Given as goal
-
-abbrev pub invariant-loop-mark : goal.invariant-loop-mark
-invariant-loop-mark l = record {
-  moved : l.marks ≡ map (shifted l.place) (take l.mark-index l.initial.marks) ++ drop l.mark-index l.initial.marks;
-  few : (k : ℕ) → l.mark-index ≤ k → k < length l.marks → get_or l.marks k 0 < 100000;
-}

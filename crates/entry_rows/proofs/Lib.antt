@@ -1,4 +1,0 @@
-pub mod EditLemmas
-pub mod LabelLemmas
-pub mod PlaceLemmas
-pub mod ReadyLemmas

@@ -1,7 +1,0 @@
-use Rattle.entry_rows.proofs.ReadyLemmas.{ready_set}
-use Rattle.entry_rows.proofs.rows.EntryRows.ready_set.Goals as goal
-
-pub returns-clause-ok : goal.returns-clause-ok
-returns-clause-ok c =
-    ready_set c.ready_write_at.result c.args.writes.now c.self.inside.versions.room
-    (record { writes = c.args.self.now.writes; places = c.self.inside.order.room; copies = c.ready_write_at.new.self.room }) c.ready_write_at.ensures.ok

@@ -1,3 +1,0 @@
-pub mod TokenLaws
-pub mod ExprLaws
-pub mod StmtLaws

@@ -1,7 +1,0 @@
-use Rattle.std.proofs.Common.{◌≡◌, ◌-◌}
-use Rattle.handler_reader.specs.Readers.{most, routes_in}
-use Rattle.handler_reader.proofs.Loops.{with_routes}
-use Rattle.handler_reader.proofs.program.routes.Given as goal
-
-abbrev pub invariant-loop : goal.invariant-loop
-invariant-loop l = with_routes l.routes (routes_in (most - l.counter) l.rest) ≡ routes_in most l.tokens

@@ -1,6 +1,0 @@
-use Rattle.std.proofs.Common.{◌≡◌, drop}
-use Rattle.handler_values.specs.Paths.{route_of}
-use Rattle.handler_values.proofs.paths.route_of.Given as goal
-
-abbrev pub invariant-loop-route : goal.invariant-loop-route
-invariant-loop-route l = route_of (drop l.route-index l.routes) l.method l.segments ≡ route_of l.routes l.method l.segments

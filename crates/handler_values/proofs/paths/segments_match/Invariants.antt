@@ -1,6 +1,0 @@
-use Rattle.std.proofs.Common.{◌≡◌, drop}
-use Rattle.handler_values.specs.Paths.{segments_match}
-use Rattle.handler_values.proofs.paths.segments_match.Given as goal
-
-abbrev pub invariant-loop-i : goal.invariant-loop-i
-invariant-loop-i l = segments_match (drop l.i l.pattern) (drop l.i l.segments) ≡ segments_match l.pattern l.segments

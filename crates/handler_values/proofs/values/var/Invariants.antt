@@ -1,6 +1,0 @@
-use Rattle.std.proofs.Common.{◌≡◌, drop}
-use Rattle.handler_values.specs.Values.{var}
-use Rattle.handler_values.proofs.values.var.Given as goal
-
-abbrev pub invariant-loop-binding : goal.invariant-loop-binding
-invariant-loop-binding l = var (drop l.binding-index l.vars) l.name ≡ var l.vars l.name

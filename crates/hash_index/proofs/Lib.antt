@@ -1,4 +1,0 @@
-pub mod ChainLemmas
-pub mod EndLemmas
-pub mod KeyLemmas
-pub mod SearchLemmas

@@ -1,4 +1,0 @@
-pub mod Chains
-pub mod Ends
-pub mod Indexes
-pub mod Keys

@@ -1,9 +1,0 @@
-mod BodyLemmas
-mod HeadEnds
-mod LineLemmas
-pub mod MapLemmas
-pub mod OneAnswer
-pub mod PassLemmas
-pub mod PlainLemmas
-pub mod RequestsBack
-pub mod ResponsesBack

@@ -1,0 +1,107 @@
+// The segments of a path, and the route that a request takes.
+ghost use Rattle.std.specs.Prelude.{◌≡◌, ◌==◌, ◌||◌, codes, map, find, IfOk};
+ghost use Rattle.std.specs.Option.{option_copied};
+ghost use Rattle.std.specs.List.{slice_split};
+ghost use Rattle.lang_base.specs.Texts.{same_text};
+ghost use Rattle.lang_values.specs.Paths.{past_slash, segments_of, same_method, segments_match, route_matches, route_of};
+
+use lang_core::{Method, NoMemory, Route, Same, Seq, Text};
+use std::alloc::{AllocError, Global};
+
+fn past_slash(path: &str) -> &str
+    ensures { result.now ≡ past_slash path.now }
+{
+    match path.strip_prefix('/') {
+        None => path,
+        Some(rest) => rest,
+    }
+}
+
+fn cut_at_slashes(alloc: Global, text: &str) -> Result<Vec<&str>, AllocError>
+    ensures { IfOk result (λ v. map (λ x. x.now) v.items ≡ slice_split (λ b. b == 47) text.now) }
+{
+    text.split('/').collect(alloc)
+}
+
+fn texts_of(alloc: Global, pieces: &[&str]) -> Result<Seq<Text>, NoMemory>
+    ensures { IfOk result (λ texts. texts ≡ map (λ x. x.now) pieces.now) }
+{
+    let mut texts = Seq::new(alloc);
+    for piece in pieces {
+        texts.push(Text::of(alloc, piece)?)?;
+    }
+    Ok(texts)
+}
+
+/// The segments of a path, which is cut at each slash after the first byte.
+pub fn segments_of(alloc: Global, path: &Text) -> Result<Seq<Text>, NoMemory>
+    ensures { IfOk result (λ segments. segments ≡ segments_of path.now) }
+{
+    let pieces = cut_at_slashes(alloc, past_slash(path.as_str()))?;
+    texts_of(alloc, &pieces)
+}
+
+fn same_method(left: Method, right: Method) -> bool
+    ensures { result ≡ same_method left right }
+{
+    match (left, right) {
+        (Method::Get, Method::Get) => true,
+        (Method::Put, Method::Put) => true,
+        (Method::Post, Method::Post) => true,
+        (Method::Delete, Method::Delete) => true,
+        _ => false,
+    }
+}
+
+fn segment_matches(pattern: &Text, segment: &Text) -> bool
+    ensures { result ≡ (same_text pattern.now (codes "*") || same_text pattern.now segment.now) }
+{
+    pattern.as_str() == "*" || pattern.is(segment)
+}
+
+#[tactic(auto, using(crate::proofs::PathLemmas::lengths_differ))]
+fn segments_match(pattern: &[Text], segments: &[Text]) -> bool
+    ensures { result ≡ segments_match pattern.now segments.now }
+{
+    if pattern.len() != segments.len() {
+        return false;
+    }
+    for (i, part) in pattern.iter().enumerate() {
+        if !segment_matches(part, &segments[i]) {
+            return false;
+        }
+    }
+    true
+}
+
+fn route_matches(
+    alloc: Global,
+    method: Method,
+    segments: &[Text],
+    route: &Route,
+) -> Result<bool, NoMemory>
+    ensures { IfOk result (λ matches. matches ≡ route_matches method segments.now route.now) }
+{
+    if !same_method(route.method, method) {
+        return Ok(false);
+    }
+    let pattern = segments_of(alloc, &route.pattern)?;
+    Ok(segments_match(pattern.as_slice(), segments))
+}
+
+/// The first route that takes the method and the segments; None exactly where none does.
+pub fn route_of<'a>(
+    alloc: Global,
+    routes: &'a [Route],
+    method: Method,
+    segments: &[Text],
+) -> Result<Option<&'a Route>, NoMemory>
+    ensures { IfOk result (λ found. option_copied found ≡ route_of routes.now method segments.now) }
+{
+    for route in routes {
+        if route_matches(alloc, method, segments, route)? {
+            return Ok(Some(route));
+        }
+    }
+    Ok(None)
+}

@@ -1,4 +1,0 @@
-use Rattle.live_drafts.proofs.completing.+complete.Given as goal
-
-abbrev pub decreases-complete : goal.decreases-complete
-decreases-complete l = l.runs

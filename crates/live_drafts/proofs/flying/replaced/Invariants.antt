@@ -1,5 +1,0 @@
-use Rattle.std.proofs.Common.{◌≡◌, take, set}
-use Rattle.live_drafts.proofs.flying.replaced.Given as goal
-
-abbrev pub invariant-loop-i : goal.invariant-loop-i
-invariant-loop-i g l = l.list ≡ take l.i (set l.items l.place l.item)

@@ -1,0 +1,128 @@
+// What the entries of a log wrote, by their places.
+ghost use Rattle.std.specs.Prelude.{◌≡◌, ◌↔◌, ◌<◌, ◌≤◌, [], IsTrue, IfOk, OnOk, length, insert, slice_set};
+ghost use Rattle.std.specs.Option.{option_copied};
+ghost use Rattle.lang_core.specs.Rows.{get, scan};
+ghost use Rattle.log_index.specs.Rows.{rows_before, IsReadyToInsert, IsReadyToSet};
+
+use crate::labels::{label_at, new_label, ready_label};
+use lang_core::{Cells, NoMemory, Text, Writes};
+use place_order::Order;
+use std::alloc::Global;
+use std::marker::Model;
+use versioned_rows::Versions;
+
+/// What each entry of a log wrote, which contracts see as a list by the places of the entries, and the room that was made
+/// for calls to come. An entry that wrote nothing has its place too.
+#[derive(Drop)]
+pub struct EntryRows {
+    // One label for each entry.
+    order: Order,
+    // No rows stand before all entries.
+    versions: Versions,
+}
+
+impl Model for EntryRows {
+    ghost use Rattle.std.specs.Prelude.{◌≡◌, []};
+    ghost use Rattle.log_index.specs.Rows.{KeptWrites, IsPlaced, writes_of};
+
+    ghost Value = { KeptWrites };
+
+    ghost view = { λ r. record { writes = writes_of r.versions.versions; places = r.order.room; copies = r.versions.room } };
+
+    ghost invariant = { λ r. IsPlaced r.order.labels r.versions.versions × (r.versions.base ≡ []) };
+}
+
+impl EntryRows {
+    /// What no entries wrote.
+    pub fn new(alloc: Global) -> EntryRows
+        ensures { result.writes ≡ [] }
+    {
+        EntryRows {
+            order: Order::new(alloc),
+            versions: Versions::new(alloc),
+        }
+    }
+
+    /// The text at a key of a table in the rows before the entry at a place, or in those after all entries where it is
+    /// past the end; None exactly where those rows have no such key.
+    pub fn text_before(&self, place: usize, table: &Text, key: &Text) -> Option<&Text>
+        ensures { option_copied result ≡ get (rows_before place self.now) table.now key.now }
+    {
+        let label = label_at(self.versions.as_slice(), place);
+        self.versions.get_before(&self.order, label, table, key)
+    }
+
+    /// The cells of a table under a prefix in the rows before the entry at a place, or in those after all entries where it
+    /// is past the end: those that `row_scan` gives on these rows.
+    pub fn scan_before(
+        &self,
+        alloc: Global,
+        place: usize,
+        table: &Text,
+        prefix: &Text,
+    ) -> Result<Cells, NoMemory>
+        ensures { IfOk result (λ found. found ≡ scan (rows_before place self.now) table.now prefix.now) }
+    {
+        let label = label_at(self.versions.as_slice(), place);
+        self.versions
+            .scan_before(alloc, &self.order, label, table, prefix)
+    }
+
+    /// Whether these cells are what `scan_before` gives, told without memory.
+    pub fn scan_is(&self, place: usize, table: &Text, prefix: &Text, found: &Cells) -> bool
+        ensures { IsTrue result ↔ (scan (rows_before place self.now) table.now prefix.now ≡ found.now) }
+    {
+        let label = label_at(self.versions.as_slice(), place);
+        self.versions
+            .scan_is(&self.order, label, table, prefix, found)
+    }
+
+    /// Makes room for an `insert` of these writes at a place.
+    pub fn ready_insert(
+        &mut self,
+        alloc: Global,
+        place: usize,
+        writes: &Writes,
+    ) -> Result<(), NoMemory>
+        ensures writes { self.new.writes ≡ self.old.writes }
+        ensures ok { OnOk result (IsReadyToInsert place writes.now self.new) }
+    {
+        let next = label_at(self.versions.as_slice(), place);
+        ready_label(&mut self.order, next)?;
+        self.versions.ready_write_at(alloc, writes)
+    }
+
+    /// Puts what an entry wrote at a place, before what stands there. There is room for it.
+    pub fn insert(&mut self, alloc: Global, place: usize, writes: &Writes)
+        requires within { place ≤ length self.old.writes }
+        requires few { length self.old.writes < 100000 }
+        requires ready { IsReadyToInsert place writes.now self.old }
+        ensures { self.new.writes ≡ insert self.old.writes place writes.now }
+    {
+        let next = label_at(self.versions.as_slice(), place);
+        let label = new_label(&mut self.order, next);
+        self.versions
+            .write_at(alloc, &self.order, label, writes)
+            .unwrap();
+    }
+
+    /// Makes room for a `set` of these writes, at whichever place.
+    pub fn ready_set(&mut self, alloc: Global, writes: &Writes) -> Result<(), NoMemory>
+        ensures writes { self.new.writes ≡ self.old.writes }
+        ensures ok { OnOk result (IsReadyToSet writes.now self.new) }
+    {
+        self.versions.ready_write_at(alloc, writes)
+    }
+
+    /// Puts these writes in place of what the entry at a place wrote. There is room for them.
+    pub fn set(&mut self, alloc: Global, place: usize, writes: &Writes)
+        requires within { place < length self.old.writes }
+        requires ready { IsReadyToSet writes.now self.old }
+        ensures { self.new.writes ≡ slice_set self.old.writes place writes.now }
+    {
+        let label = self.versions.as_slice()[place].label;
+        self.versions
+            .write_at(alloc, &self.order, label, writes)
+            .unwrap();
+    }
+}

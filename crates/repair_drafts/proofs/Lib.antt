@@ -1,3 +1,0 @@
-pub mod BookLemmas
-mod RepairLemmas
-pub mod OrderLemmas

@@ -1,0 +1,18 @@
+//! Tests of whole runs over memory: of one service, of services that call one another, and of which requests a repair
+//! runs again.
+#![tactic(auto)]
+
+#[cfg(test)]
+mod calls;
+#[cfg(test)]
+mod late;
+#[cfg(test)]
+mod memory;
+#[cfg(test)]
+mod readers;
+#[cfg(test)]
+mod refusals;
+#[cfg(test)]
+mod settling;
+#[cfg(test)]
+mod whole_runs;

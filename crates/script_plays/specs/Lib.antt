@@ -1,4 +1,0 @@
-pub mod Told
-pub mod Audits
-pub mod Plays
-pub mod Stops

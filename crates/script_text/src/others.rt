@@ -1,0 +1,109 @@
+// Steps, orders and abandonments in a line.
+ghost use Rattle.std.specs.Prelude.{◌≡◌, ◌++◌, None, OnOk, string_bytes, true};
+ghost use Rattle.script_text.specs.Happenings.{abandoned_line, about_text, ordered_line, post_name_text, step_line};
+
+use crate::refusals::{order_refusal, push_refused};
+use journal_rows::About;
+use lang_core::{Name, NoMemory};
+use local_repair::Stepped;
+use repair_messages::PostName;
+use request_names::push_id;
+use service_events::{OrderRefused, Ordered};
+
+fn push_ran(text: &mut String, service: &Name, id: u64) -> Result<(), NoMemory>
+    ensures { OnOk result (string_bytes text.new ≡ string_bytes text.old ++ step_line service.now (Stepped.Ran id true)) }
+{
+    text.push_str(service.as_str())?;
+    text.push_str(" ran ")?;
+    push_id(text, service, id)?;
+    text.push_str("\n")?;
+    Ok(())
+}
+
+fn push_idle(text: &mut String, service: &Name) -> Result<(), NoMemory>
+    ensures { OnOk result (string_bytes text.new ≡ string_bytes text.old ++ step_line service.now Stepped.Idle) }
+{
+    text.push_str(service.as_str())?;
+    text.push_str(" idle\n")?;
+    Ok(())
+}
+
+/// Puts the line of a repair step last.
+pub fn push_stepped(text: &mut String, service: &Name, stepped: Stepped) -> Result<(), NoMemory>
+    ensures { OnOk result (string_bytes text.new ≡ string_bytes text.old ++ step_line service.now stepped) }
+{
+    match stepped {
+        Stepped::Idle => push_idle(text, service),
+        Stepped::Ran { id, answered: _ } => push_ran(text, service, id),
+    }
+}
+
+fn push_post_name(text: &mut String, name: PostName) -> Result<(), NoMemory>
+    ensures { OnOk result (string_bytes text.new ≡ string_bytes text.old ++ post_name_text name) }
+{
+    match name {
+        PostName::Call(number) => write!(text, "call:{number}")?,
+        PostName::Reply(number) => write!(text, "reply:{number}")?,
+    }
+    Ok(())
+}
+
+fn push_about(text: &mut String, service: &Name, about: About) -> Result<(), NoMemory>
+    ensures { OnOk result (string_bytes text.new ≡ string_bytes text.old ++ about_text service.now about) }
+{
+    match about {
+        About::Request(id) => push_id(text, service, id),
+        About::Post(name) => push_post_name(text, name),
+    }
+}
+
+fn push_accepted(
+    text: &mut String,
+    service: &Name,
+    token: &str,
+    ordered: Ordered,
+) -> Result<(), NoMemory>
+    ensures { OnOk result (string_bytes text.new ≡ string_bytes text.old
+        ++ ordered_line service.now token.now (Ok ordered) None) }
+{
+    let name = service.as_str();
+    let rule = ordered.rule;
+    write!(text, "{name} ordered {token} ")?;
+    push_about(text, service, ordered.about)?;
+    write!(text, " rule {rule}\n")?;
+    Ok(())
+}
+
+/// Puts the line of an order last.
+pub fn push_ordered(
+    text: &mut String,
+    service: &Name,
+    token: &str,
+    ordered: Result<Ordered, OrderRefused>,
+    packet: Option<u64>,
+) -> Result<(), NoMemory>
+    ensures { OnOk result (string_bytes text.new ≡ string_bytes text.old
+        ++ ordered_line service.now token.now ordered packet) }
+{
+    match ordered {
+        Ok(ordered) => push_accepted(text, service, token, ordered),
+        Err(why) => push_refused(text, service, order_refusal(why), packet),
+    }
+}
+
+/// Puts the line of a flight last that was given up, if it was there.
+pub fn push_abandoned(
+    text: &mut String,
+    service: &Name,
+    flight: u64,
+    was_there: bool,
+) -> Result<(), NoMemory>
+    ensures { OnOk result (string_bytes text.new ≡ string_bytes text.old
+        ++ abandoned_line service.now flight was_there) }
+{
+    if was_there {
+        let service = service.as_str();
+        write!(text, "{service} abandoned f{flight}\n")?;
+    }
+    Ok(())
+}

@@ -1,0 +1,23 @@
+-- A service at its start.
+use Rattle.std.proofs.Common.{◌≡◌, ◌≤◌, List, [], length, sym, ap, subst, arith}
+use Rattle.flights.specs.declared.flight.Flight.{Flight}
+use Rattle.service_events.specs.State.{fresh}
+use Rattle.service_events.specs.Fits.{Fits}
+use Rattle.service_events.proofs.StartLaw.{fits_start}
+use Rattle.service_parts.specs.Parts.{kept}
+use Rattle.service_parts.specs.Rooms.{aloft}
+use Rattle.service_parts.specs.Services.{IsService}
+use Rattle.service_parts.specs.declared.parts.Parts.{Parts}
+
+-- parts without entries, flights, rows, registers and replies are a service
+pub new_service : (p : Parts) → p.repairer.entries ≡ [] → p.flights.list ≡ [] → p.journal.rows ≡ [] → p.registers.list ≡ [] → p.replies.list ≡ [] → IsService p
+new_service p entries flights journal registers replies =
+    let same : kept p ≡ fresh p.setting = cc in
+    let entered : length p.repairer.entries ≡ 0 = ap length entries in
+    let flying : length p.flights.list ≡ 0 = ap length flights in
+    let least : 0 ≤ p.journal.spare = omega arith in
+    record {
+      fits = subst Fits (sym same) (fits_start p.setting);
+      few = omega (arith, entered, flying);
+      room = (let R : List Flight → Type 0 = λ fs. aloft fs ≤ p.journal.spare in subst R (sym flights) least);
+    }

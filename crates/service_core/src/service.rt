@@ -1,0 +1,276 @@
+// A service, and its events.
+ghost use Rattle.std.specs.Prelude.{◌≡◌, [], IfOk, MatchOption, Ok, Some, IfSome, IsSome};
+ghost use Rattle.local_repair.specs.Current.{AllCurrent, rows_of};
+ghost use Rattle.local_repair.specs.Repairs.{IsStaleId};
+ghost use Rattle.service_events.specs.State.{after, answers, fresh};
+ghost use Rattle.service_events.specs.Arriving.{abandon_event, arrive_event, call_answered_event, call_failed_event};
+ghost use Rattle.service_events.specs.Fits.{Fits};
+ghost use Rattle.service_core.specs.Readings.{awaited_by, first_stale};
+ghost use Rattle.service_events.specs.Doing.{answer_memory, arrive_memory, call_memory, order_memory, post_memory, take_memory, Does};
+ghost use Rattle.journal_rows.specs.Words.{ordered};
+ghost use Rattle.service_events.specs.Messages.{take_event, take_answer_event, posted_event};
+ghost use Rattle.service_events.specs.Orders.{order_event};
+ghost use Rattle.service_events.specs.Posts.{next_post, write_post};
+ghost use Rattle.service_repairs.specs.Answers.{answered_by, Steps};
+
+use crate::stale::first_stale;
+use call_registers::{Registers, Replies, Why};
+use flights::Flights;
+use journal_rows::{Command, Rows};
+use lang_core::{Cells, Inputs, Name, NoMemory, Origin, Request, Setting, Text};
+use local_repair::{Repairer, Stepped};
+use repair_messages::{AnswerMessage, Post, PostName, SetMessage};
+use request_log::Log;
+use service_deliveries::{posted, take, take_answer};
+use service_events::{
+    AnswerRefused, ArriveRefused, Arrived, CallRefused, Heard, OrderRefused, Ordered, PostRefused,
+    PostReply, Posted, TakeRefused, Taken,
+};
+use service_parts::Parts;
+use service_posts::{next_post, write_post};
+use service_repairs::{order, repair_step};
+use service_requests::{abandon, arrive, call_answered, call_failed};
+use std::alloc::Global;
+use std::marker::Model;
+
+/// A service whose requests call other services: its setting, its log under repair, its flights, its journal, its
+/// registers and its replies. Its type keeps that all of them fit the journal, that there are at most 100,000 entries and
+/// flights, and that there is room to abandon each flight.
+#[derive(Drop)]
+pub struct Service {
+    parts: Parts,
+}
+
+impl Model for Service {
+    ghost use Rattle.service_events.specs.State.{Kept, kept_code};
+    ghost use Rattle.service_parts.specs.Parts.{kept};
+    ghost use Rattle.service_parts.specs.Services.{IsService};
+
+    ghost Value = { Kept };
+
+    ghost coded = { kept_code };
+
+    ghost view = { λ s. kept s.parts };
+
+    ghost invariant = { λ s. IsService s.parts };
+}
+
+impl Service {
+    /// A service that has answered nothing yet.
+    pub fn new(alloc: Global, setting: Setting) -> Service
+        ensures { result ≡ fresh setting }
+    {
+        let parts = Parts {
+            setting,
+            repairer: Repairer::new(alloc),
+            flights: Flights::new(alloc),
+            journal: Rows::new(alloc),
+            registers: Registers::new(alloc),
+            replies: Replies::new(alloc),
+        };
+        Service { parts }
+    }
+
+    /// What it is set to do.
+    pub fn setting(&self) -> &Setting
+        ensures { result.now ≡ self.now.setting }
+    {
+        &self.parts.setting
+    }
+
+    /// Its log.
+    pub fn entries(&self) -> &Log
+        ensures { result.now.entries ≡ self.now.entries }
+    {
+        self.parts.repairer.log()
+    }
+
+    /// Its journal, which all that it keeps fits.
+    pub fn journal(&self) -> &Rows
+        ensures rows { result.now.rows ≡ self.now.journal }
+        ensures fits { Fits self.now }
+    {
+        &self.parts.journal
+    }
+
+    /// What it keeps of its own calls.
+    pub fn registers(&self) -> &Registers
+        ensures { result.now.list ≡ self.now.registers }
+    {
+        &self.parts.registers
+    }
+
+    /// The answers that it owes.
+    pub fn replies(&self) -> &Replies
+        ensures { result.now.list ≡ self.now.replies }
+    {
+        &self.parts.replies
+    }
+
+    /// Its live requests that wait for calls.
+    pub fn flights(&self) -> &Flights
+        ensures { result.now.list ≡ self.now.flights }
+    {
+        &self.parts.flights
+    }
+
+    /// The rows at the end of the log.
+    pub fn rows(&self, alloc: Global) -> Result<Cells, NoMemory>
+        ensures { IfOk result (λ rows. rows ≡ rows_of self.now.entries) }
+    {
+        self.parts.repairer.rows(alloc)
+    }
+
+    /// The number of the call for which a flight waits; None exactly where there is no such flight.
+    pub fn awaited(&self, flight: u64) -> Option<u64>
+        ensures { result ≡ awaited_by flight self.now }
+    {
+        let waiting = self.parts.flights.find(flight)?;
+        Some(waiting.awaited())
+    }
+
+    /// The number of the first stale entry; None exactly where no entry is stale.
+    pub fn first_stale(&self) -> Option<u64>
+        ensures first { MatchOption result
+            (AllCurrent (answers self.now) [] self.now.entries)
+            (λ id. IsStaleId (answers self.now) self.now.entries id) }
+        ensures test { result ≡ first_stale self.now }
+    {
+        first_stale(&self.parts)
+    }
+
+    /// A live request arrives. It runs, and is committed or waits for a call; or it is a call that has an entry. It is
+    /// refused where it is a call in flight, one that was deleted or one whose entry never ran, and where there is too
+    /// much.
+    pub fn arrive(
+        &mut self,
+        alloc: Global,
+        origin: Origin,
+        request: Request,
+        inputs: Inputs,
+    ) -> Result<Arrived, ArriveRefused>
+        ensures { Does arrive_memory (arrive_event self.old origin request inputs) self.old result self.new }
+    {
+        arrive(alloc, &mut self.parts, origin, request, inputs)
+    }
+
+    /// The call for which a flight waits was answered: the flight goes on. It is refused where the flight isn't there, or
+    /// waits for another call or another version of it.
+    pub fn call_answered(
+        &mut self,
+        alloc: Global,
+        flight: u64,
+        answer: AnswerMessage,
+    ) -> Result<Arrived, CallRefused>
+        ensures { Does call_memory (call_answered_event self.old flight answer) self.old result self.new }
+    {
+        call_answered(alloc, &mut self.parts, flight, &answer)
+    }
+
+    /// The call of this number, for which a flight waits, got no answer: the flight goes on without one. It is refused
+    /// where the flight isn't there or waits for another call.
+    pub fn call_failed(
+        &mut self,
+        alloc: Global,
+        flight: u64,
+        number: u64,
+        why: Why,
+    ) -> Result<Arrived, CallRefused>
+        ensures { Does call_memory (call_failed_event self.old flight number why) self.old result self.new }
+    {
+        call_failed(alloc, &mut self.parts, flight, number, why)
+    }
+
+    /// The flight of this number is gone, and its calls are to have no effect; false exactly where there is none, and then
+    /// nothing changes. It takes no memory: room for its rows was made when its calls were named.
+    pub fn abandon(&mut self, flight: u64) -> bool
+        ensures { after self.new result ≡ abandon_event self.old flight }
+    {
+        abandon(&mut self.parts, flight)
+    }
+
+    /// Runs the first stale entry again, if there is one, and settles its calls. Where none is stale the answer is Idle, which
+    /// takes no memory.
+    pub fn repair_step(&mut self, alloc: Global) -> Result<Stepped, NoMemory>
+        ensures steps { Steps self.old result self.new }
+        ensures free { AllCurrent (answers self.old) [] self.old.entries → result ≡ Ok Stepped.Idle }
+    {
+        repair_step(alloc, &mut self.parts)
+    }
+
+    /// Carries out an order of an operator. An order whose token was accepted before is answered as then, without memory, and
+    /// changes nothing. It is refused where it names what isn't there, replaces a request of another service, retries a post
+    /// that isn't held, or where there is too much.
+    pub fn order(
+        &mut self,
+        alloc: Global,
+        command: Command,
+        token: Text,
+        who: Text,
+        inputs: Inputs,
+    ) -> Result<Ordered, OrderRefused>
+        ensures does { Does order_memory (order_event self.old command token who inputs) self.old result self.new }
+        ensures repeated { IfSome (answered_by (ordered token self.old.journal)) (λ answer. result ≡ Ok answer) }
+    {
+        order(alloc, &mut self.parts, command, token, who, inputs)
+    }
+
+    /// A version of another service's call came by a message. It is refused where that call is in flight, and where there is
+    /// too much. One that isn't above the version that was taken is acknowledged again; any other is taken, and where its
+    /// call has no entry and asks something, one is made, which never ran.
+    pub fn take(
+        &mut self,
+        alloc: Global,
+        set: SetMessage,
+        inputs: Inputs,
+    ) -> Result<Taken, TakeRefused>
+        ensures { Does take_memory (take_event self.old set inputs) self.old result self.new }
+    {
+        take(alloc, &mut self.parts, &set, inputs)
+    }
+
+    /// An answer to one of its calls came by a message. It is confirmed, and kept where it is newer than the answer that is
+    /// held. It is refused where no call to that service has its number.
+    pub fn take_answer(
+        &mut self,
+        alloc: Global,
+        answer: AnswerMessage,
+    ) -> Result<Heard, AnswerRefused>
+        ensures { Does answer_memory (take_answer_event self.old answer) self.old result self.new }
+    {
+        take_answer(alloc, &mut self.parts, answer)
+    }
+
+    /// Something came back of a post. It is noted where the post was acknowledged or confirmed; a refusal that the receiver's
+    /// rules or its want of knowledge give holds the post, where its version is the current one; else the post is left as it
+    /// is. It is refused where the service never had that post at that version, or the reply is to another one.
+    pub fn posted(
+        &mut self,
+        alloc: Global,
+        post: &Post,
+        reply: PostReply,
+    ) -> Result<Posted, PostRefused>
+        ensures { Does post_memory (posted_event self.old post.now reply) self.old result self.new }
+    {
+        posted(alloc, &mut self.parts, post, reply)
+    }
+
+    /// The post that goes to another service next: the oldest that is outstanding; None exactly where none is. It has a
+    /// message.
+    pub fn next_post(&self, dest: &Name) -> Option<PostName>
+        ensures next { result ≡ next_post dest.now self.now }
+        ensures written { IfSome result (λ name. IsSome (write_post self.now name)) }
+    {
+        next_post(&self.parts, dest)
+    }
+
+    /// The message of a post as it is now, of which there is one: that of a call of this number, or the last answer of an
+    /// entry of this number that has a reply. A call of version 1 names its neighbours among the wanted calls to the same
+    /// service, in logged order.
+    pub fn write_post(&self, alloc: Global, name: PostName) -> Result<Post, NoMemory>
+        requires { IsSome (write_post self.now name) }
+        ensures { IfOk result (λ post. write_post self.now name ≡ Some post) }
+    {
+        write_post(alloc, &self.parts, name)
+    }
+}

@@ -1,0 +1,4 @@
+pub mod TakeLemmas
+mod ReplyLemmas
+mod HearLemmas
+mod PostLemmas

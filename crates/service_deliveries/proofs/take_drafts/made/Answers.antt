@@ -1,0 +1,24 @@
+use Rattle.std.proofs.Common.{◌∙◌, sym, ap, refl, subst, Some}
+use Rattle.std.proofs.lemmas.Result.{IfOk-weaker}
+use Rattle.service_events.specs.Messages.{created_entry, created_place, created_reply, rule, taken}
+use Rattle.service_parts.specs.Parts.{kept}
+use Rattle.service_deliveries.specs.TakeChanges.{changed_by, CanChange}
+use Rattle.service_deliveries.specs.Rows.{created_rows}
+use Rattle.service_deliveries.specs.declared.take_changes.Change.TheVariants.{Create}
+use Rattle.service_deliveries.specs.declared.take_changes.Taking.{Taking}
+use Rattle.service_deliveries.proofs.TakeLemmas.{leaves_of}
+use Rattle.service_deliveries.proofs.take_drafts.made.Goals as goal
+
+pub returns : goal.returns
+returns c =
+    let s = kept c.args.parts.now in
+    let set = c.args.set.now in
+    let q = c.args.request.now in
+    let i = c.args.inputs in
+    IfOk-weaker c.taking.result _ _
+    (λ t h.
+    let change = ap (λ (t : Taking). t.change) h in
+    leaves_of s (changed_by s (Create (created_place s set) (created_entry s set q i) (created_reply s set))) t (taken set (Some rule)) (created_rows s set q i)
+    (ap (λ (t : Taking). t.taken) h) (ap (λ (t : Taking). t.rows.items) h ∙ c.in_ok-rows.ensures)
+    (ap (changed_by s) (change ∙ c.in_ok-change.ensures.is)) (λ at rs. refl) (subst (CanChange s) (sym change) c.in_ok-change.ensures.can))
+    c.taking.ensures

@@ -1,0 +1,4 @@
+pub mod TakeChanges
+pub mod Rows
+pub mod Hearing
+pub mod Posting

@@ -1,0 +1,55 @@
+-- What taking a version of a call is to leave and to answer, and why it is refused.
+use Rattle.std.specs.Prelude.{ℕ, ◌≡◌, ◌≤◌, [], ◌∷◌, ◌++◌, Option, Some, Result, Ok, if◌then◌else◌, insert, length, option_map}
+use Rattle.request_log.specs.Entries.{with_entry, IsNew}
+use Rattle.request_log.specs.declared.entry.Entry.{Entry}
+use Rattle.local_repair.specs.Repairs.{IsAmended}
+use Rattle.repair_messages.specs.declared.messages.SetMessage.{SetMessage}
+use Rattle.call_registers.specs.Replies.{at_entry, made_due, with_taken, IsAboveAll}
+use Rattle.call_registers.specs.declared.reply.Reply.{Reply}
+use Rattle.service_events.specs.State.{Kept, After, after, is_in_flight}
+use Rattle.service_events.specs.Calls.{noted}
+use Rattle.service_events.specs.Messages.{is_too_much, origin_of}
+use Rattle.service_events.specs.declared.answers.Taken.{Taken}
+use Rattle.service_events.specs.declared.refusals.TakeRefused.{TakeRefused}
+use Rattle.service_events.specs.declared.refusals.TakeRefused.TheVariants.{Full, NotYet}
+use Rattle.service_repairs.specs.Ordering.{TellNoCall}
+use Rattle.service_deliveries.specs.declared.take_changes.Change.{Change}
+use Rattle.service_deliveries.specs.declared.take_changes.Change.TheVariants.{Nothing, Due, Amend, Create}
+use Rattle.service_deliveries.specs.declared.take_changes.Taking.{Taking}
+
+-- why it isn't taken, but for want of memory
+abbrev pub refused : Kept → SetMessage → Option TakeRefused
+refused s set =
+    if is_in_flight (origin_of set) s then Some (NotYet set.number) else option_map (λ much. Full much) (is_too_much s set)
+
+abbrev pub changed_by : Kept → Change → Kept
+changed_by s Nothing = s
+changed_by s (Due id since) = record s { replies = at_entry id (made_due since) s.replies }
+changed_by s (Amend entry since) =
+    record s {
+      entries = with_entry entry s.entries;
+      replies = at_entry entry.id (λ p. made_due since (with_taken entry.version entry.wanted p)) s.replies;
+    }
+changed_by s (Create at entry reply) =
+    record s { entries = insert s.entries at entry; replies = s.replies ++ reply ∷ [] }
+
+-- a created entry and its reply are new, and the place is one of the log
+pub record CanCreate (s : Kept) (at : ℕ) (entry : Entry) (reply : Reply) : Type 0 where
+  pub within : at ≤ length s.entries
+  pub is_new : IsNew entry s.entries
+  pub above : IsAboveAll reply.id s.replies
+
+abbrev pub CanChange : Kept → Change → Type 0
+CanChange s Nothing = Unit {0}
+CanChange s (Due id since) = Unit {0}
+CanChange s (Amend entry since) = IsAmended entry s.entries
+CanChange s (Create at entry reply) = CanCreate s at entry reply
+
+abbrev pub left_by : Kept → Taking → Kept
+left_by s t = noted t.rows.items (changed_by s t.change)
+
+-- it leaves and answers this, can be put in place, and its rows tell of no call of the service's own
+pub record Leaves (s : Kept) (t : Taking) (event : After (Result Taken TakeRefused)) : Type 0 where
+  pub is : after (left_by s t) (Ok t.taken) ≡ event
+  pub can : CanChange s t.change
+  pub plain : TellNoCall t.rows.items

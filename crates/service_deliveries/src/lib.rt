@@ -1,0 +1,19 @@
+//! What comes to a service by messages, on its parts: a version of another service's call, an answer to one of its own, and
+//! what comes back of a post. Each does what its event means, or runs out of memory and changes nothing, and leaves what always
+//! holds of a service. What taking a version leaves is drafted before anything changes.
+#![tactic(auto)]
+
+mod hearing;
+mod making;
+mod noting;
+mod posting;
+mod posts;
+mod refusing;
+mod take_applying;
+mod take_changes;
+mod take_drafts;
+mod taking;
+
+pub use hearing::take_answer;
+pub use posting::posted;
+pub use taking::take;

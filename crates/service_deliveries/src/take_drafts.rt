@@ -1,0 +1,169 @@
+// What taking a version is to answer and to leave, drafted.
+ghost use Rattle.std.specs.Prelude.{◌≡◌, None, Some, Ok, IfOk, length};
+ghost use Rattle.lang_core.specs.declared.inputs.Inputs.{Inputs};
+ghost use Rattle.request_log.specs.Entries.{find_call};
+ghost use Rattle.local_repair.specs.Repairs.{IsAmended};
+ghost use Rattle.call_registers.specs.Replies.{made_due};
+ghost use Rattle.service_events.specs.State.{after};
+ghost use Rattle.service_events.specs.Fits.{Fits};
+ghost use Rattle.service_events.specs.Messages.{acked_again, at_reply_of, at_version, created_entry, created_place, created_reply, origin_of, rule, take_event, taken, taken_by};
+ghost use Rattle.service_parts.specs.Parts.{kept};
+ghost use Rattle.service_deliveries.specs.TakeChanges.{changed_by, refused, CanChange, Leaves};
+
+use crate::making::{
+    at_version, created_entry, created_place, created_reply, created_rows, index, known_rows,
+    taken, taken_rows,
+};
+use crate::refusing::is_known;
+use crate::take_changes::{Change, Taking};
+use journal_rows::Row;
+use lang_core::{Inputs, NoMemory, Request};
+use repair_messages::SetMessage;
+use request_log::Entry;
+use service_parts::Parts;
+use service_repairs::RULE;
+use std::alloc::Global;
+
+fn taking(
+    alloc: Global,
+    set: &SetMessage,
+    rule: Option<u32>,
+    rows: Vec<Row>,
+    change: Change,
+) -> Result<Taking, NoMemory>
+    ensures { IfOk result (λ t. t ≡ record { taken = taken set.now rule; rows = rows; change = change }) }
+{
+    let taken = taken(alloc, set, rule)?;
+    Ok(Taking {
+        taken,
+        rows,
+        change,
+    })
+}
+
+// ---- a version that is known
+
+// The reply of the call's entry is due, if there is one.
+fn due_again(parts: &Parts, set: &SetMessage) -> Change
+    ensures is { changed_by (kept parts.now) result ≡ record (kept parts.now) { replies = at_reply_of (find_call (origin_of set.now) parts.now.repairer.entries) (made_due (length parts.now.journal.rows)) parts.now.replies.list } }
+    ensures can { CanChange (kept parts.now) result }
+{
+    match parts.repairer.log().find_origin(&set.caller, set.number) {
+        None => Change::Nothing,
+        Some(entry) => Change::Due {
+            id: entry.id,
+            since: index(parts, 0),
+        },
+    }
+}
+
+// It is acknowledged again.
+fn again(alloc: Global, parts: &Parts, set: &SetMessage) -> Result<Taking, NoMemory>
+    ensures { IfOk result (λ t. Leaves (kept parts.now) t (after (acked_again (kept parts.now) set.now) (Ok (taken set.now None)))) }
+{
+    let change = due_again(parts, set);
+    let rows = known_rows(alloc, set)?;
+    taking(alloc, set, None, rows, change)
+}
+
+// ---- a version above the one that was taken
+
+// Its call has this entry.
+fn amended(alloc: Global, parts: &Parts, set: &SetMessage, old: &Entry) -> Result<Taking, NoMemory>
+    requires { IsAmended (at_version set.now old.now) parts.now.repairer.entries }
+    ensures { (i : Inputs) → IfOk result (λ t. Leaves (kept parts.now) t (after (taken_by (kept parts.now) set.now i (Some old.now) set.now.desired) (Ok (taken set.now (Some rule))))) }
+{
+    let rows = taken_rows(alloc, set)?;
+    let entry = at_version(alloc, set, old)?;
+    let since = index(parts, 1);
+    taking(alloc, set, Some(RULE), rows, Change::Amend { entry, since })
+}
+
+// The change that makes an entry.
+fn create(
+    alloc: Global,
+    parts: &Parts,
+    set: &SetMessage,
+    request: &Request,
+    inputs: Inputs,
+) -> Result<Change, NoMemory>
+    requires fits { Fits (kept parts.now) }
+    requires none { find_call (origin_of set.now) parts.now.repairer.entries ≡ None }
+    ensures is { IfOk result (λ change. change ≡ Change.Create (created_place (kept parts.now) set.now) (created_entry (kept parts.now) set.now request.now inputs) (created_reply (kept parts.now) set.now)) }
+    ensures can { IfOk result (λ change. CanChange (kept parts.now) change) }
+{
+    let at = created_place(parts, set);
+    let entry = created_entry(alloc, parts, set, request, inputs)?;
+    let reply = created_reply(alloc, parts, set)?;
+    Ok(Change::Create { at, entry, reply })
+}
+
+// Its call has no entry, and makes one.
+fn made(
+    alloc: Global,
+    parts: &Parts,
+    set: &SetMessage,
+    request: &Request,
+    inputs: Inputs,
+) -> Result<Taking, NoMemory>
+    requires fits { Fits (kept parts.now) }
+    requires none { find_call (origin_of set.now) parts.now.repairer.entries ≡ None }
+    ensures { IfOk result (λ t. Leaves (kept parts.now) t (after (taken_by (kept parts.now) set.now inputs None (Some request.now)) (Ok (taken set.now (Some rule))))) }
+{
+    let rows = created_rows(alloc, parts, set, request, inputs)?;
+    let change = create(alloc, parts, set, request, inputs)?;
+    taking(alloc, set, Some(RULE), rows, change)
+}
+
+// Its call has no entry, and is to have no effect.
+fn unmet(alloc: Global, parts: &Parts, set: &SetMessage) -> Result<Taking, NoMemory>
+    ensures { (i : Inputs) → IfOk result (λ t. Leaves (kept parts.now) t (after (taken_by (kept parts.now) set.now i None None) (Ok (taken set.now (Some rule))))) }
+{
+    let rows = taken_rows(alloc, set)?;
+    taking(alloc, set, Some(RULE), rows, Change::Nothing)
+}
+
+// Its call has no entry.
+fn unknown(
+    alloc: Global,
+    parts: &Parts,
+    set: &SetMessage,
+    inputs: Inputs,
+) -> Result<Taking, NoMemory>
+    requires fits { Fits (kept parts.now) }
+    requires none { find_call (origin_of set.now) parts.now.repairer.entries ≡ None }
+    ensures { IfOk result (λ t. Leaves (kept parts.now) t (after (taken_by (kept parts.now) set.now inputs None set.now.desired) (Ok (taken set.now (Some rule))))) }
+{
+    match &set.desired {
+        Some(request) => made(alloc, parts, set, request, inputs),
+        None => unmet(alloc, parts, set),
+    }
+}
+
+fn newer(alloc: Global, parts: &Parts, set: &SetMessage, inputs: Inputs) -> Result<Taking, NoMemory>
+    requires { Fits (kept parts.now) }
+    ensures { IfOk result (λ t. Leaves (kept parts.now) t (after (taken_by (kept parts.now) set.now inputs (find_call (origin_of set.now) parts.now.repairer.entries) set.now.desired) (Ok (taken set.now (Some rule))))) }
+{
+    match parts.repairer.log().find_origin(&set.caller, set.number) {
+        Some(entry) => amended(alloc, parts, set, entry),
+        None => unknown(alloc, parts, set, inputs),
+    }
+}
+
+/// What taking a version that isn't refused is to answer and to leave.
+pub fn draft(
+    alloc: Global,
+    parts: &Parts,
+    set: &SetMessage,
+    inputs: Inputs,
+) -> Result<Taking, NoMemory>
+    requires fits { Fits (kept parts.now) }
+    requires none { refused (kept parts.now) set.now ≡ None }
+    ensures { IfOk result (λ t. Leaves (kept parts.now) t (take_event (kept parts.now) set.now inputs)) }
+{
+    if is_known(parts, set) {
+        again(alloc, parts, set)
+    } else {
+        newer(alloc, parts, set, inputs)
+    }
+}

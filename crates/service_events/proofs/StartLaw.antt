@@ -1,0 +1,33 @@
+-- A service without rows fits its journal.
+use Rattle.std.proofs.Common.{◌≡◌, true, false, ℕ, ◌<◌, [], refl, arith}
+use Rattle.lang_core.specs.declared.setting.Setting.{Setting}
+use Rattle.service_events.specs.State.{fresh}
+use Rattle.service_events.specs.Fits.{Fits}
+
+below_none : (k : ℕ) → k < 0 → ⊥
+below_none k h = omega (arith, h)
+
+never : false ≡ true → ⊥
+never h = cc
+
+pub fits_start : (setting : Setting) → Fits (fresh setting)
+fits_start setting =
+    record {
+      sent = record { rows = tt; registers = λ n. refl; count = refl; numbered = tt };
+      seen = record { rows = tt; registers = λ n. tt; answered = λ n told. absurd (never told); heard = λ n. omega arith };
+      taken = tt;
+      asked = record {
+        rows = tt;
+        count = refl;
+        distinct = tt;
+        entries = λ n. refl;
+        calls = λ c n. (λ t. t, λ t. t);
+        now = λ k d h. absurd (below_none k h);
+      };
+      runs = λ k d h. absurd (below_none k h);
+      answered = record { rows = tt; entries = λ k d h. absurd (below_none k h) };
+      replies = record { rows = tt; entries = λ k d h. absurd (below_none k h); others = λ k d h. absurd (below_none k h); rising = tt };
+      places = record { calls = λ k d h. absurd (below_none k h); once = λ n. refl };
+      flights = record { numbered = λ k d h. absurd (below_none k h); others = λ i j d h w. absurd (below_none j w); untaken = λ k d h. absurd (below_none k h) };
+      orders = tt;
+    }

@@ -1,0 +1,299 @@
+-- How what a service keeps follows from its journal.
+use Rattle.std.specs.Prelude.{ℕ, ◌≡◌, ◌+◌, ◌<◌, ◌≤◌, Bool, true, false, ◌&&◌, not, List, [], ◌∷◌, ◌++◌, Option, Some, None, IsSome, IfSome, IsSomeAnd, MatchOption, All, AllPairs, if◌then◌else◌, map, length, find, nat_eq, option_map, is_some, ◌↔◌}
+use Rattle.std.specs.List.{list_any}
+use Rattle.std.specs.Option.{option_map_or}
+use Rattle.lang_core.specs.declared.ids.Origin.{Origin}
+use Rattle.lang_core.specs.declared.ids.Origin.TheVariants.{Outside, Call}
+use Rattle.lang_core.specs.declared.inputs.Inputs.{Inputs}
+use Rattle.lang_core.specs.declared.request.Request.{Request}
+use Rattle.lang_core.specs.declared.trace.CallMade.{CallMade}
+use Rattle.request_log.specs.Entries.{has_id, find_call, IsDistinct}
+use Rattle.request_log.specs.declared.entry.Entry.{Entry}
+use Rattle.request_log.specs.declared.entry.Made.{Made}
+use Rattle.local_repair.specs.Current.{AllRuns}
+use Rattle.local_repair.specs.Steps.{calls_of_made}
+use Rattle.journal_rows.specs.Words.{last_sent, named, seen_acked, last_seen, seen_version, claimed, taken_version, taken_version_of, last_taken_of, is_version_of, wants, asked, asked_count, last_answered, given_version, request_now, is_struck, last_mark, settles, ordered, last_row}
+use Rattle.journal_rows.specs.declared.callee.AnsweredRow.{AnsweredRow}
+use Rattle.journal_rows.specs.declared.callee.AskedRow.{AskedRow}
+use Rattle.journal_rows.specs.declared.caller.AckHow.{AckHow}
+use Rattle.journal_rows.specs.declared.caller.AckHow.TheVariants.{WithAnswer, ToPost}
+use Rattle.journal_rows.specs.declared.caller.How.TheVariants.{Live, Message}
+use Rattle.journal_rows.specs.declared.caller.SawAnswerRow.{SawAnswerRow}
+use Rattle.journal_rows.specs.declared.caller.SentRow.{SentRow}
+use Rattle.journal_rows.specs.declared.caller.How.{How}
+use Rattle.journal_rows.specs.declared.orders.About.{About}
+use Rattle.journal_rows.specs.declared.orders.About.TheVariants.{Request as AboutRequest, Post as AboutPost}
+use Rattle.journal_rows.specs.declared.orders.Command.{Command}
+use Rattle.journal_rows.specs.declared.orders.Command.TheVariants.{Cancel, Restore, Replace}
+use Rattle.journal_rows.specs.declared.row.Row.{Row}
+use Rattle.journal_rows.specs.declared.row.Row.TheVariants.{Asked, Took, Acked, Answered, WasConfirmed, Sent, SawAck, SawAnswer, Confirmed, Ordered}
+use Rattle.call_registers.specs.Registers.{register, IsNumbered}
+use Rattle.call_registers.specs.Replies.{IsRising}
+use Rattle.call_registers.specs.declared.register.Answer.{Answer}
+use Rattle.call_registers.specs.declared.register.Register.{Register}
+use Rattle.call_registers.specs.declared.reply.Reply.{Reply}
+use Rattle.flights.specs.declared.flight.Flight.{Flight}
+use Rattle.service_events.specs.State.{Kept, same_call_origin}
+
+-- each row may stand after those before it
+abbrev pub EachAfter : (List Row → Row → Type 0) → List Row → List Row → Type 0
+EachAfter Follows before [] = Unit {0}
+EachAfter Follows before (row ∷ rows) = Follows before row × EachAfter Follows (before ++ row ∷ []) rows
+
+-- ---- a. What was sent
+
+-- a first row of a number has a new number, version 1 and a request; a later one goes to the same service, has the next version, and stands after one with a request
+abbrev pub SendsOn : List Row → Row → Type 0
+SendsOn before (Sent s) =
+    MatchOption (last_sent s.number before)
+    ((s.number ≡ named before + 1) × (s.version ≡ 1) × IsSome s.desired)
+    (λ last. (s.dest ≡ last.dest) × (s.version ≡ last.version + 1) × IsSome last.desired)
+SendsOn before row = Unit {0}
+
+-- what a register says of its number's last row
+abbrev pub sent_by : Register → SentRow
+sent_by r = record { number = r.number; dest = r.dest; version = r.version; desired = r.desired }
+
+pub record FitsSent (journal : List Row) (kept : List Register) : Type 0 where
+  pub rows : EachAfter SendsOn [] journal
+  pub registers : (number : ℕ) → option_map sent_by (register number kept) ≡ last_sent number journal
+  pub count : length kept ≡ named journal
+  pub numbered : IsNumbered kept
+
+-- ---- b. What was seen of own calls
+
+-- what is seen is of a call that was sent, and answer versions rise
+abbrev pub SeesOn : List Row → Row → Type 0
+SeesOn before (SawAck a) = IsSome (last_sent a.number before)
+SeesOn before (SawAnswer a) =
+    IsSome (last_sent a.number before) × IfSome (last_seen a.number before) (λ last. last.answer_version < a.answer_version)
+SeesOn before (Confirmed c) = IsSome (last_sent c.number before)
+SeesOn before row = Unit {0}
+
+abbrev pub is_with_answer : AckHow → Bool
+is_with_answer (WithAnswer answer_version) = true
+is_with_answer ToPost = false
+
+abbrev pub answer_of : SawAnswerRow → Answer
+answer_of a = record { answer_version = a.answer_version; version = a.version; response = a.response }
+
+-- a register has this greatest version that was acknowledged and this last answer
+pub record HasSeen (greatest : ℕ) (last : Option Answer) (r : Register) : Type 0 where
+  pub acked : r.acked ≡ greatest
+  pub answer : r.answer ≡ last
+
+-- the row says that an answer to the call of this number was heard
+abbrev pub tells_heard : ℕ → Row → Bool
+tells_heard number (SawAck a) = nat_eq a.number number && is_with_answer a.how
+tells_heard number (Confirmed c) = nat_eq c.number number
+tells_heard number row = false
+
+pub record FitsSeen (journal : List Row) (kept : List Register) : Type 0 where
+  pub rows : EachAfter SeesOn [] journal
+  pub registers : (number : ℕ)
+      → IfSome (register number kept) (HasSeen (seen_acked number journal) (option_map answer_of (last_seen number journal)))
+  pub answered : (number : ℕ) → list_any (tells_heard number) journal ≡ true → IsSome (last_seen number journal)
+  pub heard : (number : ℕ) → claimed number journal ≤ seen_version (last_seen number journal)
+
+-- ---- c. What was taken of other services' calls
+
+-- a live one is the first of its call
+abbrev pub IsFirst : How → ℕ → Option Request → Type 0
+IsFirst Live version desired = (version ≡ 1) × IsSome desired
+IsFirst Message version desired = Unit {0}
+
+-- versions rise; what is acknowledged was taken; an answer is to the version taken by then
+abbrev pub TakesOn : List Row → Row → Type 0
+TakesOn before (Took t) = (taken_version t.caller t.number before < t.version) × IsFirst t.how t.version t.desired
+TakesOn before (Acked a) = a.version ≤ taken_version a.caller a.number before
+TakesOn before (Answered a) = a.version ≡ taken_version_of a.origin before
+TakesOn before row = Unit {0}
+
+-- ---- d. The entries
+
+-- an order that changes an entry stands after the entry was made, and a replacement is of one from outside
+abbrev pub IsOrderOn : Command → Option AskedRow → Type 0
+IsOrderOn (Cancel id) made = IsSome made
+IsOrderOn (Restore id) made = IsSome made
+IsOrderOn (Replace id method path body) made = IsSomeAnd made (λ a. a.origin ≡ Outside)
+IsOrderOn command made = Unit {0}
+
+abbrev pub IsOrderAbout : About → Command → List Row → Type 0
+IsOrderAbout (AboutRequest id) command before = IsOrderOn command (asked id before)
+IsOrderAbout (AboutPost name) command before = Unit {0}
+
+abbrev pub AsksOn : List Row → Row → Type 0
+AsksOn before (Asked a) = a.id ≡ asked_count before + 1
+AsksOn before (Ordered o) = IsOrderAbout o.about o.command before
+AsksOn before row = Unit {0}
+
+-- how an entry was made, and what of the row says so
+abbrev pub made_as : Entry → Origin × Inputs
+made_as e = (e.origin, e.inputs)
+
+abbrev pub asked_as : AskedRow → Origin × Inputs
+asked_as a = (a.origin, a.inputs)
+
+-- an entry is as the journal's rows about it say
+pub record IsAsNow (journal : List Row) (e : Entry) : Type 0 where
+  pub version : e.version ≡ taken_version_of e.origin journal
+  pub wanted : e.wanted ≡ wants e.origin journal
+  pub request : IfSome (asked e.id journal) (λ a. e.request ≡ request_now e.id e.origin a.request journal)
+  pub struck : e.struck ≡ is_struck e.id journal
+
+-- the row takes that call, with a request
+abbrev pub takes_request : List ℕ → ℕ → Row → Bool
+takes_request caller number (Took t) = is_version_of caller number t && is_some t.desired
+takes_request caller number row = false
+
+pub record FitsAsked (journal : List Row) (log : List Entry) : Type 0 where
+  pub rows : EachAfter AsksOn [] journal
+  pub count : length log ≡ asked_count journal
+  pub distinct : IsDistinct log
+  pub entries : (id : ℕ) → option_map made_as (find (has_id id) log) ≡ option_map asked_as (asked id journal)
+  pub calls : (caller : List ℕ) (number : ℕ) → IsSome (find_call (Call caller number) log) ↔ (list_any (takes_request caller number) journal ≡ true)
+  pub now : All (IsAsNow journal) log
+
+-- ---- f. The answers
+
+-- the row before a live answer to a call took that call live
+abbrev pub IsTakenLive : Origin → Option Row → Type 0
+IsTakenLive Outside last = Unit {0}
+IsTakenLive (Call caller number) None = ⊥
+IsTakenLive (Call caller number) (Some (Took t)) = (t.caller ≡ caller) × (t.number ≡ number) × (t.how ≡ Live)
+IsTakenLive (Call caller number) (Some row) = ⊥
+
+-- an entry's answers have the versions 1, 2, 3 and so on and its origin, and a live one is the first
+abbrev pub AnswersOn : List Row → Row → Type 0
+AnswersOn before (Answered a) =
+    IsSomeAnd (asked a.id before) (λ made. made.origin ≡ a.origin)
+    × (a.answer_version ≡ given_version (last_answered a.id before) + 1)
+    × (a.live ≡ true → (a.answer_version ≡ 1) × IsTakenLive a.origin (last_row before))
+AnswersOn before row = Unit {0}
+
+-- what a record says of its entry's last answer, and what the row says
+abbrev pub answer_made : Entry → Option Answer
+answer_made e =
+    option_map (λ (m : Made). record { answer_version = e.answer_version; version = m.version; response = m.trace.response }) e.made
+
+abbrev pub answer_given : AnsweredRow → Answer
+answer_given a = record { answer_version = a.answer_version; version = a.version; response = a.response }
+
+-- an entry has a record exactly where it answered, and no answer version without one
+pub record HasAnswered (journal : List Row) (e : Entry) : Type 0 where
+  pub answer : answer_made e ≡ option_map answer_given (last_answered e.id journal)
+  pub first : e.made ≡ None → e.answer_version ≡ 0
+
+pub record FitsAnswered (journal : List Row) (log : List Entry) : Type 0 where
+  pub rows : EachAfter AnswersOn [] journal
+  pub entries : All (HasAnswered journal) log
+
+-- ---- g. The replies
+
+-- an entry's reply is as the entry and the journal say
+pub record IsReply (journal : List Row) (from : List ℕ) (call : ℕ) (e : Entry) (p : Reply) : Type 0 where
+  pub caller : p.caller ≡ from
+  pub number : p.number ≡ call
+  pub version : p.version ≡ e.version
+  pub wanted : p.wanted ≡ e.wanted
+  pub answer_version : p.answer_version ≡ e.answer_version
+  pub due : p.due ≡ (e.wanted && not (settles e.answer_version (last_mark e.id from call journal)))
+
+abbrev pub HasReply : List Row → List Reply → Entry → Origin → Type 0
+HasReply journal replies e Outside = find (λ (p : Reply). nat_eq p.id e.id) replies ≡ None
+HasReply journal replies e (Call caller number) =
+    IsSomeAnd (find (λ (p : Reply). nat_eq p.id e.id) replies) (IsReply journal caller number e)
+
+-- the answer that a confirmation speaks of was given by then, by the entry of that call
+pub record WasGiven (before : List Row) (caller : List ℕ) (number answer_version : ℕ) : Type 0 where
+  pub id : ℕ
+  pub origin : IsSomeAnd (asked id before) (λ made. made.origin ≡ Call caller number)
+  pub given : answer_version ≤ given_version (last_answered id before)
+
+abbrev pub ConfirmsOn : List Row → Row → Type 0
+ConfirmsOn before (WasConfirmed c) = WasGiven before c.caller c.number c.answer_version
+ConfirmsOn before row = Unit {0}
+
+pub record FitsReplies (journal : List Row) (log : List Entry) (replies : List Reply) : Type 0 where
+  pub rows : EachAfter ConfirmsOn [] journal
+  pub entries : All (λ e. HasReply journal replies e e.origin) log
+  pub others : All (λ (p : Reply). IsSome (find (has_id p.id) log)) replies
+  pub rising : IsRising replies
+
+-- ---- h. Where calls stand
+
+-- the numbers of an entry's or a flight's calls, and these calls
+pub record Place : Type 0 where
+  pub numbers : List ℕ
+  pub calls : List CallMade
+
+abbrev pub place_of_entry : Entry → Place
+place_of_entry e = record { numbers = e.slots; calls = calls_of_made e.made }
+
+abbrev pub place_of_flight : Flight → Place
+place_of_flight f = record { numbers = f.numbers; calls = f.calls }
+
+abbrev pub places : Kept → List Place
+places s = map place_of_entry s.entries ++ map place_of_flight s.flights
+
+abbrev pub call_to : List ℕ → Option Request → Option CallMade
+call_to dest None = None
+call_to dest (Some q) = Some (record { dest = dest; request = q })
+
+abbrev pub call_in : Option Register → Option CallMade
+call_in None = None
+call_in (Some r) = call_to r.dest r.desired
+
+-- the call that is wanted under a number, if one is
+abbrev pub wanted_call : List Register → ℕ → Option CallMade
+wanted_call registers number = call_in (register number registers)
+
+abbrev pub count : ℕ → List ℕ → ℕ
+count n [] = 0
+count n (m ∷ ms) = (if nat_eq m n then 1 else 0) + count n ms
+
+-- how often a number stands in these places
+abbrev pub stands : ℕ → List Place → ℕ
+stands n [] = 0
+stands n (p ∷ ps) = count n p.numbers + stands n ps
+
+-- each call of a place is the one that is wanted under its number
+abbrev pub WantsItsCalls : List Register → Place → Type 0
+WantsItsCalls registers p = map (wanted_call registers) p.numbers ≡ map Some p.calls
+
+-- each number whose call is wanted stands once, and no other stands anywhere
+pub record FitsPlaces (registers : List Register) (ps : List Place) : Type 0 where
+  pub calls : All (WantsItsCalls registers) ps
+  pub once : (number : ℕ) → stands number ps ≡ option_map_or (λ c. 1) (wanted_call registers number) 0
+
+-- ---- i. The flights
+
+abbrev pub AreOther : Flight → Flight → Type 0
+AreOther f g = (f.id < g.id) × (same_call_origin f.origin g.origin ≡ false)
+
+-- flights stand in the order of their numbers, which are from 1 on, of no two is the origin one call, and none of these was taken
+pub record FitsFlights (journal : List Row) (flights : List Flight) : Type 0 where
+  pub numbered : All (λ (f : Flight). 1 ≤ f.id) flights
+  pub others : AllPairs AreOther flights
+  pub untaken : All (λ (f : Flight). last_taken_of f.origin journal ≡ None) flights
+
+-- ---- j. The orders
+
+-- no token is given twice
+abbrev pub OrdersOn : List Row → Row → Type 0
+OrdersOn before (Ordered o) = ordered o.token before ≡ None
+OrdersOn before row = Unit {0}
+
+-- ---- all of it; e. the records are what runs gave
+
+pub record Fits (s : Kept) : Type 0 where
+  pub sent : FitsSent s.journal s.registers
+  pub seen : FitsSeen s.journal s.registers
+  pub taken : EachAfter TakesOn [] s.journal
+  pub asked : FitsAsked s.journal s.entries
+  pub runs : AllRuns s.setting s.entries
+  pub answered : FitsAnswered s.journal s.entries
+  pub replies : FitsReplies s.journal s.entries s.replies
+  pub places : FitsPlaces s.registers (places s)
+  pub flights : FitsFlights s.journal s.flights
+  pub orders : EachAfter OrdersOn [] s.journal

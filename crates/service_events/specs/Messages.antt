@@ -1,0 +1,292 @@
+-- Events of repair messages: a version of a call is taken, an answer is heard, something comes back of a post.
+use Rattle.std.specs.Prelude.{ℕ, ◌+◌, Bool, true, false, ◌&&◌, not, List, [], ◌∷◌, ◌++◌, Option, Some, None, Result, Ok, Err, if◌then◌else◌, nat_eq, nat_le, length, find, insert, is_some, option_map}
+use Rattle.lang_base.specs.Texts.{same_text}
+use Rattle.lang_core.specs.declared.ids.Origin.{Origin}
+use Rattle.lang_core.specs.declared.ids.Origin.TheVariants.{Call}
+use Rattle.lang_core.specs.declared.inputs.Inputs.{Inputs}
+use Rattle.lang_core.specs.declared.request.Request.{Request}
+use Rattle.request_log.specs.Entries.{find_call, has_origin, with_entry}
+use Rattle.request_log.specs.declared.entry.Entry.{Entry}
+use Rattle.create_placement.specs.Placement.{place_between}
+use Rattle.repair_messages.specs.declared.messages.Ack.{Ack}
+use Rattle.repair_messages.specs.declared.messages.AnswerMessage.{AnswerMessage}
+use Rattle.repair_messages.specs.declared.messages.Confirm.{Confirm}
+use Rattle.repair_messages.specs.declared.messages.SetMessage.{SetMessage}
+use Rattle.repair_messages.specs.declared.posts.Post.{Post}
+use Rattle.repair_messages.specs.declared.posts.Post.TheVariants.{Set, Answer}
+use Rattle.journal_rows.specs.Words.{taken_version, or_before}
+use Rattle.journal_rows.specs.declared.caller.AckHow.TheVariants.{ToPost}
+use Rattle.journal_rows.specs.declared.caller.How.TheVariants.{Message}
+use Rattle.journal_rows.specs.declared.row.Row.{Row}
+use Rattle.journal_rows.specs.declared.row.Row.TheVariants.{Asked, Took, Acked, WasConfirmed, SawAck, SawAnswer, Confirmed}
+use Rattle.call_registers.specs.Registers.{register, at_number, with_hold, is_newer}
+use Rattle.call_registers.specs.Replies.{reply, at_entry, with_taken, with_confirm, made_due, with_hold as with_reply_hold}
+use Rattle.call_registers.specs.declared.register.Hold.{Hold}
+use Rattle.call_registers.specs.declared.register.Hold.TheVariants.{Rule, Unknown as Unheard}
+use Rattle.call_registers.specs.declared.register.Register.{Register}
+use Rattle.call_registers.specs.declared.reply.Reply.{Reply}
+use Rattle.service_events.specs.State.{Kept, After, after, me, next_id, or_else, where_needed, is_crowded, is_heavy, is_in_flight}
+use Rattle.service_events.specs.Calls.{noted}
+use Rattle.service_events.specs.declared.answers.Heard.{Heard}
+use Rattle.service_events.specs.declared.answers.PostReply.{PostReply}
+use Rattle.service_events.specs.declared.answers.PostReply.TheVariants.{Acked as WasAcked, Confirmed as WasHeard, Refused, Lost}
+use Rattle.service_events.specs.declared.answers.PostWord.{PostWord}
+use Rattle.service_events.specs.declared.answers.PostWord.TheVariants.{Denied as DeniedPost, Unknown as UnknownPost}
+use Rattle.service_events.specs.declared.answers.Posted.{Posted}
+use Rattle.service_events.specs.declared.answers.Posted.TheVariants.{Acked as PostAcked, Confirmed as PostConfirmed, Held, Left}
+use Rattle.service_events.specs.declared.answers.Taken.{Taken}
+use Rattle.service_events.specs.declared.refusals.AnswerRefused.{AnswerRefused}
+use Rattle.service_events.specs.declared.refusals.AnswerRefused.TheVariants.{Unknown}
+use Rattle.service_events.specs.declared.refusals.PostRefused.{PostRefused}
+use Rattle.service_events.specs.declared.refusals.PostRefused.TheVariants.{Foreign}
+use Rattle.service_events.specs.declared.refusals.TakeRefused.{TakeRefused}
+use Rattle.service_events.specs.declared.refusals.TakeRefused.TheVariants.{Full, NotYet}
+
+-- every question is allowed, by rule 1
+abbrev pub rule : ℕ
+rule = 1
+
+-- ---- a version of a call
+
+abbrev pub origin_of : SetMessage → Origin
+origin_of set = Call set.caller set.number
+
+-- it isn't above the version that was taken
+abbrev pub is_known : Kept → SetMessage → Bool
+is_known s set = nat_le set.version (taken_version set.caller set.number s.journal)
+
+-- it makes an entry: it has a request, and the call has none
+abbrev pub makes_entry : Kept → SetMessage → Bool
+makes_entry s set = is_some set.desired && not (is_some (find_call (origin_of set) s.entries))
+
+-- how much there is, where there is too much: the weight counts first
+abbrev pub is_too_much : Kept → SetMessage → Option ℕ
+is_too_much s set = or_else (is_heavy s) (where_needed (not (is_known s set) && makes_entry s set) (is_crowded s))
+
+abbrev pub ack_of : SetMessage → Ack
+ack_of set = record { caller = set.caller; dest = set.dest; number = set.number; version = set.version }
+
+abbrev pub acked_row : SetMessage → Row
+acked_row set = Acked (record { caller = set.caller; number = set.number; version = set.version })
+
+abbrev pub took_row : SetMessage → Row
+took_row set =
+    Took (record {
+      caller = set.caller;
+      number = set.number;
+      version = set.version;
+      desired = set.desired;
+      how = Message;
+      who = set.who;
+      rule = rule;
+    })
+
+-- the replies, where that of this entry is changed so
+abbrev pub at_reply_of : Option Entry → (Reply → Reply) → List Reply → List Reply
+at_reply_of None f replies = replies
+at_reply_of (Some e) f replies = at_entry e.id f replies
+
+-- one that is known is acknowledged again
+abbrev pub acked_again : Kept → SetMessage → Kept
+acked_again s set =
+    noted (acked_row set ∷ [])
+    (record s { replies = at_reply_of (find_call (origin_of set) s.entries) (made_due (length s.journal)) s.replies })
+
+-- an entry that never ran
+abbrev pub created_entry : Kept → SetMessage → Request → Inputs → Entry
+created_entry s set q i =
+    record {
+      id = next_id s;
+      origin = origin_of set;
+      version = set.version;
+      request = q;
+      wanted = true;
+      struck = false;
+      inputs = i;
+      made = None;
+      slots = [];
+      answer_version = 0;
+      runs = 0;
+    }
+
+-- its reply, which is due; its last mark is the acknowledgement, which stands two rows behind
+abbrev pub created_reply : Kept → SetMessage → Reply
+created_reply s set =
+    record {
+      id = next_id s;
+      caller = set.caller;
+      number = set.number;
+      version = set.version;
+      answer_version = 0;
+      wanted = true;
+      due = true;
+      held = None;
+      repair_who = me s;
+      since = length s.journal + 2;
+    }
+
+-- the number of the entry of the caller's call, where one is named and known
+abbrev pub neighbour : Kept → List ℕ → Option ℕ → Option ℕ
+neighbour s caller None = None
+neighbour s caller (Some number) = option_map (λ (e : Entry). e.id) (find (has_origin caller number) s.entries)
+
+abbrev pub created_place : Kept → SetMessage → ℕ
+created_place s set = place_between (neighbour s set.caller set.before) (neighbour s set.caller set.after) s.entries
+
+-- an entry with this version of its call
+abbrev pub at_version : SetMessage → Entry → Entry
+at_version set e =
+    record e { version = set.version; request = or_before e.request set.desired; wanted = is_some set.desired }
+
+-- the call has an entry, or makes one, or does neither
+abbrev pub taken_by : Kept → SetMessage → Inputs → Option Entry → Option Request → Kept
+taken_by s set i (Some e) desired =
+    noted (took_row set ∷ (acked_row set ∷ []))
+    (record s {
+      entries = with_entry (at_version set e) s.entries;
+      replies = at_entry e.id (λ p. made_due (length s.journal + 1) (with_taken set.version (is_some set.desired) p)) s.replies;
+    })
+taken_by s set i None (Some q) =
+    noted (took_row set ∷ (Asked (record { id = next_id s; origin = origin_of set; request = q; inputs = i }) ∷ (acked_row set ∷ [])))
+    (record s {
+      entries = insert s.entries (created_place s set) (created_entry s set q i);
+      replies = s.replies ++ created_reply s set ∷ [];
+    })
+taken_by s set i None None = noted (took_row set ∷ (acked_row set ∷ [])) s
+
+abbrev pub taken : SetMessage → Option ℕ → Taken
+taken set rule = record { ack = ack_of set; rule = rule }
+
+abbrev pub take_admitted : Kept → SetMessage → Inputs → Option ℕ → After (Result Taken TakeRefused)
+take_admitted s set i (Some n) = after s (Err (Full n))
+take_admitted s set i None =
+    if is_known s set then after (acked_again s set) (Ok (taken set None))
+    else after (taken_by s set i (find_call (origin_of set) s.entries) set.desired) (Ok (taken set (Some rule)))
+
+abbrev pub take_event : Kept → SetMessage → Inputs → After (Result Taken TakeRefused)
+take_event s set i =
+    if is_in_flight (origin_of set) s then after s (Err (NotYet set.number)) else take_admitted s set i (is_too_much s set)
+
+-- ---- an answer
+
+abbrev pub confirm_of : AnswerMessage → Confirm
+confirm_of a = record { caller = a.caller; callee = a.callee; number = a.number; answer_version = a.answer_version }
+
+abbrev pub confirmed_row : AnswerMessage → Row
+confirmed_row a = Confirmed (record { number = a.number; answer_version = a.answer_version })
+
+abbrev pub seen_row : AnswerMessage → Row
+seen_row a =
+    SawAnswer (record {
+      number = a.number;
+      answer_version = a.answer_version;
+      version = a.version;
+      response = a.response;
+      how = Message;
+      who = a.who;
+      rule = rule;
+    })
+
+abbrev pub heard : AnswerMessage → Option ℕ → Heard
+heard a rule = record { confirm = confirm_of a; rule = rule }
+
+abbrev pub heard_by : Kept → AnswerMessage → Register → After (Result Heard AnswerRefused)
+heard_by s a r =
+    if not (same_text r.dest a.callee) then after s (Err (Unknown a.number))
+    else (if is_newer r.answer a.answer_version
+    then after (noted (seen_row a ∷ (confirmed_row a ∷ [])) s) (Ok (heard a (Some rule)))
+    else after (noted (confirmed_row a ∷ []) s) (Ok (heard a None)))
+
+abbrev pub heard_where : Kept → AnswerMessage → Option Register → After (Result Heard AnswerRefused)
+heard_where s a None = after s (Err (Unknown a.number))
+heard_where s a (Some r) = heard_by s a r
+
+abbrev pub take_answer_event : Kept → AnswerMessage → After (Result Heard AnswerRefused)
+take_answer_event s a = heard_where s a (register a.number s.registers)
+
+-- ---- what comes back of a post
+
+-- a version from 1 to this one
+abbrev pub is_version : ℕ → ℕ → Bool
+is_version version last = nat_le 1 version && nat_le version last
+
+-- the service had that call, to that service, at that version
+abbrev pub had_call : SetMessage → Option Register → Bool
+had_call set None = false
+had_call set (Some r) = same_text r.dest set.dest && is_version set.version r.version
+
+-- the service had that answer, to that call
+abbrev pub had_answer : AnswerMessage → Option Reply → Bool
+had_answer a None = false
+had_answer a (Some p) = same_text p.caller a.caller && nat_eq p.number a.number && is_version a.answer_version p.answer_version
+
+abbrev pub is_ack_of : SetMessage → Ack → Bool
+is_ack_of set ack =
+    same_text ack.caller set.caller && same_text ack.dest set.dest && nat_eq ack.number set.number && nat_eq ack.version set.version
+
+abbrev pub is_confirm_of : AnswerMessage → Confirm → Bool
+is_confirm_of a c =
+    same_text c.caller a.caller && same_text c.callee a.callee && nat_eq c.number a.number && nat_eq c.answer_version a.answer_version
+
+-- the reply is one to that post
+abbrev pub replies_to : Post → PostReply → Bool
+replies_to (Set set) (WasAcked ack) = is_ack_of set ack
+replies_to (Answer a) (WasHeard c) = is_confirm_of a c
+replies_to (Set set) (WasHeard c) = false
+replies_to (Answer a) (WasAcked ack) = false
+replies_to post (Refused word number) = true
+replies_to post (Lost note) = true
+
+abbrev pub had : Kept → Post → Bool
+had s (Set set) = same_text set.caller (me s) && had_call set (register set.number s.registers)
+had s (Answer a) = same_text a.callee (me s) && had_answer a (reply a.id s.replies)
+
+abbrev pub call_is_now : ℕ → Option Register → Bool
+call_is_now version None = false
+call_is_now version (Some r) = nat_eq version r.version
+
+abbrev pub answer_is_now : ℕ → Option Reply → Bool
+answer_is_now answer_version None = false
+answer_is_now answer_version (Some p) = nat_eq answer_version p.answer_version
+
+-- its version is the current one
+abbrev pub is_now : Kept → Post → Bool
+is_now s (Set set) = call_is_now set.version (register set.number s.registers)
+is_now s (Answer a) = answer_is_now a.answer_version (reply a.id s.replies)
+
+-- whether a refusal with this word holds a post, and how
+abbrev pub hold_of : PostWord → ℕ → Option Hold
+hold_of DeniedPost number = Some (Rule number)
+hold_of UnknownPost number = Some Unheard
+hold_of word number = None
+
+abbrev pub held_back : Kept → Post → Hold → Kept
+held_back s (Set set) hold = record s { registers = at_number set.number (with_hold hold) s.registers }
+held_back s (Answer a) hold = record s { replies = at_entry a.id (with_reply_hold hold) s.replies }
+
+abbrev pub held_where : Kept → Post → Option Hold → After (Result Posted PostRefused)
+held_where s post None = after s (Ok Left)
+held_where s post (Some hold) = if is_now s post then after (held_back s post hold) (Ok Held) else after s (Ok Left)
+
+abbrev pub saw_ack_row : Ack → Row
+saw_ack_row ack = SawAck (record { number = ack.number; version = ack.version; how = ToPost })
+
+abbrev pub was_confirmed_row : Confirm → Row
+was_confirmed_row c =
+    WasConfirmed (record { caller = c.caller; number = c.number; answer_version = c.answer_version })
+
+-- the reply of the entry that this post is about
+abbrev pub confirmed_reply : Kept → Post → ℕ → List Reply
+confirmed_reply s (Answer a) answer_version = at_entry a.id (with_confirm answer_version (length s.journal)) s.replies
+confirmed_reply s (Set set) answer_version = s.replies
+
+abbrev pub posted : Kept → Post → PostReply → After (Result Posted PostRefused)
+posted s post (WasAcked ack) = after (noted (saw_ack_row ack ∷ []) s) (Ok PostAcked)
+posted s post (WasHeard c) =
+    after (noted (was_confirmed_row c ∷ []) (record s { replies = confirmed_reply s post c.answer_version })) (Ok PostConfirmed)
+posted s post (Refused word number) = held_where s post (hold_of word number)
+posted s post (Lost note) = after s (Ok Left)
+
+abbrev pub posted_event : Kept → Post → PostReply → After (Result Posted PostRefused)
+posted_event s post answer =
+    if had s post && replies_to post answer then posted s post answer else after s (Err Foreign)

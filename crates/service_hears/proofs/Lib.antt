@@ -1,2 +1,0 @@
-mod HearLemmas
-mod PostLemmas

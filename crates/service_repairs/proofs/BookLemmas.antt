@@ -1,0 +1,78 @@
+-- What settling the calls of an entry leaves of a book.
+use Rattle.std.proofs.Common.{◌≡◌, ◌∙◌, sym, ap, refl, subst, ℕ, ◌<◌, ◌^◌, Bool, true, false, cond, List, [], ◌∷◌, ◌++◌, Option, Some, None, length, is_some, arith, length-append}
+use Rattle.lang_core.specs.declared.trace.Trace.{Trace}
+use Rattle.request_log.specs.declared.entry.Entry.{Entry}
+use Rattle.local_repair.specs.Settling.{IsSettled}
+use Rattle.local_repair.specs.Steps.{answers_for, calls_of_made, raised}
+use Rattle.journal_rows.specs.declared.row.Row.{Row}
+use Rattle.call_registers.specs.Changes.{change as change_first}
+use Rattle.call_registers.specs.Replies.{has_entry, reply, at_entry}
+use Rattle.call_registers.specs.declared.reply.Reply.{Reply}
+use Rattle.service_call_laws.proofs.RowLemmas.{Each, IsPlain}
+use Rattle.service_call_laws.proofs.FittingLemmas.{Book, HasRoom, Fitting}
+use Rattle.service_laws.proofs.SettledLaws.{change, settled_is, settled_timely}
+use Rattle.service_laws.proofs.StepLaws.{answer_plain}
+use Rattle.service_repairs.specs.Books.{KeptBook, answers, answer_rows, new_numbers, sent_rows, entered, settled, Settles, IsOwn, IsTimely}
+
+-- ---- a reply that isn't there
+
+none_first : (b : Bool) (p : Reply) (o : Option Reply) → cond b (Some p) o ≡ None → (b ≡ false) × (o ≡ None)
+none_first true p o h = cc
+none_first false p o h = (refl, h)
+
+skipped : (b : Bool) (xs ys : List Reply) → b ≡ false → cond b xs ys ≡ ys
+skipped true xs ys h = cc
+skipped false xs ys h = refl
+
+absent_same : (id : ℕ) (f : Reply → Reply) (ps : List Reply) → reply id ps ≡ None → ps ≡ at_entry id f ps
+absent_same id f [] h = refl
+absent_same id f (p ∷ ps) h =
+    let a = none_first (has_entry id p) p (reply id ps) h in
+    ap (λ l. p ∷ l) (absent_same id f ps a.1) ∙ sym (skipped (has_entry id p) (f p ∷ ps) (p ∷ change_first (has_entry id) f ps) a.0)
+
+no_some : (o : Option Reply) → is_some o ≡ false → o ≡ None
+no_some None h = refl
+no_some (Some p) h = cc
+
+-- a change of a reply that isn't there changes nothing
+pub unchanged : (there : Bool) (id : ℕ) (f : Reply → Reply) (ps : List Reply) → there ≡ is_some (reply id ps) → there ≡ false → ps ≡ at_entry id f ps
+unchanged there id f ps h e = absent_same id f ps (no_some (reply id ps) (sym h ∙ e))
+
+-- ---- what settling leaves
+
+plain : (e : Entry) (t : Trace) (answered : Bool) → Each IsPlain (answer_rows e t answered)
+plain e t answered = answer_plain (record { id = e.id; origin = e.origin; answer_version = raised e.answer_version; version = e.version; response = t.response; live = false }) answered
+
+-- nothing is asked here of how calls are settled
+abbrev pub any : Entry → Trace → Bool → List ℕ → Type 0
+any e t answered numbers = Unit {0}
+
+-- in the words of local repair, and the registers stay on time
+pub record Left (b b' : KeptBook) (e : Entry) (t : Trace) (numbers : List ℕ) : Type 0 where
+  pub settled : IsSettled (change b.registers b'.registers any) e.slots numbers t.answers
+  pub timely : IsTimely b.registers → IsTimely b'.registers
+
+left_by : (b : KeptBook) (e : Entry) (t : Trace) (answered : Bool) → IsOwn b e → length (settled b e t answered).journal < 2 ^ 64
+    → t.answers ≡ answers_for (answers b) (calls_of_made e.made) e.slots t.calls → Left b (settled b e t answered) e t (new_numbers b e t)
+left_by b e t answered own few given =
+    let book : Book = record { journal = b.journal; registers = b.registers } in
+    let more = answer_rows e t answered in
+    let room : HasRoom book (sent_rows b e t ++ more) = record { counts = (let sum = length-append b.journal (sent_rows b e t ++ more) in omega (arith, few, sum)) } in
+    let fits : Fitting book (Rattle.service_events.specs.Fits.place_of_entry e ∷ own.others) = record { sent = own.sent; places = own.places } in
+    record {
+      settled = settled_is book e t.calls more own.others (plain e t answered) room fits any t.answers given;
+      timely = settled_timely book e t.calls more own.others (plain e t answered) room fits;
+    }
+
+pub settle_left : (b b' : KeptBook) (e : Entry) (t : Trace) (answered : Bool) (numbers : List ℕ) → Settles b b' e t answered numbers → IsOwn b e → length b'.journal < 2 ^ 64
+    → t.answers ≡ answers_for (answers b) (calls_of_made e.made) e.slots t.calls → Left b b' e t numbers
+settle_left b b' e t answered numbers s own few given =
+    let F : KeptBook → Type 0 = λ k. length k.journal < 2 ^ 64 in
+    let P : KeptBook → Type 0 = λ k. Left b k e t (new_numbers b e t) in
+    let Q : List ℕ → Type 0 = λ ns. Left b b' e t ns in
+    subst Q (sym s.given) (subst P (sym s.is) (left_by b e t answered own (subst F s.is few) given))
+
+-- it is what is entered
+pub settles_by : (b b' : KeptBook) (e : Entry) (t : Trace) (answered : Bool) (sent : List Row) (numbers : List ℕ) → b' ≡ entered b e t answered sent → sent ≡ sent_rows b e t
+    → numbers ≡ new_numbers b e t → Settles b b' e t answered numbers
+settles_by b b' e t answered sent numbers is rows given = record { is = is ∙ ap (entered b e t answered) rows; given = given }

@@ -1,0 +1,103 @@
+-- How an event of a live request ends.
+use Rattle.std.specs.Prelude.{ℕ, true, false, ◌≡◌, ◌<◌, ◌≤◌, List, [], ◌∷◌, ◌++◌, Option, Some, None, IfSome, find, length}
+use Rattle.lang_core.specs.declared.ids.Origin.{Origin}
+use Rattle.lang_core.specs.declared.ids.Origin.TheVariants.{Outside, Call as Called}
+use Rattle.lang_core.specs.declared.trace.CallMade.{CallMade}
+use Rattle.lang_core.specs.declared.trace.Trace.{Trace}
+use Rattle.request_log.specs.Entries.{has_id, find_call, IsNew}
+use Rattle.call_registers.specs.Registers.{next_number}
+use Rattle.call_registers.specs.Replies.{IsAboveAll}
+use Rattle.call_registers.specs.declared.reply.Reply.{Reply}
+use Rattle.flights.specs.Numbers.{without_flight, with_flight}
+use Rattle.flights.specs.declared.flight.Flight.{Flight}
+use Rattle.service_events.specs.State.{Kept, After, after, me, next_id}
+use Rattle.service_events.specs.Calls.{noted, named}
+use Rattle.service_events.specs.Flying.{before_answer, live_answer, answer_to_caller, with_slot, with_change, change_rows, waits}
+use Rattle.service_events.specs.declared.answers.Arrived.{Arrived}
+use Rattle.service_events.specs.declared.answers.Arrived.TheVariants.{Done, Call}
+use Rattle.service_requests.specs.declared.endings.Ending.{Ending}
+use Rattle.service_requests.specs.declared.endings.Ending.TheVariants.{Commits, Waits}
+use Rattle.service_requests.specs.declared.endings.Step.{Step}
+use Rattle.service_requests.specs.declared.endings.Step.TheVariants.{Ends, Goes}
+
+abbrev pub listed : Option Reply → List Reply
+listed None = []
+listed (Some p) = p ∷ []
+
+-- the reply of a live call, if it is one, which was given to it
+abbrev pub reply_of : Kept → ℕ → Origin → Option Reply
+reply_of s index Outside = None
+reply_of s index (Called caller number) =
+    Some (record {
+      id = next_id s;
+      caller = caller;
+      number = number;
+      version = 1;
+      answer_version = 1;
+      wanted = true;
+      due = false;
+      held = None;
+      repair_who = me s;
+      since = index;
+    })
+
+-- a service with the rows of a commit
+abbrev pub commit_noted : Kept → Flight → Trace → Kept
+commit_noted s f t = noted (before_answer s f t ++ live_answer s f t ∷ []) s
+
+-- ---- a call more, or another call
+
+abbrev pub named_service : Kept → CallMade → Kept
+named_service s call = noted (named (next_number s.registers) call ∷ []) s
+
+abbrev pub named_flight : Kept → Flight → CallMade → Flight
+named_flight s f call = with_slot (next_number s.registers) call f
+
+abbrev pub changed_service : Kept → Flight → ℕ → CallMade → Kept
+changed_service s f slot call = noted (change_rows s f slot call) s
+
+abbrev pub changed_flight : Kept → Flight → ℕ → CallMade → Flight
+changed_flight s f slot call = with_change slot (next_number s.registers) call f
+
+abbrev pub named_sent : Kept → Flight → CallMade → After Arrived
+named_sent s f call = waits (named_service s call) (named_flight s f call) (next_number s.registers) call
+
+abbrev pub changed_sent : Kept → Flight → ℕ → CallMade → After Arrived
+changed_sent s f slot call = waits (changed_service s f slot call) (changed_flight s f slot call) (next_number s.registers) call
+
+-- ---- how it ends
+
+-- what it leaves of a service, and answers
+abbrev pub ends : Kept → Ending → After Arrived
+ends s (Commits flight entry reply index) =
+    after
+    (record s {
+      entries = s.entries ++ entry ∷ [];
+      flights = without_flight flight s.flights;
+      replies = s.replies ++ listed reply;
+    })
+    (Done index entry.id (answer_to_caller s entry.origin entry))
+ends s (Waits flight set) = after (record s { flights = with_flight flight s.flights }) (Call flight.id set)
+
+-- it ends so, or a flight goes on
+abbrev pub follows : Kept → Step → (Kept → Flight → After Arrived) → After Arrived
+follows s (Ends ending) again = ends s ending
+follows s (Goes flight) again = again s flight
+
+-- the next entry is new in the log, where it comes from this flight
+pub record MayEnd (s : Kept) (f : Flight) : Type 0 where
+  pub number : 1 ≤ f.id
+  pub id : find (has_id (next_id s)) s.entries ≡ None
+  pub origin : find_call f.origin s.entries ≡ None
+  pub few : length s.entries < 100000
+  pub replies : IsAboveAll (next_id s) s.replies
+
+-- what it needs of a service
+abbrev pub CanEnd : Kept → Ending → Type 0
+CanEnd s (Commits flight entry reply index) =
+    IsNew entry s.entries × (length s.entries < 100000) × IfSome reply (λ p. IsAboveAll p.id s.replies)
+CanEnd s (Waits flight set) = 1 ≤ flight.id
+
+abbrev pub CanStep : Kept → Step → Type 0
+CanStep s (Ends ending) = CanEnd s ending
+CanStep s (Goes flight) = MayEnd s flight

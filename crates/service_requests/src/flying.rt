@@ -1,0 +1,102 @@
+// A flight with other calls, and the call for which it waits.
+ghost use Rattle.std.specs.Prelude.{◌≡◌, ◌+◌, slice_set, if◌then◌else◌, IfOk};
+ghost use Rattle.service_events.specs.Flying.{live_call, with_slot, with_change};
+ghost use Rattle.service_parts.specs.Parts.{kept};
+
+use flights::Flight;
+use lang_core::{CallMade, Copied, NoMemory, Seq};
+use repair_messages::{SetMessage, copied_pair};
+use service_parts::Parts;
+use std::alloc::Global;
+
+fn either<'a, T>(first: bool, left: &'a T, right: &'a T) -> &'a T
+    ensures { result.now ≡ (if first then left.now else right.now) }
+{
+    if first { left } else { right }
+}
+
+/// A list of equal items, but for the one at a place, counted from 0, which is this one.
+fn replaced<T: Copied + Drop>(
+    alloc: Global,
+    items: &[T],
+    place: u64,
+    item: &T,
+) -> Result<Seq<T>, NoMemory>
+    ensures { IfOk result (λ list. list ≡ slice_set items.now place item.now) }
+{
+    let mut list = Seq::new(alloc);
+    for (i, old) in items.iter().enumerate() {
+        let next = either(i as u64 == place, item, old);
+        list.push(next.copied(alloc)?)?;
+    }
+    Ok(list)
+}
+
+/// The flight with one call more, of this number.
+pub(crate) fn with_slot(
+    alloc: Global,
+    flight: &Flight,
+    number: u64,
+    call: &CallMade,
+) -> Result<Flight, NoMemory>
+    ensures { IfOk result (λ f. f ≡ with_slot number call.now flight.now) }
+{
+    let mut next = flight.copied(alloc)?;
+    next.calls.push(call.copied(alloc)?)?;
+    next.numbers.push(number)?;
+    Ok(next)
+}
+
+fn one_more(changes: u64) -> Result<u64, NoMemory>
+    ensures { IfOk result (λ next. next ≡ changes + 1) }
+{
+    changes.checked_add(1).ok_or(NoMemory)
+}
+
+/// The flight with another call at a slot, of this number.
+pub(crate) fn with_change(
+    alloc: Global,
+    flight: &Flight,
+    slot: u64,
+    number: u64,
+    call: &CallMade,
+) -> Result<Flight, NoMemory>
+    ensures { IfOk result (λ f. f ≡ with_change slot number call.now flight.now) }
+{
+    let changes = one_more(flight.changes)?;
+    let calls = replaced(alloc, flight.calls.as_slice(), slot, call)?;
+    let numbers = replaced(alloc, flight.numbers.as_slice(), slot, &number)?;
+    let (origin, request) = copied_pair(alloc, &flight.origin, &flight.request)?;
+    Ok(Flight {
+        id: flight.id,
+        origin,
+        request,
+        inputs: flight.inputs,
+        calls,
+        numbers,
+        changes,
+    })
+}
+
+/// The message of a live call: its first version, which names no neighbours.
+pub(crate) fn live_call(
+    alloc: Global,
+    parts: &Parts,
+    number: u64,
+    call: &CallMade,
+) -> Result<SetMessage, NoMemory>
+    ensures { IfOk result (λ set. set ≡ live_call (kept parts.now) number call.now) }
+{
+    let (caller, dest) = copied_pair(alloc, &parts.setting.me, &call.dest)?;
+    let (request, who) = copied_pair(alloc, &call.request, &call.request.who)?;
+    Ok(SetMessage {
+        caller,
+        dest,
+        number,
+        version: 1,
+        desired: Some(request),
+        before: None,
+        after: None,
+        who,
+    })
+}

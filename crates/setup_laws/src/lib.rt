@@ -1,2 +1,0 @@
-//! Laws of services as they are set up: a world begins with them.
-#![tactic(auto)]

@@ -1,8 +1,0 @@
-use Rattle.service_parts.specs.Parts.{kept}
-use Rattle.take_drafts.proofs.TakeLemmas.{can_create}
-use Rattle.take_drafts.proofs.drafting.create.Goals as goal
-
-pub returns-clause-can : goal.returns-clause-can
-returns-clause-can c =
-    can_create (kept c.args.parts.now) c.args.set.now c.args.request.now c.args.inputs c.created_place-at.result c.in_ok-entry.entry c.in_ok-reply.reply
-    c.requires.fits c.requires.none c.created_place-at.ensures.within c.in_ok-entry.ensures c.in_ok-reply.ensures

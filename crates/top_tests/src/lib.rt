@@ -1,5 +1,0 @@
-//! Tests of whole runs.
-#![tactic(auto)]
-
-#[cfg(test)]
-mod runs;

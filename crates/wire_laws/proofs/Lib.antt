@@ -1,4 +1,0 @@
-pub mod PlainForms
-pub mod Refusals
-pub mod MadeHeads
-pub mod SameFields

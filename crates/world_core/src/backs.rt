@@ -1,0 +1,169 @@
+// To whom the answer of a live request goes back.
+ghost use Rattle.std.specs.Prelude.{◌≡◌, Some, None, IfOk, find};
+ghost use Rattle.std.specs.Option.{option_copied};
+ghost use Rattle.lang_core.specs.declared.ids.Origin.TheVariants.{Outside};
+ghost use Rattle.service_events.specs.State.{me, flight_of};
+ghost use Rattle.world_events.specs.Events.{answered_back, is_call_of, outcome_of, sent};
+ghost use Rattle.world_events.specs.declared.packet.Packet.{Packet};
+ghost use Rattle.world_core.specs.Backs.{answer_by, back_of, back_to, back_for};
+
+use lang_base::both;
+use lang_core::{Copied, Name, NoMemory, Origin, Same};
+use repair_messages::{AnswerMessage, SetMessage, copied_pair};
+use service_core::Service;
+use service_events::Arrived;
+use std::alloc::Global;
+use world_events::{Live, Outcome, Packet};
+
+/// The flight that sent a live call.
+#[derive(Drop)]
+pub struct Back {
+    /// The caller.
+    pub to: Name,
+    /// The caller's flight.
+    pub flight: u64,
+    /// The call.
+    pub set: SetMessage,
+}
+
+/// What goes back to a flight, as a packet.
+pub fn reply(back: Back, reply: Live) -> Packet
+    ensures { result ≡ Packet.CallReply back.to back.flight back.set reply }
+{
+    Packet::CallReply {
+        to: back.to,
+        flight: back.flight,
+        set: back.set,
+        reply,
+    }
+}
+
+fn answer_by(back: Option<Back>, answer: AnswerMessage) -> Option<Packet>
+    ensures { result ≡ answer_by back answer }
+{
+    match back {
+        None => None,
+        Some(back) => Some(reply(back, Live::Answer(answer))),
+    }
+}
+
+fn answered_back(back: Option<Back>, answer: Option<AnswerMessage>) -> Option<Packet>
+    ensures { result ≡ answered_back (answer_by back) answer }
+{
+    match answer {
+        None => None,
+        Some(answer) => answer_by(back, answer),
+    }
+}
+
+/// What is sent of a live request of the service of this name: its next call, or its answer, which goes back there.
+pub fn sent(from: Name, back: Option<Back>, arrived: Arrived) -> Option<Packet>
+    ensures { result ≡ sent from (answer_by back) arrived }
+{
+    match arrived {
+        Arrived::Done { answer, .. } => answered_back(back, answer),
+        Arrived::Call { flight, set } => Some(Packet::Call { from, flight, set }),
+        Arrived::Known(answer) => answer_by(back, answer),
+    }
+}
+
+/// What became of a live request, as it is told.
+pub fn outcome_of(arrived: &Arrived) -> Outcome
+    ensures { result ≡ outcome_of arrived.now }
+{
+    match arrived {
+        Arrived::Done { index, id, .. } => Outcome::Done {
+            index: *index,
+            id: *id,
+        },
+        Arrived::Call { flight, .. } => Outcome::Call { flight: *flight },
+        Arrived::Known(answer) => Outcome::Known {
+            id: answer.id,
+            answer_version: answer.answer_version,
+        },
+    }
+}
+
+fn is_call_of(packet: &Packet, caller: &Name, number: u64) -> bool
+    ensures { result ≡ is_call_of caller.now number packet.now }
+{
+    match packet {
+        Packet::Call { set, .. } => { set.number == number && set.caller.text().is(caller.text()) }
+        _ => false,
+    }
+}
+
+fn call_of<'a>(packets: &'a [Packet], caller: &Name, number: u64) -> Option<&'a Packet>
+    ensures { option_copied result ≡ find (is_call_of caller.now number) packets.now }
+{
+    packets
+        .iter()
+        .find(|packet| is_call_of(packet, caller, number))
+}
+
+fn back_of(alloc: Global, packet: &Packet) -> Result<Option<Back>, NoMemory>
+    ensures { IfOk result (λ back. back ≡ back_of packet.now) }
+{
+    match packet {
+        Packet::Call { from, flight, set } => {
+            let (to, set) = copied_pair(alloc, from, set)?;
+            Ok(Some(Back {
+                to,
+                flight: *flight,
+                set,
+            }))
+        }
+        _ => Ok(None),
+    }
+}
+
+fn back_among(
+    alloc: Global,
+    packets: &[Packet],
+    caller: &Name,
+    number: u64,
+) -> Result<Option<Back>, NoMemory>
+    ensures { IfOk result (λ back. back ≡ back_to packets.now (Origin.Call caller.now number)) }
+{
+    match call_of(packets, caller, number) {
+        None => Ok(None),
+        Some(packet) => back_of(alloc, packet),
+    }
+}
+
+fn back_to(alloc: Global, packets: &[Packet], origin: &Origin) -> Result<Option<Back>, NoMemory>
+    ensures { IfOk result (λ back. back ≡ back_to packets.now origin.now) }
+{
+    match origin {
+        Origin::Outside => Ok(None),
+        Origin::Call { caller, number } => back_among(alloc, packets, caller, *number),
+    }
+}
+
+fn back_for(
+    alloc: Global,
+    packets: &[Packet],
+    service: &Service,
+    flight: u64,
+) -> Result<Option<Back>, NoMemory>
+    ensures { IfOk result (λ back. back ≡ back_for packets.now (flight_of flight service.now)) }
+{
+    match service.flights().find(flight) {
+        None => Ok(None),
+        Some(flight) => back_to(alloc, packets, &flight.origin),
+    }
+}
+
+/// The service's name, and to whom the answer of its flight of this number goes back.
+pub fn ends_of(
+    alloc: Global,
+    packets: &[Packet],
+    service: &Service,
+    flight: u64,
+) -> Result<(Name, Option<Back>), NoMemory>
+    ensures name { IfOk result (λ ends. ends.0 ≡ me service.now) }
+    ensures back { IfOk result (λ ends. ends.1 ≡ back_for packets.now (flight_of flight service.now)) }
+{
+    let name = service.setting().me.copied(alloc);
+    both(name, back_for(alloc, packets, service, flight))
+}

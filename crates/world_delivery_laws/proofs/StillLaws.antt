@@ -1,0 +1,110 @@
+-- An event that doesn't happen changes nothing, and nothing follows a request that doesn't arrive.
+use Rattle.std.proofs.Common.{◌≡◌, ℕ, List, [], ◌∷◌, Option, Some, None, Ok, Err, refl, ap, ◌∙◌}
+use Rattle.lang_core.specs.declared.request.Request.{Request}
+use Rattle.repair_messages.specs.declared.messages.SetMessage.{SetMessage}
+use Rattle.repair_messages.specs.declared.posts.Post.{Post}
+use Rattle.repair_messages.specs.declared.posts.Post.TheVariants.{Set as SetPost, Answer as AnswerPost}
+use Rattle.call_registers.specs.declared.register.Why.TheVariants.{Lost, Refused as WasRefused}
+use Rattle.flights.specs.declared.flight.Flight.{Flight}
+use Rattle.service_events.specs.State.{Kept, flight_of}
+use Rattle.service_events.specs.declared.answers.PostReply.TheVariants.{Lost as PostIsLost}
+use Rattle.world_agreement.specs.Partners.{service_of}
+use Rattle.world_events.specs.Events.{Turn, Served, turned, if_there, turn_at, at_service, refused, begun, called, answered, failed, sender, takes, hears, gets_back, posts_to, steps, gives_up, orders, call_delivered, reply_delivered, post_delivered, delivered, call_lost, post_lost, lost, posted, if_flying, abandoned, turn, after_event, after_events, answer_to}
+use Rattle.world_events.specs.Worlds.{World, packet_of, next_inputs, once_drawn, once_lost, loss_note}
+use Rattle.world_events.specs.declared.event.Event.{Event}
+use Rattle.world_events.specs.declared.event.Event.TheVariants.{Begin, Deliver, Lose, Post as Posts, Step, Abandon, Order, Clock, Seed}
+use Rattle.world_events.specs.declared.event.WorldStepRefused.{WorldStepRefused}
+use Rattle.world_events.specs.declared.event.WorldStepRefused.TheVariants.{NoService, NoPacket, NoFlight}
+use Rattle.world_events.specs.declared.packet.Live.{Live}
+use Rattle.world_events.specs.declared.packet.Live.TheVariants.{Answer, Refused}
+use Rattle.world_events.specs.declared.packet.Packet.{Packet}
+use Rattle.world_events.specs.declared.packet.Packet.TheVariants.{Call, CallReply, Post as PostPacket, PostReply as PostReplyPacket}
+use Rattle.world_delivery_laws.specs.WorldWeights.{written_at}
+use Rattle.world_delivery_laws.specs.Runs.{deliveries, written, asking}
+use Rattle.world_delivery_laws.proofs.RunLaws.{no_deliveries}
+
+-- where the turn is refused, its world is this
+abbrev IsStill : World → Turn → Type 0
+IsStill w t = (why : WorldStepRefused) → t.answer ≡ Err why → t.world ≡ w
+
+refused_still : (w : World) (why : WorldStepRefused) → IsStill w (refused w why)
+refused_still w why = λ other e. refl
+
+turned_still : (w then : World) (name : List ℕ) (d : Served) → IsStill w (turned name then d)
+turned_still w then name d = λ why e. let no : ⊥ = cc in absurd no
+
+there_still : (w : World) (o : Option Kept) (why : WorldStepRefused) (act : Kept → Turn) → ((s : Kept) → IsStill w (act s)) → IsStill w (if_there o (refused w why) act)
+there_still w None why act still = refused_still w why
+there_still w (Some s) why act still = still s
+
+-- a service acts, if it is there
+at_still : (w then : World) (name : List ℕ) (act : Kept → Served) → IsStill w (turn_at name w then act)
+at_still w then name act = there_still w (service_of name w.services) NoService (λ s. turned name then (act s)) (λ s. turned_still w then name (act s))
+
+call_still : (w : World) (k flight : ℕ) (set : SetMessage) (o : Option Request) → IsStill w (call_delivered w k flight set o)
+call_still w k flight set None = refused_still w (NoPacket k)
+call_still w k flight set (Some q) = at_still w (once_drawn w) set.dest (λ s. called flight set q s (next_inputs w))
+
+reply_still : (w : World) (to : List ℕ) (flight : ℕ) (set : SetMessage) (reply : Live) → IsStill w (reply_delivered w to flight set reply)
+reply_still w to flight set (Answer a) = at_still w w to (answered w.packets flight a)
+reply_still w to flight set (Refused word n) = at_still w w to (failed w.packets flight set.number (WasRefused word n))
+
+post_still : (w : World) (post : Post) → IsStill w (post_delivered w post)
+post_still w (SetPost set) = at_still w (once_drawn w) set.dest (λ s. takes set s (next_inputs w))
+post_still w (AnswerPost a) = at_still w w a.caller (hears a)
+
+delivered_still : (w : World) (k : ℕ) (p : Option Packet) → IsStill w (delivered w k p)
+delivered_still w k None = refused_still w (NoPacket k)
+delivered_still w k (Some (Call from flight set)) = call_still w k flight set set.desired
+delivered_still w k (Some (CallReply to flight set reply)) = reply_still w to flight set reply
+delivered_still w k (Some (PostPacket post)) = post_still w post
+delivered_still w k (Some (PostReplyPacket post reply)) = at_still w w (sender post) (gets_back post reply)
+
+call_lost_still : (w : World) (name : List ℕ) (flight : ℕ) (set : SetMessage) → IsStill w (call_lost w name flight set)
+call_lost_still w name flight set = at_still w (once_lost w) name (λ s. failed w.packets flight set.number (Lost (loss_note w)) s)
+
+post_lost_still : (w : World) (post : Post) → IsStill w (post_lost w post)
+post_lost_still w post = at_still w (once_lost w) (sender post) (λ s. gets_back post (PostIsLost (loss_note w)) s)
+
+lost_still : (w : World) (k : ℕ) (p : Option Packet) → IsStill w (lost w k p)
+lost_still w k None = refused_still w (NoPacket k)
+lost_still w k (Some (Call from flight set)) = call_lost_still w from flight set
+lost_still w k (Some (CallReply to flight set reply)) = call_lost_still w to flight set
+lost_still w k (Some (PostPacket post)) = post_lost_still w post
+lost_still w k (Some (PostReplyPacket post reply)) = post_lost_still w post
+
+posted_still : (w : World) (from to : List ℕ) → IsStill w (posted w from to)
+posted_still w from to =
+    there_still w (service_of to w.services) NoService (λ _. at_service from w (posts_to to)) (λ _. at_still w w from (posts_to to))
+
+flying_still : (w : World) (flight : ℕ) (o : Option Flight) (t : Turn) → IsStill w t → IsStill w (if_flying w flight o t)
+flying_still w flight None t still = refused_still w (NoFlight flight)
+flying_still w flight (Some f) t still = still
+
+abandoned_still : (w : World) (name : List ℕ) (flight : ℕ) → IsStill w (abandoned w name flight)
+abandoned_still w name flight =
+    there_still w (service_of name w.services) NoService (λ s. if_flying w flight (flight_of flight s) (turned name w (gives_up flight s)))
+    (λ s. flying_still w flight (flight_of flight s) (turned name w (gives_up flight s)) (turned_still w w name (gives_up flight s)))
+
+turn_still : (w : World) (e : Event) → IsStill w (turn w e)
+unfolding turn
+turn_still w (Begin name q) = at_still w (once_drawn w) name (λ s. begun w.packets q s (next_inputs w))
+turn_still w (Deliver number) = delivered_still w number (packet_of number w)
+turn_still w (Lose number) = lost_still w number (packet_of number w)
+turn_still w (Posts from to) = posted_still w from to
+turn_still w (Step name) = at_still w w name steps
+turn_still w (Abandon name flight) = abandoned_still w name flight
+turn_still w (Order name command token who) = at_still w (once_drawn w) name (λ s. orders command token who s (next_inputs w))
+turn_still w (Clock moment) = λ why e. let no : ⊥ = cc in absurd no
+turn_still w (Seed n) = λ why e. let no : ⊥ = cc in absurd no
+
+-- an event that doesn't happen changes nothing
+pub event_still : (w : World) (e : Event) (why : WorldStepRefused) → answer_to w e ≡ Err why → after_event w e ≡ w
+event_still w e why is = turn_still w e why is
+
+-- nor does a request that doesn't arrive, for nothing follows it
+pub asking_still : (w : World) (service : List ℕ) (q : Request) (why : WorldStepRefused) → answer_to w (Begin service q) ≡ Err why → after_events w (asking w service q) ≡ w
+asking_still w service q why is =
+    let none : deliveries (after_event w (Begin service q)) (written w (Begin service q)) ≡ [] =
+    ap (λ a. deliveries (after_event w (Begin service q)) (written_at a)) is ∙ no_deliveries (after_event w (Begin service q)) in
+    ap (after_events (after_event w (Begin service q))) none ∙ event_still w (Begin service q) why is

@@ -1,0 +1,3 @@
+pub mod Weights
+pub mod WorldWeights
+pub mod Runs

@@ -1,0 +1,344 @@
+-- What each event makes of a world, and what it answers.
+use Rattle.std.specs.Prelude.{ℕ, ◌++◌, ◌%◌, Bool, false, ◌&&◌, List, [], ◌∷◌, Option, Some, None, Result, Ok, Err, find, min, nat_eq, option_map, option_to_list}
+use Rattle.lang_base.specs.Texts.{same_text}
+use Rattle.lang_base.specs.declared.fault.FaultNote.{FaultNote}
+use Rattle.lang_core.specs.declared.ids.Origin.TheVariants.{Outside, Call as CallOrigin}
+use Rattle.lang_core.specs.declared.inputs.Inputs.{Inputs}
+use Rattle.lang_core.specs.declared.request.Request.{Request}
+use Rattle.repair_messages.specs.declared.messages.AnswerMessage.{AnswerMessage}
+use Rattle.repair_messages.specs.declared.messages.SetMessage.{SetMessage}
+use Rattle.repair_messages.specs.declared.posts.Post.{Post}
+use Rattle.repair_messages.specs.declared.posts.Post.TheVariants.{Set as SetPost, Answer as AnswerPost}
+use Rattle.repair_messages.specs.declared.posts.PostName.{PostName}
+use Rattle.journal_rows.specs.declared.orders.Command.{Command}
+use Rattle.call_registers.specs.declared.register.Why.{Why}
+use Rattle.call_registers.specs.declared.register.Why.TheVariants.{Lost, Refused as WasRefused}
+use Rattle.flights.specs.declared.flight.Flight.{Flight}
+use Rattle.service_events.specs.State.{Kept, After, me, flight_of}
+use Rattle.service_events.specs.Arriving.{arrive_event, call_answered_event, call_failed_event, abandon_event}
+use Rattle.service_events.specs.Messages.{take_event, take_answer_event, posted_event}
+use Rattle.service_events.specs.Orders.{order_event}
+use Rattle.service_events.specs.Posts.{next_post, write_post}
+use Rattle.service_events.specs.Steps.{step_event}
+use Rattle.service_events.specs.declared.answers.Arrived.{Arrived}
+use Rattle.service_events.specs.declared.answers.Arrived.TheVariants.{Done, Call as Sends, Known}
+use Rattle.service_events.specs.declared.answers.Heard.{Heard}
+use Rattle.service_events.specs.declared.answers.PostReply.{PostReply}
+use Rattle.service_events.specs.declared.answers.PostReply.TheVariants.{Acked, Confirmed, Refused as PostIsRefused, Lost as PostIsLost}
+use Rattle.service_events.specs.declared.answers.PostWord.TheVariants as word
+use Rattle.service_events.specs.declared.answers.Taken.{Taken}
+use Rattle.service_events.specs.declared.refusals.AnswerRefused.{AnswerRefused}
+use Rattle.service_events.specs.declared.refusals.AnswerRefused.TheVariants as answer
+use Rattle.service_events.specs.declared.refusals.ArriveRefused.{ArriveRefused}
+use Rattle.service_events.specs.declared.refusals.ArriveRefused.TheVariants as arrive
+use Rattle.service_events.specs.declared.refusals.TakeRefused.{TakeRefused}
+use Rattle.service_events.specs.declared.refusals.TakeRefused.TheVariants as take
+use Rattle.world_agreement.specs.Partners.{service_of}
+use Rattle.world_events.specs.Worlds.{World, with_service, packet_of, next_packet, next_inputs, once_drawn, loss_note, once_lost}
+use Rattle.world_events.specs.declared.event.Event.{Event}
+use Rattle.world_events.specs.declared.event.Event.TheVariants.{Begin, Deliver, Lose, Post as Posts, Step, Abandon, Order, Clock, Seed}
+use Rattle.world_events.specs.declared.event.WorldStepRefused.{WorldStepRefused}
+use Rattle.world_events.specs.declared.event.WorldStepRefused.TheVariants.{NoService, NoPacket, NoFlight}
+use Rattle.world_events.specs.declared.happened.Happened.{Happened}
+use Rattle.world_events.specs.declared.happened.Outcome.{Outcome}
+use Rattle.world_events.specs.declared.happened.Outcome.TheVariants as came
+use Rattle.world_events.specs.declared.happened.What.{What}
+use Rattle.world_events.specs.declared.happened.What.TheVariants as what
+use Rattle.world_events.specs.declared.packet.Live.{Live}
+use Rattle.world_events.specs.declared.packet.Live.TheVariants.{Answer as LiveAnswer, Refused as LiveRefused}
+use Rattle.world_events.specs.declared.packet.Packet.{Packet}
+use Rattle.world_events.specs.declared.packet.Packet.TheVariants.{Call, CallReply, Post as PostPacket, PostReply as PostReplyPacket}
+
+-- ---- a turn of one service
+
+-- what an event answers: what happened, or why it didn't
+abbrev pub Answer : Type 0
+Answer = Result Happened WorldStepRefused
+
+-- the world after an event, and what the event answers
+pub record Turn : Type 0 where
+  pub world : World
+  pub answer : Answer
+
+-- an event that doesn't happen changes nothing
+abbrev pub refused : World → WorldStepRefused → Turn
+refused w why = record { world = w; answer = Err why }
+
+-- what an event leaves of the service where it happens, what happened there, and the packet that is written
+pub record Served : Type 0 where
+  pub service : Kept
+  pub what : What
+  pub packet : Option Packet
+
+-- the service of this name did this
+abbrev pub turned : List ℕ → World → Served → Turn
+turned name w d =
+    record {
+      world = record w { services = with_service name d.service w.services; packets = w.packets ++ option_to_list d.packet };
+      answer = Ok (record { service = Some name; what = d.what; packet = option_map (λ _. next_packet w) d.packet });
+    }
+
+-- what becomes of a service, if it is there, else the other
+abbrev pub if_there : {X : Type 0} → Option Kept → X → (Kept → X) → X
+if_there None other turn = other
+if_there (Some s) other turn = turn s
+
+-- the service of this name acts in a world that is so by then
+abbrev pub turn_at : List ℕ → World → World → (Kept → Served) → Turn
+turn_at name w then act = if_there (service_of name w.services) (refused w NoService) (λ s. turned name then (act s))
+
+abbrev pub at_service : List ℕ → World → (Kept → Served) → Turn
+at_service name w act = turn_at name w w act
+
+-- it is given what is drawn for it, used or not
+abbrev pub drawing_at : List ℕ → World → (Kept → Inputs → Served) → Turn
+drawing_at name w act = turn_at name w (once_drawn w) (λ s. act s (next_inputs w))
+
+-- it is told of an exchange that fails, which is counted
+abbrev pub losing_at : List ℕ → World → (Kept → FaultNote → Served) → Turn
+losing_at name w act = turn_at name w (once_lost w) (λ s. act s (loss_note w))
+
+-- ---- live requests
+
+abbrev pub outcome_of : Arrived → Outcome
+outcome_of (Done index id back) = came.Done index id
+outcome_of (Sends flight set) = came.Call flight
+outcome_of (Known a) = came.Known a.id a.answer_version
+
+abbrev pub outcome : {E : Type 0} → Result Arrived E → Result Outcome E
+outcome (Ok arrived) = Ok (outcome_of arrived)
+outcome (Err why) = Err why
+
+abbrev pub answered_back : (AnswerMessage → Option Packet) → Option AnswerMessage → Option Packet
+answered_back back None = None
+answered_back back (Some a) = back a
+
+-- what is sent of a live request: its next call, or what goes back to its caller
+abbrev pub sent : List ℕ → (AnswerMessage → Option Packet) → Arrived → Option Packet
+sent name back (Done index id a) = answered_back back a
+sent name back (Sends flight set) = Some (Call name flight set)
+sent name back (Known a) = back a
+
+abbrev pub sent_or : {E : Type 0} → List ℕ → (AnswerMessage → Option Packet) → (E → Option Packet) → Result Arrived E → Option Packet
+sent_or name back refusal (Ok arrived) = sent name back arrived
+sent_or name back refusal (Err why) = refusal why
+
+-- what an event of a live request comes to, by what tells of it, what goes back to its caller, and what its refusal is
+abbrev pub lives : {E : Type 0} → (Result Outcome E → What) → (AnswerMessage → Option Packet) → (E → Option Packet) → After (Result Arrived E) → Served
+lives tells back refusal a =
+    record { service = a.service; what = tells (outcome a.answer); packet = sent_or (me a.service) back refusal a.answer }
+
+-- nothing is written of it
+abbrev pub unsaid : {E : Type 0} → E → Option Packet
+unsaid why = None
+
+-- the packet is this call's
+abbrev pub is_call_of : List ℕ → ℕ → Packet → Bool
+is_call_of caller number (Call from flight set) = nat_eq set.number number && same_text set.caller caller
+is_call_of caller number packet = false
+
+-- an answer, to the flight that sent this packet
+abbrev pub reply_to : AnswerMessage → Option Packet → Option Packet
+reply_to a (Some (Call from flight set)) = Some (CallReply from flight set (LiveAnswer a))
+reply_to a packet = None
+
+-- an answer goes to the flight that sent its call
+abbrev pub reply_among : List Packet → AnswerMessage → Option Packet
+reply_among packets a = reply_to a (find (is_call_of a.caller a.number) packets)
+
+abbrev pub begun : List Packet → Request → Kept → Inputs → Served
+begun packets q s i = lives what.Arrive (reply_among packets) unsaid (arrive_event s Outside q i)
+
+-- refusals of arrivals, as they are numbered
+abbrev pub live_refusal : ArriveRefused → Live
+live_refusal arrive.NoMemory = LiveRefused 1 0
+live_refusal (arrive.Full n) = LiveRefused 2 n
+live_refusal (arrive.NotYet n) = LiveRefused 3 n
+live_refusal (arrive.Gone v) = LiveRefused 4 v
+
+-- a delivered call: its answer, or its refusal, goes back to the flight that sent it
+abbrev pub called : ℕ → SetMessage → Request → Kept → Inputs → Served
+called flight set q s i =
+    lives what.Arrive (λ a. Some (CallReply set.caller flight set (LiveAnswer a)))
+    (λ why. Some (CallReply set.caller flight set (live_refusal why)))
+    (arrive_event s (CallOrigin set.caller set.number) q i)
+
+abbrev pub answered : List Packet → ℕ → AnswerMessage → Kept → Served
+answered packets flight a s = lives what.CallAnswered (reply_among packets) unsaid (call_answered_event s flight a)
+
+abbrev pub failed : List Packet → ℕ → ℕ → Why → Kept → Served
+failed packets flight number why s = lives what.CallFailed (reply_among packets) unsaid (call_failed_event s flight number why)
+
+-- ---- posts
+
+-- the service that posted it
+abbrev pub sender : Post → List ℕ
+sender (SetPost set) = set.caller
+sender (AnswerPost a) = a.callee
+
+abbrev pub taken_rule : Result Taken TakeRefused → Result (Option ℕ) TakeRefused
+taken_rule (Ok t) = Ok t.rule
+taken_rule (Err why) = Err why
+
+abbrev pub set_reply : Result Taken TakeRefused → PostReply
+set_reply (Ok t) = Acked t.ack
+set_reply (Err take.NoMemory) = PostIsRefused word.NoMemory 0
+set_reply (Err (take.Full n)) = PostIsRefused word.Full n
+set_reply (Err (take.NotYet n)) = PostIsRefused word.NotYet n
+set_reply (Err (take.Denied rule)) = PostIsRefused word.Denied rule
+
+-- a version of a call is delivered, and what its receiver says goes back
+abbrev pub takes : SetMessage → Kept → Inputs → Served
+takes set s i =
+    record {
+      service = (take_event s set i).service;
+      what = what.Take (taken_rule (take_event s set i).answer);
+      packet = Some (PostReplyPacket (SetPost set) (set_reply (take_event s set i).answer));
+    }
+
+abbrev pub heard_rule : Result Heard AnswerRefused → Result (Option ℕ) AnswerRefused
+heard_rule (Ok h) = Ok h.rule
+heard_rule (Err why) = Err why
+
+abbrev pub answer_reply : Result Heard AnswerRefused → PostReply
+answer_reply (Ok h) = Confirmed h.confirm
+answer_reply (Err answer.NoMemory) = PostIsRefused word.NoMemory 0
+answer_reply (Err (answer.Unknown n)) = PostIsRefused word.Unknown n
+answer_reply (Err (answer.Denied rule)) = PostIsRefused word.Denied rule
+
+-- an answer that was posted is delivered, and what its receiver says goes back
+abbrev pub hears : AnswerMessage → Kept → Served
+hears a s =
+    record {
+      service = (take_answer_event s a).service;
+      what = what.TakeAnswer (heard_rule (take_answer_event s a).answer);
+      packet = Some (PostReplyPacket (AnswerPost a) (answer_reply (take_answer_event s a).answer));
+    }
+
+-- something comes back of a post
+abbrev pub gets_back : Post → PostReply → Kept → Served
+gets_back post reply s =
+    record {
+      service = (posted_event s post reply).service;
+      what = what.Posted (posted_event s post reply).answer;
+      packet = None;
+    }
+
+abbrev pub written : Kept → PostName → Option Packet
+written s name = option_map (λ post. PostPacket post) (write_post s name)
+
+-- the oldest outstanding post is written, if there is one
+abbrev pub posts_next : Kept → Option PostName → Served
+posts_next s None = record { service = s; what = what.NextPost None; packet = None }
+posts_next s (Some name) = record { service = s; what = what.NextPost (Some name); packet = written s name }
+
+abbrev pub posts_to : List ℕ → Kept → Served
+posts_to to s = posts_next s (next_post to s)
+
+-- ---- the other events of a service
+
+abbrev pub steps : Kept → Served
+steps s = record { service = (step_event s).service; what = what.RepairStep (step_event s).answer; packet = None }
+
+abbrev pub gives_up : ℕ → Kept → Served
+gives_up flight s =
+    record { service = (abandon_event s flight).service; what = what.Abandon (abandon_event s flight).answer; packet = None }
+
+abbrev pub orders : Command → List ℕ → List ℕ → Kept → Inputs → Served
+orders command token who s i =
+    record {
+      service = (order_event s command token who i).service;
+      what = what.Order (order_event s command token who i).answer;
+      packet = None;
+    }
+
+-- ---- packets
+
+-- a call that asks something is delivered; no other is written
+abbrev pub call_delivered : World → ℕ → ℕ → SetMessage → Option Request → Turn
+call_delivered w number flight set None = refused w (NoPacket number)
+call_delivered w number flight set (Some q) = drawing_at set.dest w (called flight set q)
+
+abbrev pub reply_delivered : World → List ℕ → ℕ → SetMessage → Live → Turn
+reply_delivered w to flight set (LiveAnswer a) = at_service to w (answered w.packets flight a)
+reply_delivered w to flight set (LiveRefused word n) = at_service to w (failed w.packets flight set.number (WasRefused word n))
+
+abbrev pub post_delivered : World → Post → Turn
+post_delivered w (SetPost set) = drawing_at set.dest w (takes set)
+post_delivered w (AnswerPost a) = at_service a.caller w (hears a)
+
+-- a packet comes to its receiver
+abbrev pub delivered : World → ℕ → Option Packet → Turn
+delivered w number None = refused w (NoPacket number)
+delivered w number (Some (Call from flight set)) = call_delivered w number flight set set.desired
+delivered w number (Some (CallReply to flight set reply)) = reply_delivered w to flight set reply
+delivered w number (Some (PostPacket post)) = post_delivered w post
+delivered w number (Some (PostReplyPacket post reply)) = at_service (sender post) w (gets_back post reply)
+
+-- the service whose exchange it was learns that it failed
+abbrev pub call_lost : World → List ℕ → ℕ → SetMessage → Turn
+call_lost w name flight set = losing_at name w (λ s note. failed w.packets flight set.number (Lost note) s)
+
+abbrev pub post_lost : World → Post → Turn
+post_lost w post = losing_at (sender post) w (λ s note. gets_back post (PostIsLost note) s)
+
+abbrev pub lost : World → ℕ → Option Packet → Turn
+lost w number None = refused w (NoPacket number)
+lost w number (Some (Call from flight set)) = call_lost w from flight set
+lost w number (Some (CallReply to flight set reply)) = call_lost w to flight set
+lost w number (Some (PostPacket post)) = post_lost w post
+lost w number (Some (PostReplyPacket post reply)) = post_lost w post
+
+-- ---- events
+
+-- both services are to be there
+abbrev pub posted : World → List ℕ → List ℕ → Turn
+posted w from to = if_there (service_of to w.services) (refused w NoService) (λ _. at_service from w (posts_to to))
+
+abbrev pub if_flying : World → ℕ → Option Flight → Turn → Turn
+if_flying w flight None turn = refused w (NoFlight flight)
+if_flying w flight (Some f) turn = turn
+
+abbrev pub abandoned : World → List ℕ → ℕ → Turn
+abandoned w name flight =
+    if_there (service_of name w.services) (refused w NoService)
+    (λ s. if_flying w flight (flight_of flight s) (turned name w (gives_up flight s)))
+
+-- clock or words are set, at no service
+abbrev pub set : World → Turn
+set w = record { world = w; answer = Ok (record { service = None; what = what.Set; packet = None }) }
+
+-- what an event comes to. No moment is later than the last, and words are below 65,537
+unfoldable pub turn : World → Event → Turn
+turn w (Begin name q) = drawing_at name w (begun w.packets q)
+turn w (Deliver number) = delivered w number (packet_of number w)
+turn w (Lose number) = lost w number (packet_of number w)
+turn w (Posts from to) = posted w from to
+turn w (Step name) = at_service name w steps
+turn w (Abandon name flight) = abandoned w name flight
+turn w (Order name command token who) = drawing_at name w (orders command token who)
+turn w (Clock moment) = set (record w { moment = min moment 9223372036854775807 })
+turn w (Seed n) = set (record w { x = n % 65537 })
+
+abbrev pub after_event : World → Event → World
+after_event w e = (turn w e).world
+
+abbrev pub answer_to : World → Event → Answer
+answer_to w e = (turn w e).answer
+
+-- ---- several events
+
+-- the world after events, one behind another
+abbrev pub after_events : World → List Event → World
+after_events w [] = w
+after_events w (e ∷ events) = after_events (after_event w e) events
+
+-- what happened, and then this
+abbrev pub happened_before : Answer → List Happened → List Happened
+happened_before (Ok h) more = h ∷ more
+happened_before (Err why) more = more
+
+-- what happens at events, one behind another
+abbrev pub happenings : World → List Event → List Happened
+happenings w [] = []
+happenings w (e ∷ events) = happened_before (answer_to w e) (happenings (after_event w e) events)

@@ -1,0 +1,344 @@
+-- What the events of repair owe to the world: messages, posts, steps, orders and abandonments.
+use Rattle.std.proofs.Common.{◌≡◌, ℕ, ◌&&◌, Bool, true, false, cond, not, List, [], ◌∷◌, ◌++◌, Option, Some, None, IfSome, All, Contains, Result, Ok, Err, find, nat_eq, option_map, refl, sym, ap, ◌∙◌, subst, append-nil, eqb-true}
+use Rattle.std.proofs.lemmas.Bool.{cond_both, and_parts}
+use Rattle.std.proofs.lemmas.List.Elements.{All-nil, All-cons, All-append, All-filter, Contains-append_right, Contains-push}
+use Rattle.lang_base.specs.Texts.{same_text}
+use Rattle.lang_core.specs.declared.ids.Origin.TheVariants.{Call}
+use Rattle.lang_core.specs.declared.inputs.Inputs.{Inputs}
+use Rattle.lang_core.specs.declared.request.Request.{Request}
+use Rattle.request_log.specs.Entries.{has_id, find_call}
+use Rattle.request_log.specs.declared.entry.Entry.{Entry}
+use Rattle.request_log.specs.declared.entry.Made.{Made}
+use Rattle.local_repair.specs.Steps.{calls_of_made}
+use Rattle.repair_messages.specs.declared.messages.Ack.{Ack}
+use Rattle.repair_messages.specs.declared.messages.AnswerMessage.{AnswerMessage}
+use Rattle.repair_messages.specs.declared.messages.Confirm.{Confirm}
+use Rattle.repair_messages.specs.declared.messages.SetMessage.{SetMessage}
+use Rattle.repair_messages.specs.declared.posts.Post.{Post}
+use Rattle.repair_messages.specs.declared.posts.Post.TheVariants.{Set, Answer}
+use Rattle.repair_messages.specs.declared.posts.PostName.{PostName}
+use Rattle.repair_messages.specs.declared.posts.PostName.TheVariants.{Call as OfCall, Reply as OfReply}
+use Rattle.journal_rows.specs.Words.{last_sent, ordered}
+use Rattle.journal_rows.specs.declared.orders.Command.{Command}
+use Rattle.journal_rows.specs.declared.orders.Command.TheVariants.{Cancel, Restore, Replace, Create, Retry}
+use Rattle.journal_rows.specs.declared.orders.OrderedRow.{OrderedRow}
+use Rattle.journal_rows.specs.declared.row.Row.{Row}
+use Rattle.journal_rows.specs.declared.row.Row.TheVariants.{Asked, Answered, Sent, Ordered}
+use Rattle.call_registers.specs.Registers.{register, is_newer, next_number}
+use Rattle.call_registers.specs.Replies.{reply}
+use Rattle.call_registers.specs.declared.register.Hold.{Hold}
+use Rattle.call_registers.specs.declared.register.Register.{Register}
+use Rattle.call_registers.specs.declared.reply.Reply.{Reply}
+use Rattle.flights.specs.declared.flight.Flight.{Flight}
+use Rattle.service_events.specs.Arriving.{abandoned, abandon_event}
+use Rattle.service_events.specs.Calls.{noted, all_deleted}
+use Rattle.service_events.specs.Fits.{Fits, sent_by}
+use Rattle.service_events.specs.Messages.{rule, origin_of, is_known, is_too_much, ack_of, acked_row, took_row, acked_again, taken_by, taken, take_admitted, take_event, confirm_of, confirmed_row, seen_row, heard, heard_where, take_answer_event, had_call, had, is_ack_of, replies_to, is_now, hold_of, held_back, held_where, posted, posted_event}
+use Rattle.service_events.specs.Orders.{order_rows, carried_out, order_by, order_where, refused, order_event}
+use Rattle.service_events.specs.Posts.{set_message, answer_post, reply_post, where_there, write_post}
+use Rattle.service_events.specs.State.{Kept, After, after, me, answers, is_in_flight, flight_of, has_flight, next_id}
+use Rattle.service_events.specs.Steps.{Stale, new_record, sent_rows, answer_rows, stepped, stale_in, step_by, step_event}
+use Rattle.service_events.specs.declared.answers.Heard.{Heard}
+use Rattle.service_events.specs.declared.answers.PostReply.{PostReply}
+use Rattle.service_events.specs.declared.answers.PostReply.TheVariants.{Acked as WasAcked, Confirmed as WasHeard, Refused, Lost}
+use Rattle.service_events.specs.declared.answers.Posted.TheVariants.{Held, Left}
+use Rattle.service_events.specs.declared.answers.Taken.{Taken}
+use Rattle.service_events.specs.declared.refusals.AnswerRefused.{AnswerRefused}
+use Rattle.service_events.specs.declared.refusals.OrderRefused.{OrderRefused}
+use Rattle.service_events.specs.declared.refusals.PostRefused.{PostRefused}
+use Rattle.service_events.specs.declared.refusals.TakeRefused.{TakeRefused}
+use Rattle.service_call_laws.proofs.KindLemmas.{sends_deleted, sends_settled}
+use Rattle.service_call_laws.proofs.RowLemmas.{Each, each_append, each_weaker, all_of_each, IsSending}
+use Rattle.service_entry_laws.proofs.EntryLemmas.{found_itself}
+use Rattle.service_entry_laws.proofs.PartLemmas.{logged}
+use Rattle.service_entry_laws.proofs.PostedLaw.{of_entry}
+use Rattle.service_entry_laws.proofs.SearchLemmas.{text_is}
+use Rattle.world_agreement.specs.Partners.{JournalOf, HasSent, HasAcked, HasAnswered, HasConfirmed, HasPartner}
+use Rattle.world_events.specs.Sound.{WasSent, WasAnswered, PostReplyStands, FlightStands, FlightsStand}
+use Rattle.world_laws.proofs.LiveTurns.{IsHeard, heard_said, dest_said, entry_answered}
+use Rattle.world_laws.proofs.StillLemmas.{sent_from}
+use Rattle.world_laws.proofs.TurnLaws.{Turns, no_turn}
+
+-- ---- rows that speak of no other service
+
+abbrev IsOwn : Row → Type 0
+IsOwn (Sent s) = Unit {0}
+IsOwn (Answered a) = Unit {0}
+IsOwn (Asked a) = Unit {0}
+IsOwn (Ordered o) = Unit {0}
+IsOwn row = ⊥
+
+own_partner : (services : List Kept) (s : Kept) (row : Row) → IsOwn row → HasPartner services s row
+own_partner services s (Sent x) h = tt
+own_partner services s (Answered a) h = tt
+own_partner services s (Asked a) h = tt
+own_partner services s (Ordered o) h = tt
+own_partner services s row h = absurd h
+
+sending_own : (row : Row) → IsSending row → IsOwn row
+sending_own (Sent s) h = tt
+sending_own row h = absurd h
+
+own_turns : (services : List Kept) (s t : Kept) (rows : List Row) → t.journal ≡ s.journal ++ rows → t.setting ≡ s.setting → Each IsOwn rows → All (FlightStands services s) t.flights
+    → Turns services s t
+own_turns services s t rows journal setting own flights = record {
+  grows = record { rows = rows; is = journal; setting = setting };
+  partners = all_of_each (HasPartner services s) rows (each_weaker IsOwn (HasPartner services s) (own_partner services s) rows own);
+  flights = flights;
+}
+
+-- only registers and replies change
+quiet_turns : (services : List Kept) (s t : Kept) → t.journal ≡ s.journal → t.setting ≡ s.setting → t.flights ≡ s.flights → FlightsStand services s → Turns services s t
+quiet_turns services s t journal setting same flights = record {
+  grows = record { rows = []; is = journal ∙ sym (append-nil s.journal); setting = setting };
+  partners = All-nil (HasPartner services s);
+  flights = subst (All (FlightStands services s)) (sym same) flights;
+}
+
+module _ (services : List Kept) (s : Kept) (fits : Fits s) (flights : FlightsStand services s) where
+  -- ---- a step, an order, an abandonment
+
+  answer_own : (e : Entry) (m : Made) (b : Bool) (row : Row) → IsOwn row → Each IsOwn (cond b (row ∷ []) [])
+  answer_own e m true row own = (own, tt)
+  answer_own e m false row own = tt
+
+  stepped_turns : (e : Entry) (m : Made) → Turns services s (stepped s e m).service
+  stepped_turns e m =
+      own_turns services s (stepped s e m).service (sent_rows s e m ++ answer_rows e m) refl refl
+      (each_append IsOwn (sent_rows s e m) (answer_rows e m)
+      (each_weaker IsSending IsOwn sending_own (sent_rows s e m) (sends_settled s.registers e.slots (calls_of_made e.made) m.trace.calls (next_number s.registers)))
+      (answer_own e m _ _ tt))
+      flights
+
+  step_by_turns : (o : Option Stale) → Turns services s (step_by s o).service
+  step_by_turns None = no_turn services s flights
+  step_by_turns (Some x) = stepped_turns x.entry (new_record s x.rows x.entry)
+
+  pub step_turns : Turns services s (step_event s).service
+  step_turns = step_by_turns (stale_in (answers s) [] s.entries)
+
+  ordered_turns : (command : Command) (token who : List ℕ) (i : Inputs) → Turns services s (noted (order_rows s command token who i) (carried_out s command who i))
+  ordered_turns (Cancel id) token who i = own_turns services s _ (order_rows s (Cancel id) token who i) refl refl (tt, tt) flights
+  ordered_turns (Restore id) token who i = own_turns services s _ (order_rows s (Restore id) token who i) refl refl (tt, tt) flights
+  ordered_turns (Replace id method path body) token who i =
+      own_turns services s _ (order_rows s (Replace id method path body) token who i) refl refl (tt, tt) flights
+  ordered_turns (Create before behind q) token who i =
+      own_turns services s _ (order_rows s (Create before behind q) token who i) refl refl (tt, (tt, tt)) flights
+  ordered_turns (Retry (OfCall n)) token who i = own_turns services s _ (order_rows s (Retry (OfCall n)) token who i) refl refl (tt, tt) flights
+  ordered_turns (Retry (OfReply id)) token who i = own_turns services s _ (order_rows s (Retry (OfReply id)) token who i) refl refl (tt, tt) flights
+
+  order_by_turns : (command : Command) (token who : List ℕ) (i : Inputs) (o : Option OrderRefused) → Turns services s (order_by s command token who i o).service
+  order_by_turns command token who i (Some why) = no_turn services s flights
+  order_by_turns command token who i None = ordered_turns command token who i
+
+  order_where_turns : (command : Command) (token who : List ℕ) (i : Inputs) (o : Option OrderedRow) → Turns services s (order_where s command token who i o).service
+  order_where_turns command token who i (Some o) = no_turn services s flights
+  order_where_turns command token who i None = order_by_turns command token who i (refused s command)
+
+  pub order_turns : (command : Command) (token who : List ℕ) (i : Inputs) → Turns services s (order_event s command token who i).service
+  order_turns command token who i = order_where_turns command token who i (ordered token s.journal)
+
+  abandoned_turns : (o : Option Flight) → Turns services s (abandoned s o).service
+  abandoned_turns None = no_turn services s flights
+  abandoned_turns (Some f) =
+      own_turns services s _ (all_deleted s.registers f.numbers f.calls) refl refl
+      (each_weaker IsSending IsOwn sending_own (all_deleted s.registers f.numbers f.calls) (sends_deleted s.registers f.numbers f.calls))
+      (All-filter (λ g. not (has_flight f.id g)) (FlightStands services s) s.flights flights)
+
+  pub abandon_turns : (id : ℕ) → Turns services s (abandon_event s id).service
+  abandon_turns id = abandoned_turns (flight_of id s)
+
+  -- ---- a version of a call is taken
+
+  -- what is said of it: that it was acknowledged
+  abbrev pub SaysAcked : SetMessage → Kept → Result Taken TakeRefused → Type 0
+  SaysAcked set t (Ok taken) = (taken.ack ≡ ack_of set) × HasAcked set.caller set.number set.version t.journal
+  SaysAcked set t (Err why) = Unit {0}
+
+  pub record Takes (set : SetMessage) (a : After (Result Taken TakeRefused)) : Type 0 where
+    pub turns : Turns services s a.service
+    pub says : SaysAcked set a.service a.answer
+
+  -- rows that end with the acknowledgement
+  took_turns : (t : Kept) (rows : List Row) (set : SetMessage) → t.journal ≡ s.journal ++ (rows ++ acked_row set ∷ []) → t.setting ≡ s.setting → t.flights ≡ s.flights
+      → All (HasPartner services s) rows → Turns services s t
+  took_turns t rows set journal setting same partners = record {
+    grows = record { rows = rows ++ acked_row set ∷ []; is = journal; setting = setting };
+    partners = All-append (HasPartner services s) rows (acked_row set ∷ []) partners (All-cons (HasPartner services s) (acked_row set) [] tt (All-nil (HasPartner services s)));
+    flights = subst (All (FlightStands services s)) (sym same) flights;
+  }
+
+  acked_last : (t : Kept) (rows : List Row) (set : SetMessage) → t.journal ≡ s.journal ++ (rows ++ acked_row set ∷ []) → HasAcked set.caller set.number set.version t.journal
+  acked_last t rows set journal =
+      subst (HasAcked set.caller set.number set.version) (sym journal)
+      (Contains-append_right s.journal (rows ++ acked_row set ∷ []) (acked_row set) (Contains-push rows (acked_row set)))
+
+  module _ (set : SetMessage) (sent : WasSent services set) (dest : set.dest ≡ me s) where
+    took_partner : HasPartner services s (took_row set)
+    took_partner = (let D : List ℕ → Type 0 = λ d. JournalOf services set.caller (HasSent d set.number set.version set.desired) in subst D dest sent)
+
+    takes_by : (t : Kept) (rows : List Row) (by : Option ℕ) → t.journal ≡ s.journal ++ (rows ++ acked_row set ∷ []) → t.setting ≡ s.setting → t.flights ≡ s.flights
+        → All (HasPartner services s) rows → Takes set (after t (Ok (taken set by)))
+    takes_by t rows by journal setting same partners =
+        record { turns = took_turns t rows set journal setting same partners; says = (refl, acked_last t rows set journal) }
+
+    takes_new : (i : Inputs) (o : Option Entry) (d : Option Request) → Takes set (after (taken_by s set i o d) (Ok (taken set (Some rule))))
+    takes_new i (Some e) d =
+        takes_by (taken_by s set i (Some e) d) (took_row set ∷ []) (Some rule) refl refl refl
+        (All-cons (HasPartner services s) (took_row set) [] took_partner (All-nil (HasPartner services s)))
+    takes_new i None (Some q) =
+        let asks : Row = Asked (record { id = next_id s; origin = origin_of set; request = q; inputs = i }) in
+        takes_by (taken_by s set i None (Some q)) (took_row set ∷ (asks ∷ [])) (Some rule) refl refl refl
+        (All-cons (HasPartner services s) (took_row set) (asks ∷ []) took_partner (All-cons (HasPartner services s) asks [] tt (All-nil (HasPartner services s))))
+    takes_new i None None =
+        takes_by (taken_by s set i None None) (took_row set ∷ []) (Some rule) refl refl refl
+        (All-cons (HasPartner services s) (took_row set) [] took_partner (All-nil (HasPartner services s)))
+
+    takes_not : (why : TakeRefused) → Takes set (after s (Err why))
+    takes_not why = record { turns = no_turn services s flights; says = tt }
+
+    admitted_takes : (i : Inputs) (full : Option ℕ) → Takes set (take_admitted s set i full)
+    admitted_takes i (Some n) = takes_not (TakeRefused.Full n)
+    admitted_takes i None =
+        cond_both (is_known s set) (after (acked_again s set) (Ok (taken set None))) (after (taken_by s set i (find_call (origin_of set) s.entries) set.desired) (Ok (taken set (Some rule)))) (Takes set)
+        (λ _. takes_by (acked_again s set) [] None refl refl refl (All-nil (HasPartner services s)))
+        (λ _. takes_new i (find_call (origin_of set) s.entries) set.desired)
+
+    pub take_takes : (i : Inputs) → Takes set (take_event s set i)
+    take_takes i =
+        cond_both (is_in_flight (origin_of set) s) (after s (Err (TakeRefused.NotYet set.number))) (take_admitted s set i (is_too_much s set)) (Takes set)
+        (λ _. takes_not (TakeRefused.NotYet set.number)) (λ _. admitted_takes i (is_too_much s set))
+
+  -- ---- an answer is heard
+
+  abbrev pub SaysHeard : AnswerMessage → Kept → Result Heard AnswerRefused → Type 0
+  SaysHeard a t (Ok h) = (h.confirm ≡ confirm_of a) × HasConfirmed a.number a.answer_version t.journal
+  SaysHeard a t (Err why) = Unit {0}
+
+  pub record Hears (a : AnswerMessage) (x : After (Result Heard AnswerRefused)) : Type 0 where
+    pub turns : Turns services s x.service
+    pub says : SaysHeard a x.service x.answer
+
+  module _ (a : AnswerMessage) (caller : a.caller ≡ me s) (answered : WasAnswered services a) where
+    hears_not : (why : AnswerRefused) → Hears a (after s (Err why))
+    hears_not why = record { turns = no_turn services s flights; says = tt }
+
+    hears_by : (rows : List Row) (by : Option ℕ) → All (HasPartner services s) rows → Hears a (after (noted (rows ++ confirmed_row a ∷ []) s) (Ok (heard a by)))
+    hears_by rows by partners = record {
+      turns = record {
+        grows = record { rows = rows ++ confirmed_row a ∷ []; is = refl; setting = refl };
+        partners = All-append (HasPartner services s) rows (confirmed_row a ∷ []) partners (All-cons (HasPartner services s) (confirmed_row a) [] tt (All-nil (HasPartner services s)));
+        flights = flights;
+      };
+      says = (refl, Contains-append_right s.journal (rows ++ confirmed_row a ∷ []) (confirmed_row a) (Contains-push rows (confirmed_row a)));
+    }
+
+    heard_new : (r : Register) → IsHeard services s a r → (b : Bool)
+        → Hears a (cond b (after (noted (seen_row a ∷ (confirmed_row a ∷ [])) s) (Ok (heard a (Some rule)))) (after (noted (confirmed_row a ∷ []) s) (Ok (heard a None))))
+    heard_new r h true =
+        hears_by (seen_row a ∷ []) (Some rule) (All-cons (HasPartner services s) (seen_row a) [] (heard_said services s fits a r h) (All-nil (HasPartner services s)))
+    heard_new r h false = hears_by [] None (All-nil (HasPartner services s))
+
+    heard_if : (r : Register) → register a.number s.registers ≡ Some r → (b : Bool) → same_text r.dest a.callee ≡ b
+        → Hears a (cond (not b) (after s (Err (AnswerRefused.Unknown a.number)))
+        (cond (is_newer r.answer a.answer_version) (after (noted (seen_row a ∷ (confirmed_row a ∷ [])) s) (Ok (heard a (Some rule)))) (after (noted (confirmed_row a ∷ []) s) (Ok (heard a None)))))
+    heard_if r found true is =
+        heard_new r (record { there = found; dest = text_is r.dest a.callee is; caller = caller; answered = answered }) (is_newer r.answer a.answer_version)
+    heard_if r found false is = hears_not (AnswerRefused.Unknown a.number)
+
+    heard_of : (o : Option Register) → register a.number s.registers ≡ o → Hears a (heard_where s a o)
+    heard_of None found = hears_not (AnswerRefused.Unknown a.number)
+    heard_of (Some r) found = heard_if r found (same_text r.dest a.callee) refl
+
+    pub take_answer_hears : Hears a (take_answer_event s a)
+    take_answer_hears = heard_of (register a.number s.registers) refl
+
+  -- ---- something comes back of a post
+
+  acked_turns : (set : SetMessage) (ack : Ack) → had s (Set set) ≡ true → is_ack_of set ack ≡ true → PostReplyStands services (WasAcked ack)
+      → Turns services s (posted s (Set set) (WasAcked ack)).service
+  acked_turns set ack has is stands =
+      let parts = and_parts (same_text set.caller (me s)) (had_call set (register set.number s.registers)) has in
+      let caller = text_is set.caller (me s) parts.0 in
+      of_register (register set.number s.registers) refl parts.1 caller
+    where
+      of_register : (o : Option Register) → register set.number s.registers ≡ o → had_call set o ≡ true → set.caller ≡ me s → Turns services s (posted s (Set set) (WasAcked ack)).service
+      of_register None found e caller = cc
+      of_register (Some r) found e caller =
+          let goes = text_is r.dest set.dest (and_parts (same_text r.dest set.dest) _ e).0 in
+          let one = and_parts (same_text ack.caller set.caller && same_text ack.dest set.dest && nat_eq ack.number set.number) (nat_eq ack.version set.version) is in
+          let two = and_parts (same_text ack.caller set.caller && same_text ack.dest set.dest) (nat_eq ack.number set.number) one.0 in
+          let three = and_parts (same_text ack.caller set.caller) (same_text ack.dest set.dest) two.0 in
+          let from : ack.caller ≡ me s = text_is ack.caller set.caller three.0 ∙ caller in
+          let to : ack.dest ≡ r.dest = text_is ack.dest set.dest three.1 ∙ sym goes in
+          let number : ack.number ≡ set.number = eqb-true ack.number set.number two.1 in
+          let C : List ℕ → Type 0 = λ c. JournalOf services ack.dest (HasAcked c ack.number ack.version) in
+          let D : List ℕ → Type 0 = λ d. JournalOf services d (HasAcked (me s) ack.number ack.version) in
+          let partner = dest_said services s fits ack.number r (ap (λ k. register k s.registers) number ∙ found) (HasAcked (me s) ack.number ack.version) (subst D to (subst C from stands)) in
+          record {
+            grows = record { rows = _ ∷ []; is = refl; setting = refl };
+            partners = All-cons (HasPartner services s) _ [] partner (All-nil (HasPartner services s));
+            flights = flights;
+          }
+
+  confirmed_turns : (a : AnswerMessage) (c : Confirm) → PostReplyStands services (WasHeard c) → Turns services s (posted s (Answer a) (WasHeard c)).service
+  confirmed_turns a c stands = record {
+    grows = record { rows = _ ∷ []; is = refl; setting = refl };
+    partners = All-cons (HasPartner services s) _ [] stands (All-nil (HasPartner services s));
+    flights = flights;
+  }
+
+  held_turns : (post : Post) (hold : Hold) → Turns services s (held_back s post hold)
+  held_turns (Set set) hold = quiet_turns services s _ refl refl refl flights
+  held_turns (Answer a) hold = quiet_turns services s _ refl refl refl flights
+
+  held_where_turns : (post : Post) (o : Option Hold) → Turns services s (held_where s post o).service
+  held_where_turns post None = no_turn services s flights
+  held_where_turns post (Some hold) =
+      cond_both (is_now s post) (after (held_back s post hold) (Ok Held)) (after s (Ok Left)) (λ x. Turns services s x.service)
+      (λ _. held_turns post hold) (λ _. no_turn services s flights)
+
+  replied_turns : (post : Post) (answer : PostReply) → had s post ≡ true → replies_to post answer ≡ true → PostReplyStands services answer
+      → Turns services s (posted s post answer).service
+  replied_turns (Set set) (WasAcked ack) has is stands = acked_turns set ack has is stands
+  replied_turns (Answer a) (WasHeard c) has is stands = confirmed_turns a c stands
+  replied_turns (Set set) (WasHeard c) has is stands = cc
+  replied_turns (Answer a) (WasAcked ack) has is stands = cc
+  replied_turns post (Refused word n) has is stands = held_where_turns post (hold_of word n)
+  replied_turns post (Lost note) has is stands = no_turn services s flights
+
+  pub posted_turns : (post : Post) (answer : PostReply) → PostReplyStands services answer → Turns services s (posted_event s post answer).service
+  posted_turns post answer stands =
+      cond_both (had s post && replies_to post answer) (posted s post answer) (after s (Err PostRefused.Foreign)) (λ x. Turns services s x.service)
+      (λ e. let parts = and_parts (had s post) (replies_to post answer) e in replied_turns post answer parts.0 parts.1 stands) (λ _. no_turn services s flights)
+
+  -- ---- a post is written
+
+  -- it stands in this service's own journal
+  abbrev pub StandsHere : Post → Type 0
+  StandsHere (Set set) = (set.caller ≡ me s) × HasSent set.dest set.number set.version set.desired s.journal
+  StandsHere (Answer a) = (a.callee ≡ me s) × HasAnswered a.caller a.number a.answer_version a.version a.response s.journal
+
+  call_here : (n : ℕ) (o : Option Register) → register n s.registers ≡ o → IfSome (option_map (λ r. Set (set_message s r)) o) StandsHere
+  call_here n None found = tt
+  call_here n (Some r) found =
+      let last : Some (sent_by r) ≡ last_sent n s.journal = sym (ap (option_map sent_by) found) ∙ fits.sent.registers n in
+      let from = subst (λ o. IfSome o (λ x. (x.number ≡ n) × Contains s.journal (Sent x))) (sym last) (sent_from n s.journal) in
+      (refl, from.1)
+
+  answer_here : (p : Reply) (e : Entry) → find (has_id e.id) s.entries ≡ Some e → e.origin ≡ Call p.caller p.number → (o : Option Made) → e.made ≡ o
+      → IfSome (option_map (answer_post s p e) o) StandsHere
+  answer_here p e found from None is = tt
+  answer_here p e found from (Some m) is = (refl, entry_answered s fits e found p.caller p.number from m is)
+
+  reply_here : (id : ℕ) (o : Option Reply) → reply id s.replies ≡ o → IfSome (where_there s o) StandsHere
+  reply_here id None found = tt
+  reply_here id (Some p) found =
+      let of = of_entry s.journal s.entries s.replies id p (logged s fits) found in
+      let by_id : find (has_id (of.entry).id) s.entries ≡ Some of.entry =
+      ap (λ k. find (has_id k) s.entries) (found_itself s.entries p.id of.entry of.found) ∙ of.found in
+      subst (λ o. IfSome (reply_post s p o) StandsHere) (sym of.found) (answer_here p of.entry by_id of.from (of.entry).made refl)
+
+  pub written_here : (name : PostName) → IfSome (write_post s name) StandsHere
+  written_here (OfCall n) = call_here n (register n s.registers) refl
+  written_here (OfReply id) = reply_here id (reply id s.replies) refl

@@ -1,2 +1,0 @@
-pub mod DrawingLemmas
-pub mod PlanLaws
