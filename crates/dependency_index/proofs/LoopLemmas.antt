@@ -18,9 +18,9 @@ any_more p [] i d lt = absurd (omega arith)
 any_more p (x ∷ xs) zero d lt = or-false (p x)
 any_more p (x ∷ xs) (suc i) d lt = ap (λ b. p x || b) (any_more p xs i d (omega arith)) ∙ sym (or_assoc (p x) (list_any p (take i xs)) (p (get_or xs i d)))
 
-pub one_more : (kind : ReadKind) (t k : List ℕ) (rs : List ReadAt) (i : ℕ) (r : ReadAt) → i < length rs → r ≡ get_or rs i r
+pub reads_of_one_more : (kind : ReadKind) (t k : List ℕ) (rs : List ReadAt) (i : ℕ) (r : ReadAt) → i < length rs → r ≡ get_or rs i r
     → list_any (is_at kind t k) (take (i + 1) rs) ≡ (list_any (is_at kind t k) (take i rs) || is_at kind t k r)
-one_more kind t k rs i r lt is = rw add-one (any_more (is_at kind t k) rs i r lt ∙ ap (λ x. list_any (is_at kind t k) (take i rs) || is_at kind t k x) (sym is))
+reads_of_one_more kind t k rs i r lt is = rw add-one (any_more (is_at kind t k) rs i r lt ∙ ap (λ x. list_any (is_at kind t k) (take i rs) || is_at kind t k x) (sym is))
 
 any_at : {X : Type 0} (p : X → Bool) (xs : List X) (i : ℕ) (x : X) → i < length xs → x ≡ get_or xs i x → p x ≡ true → list_any p xs ≡ true
 any_at p [] i x lt is h = absurd (omega arith)
@@ -63,7 +63,7 @@ module _ (edit : List ℕ → List ℕ) (twice : (l : List ℕ) → edit (edit l
       → (kind : ReadKind) (t k : List ℕ) → labels_by after kind t k ≡ cond (list_any (is_at kind t k) (take (i + 1) rs)) (edit (labels_by start kind t k)) (labels_by start kind t k)
   edit_more start before after rs i r lt is each now kind t k =
       edit_by (list_any (is_at kind t k) (take i rs)) (is_at kind t k r) (labels_by start kind t k) (labels_by before kind t k) (labels_by after kind t k) (each kind t k) (now kind t k)
-      ∙ ap (λ b. cond b (edit (labels_by start kind t k)) (labels_by start kind t k)) (sym (one_more kind t k rs i r lt is))
+      ∙ ap (λ b. cond b (edit (labels_by start kind t k)) (labels_by start kind t k)) (sym (reads_of_one_more kind t k rs i r lt is))
 
   -- an edit of what is edited, or not yet
   pub edit_once : (a : Bool) (start before : List ℕ) → before ≡ cond a (edit start) start → edit before ≡ edit start
@@ -76,7 +76,7 @@ pub spare_made : (n : ℕ) (before after : ReadRows) (rs : List ReadAt) (i : ℕ
     → ((kind : ReadKind) (t k : List ℕ) → spare_by before kind t k ≤ spare_by after kind t k) → n ≤ spare_by after r.kind r.table r.key
     → (kind : ReadKind) (t k : List ℕ) → list_any (is_at kind t k) (take (i + 1) rs) ≡ true → n ≤ spare_by after kind t k
 spare_made n before after rs i r lt is had more here kind t k h =
-    either_by (n ≤ spare_by after kind t k) (list_any (is_at kind t k) (take i rs)) (is_at kind t k r) (sym (one_more kind t k rs i r lt is) ∙ h)
+    either_by (n ≤ spare_by after kind t k) (list_any (is_at kind t k) (take i rs)) (is_at kind t k r) (sym (reads_of_one_more kind t k rs i r lt is) ∙ h)
     (λ e. let a = had kind t k e in let b = more kind t k in omega arith)
     (λ e. at_row (λ kind t k. n ≤ spare_by after kind t k) kind t k r e here)
 

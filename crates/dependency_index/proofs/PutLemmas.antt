@@ -4,7 +4,7 @@ use Rattle.std.specs.Option.{option_map_or}
 use Rattle.std.proofs.lemmas.Bool.{cases_Bool}
 use Rattle.lang_core.specs.Places.{Place, place_of, same_place, IsOrdered, rank, is_taken}
 use Rattle.versioned_rows.specs.Rows.{row_place, labels_in, spare_of, spare_in}
-use Rattle.versioned_rows.specs.declared.rows.Row.{Row}
+use Rattle.versioned_rows.specs.declared.rows.KeyLabels.{KeyLabels}
 use Rattle.versioned_rows.proofs.EditLemmas.{labels_here, spare_here, set_labels, set_spare}
 use Rattle.lang_core.proofs.ReadLemmas.{place_is}
 use Rattle.versioned_rows.proofs.SeekLemmas.{find_none}
@@ -12,12 +12,12 @@ use Rattle.dependency_index.specs.Numbers.{with_number}
 use Rattle.dependency_index.proofs.NumberLemmas.{not_empty}
 
 -- a key with a place for a label has a row
-pub row_there : (rows : List Row) (t k : List ℕ) (n : ℕ) → IsOrdered row_place rows → length (with_number n (labels_in rows t k)) ≤ length (labels_in rows t k) + spare_in rows t k
+pub row_there : (rows : List KeyLabels) (t k : List ℕ) (n : ℕ) → IsOrdered row_place rows → length (with_number n (labels_in rows t k)) ≤ length (labels_in rows t k) + spare_in rows t k
     → is_taken row_place (place_of t k) rows ≡ true
 row_there rows t k n o fits = elim (cases_Bool (is_taken row_place (place_of t k) rows)) [
   | inl e ↦ e
   | inr free ↦ (let none = find_none row_place (place_of t k) rows o free in
-      let labels : labels_in rows t k ≡ [] = ap (λ o. option_map_or (λ (r : Row). r.labels.items) o []) none in
+      let labels : labels_in rows t k ≡ [] = ap (λ o. option_map_or (λ (r : KeyLabels). r.labels.items) o []) none in
       let spare : spare_in rows t k ≡ 0 = ap (λ o. option_map_or spare_of o 0) none in
       let long = ap length labels in
       let some = not_empty n (labels_in rows t k) in
@@ -28,8 +28,8 @@ kept_if : (b : Bool) (l m : List ℕ) (x y z : ℕ) → length l + x ≤ z → (
 kept_if true l m x y z h g = let a = g refl in omega arith
 kept_if false l m x y z h g = omega arith
 
-module _ (rows : List Row) (t k : List ℕ) (at : ℕ) (row : Row) (o : IsOrdered row_place rows) (rank_is : at ≡ rank row_place (place_of t k) rows)
-    (taken : is_taken row_place (place_of t k) rows ≡ true) (is : row ≡ get_or rows at row) (lt : at < length rows) (new : Row) (same : row_place new ≡ row_place row) where
+module _ (rows : List KeyLabels) (t k : List ℕ) (at : ℕ) (row : KeyLabels) (o : IsOrdered row_place rows) (rank_is : at ≡ rank row_place (place_of t k) rows)
+    (taken : is_taken row_place (place_of t k) rows ≡ true) (is : row ≡ get_or rows at row) (lt : at < length rows) (new : KeyLabels) (same : row_place new ≡ row_place row) where
   -- no row has fewer places
   pub places_kept : length row.labels.items + spare_of row ≤ length new.labels.items + spare_of new → (u v : List ℕ)
       → length (labels_in rows u v) + spare_in rows u v ≤ length (labels_in (set rows at new) u v) + spare_in (set rows at new) u v

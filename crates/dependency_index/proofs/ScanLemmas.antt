@@ -5,7 +5,7 @@ use Rattle.std.proofs.lemmas.Bool.{lt-ltb, le-ltb, ltb-true, ltb-false, and_part
 use Rattle.std.proofs.lemmas.List.Elements.{filter_agree}
 use Rattle.lang_base.specs.Texts.{same_text, begins_with}
 use Rattle.versioned_rows.specs.Rows.{labels_in}
-use Rattle.versioned_rows.specs.declared.rows.Row.{Row}
+use Rattle.versioned_rows.specs.declared.rows.KeyLabels.{KeyLabels}
 use Rattle.dependency_index.specs.Numbers.{Rises, with_numbers}
 use Rattle.dependency_index.specs.Reads.{is_kind, is_at, is_scan_of, label_of, labels_with, scanners}
 use Rattle.dependency_index.specs.Rows.{under}
@@ -122,7 +122,7 @@ no_labels : (test : ReadAt → Bool) → ((r : ReadAt) → test r ≡ false) →
 no_labels test h [] = refl
 no_labels test h (n ∷ ns) = let none = none_any test h n.reads in rw none (no_labels test h ns)
 
-module _ (rows : List Row) (ns : List Noted) (t k : List ℕ) (r : Rises (map label_of ns)) (each : (t k : List ℕ) → labels_in rows t k ≡ labels_with (is_at Scan t k) ns) where
+module _ (rows : List KeyLabels) (ns : List Noted) (t k : List ℕ) (r : Rises (map label_of ns)) (each : (t k : List ℕ) → labels_in rows t k ≡ labels_with (is_at Scan t k) ns) where
   shorter : (m : ℕ) → m ≤ length k + 1 → under rows t k m ≡ labels_with (short t k m) ns
   shorter zero le = sym (no_labels (short t k 0) (λ r. ap (λ b. is_scan_of t k r && b) (le-ltb (length r.key) 0 (omega arith)) ∙ never (is_scan_of t k r)) ns)
   shorter (suc m) le =

@@ -2,13 +2,13 @@
 use Rattle.std.specs.Prelude.{ℕ, zero, suc, ◌+◌, List, [], length, take}
 use Rattle.lang_core.specs.Places.{IsOrdered}
 use Rattle.versioned_rows.specs.Rows.{row_place, labels_in, spare_in}
-use Rattle.versioned_rows.specs.declared.rows.Row.{Row}
+use Rattle.versioned_rows.specs.declared.rows.KeyLabels.{KeyLabels}
 use Rattle.dependency_index.specs.Numbers.{with_numbers}
 use Rattle.dependency_index.specs.declared.reads.ReadKind.{ReadKind}
 use Rattle.dependency_index.specs.declared.reads.ReadKind.TheVariants.{Key, Scan}
 use Rattle.dependency_index.specs.declared.rows.ReadRows.{ReadRows}
 
-abbrev pub rows_of : ReadKind → ReadRows → List Row
+abbrev pub rows_of : ReadKind → ReadRows → List KeyLabels
 rows_of Key rows = rows.keys.items
 rows_of Scan rows = rows.scans.items
 
@@ -28,6 +28,6 @@ abbrev pub places_by : ReadRows → ReadKind → List ℕ → List ℕ → ℕ
 places_by rows kind t k = length (labels_by rows kind t k) + spare_by rows kind t k
 
 -- the labels in the rows of the prefixes of a key that are shorter than this
-abbrev pub under : List Row → List ℕ → List ℕ → ℕ → List ℕ
+abbrev pub under : List KeyLabels → List ℕ → List ℕ → ℕ → List ℕ
 under rows t k zero = []
 under rows t k (suc n) = with_numbers (labels_in rows t (take n k)) (under rows t k n)

@@ -22,7 +22,7 @@ use lang_core::{NoMemory, Reads, Seq, Text};
 use place_order::Order;
 use std::alloc::Global;
 use std::marker::Model;
-use versioned_rows::{Row, labels_at, labels_in};
+use versioned_rows::{KeyLabels, labels_at, labels_in};
 
 /// Labels, as a list.
 pub type Labels = Seq<u64>;
@@ -149,7 +149,12 @@ fn put_all(found: &mut Vec<u64>, labels: &[u64]) -> Result<(), NoMemory>
 }
 
 // The labels in the rows of all prefixes of a key.
-fn labels_under(alloc: Global, rows: &[Row], table: &Text, key: &[u8]) -> Result<Vec<u64>, NoMemory>
+fn labels_under(
+    alloc: Global,
+    rows: &[KeyLabels],
+    table: &Text,
+    key: &[u8],
+) -> Result<Vec<u64>, NoMemory>
     requires { IsOrdered row_place rows.now }
     ensures { IfOk result (λ found. found.items ≡ under rows.now table.now key.now (length key.now + 1)) }
 {
@@ -188,7 +193,8 @@ impl Index {
 
     /// An index with the same reads noted, without room.
     pub fn copied(&self, alloc: Global) -> Result<Index, NoMemory>
-        ensures { IfOk result (λ copy. copy.reads ≡ self.now.reads) }
+        ensures reads { IfOk result (λ copy. copy.reads ≡ self.now.reads) }
+        ensures room { IfOk result (λ copy. copy.room ≡ []) }
     {
         let noted = copied_items(alloc, &self.noted)?;
         let rows = copied_reads(alloc, &self.rows)?;

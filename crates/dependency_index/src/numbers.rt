@@ -6,6 +6,19 @@ ghost use Rattle.dependency_index.specs.Numbers.{Rises, with_number};
 use lang_core::NoMemory;
 use versioned_rows::Labelled;
 
+// Where to look next: at the last of all first, as most labels come behind it, then by halves.
+fn probe(low: usize, high: usize, len: usize) -> usize
+    requires { low < high }
+    ensures low { low ≤ result }
+    ensures high { result < high }
+{
+    if high == len {
+        high - 1
+    } else {
+        low + (high - low) / 2
+    }
+}
+
 /// How many of these have lower labels.
 fn count_below<T: Labelled>(items: &[T], label: u64) -> usize
     requires { Rises (map T.label items.now) }
@@ -16,7 +29,7 @@ fn count_below<T: Labelled>(items: &[T], label: u64) -> usize
     let mut low = 0;
     let mut high = items.len();
     while low < high {
-        let middle = low + (high - low) / 2;
+        let middle = probe(low, high, items.len());
         if items[middle].label() < label {
             low = middle + 1;
         } else {

@@ -13,13 +13,13 @@ use crate::numbers::put_reserved;
 use crate::reads::{ReadAt, ReadKind};
 use lang_core::{NoMemory, Text};
 use std::alloc::Global;
-use versioned_rows::{Row, copied_rows, drop_label, make_row, seek};
+use versioned_rows::{KeyLabels, copied_rows, drop_label, make_row, seek};
 
 /// For each key and each prefix that was ever read, the labels that read it now, in the order of their numbers.
 #[derive(Drop)]
 pub struct ReadRows {
-    pub keys: Vec<Row>,
-    pub scans: Vec<Row>,
+    pub keys: Vec<KeyLabels>,
+    pub scans: Vec<KeyLabels>,
 }
 
 /// Rows with the same labels.
@@ -34,7 +34,7 @@ pub(crate) fn copied_reads(alloc: Global, rows: &ReadRows) -> Result<ReadRows, N
 }
 
 // Puts a label into the row of a key, if it isn't there yet.
-fn put_label(rows: &mut Vec<Row>, table: &Text, key: &Text, label: u64)
+fn put_label(rows: &mut Vec<KeyLabels>, table: &Text, key: &Text, label: u64)
     requires ordered { IsOrdered row_place rows.old.items }
     requires rising { Rises (labels_in rows.old.items table.now key.now) }
     requires fits { length (with_number label (labels_in rows.old.items table.now key.now))

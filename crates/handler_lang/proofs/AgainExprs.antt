@@ -16,7 +16,7 @@ use Rattle.lang_grammar.specs.Grammar.{expr_tokens, op_token, segment}
 use Rattle.lang_reader.specs.Reading.{◌>>=◌}
 use Rattle.lang_reader.specs.Readers.{expr_at, expr_in, number_in, op_at, pair_in, part_in, path_in, right_at, segment_at, text_in}
 use Rattle.std.proofs.lemmas.Bool.{and_parts}
-use Rattle.handler_lang.proofs.Conjuncts.{three}
+use Rattle.handler_lang.proofs.Conjuncts.{conjuncts_of_three}
 use Rattle.lang_grammar.proofs.Layers.{expr_layer, expr_layer_fits, expr_layer_tokens}
 
 pub record IsReadAgain (e : Expr) : Type 0 where
@@ -104,7 +104,7 @@ again (Expr-F.Pair l o r) = again_at (Expr-F.Pair l.0 o r.0) (roll-Expr (Expr-F.
     ∙ ap (λ (v : Expr). Ok (v, rest)) (sym (rolls-Pair l.0 o r.0)))
 again (Expr-F.Part a b c) = again_at (Expr-F.Part a.0 b.0 c.0) (roll-Expr (Expr-F.Part a.0 b.0 c.0)) refl
     (λ n rest f.
-    let k = three (expr_within a.0 n) (expr_within b.0 n) (expr_within c.0 n) f in
+    let k = conjuncts_of_three (expr_within a.0 n) (expr_within b.0 n) (expr_within c.0 n) f in
     ap (part_in (expr_at n)) (part_more (expr_tokens a.0) (expr_tokens b.0) (expr_tokens c.0) rest)
     ∙ part_again n a.0 b.0 c.0 rest a.1 b.1 c.1 k.0 k.1 k.2
     ∙ ap (λ (v : Expr). Ok (v, rest)) (sym (rolls-Part a.0 b.0 c.0)))

@@ -18,7 +18,7 @@ use Rattle.lang_grammar.specs.Grammar.{block_tokens, expr_tokens, joined, progra
 use Rattle.lang_reader.specs.Reading.{◌>>=◌}
 use Rattle.lang_reader.specs.Readers.{Read, block_at, block_in, call_in, close_at, drop_in, each_in, else_in, expr_at, get_in, if_in, let_in, most, now_in, pattern_at, put_in, random_in, reply_in, route_at, route_in, routes_in, stmt_in, stmts_in}
 use Rattle.std.proofs.lemmas.Bool.{and_parts}
-use Rattle.handler_lang.proofs.Conjuncts.{five, three}
+use Rattle.handler_lang.proofs.Conjuncts.{five, conjuncts_of_three}
 use Rattle.lang_grammar.proofs.Layers.{block_layer, block_of, stmt_layer, stmt_layer_fits, stmt_layer_tokens}
 use Rattle.lang_reader.proofs.Loops.{routes_ended, routes_next, stmts_closed, stmts_next}
 use Rattle.handler_lang.proofs.AgainExprs.{expr_again, then_ok}
@@ -146,14 +146,14 @@ again (Stmt-F.Let v x) = from_layer (Stmt-F.Let v x) (roll-Stmt (Stmt-F.Let v x)
     (λ rest. refl) (λ rest n. refl) (omega arith)
 again (Stmt-F.Get v t k) = from_layer (Stmt-F.Get v t k) (roll-Stmt (Stmt-F.Get v t k)) refl
     (λ n rest f small h.
-    let c = three (is_word v) (is_word t) (expr_within k 32) f in
+    let c = conjuncts_of_three (is_word v) (is_word t) (expr_within k 32) f in
     ap (one n) (get_more v t (expr_tokens k) rest)
     ∙ get_again n v t k rest c.2
     ∙ ap (λ (s : Stmt). read_to s rest) (sym (rolls-Get v t k)))
     (λ rest. refl) (λ rest n. refl) (omega arith)
 again (Stmt-F.Put t k x) = from_layer (Stmt-F.Put t k x) (roll-Stmt (Stmt-F.Put t k x)) refl
     (λ n rest f small h.
-    let c = three (is_word t) (expr_within k 32) (expr_within x 32) f in
+    let c = conjuncts_of_three (is_word t) (expr_within k 32) (expr_within x 32) f in
     ap (one n) (put_more t (expr_tokens k) (expr_tokens x) rest)
     ∙ put_again n t k x rest c.1 c.2
     ∙ ap (λ (s : Stmt). read_to s rest) (sym (rolls-Put t k x)))
@@ -195,7 +195,7 @@ again (Stmt-F.Reply s b) = from_layer (Stmt-F.Reply s b) (roll-Stmt (Stmt-F.Repl
     (λ rest. refl) (λ rest n. refl) (omega arith)
 again (Stmt-F.If x b None) = from_layer (Stmt-F.If x b.0 None) (roll-Stmt (Stmt-F.If x b.0 None)) refl
     (λ n rest f small h.
-    let c = three (expr_within x 32) (block_fits b.0 n) true f in
+    let c = conjuncts_of_three (expr_within x 32) (block_fits b.0 n) true f in
     let fewer : length (block_tokens b.0) ≤ 65536 =
     omega (arith, small, length-append (expr_tokens x) (block_tokens b.0 ++ []), length-append (block_tokens b.0) []) in
     ap (one n) (if_more (expr_tokens x) (block_tokens b.0) rest)
@@ -204,7 +204,7 @@ again (Stmt-F.If x b None) = from_layer (Stmt-F.If x b.0 None) (roll-Stmt (Stmt-
     (λ rest. refl) (λ rest n. refl) (omega arith)
 again (Stmt-F.If x b (Some c)) = from_layer (Stmt-F.If x b.0 (Some c.0)) (roll-Stmt (Stmt-F.If x b.0 (Some c.0))) refl
     (λ n rest f small h.
-    let k = three (expr_within x 32) (block_fits b.0 n) (block_fits c.0 n) f in
+    let k = conjuncts_of_three (expr_within x 32) (block_fits b.0 n) (block_fits c.0 n) f in
     let sum = length-append (expr_tokens x) (block_tokens b.0 ++ (token.Else ∷ block_tokens c.0)) in
     let last = length-append (block_tokens b.0) (token.Else ∷ block_tokens c.0) in
     let fewer : length (block_tokens b.0) ≤ 65536 = omega (arith, small, sum, last) in
@@ -299,7 +299,7 @@ pub routes_again : (rs : List Route) (k : ℕ) → length rs < k → routes_fit 
 routes_again rs zero lt f small = absurd (omega arith)
 routes_again [] (suc k) lt f small = routes_ended k
 routes_again (r ∷ rs) (suc k) lt f small =
-    let c = three (is_path r.pattern) (block_fits r.block 32) (routes_fit rs) f in
+    let c = conjuncts_of_three (is_path r.pattern) (block_fits r.block 32) (routes_fit rs) f in
     let sum = length-append (route_tokens r) (program_tokens rs) in
     let one_route = route_again r (program_tokens rs) c.0 c.1 (omega (arith, small, sum)) in
     routes_more k r rs (program_tokens rs) one_route (routes_again rs k (omega arith) c.2 (omega (arith, small, sum)))

@@ -21,7 +21,7 @@ use Rattle.lang_tree.specs.declared.program.Route.{Route}
 use Rattle.std.proofs.lemmas.Bool.Decides.{nat_tests}
 use Rattle.lang_grammar.specs.Grammar.{block_tokens, expr_tokens, joined, op_token, program_tokens, route_tokens, segment, stmt_tokens}
 use Rattle.std.proofs.lemmas.Bool.{and_from, and_parts}
-use Rattle.handler_lang.proofs.Conjuncts.{five, three}
+use Rattle.handler_lang.proofs.Conjuncts.{five, conjuncts_of_three}
 use Rattle.lang_grammar.proofs.Layers.{block_layer, block_of, expr_layer, expr_layer_fits, expr_layer_tokens, stmt_layer, stmt_layer_fits, stmt_layer_tokens}
 
 abbrev pub AreSpelled : List Token → Type 0
@@ -68,7 +68,7 @@ again (Expr-F.Pair l o r) = spelled_at (Expr-F.Pair l.0 o r.0) (roll-Expr (Expr-
     (tt, all_append (expr_tokens l.0) (op_token o ∷ (expr_tokens r.0 ++ (token.Right ∷ []))) (l.1.all n k.0) (op_spelled o (expr_tokens r.0 ++ (token.Right ∷ [])) right)))
 again (Expr-F.Part a b c) = spelled_at (Expr-F.Part a.0 b.0 c.0) (roll-Expr (Expr-F.Part a.0 b.0 c.0)) refl
     (λ n f.
-    let k = three (expr_within a.0 n) (expr_within b.0 n) (expr_within c.0 n) f in
+    let k = conjuncts_of_three (expr_within a.0 n) (expr_within b.0 n) (expr_within c.0 n) f in
     let last : AreSpelled (expr_tokens c.0 ++ (token.Right ∷ [])) = all_append (expr_tokens c.0) (token.Right ∷ []) (c.1.all n k.2) (tt, tt) in
     let behind : AreSpelled (expr_tokens b.0 ++ (token.Comma ∷ (expr_tokens c.0 ++ (token.Right ∷ [])))) =
     all_append (expr_tokens b.0) (token.Comma ∷ (expr_tokens c.0 ++ (token.Right ∷ []))) (b.1.all n k.1) (tt, last) in
@@ -107,11 +107,11 @@ stmt_again (Stmt-F.Let v x) = stmt_spelled_at (Stmt-F.Let v x) (roll-Stmt (Stmt-
     (tt, (k.0, (tt, then_end x k.1))))
 stmt_again (Stmt-F.Get v t k) = stmt_spelled_at (Stmt-F.Get v t k) (roll-Stmt (Stmt-F.Get v t k)) refl
     (λ n f.
-    let h = three (is_word v) (is_word t) (expr_within k 32) f in
+    let h = conjuncts_of_three (is_word v) (is_word t) (expr_within k 32) f in
     (tt, (h.0, (tt, (h.1, then_end k h.2)))))
 stmt_again (Stmt-F.Put t k x) = stmt_spelled_at (Stmt-F.Put t k x) (roll-Stmt (Stmt-F.Put t k x)) refl
     (λ n f.
-    let h = three (is_word t) (expr_within k 32) (expr_within x 32) f in
+    let h = conjuncts_of_three (is_word t) (expr_within k 32) (expr_within x 32) f in
     (tt, (h.0, then_expr k (token.Equals ∷ (expr_tokens x ++ (token.Semicolon ∷ []))) h.1 (tt, then_end x h.2))))
 stmt_again (Stmt-F.Drop t k) = stmt_spelled_at (Stmt-F.Drop t k) (roll-Stmt (Stmt-F.Drop t k)) refl
     (λ n f.
@@ -134,11 +134,11 @@ stmt_again (Stmt-F.Reply s b) = stmt_spelled_at (Stmt-F.Reply s b) (roll-Stmt (S
     (tt, then_expr s (expr_tokens b ++ (token.Semicolon ∷ [])) h.0 (then_end b h.1)))
 stmt_again (Stmt-F.If x b None) = stmt_spelled_at (Stmt-F.If x b.0 None) (roll-Stmt (Stmt-F.If x b.0 None)) refl
     (λ n f.
-    let h = three (expr_within x 32) (block_fits b.0 n) true f in
+    let h = conjuncts_of_three (expr_within x 32) (block_fits b.0 n) true f in
     (tt, then_expr x (block_tokens b.0 ++ []) h.0 (all_append (block_tokens b.0) [] (b.1.all n h.1) tt)))
 stmt_again (Stmt-F.If x b (Some c)) = stmt_spelled_at (Stmt-F.If x b.0 (Some c.0)) (roll-Stmt (Stmt-F.If x b.0 (Some c.0))) refl
     (λ n f.
-    let h = three (expr_within x 32) (block_fits b.0 n) (block_fits c.0 n) f in
+    let h = conjuncts_of_three (expr_within x 32) (block_fits b.0 n) (block_fits c.0 n) f in
     let last : AreSpelled (block_tokens b.0 ++ (token.Else ∷ block_tokens c.0)) = all_append (block_tokens b.0) (token.Else ∷ block_tokens c.0) (b.1.all n h.1) (tt, c.1.all n h.2) in
     (tt, then_expr x (block_tokens b.0 ++ (token.Else ∷ block_tokens c.0)) h.0 last))
 
@@ -178,11 +178,11 @@ shorter n h = grind (arith, nat_tests)
 
 path_literal : (text : List ℕ) → is_path text ≡ true → is_literal text ≡ true
 path_literal text h =
-    let k = three (starts_with nat_eq text (47 ∷ [])) (nat_le (length text) 1024) (list_all is_visible text) h in
+    let k = conjuncts_of_three (starts_with nat_eq text (47 ∷ [])) (nat_le (length text) 1024) (list_all is_visible text) h in
     and_from (nat_le (length text) 65536) (list_all is_literal_byte text) (shorter (length text) k.1) (all_literal text k.2)
 
 pub fits_spelled : (rs : List Route) → routes_fit rs ≡ true → AreSpelled (program_tokens rs)
 fits_spelled [] f = tt
 fits_spelled (r ∷ rs) f =
-    let k = three (is_path r.pattern) (block_fits r.block 32) (routes_fit rs) f in
+    let k = conjuncts_of_three (is_path r.pattern) (block_fits r.block 32) (routes_fit rs) f in
     all_append (route_tokens r) (program_tokens rs) (tt, (tt, (path_literal r.pattern k.0, (block_spelled r.block).all 32 k.1))) (fits_spelled rs k.2)

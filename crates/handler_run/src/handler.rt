@@ -37,7 +37,7 @@ fn fault_text(alloc: Global, fault: Fault) -> Result<Text, NoMemory>
 {
     let number = fault_number(fault);
     let text = format!(in alloc; "fault {number}")?;
-    Ok(Text::from(text))
+    Text::shared(text)
 }
 
 fn replied(response: Response, state: State) -> Trace

@@ -9,7 +9,7 @@ use crate::state::State;
 use lang_core::{
     CallMade, Copied, Expr, LONGEST_TEXT, NoMemory, Read, Response, Text, Value, Write, Writes,
 };
-use lang_values::{Given, Outcome, value_of};
+use lang_values::{Evaluated, Given, value_of};
 use std::alloc::Global;
 
 const MOST_STEPS: u64 = 10000;
@@ -46,7 +46,7 @@ pub fn value_in(
     given: &Given,
     state: &State,
     expr: &Expr,
-) -> Result<Outcome, NoMemory>
+) -> Result<Evaluated, NoMemory>
     ensures { IfOk result (λ outcome. outcome ≡ value_of given.now state.now.vars expr.now) }
 {
     value_of(alloc, given, state.vars.as_slice(), expr)

@@ -1,25 +1,26 @@
 // Text, which contracts see as its bytes.
 ghost use Rattle.std.specs.Prelude.{◌≡◌, ◌↔◌, IfOk, IsTrue, ◌++◌, length};
+ghost use Rattle.std.specs.String.{string_bytes};
 ghost use Rattle.lang_base.specs.Texts.{same_text, text_order, begins_with};
 
 use crate::memory::{Copied, NoMemory, Same};
 use std::alloc::Global;
 use std::cmp::Ordering;
 use std::marker::Model;
+use std::sync::ArcStr;
 
 /// UTF-8 text, seen as its bytes.
 #[derive(Drop)]
 pub struct Text {
-    inner: String,
+    inner: ArcStr,
 }
 
 impl Model for Text {
     ghost use Rattle.std.specs.Prelude.{ℕ, List};
-    ghost use Rattle.std.specs.String.{string_bytes};
 
     ghost Value = { List ℕ };
 
-    ghost view = { λ text. string_bytes text.inner };
+    ghost view = { λ text. text.inner.text.value.bytes.items };
 }
 
 impl Text {
@@ -27,7 +28,15 @@ impl Text {
     pub fn of(alloc: Global, characters: &str) -> Result<Text, NoMemory>
         ensures { IfOk result (λ text. text ≡ characters.now) }
     {
-        let inner = String::from_str(alloc, characters)?;
+        let inner = ArcStr::from_str(alloc, characters)?;
+        Ok(Text { inner })
+    }
+
+    /// These characters, which are given up.
+    pub fn shared(text: String) -> Result<Text, NoMemory>
+        ensures { IfOk result (λ shared. shared ≡ string_bytes text) }
+    {
+        let inner = ArcStr::from_string(text)?;
         Ok(Text { inner })
     }
 
@@ -42,7 +51,7 @@ impl Text {
     pub fn as_bytes(&self) -> &[u8]
         ensures { result.now ≡ self.now }
     {
-        self.inner.as_bytes()
+        self.inner.as_str().as_bytes()
     }
 
     /// How many bytes it has.
@@ -67,19 +76,10 @@ impl Text {
     }
 }
 
-impl From<String> for Text {
-    ghost use Rattle.std.specs.String.{string_bytes};
-
-    ghost from_gives = { λ s text. text ≡ string_bytes s };
-
-    fn from(inner: String) -> Text {
-        Text { inner }
-    }
-}
-
 impl Copied for Text {
     fn copied(&self, alloc: Global) -> Result<Text, NoMemory> {
-        Text::of(alloc, self.as_str())
+        let inner = self.inner.clone()?;
+        Ok(Text { inner })
     }
 }
 

@@ -1,4 +1,5 @@
 pub mod Names
+pub mod Origins
 pub mod Places
 pub mod Rows
 pub mod Traces

@@ -28,7 +28,7 @@ pub fn repeated(rt: &(impl Abort + AllocGlobal), first: &str, character: char, t
     for _ in 0..times {
         all.push(character).expect(rt, "memory");
     }
-    Text::from(all)
+    Text::shared(all).expect(rt, "memory")
 }
 
 pub fn name(rt: &(impl Abort + AllocGlobal), characters: &str) -> Name {

@@ -39,7 +39,7 @@ fn set(rt: &(impl Abort + AllocGlobal), cells: &mut Cells, table: &str, key: Tex
 }
 
 fn numbered(rt: &(impl Abort + AllocGlobal), n: u64) -> Text {
-    Text::from(format!(in rt.alloc(); "k{n:04}").expect(rt, "memory"))
+    Text::shared(format!(in rt.alloc(); "k{n:04}").expect(rt, "memory")).expect(rt, "memory")
 }
 
 // Rows with so many cells of such a size under `k` of a table, one above them and one in another table.

@@ -84,7 +84,7 @@ fn answers(rt: &(impl Abort + AllocGlobal), count: u32) -> Answers {
         let body = format!(in rt.alloc(); "a{i}").expect(rt, "memory");
         let answer = Response {
             status: u16::try_from(i.saturating_add(200)).expect(rt, "a status"),
-            body: Text::from(body),
+            body: Text::shared(body).expect(rt, "memory"),
         };
         answers.push(answer).expect(rt, "memory");
     }

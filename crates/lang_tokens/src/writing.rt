@@ -136,5 +136,5 @@ pub fn write_tokens(alloc: Global, tokens: &[Token]) -> Result<Text, NoMemory>
     for token in tokens {
         put_token(alloc, &mut out, token)?;
     }
-    Ok(Text::from(out))
+    Text::shared(out)
 }

@@ -1,5 +1,5 @@
 -- Paths without their first slash, and patterns of another length.
-use Rattle.std.proofs.Common.{◌≡◌, ◌≢◌, ℕ, suc, Bool, true, false, cond, List, [], ◌∷◌, length, eqb, refl, sym, ap, arith}
+use Rattle.std.proofs.Common.{◌≡◌, ◌≢◌, ℕ, suc, Bool, true, false, cond, List, [], ◌∷◌, length, map, eqb, refl, sym, ap, arith}
 use Rattle.std.proofs.lemmas.Grind.{common_steps}
 use Rattle.lang_values.specs.Paths.{past_slash, segments_match}
 
@@ -14,8 +14,8 @@ past_slash_none (b ∷ bs) h = sym (by_test (eqb b 47) b bs refl h)
 pub past_slash_some : (path rest : List ℕ) → path ≡ 47 ∷ rest → rest ≡ past_slash path
 past_slash_some path rest e = rw e refl
 
-pub lengths_differ : (pattern segments : List (List ℕ)) → length pattern ≢ length segments → false ≡ segments_match pattern segments
-lengths_differ [] [] h = absurd (h refl)
-lengths_differ [] (s ∷ segments) h = refl
-lengths_differ (p ∷ pattern) [] h = refl
-lengths_differ (p ∷ pattern) (s ∷ segments) h = let ih : false ≡ segments_match pattern segments = lengths_differ pattern segments (λ e. h (ap suc e)) in grind (arith, common_steps)
+pub lengths_differ : {X : Type 0} (text : X → List ℕ) (pattern : List X) (segments : List (List ℕ)) → length pattern ≢ length segments → false ≡ segments_match (map text pattern) segments
+lengths_differ text [] [] h = absurd (h refl)
+lengths_differ text [] (s ∷ segments) h = refl
+lengths_differ text (p ∷ pattern) [] h = refl
+lengths_differ text (p ∷ pattern) (s ∷ segments) h = let ih : false ≡ segments_match (map text pattern) segments = lengths_differ text pattern segments (λ e. h (ap suc e)) in grind (arith, common_steps)

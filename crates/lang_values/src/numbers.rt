@@ -14,7 +14,7 @@ pub fn signed_text(alloc: Global, n: i64) -> Result<Text, NoMemory>
     ensures { IfOk result (λ text. text ≡ signed_text n) }
 {
     let text = format!(in alloc; "{n}")?;
-    Ok(Text::from(text))
+    Text::shared(text)
 }
 
 fn is_digits(text: &[u8]) -> bool

@@ -53,15 +53,15 @@ fn same_method(left: Method, right: Method) -> bool
     }
 }
 
-fn segment_matches(pattern: &Text, segment: &Text) -> bool
+fn segment_matches(pattern: &str, segment: &Text) -> bool
     ensures { result ≡ (same_text pattern.now (codes "*") || same_text pattern.now segment.now) }
 {
-    pattern.as_str() == "*" || pattern.is(segment)
+    pattern == "*" || pattern == segment.as_str()
 }
 
 #[tactic(auto, using(crate::proofs::PathLemmas::lengths_differ))]
-fn segments_match(pattern: &[Text], segments: &[Text]) -> bool
-    ensures { result ≡ segments_match pattern.now segments.now }
+fn segments_match(pattern: &[&str], segments: &[Text]) -> bool
+    ensures { result ≡ segments_match (map (λ x. x.now) pattern.now) segments.now }
 {
     if pattern.len() != segments.len() {
         return false;
@@ -85,8 +85,8 @@ fn route_matches(
     if !same_method(route.method, method) {
         return Ok(false);
     }
-    let pattern = segments_of(alloc, &route.pattern)?;
-    Ok(segments_match(pattern.as_slice(), segments))
+    let pattern = cut_at_slashes(alloc, past_slash(route.pattern.as_str()))?;
+    Ok(segments_match(&pattern, segments))
 }
 
 /// The first route that takes the method and the segments; None exactly where none does.

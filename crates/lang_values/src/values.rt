@@ -12,7 +12,7 @@ use std::alloc::Global;
 use std::cmp::Ordering;
 
 /// A value, or the fault of an expression. Want of memory stands outside of it.
-pub type Outcome = Result<Value, Fault>;
+pub type Evaluated = Result<Value, Fault>;
 
 fn same_value(left: &Value, right: &Value) -> bool
     ensures { result ≡ same_value left.now right.now }
@@ -31,7 +31,7 @@ fn truth(holds: bool) -> Value
     Value::Int(i64::from(holds))
 }
 
-fn add(left: i64, right: i64) -> Outcome
+fn add(left: i64, right: i64) -> Evaluated
     ensures { result ≡ exact (left +ℤ right) }
 {
     match left.checked_add(right) {
@@ -40,7 +40,7 @@ fn add(left: i64, right: i64) -> Outcome
     }
 }
 
-fn subtract(left: i64, right: i64) -> Outcome
+fn subtract(left: i64, right: i64) -> Evaluated
     ensures { result ≡ exact (left -ℤ right) }
 {
     match left.checked_sub(right) {
@@ -49,7 +49,7 @@ fn subtract(left: i64, right: i64) -> Outcome
     }
 }
 
-fn multiply(left: i64, right: i64) -> Outcome
+fn multiply(left: i64, right: i64) -> Evaluated
     ensures { result ≡ exact (left *ℤ right) }
 {
     match left.checked_mul(right) {
@@ -58,7 +58,7 @@ fn multiply(left: i64, right: i64) -> Outcome
     }
 }
 
-fn less(left: &Value, right: &Value) -> Outcome
+fn less(left: &Value, right: &Value) -> Evaluated
     ensures { result ≡ less left.now right.now }
 {
     match (left, right) {
@@ -78,7 +78,7 @@ fn is_less(order: Ordering) -> bool
 }
 
 // Two texts, one after the other, where that is no longer than a text may be.
-fn joined(alloc: Global, left: &Text, right: &Text) -> Result<Outcome, NoMemory>
+fn joined(alloc: Global, left: &Text, right: &Text) -> Result<Evaluated, NoMemory>
     ensures { IfOk result (λ outcome. outcome ≡ within_limit (left.now ++ right.now)) }
 {
     if left.len() > LONGEST_TEXT || right.len() > LONGEST_TEXT - left.len() {
@@ -86,10 +86,10 @@ fn joined(alloc: Global, left: &Text, right: &Text) -> Result<Outcome, NoMemory>
     }
     let mut text = String::from_str(alloc, left.as_str())?;
     text.push_str(right.as_str())?;
-    Ok(Ok(Value::Str(Text::from(text))))
+    Ok(Ok(Value::Str(Text::shared(text)?)))
 }
 
-fn join(alloc: Global, left: &Value, right: &Value) -> Result<Outcome, NoMemory>
+fn join(alloc: Global, left: &Value, right: &Value) -> Result<Evaluated, NoMemory>
     ensures { IfOk result (λ outcome. outcome ≡ join left.now right.now) }
 {
     match (left, right) {
@@ -98,7 +98,7 @@ fn join(alloc: Global, left: &Value, right: &Value) -> Result<Outcome, NoMemory>
     }
 }
 
-fn apply(alloc: Global, op: Op, left: &Value, right: &Value) -> Result<Outcome, NoMemory>
+fn apply(alloc: Global, op: Op, left: &Value, right: &Value) -> Result<Evaluated, NoMemory>
     ensures { IfOk result (λ outcome. outcome ≡ apply op left.now right.now) }
 {
     match op {
@@ -151,7 +151,7 @@ fn piece_at(alloc: Global, n: i64, by: &Text, text: &Text) -> Result<Value, NoMe
     }
 }
 
-fn part(alloc: Global, text: &Value, by: &Value, n: &Value) -> Result<Outcome, NoMemory>
+fn part(alloc: Global, text: &Value, by: &Value, n: &Value) -> Result<Evaluated, NoMemory>
     ensures { IfOk result (λ outcome. outcome ≡ part text.now by.now n.now) }
 {
     match (text, by, n) {
@@ -212,14 +212,14 @@ fn text_value(alloc: Global, text: &Text) -> Result<Value, NoMemory>
 }
 
 // A value that is no fault.
-fn fine(value: Result<Value, NoMemory>) -> Result<Outcome, NoMemory>
+fn fine(value: Result<Value, NoMemory>) -> Result<Evaluated, NoMemory>
     ensures { IfOk result (λ outcome. IsOkAnd value (λ v. outcome ≡ Ok v)) }
 {
     Ok(Ok(value?))
 }
 
 // What `number` gives of an operand that was evaluated.
-fn number_of(operand: Result<Outcome, NoMemory>) -> Result<Outcome, NoMemory>
+fn number_of(operand: Result<Evaluated, NoMemory>) -> Result<Evaluated, NoMemory>
     ensures { IfOk result (λ outcome. IsOkAnd operand (λ o. outcome ≡ and_then o (λ v. Ok (number v)))) }
 {
     match operand? {
@@ -229,7 +229,7 @@ fn number_of(operand: Result<Outcome, NoMemory>) -> Result<Outcome, NoMemory>
 }
 
 // What `text` gives of an operand that was evaluated.
-fn as_text_of(alloc: Global, operand: Result<Outcome, NoMemory>) -> Result<Outcome, NoMemory>
+fn as_text_of(alloc: Global, operand: Result<Evaluated, NoMemory>) -> Result<Evaluated, NoMemory>
     ensures { IfOk result (λ outcome. IsOkAnd operand (λ o. outcome ≡ and_then o (λ v. Ok (as_text v)))) }
 {
     match operand? {
@@ -239,7 +239,7 @@ fn as_text_of(alloc: Global, operand: Result<Outcome, NoMemory>) -> Result<Outco
 }
 
 /// Both, or the fault of the first that has one.
-pub fn pair_up<A: Drop>(first: Result<A, Fault>, second: Outcome) -> Result<(A, Value), Fault>
+pub fn pair_up<A: Drop>(first: Result<A, Fault>, second: Evaluated) -> Result<(A, Value), Fault>
     ensures ok { IfOk result (λ pair. (first ≡ Ok pair.0) × (second ≡ Ok pair.1)) }
     ensures err { IfErr result (λ fault. (first ≡ Err fault) ⊎ IsOkAnd first (λ _. second ≡ Err fault)) }
 {
@@ -256,8 +256,8 @@ pub fn pair_up<A: Drop>(first: Result<A, Fault>, second: Outcome) -> Result<(A, 
 fn applied(
     alloc: Global,
     op: Op,
-    operands: Result<(Outcome, Outcome), NoMemory>,
-) -> Result<Outcome, NoMemory>
+    operands: Result<(Evaluated, Evaluated), NoMemory>,
+) -> Result<Evaluated, NoMemory>
     ensures { IfOk result (λ outcome. IsOkAnd operands (λ o. outcome ≡ and_then o.0 (λ a. and_then o.1 (λ b. apply op a b)))) }
 {
     let (left, right) = operands?;
@@ -270,8 +270,8 @@ fn applied(
 // What `part` gives of operands that were evaluated.
 fn part_of(
     alloc: Global,
-    operands: Result<((Outcome, Outcome), Outcome), NoMemory>,
-) -> Result<Outcome, NoMemory>
+    operands: Result<((Evaluated, Evaluated), Evaluated), NoMemory>,
+) -> Result<Evaluated, NoMemory>
     ensures { IfOk result (λ outcome. IsOkAnd operands (λ o.
         outcome ≡ and_then o.0.0 (λ text. and_then o.0.1 (λ by. and_then o.1 (λ n. part text by n))))) }
 {
@@ -288,7 +288,7 @@ pub fn value_of(
     given: &Given,
     vars: &[Binding],
     expr: &Expr,
-) -> Result<Outcome, NoMemory>
+) -> Result<Evaluated, NoMemory>
     ensures { IfOk result (λ outcome. outcome ≡ value_of given.now vars.now expr.now) }
 {
     match expr {

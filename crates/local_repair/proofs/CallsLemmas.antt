@@ -7,10 +7,10 @@ use Rattle.handler_run.specs.Laws.{calls_of}
 use Rattle.handler_run.specs.declared.state.Ran.{Ran}
 use Rattle.handler_run.specs.declared.state.Ran.TheVariants.{Done, Wants}
 use Rattle.local_repair.specs.Current.{Consumed}
-use Rattle.local_repair.specs.Steps.{tentative, same_call, chosen, answer_at, answers_for, ended_or, trace_through}
+use Rattle.local_repair.specs.Steps.{tentative, same_call, consumed_if_same_call, answer_at, answers_for, ended_or, trace_through}
 use Rattle.local_repair.proofs.HandlerLemmas.{IsSteady}
 
-no_slot : (consumed : Consumed) (o : Option CallMade) (call : CallMade) → chosen consumed o None call ≡ tentative
+no_slot : (consumed : Consumed) (o : Option CallMade) (call : CallMade) → consumed_if_same_call consumed o None call ≡ tentative
 no_slot consumed None call = refl
 no_slot consumed (Some x) call = refl
 

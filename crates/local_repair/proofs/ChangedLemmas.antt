@@ -14,13 +14,13 @@ use Rattle.request_log.proofs.ChangeLemmas.{changed_place, not_found, unknown, L
 use Rattle.versioned_rows.proofs.IndexLemmas.{position_is}
 use Rattle.dependency_index.specs.Reads.{read_at}
 use Rattle.log_index.specs.Marks.{KeptMarks, changes, is_marked}
-use Rattle.local_repair.specs.Current.{Consumed, AllCurrent, IsFirstStale, rows_of, writes_of}
+use Rattle.local_repair.specs.Current.{Consumed, AllCurrent, IsFirstStale, rows_after, writes_of}
 use Rattle.local_repair.specs.Held.{IsHeld, IsIdMarked, IsKept, IsMarkedBehind}
-use Rattle.local_repair.specs.Registers.{Change}
+use Rattle.local_repair.specs.Registers.{SlotsChange}
 use Rattle.local_repair.specs.Repairs.{Amends, IsAmended}
 use Rattle.local_repair.specs.Settling.{IsAgain, noted}
 use Rattle.local_repair.specs.Written.{all_written}
-use Rattle.local_repair.specs.declared.remaking.Again.{Again}
+use Rattle.local_repair.specs.declared.remaking.Rerun.{Rerun}
 use Rattle.local_repair.proofs.AgreeLemmas.{alike_but_changes}
 use Rattle.local_repair.proofs.CurrentLemmas.{current_at}
 use Rattle.local_repair.proofs.GivesLemmas.{wrote}
@@ -92,7 +92,7 @@ kept_idle consumed entries writes m m' calls kept all reads = record {
   looked = reads ∙ kept.looked;
   held = λ q d lt bare.
       let P : List Entry → Type 0 = λ l. AllCurrent consumed [] l in
-      held_current consumed (rows_of (take q entries)) (get_or entries q d)
+      held_current consumed (rows_after [] (take q entries)) (get_or entries q d)
       (current_at consumed entries [] (length entries) q d lt lt (subst P (sym (take_all (length entries) entries (omega arith))) all));
   quiet = kept.quiet;
 }
@@ -102,8 +102,8 @@ pub kept_calls : (entries : List Entry) (writes : List (List Write)) (m : KeptMa
 kept_calls entries writes m calls now kept called = record { tied = kept.tied; looked = kept.looked; held = kept.held; quiet = λ none. kept.quiet (called none) }
 
 -- the first stale entry ran again, and that was noted
-pub kept_run : (setting : Setting) → IsHandler setting → (c : Change) (entries after : List Entry) (writes written : List (List Write)) (m m1 m2 : KeptMarks) (place : ℕ) (again : Again) (calls now : Bool)
-    → IsKept entries writes m calls → IsFirstStale c.before entries place → ((d : Entry) → IsAgain setting c (rows_of (take place entries)) (get_or entries place d) again)
+pub kept_run : (setting : Setting) → IsHandler setting → (c : SlotsChange) (entries after : List Entry) (writes written : List (List Write)) (m m1 m2 : KeptMarks) (place : ℕ) (again : Rerun) (calls now : Bool)
+    → IsKept entries writes m calls → IsFirstStale c.before [] entries place → ((d : Entry) → IsAgain setting c (rows_after [] (take place entries)) (get_or entries place d) again)
     → ((d : Entry) → IsMarkedBehind place (writes_of (get_or entries place d).made) again.made.trace.writes m m1)
     → ((d : Entry) → after ≡ set entries place (noted again (get_or entries place d)))
     → m2.reads ≡ set m1.reads place (map read_at again.made.trace.reads) → ((q : ℕ) → is_marked q m2.marks ≡ (not (nat_lt q (place + 1)) && is_marked q m1.marks))
@@ -112,7 +112,7 @@ kept_run setting h c entries after writes written m m1 m2 place again calls now 
     let x = entry_at entries place first.within in
     let was : Entry = x.0 in
     let at : (d : Entry) → get_or entries place d ≡ was = x.1 in
-    let rows : List Cell = rows_of (take place entries) in
+    let rows : List Cell = rows_after [] (take place entries) in
     let A : Entry → Type 0 = λ e. IsAgain setting c rows e again in
     let P : Entry → Type 0 = λ e. after ≡ set entries place (noted again e) in
     let M : Entry → Type 0 = λ e. IsMarkedBehind place (wrote e) again.made.trace.writes m m1 in

@@ -20,7 +20,7 @@ use Rattle.dependency_index.specs.declared.reads.ReadAt.{ReadAt}
 use Rattle.log_index.specs.Rows.{rows_made}
 use Rattle.log_index.proofs.EditLemmas.{map_insert}
 use Rattle.log_index.specs.Marks.{KeptMarks, is_marked, sees, sees_behind}
-use Rattle.local_repair.specs.Current.{Consumed, after_entry, rows_after, rows_of, writes_of, IsCurrent, IsCurrentRecord, IsFirstStale}
+use Rattle.local_repair.specs.Current.{Consumed, after_entry, rows_after, writes_of, IsCurrent, IsCurrentRecord, IsFirstStale}
 use Rattle.local_repair.specs.Held.{IsHeld, IsHeldRecord, IsKept, IsMarkedFrom, all_looked, looked, reads_of}
 use Rattle.local_repair.specs.Written.{all_written}
 use Rattle.local_repair.proofs.AgreeLemmas.{AlikeBut}
@@ -34,10 +34,10 @@ rows_ordered : (entries : List Entry) (rows : List Cell) → IsOrdered cell_plac
 rows_ordered [] rows o = o
 rows_ordered (x ∷ xs) rows o = rows_ordered xs (after_entry rows x) (ordered-apply rows (wrote x) o)
 
-of_written : (entries : List Entry) (n : ℕ) → rows_made (take n (all_written entries)) ≡ rows_of (take n entries)
+of_written : (entries : List Entry) (n : ℕ) → rows_made (take n (all_written entries)) ≡ rows_after [] (take n entries)
 of_written entries n = ap rows_made (take-map wrote n entries) ∙ made_rows (take n entries)
 
-rows_alike : (entries after : List Entry) (n : ℕ) → all_written after ≡ all_written entries → rows_of (take n entries) ≡ rows_of (take n after)
+rows_alike : (entries after : List Entry) (n : ℕ) → all_written after ≡ all_written entries → rows_after [] (take n entries) ≡ rows_after [] (take n after)
 rows_alike entries after n same = sym (of_written entries n) ∙ ap (λ w. rows_made (take n w)) (sym same) ∙ of_written after n
 
 -- ---- one entry
@@ -118,44 +118,44 @@ module _ (entries after : List Entry) (place : ℕ) (z : Entry) (within : place 
 
   -- an entry behind it that looks at nothing that the new record changed
   behind_set : (q : ℕ) (d : Entry) (changed : List Write) → place < q → AlikeBut changed (wrote (get_or entries place d)) (wrote z) → sees changed (looked (get_or entries q d)) ≡ false
-      → IsHeld (rows_of (take q entries)) (get_or entries q d) → IsHeld (rows_of (take q after)) (get_or after q d)
+      → IsHeld (rows_after [] (take q entries)) (get_or entries q d) → IsHeld (rows_after [] (take q after)) (get_or after q d)
   behind_set q d changed lt alike bare h =
       let e : Entry = get_or entries q d in
-      let P : List Entry → Type 0 = λ l. GivesAll (rows_of (take q l)) (reads_of e.made) in
-      let Q : Entry → Type 0 = λ x. IsHeld (rows_of (take q after)) x in
+      let P : List Entry → Type 0 = λ l. GivesAll (rows_after [] (take q l)) (reads_of e.made) in
+      let Q : Entry → Type 0 = λ x. IsHeld (rows_after [] (take q after)) x in
       subst Q (sym (other_is q d (λ same. omega arith)))
-      (moved (rows_of (take q entries)) (rows_of (take q after)) e
+      (moved (rows_after [] (take q entries)) (rows_after [] (take q after)) e
       (λ g. subst P (sym is) (set_gives entries place q z d changed [] (reads_of e.made) tt lt within alike bare g)) h)
 
   -- an entry before it
-  before_set : (q : ℕ) (d : Entry) → q < place → IsHeld (rows_of (take q entries)) (get_or entries q d) → IsHeld (rows_of (take q after)) (get_or after q d)
+  before_set : (q : ℕ) (d : Entry) → q < place → IsHeld (rows_after [] (take q entries)) (get_or entries q d) → IsHeld (rows_after [] (take q after)) (get_or after q d)
   before_set q d lt h =
-      let P : List Entry → Entry → Type 0 = λ l x. IsHeld (rows_of l) x in
+      let P : List Entry → Entry → Type 0 = λ l x. IsHeld (rows_after [] l) x in
       let R : List Entry → Type 0 = λ l. P l (get_or after q d) in
       let Q : Entry → Type 0 = λ x. P (take q entries) x in
       subst R (sym (front_is q (omega arith))) (subst Q (sym (other_is q d (λ same. omega arith))) h)
 
   -- the entry itself
-  at_set : (d : Entry) → IsHeld (rows_of (take place entries)) z → IsHeld (rows_of (take place after)) (get_or after place d)
+  at_set : (d : Entry) → IsHeld (rows_after [] (take place entries)) z → IsHeld (rows_after [] (take place after)) (get_or after place d)
   at_set d h =
-      let R : List Entry → Type 0 = λ l. IsHeld (rows_of l) (get_or after place d) in
-      let Q : Entry → Type 0 = λ x. IsHeld (rows_of (take place entries)) x in
+      let R : List Entry → Type 0 = λ l. IsHeld (rows_after [] l) (get_or after place d) in
+      let Q : Entry → Type 0 = λ x. IsHeld (rows_after [] (take place entries)) x in
       subst R (sym (front_is place (omega arith))) (subst Q (sym (here_is d)) h)
 
 -- what is kept after the first stale entry ran again
 pub kept_stepped : (consumed : Consumed) (entries after : List Entry) (writes written : List (List Write)) (m m1 m2 : KeptMarks) (place : ℕ) (was z : Entry) (changed : List Write) (calls now : Bool)
-    → IsKept entries writes m calls → (now ≡ false → (calls ≡ false) × (z.slots ≡ [])) → IsFirstStale consumed entries place → ((d : Entry) → get_or entries place d ≡ was)
+    → IsKept entries writes m calls → (now ≡ false → (calls ≡ false) × (z.slots ≡ [])) → IsFirstStale consumed [] entries place → ((d : Entry) → get_or entries place d ≡ was)
     → AlikeBut changed (wrote was) (wrote z) → IsMarkedFrom (place + 1) changed m m1
     → m2.reads ≡ set m1.reads place (looked z) → ((q : ℕ) → is_marked q m2.marks ≡ (not (nat_lt q (place + 1)) && is_marked q m1.marks))
-    → IsHeld (rows_of (take place entries)) z → after ≡ set entries place z → written ≡ all_written after → IsKept after written m2 now
+    → IsHeld (rows_after [] (take place entries)) z → after ≡ set entries place z → written ≡ all_written after → IsKept after written m2 now
 kept_stepped consumed entries after writes written m m1 m2 place was z changed calls now kept called first there alike marked reads cleared held is tied =
     let within = first.within in
     record {
       tied = tied;
       looked = reads ∙ ap (λ r. set r place (looked z)) (marked.reads ∙ kept.looked) ∙ sym (map-set looked entries place z) ∙ ap all_looked (sym is);
       held = λ q d lt bare. elim (cases_order q place) [
-        | inl e ↦ (let P : ℕ → Type 0 = λ n. IsHeld (rows_of (take n after)) (get_or after n d) in subst P (sym e) (at_set entries after place z within is d held))
-        | inr (inl less) ↦ before_set entries after place z within is q d less (held_current consumed (rows_of (take q entries)) (get_or entries q d)
+        | inl e ↦ (let P : ℕ → Type 0 = λ n. IsHeld (rows_after [] (take n after)) (get_or after n d) in subst P (sym e) (at_set entries after place z within is d held))
+        | inr (inl less) ↦ before_set entries after place z within is q d less (held_current consumed (rows_after [] (take q entries)) (get_or entries q d)
             (current_at consumed entries [] place q d less (omega arith) first.before))
         | inr (inr more) ↦ (let e : nat_lt q (place + 1) ≡ false = le-ltb q (place + 1) (omega arith) in
             let n = many entries after place z within is in
@@ -194,7 +194,7 @@ kept_amended entries after writes m m' place z calls kept within same slots is r
           let parts = marked_or (nat_eq q place) (is_marked q m.marks) (is_marked q m'.marks) (marks q) bare in
           let differs : q ≢ place = λ e. never_itself place (ap (λ k. nat_eq k place) (sym e) ∙ parts.0) in
           let P : List Cell → Entry → Type 0 = λ rows x. IsHeld rows x in
-          let Q : Entry → Type 0 = λ x. IsHeld (rows_of (take q entries)) x in
+          let Q : Entry → Type 0 = λ x. IsHeld (rows_after [] (take q entries)) x in
           let R : List Cell → Type 0 = λ rows. IsHeld rows (get_or after q d) in
           subst R (rows_alike entries after q w) (subst Q (sym (other_is entries after place z within is q d differs)) (kept.held q d (omega arith) parts.1));
       quiet = λ none.
@@ -213,7 +213,7 @@ before_insert (x ∷ xs) (suc n) (suc at) z le within = ap (λ l. x ∷ l) (befo
 
 -- what is kept once an entry was put at a place, marked unless it is held there
 pub kept_inserted : (entries after : List Entry) (writes written : List (List Write)) (m m1 m2 : KeptMarks) (place : ℕ) (z : Entry) (marked calls now : Bool)
-    → IsKept entries writes m calls → (now ≡ false → (calls ≡ false) × (z.slots ≡ [])) → place ≤ length entries → IsMarkedFrom place (wrote z) m m1 → (marked ≡ false → IsHeld (rows_of (take place entries)) z)
+    → IsKept entries writes m calls → (now ≡ false → (calls ≡ false) × (z.slots ≡ [])) → place ≤ length entries → IsMarkedFrom place (wrote z) m m1 → (marked ≡ false → IsHeld (rows_after [] (take place entries)) z)
     → m2.reads ≡ insert m1.reads place (looked z) → is_marked place m2.marks ≡ marked → ((q : ℕ) → q < place → is_marked q m2.marks ≡ is_marked q m1.marks)
     → ((q : ℕ) → place ≤ q → is_marked (q + 1) m2.marks ≡ is_marked q m1.marks)
     → after ≡ insert entries place z → written ≡ all_written after → IsKept after written m2 now
@@ -221,14 +221,14 @@ kept_inserted entries after writes written m m1 m2 place z marked calls now kept
   tied = tied;
   looked = reads ∙ ap (λ r. insert r place (looked z)) (from.reads ∙ kept.looked) ∙ sym (map_insert looked entries place z) ∙ ap all_looked (sym is);
   held = λ q d lt bare. elim (cases_order q place) [
-    | inl e ↦ (let P : ℕ → Type 0 = λ n. IsHeld (rows_of (take n after)) (get_or after n d) in
+    | inl e ↦ (let P : ℕ → Type 0 = λ n. IsHeld (rows_after [] (take n after)) (get_or after n d) in
         subst P (sym e) (at_place d (held (sym here ∙ ap (λ n. is_marked n m2.marks) (sym e) ∙ bare))))
     | inr (inl less) ↦ (let inside : q < length entries = omega arith in
         before_place q d less (kept.held q d inside (from.stays q (sym (before q less) ∙ bare))))
     | inr (inr more) ↦ (let k : ℕ = q - 1 in
         let e : k + 1 ≡ q = omega arith in
         let n : length after ≡ length entries + 1 = ap length is ∙ length-insert entries place z within in
-        let P : ℕ → Type 0 = λ n. IsHeld (rows_of (take n after)) (get_or after n d) in
+        let P : ℕ → Type 0 = λ n. IsHeld (rows_after [] (take n after)) (get_or after n d) in
         let no_mark : is_marked k m1.marks ≡ false = sym (behind k (omega arith)) ∙ ap (λ n. is_marked n m2.marks) e ∙ bare in
         subst P e (behind_place k d (omega arith) (omega arith) no_mark))
   ];
@@ -243,27 +243,27 @@ kept_inserted entries after writes written m m1 m2 place z marked calls now kept
     front_of : (n : ℕ) → n ≤ place → take n entries ≡ take n after
     front_of n le = sym (ap (take n) is ∙ before_insert entries n place z le within)
 
-    at_place : (d : Entry) → IsHeld (rows_of (take place entries)) z → IsHeld (rows_of (take place after)) (get_or after place d)
+    at_place : (d : Entry) → IsHeld (rows_after [] (take place entries)) z → IsHeld (rows_after [] (take place after)) (get_or after place d)
     at_place d h =
         let there : z ≡ get_or after place d = sym (ap (λ l. get_or l place d) is ∙ get_or-insert_at entries place z d within) in
-        let Q : Entry → Type 0 = λ x. IsHeld (rows_of (take place entries)) x in
-        let R : List Entry → Type 0 = λ l. IsHeld (rows_of l) (get_or after place d) in
+        let Q : Entry → Type 0 = λ x. IsHeld (rows_after [] (take place entries)) x in
+        let R : List Entry → Type 0 = λ l. IsHeld (rows_after [] l) (get_or after place d) in
         subst R (front_of place (omega arith)) (subst Q there h)
 
-    before_place : (q : ℕ) (d : Entry) → q < place → IsHeld (rows_of (take q entries)) (get_or entries q d) → IsHeld (rows_of (take q after)) (get_or after q d)
+    before_place : (q : ℕ) (d : Entry) → q < place → IsHeld (rows_after [] (take q entries)) (get_or entries q d) → IsHeld (rows_after [] (take q after)) (get_or after q d)
     before_place q d less h =
         let there : get_or entries q d ≡ get_or after q d = sym (ap (λ l. get_or l q d) is ∙ get_or-insert_below entries place z d q less within) in
-        let Q : Entry → Type 0 = λ x. IsHeld (rows_of (take q entries)) x in
-        let R : List Entry → Type 0 = λ l. IsHeld (rows_of l) (get_or after q d) in
+        let Q : Entry → Type 0 = λ x. IsHeld (rows_after [] (take q entries)) x in
+        let R : List Entry → Type 0 = λ l. IsHeld (rows_after [] l) (get_or after q d) in
         subst R (front_of q (omega arith)) (subst Q there h)
 
-    behind_place : (k : ℕ) (d : Entry) → place ≤ k → k < length entries → is_marked k m1.marks ≡ false → IsHeld (rows_of (take (k + 1) after)) (get_or after (k + 1) d)
+    behind_place : (k : ℕ) (d : Entry) → place ≤ k → k < length entries → is_marked k m1.marks ≡ false → IsHeld (rows_after [] (take (k + 1) after)) (get_or after (k + 1) d)
     behind_place k d le lt bare =
         let e : Entry = get_or entries k d in
         let there : e ≡ get_or after (k + 1) d = sym (ap (λ l. get_or l (k + 1) d) is ∙ get_or-insert_above entries place z d k le within) in
         let count : length m.reads ≡ length entries = ap length kept.looked ∙ length-map entries looked in
         let nothing : sees (wrote z) (looked e) ≡ false = ap (sees (wrote z)) (sym (looked_at entries m.reads k d kept.looked lt)) ∙ from.sees k le (omega arith) bare in
-        let P : List Entry → Type 0 = λ l. GivesAll (rows_of (take (k + 1) l)) (reads_of e.made) in
-        let Q : Entry → Type 0 = λ x. IsHeld (rows_of (take (k + 1) after)) x in
-        subst Q there (moved (rows_of (take k entries)) (rows_of (take (k + 1) after)) e
+        let P : List Entry → Type 0 = λ l. GivesAll (rows_after [] (take (k + 1) l)) (reads_of e.made) in
+        let Q : Entry → Type 0 = λ x. IsHeld (rows_after [] (take (k + 1) after)) x in
+        subst Q there (moved (rows_after [] (take k entries)) (rows_after [] (take (k + 1) after)) e
         (λ g. subst P (sym is) (insert_gives entries place k z [] (reads_of e.made) tt le within nothing g)) (kept.held k d lt (from.stays k bare)))

@@ -1,5 +1,4 @@
 pub mod AgreeLemmas
-pub mod AloneLemmas
 pub mod CallsLemmas
 pub mod ChangedLemmas
 pub mod CurrentLemmas

@@ -1,5 +1,5 @@
 -- Entries that are current replay as they are recorded.
-use Rattle.std.proofs.Common.{◌≡◌, ℕ, true, List, [], ◌∷◌, Option, Some, None, IfSome, IsSomeAnd, map, take, length, refl, sym, ap, ◌∙◌, subst, inl, inr}
+use Rattle.std.proofs.Common.{◌≡◌, ℕ, true, List, [], ◌∷◌, Option, Some, None, IfSome, IsSomeAnd, map, take, length, option_map, refl, sym, ap, ◌∙◌, subst, inl, inr}
 use Rattle.std.proofs.lemmas.Bool.{cases_Bool}
 use Rattle.std.proofs.lemmas.List.Elements.{All-head, All-tail, All-take}
 use Rattle.std.proofs.Math.ListN.{length-map}
@@ -10,12 +10,13 @@ use Rattle.lang_core.specs.declared.trace.Trace.{Trace}
 use Rattle.handler_run.specs.Handlers.{run_of}
 use Rattle.handler_run.specs.declared.state.Ran.TheVariants.{Done}
 use Rattle.handler_run.proofs.RunLaws.{counts_done}
-use Rattle.execution.specs.Executions.{IsPlayed, Replays}
+use Rattle.execution.specs.Executions.{IsPlayed, IsReplay, Replays}
 use Rattle.request_log.specs.Entries.{is_alive}
+use Rattle.request_log.specs.Records.{record_in}
 use Rattle.request_log.specs.declared.entry.Entry.{Entry}
 use Rattle.request_log.specs.declared.entry.Made.{Made}
-use Rattle.local_repair.specs.Current.{Consumed, writes_of, after_entry, rows_after, rows_of, IsCurrentRecord, AllCurrent, IsFirstStale, IsRun, AllRuns}
-use Rattle.local_repair.specs.Histories.{trace_of, act_of}
+use Rattle.local_repair.specs.Current.{Consumed, writes_of, after_entry, rows_after, IsCurrentRecord, AllCurrent, IsFirstStale, IsRun, AllRuns}
+use Rattle.local_repair.specs.Histories.{deed_in, act_of, ReplayAsRecorded}
 
 -- a record has as many answers as calls
 as_many : (setting : Setting) (consumed : Consumed) (rows : List Cell) (e : Entry) (m : Made) → IsRun setting e.inputs m → IsCurrentRecord consumed rows e m
@@ -26,9 +27,9 @@ as_many setting consumed rows e m r h = elim (cases_Bool m.alive) [
 ]
 
 -- what a record that is current holds is what the entry did, on the rows and with the answers of now
-played : (setting : Setting) (consumed : Consumed) (rows : List Cell) (e : Entry) (m : Made) → IsRun setting e.inputs m → IsCurrentRecord consumed rows e m
-    → IsPlayed setting rows (act_of consumed e) m.trace
-played setting consumed rows e m r h =
+played : (setting : Setting) (consumed : Consumed) (rows : List Cell) (e : Entry) (m : Made) → e.made ≡ Some m → IsRun setting e.inputs m
+    → IsCurrentRecord consumed rows e m → IsPlayed setting rows (act_of consumed e) m.trace
+played setting consumed rows e m is r h =
     let many : length (map consumed e.slots) ≡ length m.trace.calls = ap length (sym h.answers) ∙ as_many setting consumed rows e m r h in
     record {
       live = λ alive. played_live alive;
@@ -36,6 +37,7 @@ played setting consumed rows e m r h =
       consumed = sym h.answers;
       answered = many;
       named = sym (length-map e.slots consumed) ∙ many;
+      did = ap (λ o. option_map deed_in (option_map record_in o)) is;
     }
   where
     played_live : is_alive e ≡ true → run_of setting e.request e.inputs (map consumed e.slots) rows ≡ Done m.trace
@@ -45,24 +47,39 @@ played setting consumed rows e m r h =
         let a = h.answers in
         cc
 
--- an entry that is current did what is recorded of it, and leaves the rows that its record leaves
-did : (setting : Setting) (consumed : Consumed) (rows : List Cell) (e : Entry) (made : Option Made) (Rest : List Cell → Type 0) → IfSome made (IsRun setting e.inputs)
-    → IsSomeAnd made (λ m. IsCurrentRecord consumed rows e m) → Rest (apply rows (writes_of made))
-    → IsSomeAnd (trace_of made) (λ t. IsPlayed setting rows (act_of consumed e) t × Rest (apply rows t.writes))
-did setting consumed rows e None Rest r h rest = absurd h
-did setting consumed rows e (Some m) Rest r h rest = (played setting consumed rows e m r h, rest)
+-- the record of an entry that is current
+record RanNow (setting : Setting) (consumed : Consumed) (rows : List Cell) (e : Entry) : Type 0 where
+  made : Made
+  is : e.made ≡ Some made
+  played : IsPlayed setting rows (act_of consumed e) made.trace
+
+ran_now : (setting : Setting) (consumed : Consumed) (rows : List Cell) (e : Entry) (o : Option Made) → e.made ≡ o → IfSome o (IsRun setting e.inputs)
+    → IsSomeAnd o (λ m. IsCurrentRecord consumed rows e m) → RanNow setting consumed rows e
+ran_now setting consumed rows e None is r h = absurd h
+ran_now setting consumed rows e (Some m) is r h = record { made = m; is = is; played = played setting consumed rows e m is r h }
 
 -- entries that are all current replay to their own records and rows
+pub replay_recorded : (setting : Setting) (consumed : Consumed) (entries : List Entry) (rows : List Cell) → AllRuns setting entries → AllCurrent consumed rows entries
+    → ReplayAsRecorded setting consumed rows entries
+replay_recorded setting consumed [] rows runs current = record { traces = []; replay = refl; recorded = refl }
+replay_recorded setting consumed (e ∷ es) rows runs current =
+    let Ran : Entry → Type 0 = λ x. IfSome x.made (IsRun setting x.inputs) in
+    let x = ran_now setting consumed rows e e.made refl (All-head Ran e es runs) current.0 in
+    let rest = replay_recorded setting consumed es (after_entry rows e) (All-tail Ran e es runs) current.1 in
+    let From : List Cell → Type 0 = λ r. IsReplay setting r (map (act_of consumed) es) rest.traces (rows_after rows (e ∷ es)) in
+    record {
+      traces = (x.made).trace ∷ rest.traces;
+      replay = (x.played, subst From (ap (λ o. apply rows (writes_of o)) x.is) rest.replay);
+      recorded = λ i. option_map (λ (m : Made). m.trace) (x.is i) ∷ rest.recorded i;
+    }
+
 pub replays : (setting : Setting) (consumed : Consumed) (entries : List Entry) (rows : List Cell) → AllRuns setting entries → AllCurrent consumed rows entries
     → Replays setting rows (map (act_of consumed) entries) (rows_after rows entries)
-replays setting consumed [] rows runs current = refl
-replays setting consumed (e ∷ es) rows runs current =
-    did setting consumed rows e e.made (λ after. Replays setting after (map (act_of consumed) es) (rows_after rows (e ∷ es)))
-    (All-head (λ x. IfSome x.made (IsRun setting x.inputs)) e es runs) current.0
-    (replays setting consumed es (after_entry rows e) (All-tail (λ x. IfSome x.made (IsRun setting x.inputs)) e es runs) current.1)
+replays setting consumed entries rows runs current =
+    let r = replay_recorded setting consumed entries rows runs current in record { traces = r.traces; replay = r.replay }
 
 -- so do the entries before the first stale one
-pub replays_before : (setting : Setting) (consumed : Consumed) (entries : List Entry) (place : ℕ) → AllRuns setting entries → IsFirstStale consumed entries place
-    → Replays setting [] (map (act_of consumed) (take place entries)) (rows_of (take place entries))
-replays_before setting consumed entries place runs first =
-    replays setting consumed (take place entries) [] (All-take (λ x. IfSome x.made (IsRun setting x.inputs)) place entries runs) first.before
+pub recorded_before : (setting : Setting) (consumed : Consumed) (base : List Cell) (entries : List Entry) (place : ℕ) → AllRuns setting entries
+    → IsFirstStale consumed base entries place → ReplayAsRecorded setting consumed base (take place entries)
+recorded_before setting consumed base entries place runs first =
+    replay_recorded setting consumed (take place entries) base (All-take (λ x. IfSome x.made (IsRun setting x.inputs)) place entries runs) first.before

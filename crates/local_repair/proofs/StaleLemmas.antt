@@ -10,7 +10,7 @@ use Rattle.lang_core.specs.declared.writes.Write.{Write}
 use Rattle.request_log.specs.declared.entry.Entry.{Entry}
 use Rattle.request_log.specs.declared.entry.Made.{Made}
 use Rattle.log_index.specs.Marks.{KeptMarks, is_marked}
-use Rattle.local_repair.specs.Current.{Consumed, AllCurrent, IsCurrent, IsCurrentRecord, IsFirstStale, rows_of}
+use Rattle.local_repair.specs.Current.{Consumed, AllCurrent, IsCurrent, IsCurrentRecord, IsFirstStale, rows_after}
 use Rattle.local_repair.specs.Held.{AreCurrent, IsAnswered, IsCurrentAt, IsFirstChanged, IsFirstMarked, IsHeld, IsHeldRecord, IsKept}
 use Rattle.local_repair.proofs.CurrentLemmas.{AllCurrent-more}
 use Rattle.local_repair.proofs.StepLemmas.{entry_at}
@@ -35,20 +35,20 @@ changed_by consumed rows e None h = h
 changed_by consumed rows e (Some m) h = h.answers
 
 -- an entry that was tested, where it stands
-pub current_here : (consumed : Consumed) (entries : List Entry) (k place : ℕ) (e : Entry) (rows : List Cell) → place < length entries → e ≡ get_or entries place e → rows ≡ rows_of (take place entries)
+pub current_here : (consumed : Consumed) (entries : List Entry) (k place : ℕ) (e : Entry) (rows : List Cell) → place < length entries → e ≡ get_or entries place e → rows ≡ rows_after [] (take place entries)
     → IsCurrent consumed rows e → k ≡ place → IsCurrentAt consumed entries k
 current_here consumed entries k place e rows within is seen current same =
     let P : ℕ → Type 0 = λ n. IsCurrentAt consumed entries n in
     let Q : List Cell → Entry → Type 0 = λ r x. IsCurrent consumed r x in
     let B : List Cell → Type 0 = λ r. Q r e in
-    subst P (sym same) (λ d. subst (Q (rows_of (take place entries))) (is ∙ get_or_default entries place e d within) (subst B seen current))
+    subst P (sym same) (λ d. subst (Q (rows_after [] (take place entries))) (is ∙ get_or_default entries place e d within) (subst B seen current))
 
-pub stale_here : (consumed : Consumed) (entries : List Entry) (place : ℕ) (e : Entry) (rows : List Cell) → place < length entries → e ≡ get_or entries place e → rows ≡ rows_of (take place entries)
-    → (IsCurrent consumed rows e → ⊥) → HoldsAt (λ e. ¬ IsCurrent consumed (rows_of (take place entries)) e) entries place
+pub stale_here : (consumed : Consumed) (entries : List Entry) (place : ℕ) (e : Entry) (rows : List Cell) → place < length entries → e ≡ get_or entries place e → rows ≡ rows_after [] (take place entries)
+    → (IsCurrent consumed rows e → ⊥) → HoldsAt (λ e. ¬ IsCurrent consumed (rows_after [] (take place entries)) e) entries place
 stale_here consumed entries place e rows within is seen stale = λ d current.
     let Q : List Cell → Entry → Type 0 = λ r x. IsCurrent consumed r x in
     let B : List Cell → Type 0 = λ r. Q r e in
-    stale (subst B (sym seen) (subst (Q (rows_of (take place entries))) (get_or_default entries place d e within ∙ sym is) current))
+    stale (subst B (sym seen) (subst (Q (rows_after [] (take place entries))) (get_or_default entries place d e within ∙ sym is) current))
 
 -- ---- all before a place
 
@@ -58,7 +58,7 @@ all_current consumed entries (suc n) le each =
     let x = entry_at entries n (omega arith) in
     let e : n + 1 ≡ suc n = omega arith in
     let P : ℕ → Type 0 = λ k. AllCurrent consumed [] (take k entries) in
-    let Q : Entry → Type 0 = λ y. IsCurrent consumed (rows_of (take n entries)) y in
+    let Q : Entry → Type 0 = λ y. IsCurrent consumed (rows_after [] (take n entries)) y in
     subst P e (AllCurrent-more consumed entries n x.0 [] (omega arith) (sym (x.1 x.0)) (all_current consumed entries n (omega arith) (λ q lt. each q (omega arith))) (subst Q (x.1 x.0) (each n (omega arith) x.0)))
 
 module _ (consumed : Consumed) (entries : List Entry) (writes : List (List Write)) (m : KeptMarks) (calls : Bool) (kept : IsKept entries writes m calls) where
@@ -67,7 +67,7 @@ module _ (consumed : Consumed) (entries : List Entry) (writes : List (List Write
       → (q : ℕ) → q < end → is_marked q m.marks ≡ false → HoldsAt (IsAnswered consumed) entries q
   answered end le given q lt bare = elim (cases_Bool calls) [
     | inl some ↦ given some q lt
-    | inr none ↦ λ d. answered_by consumed (rows_of (take q entries)) (get_or entries q d) (get_or entries q d).made (kept.held q d (omega arith) bare)
+    | inr none ↦ λ d. answered_by consumed (rows_after [] (take q entries)) (get_or entries q d) (get_or entries q d).made (kept.held q d (omega arith) bare)
         (All-get_or (λ (e : Entry). e.slots ≡ []) entries q d (omega arith) (kept.quiet none))
   ]
 
@@ -75,7 +75,7 @@ module _ (consumed : Consumed) (entries : List Entry) (writes : List (List Write
       → (q : ℕ) → q < end → IsCurrentAt consumed entries q
   each_current end le marked given q lt = elim (cases_Bool (is_marked q m.marks)) [
     | inl told ↦ marked q lt told
-    | inr bare ↦ λ d. current_by consumed (rows_of (take q entries)) (get_or entries q d) (get_or entries q d).made (kept.held q d (omega arith) bare) (given q lt bare d)
+    | inr bare ↦ λ d. current_by consumed (rows_after [] (take q entries)) (get_or entries q d) (get_or entries q d).made (kept.held q d (omega arith) bare) (given q lt bare d)
   ]
 
   -- up to the end that the marked entries leave
@@ -90,7 +90,7 @@ module _ (consumed : Consumed) (entries : List Entry) (writes : List (List Write
   end_within (Some p) end is tested = (let lt = tested.within in omega arith, λ q lt told. tested.before q (omega arith) told)
 
   -- an entry whose record consumed something else
-  pub changed_first : (marked : Option ℕ) (end place : ℕ) → IsEnd marked end → AreTested marked → place < end → IsFirstChanged consumed entries place → IsFirstStale consumed entries place
+  pub changed_first : (marked : Option ℕ) (end place : ℕ) → IsEnd marked end → AreTested marked → place < end → IsFirstChanged consumed entries place → IsFirstStale consumed [] entries place
   changed_first marked end place is tested lt first =
       let w = end_within marked end is tested in
       let inside = w.0 in
@@ -98,12 +98,12 @@ module _ (consumed : Consumed) (entries : List Entry) (writes : List (List Write
         within = first.within;
         before = all_current consumed entries place (omega arith)
             (each_current place (omega arith) (λ q less told. w.1 q (omega arith) told) (λ q less bare. first.before q less));
-        stale = λ d current. first.stale d (changed_by consumed (rows_of (take place entries)) (get_or entries place d) (get_or entries place d).made current);
+        stale = λ d current. first.stale d (changed_by consumed (rows_after [] (take place entries)) (get_or entries place d) (get_or entries place d).made current);
       }
 
   -- or the first of the marked ones, or none
   pub marked_first : (marked : Option ℕ) (end : ℕ) → IsEnd marked end → AreTested marked → (calls ≡ true → (q : ℕ) → q < end → HoldsAt (IsAnswered consumed) entries q)
-      → MatchOption marked (AllCurrent consumed [] entries) (λ p. IsFirstStale consumed entries p)
+      → MatchOption marked (AllCurrent consumed [] entries) (λ p. IsFirstStale consumed [] entries p)
   marked_first None end is tested given =
       let w = end_within None end is tested in
       let inside = w.0 in

@@ -16,12 +16,12 @@ use Rattle.handler_run.specs.declared.state.Ran.TheVariants.{Done}
 use Rattle.request_log.specs.Entries.{is_alive, with_run}
 use Rattle.request_log.specs.declared.entry.Entry.{Entry}
 use Rattle.request_log.specs.declared.entry.Made.{Made}
-use Rattle.local_repair.specs.Current.{Consumed, after_entry, rows_of, IsCurrentRecord, IsCurrent, AllCurrent, IsFirstStale, IsRun, AllRuns}
-use Rattle.local_repair.specs.Registers.{Change}
+use Rattle.local_repair.specs.Current.{Consumed, after_entry, rows_after, IsCurrentRecord, IsCurrent, AllCurrent, IsFirstStale, IsRun, AllRuns}
+use Rattle.local_repair.specs.Registers.{SlotsChange}
 use Rattle.local_repair.specs.Settling.{HasItsSlots, CanSettle, IsAgain, noted, Leaves}
 use Rattle.local_repair.specs.Steps.{answers_for, calls_of_made, raised, raised_if, IsRerun, IsRemade, IsFreshOr, StandOnce, AreApart, RanFirst, StepsTo}
 use Rattle.local_repair.specs.Tests.{step_with}
-use Rattle.local_repair.specs.declared.remaking.Again.{Again}
+use Rattle.local_repair.specs.declared.remaking.Rerun.{Rerun}
 use Rattle.local_repair.specs.declared.stepped.Stepped.{Stepped}
 use Rattle.local_repair.specs.declared.stepped.Stepped.TheVariants.{Idle, Ran}
 use Rattle.local_repair.proofs.CurrentLemmas.{AllCurrent-more, next_later}
@@ -131,11 +131,11 @@ apart_after last last' entries place x y apart l at fresh once higher = record {
     old_is j d e = sym (at d) ∙ ap (λ k. get_or entries k d) (sym e)
 
 -- what a step leaves where the first stale entry ran again
-step_leaves : (setting : Setting) → IsHandler setting → (c : Change) (entries : List Entry) (place : ℕ) (was : Entry) (again : Again)
-    → IsFirstStale c.before entries place → ((d : Entry) → get_or entries place d ≡ was) → IsAgain setting c (rows_of (take place entries)) was again
-    → AllRuns setting entries → AreApart c.last entries → All HasItsSlots entries → Leaves setting c place (set entries place (noted again was))
+step_leaves : (setting : Setting) → IsHandler setting → (c : SlotsChange) (entries : List Entry) (place : ℕ) (was : Entry) (again : Rerun)
+    → IsFirstStale c.before [] entries place → ((d : Entry) → get_or entries place d ≡ was) → IsAgain setting c (rows_after [] (take place entries)) was again
+    → AllRuns setting entries → AreApart c.last entries → All HasItsSlots entries → Leaves setting c [] place (set entries place (noted again was))
 step_leaves setting h c entries place was again first at a runs apart own =
-    let rows = rows_of (take place entries) in
+    let rows = rows_after [] (take place entries) in
     let z : Entry = noted again was in
     let m : Made = again.made in
     let l = first.within in
@@ -152,13 +152,13 @@ step_leaves setting h c entries place was again first at a runs apart own =
     }
 
 -- the same, as a step
-ran_first : (setting : Setting) → IsHandler setting → (c : Change) (entries after : List Entry) (place : ℕ) (was : Entry) (again : Again)
-    → IsFirstStale c.before entries place → ((d : Entry) → get_or entries place d ≡ was) → IsAgain setting c (rows_of (take place entries)) was again
+ran_first : (setting : Setting) → IsHandler setting → (c : SlotsChange) (entries after : List Entry) (place : ℕ) (was : Entry) (again : Rerun)
+    → IsFirstStale c.before [] entries place → ((d : Entry) → get_or entries place d ≡ was) → IsAgain setting c (rows_after [] (take place entries)) was again
     → AllRuns setting entries → AreApart c.last entries → All HasItsSlots entries → after ≡ set entries place (noted again was)
-    → Leaves setting c place after × RanFirst setting c entries was.id again.answered after
+    → Leaves setting c [] place after × RanFirst setting c [] entries was.id again.answered after
 ran_first setting h c entries after place was again first at a runs apart own e =
-    let left : Leaves setting c place after =
-    (let P : List Entry → Type 0 = λ xs. Leaves setting c place xs in subst P (sym e) (step_leaves setting h c entries place was again first at a runs apart own)) in (
+    let left : Leaves setting c [] place after =
+    (let P : List Entry → Type 0 = λ xs. Leaves setting c [] place xs in subst P (sym e) (step_leaves setting h c entries place was again first at a runs apart own)) in (
       left,
       record {
         place = place;
@@ -190,38 +190,38 @@ entry_at (x ∷ xs) zero l = (x, λ d. refl)
 entry_at (x ∷ xs) (suc place) l = entry_at xs place (omega (arith, l))
 
 -- what a step answers and leaves, from what was run again and noted
-pub stepped : (setting : Setting) → IsHandler setting → (c : Change) (entries after : List Entry) (place : ℕ) (again : Again) (answer : Stepped) → IsFirstStale c.before entries place
-    → ((d : Entry) → IsAgain setting c (rows_of (take place entries)) (get_or entries place d) again)
+pub stepped : (setting : Setting) → IsHandler setting → (c : SlotsChange) (entries after : List Entry) (place : ℕ) (again : Rerun) (answer : Stepped) → IsFirstStale c.before [] entries place
+    → ((d : Entry) → IsAgain setting c (rows_after [] (take place entries)) (get_or entries place d) again)
     → ((d : Entry) → answer ≡ Ran (get_or entries place d).id again.answered) → ((d : Entry) → after ≡ set entries place (noted again (get_or entries place d)))
     → AllRuns setting entries → AreApart c.last entries → All HasItsSlots entries
-    → Leaves setting c place after × StepsTo setting c entries answer after
+    → Leaves setting c [] place after × StepsTo setting c [] entries answer after
 stepped setting h c entries after place again answer first a told put runs apart own =
     let x = entry_at entries place first.within in
     let was : Entry = x.0 in
     let at : (d : Entry) → get_or entries place d ≡ was = x.1 in
-    let A : Entry → Type 0 = λ e. IsAgain setting c (rows_of (take place entries)) e again in
+    let A : Entry → Type 0 = λ e. IsAgain setting c (rows_after [] (take place entries)) e again in
     let P : Entry → Type 0 = λ e. after ≡ set entries place (noted again e) in
     let T : Entry → Type 0 = λ e. answer ≡ Ran e.id again.answered in
-    let S : Stepped → Type 0 = λ s. StepsTo setting c entries s after in
+    let S : Stepped → Type 0 = λ s. StepsTo setting c [] entries s after in
     let r = ran_first setting h c entries after place was again first at (subst A (at was) (a was)) runs apart own (subst P (at was) (put was)) in
     (r.0, subst S (sym (subst T (at was) (told was))) r.1)
 
 -- a step is a function of the log where an entry made anew is a function of the rows and the entry
-pub step_is : (setting : Setting) (c : Change) (remake : List Cell → Entry → Entry) → ((rows : List Cell) (e e' : Entry) → IsRemade setting c rows e e' → e' ≡ remake rows e)
-    → (before after : List Entry) (answer : Stepped) → StepsTo setting c before answer after → after ≡ step_with c.before remake [] before
+pub step_is : (setting : Setting) (c : SlotsChange) (remake : List Cell → Entry → Entry) → ((rows : List Cell) (e e' : Entry) → IsRemade setting c rows e e' → e' ≡ remake rows e)
+    → (before after : List Entry) (answer : Stepped) → StepsTo setting c [] before answer after → after ≡ step_with c.before remake [] before
 step_is setting c remake is before after Idle s = s.1 ∙ sym (step_with_none c.before remake before [] s.0)
 step_is setting c remake is before after (Ran id answered) s =
-    s.rest ∙ ap (λ e. set before s.place e) (is (rows_of (take s.place before)) s.was s.entry s.remade ∙ ap (λ e. remake (rows_of (take s.place before)) e) (sym (s.there s.was)))
+    s.rest ∙ ap (λ e. set before s.place e) (is (rows_after [] (take s.place before)) s.was s.entry s.remade ∙ ap (λ e. remake (rows_after [] (take s.place before)) e) (sym (s.there s.was)))
     ∙ sym (step_with_at c.before remake before s.place s.was s.first)
 
 -- an entry that ran again, by its place
-pub again_at : (setting : Setting) (c : Change) (entries : List Entry) (place : ℕ) (was : Entry) (rows : List Cell) (r : Result Again NoMemory) → place < length entries → was ≡ get_or entries place was
-    → rows ≡ rows_of (take place entries) → IfOk r (λ again. IsAgain setting c rows was again)
-    → IfOk r (λ again. (d : Entry) → IsAgain setting c (rows_of (take place entries)) (get_or entries place d) again)
+pub again_at : (setting : Setting) (c : SlotsChange) (entries : List Entry) (place : ℕ) (was : Entry) (rows : List Cell) (r : Result Rerun NoMemory) → place < length entries → was ≡ get_or entries place was
+    → rows ≡ rows_after [] (take place entries) → IfOk r (λ again. IsAgain setting c rows was again)
+    → IfOk r (λ again. (d : Entry) → IsAgain setting c (rows_after [] (take place entries)) (get_or entries place d) again)
 again_at setting c entries place was rows (Ok again) l read before h = λ d.
     let A : List Cell → Entry → Type 0 = λ rs e. IsAgain setting c rs e again in
     let B : List Cell → Type 0 = λ rs. A rs was in
-    subst (A (rows_of (take place entries))) (read ∙ get_or_default entries place was d l) (subst B before h)
+    subst (A (rows_after [] (take place entries))) (read ∙ get_or_default entries place was d l) (subst B before h)
 again_at setting c entries place was rows (Err e) l read before h = tt
 
 abbrev pub ok : Stepped → Result Stepped NoMemory

@@ -11,24 +11,24 @@ use Rattle.request_log.specs.Entries.{changed, has_id, with_entry}
 use Rattle.request_log.specs.declared.entry.Entry.{Entry}
 use Rattle.log_index.specs.Rows.{KeptWrites, rows_made, rows_before}
 use Rattle.log_index.proofs.EditLemmas.{map_insert}
-use Rattle.local_repair.specs.Current.{writes_of, rows_of}
+use Rattle.local_repair.specs.Current.{writes_of, rows_after}
 use Rattle.local_repair.specs.Repairs.{Amends, IsAmended}
 use Rattle.local_repair.specs.Written.{all_written}
 
 abbrev wrote : Entry → List Write
 wrote e = writes_of e.made
 
-pub made_rows : (entries : List Entry) → rows_made (all_written entries) ≡ rows_of entries
+pub made_rows : (entries : List Entry) → rows_made (all_written entries) ≡ rows_after [] entries
 made_rows entries = fold-map apply wrote [] entries
 
 -- the rows before a place are those of the entries before it
-pub seen_before : (kept : KeptWrites) (entries : List Entry) (place : ℕ) → kept.writes ≡ all_written entries → rows_before place kept ≡ rows_of (take place entries)
+pub seen_before : (kept : KeptWrites) (entries : List Entry) (place : ℕ) → kept.writes ≡ all_written entries → rows_before place kept ≡ rows_after [] (take place entries)
 seen_before kept entries place tied =
     ap (λ w. rows_made (take place w)) tied ∙ ap rows_made (take-map wrote place entries) ∙ made_rows (take place entries)
 
 -- and at the end they are those of all
-pub seen_end : (kept : KeptWrites) (entries : List Entry) (place : ℕ) → length entries ≤ place → kept.writes ≡ all_written entries → rows_before place kept ≡ rows_of entries
-seen_end kept entries place le tied = seen_before kept entries place tied ∙ ap rows_of (take_all place entries le)
+pub seen_end : (kept : KeptWrites) (entries : List Entry) (place : ℕ) → length entries ≤ place → kept.writes ≡ all_written entries → rows_before place kept ≡ rows_after [] entries
+seen_end kept entries place le tied = seen_before kept entries place tied ∙ ap (rows_after []) (take_all place entries le)
 
 pub written_insert : (entries : List Entry) (at : ℕ) (e : Entry) → all_written (insert entries at e) ≡ insert (all_written entries) at (wrote e)
 written_insert entries at e = map_insert wrote entries at e

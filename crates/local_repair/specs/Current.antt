@@ -29,9 +29,9 @@ after_entry rows e = apply rows (writes_of e.made)
 abbrev pub rows_after : List Cell → List Entry → List Cell
 rows_after rows entries = fold after_entry rows entries
 
--- the rows after these entries, the first of a log
-abbrev pub rows_of : List Entry → List Cell
-rows_of entries = rows_after [] entries
+-- the rows before a log's first entry: none, since a log keeps all its entries
+abbrev pub base_rows : List Cell
+base_rows = []
 
 -- what the register of each number consumes now
 abbrev pub Consumed : Type 0
@@ -54,11 +54,11 @@ abbrev pub AllCurrent : Consumed → List Cell → List Entry → Type 0
 AllCurrent consumed rows [] = Unit {0}
 AllCurrent consumed rows (e ∷ es) = IsCurrent consumed rows e × AllCurrent consumed (after_entry rows e) es
 
--- the entry at this place is stale, and none before it
-pub record IsFirstStale (consumed : Consumed) (entries : List Entry) (place : ℕ) : Type 0 where
+-- the entry at this place is stale, and none before it, where these are the rows before the first
+pub record IsFirstStale (consumed : Consumed) (base : List Cell) (entries : List Entry) (place : ℕ) : Type 0 where
   pub within : place < length entries
-  pub before : AllCurrent consumed [] (take place entries)
-  pub stale : HoldsAt (λ e. ¬ IsCurrent consumed (rows_of (take place entries)) e) entries place
+  pub before : AllCurrent consumed base (take place entries)
+  pub stale : HoldsAt (λ e. ¬ IsCurrent consumed (rows_after base (take place entries)) e) entries place
 
 -- a record is what a run gave: on any rows that give what it read it is the run, and it is the dead trace where it was made dead
 pub record IsRun (setting : Setting) (inputs : Inputs) (m : Made) : Type 0 where

@@ -13,7 +13,7 @@ use Rattle.request_log.specs.declared.entry.Made.{Made}
 use Rattle.dependency_index.specs.Reads.{read_at}
 use Rattle.dependency_index.specs.declared.reads.ReadAt.{ReadAt}
 use Rattle.log_index.specs.Marks.{KeptMarks, changes, is_marked, sees}
-use Rattle.local_repair.specs.Current.{Consumed, IsCurrent, rows_of}
+use Rattle.local_repair.specs.Current.{Consumed, IsCurrent, rows_after, base_rows}
 use Rattle.local_repair.specs.Written.{all_written}
 
 -- a record is of the entry as it is now, and read what there is now; it consumed an answer for each slot, whatever these consume now
@@ -44,7 +44,7 @@ all_looked entries = map looked entries
 pub record IsKept (entries : List Entry) (writes : List (List Write)) (marks : KeptMarks) (calls : Bool) : Type 0 where
   pub tied : writes ≡ all_written entries
   pub looked : marks.reads ≡ all_looked entries
-  pub held : (place : ℕ) (d : Entry) → place < length entries → is_marked place marks.marks ≡ false → IsHeld (rows_of (take place entries)) (slice_index_or entries place d)
+  pub held : (place : ℕ) (d : Entry) → place < length entries → is_marked place marks.marks ≡ false → IsHeld (rows_after base_rows (take place entries)) (slice_index_or entries place d)
   pub quiet : calls ≡ false → All (λ (e : Entry). e.slots ≡ []) entries
 
 -- a record is of the entry as it is now, with an answer for each of its slots
@@ -60,7 +60,7 @@ IsAnswered consumed e = IsSomeAnd e.made (λ m. m.trace.answers ≡ map consumed
 
 -- the entry at this place is current
 abbrev pub IsCurrentAt : Consumed → List Entry → ℕ → Type 0
-IsCurrentAt consumed entries place = HoldsAt (IsCurrent consumed (rows_of (take place entries))) entries place
+IsCurrentAt consumed entries place = HoldsAt (IsCurrent consumed (rows_after base_rows (take place entries))) entries place
 
 -- of these marks before an end, each is of an entry that is current
 abbrev pub AreCurrent : Consumed → List Entry → List ℕ → ℕ → Type 0
@@ -71,7 +71,7 @@ AreCurrent consumed entries marks end =
 pub record IsFirstMarked (consumed : Consumed) (entries : List Entry) (marks : List ℕ) (place : ℕ) : Type 0 where
   pub within : place < length entries
   pub before : AreCurrent consumed entries marks place
-  pub stale : HoldsAt (λ e. ¬ IsCurrent consumed (rows_of (take place entries)) e) entries place
+  pub stale : HoldsAt (λ e. ¬ IsCurrent consumed (rows_after base_rows (take place entries)) e) entries place
 
 -- the first entry whose record consumed something else
 pub record IsFirstChanged (consumed : Consumed) (entries : List Entry) (place : ℕ) : Type 0 where

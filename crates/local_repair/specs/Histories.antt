@@ -1,15 +1,17 @@
 -- A log as a history of requests.
-use Rattle.std.specs.Prelude.{List, Option, map, option_map}
+use Rattle.std.specs.Prelude.{◌≡◌, List, Option, Some, map, option_map}
+use Rattle.lang_core.specs.declared.cells.Cell.{Cell}
 use Rattle.lang_core.specs.declared.setting.Setting.{Setting}
 use Rattle.lang_core.specs.declared.trace.Trace.{Trace}
-use Rattle.execution.specs.Executions.{Act, History}
+use Rattle.execution.specs.Executions.{Act, Deed, History, IsReplay}
+use Rattle.request_log.specs.Records.{Record, record_of}
 use Rattle.request_log.specs.declared.entry.Entry.{Entry}
 use Rattle.request_log.specs.declared.entry.Made.{Made}
-use Rattle.local_repair.specs.Current.{Consumed, rows_of}
+use Rattle.local_repair.specs.Current.{Consumed, rows_after}
 
--- what an entry's last run did; none where it never ran
-abbrev pub trace_of : Option Made → Option Trace
-trace_of made = option_map (λ (m : Made). m.trace) made
+-- what others see of a record
+abbrev pub deed_in : Record → Deed
+deed_in r = record { calls = r.calls; response = r.response }
 
 -- an entry as a request of a history, with the answers that its calls consume now
 abbrev pub act_of : Consumed → Entry → Act
@@ -23,10 +25,20 @@ act_of consumed e =
       inputs = e.inputs;
       numbers = e.slots;
       answers = map consumed e.slots;
-      trace = trace_of e.made;
+      did = option_map deed_in (record_of e);
     }
 
--- a log as a history
-abbrev pub history_of : Setting → Consumed → List Entry → History
-history_of setting consumed entries =
-    record { setting = setting; acts = map (act_of consumed) entries; rows = rows_of entries }
+-- a log as a history, where these are the rows before its first entry
+abbrev pub history_of : Setting → Consumed → List Cell → List Entry → History
+history_of setting consumed base entries =
+    record { setting = setting; acts = map (act_of consumed) entries; rows = rows_after base entries }
+
+-- the whole trace of an entry's last run; none where it never ran
+abbrev pub trace_of : Entry → Option Trace
+trace_of e = option_map (λ (m : Made). m.trace) e.made
+
+-- entries, from these rows on, replay to their recorded traces, and to the rows that these leave
+pub record ReplayAsRecorded (setting : Setting) (consumed : Consumed) (base : List Cell) (entries : List Entry) : Type 0 where
+  pub traces : List Trace
+  pub replay : IsReplay setting base (map (act_of consumed) entries) traces (rows_after base entries)
+  pub recorded : map trace_of entries ≡ map Some traces

@@ -4,7 +4,7 @@ use Rattle.lang_core.specs.declared.trace.Trace.{Trace}
 use Rattle.request_log.specs.declared.entry.Entry.{Entry}
 use Rattle.local_repair.specs.Current.{Consumed}
 
-pub record Change : Type 1 where
+pub record SlotsChange : Type 1 where
   -- what each number consumes
   pub before : Consumed
   pub after : Consumed

@@ -1,6 +1,7 @@
 -- What a repairer keeps, and which changes of an entry an event may make.
-use Rattle.std.specs.Prelude.{ℕ, ◌≡◌, List, [], Option, find, IsSomeAnd, option_map}
+use Rattle.std.specs.Prelude.{ℕ, ◌≡◌, List, Option, find, IsSomeAnd, option_map}
 use Rattle.std.specs.List.{HoldsAt}
+use Rattle.lang_core.specs.declared.cells.Cell.{Cell}
 use Rattle.request_log.specs.Entries.{has_id}
 use Rattle.request_log.specs.declared.entry.Entry.{Entry}
 use Rattle.local_repair.specs.Current.{Consumed, IsFirstStale}
@@ -20,11 +21,11 @@ abbrev pub IsAmended : Entry → List Entry → Type 0
 IsAmended entry entries = IsSomeAnd (find (has_id entry.id) entries) (λ old. Amends old entry)
 
 -- the first stale entry, wherever it stands, has this number
-pub record IsStaleId (consumed : Consumed) (entries : List Entry) (id : ℕ) : Type 0 where
+pub record IsStaleId (consumed : Consumed) (base : List Cell) (entries : List Entry) (id : ℕ) : Type 0 where
   pub place : ℕ
-  pub first : IsFirstStale consumed entries place
+  pub first : IsFirstStale consumed base entries place
   pub names : HoldsAt (λ e. e.id ≡ id) entries place
 
 -- the number of the first stale entry, by the test
-abbrev pub stale_id : Consumed → List Entry → Option ℕ
-stale_id consumed entries = option_map (λ (e : Entry). e.id) (first_stale consumed [] entries)
+abbrev pub stale_id : Consumed → List Cell → List Entry → Option ℕ
+stale_id consumed base entries = option_map (λ (e : Entry). e.id) (first_stale consumed base entries)

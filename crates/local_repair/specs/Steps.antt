@@ -1,5 +1,5 @@
 -- A repair step: what it may answer, and what it leaves.
-use Rattle.std.specs.Prelude.{ℕ, zero, suc, ◌≡◌, ◌+◌, ◌<◌, ◌≤◌, ◌≢◌, ◌⊎◌, Bool, true, false, not, ◌&&◌, List, [], ◌∷◌, ◌++◌, Option, Some, None, if◌then◌else◌, map, take, length, min, nat_eq, slice_get, slice_set, slice_index_or, Contains, All, AllPairs}
+use Rattle.std.specs.Prelude.{ℕ, zero, suc, ◌≡◌, ◌+◌, ◌<◌, ◌≤◌, ◌≢◌, ◌⊎◌, Bool, true, false, not, ◌&&◌, List, [], ◌∷◌, ◌++◌, Option, Some, None, if◌then◌else◌, map, take, length, min, nat_eq, option_map, slice_get, slice_set, slice_index_or, Contains, All, AllPairs}
 use Rattle.lang_base.specs.Equal.{equal}
 use Rattle.lang_core.specs.Traces.{dead_trace}
 use Rattle.lang_core.specs.contracts.request.Response as response
@@ -13,10 +13,11 @@ use Rattle.handler_run.specs.Handlers.{run_of}
 use Rattle.handler_run.specs.declared.state.Ran.{Ran as Outcome}
 use Rattle.handler_run.specs.declared.state.Ran.TheVariants.{Done, Wants}
 use Rattle.request_log.specs.Entries.{is_alive}
+use Rattle.request_log.specs.Records.{record_in, recorded_calls}
 use Rattle.request_log.specs.declared.entry.Entry.{Entry}
 use Rattle.request_log.specs.declared.entry.Made.{Made}
-use Rattle.local_repair.specs.Current.{Consumed, AllCurrent, IsFirstStale, rows_of}
-use Rattle.local_repair.specs.Registers.{Change}
+use Rattle.local_repair.specs.Current.{Consumed, AllCurrent, IsFirstStale, rows_after}
+use Rattle.local_repair.specs.Registers.{SlotsChange}
 use Rattle.local_repair.specs.declared.stepped.Stepped.{Stepped}
 use Rattle.local_repair.specs.declared.stepped.Stepped.TheVariants.{Idle, Ran}
 
@@ -29,23 +30,22 @@ abbrev pub answer_or_tentative : Option Response → Response
 answer_or_tentative None = tentative
 answer_or_tentative (Some r) = r
 
--- the calls of a record, if there is one
+-- the calls of an entry's last run, none where it never ran
 abbrev pub calls_of_made : Option Made → List CallMade
-calls_of_made None = []
-calls_of_made (Some m) = m.trace.calls
+calls_of_made made = recorded_calls (option_map record_in made)
 
 abbrev pub same_call : CallMade → CallMade → Bool
 same_call a b = equal call_made.the_row.coded a b
 
 -- what the slot consumes where its old call is this one, else the tentative answer
-abbrev pub chosen : Consumed → Option CallMade → Option ℕ → CallMade → Response
-chosen consumed (Some old) (Some n) call = if same_call old call then consumed n else tentative
-chosen consumed (Some old) None call = tentative
-chosen consumed None n call = tentative
+abbrev pub consumed_if_same_call : Consumed → Option CallMade → Option ℕ → CallMade → Response
+consumed_if_same_call consumed (Some old) (Some n) call = if same_call old call then consumed n else tentative
+consumed_if_same_call consumed (Some old) None call = tentative
+consumed_if_same_call consumed None n call = tentative
 
 -- the answer of the call at a place, where these were the old calls and these are their slots
 abbrev pub answer_at : Consumed → List CallMade → List ℕ → ℕ → CallMade → Response
-answer_at consumed old slots place call = chosen consumed (slice_get old place) (slice_get slots place) call
+answer_at consumed old slots place call = consumed_if_same_call consumed (slice_get old place) (slice_get slots place) call
 
 -- the answers of calls, in order
 abbrev pub answers_for : Consumed → List CallMade → List ℕ → List CallMade → List Response
@@ -102,7 +102,7 @@ remade e m slots =
     record e { made = Some m; slots = slots; answer_version = raised_if (is_new_answer e.made m) e.answer_version; runs = raised e.runs }
 
 -- an entry made anew on these rows, with slots that the registers settled; where they were timely, the slots consume what its run consumed
-pub record IsRemade (setting : Setting) (c : Change) (rows : List Cell) (e e' : Entry) : Type 0 where
+pub record IsRemade (setting : Setting) (c : SlotsChange) (rows : List Cell) (e e' : Entry) : Type 0 where
   pub made : Made
   pub rerun : IsRerun setting c.before rows e made
   pub slots : List ℕ
@@ -112,23 +112,23 @@ pub record IsRemade (setting : Setting) (c : Change) (rows : List Cell) (e e' : 
   pub is : e' ≡ remade e made slots
 
 -- the first stale entry ran, at this place, and no other changed; where the registers were timely, none up to it is stale any more, so that the next one stands later
-pub record RanFirst (setting : Setting) (c : Change) (before : List Entry) (id : ℕ) (answered : Bool) (after : List Entry) : Type 0 where
+pub record RanFirst (setting : Setting) (c : SlotsChange) (base : List Cell) (before : List Entry) (id : ℕ) (answered : Bool) (after : List Entry) : Type 0 where
   pub place : ℕ
-  pub first : IsFirstStale c.before before place
+  pub first : IsFirstStale c.before base before place
   pub was : Entry
   pub there : (d : Entry) → slice_index_or before place d ≡ was
   pub entry : Entry
-  pub remade : IsRemade setting c (rows_of (take place before)) was entry
+  pub remade : IsRemade setting c (rows_after base (take place before)) was entry
   pub names : id ≡ was.id
   pub tells : answered ≡ is_new_answer was.made remade.made
   pub rest : after ≡ slice_set before place entry
-  pub current : c.timely → AllCurrent c.after [] (take (place + 1) after)
-  pub later : c.timely → (next : ℕ) → IsFirstStale c.after after next → place < next
+  pub current : c.timely → AllCurrent c.after base (take (place + 1) after)
+  pub later : c.timely → (next : ℕ) → IsFirstStale c.after base after next → place < next
 
--- what a step may answer on these entries, and what it leaves
-abbrev pub StepsTo : Setting → Change → List Entry → Stepped → List Entry → Type 0
-StepsTo setting c before Idle after = AllCurrent c.before [] before × (after ≡ before)
-StepsTo setting c before (Ran id answered) after = RanFirst setting c before id answered after
+-- what a step may answer on these entries, where these are the rows before the first, and what it leaves
+abbrev pub StepsTo : Setting → SlotsChange → List Cell → List Entry → Stepped → List Entry → Type 0
+StepsTo setting c base before Idle after = AllCurrent c.before base before × (after ≡ before)
+StepsTo setting c base before (Ran id answered) after = RanFirst setting c base before id answered after
 
 -- a number is one of these, or it was given since
 abbrev pub IsFreshOr : List ℕ → ℕ → ℕ → ℕ → Type 0

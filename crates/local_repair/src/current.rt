@@ -1,11 +1,11 @@
 // Which entries are stale, told without memory.
-ghost use Rattle.std.specs.Prelude.{ℕ, ◌≡◌, ◌↔◌, ◌<◌, ◌≤◌, [], true, length, map, IsTrue, MatchOption};
+ghost use Rattle.std.specs.Prelude.{ℕ, ◌≡◌, ◌↔◌, ◌<◌, ◌≤◌, true, length, map, IsTrue, MatchOption};
 ghost use Rattle.std.specs.List.{HoldsAt};
 ghost use Rattle.std.specs.Option.{option_copied};
 ghost use Rattle.handler_run.specs.Reads.{Gives, GivesAll};
 ghost use Rattle.log_index.specs.Rows.{rows_before};
 ghost use Rattle.log_index.specs.Marks.{AreMarks};
-ghost use Rattle.local_repair.specs.Current.{IsCurrentRecord, IsCurrent, AllCurrent, IsFirstStale};
+ghost use Rattle.local_repair.specs.Current.{IsCurrentRecord, IsCurrent, AllCurrent, IsFirstStale, base_rows};
 ghost use Rattle.local_repair.specs.Held.{AreCurrent, IsAnswered, IsFirstChanged, IsFirstMarked, IsHeld, IsHeldRecord, IsKept, IsOfNow};
 ghost use Rattle.local_repair.specs.Written.{all_written};
 ghost use Rattle.local_repair.specs.Parts.{IsOf};
@@ -214,8 +214,8 @@ pub(crate) fn place_of_stale<S: Slots>(
 ) -> Option<usize>
     requires { IsKept entries.now rows.now.writes marks.now calls }
     ensures { MatchOption result
-        (AllCurrent (S.consumed_of slots.now) [] entries.now)
-        (λ place. IsFirstStale (S.consumed_of slots.now) entries.now place) }
+        (AllCurrent (S.consumed_of slots.now) base_rows entries.now)
+        (λ place. IsFirstStale (S.consumed_of slots.now) base_rows entries.now place) }
 {
     let marked = place_of_marked(rows, marks.marks(), entries, slots);
     let end = end_of(marked, entries.len());

@@ -11,9 +11,9 @@ mod stepped;
 mod view;
 mod written;
 
-pub use remaking::Again;
+pub use remaking::Rerun;
 pub use repairer::Repairer;
 pub use rerun::tentative;
-pub use slots::{NoSlots, Slots};
+pub use slots::Slots;
 pub use stepped::Stepped;
 pub use view::RowsBefore;

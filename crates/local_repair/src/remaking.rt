@@ -20,7 +20,7 @@ use std::alloc::Global;
 
 /// What came of running an entry again: its new record, the numbers of its calls, and whether it has a new answer.
 #[derive(Drop)]
-pub struct Again {
+pub struct Rerun {
     pub made: Made,
     pub numbers: Numbers,
     pub answered: bool,
@@ -32,7 +32,7 @@ fn settle<S: Slots>(
     entry: &Entry,
     made: Made,
     slots: &mut S,
-) -> Result<Again, NoMemory>
+) -> Result<Rerun, NoMemory>
     requires answers { made.trace.answers ≡ answers_for (S.consumed_of slots.old) (calls_of_made entry.now.made) entry.now.slots made.trace.calls }
     requires own { HasItsSlots entry.now }
     requires once { HasSlotsOnce entry.now }
@@ -54,7 +54,7 @@ fn settle<S: Slots>(
 {
     let answered = is_new_answer(entry, &made);
     let numbers = slots.settle(alloc, entry, &made.trace, answered)?;
-    Ok(Again {
+    Ok(Rerun {
         made,
         numbers,
         answered,
@@ -144,7 +144,7 @@ pub(crate) fn remake<S: Slots>(
     entry: &Entry,
     place: usize,
     slots: &mut S,
-) -> Result<Again, NoMemory>
+) -> Result<Rerun, NoMemory>
     requires own { HasItsSlots entry.now }
     requires once { HasSlotsOnce entry.now }
     requires can { CanSettle (S.can_settle slots.old) setting.now entry.now }

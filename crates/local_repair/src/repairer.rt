@@ -4,16 +4,16 @@ ghost use Rattle.request_log.specs.Entries.{changed, has_id, mark, replace, IsNe
 ghost use Rattle.dependency_index.specs.Reads.{read_at};
 ghost use Rattle.log_index.specs.Marks.{is_marked, IsReadyToSet as IsReadyToMark};
 ghost use Rattle.log_index.specs.Rows.{IsReadyToSet};
-ghost use Rattle.local_repair.specs.Current.{AllCurrent, AllRuns, rows_of, writes_of};
+ghost use Rattle.local_repair.specs.Current.{AllCurrent, AllRuns, rows_after, writes_of, base_rows};
 ghost use Rattle.local_repair.specs.Held.{all_looked, IsIdMarked, IsKept, IsMarkedBehind, IsMarkedFrom};
 ghost use Rattle.local_repair.specs.Written.{all_written, rows_seen};
 ghost use Rattle.request_log.specs.declared.entry.Entry.{Entry};
 ghost use Rattle.local_repair.specs.Repairs.{IsAmended, IsStaleId, stale_id};
 ghost use Rattle.local_repair.specs.Settling.{HasItsSlots, HasSlotsOnce, CanSettle, IsAgain, noted};
-ghost use Rattle.local_repair.specs.Steps.{AreApart, StepsTo, raised, raised_if};
+ghost use Rattle.local_repair.specs.Steps.{AreApart, StepsTo, raised_if};
 
 use crate::current::place_of_stale;
-use crate::remaking::{Again, remake};
+use crate::remaking::{Rerun, remake};
 use crate::rows::rows_after;
 use crate::slots::Slots;
 use crate::stepped::Stepped;
@@ -50,16 +50,10 @@ impl Model for Repairer {
     ghost invariant = { λ repairer. IsKept repairer.log.entries repairer.rows.writes repairer.marks repairer.calls };
 }
 
-fn raised(n: u64) -> u64
-    ensures { result ≡ raised n }
-{
-    n.saturating_add(1)
-}
-
 fn raised_if(raise: bool, n: u64) -> u64
     ensures { result ≡ raised_if raise n }
 {
-    if raise { raised(n) } else { n }
+    if raise { n.saturating_add(1) } else { n }
 }
 
 // Runs the entry at a place again on the rows before it, marks what looks at what that changes, makes room for what it
@@ -72,7 +66,7 @@ fn remake_at<S: Slots>(
     marks: &mut EntryMarks,
     place: usize,
     slots: &mut S,
-) -> Result<Again, NoMemory>
+) -> Result<Rerun, NoMemory>
     requires within { place < length entries.now }
     requires own { All HasItsSlots entries.now }
     requires once { All HasSlotsOnce entries.now }
@@ -88,7 +82,7 @@ fn remake_at<S: Slots>(
           timely = S.is_timely slots.old;
           settles = S.settles slots.old slots.new;
         })
-        (rows_of (take place entries.now)) (slice_index_or entries.now place d) again) }
+        (rows_after base_rows (take place entries.now)) (slice_index_or entries.now place d) again) }
     ensures writes { rows.new.writes ≡ rows.old.writes }
     ensures ready { IfOk result (λ again. IsReadyToSet again.made.trace.writes rows.new) }
     ensures ready_marks { IfOk result (λ again. IsReadyToMark again.made.trace.reads marks.new) }
@@ -108,7 +102,7 @@ fn note(
     rows: &mut EntryRows,
     marks: &mut EntryMarks,
     place: usize,
-    again: Again,
+    again: Rerun,
 ) -> Stepped
     requires within { place < length log.old.entries }
     requires few { length log.old.entries ≤ 100000 }
@@ -128,12 +122,12 @@ fn note(
     note_run(log, place, again)
 }
 
-fn note_run(log: &mut Log, place: usize, again: Again) -> Stepped
+fn note_run(log: &mut Log, place: usize, again: Rerun) -> Stepped
     requires { place < length log.old.entries }
     ensures stepped { (d : Entry) → result ≡ Stepped.Ran (slice_index_or log.old.entries place d).id again.answered }
     ensures entries { (d : Entry) → log.new.entries ≡ slice_set log.old.entries place (noted again (slice_index_or log.old.entries place d)) }
 {
-    let Again {
+    let Rerun {
         made,
         numbers,
         answered,
@@ -141,7 +135,7 @@ fn note_run(log: &mut Log, place: usize, again: Again) -> Stepped
     let entry = &log.as_slice()[place];
     let id = entry.id;
     let answer_version = raised_if(answered, entry.answer_version);
-    let runs = raised(entry.runs);
+    let runs = entry.runs.saturating_add(1);
     log.note_run(place as u64, made, numbers, answer_version, runs);
     Stepped::Ran { id, answered }
 }
@@ -190,14 +184,14 @@ impl Repairer {
 
     /// The rows after the log's entries.
     pub fn rows(&self, alloc: Global) -> Result<Cells, NoMemory>
-        ensures { IfOk result (λ rows. rows ≡ rows_of self.now.entries) }
+        ensures { IfOk result (λ rows. rows ≡ rows_after base_rows self.now.entries) }
     {
         rows_after(alloc, self.log.as_slice())
     }
 
     /// The rows after the log's entries, as a run reads them.
     pub fn end(&self) -> RowsBefore<'_>
-        ensures { rows_seen result ≡ rows_of self.now.entries }
+        ensures { rows_seen result ≡ rows_after base_rows self.now.entries }
     {
         RowsBefore {
             rows: &self.rows,
@@ -255,13 +249,13 @@ impl Repairer {
         replace(&mut self.log, entry);
     }
 
-    /// Strikes the entry of a number, or takes that back; false exactly where there is none.
-    pub fn strike(&mut self, id: u64, struck: bool) -> bool
+    /// Sets whether the entry of a number is struck; false exactly where there is none.
+    pub fn set_struck(&mut self, id: u64, struck: bool) -> bool
         ensures entries { self.new.entries ≡ changed id (mark struck) self.old.entries }
         ensures there { result ≡ is_some (find (has_id id) self.old.entries) }
     {
         mark_id(&self.log, &mut self.marks, id);
-        self.log.strike(id, struck)
+        self.log.set_struck(id, struck)
     }
 
     /// Gives the entry of a number another method, path and body; false exactly where there is none.
@@ -276,9 +270,9 @@ impl Repairer {
     /// The number of the first stale entry; None exactly where no entry is stale.
     pub fn first_stale<S: Slots>(&self, slots: &S) -> Option<u64>
         ensures first { MatchOption result
-            (AllCurrent (S.consumed_of slots.now) [] self.now.entries)
-            (λ id. IsStaleId (S.consumed_of slots.now) self.now.entries id) }
-        ensures test { result ≡ stale_id (S.consumed_of slots.now) self.now.entries }
+            (AllCurrent (S.consumed_of slots.now) base_rows self.now.entries)
+            (λ id. IsStaleId (S.consumed_of slots.now) base_rows self.now.entries id) }
+        ensures test { result ≡ stale_id (S.consumed_of slots.now) base_rows self.now.entries }
     {
         let entries = self.log.as_slice();
         match place_of_stale(&self.rows, &self.marks, self.calls, entries, slots) {
@@ -311,9 +305,9 @@ impl Repairer {
               timely = S.is_timely slots.old;
               settles = S.settles slots.old slots.new;
             })
-            self.old.entries stepped self.new.entries) }
+            base_rows self.old.entries stepped self.new.entries) }
         ensures timely { S.is_timely slots.old → S.is_timely slots.new }
-        ensures free { AllCurrent (S.consumed_of slots.old) [] self.old.entries → result ≡ Ok Stepped.Idle }
+        ensures free { AllCurrent (S.consumed_of slots.old) base_rows self.old.entries → result ≡ Ok Stepped.Idle }
         ensures idle { result ≡ Ok Stepped.Idle → (self.new ≡ self.old) × (slots.new ≡ slots.old) }
         ensures err { OnErr result ((self.new ≡ self.old) × (slots.new ≡ slots.old)) }
     {

@@ -1,6 +1,6 @@
 // The rows that entries leave.
 ghost use Rattle.std.specs.Prelude.{◌≡◌, IfOk, OnOk, OnErr};
-ghost use Rattle.local_repair.specs.Current.{after_entry, rows_of};
+ghost use Rattle.local_repair.specs.Current.{after_entry, rows_after, base_rows};
 
 use lang_core::{Cells, NoMemory, apply_writes};
 use request_log::Entry;
@@ -19,7 +19,7 @@ fn apply_entry(alloc: Global, rows: &mut Cells, entry: &Entry) -> Result<(), NoM
 
 /// The rows after these entries, the first of a log.
 pub(crate) fn rows_after(alloc: Global, entries: &[Entry]) -> Result<Cells, NoMemory>
-    ensures { IfOk result (λ rows. rows ≡ rows_of entries.now) }
+    ensures { IfOk result (λ rows. rows ≡ rows_after base_rows entries.now) }
 {
     let mut rows = Cells::new(alloc);
     for entry in entries {

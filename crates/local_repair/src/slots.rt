@@ -4,7 +4,6 @@ ghost use Rattle.std.specs.Option.{option_copied};
 ghost use Rattle.lang_core.specs.declared.request.Response.{Response};
 ghost use Rattle.lang_core.specs.declared.trace.Trace.{Trace};
 ghost use Rattle.request_log.specs.declared.entry.Entry.{Entry};
-ghost use Rattle.local_repair.specs.Alone.{settles_none};
 ghost use Rattle.local_repair.specs.Settling.{HasItsSlots, HasSlotsOnce, CallsNone};
 ghost use Rattle.local_repair.specs.Steps.{tentative, answer_or_tentative, answers_for, calls_of_made, IsFreshOr, StandOnce};
 
@@ -57,34 +56,4 @@ pub trait Slots {
         ensures once { IfOk result (λ slots. StandOnce slots) }
         ensures last { last_of self.old ≤ last_of self.new }
         ensures err { OnErr result (self.new ≡ self.old) };
-}
-
-/// The registers of a service that calls nobody: there are none.
-#[derive(Drop)]
-pub struct NoSlots;
-
-impl Slots for NoSlots {
-    ghost consumed_of = { λ slots n. tentative };
-
-    ghost last_of = { λ slots. 0 };
-
-    ghost can_settle = { λ slots e t. CallsNone e t };
-
-    ghost is_timely = { λ slots. Unit };
-
-    ghost settles = { λ old new e t answered numbers. settles_none e t answered numbers };
-
-    fn consumed(&self, _number: u64) -> Option<&Response> {
-        None
-    }
-
-    fn settle(
-        &mut self,
-        alloc: Global,
-        _entry: &Entry,
-        _trace: &Trace,
-        _answered: bool,
-    ) -> Result<Numbers, NoMemory> {
-        Ok(Seq::new(alloc))
-    }
 }

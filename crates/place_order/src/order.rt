@@ -38,10 +38,10 @@ impl From<NoMemory> for OrderFull {
     }
 }
 
-/// Labels in an order, of which no two are equal. Contracts see the list of the labels, and the room that was made for
-/// calls to come.
+/// Labels in an order, of which no two are equal. Contracts see the list of the labels, how many were given so far, and
+/// the room that was made for calls to come.
 ///
-/// A label is a number that is never given again, also after it has left the list.
+/// Labels are given from 0 on, so none is given again, also after it has left the list.
 #[derive(Drop)]
 pub struct Order {
     labels: Vec<u64>,
@@ -51,13 +51,13 @@ pub struct Order {
 }
 
 impl Model for Order {
-    ghost use Rattle.std.specs.Prelude.{◌+◌, ◌≤◌, vec_len, vec_capacity};
+    ghost use Rattle.std.specs.Prelude.{◌+◌, ◌≤◌, length, vec_len, vec_capacity};
     ghost use Rattle.place_order.specs.Rooms.{KeptOrder};
     ghost use Rattle.place_order.specs.Tags.{IsTagged};
 
     ghost Value = { KeptOrder };
 
-    ghost view = { λ order. record { labels = order.labels.items; room = order.room.items } };
+    ghost view = { λ order. record { labels = order.labels.items; given = length order.tags.items; room = order.room.items } };
 
     ghost invariant = { λ order. IsTagged order.labels.items order.tags.items
         × (vec_len order.labels + vec_len order.room ≤ vec_capacity order.labels)
@@ -73,6 +73,7 @@ fn put_label(labels: &mut Vec<u64>, tags: &mut Vec<u64>, at: usize) -> u64
     requires tag_place { vec_len tags.old < vec_capacity tags.old }
     ensures labels { labels.new.items ≡ insert labels.old.items at result }
     ensures fresh { IsNew result labels.old.items }
+    ensures label { result ≡ length tags.old.items }
     ensures tagged { IsTagged labels.new.items tags.new.items }
     ensures label_len { vec_len labels.new ≡ vec_len labels.old + 1 }
     ensures tag_len { vec_len tags.new ≡ vec_len tags.old + 1 }
@@ -90,6 +91,7 @@ impl Order {
     /// An order with no label.
     pub fn new(alloc: Global) -> Order
         ensures labels { result.labels ≡ [] }
+        ensures given { result.given ≡ 0 }
         ensures room { result.room ≡ [] }
     {
         Order {
@@ -101,7 +103,9 @@ impl Order {
 
     /// An order with the same labels, without room.
     pub fn copied(&self, alloc: Global) -> Result<Order, NoMemory>
-        ensures { IfOk result (λ copy. copy.labels ≡ self.now.labels) }
+        ensures labels { IfOk result (λ copy. copy.labels ≡ self.now.labels) }
+        ensures given { IfOk result (λ copy. copy.given ≡ self.now.given) }
+        ensures room { IfOk result (λ copy. copy.room ≡ []) }
     {
         let labels = Vec::from_slice(alloc, &self.labels)?;
         let tags = Vec::from_slice(alloc, &self.tags)?;
@@ -117,7 +121,9 @@ impl Order {
         ensures ok { IfOk result (λ label. IsNew label self.old.labels × (self.new.labels ≡ insert self.old.labels at label)) }
         ensures rising { OnOk result ((labels : List ℕ) → IsRising self.old.labels labels → IsRising self.new.labels labels) }
         ensures full { (result ≡ Err OrderFull.Full) ↔ (length self.old.labels ≡ MOST_LABELS) }
+        ensures given { IfOk result (λ label. (label ≡ self.old.given) × (self.new.given ≡ self.old.given + 1)) }
         ensures err { OnErr result (self.new.labels ≡ self.old.labels) }
+        ensures ungiven { OnErr result (self.new.given ≡ self.old.given) }
         ensures room { self.new.room ≡ spend call_code call self.old.room }
         ensures ready { IsTrue (is_made call_code call self.old.room) → result ≡ Err OrderFull.NoMemory → ⊥ }
     {
@@ -131,6 +137,7 @@ impl Order {
 
     fn make_room(&mut self, call: OrderCall) -> Result<(), NoMemory>
         ensures labels { self.new.labels ≡ self.old.labels }
+        ensures given { self.new.given ≡ self.old.given }
         ensures ok { OnOk result (self.new.room ≡ self.old.room ++ call ∷ []) }
         ensures err { OnErr result (self.new.room ≡ self.old.room) }
     {
@@ -151,7 +158,9 @@ impl Order {
         ensures ok { IfOk result (λ label. IsNew label self.old.labels × (self.new.labels ≡ self.old.labels ++ label ∷ [])) }
         ensures rising { OnOk result ((labels : List ℕ) → IsRising self.old.labels labels → IsRising self.new.labels labels) }
         ensures full { (result ≡ Err OrderFull.Full) ↔ (length self.old.labels ≡ MOST_LABELS) }
+        ensures given { IfOk result (λ label. (label ≡ self.old.given) × (self.new.given ≡ self.old.given + 1)) }
         ensures err { OnErr result (self.new.labels ≡ self.old.labels) }
+        ensures ungiven { OnErr result (self.new.given ≡ self.old.given) }
         ensures room { self.new.room ≡ spend call_code OrderCall.Append self.old.room }
         ensures ready { IsTrue (is_made call_code OrderCall.Append self.old.room) → result ≡ Err OrderFull.NoMemory → ⊥ }
     {
@@ -162,6 +171,7 @@ impl Order {
     /// Makes room for an `append`.
     pub fn ready_append(&mut self) -> Result<(), NoMemory>
         ensures labels { self.new.labels ≡ self.old.labels }
+        ensures given { self.new.given ≡ self.old.given }
         ensures ok { OnOk result (self.new.room ≡ self.old.room ++ OrderCall.Append ∷ []) }
         ensures err { OnErr result (self.new.room ≡ self.old.room) }
     {
@@ -175,7 +185,9 @@ impl Order {
         ensures ok { IfOk result (λ made. IsNew made self.old.labels × (self.new.labels ≡ insert self.old.labels (place_in self.old.labels label) made)) }
         ensures rising { OnOk result ((labels : List ℕ) → IsRising self.old.labels labels → IsRising self.new.labels labels) }
         ensures full { (result ≡ Err OrderFull.Full) ↔ (length self.old.labels ≡ MOST_LABELS) }
+        ensures given { IfOk result (λ label. (label ≡ self.old.given) × (self.new.given ≡ self.old.given + 1)) }
         ensures err { OnErr result (self.new.labels ≡ self.old.labels) }
+        ensures ungiven { OnErr result (self.new.given ≡ self.old.given) }
         ensures room { self.new.room ≡ spend call_code OrderCall.InsertBefore self.old.room }
         ensures ready { IsTrue (is_made call_code OrderCall.InsertBefore self.old.room) → result ≡ Err OrderFull.NoMemory → ⊥ }
     {
@@ -186,6 +198,7 @@ impl Order {
     /// Makes room for an `insert_before`, whichever its label.
     pub fn ready_insert_before(&mut self) -> Result<(), NoMemory>
         ensures labels { self.new.labels ≡ self.old.labels }
+        ensures given { self.new.given ≡ self.old.given }
         ensures ok { OnOk result (self.new.room ≡ self.old.room ++ OrderCall.InsertBefore ∷ []) }
         ensures err { OnErr result (self.new.room ≡ self.old.room) }
     {
@@ -199,7 +212,9 @@ impl Order {
         ensures ok { IfOk result (λ made. IsNew made self.old.labels × (self.new.labels ≡ insert self.old.labels (place_in self.old.labels label + 1) made)) }
         ensures rising { OnOk result ((labels : List ℕ) → IsRising self.old.labels labels → IsRising self.new.labels labels) }
         ensures full { (result ≡ Err OrderFull.Full) ↔ (length self.old.labels ≡ MOST_LABELS) }
+        ensures given { IfOk result (λ label. (label ≡ self.old.given) × (self.new.given ≡ self.old.given + 1)) }
         ensures err { OnErr result (self.new.labels ≡ self.old.labels) }
+        ensures ungiven { OnErr result (self.new.given ≡ self.old.given) }
         ensures room { self.new.room ≡ spend call_code OrderCall.InsertAfter self.old.room }
         ensures ready { IsTrue (is_made call_code OrderCall.InsertAfter self.old.room) → result ≡ Err OrderFull.NoMemory → ⊥ }
     {
@@ -210,6 +225,7 @@ impl Order {
     /// Makes room for an `insert_after`, whichever its label.
     pub fn ready_insert_after(&mut self) -> Result<(), NoMemory>
         ensures labels { self.new.labels ≡ self.old.labels }
+        ensures given { self.new.given ≡ self.old.given }
         ensures ok { OnOk result (self.new.room ≡ self.old.room ++ OrderCall.InsertAfter ∷ []) }
         ensures err { OnErr result (self.new.room ≡ self.old.room) }
     {
@@ -229,6 +245,7 @@ impl Order {
     pub fn forget_first(&mut self, n: u64)
         requires { n ≤ length self.old.labels }
         ensures labels { self.new.labels ≡ drop n self.old.labels }
+        ensures given { self.new.given ≡ self.old.given }
         ensures room { self.new.room ≡ self.old.room }
     {
         let _ = self.labels.drain(..n as usize);

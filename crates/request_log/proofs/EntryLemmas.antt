@@ -11,10 +11,11 @@ use Rattle.std.proofs.lemmas.List.Folds.{find_at}
 use Rattle.std.proofs.lemmas.Option.{slice_get-get_or}
 use Rattle.std.proofs.Math.ListN.{length-set}
 use Rattle.lang_base.specs.Texts.{same_text}
+use Rattle.lang_core.specs.Origins.{is_call}
 use Rattle.lang_core.specs.declared.ids.Origin.{Origin}
 use Rattle.lang_core.specs.declared.ids.Origin.TheVariants.{Outside, Call}
 use Rattle.request_log.specs.declared.entry.Entry.{Entry}
-use Rattle.request_log.specs.Entries.{has_id, is_call, find_call, IsNew, IsDistinct, IsKnown, KeptLog}
+use Rattle.request_log.specs.Entries.{has_id, find_call, IsNew, IsDistinct, IsKnown, KeptLog}
 use Rattle.request_log.specs.Keys.{number_of, origin_key, entry_key, IsIndexed}
 
 -- a search that finds nothing finds nothing first, and nothing further on

@@ -6,6 +6,7 @@ use Rattle.std.proofs.lemmas.Bool.{and_parts, lt-ltb, le-ltb, ne_eqb}
 use Rattle.std.proofs.lemmas.List.{length-map}
 use lib.Pointwise.{bytes_decides}
 use Rattle.lang_base.specs.Texts.{same_text}
+use Rattle.lang_core.specs.Origins.{is_call}
 use Rattle.lang_core.specs.declared.ids.Origin.{Origin}
 use Rattle.lang_core.specs.declared.ids.Origin.TheVariants.{Outside, Call}
 use Rattle.lang_lists.specs.Ends.{end_behind, last_end}
@@ -14,7 +15,7 @@ use Rattle.lang_lists.proofs.HashEndLemmas.{last_end-within}
 use Rattle.lang_lists.proofs.KeyLemmas.{call_other}
 use Rattle.lang_lists.proofs.SearchLemmas.{IsQuiet}
 use Rattle.request_log.specs.declared.entry.Entry.{Entry}
-use Rattle.request_log.specs.Entries.{has_id, has_origin, is_call, find_call, IsDistinct}
+use Rattle.request_log.specs.Entries.{has_id, has_origin, find_call, IsDistinct}
 use Rattle.request_log.specs.Keys.{number_of, origin_key, entry_key}
 
 -- ---- of a call

@@ -1,8 +1,8 @@
 -- Entries of a log: which are alive, and which has a number or comes from a call.
-use Rattle.std.specs.Prelude.{ℕ, ◌≡◌, ◌≤◌, Bool, false, ◌&&◌, not, List, [], ◌∷◌, Option, Some, None, nat_eq, length, find, slice_set, IsSomeAnd, if◌then◌else◌, map}
+use Rattle.std.specs.Prelude.{ℕ, ◌≡◌, ◌≤◌, Bool, ◌&&◌, not, List, [], ◌∷◌, Option, Some, None, nat_eq, length, find, slice_set, IsSomeAnd, if◌then◌else◌, map}
 use Rattle.std.specs.List.{position_or_len}
-use Rattle.lang_base.specs.Texts.{same_text}
 use Rattle.lang_tree.specs.declared.method.Method.{Method}
+use Rattle.lang_core.specs.Origins.{is_call}
 use Rattle.lang_core.specs.declared.ids.Origin.{Origin}
 use Rattle.lang_core.specs.declared.ids.Origin.TheVariants.{Outside, Call}
 use Rattle.lang_core.specs.declared.request.Request.{Request}
@@ -16,11 +16,6 @@ is_alive e = e.wanted && not e.struck
 -- the entry has this number
 abbrev pub has_id : ℕ → Entry → Bool
 has_id id e = nat_eq e.id id
-
--- the origin is this call: that of this number of this caller
-abbrev pub is_call : List ℕ → ℕ → Origin → Bool
-is_call caller number Outside = false
-is_call caller number (Call c n) = same_text c caller && nat_eq n number
 
 -- the entry comes from this call
 abbrev pub has_origin : List ℕ → ℕ → Entry → Bool

@@ -201,8 +201,8 @@ impl Log {
         entry.runs = runs;
     }
 
-    /// Strikes the entry of a number, or takes that back; false exactly where there is none.
-    pub fn strike(&mut self, id: u64, struck: bool) -> bool
+    /// Sets whether the entry of a number is struck; false exactly where there is none.
+    pub fn set_struck(&mut self, id: u64, struck: bool) -> bool
         ensures entries { self.new.entries ≡ changed id (mark struck) self.old.entries }
         ensures there { result ≡ is_some (find (has_id id) self.old.entries) }
     {

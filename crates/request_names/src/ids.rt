@@ -108,7 +108,7 @@ fn print_id(alloc: Global, service: &Name, number: u64) -> Result<Text, NoMemory
 {
     let name = service.text().as_str();
     let text = format!(in alloc; "{name}/{number}")?;
-    Ok(Text::from(text))
+    Ok(Text::shared(text)?)
 }
 
 /// A request's name as a text, which reads back to it where its number is 1 or more.

@@ -13,7 +13,7 @@ use Rattle.versioned_rows.specs.Places.{label_of, rows_after, before, is_held, w
 use Rattle.versioned_rows.specs.Rows.{row_place, labels_in, has_row}
 use Rattle.versioned_rows.specs.Versions.{IsBased, IsIndexed}
 use Rattle.versioned_rows.specs.Scans.{beneath, is_under, while, cell_at, with_cell, row_cells}
-use Rattle.versioned_rows.specs.declared.rows.Row.{Row}
+use Rattle.versioned_rows.specs.declared.rows.KeyLabels.{KeyLabels}
 use Rattle.versioned_rows.specs.declared.places.PlaceWrites.{PlaceWrites}
 use Rattle.versioned_rows.proofs.EditLemmas.{found_passes}
 use Rattle.lang_core.proofs.ReadLemmas.{place_is}
@@ -38,17 +38,17 @@ at_by p cells (Some c) e = ap Some (is_cell p c (place_is (cell_place c) p (foun
 at_is : (p : Place) (cells : List Cell) → at p cells ≡ option_map (cell_of p) (get cells p.table p.key)
 at_is p cells = at_by p cells (at p cells) refl
 
-cell_here : (cells : List Cell) (r : Row) (p : Place) → row_place r ≡ p → cell_at cells r ≡ at p cells
+cell_here : (cells : List Cell) (r : KeyLabels) (p : Place) → row_place r ≡ p → cell_at cells r ≡ at p cells
 cell_here cells r p e = ap (λ (q : Place). option_map (cell_of q) (get cells q.table q.key)) e ∙ sym (at_is p cells)
 
-cell_stands : (cells : List Cell) (r : Row) (c : Cell) → cell_at cells r ≡ Some c → cell_place c ≡ row_place r
+cell_stands : (cells : List Cell) (r : KeyLabels) (c : Cell) → cell_at cells r ≡ Some c → cell_place c ≡ row_place r
 cell_stands cells r c e = by (get cells r.table r.key) e
   where
     by : (o : Option (List ℕ)) → option_map (cell_of (row_place r)) o ≡ Some c → cell_place c ≡ row_place r
     by None e = cc
     by (Some x) e = let same : cell_of (row_place r) x ≡ c = cc in sym (ap cell_place same)
 
-some_if : (b : Bool) (r : Row) (o : Option Row) → is_some (cond b (Some r) o) ≡ cond b true (is_some o)
+some_if : (b : Bool) (r : KeyLabels) (o : Option KeyLabels) → is_some (cond b (Some r) o) ≡ cond b true (is_some o)
 some_if true r o = refl
 some_if false r o = refl
 
@@ -62,14 +62,14 @@ here_by p cells rest (Some c) b e more =
     let passes : same_place (cell_place c) p ≡ true = found_passes (λ c. same_place (cell_place c) p) cells c e in
     rw passes refl
 
-apart_by : (cells rest : List Cell) (r : Row) (p : Place) (o : Option Cell) → cell_at cells r ≡ o → same_place (row_place r) p ≡ false → at p (with_cell o rest) ≡ at p rest
+apart_by : (cells rest : List Cell) (r : KeyLabels) (p : Place) (o : Option Cell) → cell_at cells r ≡ o → same_place (row_place r) p ≡ false → at p (with_cell o rest) ≡ at p rest
 apart_by cells rest r p None e apart = refl
 apart_by cells rest r p (Some c) e apart =
     let differs : same_place (cell_place c) p ≡ false = ap (λ q. same_place q p) (cell_stands cells r c e) ∙ apart in
     rw differs refl
 
 -- the cells at the keys of rows are those that are there and have a row
-at_rows : (p : Place) (cells : List Cell) (rows : List Row) → at p (row_cells cells rows) ≡ cond (is_some (find (λ r. same_place (row_place r) p) rows)) (at p cells) None
+at_rows : (p : Place) (cells : List Cell) (rows : List KeyLabels) → at p (row_cells cells rows) ≡ cond (is_some (find (λ r. same_place (row_place r) p) rows)) (at p cells) None
 at_rows p cells [] = refl
 at_rows p cells (r ∷ rs) = elim (cases_Bool (same_place (row_place r) p)) [
   | inl e ↦ (let same : cell_at cells r ≡ at p cells = cell_here cells r p (place_is (row_place r) p e) in
@@ -77,25 +77,25 @@ at_rows p cells (r ∷ rs) = elim (cases_Bool (same_place (row_place r) p)) [
   | inr e ↦ rw e (apart_by cells (row_cells cells rs) r p (cell_at cells r) refl e ∙ at_rows p cells rs)
 ]
 
-below_by : (cells rest : List Cell) (q : Place) (r : Row) (o : Option Cell) → cell_at cells r ≡ o → place_order q (row_place r) ≡ Less → IsBelowAll cell_place q rest → IsBelowAll cell_place q (with_cell o rest)
+below_by : (cells rest : List Cell) (q : Place) (r : KeyLabels) (o : Option Cell) → cell_at cells r ≡ o → place_order q (row_place r) ≡ Less → IsBelowAll cell_place q rest → IsBelowAll cell_place q (with_cell o rest)
 below_by cells rest q r None e lt all = all
 below_by cells rest q r (Some c) e lt all = (ap (place_order q) (cell_stands cells r c e) ∙ lt, all)
 
-below_rows : (cells : List Cell) (q : Place) (rows : List Row) → IsBelowAll row_place q rows → IsBelowAll cell_place q (row_cells cells rows)
+below_rows : (cells : List Cell) (q : Place) (rows : List KeyLabels) → IsBelowAll row_place q rows → IsBelowAll cell_place q (row_cells cells rows)
 below_rows cells q [] all = tt
 below_rows cells q (r ∷ rs) all = below_by cells (row_cells cells rs) q r (cell_at cells r) refl all.0 (below_rows cells q rs all.1)
 
-ordered_by : (cells rest : List Cell) (r : Row) (o : Option Cell) → cell_at cells r ≡ o → IsBelowAll cell_place (row_place r) rest → IsOrdered cell_place rest → IsOrdered cell_place (with_cell o rest)
+ordered_by : (cells rest : List Cell) (r : KeyLabels) (o : Option Cell) → cell_at cells r ≡ o → IsBelowAll cell_place (row_place r) rest → IsOrdered cell_place rest → IsOrdered cell_place (with_cell o rest)
 ordered_by cells rest r None e all more = more
 ordered_by cells rest r (Some c) e all more = let P : Place → Type 0 = λ q. IsBelowAll cell_place q rest in (subst P (sym (cell_stands cells r c e)) all, more)
 
-pub ordered_rows : (cells : List Cell) (rows : List Row) → IsOrdered row_place rows → IsOrdered cell_place (row_cells cells rows)
+pub ordered_rows : (cells : List Cell) (rows : List KeyLabels) → IsOrdered row_place rows → IsOrdered cell_place (row_cells cells rows)
 ordered_rows cells [] o = tt
 ordered_rows cells (r ∷ rs) o = ordered_by cells (row_cells cells rs) r (cell_at cells r) refl (below_rows cells (row_place r) rs o.0) (ordered_rows cells rs o.1)
 
-module _ (cells : List Cell) (rows : List Row) (oc : IsOrdered cell_place cells) (or : IsOrdered row_place rows)
+module _ (cells : List Cell) (rows : List KeyLabels) (oc : IsOrdered cell_place cells) (or : IsOrdered row_place rows)
     (all : (p : Place) → find (λ r. same_place (row_place r) p) rows ≡ None → at p cells ≡ None) where
-  same_by : (p : Place) (o : Option Row) → find (λ r. same_place (row_place r) p) rows ≡ o → cond (is_some o) (at p cells) None ≡ at p cells
+  same_by : (p : Place) (o : Option KeyLabels) → find (λ r. same_place (row_place r) p) rows ≡ o → cond (is_some o) (at p cells) None ≡ at p cells
   same_by p None e = sym (all p e)
   same_by p (Some r) e = refl
 
@@ -103,18 +103,18 @@ module _ (cells : List Cell) (rows : List Row) (oc : IsOrdered cell_place cells)
   cells_are = same_ordered cell_place (row_cells cells rows) cells (ordered_rows cells rows or) oc
       (λ p. at_rows p cells rows ∙ same_by p (find (λ r. same_place (row_place r) p) rows) refl)
 
-filter_by : (t prefix : List ℕ) (cells rest : List Cell) (r : Row) (o : Option Cell) (b : Bool) → cell_at cells r ≡ o → is_under t prefix r ≡ b
+filter_by : (t prefix : List ℕ) (cells rest : List Cell) (r : KeyLabels) (o : Option Cell) (b : Bool) → cell_at cells r ≡ o → is_under t prefix r ≡ b
     → filter (is_beneath t prefix) (with_cell o rest) ≡ cond b (with_cell o (filter (is_beneath t prefix) rest)) (filter (is_beneath t prefix) rest)
 filter_by t prefix cells rest r None true e u = refl
 filter_by t prefix cells rest r None false e u = refl
 filter_by t prefix cells rest r (Some c) true e u = let h : is_beneath t prefix c ≡ true = ap (beneath t prefix) (cell_stands cells r c e) ∙ u in rw h refl
 filter_by t prefix cells rest r (Some c) false e u = let h : is_beneath t prefix c ≡ false = ap (beneath t prefix) (cell_stands cells r c e) ∙ u in rw h refl
 
-row_if : (cells : List Cell) (r : Row) (rs : List Row) (b : Bool) → cond b (with_cell (cell_at cells r) (row_cells cells rs)) (row_cells cells rs) ≡ row_cells cells (cond b (r ∷ rs) rs)
+row_if : (cells : List Cell) (r : KeyLabels) (rs : List KeyLabels) (b : Bool) → cond b (with_cell (cell_at cells r) (row_cells cells rs)) (row_cells cells rs) ≡ row_cells cells (cond b (r ∷ rs) rs)
 row_if cells r rs true = refl
 row_if cells r rs false = refl
 
-filter_rows : (t prefix : List ℕ) (cells : List Cell) (rows : List Row) → filter (is_beneath t prefix) (row_cells cells rows) ≡ row_cells cells (filter (is_under t prefix) rows)
+filter_rows : (t prefix : List ℕ) (cells : List Cell) (rows : List KeyLabels) → filter (is_beneath t prefix) (row_cells cells rows) ≡ row_cells cells (filter (is_under t prefix) rows)
 filter_rows t prefix cells [] = refl
 filter_rows t prefix cells (r ∷ rs) =
     filter_by t prefix cells (row_cells cells rs) r (cell_at cells r) (is_under t prefix r) refl refl
@@ -126,21 +126,21 @@ nothing_by f None h = refl
 nothing_by f (Some x) h = cc
 
 -- nothing stands before all places at a key without a row
-bare : (base : List Cell) (rows : List Row) (p : Place) → IsBased base rows → find (λ r. same_place (row_place r) p) rows ≡ None → get base p.table p.key ≡ None
+bare : (base : List Cell) (rows : List KeyLabels) (p : Place) → IsBased base rows → find (λ r. same_place (row_place r) p) rows ≡ None → get base p.table p.key ≡ None
 bare base rows p based none = elim (cases_Bool (is_held p.table p.key base)) [
   | inl e ↦ (let there = based.keys p.table p.key e in
-      let not_there : has_row rows p.table p.key ≡ false = ap (λ o. option_map_or (λ (r : Row). true) o false) none in
+      let not_there : has_row rows p.table p.key ≡ false = ap (λ o. option_map_or (λ (r : KeyLabels). true) o false) none in
       cc)
   | inr e ↦ nothing_by (λ (c : Cell). c.text) (find (λ c. same_place (cell_place c) p) base) e
 ]
 
-module _ (order : List ℕ) (end : Option ℕ) (base : List Cell) (ps : List PlaceWrites) (rows : List Row) (based : IsBased base rows) (indexed : IsIndexed ps rows) (rising : IsRising order (map label_of ps)) where
+module _ (order : List ℕ) (end : Option ℕ) (base : List Cell) (ps : List PlaceWrites) (rows : List KeyLabels) (based : IsBased base rows) (indexed : IsIndexed ps rows) (rising : IsRising order (map label_of ps)) where
   abbrev cells : List Cell
   cells = rows_after base (before order end ps)
 
   no_row : (p : Place) → find (λ r. same_place (row_place r) p) rows ≡ None → at p cells ≡ None
   no_row p none =
-      let labels : labels_in rows p.table p.key ≡ [] = ap (λ o. option_map_or (λ (r : Row). r.labels.items) o []) none in
+      let labels : labels_in rows p.table p.key ≡ [] = ap (λ o. option_map_or (λ (r : KeyLabels). r.labels.items) o []) none in
       let wrote : [] ≡ writers p.table p.key ps = sym labels ∙ indexed.each p.table p.key in
       at_is p cells ∙ ap (option_map (cell_of p)) (get_nothing order end base ps p.table p.key based.ordered indexed.writes rising [] 0 wrote refl refl ∙ bare base rows p based none)
 
@@ -166,12 +166,12 @@ front_ordered c (x ∷ xs) ys o = (front_below (cell_place x) c xs ys o.0, front
 
 -- ---- one row after the other
 
-drop_row : (rows : List Row) (i : ℕ) (r : Row) → i < length rows → r ≡ get_or rows i r → drop i rows ≡ r ∷ drop (i + 1) rows
+drop_row : (rows : List KeyLabels) (i : ℕ) (r : KeyLabels) → i < length rows → r ≡ get_or rows i r → drop i rows ≡ r ∷ drop (i + 1) rows
 drop_row [] i r lt is = absurd (omega arith)
 drop_row (x ∷ xs) zero r lt is = ap (λ z. z ∷ xs) (sym is)
 drop_row (x ∷ xs) (suc i) r lt is = rw add-one (let e = drop_row xs i r (omega arith) is in rw add-one at e)
 
-module _ (t prefix : List ℕ) (cells : List Cell) (rows : List Row) (i : ℕ) (r : Row) (lt : i < length rows) (is : r ≡ get_or rows i r) where
+module _ (t prefix : List ℕ) (cells : List Cell) (rows : List KeyLabels) (i : ℕ) (r : KeyLabels) (lt : i < length rows) (is : r ≡ get_or rows i r) where
   pub stops : is_under t prefix r ≡ false → row_cells cells (while (is_under t prefix) (drop i rows)) ≡ []
   stops fails = ap (λ l. row_cells cells (while (is_under t prefix) l)) (drop_row rows i r lt is) ∙ ap (λ b. row_cells cells (cond b (r ∷ while (is_under t prefix) (drop (i + 1) rows)) [])) fails
 
@@ -179,7 +179,7 @@ module _ (t prefix : List ℕ) (cells : List Cell) (rows : List Row) (i : ℕ) (
   goes passes = ap (λ l. row_cells cells (while (is_under t prefix) l)) (drop_row rows i r lt is) ∙ ap (λ b. row_cells cells (cond b (r ∷ while (is_under t prefix) (drop (i + 1) rows)) [])) passes
 
 -- one more cell, or none, of a scan that holds so much
-module _ (t prefix : List ℕ) (cells : List Cell) (rows : List Row) (i : ℕ) (r : Row) (lt : i < length rows) (is : r ≡ get_or rows i r) (under : is_under t prefix r ≡ true)
+module _ (t prefix : List ℕ) (cells : List Cell) (rows : List KeyLabels) (i : ℕ) (r : KeyLabels) (lt : i < length rows) (is : r ≡ get_or rows i r) (under : is_under t prefix r ≡ true)
     (kept total : List Cell) (bytes : ℕ) (h : kept ++ kept_from (length kept) bytes (row_cells cells (while (is_under t prefix) (drop i rows))) ≡ total) where
   abbrev later : List Cell
   later = row_cells cells (while (is_under t prefix) (drop (i + 1) rows))
@@ -218,32 +218,32 @@ take_all (suc n) [] le = refl
 take_all (suc n) (x ∷ xs) le = ap (λ l. x ∷ l) (take_all n xs (omega arith))
 
 -- the rows from one on, as a slice of them
-pub slice_from : (rows : List Row) (n : ℕ) → take (length rows - n) (drop n rows) ≡ drop n rows
+pub slice_from : (rows : List KeyLabels) (n : ℕ) → take (length rows - n) (drop n rows) ≡ drop n rows
 slice_from rows n = take_all (length rows - n) (drop n rows) (let e = length-drop n rows in omega arith)
 
-drop_ordered : (rows : List Row) (n : ℕ) → IsOrdered row_place rows → IsOrdered row_place (drop n rows)
+drop_ordered : (rows : List KeyLabels) (n : ℕ) → IsOrdered row_place rows → IsOrdered row_place (drop n rows)
 drop_ordered rows zero o = o
 drop_ordered [] (suc n) o = tt
 drop_ordered (r ∷ rs) (suc n) o = drop_ordered rs n o.1
 
-pub slice_ordered : (rows : List Row) (n : ℕ) → IsOrdered row_place rows → IsOrdered row_place (take (length rows - n) (drop n rows))
-slice_ordered rows n o = let P : List Row → Type 0 = λ l. IsOrdered row_place l in subst P (sym (slice_from rows n)) (drop_ordered rows n o)
+pub slice_ordered : (rows : List KeyLabels) (n : ℕ) → IsOrdered row_place rows → IsOrdered row_place (take (length rows - n) (drop n rows))
+slice_ordered rows n o = let P : List KeyLabels → Type 0 = λ l. IsOrdered row_place l in subst P (sym (slice_from rows n)) (drop_ordered rows n o)
 
-below_if : (q : Place) (x : Row) (xs : List Row) (b : Bool) → place_order q (row_place x) ≡ Less → IsBelowAll row_place q xs → IsBelowAll row_place q (cond b (x ∷ xs) [])
+below_if : (q : Place) (x : KeyLabels) (xs : List KeyLabels) (b : Bool) → place_order q (row_place x) ≡ Less → IsBelowAll row_place q xs → IsBelowAll row_place q (cond b (x ∷ xs) [])
 below_if q x xs true lt all = (lt, all)
 below_if q x xs false lt all = tt
 
-while_below : (p : Row → Bool) (q : Place) (xs : List Row) → IsBelowAll row_place q xs → IsBelowAll row_place q (while p xs)
+while_below : (p : KeyLabels → Bool) (q : Place) (xs : List KeyLabels) → IsBelowAll row_place q xs → IsBelowAll row_place q (while p xs)
 while_below p q [] all = tt
 while_below p q (x ∷ xs) all = below_if q x (while p xs) (p x) all.0 (while_below p q xs all.1)
 
-ordered_if : (x : Row) (xs : List Row) (b : Bool) → IsBelowAll row_place (row_place x) xs → IsOrdered row_place xs → IsOrdered row_place (cond b (x ∷ xs) [])
+ordered_if : (x : KeyLabels) (xs : List KeyLabels) (b : Bool) → IsBelowAll row_place (row_place x) xs → IsOrdered row_place xs → IsOrdered row_place (cond b (x ∷ xs) [])
 ordered_if x xs true all o = (all, o)
 ordered_if x xs false all o = tt
 
-while_ordered : (p : Row → Bool) (xs : List Row) → IsOrdered row_place xs → IsOrdered row_place (while p xs)
+while_ordered : (p : KeyLabels → Bool) (xs : List KeyLabels) → IsOrdered row_place xs → IsOrdered row_place (while p xs)
 while_ordered p [] o = tt
 while_ordered p (x ∷ xs) o = ordered_if x (while p xs) (p x) (while_below p (row_place x) xs o.0) (while_ordered p xs o.1)
 
-pub kept_ordered : (t prefix : List ℕ) (cells : List Cell) (rows : List Row) → IsOrdered row_place rows → IsOrdered cell_place (kept_from 0 0 (row_cells cells (while (is_under t prefix) rows)))
+pub kept_ordered : (t prefix : List ℕ) (cells : List Cell) (rows : List KeyLabels) → IsOrdered row_place rows → IsOrdered cell_place (kept_from 0 0 (row_cells cells (while (is_under t prefix) rows)))
 kept_ordered t prefix cells rows o = ordered-kept 0 0 (row_cells cells (while (is_under t prefix) rows)) (ordered_rows cells (while (is_under t prefix) rows) (while_ordered (is_under t prefix) rows o))

@@ -8,7 +8,7 @@ use Rattle.lang_core.specs.Places.{Place, place_of, same_place, IsOrdered, set_i
 use Rattle.lang_core.proofs.PlaceLemmas.{set_edits, ordered-set}
 use Rattle.lang_core.proofs.ReadLemmas.{find-set_in, place_is, place_same}
 use Rattle.versioned_rows.specs.Rows.{row_place, held, labels_in, spare_of, spare_in, has_row, KeepsRows}
-use Rattle.versioned_rows.specs.declared.rows.Row.{Row}
+use Rattle.versioned_rows.specs.declared.rows.KeyLabels.{KeyLabels}
 use Rattle.versioned_rows.proofs.SeekLemmas.{find_some, find_none}
 
 passes_if : {X : Type 0} (p : X → Bool) (x y : X) (b : Bool) (o : Option X) → p y ≡ b → cond b (Some y) o ≡ Some x → (o ≡ Some x → p x ≡ true) → p x ≡ true
@@ -19,12 +19,12 @@ pub found_passes : {X : Type 0} (p : X → Bool) (xs : List X) (x : X) → find 
 found_passes p [] x h = cc
 found_passes p (y ∷ ys) x h = passes_if p x y (p y) (find p ys) refl h (found_passes p ys x)
 
-held_if : {X : Type 0} (f : Row → X) (none : X) (b : Bool) (new : Row) (o : Option Row) → option_map_or f (cond b (Some new) o) none ≡ cond b (f new) (option_map_or f o none)
+held_if : {X : Type 0} (f : KeyLabels → X) (none : X) (b : Bool) (new : KeyLabels) (o : Option KeyLabels) → option_map_or f (cond b (Some new) o) none ≡ cond b (f new) (option_map_or f o none)
 held_if f none true new o = refl
 held_if f none false new o = refl
 
 -- what is held once a row stands at its place
-held_set : {X : Type 0} (f : Row → X) (none : X) (rows : List Row) (new : Row) (u v : List ℕ) → held f none (set_in row_place new rows) u v ≡ cond (same_place (row_place new) (place_of u v)) (f new) (held f none rows u v)
+held_set : {X : Type 0} (f : KeyLabels → X) (none : X) (rows : List KeyLabels) (new : KeyLabels) (u v : List ℕ) → held f none (set_in row_place new rows) u v ≡ cond (same_place (row_place new) (place_of u v)) (f new) (held f none rows u v)
 held_set f none rows new u v = ap (λ o. option_map_or f o none) (find-set_in row_place (place_of u v) new rows)
     ∙ held_if f none (same_place (row_place new) (place_of u v)) new (find (λ r. same_place (row_place r) (place_of u v)) rows)
 
@@ -41,7 +41,7 @@ has_if true c h = refl
 has_if false c h = h
 
 -- an edit at one key that leaves what was there
-pub edits_nothing : (rows : List Row) (t k labels : List ℕ) → labels_in rows t k ≡ labels → (u v : List ℕ) → labels_in rows u v ≡ cond (same_place (place_of t k) (place_of u v)) labels (labels_in rows u v)
+pub edits_nothing : (rows : List KeyLabels) (t k labels : List ℕ) → labels_in rows t k ≡ labels → (u v : List ℕ) → labels_in rows u v ≡ cond (same_place (place_of t k) (place_of u v)) labels (labels_in rows u v)
 edits_nothing rows t k labels same u v = elim (cases_Bool (same_place (place_of t k) (place_of u v))) [
   | inl e ↦ (let p : place_of t k ≡ place_of u v = place_is (place_of t k) (place_of u v) e in
       rw e (sym (ap (λ (q : Place). labels_in rows q.table q.key) p) ∙ same))
@@ -49,11 +49,11 @@ edits_nothing rows t k labels same u v = elim (cases_Bool (same_place (place_of 
 ]
 
 -- what is said of a key is said of an equal one
-at_key : (rows : List Row) (t k u v : List ℕ) → same_place (place_of t k) (place_of u v) ≡ true → spare_in rows u v ≡ spare_in rows t k
+at_key : (rows : List KeyLabels) (t k u v : List ℕ) → same_place (place_of t k) (place_of u v) ≡ true → spare_in rows u v ≡ spare_in rows t k
 at_key rows t k u v e = ap (λ (q : Place). spare_in rows q.table q.key) (sym (place_is (place_of t k) (place_of u v) e))
 
 -- the row of a key, edited where it stands
-module _ (rows : List Row) (t k : List ℕ) (at : ℕ) (row : Row) (o : IsOrdered row_place rows) (rank_is : at ≡ rank row_place (place_of t k) rows)
+module _ (rows : List KeyLabels) (t k : List ℕ) (at : ℕ) (row : KeyLabels) (o : IsOrdered row_place rows) (rank_is : at ≡ rank row_place (place_of t k) rows)
     (taken : is_taken row_place (place_of t k) rows ≡ true) (is : row ≡ get_or rows at row) (lt : at < length rows) where
   row_found : find (λ r. same_place (row_place r) (place_of t k)) rows ≡ Some row
   row_found = find_some row_place (place_of t k) rows row taken (is ∙ ap (λ i. get_or rows i row) rank_is)
@@ -61,16 +61,16 @@ module _ (rows : List Row) (t k : List ℕ) (at : ℕ) (row : Row) (o : IsOrdere
   row_at : row_place row ≡ place_of t k
   row_at = place_is (row_place row) (place_of t k) (found_passes (λ r. same_place (row_place r) (place_of t k)) rows row row_found)
 
-  pub held_here : {X : Type 0} (f : Row → X) (none : X) → held f none rows t k ≡ f row
+  pub held_here : {X : Type 0} (f : KeyLabels → X) (none : X) → held f none rows t k ≡ f row
   held_here f none = ap (λ o. option_map_or f o none) row_found
 
   pub labels_here : labels_in rows t k ≡ row.labels.items
-  labels_here = held_here (λ (r : Row). r.labels.items) []
+  labels_here = held_here (λ (r : KeyLabels). r.labels.items) []
 
   pub spare_here : spare_in rows t k ≡ spare_of row
   spare_here = held_here spare_of 0
 
-  module _ (new : Row) (same : row_place new ≡ row_place row) where
+  module _ (new : KeyLabels) (same : row_place new ≡ row_place row) where
     new_at : row_place new ≡ place_of t k
     new_at = same ∙ row_at
 
@@ -85,12 +85,12 @@ module _ (rows : List Row) (t k : List ℕ) (at : ℕ) (row : Row) (o : IsOrdere
     pub set_ordered : IsOrdered row_place (set rows at new)
     set_ordered = rw is_set (ordered-set row_place new rows o)
 
-    now_held : {X : Type 0} (f : Row → X) (none : X) (u v : List ℕ) → held f none (set rows at new) u v ≡ cond (same_place (place_of t k) (place_of u v)) (f new) (held f none rows u v)
+    now_held : {X : Type 0} (f : KeyLabels → X) (none : X) (u v : List ℕ) → held f none (set rows at new) u v ≡ cond (same_place (place_of t k) (place_of u v)) (f new) (held f none rows u v)
     now_held f none u v = ap (λ l. held f none l u v) is_set ∙ held_set f none rows new u v
         ∙ ap (λ p. cond (same_place p (place_of u v)) (f new) (held f none rows u v)) new_at
 
     pub set_labels : (u v : List ℕ) → labels_in (set rows at new) u v ≡ cond (same_place (place_of t k) (place_of u v)) new.labels.items (labels_in rows u v)
-    set_labels u v = now_held (λ (r : Row). r.labels.items) [] u v
+    set_labels u v = now_held (λ (r : KeyLabels). r.labels.items) [] u v
 
     pub set_same : new.labels.items ≡ row.labels.items → (u v : List ℕ) → labels_in (set rows at new) u v ≡ labels_in rows u v
     set_same kept u v = set_labels u v ∙ sym (edits_nothing rows t k new.labels.items (labels_here ∙ sym kept) u v)
@@ -124,7 +124,7 @@ module _ (rows : List Row) (t k : List ℕ) (at : ℕ) (row : Row) (o : IsOrdere
         omega arith
 
 -- a new row without labels
-module _ (rows : List Row) (t k : List ℕ) (at : ℕ) (new : Row) (o : IsOrdered row_place rows) (rank_is : at ≡ rank row_place (place_of t k) rows)
+module _ (rows : List KeyLabels) (t k : List ℕ) (at : ℕ) (new : KeyLabels) (o : IsOrdered row_place rows) (rank_is : at ≡ rank row_place (place_of t k) rows)
     (free : is_taken row_place (place_of t k) rows ≡ false) (table : new.table ≡ t) (key : new.key ≡ k) (empty : new.labels.items ≡ []) where
   new_place : row_place new ≡ place_of t k
   new_place = λ i. record { table = table i; key = key i }
@@ -135,10 +135,10 @@ module _ (rows : List Row) (t k : List ℕ) (at : ℕ) (new : Row) (o : IsOrdere
       ∙ ap (λ b. take (rank row_place (place_of t k) rows) rows ++ new ∷ drop (past b (rank row_place (place_of t k) rows)) rows) free
       ∙ ap (λ n. take n rows ++ new ∷ drop n rows) (sym rank_is))
 
-  none_held : {X : Type 0} (f : Row → X) (none : X) → held f none rows t k ≡ none
+  none_held : {X : Type 0} (f : KeyLabels → X) (none : X) → held f none rows t k ≡ none
   none_held f none = ap (λ o. option_map_or f o none) (find_none row_place (place_of t k) rows o free)
 
-  new_held : {X : Type 0} (f : Row → X) (none : X) (u v : List ℕ) → held f none (take at rows ++ new ∷ drop at rows) u v ≡ cond (same_place (place_of t k) (place_of u v)) (f new) (held f none rows u v)
+  new_held : {X : Type 0} (f : KeyLabels → X) (none : X) (u v : List ℕ) → held f none (take at rows ++ new ∷ drop at rows) u v ≡ cond (same_place (place_of t k) (place_of u v)) (f new) (held f none rows u v)
   new_held f none u v = ap (λ l. held f none l u v) new_set ∙ held_set f none rows new u v
       ∙ ap (λ p. cond (same_place p (place_of u v)) (f new) (held f none rows u v)) new_place
 
@@ -146,7 +146,7 @@ module _ (rows : List Row) (t k : List ℕ) (at : ℕ) (new : Row) (o : IsOrdere
   new_ordered = rw new_set (ordered-set row_place new rows o)
 
   pub new_labels : (u v : List ℕ) → labels_in (take at rows ++ new ∷ drop at rows) u v ≡ labels_in rows u v
-  new_labels u v = new_held (λ (r : Row). r.labels.items) [] u v ∙ sym (edits_nothing rows t k new.labels.items (none_held (λ (r : Row). r.labels.items) [] ∙ sym empty) u v)
+  new_labels u v = new_held (λ (r : KeyLabels). r.labels.items) [] u v ∙ sym (edits_nothing rows t k new.labels.items (none_held (λ (r : KeyLabels). r.labels.items) [] ∙ sym empty) u v)
 
   pub new_kept : (u v : List ℕ) → spare_in rows u v ≤ spare_in (take at rows ++ new ∷ drop at rows) u v
   new_kept u v =
@@ -167,7 +167,7 @@ module _ (rows : List Row) (t k : List ℕ) (at : ℕ) (new : Row) (o : IsOrdere
       omega arith
 
 -- a key with a place for a label has a row
-pub spare_stands : (rows : List Row) (t k : List ℕ) → IsOrdered row_place rows → 0 < spare_in rows t k → is_taken row_place (place_of t k) rows ≡ true
+pub spare_stands : (rows : List KeyLabels) (t k : List ℕ) → IsOrdered row_place rows → 0 < spare_in rows t k → is_taken row_place (place_of t k) rows ≡ true
 spare_stands rows t k o spare = elim (cases_Bool (is_taken row_place (place_of t k) rows)) [
   | inl e ↦ e
   | inr free ↦ (let none : spare_in rows t k ≡ 0 = ap (λ o. option_map_or spare_of o 0) (find_none row_place (place_of t k) rows o free) in absurd (omega arith))

@@ -10,7 +10,7 @@ use Rattle.place_order.specs.Rising.{IsBeforeAll, IsRising, is_before}
 use Rattle.versioned_rows.specs.Places.{label_of, is_written, writers, is_other, without, with_writer, with_place}
 use Rattle.versioned_rows.specs.Rows.{labels_in, row_place}
 use Rattle.versioned_rows.specs.Versions.{IsApart, IsIndexed}
-use Rattle.versioned_rows.specs.declared.rows.Row.{Row}
+use Rattle.versioned_rows.specs.declared.rows.KeyLabels.{KeyLabels}
 use Rattle.versioned_rows.specs.declared.places.PlaceWrites.{PlaceWrites}
 use Rattle.versioned_rows.proofs.RisingLemmas.{not_before_later, rising_kept}
 use Rattle.versioned_rows.proofs.GetLemmas.{In, in_at, filter_filter, filter-map, all_kept}
@@ -163,7 +163,7 @@ all_put P x [] ys all here rest = (here, rest)
 all_put P x (z ∷ zs) ys all here rest = (all.0, all_put P x zs ys all.1 here rest)
 
 -- a place is taken out
-pub take_indexed : (label at : ℕ) (p : PlaceWrites) (ps : List PlaceWrites) (rows after : List Row) → IsIndexed ps rows → position (λ q. nat_eq (label_of q) label) ps ≡ Some at → p ≡ get_or ps at p
+pub take_indexed : (label at : ℕ) (p : PlaceWrites) (ps : List PlaceWrites) (rows after : List KeyLabels) → IsIndexed ps rows → position (λ q. nat_eq (label_of q) label) ps ≡ Some at → p ≡ get_or ps at p
     → IsOrdered row_place after → ((t k : List ℕ) → labels_in after t k ≡ cond (is_written t k p.writes) (filter (is_other label) (labels_in rows t k)) (labels_in rows t k))
     → IsIndexed (without label ps) after
 take_indexed label at p ps rows after was found is ordered each =
@@ -197,7 +197,7 @@ put_writers t k p xs ys =
     ∙ ap (λ l. writers t k xs ++ l) (put_if t k p (filter (λ p. is_written t k p.writes) ys) (is_written t k p.writes))
 
 -- a place is put in
-pub put_indexed : (order : List ℕ) (p : PlaceWrites) (ps : List PlaceWrites) (rows after : List Row) → IsIndexed ps rows → IsRising order (map label_of ps)
+pub put_indexed : (order : List ℕ) (p : PlaceWrites) (ps : List PlaceWrites) (rows after : List KeyLabels) → IsIndexed ps rows → IsRising order (map label_of ps)
     → AllByRecursion (λ q. is_other p.label (label_of q) ≡ true) ps → IsOrdered write_place p.writes
     → IsOrdered row_place after → ((t k : List ℕ) → labels_in after t k ≡ cond (is_written t k p.writes) (with_writer order p.label (labels_in rows t k)) (labels_in rows t k))
     → IsIndexed (with_place order p ps) after
@@ -228,7 +228,7 @@ put_indexed order p ps rows after was rising others writes ordered each = record
 }
 
 -- the rows name the same labels at each key
-pub same_indexed : (ps qs : List PlaceWrites) (rows after : List Row) → IsIndexed ps rows → qs ≡ ps → IsOrdered row_place after → ((t k : List ℕ) → labels_in after t k ≡ labels_in rows t k) → IsIndexed qs after
+pub same_indexed : (ps qs : List PlaceWrites) (rows after : List KeyLabels) → IsIndexed ps rows → qs ≡ ps → IsOrdered row_place after → ((t k : List ℕ) → labels_in after t k ≡ labels_in rows t k) → IsIndexed qs after
 same_indexed ps qs rows after was same ordered each =
     let P : List PlaceWrites → Type 0 = λ l. IsIndexed l after in
     subst P (sym same) (record { apart = was.apart; writes = was.writes; ordered = ordered; each = λ t k. each t k ∙ was.each t k })

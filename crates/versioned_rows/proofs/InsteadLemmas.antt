@@ -10,7 +10,7 @@ use Rattle.place_order.specs.Labels.{place_in}
 use Rattle.place_order.specs.Rising.{IsBeforeAll, IsRising, is_before}
 use Rattle.versioned_rows.specs.Places.{label_of, keys_of, is_written, writers, without, with_place}
 use Rattle.versioned_rows.specs.Versions.{IsIndexed, IsApart}
-use Rattle.versioned_rows.specs.declared.rows.Row.{Row}
+use Rattle.versioned_rows.specs.declared.rows.KeyLabels.{KeyLabels}
 use Rattle.versioned_rows.specs.declared.places.PlaceWrites.{PlaceWrites}
 use Rattle.versioned_rows.proofs.IndexLemmas.{position_is, labels_at}
 use Rattle.versioned_rows.proofs.RisingLemmas.{each_later}
@@ -98,7 +98,7 @@ set_writers t k p (q ∷ qs) (suc at) here keys =
     written_if (is_written t k q.writes) (is_written t k q.writes) q q (filter (λ p. is_written t k p.writes) (set qs at p)) (filter (λ p. is_written t k p.writes) qs)
     refl refl (set_writers t k p qs at here keys)
 
-set_indexed : (p : PlaceWrites) (ps : List PlaceWrites) (at : ℕ) (rows : List Row) → label_of (get_or ps at p) ≡ label_of p → keys_of (get_or ps at p).writes ≡ keys_of p.writes
+set_indexed : (p : PlaceWrites) (ps : List PlaceWrites) (at : ℕ) (rows : List KeyLabels) → label_of (get_or ps at p) ≡ label_of p → keys_of (get_or ps at p).writes ≡ keys_of p.writes
     → IsOrdered write_place p.writes → IsIndexed ps rows → IsIndexed (set ps at p) rows
 set_indexed p ps at rows here keys writes was =
     let P : List ℕ → Type 0 = λ l. IsApart l in
@@ -128,5 +128,5 @@ module _ (p : PlaceWrites) (ps : List PlaceWrites) (at : ℕ) (found : position 
   pub instead_rising : (order : List ℕ) → IsRising order (map label_of ps) → IsRising order (map label_of (set ps at p))
   instead_rising order rising = let P : List ℕ → Type 0 = λ l. IsRising order l in subst P (sym (set_labels p ps at named)) rising
 
-  pub instead_indexed : (rows : List Row) → keys_of (get_or ps at p).writes ≡ keys_of p.writes → IsOrdered write_place p.writes → IsIndexed ps rows → IsIndexed (set ps at p) rows
+  pub instead_indexed : (rows : List KeyLabels) → keys_of (get_or ps at p).writes ≡ keys_of p.writes → IsOrdered write_place p.writes → IsIndexed ps rows → IsIndexed (set ps at p) rows
   instead_indexed rows keys writes was = set_indexed p ps at rows named keys writes was

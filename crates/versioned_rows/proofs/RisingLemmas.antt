@@ -152,9 +152,9 @@ module _ {X : Type 0} (label : X → ℕ) (order : List ℕ) (xs : List X) (r : 
       (λ _. eq-eqb (label (get_or xs at d)) lab here) in
       rw (found, lt-ltb at (length xs) lt) refl
 
-pub nowhere : {X : Type 0} (label : X → ℕ) (order : List ℕ) (xs : List X) → IsRising order (map label xs) → (at lab : ℕ)
+pub not_found_in_rising : {X : Type 0} (label : X → ℕ) (order : List ℕ) (xs : List X) → IsRising order (map label xs) → (at lab : ℕ)
     → ((i : ℕ) (d : X) → i < at → is_before order (Some lab) (label (get_or xs i d)) ≡ true)
     → ((i : ℕ) (d : X) → at ≤ i → i < length xs → is_before order (Some lab) (label (get_or xs i d)) ≡ false)
     → (at < length xs → (d : X) → label (get_or xs at d) ≢ lab) → None ≡ position (λ x. nat_eq (label x) lab) xs
-nowhere label order [] r at lab front rest apart = refl
-nowhere label order (x ∷ xs) r at lab front rest apart = none_from label order (x ∷ xs) r at lab front rest apart x
+not_found_in_rising label order [] r at lab front rest apart = refl
+not_found_in_rising label order (x ∷ xs) r at lab front rest apart = none_from label order (x ∷ xs) r at lab front rest apart x

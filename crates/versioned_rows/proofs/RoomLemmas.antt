@@ -7,7 +7,7 @@ use Rattle.lang_core.specs.declared.writes.Write.{Write}
 use Rattle.versioned_rows.specs.Places.{is_written, is_held}
 use Rattle.versioned_rows.specs.Versions.{asked, set_by, call_writes, call_cells, write_call, base_call, HaveRows, IsCovered}
 use Rattle.versioned_rows.specs.declared.room.VersionsCall.{VersionsCall}
-use Rattle.versioned_rows.specs.declared.rows.Row.{Row}
+use Rattle.versioned_rows.specs.declared.rows.KeyLabels.{KeyLabels}
 
 -- how many pass without one call
 module _ (p : VersionsCall → Bool) (room : List VersionsCall) where
@@ -20,13 +20,13 @@ pub asked_less : (t k : List ℕ) (room : List VersionsCall) (place : ℕ) (writ
 asked_less t k room place writes lt is = counted_less (λ call. is_written t k (call_writes call)) room place (write_call writes) lt is
 
 -- a call leaves the room
-pub covered_less : (room : List VersionsCall) (rows : List Row) (place : ℕ) (call : VersionsCall) → place < length room → get_or room place call ≡ call → IsCovered room rows → IsCovered (remove room place) rows
+pub covered_less : (room : List VersionsCall) (rows : List KeyLabels) (place : ℕ) (call : VersionsCall) → place < length room → get_or room place call ≡ call → IsCovered room rows → IsCovered (remove room place) rows
 covered_less room rows place call lt is had = record {
   labels = λ t k. let h = had.labels t k in let e = counted_less (λ call. is_written t k (call_writes call)) room place call lt is in omega arith;
   keys = λ t k some. had.keys t k (let e = counted_less (λ call. is_held t k (call_cells call)) room place call lt is in omega arith);
 }
 
-pub covered_none : (room : List VersionsCall) (rows : List Row) → room ≡ [] → IsCovered room rows
+pub covered_none : (room : List VersionsCall) (rows : List KeyLabels) → room ≡ [] → IsCovered room rows
 covered_none room rows none =
     let P : List VersionsCall → Type 0 = λ l. IsCovered l rows in
     subst P (sym none) (record { labels = λ t k. omega arith; keys = λ t k some. absurd (omega arith) })
@@ -40,7 +40,7 @@ one_by true y here = here refl
 one_by false y here = omega arith
 
 -- a call's rows have their rows of labels
-pub rows_there : (room : List VersionsCall) (rows : List Row) (place : ℕ) (cells : List Cell) → place < length room → get_or room place (base_call cells) ≡ base_call cells
+pub rows_there : (room : List VersionsCall) (rows : List KeyLabels) (place : ℕ) (cells : List Cell) → place < length room → get_or room place (base_call cells) ≡ base_call cells
     → IsCovered room rows → HaveRows cells rows
 rows_there room rows place cells lt is had t k e =
     let n : set_by t k (remove room place) + cond (is_held t k cells) 1 0 ≡ set_by t k room = counted_less (λ call. is_held t k (call_cells call)) room place (base_call cells) lt is in

@@ -10,7 +10,7 @@ use Rattle.lang_core.specs.Rows.{write_place}
 use Rattle.lang_core.specs.declared.writes.Write.{Write}
 use Rattle.versioned_rows.specs.Places.{is_among, is_written}
 use Rattle.versioned_rows.specs.Rows.{labels_in, spare_in, IsEdited}
-use Rattle.versioned_rows.specs.declared.rows.Row.{Row}
+use Rattle.versioned_rows.specs.declared.rows.KeyLabels.{KeyLabels}
 use Rattle.lang_core.proofs.ReadLemmas.{place_is, place_same, same-order}
 use Rattle.std.proofs.Math.Bool.{or-false, or-true, or_assoc}
 
@@ -71,7 +71,7 @@ pub written_at : (ws : List Write) (i : ℕ) (w : Write) → i < length ws → w
 written_at ws i w lt is = found_at (λ v. same_place (write_place v) (write_place w)) ws i w lt is (place_same (write_place w) (write_place w) refl)
 
 -- one more key is edited
-module _ (edit : List ℕ → List ℕ) (start before after : List Row) (ws : List Write) (i : ℕ) (w : Write) (o : IsOrdered write_place ws) (lt : i < length ws) (is : w ≡ get_or ws i w)
+module _ (edit : List ℕ → List ℕ) (start before after : List KeyLabels) (ws : List Write) (i : ℕ) (w : Write) (o : IsOrdered write_place ws) (lt : i < length ws) (is : w ≡ get_or ws i w)
     (each : (t k : List ℕ) → labels_in before t k ≡ cond (is_written t k (take i ws)) (edit (labels_in start t k)) (labels_in start t k)) where
   pub unedited : labels_in before w.table w.key ≡ labels_in start w.table w.key
   unedited = each w.table w.key ∙ ap (λ b. cond b (edit (labels_in start w.table w.key)) (labels_in start w.table w.key)) (not_written ws i w o lt is)
@@ -89,7 +89,7 @@ module _ (edit : List ℕ → List ℕ) (start before after : List Row) (ws : Li
       ]
 
 -- and places for labels: one less at each key that is written
-module _ (start before after : List Row) (ws : List Write) (i : ℕ) (w : Write) (lt : i < length ws) (is : w ≡ get_or ws i w) where
+module _ (start before after : List KeyLabels) (ws : List Write) (i : ℕ) (w : Write) (lt : i < length ws) (is : w ≡ get_or ws i w) where
   same_more : (t k : List ℕ) → is_written t k (take (i + 1) ws) ≡ (is_written t k (take i ws) || same_place (write_place w) (place_of t k))
   same_more t k = among_more write_place t k ws i w lt ∙ ap (λ v. is_written t k (take i ws) || same_place (write_place v) (place_of t k)) (sym is)
 

@@ -6,13 +6,13 @@ use Rattle.lang_core.specs.Places.{Place}
 use Rattle.lang_core.specs.Rows.{get}
 use Rattle.lang_core.specs.declared.cells.Cell.{Cell}
 use Rattle.versioned_rows.specs.Rows.{row_place}
-use Rattle.versioned_rows.specs.declared.rows.Row.{Row}
+use Rattle.versioned_rows.specs.declared.rows.KeyLabels.{KeyLabels}
 
 -- a place is in the table, under the prefix
 abbrev pub beneath : List ℕ → List ℕ → Place → Bool
 beneath t prefix q = same_text q.table t && begins_with prefix q.key
 
-abbrev pub is_under : List ℕ → List ℕ → Row → Bool
+abbrev pub is_under : List ℕ → List ℕ → KeyLabels → Bool
 is_under t prefix r = beneath t prefix (row_place r)
 
 -- the front of a list, as long as it passes
@@ -21,7 +21,7 @@ while p [] = []
 while p (x ∷ xs) = if p x then x ∷ while p xs else []
 
 -- the cell at the key of a row, if there is one
-abbrev pub cell_at : List Cell → Row → Option Cell
+abbrev pub cell_at : List Cell → KeyLabels → Option Cell
 cell_at cells r = option_map (λ x. record { table = r.table; key = r.key; text = x }) (get cells r.table r.key)
 
 abbrev pub with_cell : Option Cell → List Cell → List Cell
@@ -29,6 +29,6 @@ with_cell None cells = cells
 with_cell (Some c) cells = c ∷ cells
 
 -- the cells at the keys of these rows
-abbrev pub row_cells : List Cell → List Row → List Cell
+abbrev pub row_cells : List Cell → List KeyLabels → List Cell
 row_cells cells [] = []
 row_cells cells (r ∷ rs) = with_cell (cell_at cells r) (row_cells cells rs)

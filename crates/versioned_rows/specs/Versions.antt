@@ -10,7 +10,7 @@ use Rattle.versioned_rows.specs.Rows.{row_place, labels_in, spare_in, has_row}
 use Rattle.versioned_rows.specs.contracts.room.VersionsCall as call
 use Rattle.versioned_rows.specs.declared.room.VersionsCall.{VersionsCall}
 use Rattle.versioned_rows.specs.declared.room.VersionsCall.TheVariants.{WriteAt, InsertBase}
-use Rattle.versioned_rows.specs.declared.rows.Row.{Row}
+use Rattle.versioned_rows.specs.declared.rows.KeyLabels.{KeyLabels}
 use Rattle.versioned_rows.specs.declared.places.PlaceWrites.{PlaceWrites}
 use base.Stored.{Coded}
 
@@ -49,16 +49,16 @@ abbrev pub set_by : List ℕ → List ℕ → List VersionsCall → ℕ
 set_by t k room = count_by (λ call. is_held t k (call_cells call)) room
 
 -- the rows of labels have what the calls need for which room was made
-pub record IsCovered (room : List VersionsCall) (rows : List Row) : Type 0 where
+pub record IsCovered (room : List VersionsCall) (rows : List KeyLabels) : Type 0 where
   pub labels : (t k : List ℕ) → asked t k room ≤ spare_in rows t k
   pub keys : (t k : List ℕ) → 0 < set_by t k room → has_row rows t k ≡ true
 
 -- each key of these cells has a row of labels, which may be empty
-abbrev pub HaveRows : List Cell → List Row → Type 0
+abbrev pub HaveRows : List Cell → List KeyLabels → Type 0
 HaveRows cells rows = (t k : List ℕ) → is_held t k cells ≡ true → has_row rows t k ≡ true
 
 -- cells that may stand before all places
-pub record IsBased (base : List Cell) (rows : List Row) : Type 0 where
+pub record IsBased (base : List Cell) (rows : List KeyLabels) : Type 0 where
   pub ordered : IsOrdered cell_place base
   pub keys : HaveRows base rows
 
@@ -68,7 +68,7 @@ IsApart [] = Unit {0}
 IsApart (x ∷ xs) = AllByRecursion (λ y. nat_eq y x ≡ false) xs × IsApart xs
 
 -- the rows name at each key the places that write it
-pub record IsIndexed (places : List PlaceWrites) (rows : List Row) : Type 0 where
+pub record IsIndexed (places : List PlaceWrites) (rows : List KeyLabels) : Type 0 where
   pub apart : IsApart (map label_of places)
   pub writes : AllByRecursion (λ (p : PlaceWrites). IsOrdered write_place p.writes) places
   pub ordered : IsOrdered row_place rows

@@ -8,11 +8,11 @@ ghost use Rattle.lang_core.specs.Rows.{cell_place, get};
 ghost use Rattle.lang_core.specs.declared.cells.Cell.{Cell};
 ghost use Rattle.versioned_rows.specs.Rows.{row_place, labels_in, spare_in, KeepsRows};
 ghost use Rattle.versioned_rows.specs.Versions.{call_code, base_call, HaveRows, IsBased, IsCovered};
-ghost use Rattle.versioned_rows.specs.declared.rows.Row.{Row};
+ghost use Rattle.versioned_rows.specs.declared.rows.KeyLabels.{KeyLabels};
 
 use crate::places::PlaceWrites;
 use crate::room::VersionsCall;
-use crate::rows::{Row, make_rows};
+use crate::rows::{KeyLabels, make_rows};
 use crate::seeking::seek;
 use lang_core::{Cell, Cells, Copied, NoMemory, Same, Text};
 use lang_lists::take_room;
@@ -63,8 +63,8 @@ fn spend_base(room: &mut Vec<VersionsCall>, cells: &Cells) -> Option<Cells>
     ensures made { IsSome result ↔ IsTrue (is_made call_code (base_call cells.now) room.old.items) }
     ensures copy { IfSome result (λ copy. copy ≡ cells.now) }
     ensures less { vec_len room.new ≤ vec_len room.old }
-    ensures covered { (rows : List Row) → IsCovered room.old.items rows → IsCovered room.new.items rows }
-    ensures keys { IfSome result (λ copy. (rows : List Row) → IsCovered room.old.items rows → HaveRows copy rows) }
+    ensures covered { (rows : List KeyLabels) → IsCovered room.old.items rows → IsCovered room.new.items rows }
+    ensures keys { IfSome result (λ copy. (rows : List KeyLabels) → IsCovered room.old.items rows → HaveRows copy rows) }
 {
     match base_place(room, cells) {
         Some(place) => cells_of(take_room(room, place)),
@@ -76,7 +76,7 @@ fn spend_base(room: &mut Vec<VersionsCall>, cells: &Cells) -> Option<Cells>
 }
 
 // A copy of these rows, and a row of labels for each of their keys.
-fn new_base(alloc: Global, rows: &mut Vec<Row>, cells: &Cells) -> Result<Cells, NoMemory>
+fn new_base(alloc: Global, rows: &mut Vec<KeyLabels>, cells: &Cells) -> Result<Cells, NoMemory>
     requires { IsOrdered row_place rows.old.items }
     ensures ordered { IsOrdered row_place rows.new.items }
     ensures each { (t k : List ℕ) → labels_in rows.new.items t k ≡ labels_in rows.old.items t k }
@@ -93,7 +93,7 @@ fn new_base(alloc: Global, rows: &mut Vec<Row>, cells: &Cells) -> Result<Cells, 
 pub(crate) fn ready_base(
     alloc: Global,
     places: &mut Vec<PlaceWrites>,
-    rows: &mut Vec<Row>,
+    rows: &mut Vec<KeyLabels>,
     room: &mut Vec<VersionsCall>,
     cells: &Cells,
 ) -> Result<(), NoMemory>
@@ -119,7 +119,7 @@ pub(crate) fn ready_base(
 /// A copy of these rows, and a row of labels for each of their keys: those of the room that was made for them, or new ones.
 pub(crate) fn take_base(
     alloc: Global,
-    rows: &mut Vec<Row>,
+    rows: &mut Vec<KeyLabels>,
     room: &mut Vec<VersionsCall>,
     cells: &Cells,
 ) -> Result<Cells, NoMemory>

@@ -34,6 +34,19 @@ fn is_before(order: &Order, label: u64, end: Option<u64>) -> bool
     }
 }
 
+// Where to look next: at the last of all first, behind which most labels come, then by halves.
+fn probe(low: usize, high: usize, len: usize) -> usize
+    requires { low < high }
+    ensures low { low ≤ result }
+    ensures high { result < high }
+{
+    if high == len {
+        high - 1
+    } else {
+        low + (high - low) / 2
+    }
+}
+
 /// How many of these stand before a label; all do where there is none.
 pub(crate) fn count_before<T: Labelled>(order: &Order, items: &[T], end: Option<u64>) -> usize
     requires rising { IsRising order.now.labels (map T.label items.now) }
@@ -46,7 +59,7 @@ pub(crate) fn count_before<T: Labelled>(order: &Order, items: &[T], end: Option<
     let mut low = 0;
     let mut high = items.len();
     while low < high {
-        let middle = low + (high - low) / 2;
+        let middle = probe(low, high, items.len());
         if is_before(order, items[middle].label(), end) {
             low = middle + 1;
         } else {

@@ -10,7 +10,7 @@ ghost use Rattle.versioned_rows.specs.Rows.{spare_in, KeepsRows};
 ghost use Rattle.versioned_rows.specs.Versions.{IsIndexed};
 
 use crate::labels::{Labelled, count_before};
-use crate::rows::{Row, drop_labels, put_labels};
+use crate::rows::{KeyLabels, drop_labels, put_labels};
 use lang_core::{Copied, NoMemory, Same, Text, Write, Writes};
 use place_order::Order;
 use std::alloc::Global;
@@ -96,7 +96,7 @@ pub(crate) fn position_in(order: &Order, places: &[PlaceWrites], label: u64) -> 
 /// Takes the place of a label out, which stands there, if it does.
 pub(crate) fn take_out(
     places: &mut Vec<PlaceWrites>,
-    rows: &mut Vec<Row>,
+    rows: &mut Vec<KeyLabels>,
     label: u64,
     stands: Option<usize>,
 )
@@ -119,7 +119,12 @@ pub(crate) fn take_out(
 }
 
 // Puts in the place of a label that isn't there, where there is room for it.
-fn put_in(order: &Order, places: &mut Vec<PlaceWrites>, rows: &mut Vec<Row>, place: PlaceWrites)
+fn put_in(
+    order: &Order,
+    places: &mut Vec<PlaceWrites>,
+    rows: &mut Vec<KeyLabels>,
+    place: PlaceWrites,
+)
     requires indexed { IsIndexed places.old.items rows.old.items }
     requires rising { IsRising order.now.labels (map label_of places.old.items) }
     requires label { Contains order.now.labels place.label }
@@ -175,12 +180,72 @@ fn stands_alike(places: &[PlaceWrites], stands: Option<usize>, writes: &Writes) 
     }
 }
 
+// Puts in a place over that of its label, which stands there: what it wrote leaves the rows, and no other place moves.
+fn put_over(
+    order: &Order,
+    places: &mut Vec<PlaceWrites>,
+    rows: &mut Vec<KeyLabels>,
+    place: PlaceWrites,
+    at: usize,
+)
+    requires indexed { IsIndexed places.old.items rows.old.items }
+    requires rising { IsRising order.now.labels (map label_of places.old.items) }
+    requires label { Contains order.now.labels place.label }
+    requires within { at < vec_len places.old }
+    requires stands { Some at ≡ position (λ p. nat_eq (label_of p) place.label) places.old.items }
+    requires writes { IsOrdered write_place place.writes }
+    requires spare { (t k : List ℕ) → is_written t k place.writes ≡ true → 0 < spare_in rows.old.items t k }
+    ensures places { places.new.items ≡ with_place order.now.labels place (without place.label places.old.items) }
+    ensures rising { IsRising order.now.labels (map label_of places.new.items) }
+    ensures indexed { IsIndexed places.new.items rows.new.items }
+    ensures spare { (t k : List ℕ) → spare_in rows.old.items t k
+        ≤ spare_in rows.new.items t k + (if is_written t k place.writes then 1 else 0) }
+    ensures rows { KeepsRows rows.old.items rows.new.items }
+    ensures len { vec_len places.new ≡ vec_len places.old }
+    ensures capacity { vec_capacity places.old ≤ vec_capacity places.new }
+{
+    drop_labels(rows, places[at].writes.as_slice(), place.label);
+    put_labels(order, rows, place.writes.as_slice(), place.label);
+    places[at] = place;
+}
+
+// Puts in a place over that of its label where that stands, else among the others.
+fn put_anew(
+    order: &Order,
+    places: &mut Vec<PlaceWrites>,
+    rows: &mut Vec<KeyLabels>,
+    place: PlaceWrites,
+    stands: Option<usize>,
+)
+    requires indexed { IsIndexed places.old.items rows.old.items }
+    requires rising { IsRising order.now.labels (map label_of places.old.items) }
+    requires label { Contains order.now.labels place.label }
+    requires stands { stands ≡ position (λ p. nat_eq (label_of p) place.label) places.old.items }
+    requires within { IfSome stands (λ at. at < vec_len places.old) }
+    requires writes { IsOrdered write_place place.writes }
+    requires room { vec_len places.old < vec_capacity places.old }
+    requires spare { (t k : List ℕ) → is_written t k place.writes ≡ true → 0 < spare_in rows.old.items t k }
+    ensures places { places.new.items ≡ with_place order.now.labels place (without place.label places.old.items) }
+    ensures rising { IsRising order.now.labels (map label_of places.new.items) }
+    ensures indexed { IsIndexed places.new.items rows.new.items }
+    ensures spare { (t k : List ℕ) → spare_in rows.old.items t k
+        ≤ spare_in rows.new.items t k + (if is_written t k place.writes then 1 else 0) }
+    ensures rows { KeepsRows rows.old.items rows.new.items }
+    ensures len { vec_len places.new ≤ vec_len places.old + 1 }
+    ensures capacity { vec_capacity places.old ≤ vec_capacity places.new }
+{
+    match stands {
+        Some(at) => put_over(order, places, rows, place, at),
+        None => put_in(order, places, rows, place),
+    }
+}
+
 /// Puts in a place instead of that of its label, which stands there, if it does. Where both wrote the same keys, nothing
 /// moves.
 pub(crate) fn put_instead(
     order: &Order,
     places: &mut Vec<PlaceWrites>,
-    rows: &mut Vec<Row>,
+    rows: &mut Vec<KeyLabels>,
     place: PlaceWrites,
     stands: Option<usize>,
 )
@@ -202,9 +267,6 @@ pub(crate) fn put_instead(
 {
     match stands_alike(places, stands, &place.writes) {
         Some(at) => places[at] = place,
-        None => {
-            take_out(places, rows, place.label, stands);
-            put_in(order, places, rows, place);
-        }
+        None => put_anew(order, places, rows, place, stands),
     }
 }

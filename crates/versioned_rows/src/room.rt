@@ -7,10 +7,10 @@ ghost use Rattle.lang_core.specs.declared.writes.Write.{Write};
 ghost use Rattle.versioned_rows.specs.Places.{is_written};
 ghost use Rattle.versioned_rows.specs.Rows.{row_place, labels_in, spare_in, KeepsRows};
 ghost use Rattle.versioned_rows.specs.Versions.{asked, call_code, write_call, IsCovered};
-ghost use Rattle.versioned_rows.specs.declared.rows.Row.{Row};
+ghost use Rattle.versioned_rows.specs.declared.rows.KeyLabels.{KeyLabels};
 
 use crate::places::PlaceWrites;
-use crate::rows::{Row, make_rows};
+use crate::rows::{KeyLabels, make_rows};
 use lang_core::{Cells, Copied, NoMemory, Same, Writes};
 use lang_lists::take_room;
 use std::alloc::Global;
@@ -61,7 +61,7 @@ fn spend_room(room: &mut Vec<VersionsCall>, writes: &Writes) -> Option<Writes>
     ensures copy { IfSome result (λ copy. copy ≡ writes.now) }
     ensures less { IfSome result (λ _. vec_len room.new + 1 ≡ vec_len room.old) }
     ensures asked { IfSome result (λ _. (t k : List ℕ) → asked t k room.new.items + (if is_written t k writes.now then 1 else 0) ≡ asked t k room.old.items) }
-    ensures covered { (rows : List Row) → IsCovered room.old.items rows → IsCovered room.new.items rows }
+    ensures covered { (rows : List KeyLabels) → IsCovered room.old.items rows → IsCovered room.new.items rows }
     ensures none { result ≡ None → room.new.items ≡ [] }
 {
     match room_place(room, writes) {
@@ -77,7 +77,7 @@ fn spend_room(room: &mut Vec<VersionsCall>, writes: &Writes) -> Option<Writes>
 fn new_writes(
     alloc: Global,
     places: &mut Vec<PlaceWrites>,
-    rows: &mut Vec<Row>,
+    rows: &mut Vec<KeyLabels>,
     writes: &Writes,
     more: usize,
 ) -> Result<Writes, NoMemory>
@@ -102,7 +102,7 @@ fn new_writes(
 pub(crate) fn ready_writes(
     alloc: Global,
     places: &mut Vec<PlaceWrites>,
-    rows: &mut Vec<Row>,
+    rows: &mut Vec<KeyLabels>,
     room: &mut Vec<VersionsCall>,
     writes: &Writes,
 ) -> Result<(), NoMemory>
@@ -128,7 +128,7 @@ pub(crate) fn ready_writes(
 pub(crate) fn take_writes(
     alloc: Global,
     places: &mut Vec<PlaceWrites>,
-    rows: &mut Vec<Row>,
+    rows: &mut Vec<KeyLabels>,
     room: &mut Vec<VersionsCall>,
     writes: &Writes,
 ) -> Result<Writes, NoMemory>

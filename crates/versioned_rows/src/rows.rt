@@ -15,13 +15,13 @@ use std::alloc::Global;
 
 /// The labels that stand at a key, as those of the places that write it. It may have none.
 #[derive(Drop)]
-pub struct Row {
+pub struct KeyLabels {
     pub table: Text,
     pub key: Text,
     pub labels: Vec<u64>,
 }
 
-impl Placed for Row {
+impl Placed for KeyLabels {
     ghost place = { λ r. place_of r.table r.key };
 
     fn table(&self) -> &Text {
@@ -34,7 +34,7 @@ impl Placed for Row {
 }
 
 /// The labels in the row of a key with these bytes.
-pub fn labels_at<'a>(rows: &'a [Row], table: &Text, key: &[u8]) -> &'a [u64]
+pub fn labels_at<'a>(rows: &'a [KeyLabels], table: &Text, key: &[u8]) -> &'a [u64]
     requires { IsOrdered row_place rows.now }
     ensures { result.now ≡ labels_in rows.now table.now key.now }
 {
@@ -43,14 +43,14 @@ pub fn labels_at<'a>(rows: &'a [Row], table: &Text, key: &[u8]) -> &'a [u64]
 }
 
 /// The labels in the row of a key.
-pub fn labels_in<'a>(rows: &'a [Row], table: &Text, key: &Text) -> &'a [u64]
+pub fn labels_in<'a>(rows: &'a [KeyLabels], table: &Text, key: &Text) -> &'a [u64]
     requires { IsOrdered row_place rows.now }
     ensures { result.now ≡ labels_in rows.now table.now key.now }
 {
     labels_at(rows, table, key.as_bytes())
 }
 
-fn empty_row(alloc: Global, table: &Text, key: &Text, spare: usize) -> Result<Row, NoMemory>
+fn empty_row(alloc: Global, table: &Text, key: &Text, spare: usize) -> Result<KeyLabels, NoMemory>
     ensures table { IfOk result (λ row. row.table ≡ table.now) }
     ensures key { IfOk result (λ row. row.key ≡ key.now) }
     ensures labels { IfOk result (λ row. row.labels.items ≡ []) }
@@ -60,7 +60,7 @@ fn empty_row(alloc: Global, table: &Text, key: &Text, spare: usize) -> Result<Ro
     labels.reserve(spare)?;
     let table = table.copied(alloc)?;
     let key = key.copied(alloc)?;
-    Ok(Row { table, key, labels })
+    Ok(KeyLabels { table, key, labels })
 }
 
 fn make_spare(labels: &mut Vec<u64>, spare: usize) -> Result<(), NoMemory>
@@ -76,7 +76,7 @@ fn make_spare(labels: &mut Vec<u64>, spare: usize) -> Result<(), NoMemory>
 /// Sees to it that a key has a row with places for so many labels more. No label changes.
 pub fn make_row(
     alloc: Global,
-    rows: &mut Vec<Row>,
+    rows: &mut Vec<KeyLabels>,
     table: &Text,
     key: &Text,
     spare: usize,
@@ -98,17 +98,17 @@ pub fn make_row(
     Ok(())
 }
 
-fn copied_row(alloc: Global, row: &Row) -> Result<Row, NoMemory>
+fn copied_row(alloc: Global, row: &KeyLabels) -> Result<KeyLabels, NoMemory>
     ensures { IfOk result (IsCopy row.now) }
 {
     let labels = Vec::from_slice(alloc, &row.labels)?;
     let table = row.table.copied(alloc)?;
     let key = row.key.copied(alloc)?;
-    Ok(Row { table, key, labels })
+    Ok(KeyLabels { table, key, labels })
 }
 
 /// Rows with the same labels.
-pub fn copied_rows(alloc: Global, rows: &[Row]) -> Result<Vec<Row>, NoMemory>
+pub fn copied_rows(alloc: Global, rows: &[KeyLabels]) -> Result<Vec<KeyLabels>, NoMemory>
     requires { IsOrdered row_place rows.now }
     ensures ordered { IfOk result (λ copies. IsOrdered row_place copies.items) }
     ensures each { IfOk result (λ copies. (t k : List ℕ) → labels_in copies.items t k ≡ labels_in rows.now t k) }
@@ -122,7 +122,13 @@ pub fn copied_rows(alloc: Global, rows: &[Row]) -> Result<Vec<Row>, NoMemory>
 }
 
 /// Puts a label into the row of a key, which has a place for it.
-pub(crate) fn put_label(order: &Order, rows: &mut Vec<Row>, table: &Text, key: &Text, label: u64)
+pub(crate) fn put_label(
+    order: &Order,
+    rows: &mut Vec<KeyLabels>,
+    table: &Text,
+    key: &Text,
+    label: u64,
+)
     requires ordered { IsOrdered row_place rows.old.items }
     requires spare { 0 < spare_in rows.old.items table.now key.now }
     requires rising { IsRising order.now.labels (labels_in rows.old.items table.now key.now) }
@@ -139,7 +145,7 @@ pub(crate) fn put_label(order: &Order, rows: &mut Vec<Row>, table: &Text, key: &
 }
 
 /// Takes a label out of the row of a key, if it is there.
-pub fn drop_label(rows: &mut Vec<Row>, table: &Text, key: &Text, label: u64)
+pub fn drop_label(rows: &mut Vec<KeyLabels>, table: &Text, key: &Text, label: u64)
     requires { IsOrdered row_place rows.old.items }
     ensures ordered { IsOrdered row_place rows.new.items }
     ensures edited { IsEdited table.now key.now (filter (is_other label) (labels_in rows.old.items table.now key.now)) rows.old.items rows.new.items }
@@ -155,7 +161,7 @@ pub fn drop_label(rows: &mut Vec<Row>, table: &Text, key: &Text, label: u64)
 /// Sees to it that the key of each of these has a row with places for so many labels more. No label changes.
 pub(crate) fn make_rows<T: Placed>(
     alloc: Global,
-    rows: &mut Vec<Row>,
+    rows: &mut Vec<KeyLabels>,
     items: &[T],
     spare: usize,
 ) -> Result<(), NoMemory>
@@ -174,7 +180,7 @@ pub(crate) fn make_rows<T: Placed>(
 }
 
 /// Puts a label into the row of each key that these write, which has a place for it.
-pub(crate) fn put_labels(order: &Order, rows: &mut Vec<Row>, writes: &[Write], label: u64)
+pub(crate) fn put_labels(order: &Order, rows: &mut Vec<KeyLabels>, writes: &[Write], label: u64)
     requires ordered { IsOrdered row_place rows.old.items }
     requires writes { IsOrdered write_place writes.now }
     requires spare { (t k : List ℕ) → is_written t k writes.now ≡ true → 0 < spare_in rows.old.items t k }
@@ -193,7 +199,7 @@ pub(crate) fn put_labels(order: &Order, rows: &mut Vec<Row>, writes: &[Write], l
 }
 
 /// Takes a label out of the row of each key that these write.
-pub(crate) fn drop_labels(rows: &mut Vec<Row>, writes: &[Write], label: u64)
+pub(crate) fn drop_labels(rows: &mut Vec<KeyLabels>, writes: &[Write], label: u64)
     requires ordered { IsOrdered row_place rows.old.items }
     requires writes { IsOrdered write_place writes.now }
     ensures ordered { IsOrdered row_place rows.new.items }

@@ -18,7 +18,7 @@ use crate::places::{
     PlaceWrites, find_place, position_in, position_of, put_instead, take_out, text_at,
 };
 use crate::room::{VersionsCall, ready_writes, take_writes};
-use crate::rows::{Row, copied_rows, labels_in};
+use crate::rows::{KeyLabels, copied_rows, labels_in};
 use crate::seeking::seek;
 use lang_base::copied_items;
 use lang_core::{
@@ -37,7 +37,7 @@ pub struct Versions {
     base: Cells,
     places: Vec<PlaceWrites>,
     // By table and key, those of base rows among them. A row stays when its last label goes.
-    rows: Vec<Row>,
+    rows: Vec<KeyLabels>,
     room: Vec<VersionsCall>,
 }
 
@@ -64,20 +64,20 @@ fn cell_of(alloc: Global, table: &Text, key: &Text, text: &Text) -> Result<Cell,
     Ok(Cell { table, key, text })
 }
 
-fn is_under(row: &Row, table: &Text, prefix: &Text) -> bool
+fn is_under(row: &KeyLabels, table: &Text, prefix: &Text) -> bool
     ensures { result ≡ is_under table.now prefix.now row.now }
 {
     row.table.is(table) && row.key.begins_with(prefix)
 }
 
-fn is_cell(cell: &Cell, row: &Row, text: &Text) -> bool
+fn is_cell(cell: &Cell, row: &KeyLabels, text: &Text) -> bool
     ensures { IsTrue result ↔ (cell.now ≡ record { table = row.now.table; key = row.now.key; text = text.now }) }
 {
     cell.table.is(&row.table) && cell.key.is(&row.key) && cell.text.is(text)
 }
 
 // Whether the cell at a place is the one with the key of a row and this text.
-fn is_next(cells: &[Cell], at: usize, row: &Row, text: &Text) -> bool
+fn is_next(cells: &[Cell], at: usize, row: &KeyLabels, text: &Text) -> bool
     requires { at ≤ length cells.now }
     ensures { IsTrue result ↔ ((at < length cells.now) × ((d : Cell) → slice_index_or cells.now at d ≡ record { table = row.now.table; key = row.now.key; text = text.now })) }
 {
@@ -116,6 +116,7 @@ impl Versions {
     pub fn copied(&self, alloc: Global) -> Result<Versions, NoMemory>
         ensures base { IfOk result (λ copy. copy.base ≡ self.now.base) }
         ensures versions { IfOk result (λ copy. copy.versions ≡ self.now.versions) }
+        ensures room { IfOk result (λ copy. copy.room ≡ []) }
     {
         let places = copied_items(alloc, &self.places)?;
         let rows = copied_rows(alloc, &self.rows)?;
@@ -164,7 +165,7 @@ impl Versions {
         alloc: Global,
         order: &Order,
         label: Option<u64>,
-        row: &Row,
+        row: &KeyLabels,
     ) -> Result<Option<Cell>, NoMemory>
         requires rising { IsRising order.now.labels (map label_of self.now.versions) }
         requires label { ForSome label (Contains order.now.labels) }
@@ -184,7 +185,7 @@ impl Versions {
         label: Option<u64>,
         table: &Text,
         prefix: &Text,
-        rows: &[Row],
+        rows: &[KeyLabels],
     ) -> Result<Cells, NoMemory>
         requires rising { IsRising order.now.labels (map label_of self.now.versions) }
         requires label { ForSome label (Contains order.now.labels) }
@@ -240,7 +241,7 @@ impl Versions {
         label: Option<u64>,
         table: &Text,
         prefix: &Text,
-        rows: &[Row],
+        rows: &[KeyLabels],
         found: &[Cell],
     ) -> bool
         requires rising { IsRising order.now.labels (map label_of self.now.versions) }

@@ -4,7 +4,6 @@ use Rattle.dependency_index.specs.declared.noted.Noted.{Noted}
 use Rattle.dependency_index.proofs.IndexLemmas.{noted_again}
 use Rattle.dependency_index.proofs.noted.has_noted.Goals as goal
 
--- src/noted.rt:38:1
 pub returns : goal.returns
 returns c = λ same.
     let at = c.seek_number-at in

@@ -7,7 +7,7 @@ pub loop-low-preserved-then-label : goal.loop-low-preserved-then-label
 loop-low-preserved-then-label g c =
     let label = g.T.Labelled.label in
     let items = c.args.items.now in
-    let m = c.loop-low.low + (c.loop-low.high - c.loop-low.low) / 2 in
+    let m = c.probe-middle.result in
     let lt : m < length items = omega arith in
     let less : c.label.result < c.args.label = c.if-label.true in
     record {
@@ -25,7 +25,7 @@ pub loop-low-preserved : goal.loop-low-preserved
 loop-low-preserved g c =
     let label = g.T.Labelled.label in
     let items = c.args.items.now in
-    let m = c.loop-low.low + (c.loop-low.high - c.loop-low.low) / 2 in
+    let m = c.probe-middle.result in
     let lt : m < length items = omega arith in
     record {
       within = omega arith;

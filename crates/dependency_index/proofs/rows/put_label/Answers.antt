@@ -1,7 +1,7 @@
 use Rattle.std.proofs.Common.{◌≡◌, ◌<◌, ◌≤◌, true, length, get_or, vec_len, vec_capacity, List, ℕ, sym, ap, ◌∙◌, refl, subst, arith}
 use Rattle.lang_core.specs.Places.{place_of, rank, is_taken}
 use Rattle.versioned_rows.specs.Rows.{row_place, labels_in}
-use Rattle.versioned_rows.specs.declared.rows.Row.{Row}
+use Rattle.versioned_rows.specs.declared.rows.KeyLabels.{KeyLabels}
 use Rattle.versioned_rows.proofs.EditLemmas.{labels_here, spare_here, set_ordered, set_labels}
 use Rattle.dependency_index.specs.Numbers.{Rises, with_number}
 use Rattle.dependency_index.proofs.PutLemmas.{row_there, places_kept}
@@ -65,7 +65,7 @@ returns-clause-ordered c =
     let lt : at < length rows = (rw c.deref.ensures.value at c.seek-at.ensures.within).there seen in
     let row = c.index_mut.result.now in
     let is : row ≡ get_or rows at row = c.index_mut.ensures.value in
-    let new : Row = record { table = row.table; key = row.key; labels = c.put_reserved.new.numbers } in
+    let new : KeyLabels = record { table = row.table; key = row.key; labels = c.put_reserved.new.numbers } in
     set_ordered rows t k at row c.requires.ordered rank_is taken is lt new refl
 
 pub returns-clause-edited : goal.returns-clause-edited
@@ -80,7 +80,7 @@ returns-clause-edited c =
     let lt : at < length rows = (rw c.deref.ensures.value at c.seek-at.ensures.within).there seen in
     let row = c.index_mut.result.now in
     let is : row ≡ get_or rows at row = c.index_mut.ensures.value in
-    let new : Row = record { table = row.table; key = row.key; labels = c.put_reserved.new.numbers } in
+    let new : KeyLabels = record { table = row.table; key = row.key; labels = c.put_reserved.new.numbers } in
     let all : c.put_reserved.new.numbers.items ≡ with_number c.args.label (labels_in rows t k) =
     c.put_reserved.ensures.items ∙ ap (with_number c.args.label) (sym (labels_here rows t k at row c.requires.ordered rank_is taken is lt)) in
     λ u v. rw (← all) (set_labels rows t k at row c.requires.ordered rank_is taken is lt new refl u v)
@@ -97,6 +97,6 @@ returns-clause-places c =
     let lt : at < length rows = (rw c.deref.ensures.value at c.seek-at.ensures.within).there seen in
     let row = c.index_mut.result.now in
     let is : row ≡ get_or rows at row = c.index_mut.ensures.value in
-    let new : Row = record { table = row.table; key = row.key; labels = c.put_reserved.new.numbers } in
+    let new : KeyLabels = record { table = row.table; key = row.key; labels = c.put_reserved.new.numbers } in
     let grown = c.put_reserved.ensures.capacity in
     places_kept rows t k at row c.requires.ordered rank_is taken is lt new refl (omega arith)

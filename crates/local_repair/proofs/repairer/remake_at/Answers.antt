@@ -4,7 +4,7 @@ use Rattle.std.proofs.lemmas.Result.{IfOk-weaker}
 use Rattle.request_log.specs.declared.entry.Entry.{Entry}
 use Rattle.local_repair.specs.Current.{writes_of}
 use Rattle.local_repair.specs.Held.{looked, IsMarkedBehind}
-use Rattle.local_repair.specs.Registers.{Change}
+use Rattle.local_repair.specs.Registers.{SlotsChange}
 use Rattle.log_index.specs.Rows.{rows_before}
 use Rattle.local_repair.proofs.StepLemmas.{again_at}
 use Rattle.local_repair.proofs.WrittenLemmas.{seen_before}
@@ -18,7 +18,7 @@ remake-requires-clause-within g c =
 
 pub returns-clause-ok : goal.returns-clause-ok
 returns-clause-ok g c =
-    let change : Change =
+    let change : SlotsChange =
     record {
       before = g.S.Slots.consumed_of c.args.slots.now;
       after = g.S.Slots.consumed_of c.remake.new.slots;

@@ -1,4 +1,4 @@
-use Rattle.std.proofs.Common.{◌≡◌, ◌≤◌, ℕ, sym, ap, ◌∙◌, subst, insert, length, get_or, take, arith, refl, List}
+use Rattle.std.proofs.Common.{◌≡◌, ◌≤◌, ℕ, sym, ap, ◌∙◌, subst, insert, length, get_or, take, arith, refl, List, []}
 use Rattle.std.proofs.lemmas.List.{length-map}
 use Rattle.std.proofs.lemmas.List.Edits.{get_or-insert_at, length-insert}
 use Rattle.lang_core.specs.declared.cells.Cell.{Cell}
@@ -6,7 +6,7 @@ use Rattle.request_log.specs.declared.entry.Entry.{Entry}
 use Rattle.request_log.specs.Entries.{KeptLog}
 use Rattle.log_index.specs.Marks.{is_marked, IsReadyToInsert as IsReadyToMark}
 use Rattle.log_index.specs.Rows.{IsReadyToInsert}
-use Rattle.local_repair.specs.Current.{rows_of, writes_of}
+use Rattle.local_repair.specs.Current.{rows_after, writes_of}
 use Rattle.local_repair.specs.Held.{looked, reads_of, IsKept, IsPutAt}
 use Rattle.local_repair.specs.Written.{all_written}
 use Rattle.local_repair.proofs.ChangedLemmas.{kept_calls}
@@ -72,7 +72,7 @@ returns-clause-kept c =
     let is = read es c.as_slice-entries.result.now at c.index-entries-at.result c.args.entry (c.as_slice-entries.ensures.entries ∙ c.in_ok-insert.ensures.ok) c.index-entries-at.is c.requires.within in
     let tied = c.in_ok-ready_entry.ensures.writes ∙ kept.tied in
     let P : Entry → List Cell → Type 0 = λ e rows. IsPutAt at e rows m1 m2 in
-    let Q : Entry → Type 0 = λ e. P e (rows_of (take at es)) in
+    let Q : Entry → Type 0 = λ e. P e (rows_after [] (take at es)) in
     let put = subst Q is (subst (P c.index-entries-at.result) (seen_before c.ready_entry.new.rows es at tied) c.insert_parts.ensures.marks) in
     kept_inserted es c.insert.new.self.entries c.args.rows.now.writes c.insert_parts.new.rows.writes c.args.marks.now m1 m2 at c.args.entry (is_marked at m2.marks) c.args.calls.now c.may_call.result
     kept c.may_call.ensures c.requires.within c.in_ok-ready_entry.ensures.ok put.held put.reads refl put.front put.behind c.in_ok-insert.ensures.ok

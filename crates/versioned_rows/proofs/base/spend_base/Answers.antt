@@ -6,7 +6,7 @@ use Rattle.lang_lists.specs.Room.{is_made}
 use Rattle.lang_lists.proofs.RoomLemmas.{some_made, found}
 use Rattle.versioned_rows.specs.Versions.{call_code, base_call, HaveRows, IsCovered}
 use Rattle.versioned_rows.specs.declared.room.VersionsCall.{VersionsCall}
-use Rattle.versioned_rows.specs.declared.rows.Row.{Row}
+use Rattle.versioned_rows.specs.declared.rows.KeyLabels.{KeyLabels}
 use Rattle.versioned_rows.proofs.IndexLemmas.{position_is}
 use Rattle.versioned_rows.proofs.RoomLemmas.{rows_there, covered_less, covered_none}
 use Rattle.versioned_rows.proofs.base.spend_base.Goals as goal
@@ -50,7 +50,7 @@ returns-in-Some-clause-keys c =
     let copy : c.cells_of.result ≡ Some c.args.cells.now = c.cells_of.ensures c.args.cells.now same in
     let is = get_or_from_slice_get room c.in-Some.place c.take_room.result call c.take_room.ensures.call ∙ same in
     let lt = (position_is (equal call_code call) room c.in-Some.place there).1 in
-    let P : Option (List Cell) → Type 0 = λ o. IfSome o (λ w. (rows : List Row) → IsCovered room rows → HaveRows w rows) in
+    let P : Option (List Cell) → Type 0 = λ o. IfSome o (λ w. (rows : List KeyLabels) → IsCovered room rows → HaveRows w rows) in
     subst P (sym copy) (λ rows had. rows_there room rows c.in-Some.place c.args.cells.now lt is had)
 
 pub returns-in-None-clause-made : goal.returns-in-None-clause-made

@@ -7,14 +7,14 @@ use Rattle.versioned_rows.proofs.labels.count_before.Goals as goal
 
 pub is_before-requires-clause-label : goal.is_before-requires-clause-label
 is_before-requires-clause-label g c =
-    let m = c.loop-low.low + (c.loop-low.high - c.loop-low.low) / 2 in
+    let m = c.probe-middle.result in
     let P : ℕ → Type 0 = λ n. Contains c.args.order.now.labels n in
     subst P (sym c.label.ensures) (known g.T.Labelled.label c.args.order.now.labels c.args.items.now c.requires.rising m c.index-items-middle.result (omega arith) c.index-items-middle.is)
 
 pub loop-low-preserved-then-is_before : goal.loop-low-preserved-then-is_before
 loop-low-preserved-then-is_before g c =
     let label = g.T.Labelled.label in
-    let m = c.loop-low.low + (c.loop-low.high - c.loop-low.low) / 2 in
+    let m = c.probe-middle.result in
     let lt : m < length c.args.items.now = omega arith in
     let is = sym c.is_before.ensures ∙ c.if-is_before.true in
     record {
@@ -28,7 +28,7 @@ loop-low-preserved-then-is_before g c =
 pub loop-low-preserved : goal.loop-low-preserved
 loop-low-preserved g c =
     let label = g.T.Labelled.label in
-    let m = c.loop-low.low + (c.loop-low.high - c.loop-low.low) / 2 in
+    let m = c.probe-middle.result in
     let lt : m < length c.args.items.now = omega arith in
     let is = sym c.is_before.ensures ∙ c.if-is_before.false in
     record {

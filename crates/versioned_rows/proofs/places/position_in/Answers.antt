@@ -1,12 +1,12 @@
 use Rattle.std.proofs.Common.{sym, ap, ◌∙◌, arith}
 use Rattle.std.proofs.lemmas.List.{get_or_read}
 use Rattle.versioned_rows.specs.Places.{label_of}
-use Rattle.versioned_rows.proofs.RisingLemmas.{nowhere, somewhere}
+use Rattle.versioned_rows.proofs.RisingLemmas.{not_found_in_rising, somewhere}
 use Rattle.versioned_rows.proofs.places.position_in.Goals as goal
 
 pub returns-then-at-places : goal.returns-then-at-places
 returns-then-at-places c =
-    nowhere label_of c.args.order.now.labels c.args.places.now c.requires.rising c.count_before-at.result c.args.label
+    not_found_in_rising label_of c.args.order.now.labels c.args.places.now c.requires.rising c.count_before-at.result c.args.label
     c.count_before-at.ensures.front c.count_before-at.ensures.rest (λ lt d e. omega arith)
 
 pub returns-then-place-label : goal.returns-then-place-label
@@ -19,6 +19,6 @@ returns-then-place-label c =
 
 pub returns-else-place-label : goal.returns-else-place-label
 returns-else-place-label c =
-    nowhere label_of c.args.order.now.labels c.args.places.now c.requires.rising c.count_before-at.result c.args.label
+    not_found_in_rising label_of c.args.order.now.labels c.args.places.now c.requires.rising c.count_before-at.result c.args.label
     c.count_before-at.ensures.front c.count_before-at.ensures.rest
     (λ lt d e. c.if-place-label.false (ap label_of (get_or_read c.args.places.now c.count_before-at.result c.index-places-at.result lt c.index-places-at.is d) ∙ e))

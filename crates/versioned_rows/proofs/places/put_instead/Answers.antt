@@ -1,20 +1,6 @@
-use Rattle.std.proofs.Common.{List, map, sym, ◌∙◌, subst}
-use Rattle.place_order.specs.Rising.{IsRising}
-use Rattle.versioned_rows.specs.Places.{label_of, is_other}
-use Rattle.versioned_rows.specs.declared.places.PlaceWrites.{PlaceWrites}
-use Rattle.versioned_rows.proofs.RisingLemmas.{rising_kept}
-use Rattle.versioned_rows.proofs.GetLemmas.{all_pass}
+use Rattle.std.proofs.Common.{sym, ◌∙◌}
 use Rattle.versioned_rows.proofs.InsteadLemmas.{instead, instead_rising, instead_indexed}
 use Rattle.versioned_rows.proofs.places.put_instead.Goals as goal
-
-pub put_in-requires-clause-rising : goal.put_in-requires-clause-rising
-put_in-requires-clause-rising c =
-    let P : List PlaceWrites → Type 0 = λ l. IsRising c.args.order.now.labels (map label_of l) in
-    subst P (sym c.take_out.ensures.places) (rising_kept label_of c.args.order.now.labels (λ p. is_other c.args.place.label (label_of p)) c.args.places.now.items c.requires.rising)
-
-pub put_in-requires-clause-others : goal.put_in-requires-clause-others
-put_in-requires-clause-others c =
-    rw c.take_out.ensures.places (all_pass (λ p. is_other c.args.place.label (label_of p)) c.args.places.now.items)
 
 pub returns-in-Some-clause-places : goal.returns-in-Some-clause-places
 returns-in-Some-clause-places c =

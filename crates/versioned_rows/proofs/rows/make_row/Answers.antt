@@ -2,7 +2,7 @@ use Rattle.std.proofs.Common.{◌≡◌, ◌<◌, true, false, length, get_or, s
 use Rattle.std.proofs.lemmas.Result.{on_ok_weaker}
 use Rattle.lang_core.specs.Places.{place_of, rank, is_taken}
 use Rattle.versioned_rows.specs.Rows.{row_place}
-use Rattle.versioned_rows.specs.declared.rows.Row.{Row}
+use Rattle.versioned_rows.specs.declared.rows.KeyLabels.{KeyLabels}
 use Rattle.versioned_rows.proofs.EditLemmas.{set_ordered, set_same, set_kept, set_rows, set_there, set_made, new_ordered, new_labels, new_kept, new_rows, new_there, new_made}
 use Rattle.versioned_rows.proofs.rows.make_row.Goals as goal
 
@@ -17,7 +17,7 @@ returns-then-taken-clause-ordered c =
     let row = c.index_mut.result.now in
     let lt : at < length rows = omega arith in
     let is : row ≡ get_or rows at row = c.index_mut.ensures.value in
-    let new : Row = record { table = row.table; key = row.key; labels = c.make_spare.new.labels } in
+    let new : KeyLabels = record { table = row.table; key = row.key; labels = c.make_spare.new.labels } in
     set_ordered rows t k at row c.requires rank_is taken is lt new refl
 
 pub returns-then-taken-clause-each : goal.returns-then-taken-clause-each
@@ -31,7 +31,7 @@ returns-then-taken-clause-each c =
     let row = c.index_mut.result.now in
     let lt : at < length rows = omega arith in
     let is : row ≡ get_or rows at row = c.index_mut.ensures.value in
-    let new : Row = record { table = row.table; key = row.key; labels = c.make_spare.new.labels } in
+    let new : KeyLabels = record { table = row.table; key = row.key; labels = c.make_spare.new.labels } in
     set_same rows t k at row c.requires rank_is taken is lt new refl c.make_spare.ensures.labels
 
 pub returns-then-taken-clause-kept : goal.returns-then-taken-clause-kept
@@ -45,7 +45,7 @@ returns-then-taken-clause-kept c =
     let row = c.index_mut.result.now in
     let lt : at < length rows = omega arith in
     let is : row ≡ get_or rows at row = c.index_mut.ensures.value in
-    let new : Row = record { table = row.table; key = row.key; labels = c.make_spare.new.labels } in
+    let new : KeyLabels = record { table = row.table; key = row.key; labels = c.make_spare.new.labels } in
     set_kept rows t k at row c.requires rank_is taken is lt new refl (omega arith)
 
 pub returns-then-taken-clause-rows : goal.returns-then-taken-clause-rows
@@ -59,7 +59,7 @@ returns-then-taken-clause-rows c =
     let row = c.index_mut.result.now in
     let lt : at < length rows = omega arith in
     let is : row ≡ get_or rows at row = c.index_mut.ensures.value in
-    let new : Row = record { table = row.table; key = row.key; labels = c.make_spare.new.labels } in
+    let new : KeyLabels = record { table = row.table; key = row.key; labels = c.make_spare.new.labels } in
     set_rows rows t k at row c.requires rank_is taken is lt new refl
 
 pub returns-then-taken-clause-row : goal.returns-then-taken-clause-row
@@ -73,7 +73,7 @@ returns-then-taken-clause-row c =
     let row = c.index_mut.result.now in
     let lt : at < length rows = omega arith in
     let is : row ≡ get_or rows at row = c.index_mut.ensures.value in
-    let new : Row = record { table = row.table; key = row.key; labels = c.make_spare.new.labels } in
+    let new : KeyLabels = record { table = row.table; key = row.key; labels = c.make_spare.new.labels } in
     on_ok_weaker c.make_spare.result (λ _. set_there rows t k at row c.requires rank_is taken is lt new refl) c.make_spare.ensures.spare
 
 pub returns-then-taken-clause-spare : goal.returns-then-taken-clause-spare
@@ -87,7 +87,7 @@ returns-then-taken-clause-spare c =
     let row = c.index_mut.result.now in
     let lt : at < length rows = omega arith in
     let is : row ≡ get_or rows at row = c.index_mut.ensures.value in
-    let new : Row = record { table = row.table; key = row.key; labels = c.make_spare.new.labels } in
+    let new : KeyLabels = record { table = row.table; key = row.key; labels = c.make_spare.new.labels } in
     on_ok_weaker c.make_spare.result (λ fits. set_made rows t k at row c.requires rank_is taken is lt new refl c.args.spare (omega arith)) c.make_spare.ensures.spare
 
 pub returns-clause-ordered : goal.returns-clause-ordered

@@ -4,7 +4,7 @@ use Rattle.lang_core.specs.Places.{place_of, rank, is_taken}
 use Rattle.place_order.specs.Rising.{IsRising, is_before}
 use Rattle.versioned_rows.specs.Rows.{row_place, labels_in}
 use Rattle.versioned_rows.specs.Places.{with_writer}
-use Rattle.versioned_rows.specs.declared.rows.Row.{Row}
+use Rattle.versioned_rows.specs.declared.rows.KeyLabels.{KeyLabels}
 use Rattle.versioned_rows.proofs.RisingLemmas.{filter_rest}
 use Rattle.versioned_rows.proofs.EditLemmas.{spare_stands, labels_here, spare_here, set_ordered, set_labels, set_less, set_rows, ok_is}
 use Rattle.versioned_rows.proofs.rows.put_label.Goals as goal
@@ -62,7 +62,7 @@ insert-requires c =
     let row = c.index_mut.result.now in
     let is : row ≡ get_or rows at row = c.index_mut.ensures.value in
     let alike : c.index.result.now ≡ row = get_or_read rows at c.index.result.now lt c.index.ensures row ∙ sym is in
-    let labels : c.deref-2.result.now ≡ row.labels.items = c.deref-2.ensures.value ∙ ap (λ (r : Row). r.labels.items) alike in
+    let labels : c.deref-2.result.now ≡ row.labels.items = c.deref-2.ensures.value ∙ ap (λ (r : KeyLabels). r.labels.items) alike in
     let within = c.count_before-n.ensures.within in
     let e = ap length labels in
     omega arith
@@ -80,8 +80,8 @@ returns-clause-ordered c =
     let row = c.index_mut.result.now in
     let is : row ≡ get_or rows at row = c.index_mut.ensures.value in
     let alike : c.index.result.now ≡ row = get_or_read rows at c.index.result.now lt c.index.ensures row ∙ sym is in
-    let labels : c.deref-2.result.now ≡ row.labels.items = c.deref-2.ensures.value ∙ ap (λ (r : Row). r.labels.items) alike in
-    let new : Row = record { table = row.table; key = row.key; labels = c.insert.new.self } in
+    let labels : c.deref-2.result.now ≡ row.labels.items = c.deref-2.ensures.value ∙ ap (λ (r : KeyLabels). r.labels.items) alike in
+    let new : KeyLabels = record { table = row.table; key = row.key; labels = c.insert.new.self } in
     set_ordered rows t k at row c.requires.ordered rank_is taken is lt new refl
 
 pub returns-clause-spare : goal.returns-clause-spare
@@ -97,8 +97,8 @@ returns-clause-spare c =
     let row = c.index_mut.result.now in
     let is : row ≡ get_or rows at row = c.index_mut.ensures.value in
     let alike : c.index.result.now ≡ row = get_or_read rows at c.index.result.now lt c.index.ensures row ∙ sym is in
-    let labels : c.deref-2.result.now ≡ row.labels.items = c.deref-2.ensures.value ∙ ap (λ (r : Row). r.labels.items) alike in
-    let new : Row = record { table = row.table; key = row.key; labels = c.insert.new.self } in
+    let labels : c.deref-2.result.now ≡ row.labels.items = c.deref-2.ensures.value ∙ ap (λ (r : KeyLabels). r.labels.items) alike in
+    let new : KeyLabels = record { table = row.table; key = row.key; labels = c.insert.new.self } in
     let spare = spare_here rows t k at row c.requires.ordered rank_is taken is lt in
     let some = c.requires.spare in
     let room : vec_len row.labels < vec_capacity row.labels = omega arith in
@@ -118,8 +118,8 @@ returns-clause-edited c =
     let row = c.index_mut.result.now in
     let is : row ≡ get_or rows at row = c.index_mut.ensures.value in
     let alike : c.index.result.now ≡ row = get_or_read rows at c.index.result.now lt c.index.ensures row ∙ sym is in
-    let labels : c.deref-2.result.now ≡ row.labels.items = c.deref-2.ensures.value ∙ ap (λ (r : Row). r.labels.items) alike in
-    let new : Row = record { table = row.table; key = row.key; labels = c.insert.new.self } in
+    let labels : c.deref-2.result.now ≡ row.labels.items = c.deref-2.ensures.value ∙ ap (λ (r : KeyLabels). r.labels.items) alike in
+    let new : KeyLabels = record { table = row.table; key = row.key; labels = c.insert.new.self } in
     let now : labels_in rows t k ≡ row.labels.items = labels_here rows t k at row c.requires.ordered rank_is taken is lt in
     let n = c.count_before-n.result in
     let order = c.args.order.now.labels in
@@ -149,5 +149,5 @@ returns-clause-rows c =
     let lt : at < length rows = (rw c.deref.ensures.value at c.seek-at.ensures.within).there seen in
     let row = c.index_mut.result.now in
     let is : row ≡ get_or rows at row = c.index_mut.ensures.value in
-    let new : Row = record { table = row.table; key = row.key; labels = c.insert.new.self } in
+    let new : KeyLabels = record { table = row.table; key = row.key; labels = c.insert.new.self } in
     set_rows rows t k at row c.requires.ordered rank_is taken is lt new refl

@@ -1,9 +1,9 @@
 use Rattle.std.proofs.Common.{◌≡◌, ◌∙◌, ◌+◌, sym, ap, subst, List, [], length, get_or, set, take, arith}
 use Rattle.std.proofs.lemmas.List.{length-map}
 use Rattle.request_log.specs.declared.entry.Entry.{Entry}
-use Rattle.local_repair.specs.Current.{AllCurrent, IsFirstStale, rows_of, writes_of}
+use Rattle.local_repair.specs.Current.{AllCurrent, IsFirstStale, rows_after, writes_of}
 use Rattle.local_repair.specs.Held.{all_looked, looked, IsKept, IsMarkedBehind}
-use Rattle.local_repair.specs.Registers.{Change}
+use Rattle.local_repair.specs.Registers.{SlotsChange}
 use Rattle.local_repair.specs.Repairs.{KeptRepairer}
 use Rattle.local_repair.specs.Settling.{IsAgain, Leaves, noted}
 use Rattle.local_repair.specs.Steps.{StepsTo}
@@ -49,7 +49,7 @@ invariant_of-self g c =
     (subst P c.as_slice-entries.ensures.entries c.in-None.ensures) c.clear_before.ensures.reads
 
 -- the registers before and after
-change : (g : Over) (c : goal.After-note g) → Change
+change : (g : Over) (c : goal.After-note g) → SlotsChange
 change g c =
     record {
       before = g.S.Slots.consumed_of c.args.slots.now;
@@ -62,14 +62,14 @@ change g c =
 
 -- what the step answers and leaves
 left : (g : Over) (c : goal.After-note g)
-    → Leaves c.args.setting.now (change g c) c.in-Some.place c.note.new.log.entries × StepsTo c.args.setting.now (change g c) c.args.self.now.entries c.note.result c.note.new.log.entries
+    → Leaves c.args.setting.now (change g c) [] c.in-Some.place c.note.new.log.entries × StepsTo c.args.setting.now (change g c) [] c.args.self.now.entries c.note.result c.note.new.log.entries
 unfolding change
 left g c =
     let place = c.in-Some.place in
     let again = c.in_ok-again-in-Some.again in
     let seen : c.self.inside.log.entries ≡ c.args.self.now.entries = ap (λ (k : KeptRepairer). k.entries) c.self.view_is in
-    let F : List Entry → Type 0 = λ xs. IsFirstStale (g.S.Slots.consumed_of c.args.slots.now) xs place in
-    let A : List Entry → Type 0 = λ xs. (d : Entry) → IsAgain c.args.setting.now (change g c) (rows_of (take place xs)) (get_or xs place d) again in
+    let F : List Entry → Type 0 = λ xs. IsFirstStale (g.S.Slots.consumed_of c.args.slots.now) [] xs place in
+    let A : List Entry → Type 0 = λ xs. (d : Entry) → IsAgain c.args.setting.now (change g c) (rows_after [] (take place xs)) (get_or xs place d) again in
     let T : List Entry → Type 0 = λ xs. (d : Entry) → c.note.result ≡ Ran (get_or xs place d).id again.answered in
     let P : List Entry → Type 0 = λ xs. (d : Entry) → c.note.new.log.entries ≡ set xs place (noted again (get_or xs place d)) in
     stepped c.args.setting.now (handler c.args.setting.now) (change g c) c.args.self.now.entries c.note.new.log.entries place again c.note.result
@@ -86,8 +86,8 @@ invariant_of-self-in-Some g c =
     let place = c.in-Some.place in
     let again = c.in_ok-again-in-Some.again in
     let seen = c.as_slice-entries.ensures.entries in
-    let F : List Entry → Type 0 = λ xs. IsFirstStale (g.S.Slots.consumed_of c.args.slots.now) xs place in
-    let A : List Entry → Type 0 = λ xs. (d : Entry) → IsAgain c.args.setting.now (change g c) (rows_of (take place xs)) (get_or xs place d) again in
+    let F : List Entry → Type 0 = λ xs. IsFirstStale (g.S.Slots.consumed_of c.args.slots.now) [] xs place in
+    let A : List Entry → Type 0 = λ xs. (d : Entry) → IsAgain c.args.setting.now (change g c) (rows_after [] (take place xs)) (get_or xs place d) again in
     let M : List Entry → Type 0 = λ xs. (d : Entry) → IsMarkedBehind place (writes_of (get_or xs place d).made) again.made.trace.writes inside.marks c.remake_at.new.marks in
     kept_run c.args.setting.now (handler c.args.setting.now) (change g c) inside.log.entries c.note.new.log.entries inside.rows.writes c.note.new.rows.writes inside.marks c.remake_at.new.marks c.note.new.marks
     place again inside.calls c.may_call-self-inside.result c.self.invariant (subst F seen c.in-Some.ensures) (subst A seen c.in_ok-again-in-Some.ensures.ok) (subst M seen c.in_ok-again-in-Some.ensures.marked)
@@ -110,17 +110,17 @@ returns-in_ok-again-in-Some-clause-steps g c = (left g c).1
 pub returns-in_ok-again-in-Some-clause-free : goal.returns-in_ok-again-in-Some-clause-free
 returns-in_ok-again-in-Some-clause-free g c = λ all.
     let seen = c.as_slice-entries.ensures.entries ∙ ap (λ (k : KeptRepairer). k.entries) c.self.view_is in
-    let F : List Entry → Type 0 = λ xs. IsFirstStale (g.S.Slots.consumed_of c.args.slots.now) xs c.in-Some.place in
+    let F : List Entry → Type 0 = λ xs. IsFirstStale (g.S.Slots.consumed_of c.args.slots.now) [] xs c.in-Some.place in
     absurd (none_first (g.S.Slots.consumed_of c.args.slots.now) c.args.self.now.entries c.in-Some.place all (subst F seen c.in-Some.ensures))
 
 pub returns-in_err-again-in-Some-clause-free : goal.returns-in_err-again-in-Some-clause-free
 returns-in_err-again-in-Some-clause-free g c = λ all.
     let seen = c.as_slice-entries.ensures.entries ∙ ap (λ (k : KeptRepairer). k.entries) c.self.view_is in
-    let F : List Entry → Type 0 = λ xs. IsFirstStale (g.S.Slots.consumed_of c.args.slots.now) xs c.in-Some.place in
+    let F : List Entry → Type 0 = λ xs. IsFirstStale (g.S.Slots.consumed_of c.args.slots.now) [] xs c.in-Some.place in
     absurd (none_first (g.S.Slots.consumed_of c.args.slots.now) c.args.self.now.entries c.in-Some.place all (subst F seen c.in-Some.ensures))
 
 pub returns-in_ok-again-in-Some-clause-idle : goal.returns-in_ok-again-in-Some-clause-idle
 returns-in_ok-again-in-Some-clause-idle g c = λ idle.
-    let F : List Entry → Type 0 = λ xs. IsFirstStale (g.S.Slots.consumed_of c.args.slots.now) xs c.in-Some.place in
+    let F : List Entry → Type 0 = λ xs. IsFirstStale (g.S.Slots.consumed_of c.args.slots.now) [] xs c.in-Some.place in
     let first = subst F c.as_slice-entries.ensures.entries c.in-Some.ensures in
     absurd (not_idle c.self.inside.log.entries c.in-Some.place c.in_ok-again-in-Some.again.answered c.note.result first.within c.note.ensures.stepped idle)

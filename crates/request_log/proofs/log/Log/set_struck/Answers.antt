@@ -1,7 +1,7 @@
 use Rattle.std.proofs.Common.{◌≡◌, ◌∙◌, sym, position, Some, None, refl}
 use Rattle.request_log.specs.Entries.{has_id, mark}
 use Rattle.request_log.proofs.ChangeLemmas.{changed_place, unknown}
-use Rattle.request_log.proofs.log.Log.strike.Goals as goal
+use Rattle.request_log.proofs.log.Log.set_struck.Goals as goal
 
 pub invariant_of-self : goal.invariant_of-self
 invariant_of-self c =
