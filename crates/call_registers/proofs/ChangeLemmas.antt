@@ -5,8 +5,8 @@ use Rattle.std.proofs.lemmas.Bool.Decides.{nat_tests}
 use Rattle.call_registers.specs.Changes.{change}
 use Rattle.call_registers.specs.Registers.{has_number, CountFrom, IsNumbered, IsThere, register, at_number, changed, is_newer}
 use Rattle.call_registers.specs.declared.register.Register.{Register}
-use Rattle.call_registers.specs.declared.register.Change.{Change}
-use Rattle.call_registers.specs.declared.register.Change.TheVariants.{Send, Ack, Hear, Tell, Hold, Release}
+use Rattle.call_registers.specs.declared.register.RegisterChange.{RegisterChange}
+use Rattle.call_registers.specs.declared.register.RegisterChange.TheVariants.{Send, Ack, SeeAnswer, Tell, Hold, Release}
 use Rattle.lang_base.proofs.EqualLemmas.{nat_same}
 
 -- where numbers begin above it, a number isn't there
@@ -104,10 +104,10 @@ kept_number true r s e = e
 kept_number false r s e = refl
 
 -- no change of a register changes its number
-pub number_stays : (change : Change) (r : Register) → (changed change r).number ≡ r.number
+pub number_stays : (change : RegisterChange) (r : Register) → (changed change r).number ≡ r.number
 number_stays (Send desired since) r = refl
 number_stays (Ack version) r = refl
-number_stays (Hear answer) r = kept_number (is_newer r.answer answer.answer_version) r (record r { answer = Some answer }) refl
+number_stays (SeeAnswer answer) r = kept_number (is_newer r.answer answer.answer_version) r (record r { answer = Some answer }) refl
 number_stays (Tell why) r = refl
 number_stays (Hold hold) r = refl
 number_stays (Release who) r = refl

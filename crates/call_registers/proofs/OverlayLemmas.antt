@@ -10,8 +10,8 @@ use Rattle.lang_core.specs.declared.request.Request.{Request}
 use Rattle.call_registers.specs.Registers.{has_number, CountFrom, IsNumbered, register, at_number, changed, first_register, next_number, is_newer, with_call}
 use Rattle.call_registers.specs.Overlays.{put, put_all, numbered, numbered_from, later}
 use Rattle.call_registers.specs.declared.register.Register.{Register}
-use Rattle.call_registers.specs.declared.register.Change.{Change}
-use Rattle.call_registers.specs.declared.register.Change.TheVariants.{Send, Ack, Hear, Tell, Hold, Release}
+use Rattle.call_registers.specs.declared.register.RegisterChange.{RegisterChange}
+use Rattle.call_registers.specs.declared.register.RegisterChange.TheVariants.{Send, Ack, SeeAnswer, Tell, Hold, Release}
 use Rattle.call_registers.proofs.ChangeLemmas.{at_place, fail, none_below, not_same, number_stays, pass, skip}
 
 -- ---- the register of a number
@@ -175,15 +175,15 @@ cond_number : (b : Bool) (m : ℕ) (r s : Register) → numbered m (cond b r s) 
 cond_number true m r s = refl
 cond_number false m r s = refl
 
-change_numbered : (c : Change) (m : ℕ) (r : Register) → changed c (numbered m r) ≡ numbered m (changed c r)
+change_numbered : (c : RegisterChange) (m : ℕ) (r : Register) → changed c (numbered m r) ≡ numbered m (changed c r)
 change_numbered (Send desired since) m r = refl
 change_numbered (Ack version) m r = refl
-change_numbered (Hear answer) m r = sym (cond_number (is_newer r.answer answer.answer_version) m (record r { answer = Some answer }) r)
+change_numbered (SeeAnswer answer) m r = sym (cond_number (is_newer r.answer answer.answer_version) m (record r { answer = Some answer }) r)
 change_numbered (Tell why) m r = refl
 change_numbered (Hold hold) m r = refl
 change_numbered (Release who) m r = refl
 
-pub changed_added : (c : Change) (k n place : ℕ) (rs : List Register) (old : Register) → k + place ≡ n → old ≡ get_or rs place old
+pub changed_added : (c : RegisterChange) (k n place : ℕ) (rs : List Register) (old : Register) → k + place ≡ n → old ≡ get_or rs place old
     → numbered_from k (set rs place (changed c old)) ≡ at_number n (changed c) (numbered_from k rs)
 changed_added c k n place [] old e o = refl
 changed_added c k n zero (r ∷ rs) old e o =
@@ -210,7 +210,7 @@ unchanged_from n f (r ∷ rs) h =
     ap (λ l. r ∷ l) (unchanged_from n f rs a.1)
     ∙ sym (fail (nat_eq r.number n) (f r) r rs (at_number n f rs) a.0)
 
-pub below_added : (c : Change) (k n : ℕ) (rs : List Register) → n < k → numbered_from k rs ≡ at_number n (changed c) (numbered_from k rs)
+pub below_added : (c : RegisterChange) (k n : ℕ) (rs : List Register) → n < k → numbered_from k rs ≡ at_number n (changed c) (numbered_from k rs)
 below_added c k n rs w = unchanged_from n (changed c) (numbered_from k rs) (none_added k n rs w)
 
 none_past : (k n : ℕ) (rs : List Register) → k + length rs ≤ n → register n (numbered_from k rs) ≡ None
@@ -219,12 +219,12 @@ none_past k n (r ∷ rs) w =
     let differs : n ≢ k = omega (arith, w, add-one (length rs)) in
     skip (nat_eq k n) (numbered k r) (register n (numbered_from (k + 1) rs)) None (not_same k n differs) (none_past (k + 1) n rs (omega (arith, w, add-one (length rs))))
 
-pub past_added : (c : Change) (k n : ℕ) (rs : List Register) → k + length rs ≤ n → numbered_from k rs ≡ at_number n (changed c) (numbered_from k rs)
+pub past_added : (c : RegisterChange) (k n : ℕ) (rs : List Register) → k + length rs ≤ n → numbered_from k rs ≡ at_number n (changed c) (numbered_from k rs)
 past_added c k n rs w = unchanged_from n (changed c) (numbered_from k rs) (none_past k n rs w)
 
 -- ---- registers after the changes
 
-pub change_put : (c : Change) (n : ℕ) (cs rs ys : List Register) (x : Register) → Some x ≡ register n (put_all cs rs)
+pub change_put : (c : RegisterChange) (n : ℕ) (cs rs ys : List Register) (x : Register) → Some x ≡ register n (put_all cs rs)
     → put_all (cs ++ changed c x ∷ []) rs ++ ys ≡ at_number n (changed c) (put_all cs rs ++ ys)
 change_put c n cs rs ys x h =
     let number : (changed c x).number ≡ n = number_stays c x ∙ found_number n (put_all cs rs) x (sym h) in
@@ -234,7 +234,7 @@ change_put c n cs rs ys x h =
     ∙ sym (change_as n (changed c) (put_all cs rs) x (sym h)))
     ∙ sym (change_front n (changed c) (put_all cs rs) ys x (sym h))
 
-pub change_last : (c : Change) (n count : ℕ) (cs rs added more : List Register) → count ≡ length rs → None ≡ register n (put_all cs rs)
+pub change_last : (c : RegisterChange) (n count : ℕ) (cs rs added more : List Register) → count ≡ length rs → None ≡ register n (put_all cs rs)
     → numbered_from (count + 1) more ≡ at_number n (changed c) (numbered_from (count + 1) added)
     → put_all cs rs ++ numbered_from (next_number rs) more ≡ at_number n (changed c) (put_all cs rs ++ numbered_from (next_number rs) added)
 change_last c n count cs rs added more counts h e =

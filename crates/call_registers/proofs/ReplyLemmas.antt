@@ -8,8 +8,8 @@ use Rattle.std.proofs.lemmas.Option.{slice_get_within}
 use Rattle.call_registers.proofs.ChangeLemmas.{pass, fail}
 use Rattle.call_registers.specs.Changes.{change}
 use Rattle.call_registers.specs.Replies.{has_entry, IsThere, IsAboveAll, IsBelowAll, IsRising, at_entry, changed}
-use Rattle.call_registers.specs.declared.reply.Change.{Change}
-use Rattle.call_registers.specs.declared.reply.Change.TheVariants.{Take, Answer, Confirm, Due, Hold, Release}
+use Rattle.call_registers.specs.declared.reply.ReplyChange.{ReplyChange}
+use Rattle.call_registers.specs.declared.reply.ReplyChange.TheVariants.{Take, Answer, Confirm, Due, Hold, Release}
 use Rattle.call_registers.specs.declared.reply.Reply.{Reply}
 
 -- ---- the place of a reply
@@ -71,7 +71,7 @@ rising_push [] p h w = (tt, tt)
 rising_push (x ∷ ps) p h w = (below_push x.id ps p h.0 w.0, rising_push ps p h.1 w.1)
 
 -- no change of a reply changes its entry
-pub entry_stays : (change : Change) (p : Reply) → (changed change p).id ≡ p.id
+pub entry_stays : (change : ReplyChange) (p : Reply) → (changed change p).id ≡ p.id
 entry_stays (Take version wanted) p = refl
 entry_stays (Answer answer_version version since) p = refl
 entry_stays (Confirm answer_version since) p = refl

@@ -97,8 +97,8 @@ no_more registers keys queued =
     let c = sum_by-le (adds each_once) 1 registers (λ i d lt. at_most_once (nat_lt (get_or registers i d).acked (get_or registers i d).version) (age_key (get_or registers i d))) in
     omega arith
 
-pub one_more : (registers : List Register) (keys : List AgeKey) (new : Register) (places : ℕ) → IsQueue registers keys → length registers < places → length keys + weigh each_once (waiting_key new) ≤ places
-one_more registers keys new places queued lt =
+pub queue_has_room : (registers : List Register) (keys : List AgeKey) (new : Register) (places : ℕ) → IsQueue registers keys → length registers < places → length keys + weigh each_once (waiting_key new) ≤ places
+queue_has_room registers keys new places queued lt =
     let a = no_more registers keys queued in
     let b = at_most_once (nat_lt new.acked new.version) (age_key new) in
     omega arith

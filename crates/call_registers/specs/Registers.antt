@@ -1,21 +1,18 @@
 -- Registers: which call has a number, what it consumes, and what each change makes of them.
-use Rattle.std.specs.Prelude.{ℕ, ◌≡◌, ◌+◌, Bool, true, List, [], ◌∷◌, ◌++◌, Option, Some, None, IsSome, if◌then◌else◌, nat_eq, nat_lt, max, length, find}
+use Rattle.std.specs.Prelude.{ℕ, ◌≡◌, ◌+◌, ◌≤◌, Bool, true, List, [], ◌∷◌, ◌++◌, Option, Some, None, IsSome, IfSome, if◌then◌else◌, nat_eq, nat_lt, max, length, find}
 use Rattle.lang_core.specs.declared.request.Request.{Request}
 use Rattle.lang_core.specs.declared.request.Response.{Response}
 use Rattle.call_registers.specs.Changes.{change, raised}
 use Rattle.call_registers.specs.declared.register.Answer.{Answer}
-use Rattle.call_registers.specs.declared.register.Change.{Change}
-use Rattle.call_registers.specs.declared.register.Change.TheVariants.{Send, Ack, Hear, Tell, Hold as HoldBack, Release}
+use Rattle.call_registers.specs.declared.register.RegisterChange.{RegisterChange}
+use Rattle.call_registers.specs.declared.register.RegisterChange.TheVariants.{Send, Ack, SeeAnswer, Tell, Hold as HoldBack, Release}
 use Rattle.call_registers.specs.declared.register.Hold.{Hold}
 use Rattle.call_registers.specs.declared.register.Register.{Register}
 use Rattle.call_registers.specs.declared.register.Why.{Why}
-use Rattle.call_registers.specs.declared.calls.RegistersCall.{RegistersCall}
 
--- the registers in the order of their numbers, the calls for which room was made, and how many more can be put behind
--- the registers without memory
+-- the registers in the order of their numbers, and how many more can be put behind them without memory
 pub record KeptRegisters : Type 0 where
   pub list : List Register
-  pub room : List RegistersCall
   pub spare : ℕ
 
 -- ---- which register has a number
@@ -53,6 +50,11 @@ consumed_in (Some r) = answer_to r.version r.answer
 -- the answer that a number consumes: the one that is held, where it answers the register's version; None is the tentative one
 abbrev pub consumed : ℕ → List Register → Option Response
 consumed number registers = consumed_in (register number registers)
+
+-- no answer is held for a later version of a call than its register's
+abbrev pub IsTimely : List Register → Type 0
+IsTimely registers =
+    (number : ℕ) → IfSome (register number registers) (λ (r : Register). IfSome r.answer (λ (a : Answer). a.version ≤ r.version))
 
 -- ---- a new call
 
@@ -109,18 +111,10 @@ abbrev pub released : List ℕ → Register → Register
 released who r = record r { held = None; repair_who = who }
 
 -- what each change makes of a register
-abbrev pub changed : Change → Register → Register
+abbrev pub changed : RegisterChange → Register → Register
 changed (Send desired since) r = sent_anew desired since r
 changed (Ack version) r = with_ack version r
-changed (Hear answer) r = with_answer answer r
+changed (SeeAnswer answer) r = with_answer answer r
 changed (Tell why) r = with_cause why r
 changed (HoldBack hold) r = with_hold hold r
 changed (Release who) r = released who r
-
--- ---- room
-
-abbrev pub want_call : List ℕ → Request → ℕ → RegistersCall
-want_call dest q since = RegistersCall.Want dest q q.who since
-
-abbrev pub replace_call : ℕ → Request → ℕ → RegistersCall
-replace_call number q since = RegistersCall.Replace number q since

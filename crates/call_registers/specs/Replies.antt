@@ -4,8 +4,8 @@ use Rattle.call_registers.specs.Changes.{change}
 use Rattle.call_registers.specs.contracts.replies.RepliesCall as call
 use Rattle.call_registers.specs.declared.register.Hold.{Hold}
 use Rattle.call_registers.specs.declared.replies.RepliesCall.{RepliesCall}
-use Rattle.call_registers.specs.declared.reply.Change.{Change}
-use Rattle.call_registers.specs.declared.reply.Change.TheVariants.{Take, Answer, Confirm, Due, Hold as HoldBack, Release}
+use Rattle.call_registers.specs.declared.reply.ReplyChange.{ReplyChange}
+use Rattle.call_registers.specs.declared.reply.ReplyChange.TheVariants.{Take, Answer, Confirm, Due, Hold as HoldBack, Release}
 use Rattle.call_registers.specs.declared.reply.Reply.{Reply}
 use base.Stored.{Coded}
 
@@ -70,7 +70,7 @@ abbrev pub released : List ℕ → Reply → Reply
 released who p = record p { held = None; repair_who = who }
 
 -- what each change makes of a reply
-abbrev pub changed : Change → Reply → Reply
+abbrev pub changed : ReplyChange → Reply → Reply
 changed (Take version wanted) p = with_taken version wanted p
 changed (Answer answer_version version since) p = with_answer answer_version version since p
 changed (Confirm answer_version since) p = with_confirm answer_version since p

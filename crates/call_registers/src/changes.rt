@@ -1,13 +1,12 @@
 // Changes of registers that are drafted, beside the registers that stand.
 ghost use Rattle.std.specs.Prelude.{◌≡◌, ◌+◌, ◌++◌, [], ◌∷◌, length, fold, slice_get, option_map, OnOk, IfOk};
 ghost use Rattle.std.specs.Option.{option_copied};
-ghost use Rattle.call_registers.specs.Registers.{register, consumed, first_register, next_number, at_number, changed, with_call};
+ghost use Rattle.call_registers.specs.Registers.{register, consumed, next_number, at_number, changed, with_call};
 ghost use Rattle.call_registers.specs.Overlays.{overlaid, put_all, numbered, numbered_from, later};
 
-use crate::register::{Change, Register, apply};
-use crate::registers::{Registers, answer_of, new_register};
+use crate::register::{Register, RegisterChange, apply, new_register};
+use crate::registers::{Registers, answer_of};
 use lang_core::{Copied, Name, NoMemory, Request, Response};
-use repair_messages::copied_pair;
 use std::alloc::Global;
 
 /// Changes of registers that are drafted. They are read together with the registers that stand, which they leave as they
@@ -71,7 +70,7 @@ fn find_added(added: &[Register], count: u64, number: u64) -> Option<&Register>
     item_at(added, (number - count - 1) as usize)
 }
 
-fn change_added(added: &mut Vec<Register>, count: u64, number: u64, change: Change)
+fn change_added(added: &mut Vec<Register>, count: u64, number: u64, change: RegisterChange)
     ensures { numbered_from (count + 1) added.new.items ≡ at_number number (changed change) (numbered_from (count + 1) added.old.items) }
 {
     if number <= count {
@@ -84,7 +83,7 @@ fn change_added(added: &mut Vec<Register>, count: u64, number: u64, change: Chan
 }
 
 // The register as a change makes it.
-fn changed(alloc: Global, register: &Register, change: Change) -> Result<Register, NoMemory>
+fn changed(alloc: Global, register: &Register, change: RegisterChange) -> Result<Register, NoMemory>
     ensures { IfOk result (λ next. next ≡ changed change register.now) }
 {
     let mut next = register.copied(alloc)?;
@@ -97,21 +96,6 @@ fn number_after(standing: &[Register], added: &[Register]) -> u64
     ensures { result ≡ length standing.now + length added.now + 1 }
 {
     standing.len() as u64 + added.len() as u64 + 1
-}
-
-// The register of a new call.
-fn wanted(
-    alloc: Global,
-    number: u64,
-    dest: &Name,
-    request: &Request,
-    since: u64,
-) -> Result<Register, NoMemory>
-    ensures { IfOk result (λ register. register ≡ first_register number dest.now request.now since) }
-{
-    let who = request.who.copied(alloc)?;
-    let (dest, request) = copied_pair(alloc, dest, request)?;
-    Ok(new_register(number, dest, request, who, since))
 }
 
 impl RegisterChanges {
@@ -160,7 +144,7 @@ impl RegisterChanges {
         alloc: Global,
         standing: &Registers,
         number: u64,
-        change: Change,
+        change: RegisterChange,
     ) -> Result<(), NoMemory>
         ensures { OnOk result (overlaid self.new standing.now.list ≡ at_number number (changed change) (overlaid self.old standing.now.list)) }
     {
@@ -189,7 +173,7 @@ impl RegisterChanges {
     ) -> Result<(), NoMemory>
         ensures { OnOk result (overlaid self.new standing.now.list ≡ with_call dest.now request.now since (overlaid self.old standing.now.list)) }
     {
-        let register = wanted(alloc, self.next_number(standing), dest, request, since)?;
+        let register = new_register(alloc, self.next_number(standing), dest, request, since)?;
         self.added.push(register)?;
         Ok(())
     }

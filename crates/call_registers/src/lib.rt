@@ -1,21 +1,17 @@
 //! What a service keeps of the calls that it makes and of those that it answers: for each call of its own a register, with
-//! what it wants, what was acknowledged and the answer that it heard, and for each entry of another service's call a reply,
+//! what it wants, what was acknowledged and the answer that it saw, and for each entry of another service's call a reply,
 //! with what was taken and whether an answer is due.
 #![tactic(auto)]
 
-mod calls;
 mod changes;
 mod register;
 mod register_list;
 mod registers;
-mod replaces;
 mod replies;
 mod reply;
-mod wants;
 
-pub use calls::RegistersCall;
 pub use changes::RegisterChanges;
-pub use register::{Answer, Change, Hold, Register, Why, is_newer};
+pub use register::{Answer, Hold, Register, RegisterChange, Why, is_newer};
 pub use registers::Registers;
 pub use replies::{Replies, RepliesCall};
 pub use reply::Reply;

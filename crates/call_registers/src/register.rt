@@ -1,12 +1,12 @@
 // A register: what is kept of one call.
-ghost use Rattle.std.specs.Prelude.{◌≡◌};
-ghost use Rattle.call_registers.specs.Registers.{sent_anew, with_answer, is_newer, released, changed};
+ghost use Rattle.std.specs.Prelude.{◌≡◌, IfOk};
+ghost use Rattle.call_registers.specs.Registers.{first_register, sent_anew, with_answer, is_newer, released, changed};
 
 use lang_core::{Copied, FaultNote, Name, NoMemory, Request, Response, Text};
 use repair_messages::copied_pair;
 use std::alloc::Global;
 
-/// An answer that was heard.
+/// An answer that was seen.
 #[derive(Drop)]
 pub struct Answer {
     /// Which answer of the callee's entry it is, from 1.
@@ -49,7 +49,7 @@ pub struct Register {
     pub desired: Option<Request>,
     /// The greatest version that was seen to be acknowledged, or 0.
     pub acked: u64,
-    /// The answer of the greatest answer version that was heard.
+    /// The answer of the greatest answer version that was seen.
     pub answer: Option<Answer>,
     /// Why it went on without an answer, if it did.
     pub told: Option<Why>,
@@ -90,9 +90,35 @@ impl Copied for Register {
     }
 }
 
+/// The register of a new call. Its request's user is the service itself, for whom it is posted too.
+pub(crate) fn new_register(
+    alloc: Global,
+    number: u64,
+    dest: &Name,
+    request: &Request,
+    since: u64,
+) -> Result<Register, NoMemory>
+    ensures { IfOk result (λ register. register ≡ first_register number dest.now request.now since) }
+{
+    let repair_who = request.who.copied(alloc)?;
+    let (dest, request) = copied_pair(alloc, dest, request)?;
+    Ok(Register {
+        number,
+        dest,
+        version: 1,
+        desired: Some(request),
+        acked: 0,
+        answer: None,
+        told: None,
+        held: None,
+        repair_who,
+        since,
+    })
+}
+
 /// A change of a register that takes no memory.
 #[derive(Drop)]
-pub enum Change {
+pub enum RegisterChange {
     /// A new version, which asks this from this index of the journal on.
     Send {
         desired: Option<Request>,
@@ -100,8 +126,8 @@ pub enum Change {
     },
     /// This version was acknowledged.
     Ack(u64),
-    /// This answer was heard.
-    Hear(Answer),
+    /// This answer was seen.
+    SeeAnswer(Answer),
     /// The call goes on without an answer.
     Tell(Why),
     /// The post was refused.
@@ -130,7 +156,7 @@ pub fn is_newer(held: &Option<Answer>, answer_version: u64) -> bool
 }
 
 // The answer is held where its answer version is the greatest so far.
-fn hear(register: &mut Register, answer: Answer)
+fn see_answer(register: &mut Register, answer: Answer)
     ensures { register.new ≡ with_answer answer register.old }
 {
     if is_newer(&register.answer, answer.answer_version) {
@@ -146,15 +172,15 @@ fn release(register: &mut Register, who: Text)
 }
 
 /// Changes the register so.
-pub(crate) fn apply(register: &mut Register, change: Change)
+pub(crate) fn apply(register: &mut Register, change: RegisterChange)
     ensures { register.new ≡ changed change register.old }
 {
     match change {
-        Change::Send { desired, since } => send_anew(register, desired, since),
-        Change::Ack(version) => register.acked = register.acked.max(version),
-        Change::Hear(answer) => hear(register, answer),
-        Change::Tell(why) => register.told = Some(why),
-        Change::Hold(hold) => register.held = Some(hold),
-        Change::Release(who) => release(register, who),
+        RegisterChange::Send { desired, since } => send_anew(register, desired, since),
+        RegisterChange::Ack(version) => register.acked = register.acked.max(version),
+        RegisterChange::SeeAnswer(answer) => see_answer(register, answer),
+        RegisterChange::Tell(why) => register.told = Some(why),
+        RegisterChange::Hold(hold) => register.held = Some(hold),
+        RegisterChange::Release(who) => release(register, who),
     }
 }

@@ -5,7 +5,7 @@ ghost use Rattle.call_registers.specs.Registers.{register, IsThere, IsNumbered, 
 ghost use Rattle.call_registers.specs.Overlays.{put};
 ghost use Rattle.call_registers.specs.Waiting.{waiting_key, AreWaiting, IsListed};
 
-use crate::register::{Change, Register, apply};
+use crate::register::{Register, RegisterChange, apply};
 use lang_base::copied_items;
 use lang_core::{Name, NoMemory};
 use lang_lists::{AgeKey, AgeQueue, text_key};
@@ -86,7 +86,7 @@ fn is_there(list: &[Register], number: u64) -> bool
 }
 
 // Changes the register so; its key before and after.
-fn change_key(register: &mut Register, change: Change) -> (Option<AgeKey>, Option<AgeKey>)
+fn change_key(register: &mut Register, change: RegisterChange) -> (Option<AgeKey>, Option<AgeKey>)
     ensures register { register.new ≡ changed change register.old }
     ensures before { result.0 ≡ waiting_key register.old }
     ensures after { result.1 ≡ waiting_key register.new }
@@ -96,7 +96,7 @@ fn change_key(register: &mut Register, change: Change) -> (Option<AgeKey>, Optio
     (before, waiting_key(register))
 }
 
-fn change_in(list: &mut Vec<Register>, waiting: &mut AgeQueue, number: u64, change: Change)
+fn change_in(list: &mut Vec<Register>, waiting: &mut AgeQueue, number: u64, change: RegisterChange)
     requires listed { IsListed list.old.items waiting.old.keys waiting.old.places }
     requires there { IsThere number list.old.items }
     ensures items { list.new.items ≡ at_number number (changed change) list.old.items }
@@ -192,7 +192,7 @@ impl RegisterList {
     }
 
     /// Changes the register of a number that is there.
-    pub(crate) fn change(&mut self, number: u64, change: Change)
+    pub(crate) fn change(&mut self, number: u64, change: RegisterChange)
         requires { IsThere number self.old.list }
         ensures list { self.new.list ≡ at_number number (changed change) self.old.list }
         ensures len { length self.new.list ≡ length self.old.list }

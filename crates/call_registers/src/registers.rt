@@ -1,20 +1,15 @@
 // The registers of a service.
-ghost use Rattle.std.specs.Prelude.{◌≡◌, ◌+◌, ◌<◌, ◌≤◌, [], ◌∷◌, ◌++◌, length, slice_get, is_some, IfOk, IsOk, OnOk, OnErr, IsTrue, vec_len, vec_capacity};
+ghost use Rattle.std.specs.Prelude.{◌≡◌, ◌+◌, ◌≤◌, [], ◌++◌, Some, length, IfOk, OnOk, OnErr, vec_len};
 ghost use Rattle.std.specs.Option.{option_copied};
-ghost use Rattle.lang_lists.specs.Room.{is_made, spend};
-ghost use Rattle.call_registers.specs.Registers.{register, IsThere, IsNumbered, consumed, answer_to, next_number, with_call, at_number, sent_anew, with_ack, with_answer, with_cause, with_hold, released, changed, want_call, replace_call};
+ghost use Rattle.call_registers.specs.Registers.{register, IsThere, IsNumbered, consumed, answer_to, next_number, with_call, at_number, sent_anew, with_ack, with_answer, with_cause, with_hold, released, changed};
 ghost use Rattle.call_registers.specs.Overlays.{overlaid, put_all, numbered_from};
-ghost use Rattle.call_registers.specs.Rooms.{call_code};
 ghost use Rattle.call_registers.specs.Waiting.{AreWaiting};
-ghost use Rattle.call_registers.specs.declared.register.Change.{Change};
+ghost use Rattle.call_registers.specs.declared.register.RegisterChange.{RegisterChange};
 
-use crate::calls::RegistersCall;
 use crate::changes::RegisterChanges;
-use crate::register::{Answer, Change, Hold, Register, Why};
+use crate::register::{Answer, Hold, Register, RegisterChange, Why, new_register};
 use crate::register_list::RegisterList;
-use crate::replaces::{make_replace, ready_replace, take_replace};
-use crate::wants::{make_want, ready_want, take_want};
-use lang_core::{Name, NoMemory, Request, Response, Text};
+use lang_core::{Copied, Name, NoMemory, Request, Response, Text};
 use lang_lists::AgeKey;
 use std::alloc::Global;
 use std::marker::Model;
@@ -24,52 +19,17 @@ use std::marker::Model;
 #[derive(Drop)]
 pub struct Registers {
     list: RegisterList,
-    room: Vec<RegistersCall>,
 }
 
 impl Model for Registers {
-    ghost use Rattle.std.specs.Prelude.{◌+◌, ◌-◌, ◌≤◌, length, vec_len};
+    ghost use Rattle.std.specs.Prelude.{◌-◌, ◌≤◌, length};
     ghost use Rattle.call_registers.specs.Registers.{KeptRegisters};
 
     ghost Value = { KeptRegisters };
 
-    ghost view = { λ r. record { list = r.list.list; room = r.room.items; spare = r.list.places - (length r.list.list + vec_len r.room) } };
+    ghost view = { λ r. record { list = r.list.list; spare = r.list.places - length r.list.list } };
 
-    ghost invariant = { λ r. length r.list.list + vec_len r.room ≤ r.list.places };
-}
-
-pub(crate) fn new_register(
-    number: u64,
-    dest: Name,
-    request: Request,
-    repair_who: Text,
-    since: u64,
-) -> Register
-    ensures { result ≡ record {
-      number = number;
-      dest = dest;
-      version = 1;
-      desired = Some request;
-      acked = 0;
-      answer = None;
-      told = None;
-      held = None;
-      repair_who = repair_who;
-      since = since;
-    } }
-{
-    Register {
-        number,
-        dest,
-        version: 1,
-        desired: Some(request),
-        acked: 0,
-        answer: None,
-        told: None,
-        held: None,
-        repair_who,
-        since,
-    }
+    ghost invariant = { λ r. length r.list.list ≤ r.list.places };
 }
 
 fn put_all(list: &mut RegisterList, changed: Vec<Register>)
@@ -102,12 +62,10 @@ fn add_all(list: &mut RegisterList, added: Vec<Register>)
 impl Registers {
     /// No registers.
     pub fn new(alloc: Global) -> Registers
-        ensures list { result.list ≡ [] }
-        ensures room { result.room ≡ [] }
+        ensures { result.list ≡ [] }
     {
         Registers {
             list: RegisterList::new(alloc),
-            room: Vec::new(alloc),
         }
     }
 
@@ -153,10 +111,9 @@ impl Registers {
         }
     }
 
-    fn change(&mut self, number: u64, change: Change)
+    fn change(&mut self, number: u64, change: RegisterChange)
         requires { IsThere number self.old.list }
-        ensures list { self.new.list ≡ at_number number (changed change) self.old.list }
-        ensures room { self.new.room ≡ self.old.room }
+        ensures { self.new.list ≡ at_number number (changed change) self.old.list }
     {
         self.list.change(number, change);
     }
@@ -164,22 +121,20 @@ impl Registers {
     /// Notes why a call that is there goes on without an answer.
     pub fn tell(&mut self, number: u64, why: Why)
         requires { IsThere number self.old.list }
-        ensures list { self.new.list ≡ at_number number (with_cause why) self.old.list }
-        ensures room { self.new.room ≡ self.old.room }
+        ensures { self.new.list ≡ at_number number (with_cause why) self.old.list }
     {
-        self.change(number, Change::Tell(why));
+        self.change(number, RegisterChange::Tell(why));
     }
 
     /// A call that is there is to have no effect, from this index of the journal on and for good: its version rises, and
     /// nothing holds it.
     pub fn unwant(&mut self, number: u64, since: u64)
         requires { IsThere number self.old.list }
-        ensures list { self.new.list ≡ at_number number (sent_anew None since) self.old.list }
-        ensures room { self.new.room ≡ self.old.room }
+        ensures { self.new.list ≡ at_number number (sent_anew None since) self.old.list }
     {
         self.change(
             number,
-            Change::Send {
+            RegisterChange::Send {
                 desired: None,
                 since,
             },
@@ -189,52 +144,33 @@ impl Registers {
     /// Notes that a version of a call that is there was acknowledged.
     pub fn saw_ack(&mut self, number: u64, version: u64)
         requires { IsThere number self.old.list }
-        ensures list { self.new.list ≡ at_number number (with_ack version) self.old.list }
-        ensures room { self.new.room ≡ self.old.room }
+        ensures { self.new.list ≡ at_number number (with_ack version) self.old.list }
     {
-        self.change(number, Change::Ack(version));
+        self.change(number, RegisterChange::Ack(version));
     }
 
     /// Keeps the answer to a call that is there, where its answer version is the greatest so far.
     pub fn saw_answer(&mut self, number: u64, answer: Answer)
         requires { IsThere number self.old.list }
-        ensures list { self.new.list ≡ at_number number (with_answer answer) self.old.list }
-        ensures room { self.new.room ≡ self.old.room }
+        ensures { self.new.list ≡ at_number number (with_answer answer) self.old.list }
     {
-        self.change(number, Change::Hear(answer));
+        self.change(number, RegisterChange::SeeAnswer(answer));
     }
 
     /// The post of a call that is there was refused: it isn't sent before it is released or has a new version.
     pub fn hold(&mut self, number: u64, hold: Hold)
         requires { IsThere number self.old.list }
-        ensures list { self.new.list ≡ at_number number (with_hold hold) self.old.list }
-        ensures room { self.new.room ≡ self.old.room }
+        ensures { self.new.list ≡ at_number number (with_hold hold) self.old.list }
     {
-        self.change(number, Change::Hold(hold));
+        self.change(number, RegisterChange::Hold(hold));
     }
 
     /// The post of a call that is there is sent again, from now on for this user.
     pub fn release(&mut self, number: u64, who: Text)
         requires { IsThere number self.old.list }
-        ensures list { self.new.list ≡ at_number number (released who) self.old.list }
-        ensures room { self.new.room ≡ self.old.room }
+        ensures { self.new.list ≡ at_number number (released who) self.old.list }
     {
-        self.change(number, Change::Release(who));
-    }
-
-    /// Makes room for that call of `want`.
-    pub fn ready_want(
-        &mut self,
-        alloc: Global,
-        dest: &Name,
-        request: &Request,
-        since: u64,
-    ) -> Result<(), NoMemory>
-        ensures list { self.new.list ≡ self.old.list }
-        ensures ok { OnOk result (self.new.room ≡ self.old.room ++ want_call dest.now request.now since ∷ []) }
-        ensures err { OnErr result (self.new.room ≡ self.old.room) }
-    {
-        ready_want(&mut self.list, &mut self.room, alloc, dest, request, since)
+        self.change(number, RegisterChange::Release(who));
     }
 
     /// A new call, with the number after the last one. Its request's user is the service itself, for whom it is posted too.
@@ -249,37 +185,12 @@ impl Registers {
         ensures number { IfOk result (λ number. number ≡ next_number self.old.list) }
         ensures ok { OnOk result (self.new.list ≡ with_call dest.now request.now since self.old.list) }
         ensures err { OnErr result (self.new.list ≡ self.old.list) }
-        ensures room { self.new.room ≡ spend call_code (want_call dest.now request.now since) self.old.room }
-        ensures ready { IsTrue (is_made call_code (want_call dest.now request.now since) self.old.room) → IsOk result }
     {
-        make_want(&mut self.list, &mut self.room, alloc, dest, request, since)?;
         let number = self.list.next_number();
-        let (dest, request, repair_who) = take_want(&mut self.room, dest, request, since);
-        let register = new_register(number, dest, request, repair_who, since);
+        let register = new_register(alloc, number, dest, request, since)?;
+        self.list.reserve(1)?;
         self.list.push(register);
         Ok(number)
-    }
-
-    /// Makes room for that call of `replace`.
-    pub fn ready_replace(
-        &mut self,
-        alloc: Global,
-        number: u64,
-        request: &Request,
-        since: u64,
-    ) -> Result<(), NoMemory>
-        ensures list { self.new.list ≡ self.old.list }
-        ensures ok { OnOk result (self.new.room ≡ self.old.room ++ replace_call number request.now since ∷ []) }
-        ensures err { OnErr result (self.new.room ≡ self.old.room) }
-    {
-        ready_replace(
-            &mut self.list,
-            &mut self.room,
-            alloc,
-            number,
-            request,
-            since,
-        )
     }
 
     /// A call that is there asks another request, from this index of the journal on: its version rises, and nothing holds
@@ -294,47 +205,24 @@ impl Registers {
         requires { IsThere number self.old.list }
         ensures ok { OnOk result (self.new.list ≡ at_number number (sent_anew (Some request.now) since) self.old.list) }
         ensures err { OnErr result (self.new.list ≡ self.old.list) }
-        ensures room { self.new.room ≡ spend call_code (replace_call number request.now since) self.old.room }
-        ensures ready { IsTrue (is_made call_code (replace_call number request.now since) self.old.room) → IsOk result }
     {
-        make_replace(
-            &mut self.list,
-            &mut self.room,
-            alloc,
-            number,
-            request,
-            since,
-        )?;
-        let request = take_replace(&mut self.room, number, request, since);
-        let desired = Some(request);
-        self.change(number, Change::Send { desired, since });
+        let desired = Some(request.copied(alloc)?);
+        self.change(number, RegisterChange::Send { desired, since });
         Ok(())
     }
 
-    /// Lets all room go.
-    pub fn forget_room(&mut self)
-        ensures list { self.new.list ≡ self.old.list }
-        ensures room { self.new.room ≡ [] }
-    {
-        self.room.clear();
-    }
-
-    /// Makes room for so many registers more, beside the calls for which room was made. Refused, the registers stay.
+    /// Makes room for so many registers more. Refused, the registers stay.
     pub fn reserve(&mut self, more: u64) -> Result<(), NoMemory>
         ensures list { self.new.list ≡ self.old.list }
-        ensures room { self.new.room ≡ self.old.room }
         ensures ok { OnOk result (more ≤ self.new.spare) }
     {
-        let places = self.room.len().checked_add(more as usize).ok_or(NoMemory)?;
-        self.list.reserve(places)?;
-        Ok(())
+        self.list.reserve(more as usize)
     }
 
     /// Makes changes, for whose new registers there is room.
     pub fn put_changes(&mut self, changes: RegisterChanges)
         requires { vec_len changes.added ≤ self.old.spare }
-        ensures list { self.new.list ≡ overlaid changes self.old.list }
-        ensures room { self.new.room ≡ self.old.room }
+        ensures { self.new.list ≡ overlaid changes self.old.list }
     {
         let RegisterChanges { changed, added } = changes;
         put_all(&mut self.list, changed);
@@ -346,10 +234,7 @@ impl Registers {
         ensures { IfOk result (λ copy. copy.list ≡ self.now.list) }
     {
         let list = self.list.copied(alloc)?;
-        Ok(Registers {
-            list,
-            room: Vec::new(alloc),
-        })
+        Ok(Registers { list })
     }
 }
 

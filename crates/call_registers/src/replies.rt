@@ -5,10 +5,10 @@ ghost use Rattle.std.specs.Option.{option_copied};
 ghost use Rattle.lang_base.specs.Equal.{equal};
 ghost use Rattle.lang_lists.specs.Room.{is_made, spend};
 ghost use Rattle.call_registers.specs.Replies.{has_entry, reply, IsThere, IsAboveAll, IsRising, at_entry, with_taken, with_answer, with_confirm, made_due, with_hold, released, changed, call_code, add_call};
-ghost use Rattle.call_registers.specs.declared.reply.Change.{Change};
+ghost use Rattle.call_registers.specs.declared.reply.ReplyChange.{ReplyChange};
 
 use crate::register::Hold;
-use crate::reply::{Change, Reply, apply};
+use crate::reply::{Reply, ReplyChange, apply};
 use lang_base::copied_items;
 use lang_core::{NoMemory, Text};
 use lang_lists::take_room;
@@ -64,7 +64,7 @@ fn place_of(list: &[Reply], id: u64) -> Option<usize>
     }
 }
 
-fn change_in(list: &mut Vec<Reply>, id: u64, change: Change)
+fn change_in(list: &mut Vec<Reply>, id: u64, change: ReplyChange)
     requires rising { IsRising list.old.items }
     requires there { IsThere id list.old.items }
     ensures items { list.new.items ≡ at_entry id (changed change) list.old.items }
@@ -182,7 +182,7 @@ impl Replies {
         }
     }
 
-    fn change(&mut self, id: u64, change: Change)
+    fn change(&mut self, id: u64, change: ReplyChange)
         requires { IsThere id self.old.list }
         ensures list { self.new.list ≡ at_entry id (changed change) self.old.list }
         ensures room { self.new.room ≡ self.old.room }
@@ -197,7 +197,7 @@ impl Replies {
         ensures list { self.new.list ≡ at_entry id (with_taken version wanted) self.old.list }
         ensures room { self.new.room ≡ self.old.room }
     {
-        self.change(id, Change::Take { version, wanted });
+        self.change(id, ReplyChange::Take { version, wanted });
     }
 
     /// Notes a new answer of an entry with a reply, to a version of the call, at this index of the journal: it is due where
@@ -209,7 +209,7 @@ impl Replies {
     {
         self.change(
             id,
-            Change::Answer {
+            ReplyChange::Answer {
                 answer_version,
                 version,
                 since,
@@ -226,7 +226,7 @@ impl Replies {
     {
         self.change(
             id,
-            Change::Confirm {
+            ReplyChange::Confirm {
                 answer_version,
                 since,
             },
@@ -240,7 +240,7 @@ impl Replies {
         ensures list { self.new.list ≡ at_entry id (made_due since) self.old.list }
         ensures room { self.new.room ≡ self.old.room }
     {
-        self.change(id, Change::Due { since });
+        self.change(id, ReplyChange::Due { since });
     }
 
     /// The post of an entry with a reply was refused: it isn't sent before it is released or has a new answer.
@@ -249,7 +249,7 @@ impl Replies {
         ensures list { self.new.list ≡ at_entry id (with_hold hold) self.old.list }
         ensures room { self.new.room ≡ self.old.room }
     {
-        self.change(id, Change::Hold(hold));
+        self.change(id, ReplyChange::Hold(hold));
     }
 
     /// The post of an entry with a reply is sent again, from now on for this user.
@@ -258,7 +258,7 @@ impl Replies {
         ensures list { self.new.list ≡ at_entry id (released who) self.old.list }
         ensures room { self.new.room ≡ self.old.room }
     {
-        self.change(id, Change::Release(who));
+        self.change(id, ReplyChange::Release(who));
     }
 
     /// Makes room for that call of `add`.

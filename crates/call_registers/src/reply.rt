@@ -53,7 +53,7 @@ impl Copied for Reply {
 
 /// A change of a reply. None takes memory.
 #[derive(Drop)]
-pub(crate) enum Change {
+pub(crate) enum ReplyChange {
     /// This version of the call was taken.
     Take {
         version: u64,
@@ -120,22 +120,22 @@ fn release(reply: &mut Reply, who: Text)
 }
 
 /// Changes the reply so.
-pub(crate) fn apply(reply: &mut Reply, change: Change)
+pub(crate) fn apply(reply: &mut Reply, change: ReplyChange)
     ensures { reply.new ≡ changed change reply.old }
 {
     match change {
-        Change::Take { version, wanted } => take(reply, version, wanted),
-        Change::Answer {
+        ReplyChange::Take { version, wanted } => take(reply, version, wanted),
+        ReplyChange::Answer {
             answer_version,
             version,
             since,
         } => answer(reply, answer_version, version, since),
-        Change::Confirm {
+        ReplyChange::Confirm {
             answer_version,
             since,
         } => confirm(reply, answer_version, since),
-        Change::Due { since } => make_due(reply, since),
-        Change::Hold(hold) => reply.held = Some(hold),
-        Change::Release(who) => release(reply, who),
+        ReplyChange::Due { since } => make_due(reply, since),
+        ReplyChange::Hold(hold) => reply.held = Some(hold),
+        ReplyChange::Release(who) => release(reply, who),
     }
 }

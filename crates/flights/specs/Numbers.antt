@@ -1,9 +1,9 @@
 -- Flights in the order of their numbers.
 use Rattle.std.specs.Prelude.{ℕ, ◌+◌, ◌<◌, ◌≤◌, ◌≡◌, Bool, false, not, List, [], ◌∷◌, Option, Some, None, IsSome, if◌then◌else◌, nat_eq, nat_lt, nat_le, find, filter, fold, max}
 use Rattle.std.specs.List.{list_any}
+use Rattle.lang_core.specs.Origins.{is_call}
 use Rattle.lang_core.specs.declared.ids.Origin.{Origin}
 use Rattle.lang_core.specs.declared.ids.Origin.TheVariants.{Outside, Call}
-use Rattle.request_log.specs.Entries.{is_call}
 use Rattle.flights.specs.declared.flight.Flight.{Flight}
 
 -- flights in the order of their numbers, and for how many more there is room

@@ -2,7 +2,7 @@
 ghost use Rattle.std.specs.Prelude.{◌≡◌, ◌+◌, ◌<◌, ◌≤◌, [], length, slice_get, find, position, IfSome, IsSome, IsOk, OnOk, OnErr, IfOk, vec_len, vec_capacity};
 ghost use Rattle.std.specs.List.{position_or_len};
 ghost use Rattle.std.specs.Option.{option_copied};
-ghost use Rattle.request_log.specs.Entries.{is_call};
+ghost use Rattle.lang_core.specs.Origins.{is_call};
 ghost use Rattle.flights.specs.Numbers.{has_flight, flight_in, without_flight, with_flight, IsRising, free_from, IsLeastFree, same_call_origin, is_flying, reaches, is_here};
 
 use crate::flight::Flight;

@@ -1,7 +1,6 @@
 // Rows on entries, and on what other services call for.
 ghost use Rattle.std.specs.Prelude.{◌≡◌, ◌↔◌, IsTrue};
 
-use crate::caller::How;
 use lang_core::{Copied, Inputs, Name, NoMemory, Origin, Request, Response, Same, Text};
 use repair_messages::copied_pair;
 use std::alloc::Global;
@@ -17,6 +16,15 @@ pub struct AskedRow {
     pub inputs: Inputs,
 }
 
+/// How a version of a caller's call was taken.
+#[derive(Clone, Copy, PartialEq, Eq)]
+pub enum TookHow {
+    /// As a live call.
+    Live,
+    /// By a message that repairs.
+    Message,
+}
+
 /// A version of a caller's call was taken, live with the commit of its entry or by a message.
 #[derive(Drop)]
 pub struct TookRow {
@@ -26,7 +34,7 @@ pub struct TookRow {
     pub version: u64,
     /// What the call asks from this version on; None where it is to have no effect.
     pub desired: Option<Request>,
-    pub how: How,
+    pub how: TookHow,
     /// For whom the message was sent.
     pub who: Text,
     /// The number of the rule that allowed it, from 1; 0 where it was live.

@@ -3,10 +3,10 @@ use lang_core::{Copied, Name, NoMemory, Request, Response, Same, Text};
 use repair_messages::copied_pair;
 use std::alloc::Global;
 
-/// How a version of a call or an answer came.
+/// How an answer to an own call was seen.
 #[derive(Clone, Copy, PartialEq, Eq)]
-pub enum How {
-    /// With a live request or its answer.
+pub enum SawHow {
+    /// In reply to the live call.
     Live,
     /// By a message that repairs.
     Message,
@@ -51,7 +51,7 @@ pub struct SawAnswerRow {
     /// The version of the call that it answers.
     pub version: u64,
     pub response: Response,
-    pub how: How,
+    pub how: SawHow,
     /// For whom it was sent.
     pub who: Text,
     /// The number of the rule that allowed it, from 1; 0 where it was live.

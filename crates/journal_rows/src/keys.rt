@@ -30,6 +30,6 @@ pub(crate) fn row_key(row: &Row) -> u64
         Row::SawAck(row) => row.number,
         Row::SawAnswer(row) => row.number,
         Row::Confirmed(row) => row.number,
-        Row::Ordered(row) => text_key(&row.token),
+        Row::Ordered(row) => text_key(&row.get().token),
     }
 }

@@ -13,11 +13,11 @@ mod verdict;
 mod weights;
 mod words;
 
-pub use callee::{AckedRow, AnsweredRow, AskedRow, TookRow, WasConfirmedRow};
-pub use caller::{AckHow, ConfirmedRow, How, SawAckRow, SawAnswerRow, SentRow};
+pub use callee::{AckedRow, AnsweredRow, AskedRow, TookHow, TookRow, WasConfirmedRow};
+pub use caller::{AckHow, ConfirmedRow, SawAckRow, SawAnswerRow, SawHow, SentRow};
 pub use orders::{About, Command, OrderedRow};
 pub use row::Row;
 pub use rows::Rows;
 pub use verdict::{Outstanding, Verdict};
 pub use weights::weight;
-pub use words::{Mark, last_answered, last_mark, last_seen, last_sent, seen_acked};
+pub use words::Mark;

@@ -1,8 +1,11 @@
 // A row of a journal.
+ghost use Rattle.std.specs.Prelude.{◌≡◌, IfOk};
+ghost use Rattle.journal_rows.specs.declared.row.Row.{Row};
+
 use crate::callee::{AckedRow, AnsweredRow, AskedRow, TookRow, WasConfirmedRow};
 use crate::caller::{ConfirmedRow, SawAckRow, SawAnswerRow, SentRow};
 use crate::orders::OrderedRow;
-use lang_core::{Copied, NoMemory, Same};
+use lang_core::{Boxed, Copied, NoMemory, Same};
 use std::alloc::Global;
 
 /// A row of a journal.
@@ -26,8 +29,17 @@ pub enum Row {
     SawAnswer(SawAnswerRow),
     /// A message with an answer to an own call was confirmed.
     Confirmed(ConfirmedRow),
-    /// An order was accepted.
-    Ordered(OrderedRow),
+    /// An order was accepted. Its row is the largest by far and the rarest, so it stands apart.
+    Ordered(Boxed<OrderedRow>),
+}
+
+impl Row {
+    /// The row of an order that was accepted.
+    pub fn ordered(alloc: Global, order: OrderedRow) -> Result<Row, NoMemory>
+        ensures { IfOk result (λ row. row ≡ Row.Ordered order) }
+    {
+        Ok(Row::Ordered(Boxed::new(alloc, order)?))
+    }
 }
 
 impl Copied for Row {
@@ -42,7 +54,7 @@ impl Copied for Row {
             Row::SawAck(row) => Ok(Row::SawAck(*row)),
             Row::SawAnswer(row) => row.copied(alloc).map(Row::SawAnswer),
             Row::Confirmed(row) => Ok(Row::Confirmed(*row)),
-            Row::Ordered(row) => row.copied(alloc).map(Row::Ordered),
+            Row::Ordered(row) => Row::ordered(alloc, row.get().copied(alloc)?),
         }
     }
 }
@@ -59,7 +71,7 @@ impl Same for Row {
             (Row::SawAck(left), Row::SawAck(right)) => *left == *right,
             (Row::SawAnswer(left), Row::SawAnswer(right)) => left.is(right),
             (Row::Confirmed(left), Row::Confirmed(right)) => *left == *right,
-            (Row::Ordered(left), Row::Ordered(right)) => left.is(right),
+            (Row::Ordered(left), Row::Ordered(right)) => left.get().is(right.get()),
             _ => false,
         }
     }

@@ -56,7 +56,7 @@ fn row_bytes(row: &Row) -> u64
         Row::Answered(row) => row.response.body.len(),
         Row::Sent(row) => wanted_bytes(&row.desired),
         Row::SawAnswer(row) => row.response.body.len().saturating_add(row.who.len()),
-        Row::Ordered(row) => order_bytes(row),
+        Row::Ordered(row) => order_bytes(row.get()),
         _ => 0,
     }
 }

@@ -9,7 +9,7 @@ use Rattle.call_registers.specs.declared.reply.Reply.{Reply}
 use Rattle.flights.specs.declared.flight.Flight.{Flight}
 use Rattle.service_events.specs.State.{Kept}
 use Rattle.service_events.specs.Calls.{noted}
-use Rattle.service_events.specs.Fits.{EachAfter, FitsSent, FitsSeen, FitsPlaces, FitsFlights, OrdersOn, Fits, SendsOn, call_in, places, place_of_entry, place_of_flight}
+use Rattle.service_events.specs.Fits.{EachAfter, FitsSent, FitsSeen, FitsPlaces, FitsFlights, OrdersOn, Fits, SendsOn, call_in, places, calls_of_entry, calls_of_flight}
 use Rattle.service_call_laws.proofs.RowLemmas.{Each, EachAfter-append, EachAfter-behind, kind_follows, IsUnseen, IsUnordered}
 use Rattle.service_call_laws.proofs.SentLemmas.{IsAside, fits_aside}
 use Rattle.service_call_laws.proofs.SeenLemmas.{seen_unseen, seen_aside}
@@ -76,7 +76,7 @@ orders_unordered journal rows quiet h =
 -- rows that tell nothing that was seen, and no order
 pub noted_calls : (s : Kept) (es : List Entry) (fs : List Flight) (ps : List Reply) (rows : List Row) → HasRoom (book s) rows
     → Each IsUnseen rows → Each IsUnordered rows → FitsCalls s
-    → Fitting (entered rows (book s)) (map place_of_entry es ++ map place_of_flight fs) → FitsFlights (s.journal ++ rows) fs
+    → Fitting (entered rows (book s)) (map calls_of_entry es ++ map calls_of_flight fs) → FitsFlights (s.journal ++ rows) fs
     → FitsCalls (noted rows (record s { entries = es; flights = fs; replies = ps }))
 noted_calls s es fs ps rows few unseen unordered f fits flights = record {
   sent = fits.sent;

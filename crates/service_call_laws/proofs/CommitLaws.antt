@@ -11,7 +11,7 @@ use Rattle.service_events.specs.State.{Kept, next_id, same_call_origin, without_
 use Rattle.service_events.specs.Calls.{noted}
 use Rattle.service_events.specs.Flying.{surplus_rows, took_rows, before_answer, live_answer, committed_entry, live_replies, answer_index, committed}
 use Rattle.call_registers.specs.Registers.{register}
-use Rattle.service_events.specs.Fits.{FitsPlaces, Place, count, place_of_entry, place_of_flight}
+use Rattle.service_events.specs.Fits.{FitsPlaces, NumberedCalls, count, calls_of_entry, calls_of_flight}
 use Rattle.service_call_laws.proofs.RowLemmas.{Each, each_append, each_weaker, IsSending, IsUnseen, IsUntaken, IsUnordered, IsPlain, sending_unseen, sending_untaken, sending_unordered}
 use Rattle.service_call_laws.proofs.PlaceLemmas.{place, parted_at}
 use Rattle.service_call_laws.proofs.FittingLemmas.{Book, entered, entered-append, HasRoom, room_first, room_then, Fitting, fitting_then, plain_rows, fitting_plain}
@@ -66,18 +66,18 @@ module _ (s : Kept) (f : Flight) (t : Trace) where
       (each_append (LeavesOrigin g.origin) surplus behind (sends_leave g.origin) (behind_leaves g.origin apart.0), all_leave gs apart.1)
 
   -- the calls that the last run made stand at the entry, and the others are deleted
-  commit_deletes : (ps : List Place) → HasRoom (book s) (surplus ++ behind) → Fitting (book s) (place_of_flight f ∷ ps)
+  commit_deletes : (ps : List NumberedCalls) → HasRoom (book s) (surplus ++ behind) → Fitting (book s) (calls_of_flight f ∷ ps)
       → Deleted (book s) surplus (drop (length t.calls) f.numbers) (place (take (length t.calls) f.numbers) (take (length t.calls) f.calls) ∷ ps)
   commit_deletes ps few h =
       let k = length t.calls in
       let made = place (take k f.numbers) (take k f.calls) in
       let over = place (drop k f.numbers) (drop k f.calls) in
-      let two = fitting_by (book s) (place_of_flight f ∷ ps) (made ∷ (over ∷ ps)) (parted_at s.registers k f.numbers f.calls ps) h in
+      let two = fitting_by (book s) (calls_of_flight f ∷ ps) (made ∷ (over ∷ ps)) (parted_at s.registers k f.numbers f.calls ps) h in
       delete_all s.registers (drop k f.numbers) (drop k f.calls) (book s) (made ∷ ps) (room_first (book s) surplus behind few)
       (same_versions s.registers (drop k f.numbers)) (fitting_swap (book s) made over ps two)
 
-  commit_fits : (ps : List Place) → t.calls ≡ take (length t.calls) f.calls → HasRoom (book s) (surplus ++ behind)
-      → Fitting (book s) (place_of_flight f ∷ ps) → Fitting (entered (surplus ++ behind) (book s)) (place_of_entry entry ∷ ps)
+  commit_fits : (ps : List NumberedCalls) → t.calls ≡ take (length t.calls) f.calls → HasRoom (book s) (surplus ++ behind)
+      → Fitting (book s) (calls_of_flight f ∷ ps) → Fitting (entered (surplus ++ behind) (book s)) (calls_of_entry entry ∷ ps)
   commit_fits ps same few h =
       let k = length t.calls in
       let made = place (take k f.numbers) (take k f.calls) in
@@ -115,7 +115,7 @@ module _ (s : Kept) (f : Flight) (t : Trace) where
             let end = (entered (surplus ++ behind) (book s)).registers in
             let fs = without_flight f.id s.flights in
             let es = s.entries ++ entry ∷ [] in
-            let P : List Flight → Type 0 = λ gs. FitsPlaces end (map place_of_entry es ++ map place_of_flight gs) in
+            let P : List Flight → Type 0 = λ gs. FitsPlaces end (map calls_of_entry es ++ map calls_of_flight gs) in
             let F : List Flight → Type 0 = λ gs. Flies s.journal gs in
             let old = subst F (w.put f refl) (flies_from s.journal (with_flight f s.flights) h.flights) in
             let left = flies_took s.journal (surplus ++ behind) (w.lows ++ w.highs) (all_leave (w.lows ++ w.highs) (others_of w.lows f w.highs old.others)) (flies_drop s.journal w.lows f w.highs old) in

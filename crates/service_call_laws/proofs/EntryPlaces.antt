@@ -6,7 +6,7 @@ use Rattle.std.specs.List.{position_or_len}
 use Rattle.request_log.specs.Entries.{has_id, IsDistinct, with_entry}
 use Rattle.request_log.specs.declared.entry.Entry.{Entry}
 use Rattle.call_registers.specs.declared.register.Register.{Register}
-use Rattle.service_events.specs.Fits.{FitsPlaces, Place, place_of_entry}
+use Rattle.service_events.specs.Fits.{FitsPlaces, NumberedCalls, calls_of_entry}
 use Rattle.service_call_laws.proofs.RegisterLemmas.{some_is}
 use Rattle.service_call_laws.proofs.PlaceLemmas.{no_place, rearrange, drawn, laid, with_none}
 
@@ -51,60 +51,60 @@ with_entry_at (x ∷ xs) e f ys id h =
 
 -- ---- its place
 
-among : (xs : List Entry) (e : Entry) (ys : List Entry) (ps : List Place)
-    → map place_of_entry (xs ++ e ∷ ys) ++ ps ≡ map place_of_entry xs ++ place_of_entry e ∷ (map place_of_entry ys ++ ps)
+among : (xs : List Entry) (e : Entry) (ys : List Entry) (ps : List NumberedCalls)
+    → map calls_of_entry (xs ++ e ∷ ys) ++ ps ≡ map calls_of_entry xs ++ calls_of_entry e ∷ (map calls_of_entry ys ++ ps)
 among xs e ys ps =
-    ap (λ zs. zs ++ ps) (map-append place_of_entry xs (e ∷ ys)) ∙ append_assoc (map place_of_entry xs) (place_of_entry e ∷ map place_of_entry ys) ps
+    ap (λ zs. zs ++ ps) (map-append calls_of_entry xs (e ∷ ys)) ∙ append_assoc (map calls_of_entry xs) (calls_of_entry e ∷ map calls_of_entry ys) ps
 
 -- the places of the others
-abbrev pub others : List Entry → List Entry → List Place → List Place
-others xs ys ps = map place_of_entry xs ++ (map place_of_entry ys ++ ps)
+abbrev pub others : List Entry → List Entry → List NumberedCalls → List NumberedCalls
+others xs ys ps = map calls_of_entry xs ++ (map calls_of_entry ys ++ ps)
 
-pub entry_to_head : (rs : List Register) (xs : List Entry) (e : Entry) (ys : List Entry) (ps : List Place)
-    → FitsPlaces rs (map place_of_entry (xs ++ e ∷ ys) ++ ps) → FitsPlaces rs (place_of_entry e ∷ others xs ys ps)
+pub entry_to_head : (rs : List Register) (xs : List Entry) (e : Entry) (ys : List Entry) (ps : List NumberedCalls)
+    → FitsPlaces rs (map calls_of_entry (xs ++ e ∷ ys) ++ ps) → FitsPlaces rs (calls_of_entry e ∷ others xs ys ps)
 entry_to_head rs xs e ys ps h =
-    let P : List Place → Type 0 = λ zs. FitsPlaces rs zs in
-    let back = map place_of_entry ys ++ ps in
-    rearrange rs (map place_of_entry xs ++ place_of_entry e ∷ back) (place_of_entry e ∷ (map place_of_entry xs ++ back)) (drawn (map place_of_entry xs) (place_of_entry e) back)
+    let P : List NumberedCalls → Type 0 = λ zs. FitsPlaces rs zs in
+    let back = map calls_of_entry ys ++ ps in
+    rearrange rs (map calls_of_entry xs ++ calls_of_entry e ∷ back) (calls_of_entry e ∷ (map calls_of_entry xs ++ back)) (drawn (map calls_of_entry xs) (calls_of_entry e) back)
     (subst P (among xs e ys ps) h)
 
-pub entry_from_head : (rs : List Register) (xs : List Entry) (e : Entry) (ys : List Entry) (ps : List Place)
-    → FitsPlaces rs (place_of_entry e ∷ others xs ys ps) → FitsPlaces rs (map place_of_entry (xs ++ e ∷ ys) ++ ps)
+pub entry_from_head : (rs : List Register) (xs : List Entry) (e : Entry) (ys : List Entry) (ps : List NumberedCalls)
+    → FitsPlaces rs (calls_of_entry e ∷ others xs ys ps) → FitsPlaces rs (map calls_of_entry (xs ++ e ∷ ys) ++ ps)
 entry_from_head rs xs e ys ps h =
-    let P : List Place → Type 0 = λ zs. FitsPlaces rs zs in
-    let back = map place_of_entry ys ++ ps in
+    let P : List NumberedCalls → Type 0 = λ zs. FitsPlaces rs zs in
+    let back = map calls_of_entry ys ++ ps in
     subst P (sym (among xs e ys ps))
-    (rearrange rs (place_of_entry e ∷ (map place_of_entry xs ++ back)) (map place_of_entry xs ++ place_of_entry e ∷ back) (laid (map place_of_entry xs) (place_of_entry e) back) h)
+    (rearrange rs (calls_of_entry e ∷ (map calls_of_entry xs ++ back)) (map calls_of_entry xs ++ calls_of_entry e ∷ back) (laid (map calls_of_entry xs) (calls_of_entry e) back) h)
 
 -- an entry without calls comes
-pub places_insert : (rs : List Register) (es : List Entry) (k : ℕ) (e : Entry) (ps : List Place) → place_of_entry e ≡ no_place
-    → FitsPlaces rs (map place_of_entry es ++ ps) → FitsPlaces rs (map place_of_entry (insert es k e) ++ ps)
+pub places_insert : (rs : List Register) (es : List Entry) (k : ℕ) (e : Entry) (ps : List NumberedCalls) → calls_of_entry e ≡ no_place
+    → FitsPlaces rs (map calls_of_entry es ++ ps) → FitsPlaces rs (map calls_of_entry (insert es k e) ++ ps)
 places_insert rs es k e ps none h =
     let xs = take k es in
     let ys = drop k es in
-    let E : List Entry → Type 0 = λ zs. FitsPlaces rs (map place_of_entry zs ++ ps) in
-    let split : FitsPlaces rs (map place_of_entry (xs ++ ys) ++ ps) = subst E (sym (take-append-drop k es)) h in
-    let P : List Place → Type 0 = λ zs. FitsPlaces rs zs in
+    let E : List Entry → Type 0 = λ zs. FitsPlaces rs (map calls_of_entry zs ++ ps) in
+    let split : FitsPlaces rs (map calls_of_entry (xs ++ ys) ++ ps) = subst E (sym (take-append-drop k es)) h in
+    let P : List NumberedCalls → Type 0 = λ zs. FitsPlaces rs zs in
     let apart : FitsPlaces rs (others xs ys ps) =
-    subst P (ap (λ zs. zs ++ ps) (map-append place_of_entry xs ys) ∙ append_assoc (map place_of_entry xs) (map place_of_entry ys) ps) split in
-    let Q : Place → Type 0 = λ p. FitsPlaces rs (p ∷ others xs ys ps) in
+    subst P (ap (λ zs. zs ++ ps) (map-append calls_of_entry xs ys) ∙ append_assoc (map calls_of_entry xs) (map calls_of_entry ys) ps) split in
+    let Q : NumberedCalls → Type 0 = λ p. FitsPlaces rs (p ∷ others xs ys ps) in
     entry_from_head rs xs e ys ps (subst Q (sym none) (with_none rs (others xs ys ps) apart))
 
 -- an entry has another one with the same calls in its place
-pub places_with : (rs : List Register) (es : List Entry) (e f : Entry) (ps : List Place) → Stands es e → f.id ≡ e.id → place_of_entry f ≡ place_of_entry e
-    → IsDistinct es → FitsPlaces rs (map place_of_entry es ++ ps) → FitsPlaces rs (map place_of_entry (with_entry f es) ++ ps)
+pub places_with : (rs : List Register) (es : List Entry) (e f : Entry) (ps : List NumberedCalls) → Stands es e → f.id ≡ e.id → calls_of_entry f ≡ calls_of_entry e
+    → IsDistinct es → FitsPlaces rs (map calls_of_entry es ++ ps) → FitsPlaces rs (map calls_of_entry (with_entry f es) ++ ps)
 places_with rs es e f ps st id same distinct h =
-    let E : List Entry → Type 0 = λ zs. FitsPlaces rs (map place_of_entry zs ++ ps) in
+    let E : List Entry → Type 0 = λ zs. FitsPlaces rs (map calls_of_entry zs ++ ps) in
     let D : List Entry → Type 0 = λ zs. IsDistinct zs in
-    let Q : Place → Type 0 = λ p. FitsPlaces rs (p ∷ others st.before st.rest ps) in
+    let Q : NumberedCalls → Type 0 = λ p. FitsPlaces rs (p ∷ others st.before st.rest ps) in
     let new = entry_from_head rs st.before f st.rest ps (subst Q (sym same) (entry_to_head rs st.before e st.rest ps (subst E st.is h))) in
     subst E (sym (ap (with_entry f) st.is ∙ with_entry_at st.before e f st.rest id (subst D st.is distinct))) new
 
 -- each entry is changed, but none's calls
-pub places_map : (rs : List Register) (es : List Entry) (f : Entry → Entry) (ps : List Place) → ((e : Entry) → place_of_entry (f e) ≡ place_of_entry e)
-    → FitsPlaces rs (map place_of_entry es ++ ps) → FitsPlaces rs (map place_of_entry (map f es) ++ ps)
-places_map rs es f ps same h = (let P : List Place → Type 0 = λ zs. FitsPlaces rs (zs ++ ps) in subst P (sym (maps es)) h)
+pub places_map : (rs : List Register) (es : List Entry) (f : Entry → Entry) (ps : List NumberedCalls) → ((e : Entry) → calls_of_entry (f e) ≡ calls_of_entry e)
+    → FitsPlaces rs (map calls_of_entry es ++ ps) → FitsPlaces rs (map calls_of_entry (map f es) ++ ps)
+places_map rs es f ps same h = (let P : List NumberedCalls → Type 0 = λ zs. FitsPlaces rs (zs ++ ps) in subst P (sym (maps es)) h)
   where
-    maps : (es : List Entry) → map place_of_entry (map f es) ≡ map place_of_entry es
+    maps : (es : List Entry) → map calls_of_entry (map f es) ≡ map calls_of_entry es
     maps [] = refl
     maps (x ∷ xs) = let head = same x in let rest = maps xs in (λ i. head i ∷ rest i)

@@ -141,7 +141,7 @@ take_keeps_flights s set i f few = (take_keeps s set i f few).flights
 pub take_keeps_orders : (s : Kept) (set : SetMessage) (i : Inputs) → Fits s → IsFew (take_event s set i).service → EachAfter OrdersOn [] (take_event s set i).service.journal
 take_keeps_orders s set i f few = (take_keeps s set i f few).orders
 
--- ---- an answer heard
+-- ---- an answer is taken
 
 pub take_answer_keeps : (s : Kept) (a : AnswerMessage) → Fits s → IsFew (take_answer_event s a).service → FitsCalls (take_answer_event s a).service
 take_answer_keeps s a f few = (take_answer_goes s a).keeps few (calls_of_fits s f)

@@ -11,10 +11,10 @@ use Rattle.journal_rows.specs.declared.caller.SentRow.{SentRow}
 use Rattle.journal_rows.specs.declared.row.Row.{Row}
 use Rattle.journal_rows.specs.declared.row.Row.TheVariants.{Sent, SawAck, SawAnswer}
 use Rattle.call_registers.specs.Changes.{raised}
-use Rattle.call_registers.specs.Registers.{register, next_number, answer_to, consumed_in}
+use Rattle.call_registers.specs.Registers.{register, next_number, answer_to, consumed_in, IsTimely}
 use Rattle.call_registers.specs.declared.register.Register.{Register}
 use Rattle.service_events.specs.Calls.{after_row, after_rows, named as named_row, replaced, deleted, version_of}
-use Rattle.service_events.specs.Fits.{EachAfter, SendsOn, FitsSent, sent_by, Place, call_to, call_in, wanted_call, count, stands, WantsItsCalls, FitsPlaces}
+use Rattle.service_events.specs.Fits.{EachAfter, SendsOn, FitsSent, sent_by, NumberedCalls, call_to, call_in, wanted_call, count, times_held, WantsItsCalls, FitsPlaces}
 use Rattle.service_call_laws.proofs.RowLemmas.{Each, each_of_all, kind_follows, IsPlain}
 use Rattle.service_call_laws.proofs.RegisterLemmas.{next_none, found_within, some_is}
 use Rattle.service_call_laws.proofs.SentLemmas.{MaySend, not_sent, version_within, put, fits_row, fits_rows, answer_in, Put}
@@ -57,14 +57,14 @@ pub room_then : (b : Book) (xs ys : List Row) → HasRoom b (xs ++ ys) → HasRo
 room_then b xs ys h =
     record { counts = (let sum = length-append xs ys in let more = length-append b.journal xs in let all = h.counts in omega (arith, all, sum, more)) }
 
-pub record Fitting (b : Book) (ps : List Place) : Type 0 where
+pub record Fitting (b : Book) (ps : List NumberedCalls) : Type 0 where
   pub sent : FitsSent b.journal b.registers
   pub places : FitsPlaces b.registers ps
 
-pub fitting_then : (xs ys : List Row) (b : Book) (ps : List Place) → Fitting (entered ys (entered xs b)) ps → Fitting (entered (xs ++ ys) b) ps
+pub fitting_then : (xs ys : List Row) (b : Book) (ps : List NumberedCalls) → Fitting (entered ys (entered xs b)) ps → Fitting (entered (xs ++ ys) b) ps
 fitting_then xs ys b ps f = (let P : Book → Type 0 = λ x. Fitting x ps in subst P (sym (entered-append xs ys b)) f)
 
-pub fitting_nil : (b : Book) (ps : List Place) → Fitting b ps → Fitting (entered [] b) ps
+pub fitting_nil : (b : Book) (ps : List NumberedCalls) → Fitting b ps → Fitting (entered [] b) ps
 fitting_nil b ps f = (let P : Book → Type 0 = λ x. Fitting x ps in subst P (sym (entered-nil b)) f)
 
 -- ---- rows that change no register
@@ -86,7 +86,7 @@ plain_rows at now (row ∷ rows) h = ap (λ rs. after_rows (at + 1) rs rows) (pl
 pub plain_follow : (rows before : List Row) → Each IsPlain rows → EachAfter SendsOn before rows
 plain_follow rows before h = kind_follows SendsOn IsPlain plain_sends rows before h
 
-pub fitting_plain : (rows : List Row) (b : Book) (ps : List Place) → HasRoom b rows → Each IsPlain rows → Fitting b ps → Fitting (entered rows b) ps
+pub fitting_plain : (rows : List Row) (b : Book) (ps : List NumberedCalls) → HasRoom b rows → Each IsPlain rows → Fitting b ps → Fitting (entered rows b) ps
 fitting_plain rows b ps few h f = record {
   sent = fits_rows rows b.journal b.registers few.counts (plain_follow rows b.journal h) f.sent;
   places = (let P : List Register → Type 0 = λ rs. FitsPlaces rs ps in subst P (sym (plain_rows (length b.journal) b.registers rows h)) f.places);
@@ -95,15 +95,15 @@ fitting_plain rows b ps few h f = record {
 -- ---- a version is sent
 
 -- what a sent version leaves: the register of its number alone changes
-pub record Went (b : Book) (s : SentRow) (p : Place) (ps : List Place) : Type 0 where
+pub record Went (b : Book) (s : SentRow) (p : NumberedCalls) (ps : List NumberedCalls) : Type 0 where
   pub fits : Fitting (entered (Sent s ∷ []) b) (p ∷ ps)
   pub others : (m : ℕ) → nat_eq s.number m ≡ false → register m (entered (Sent s ∷ []) b).registers ≡ register m b.registers
   pub count : length (entered (Sent s ∷ []) b).registers ≡ max (length b.registers) s.number
   pub made : Put b.journal b.registers s (entered (Sent s ∷ []) b).registers
 
-send : (b : Book) (s : SentRow) (p q : Place) (ps : List Place) → HasRoom b (Sent s ∷ []) → SendsOn b.journal (Sent s)
+send : (b : Book) (s : SentRow) (p q : NumberedCalls) (ps : List NumberedCalls) → HasRoom b (Sent s ∷ []) → SendsOn b.journal (Sent s)
     → ((m : ℕ) → nat_eq s.number m ≡ false → (count m p.numbers ≡ 0) × (count m q.numbers ≡ 0))
-    → stands s.number ps ≡ 0 → count s.number q.numbers ≡ one_if (call_to s.dest s.desired)
+    → times_held s.number ps ≡ 0 → count s.number q.numbers ≡ one_if (call_to s.dest s.desired)
     → ((end : List Register) → wanted_call end s.number ≡ call_to s.dest s.desired → WantsItsCalls end q)
     → Fitting b (p ∷ ps) → Went b s q ps
 send b s p q ps few may away none here wants f =
@@ -134,9 +134,6 @@ answered now n = answer_or_tentative (consumed_in (register n now))
 abbrev pub IsOnTime : Option Register → Type 0
 IsOnTime o = IfSome o (λ r. IfSome r.answer (λ a. a.version ≤ r.version))
 
-abbrev pub IsTimely : List Register → Type 0
-IsTimely now = (n : ℕ) → IsOnTime (register n now)
-
 on_time_one : (m : ℕ) (b : Bool) (made : Register) (o : Option Register) → (b ≡ true → IsOnTime (Some made)) → IsOnTime o → IsOnTime (cond b (Some made) o)
 on_time_one m true made o this other = this refl
 on_time_one m false made o this other = other
@@ -165,17 +162,17 @@ not_yet v was (Some a) h e =
 may_by : (j : List Row) (s : SentRow) (last : Option SentRow) → last_sent s.number j ≡ last → MaySend (named j) s last → SendsOn j (Sent s)
 may_by j s last is may = (let P : Option SentRow → Type 0 = λ o. MaySend (named j) s o in subst P (sym is) may)
 
-pub next_unwanted : (now : List Register) (ps : List Place) (next : ℕ) → register next now ≡ None → FitsPlaces now ps → stands next ps ≡ 0
+pub next_unwanted : (now : List Register) (ps : List NumberedCalls) (next : ℕ) → register next now ≡ None → FitsPlaces now ps → times_held next ps ≡ 0
 next_unwanted now ps next none f = f.once next ∙ ap (λ o. one_if (call_in o)) none
 
-pub record Named (b : Book) (next : ℕ) (c : CallMade) (ps : List Place) : Type 0 where
+pub record Named (b : Book) (next : ℕ) (c : CallMade) (ps : List NumberedCalls) : Type 0 where
   pub fits : Fitting (entered (named_row next c ∷ []) b) (place (next ∷ []) (c ∷ []) ∷ ps)
   pub others : (m : ℕ) → nat_eq next m ≡ false → register m (entered (named_row next c ∷ []) b).registers ≡ register m b.registers
   pub later : next + 1 ≡ next_number (entered (named_row next c ∷ []) b).registers
   pub consumes : answered (entered (named_row next c ∷ []) b).registers next ≡ tentative
   pub timely : IsTimely b.registers → IsTimely (entered (named_row next c ∷ []) b).registers
 
-pub name_call : (b : Book) (next : ℕ) (c : CallMade) (ps : List Place) → HasRoom b (named_row next c ∷ []) → next ≡ next_number b.registers → Fitting b ps
+pub name_call : (b : Book) (next : ℕ) (c : CallMade) (ps : List NumberedCalls) → HasRoom b (named_row next c ∷ []) → next ≡ next_number b.registers → Fitting b ps
     → Named b next c ps
 name_call b next c ps few is f =
     let s : SentRow = record { number = next; dest = c.dest; version = 1; desired = Some c.request } in
@@ -216,12 +213,12 @@ wanted_from now n o (Some r) is e = let parts = call_parts r.dest r.desired o e 
 pub wanted_by : (now : List Register) (n : ℕ) (o : CallMade) → wanted_call now n ≡ Some o → Wanted now n o
 wanted_by now n o e = wanted_from now n o (register n now) refl e
 
-pub wanted_at : (now : List Register) (n : ℕ) (o : CallMade) (ps : List Place) → FitsPlaces now (place (n ∷ []) (o ∷ []) ∷ ps) → Wanted now n o
+pub wanted_at : (now : List Register) (n : ℕ) (o : CallMade) (ps : List NumberedCalls) → FitsPlaces now (place (n ∷ []) (o ∷ []) ∷ ps) → Wanted now n o
 wanted_at now n o ps f =
     let each = each_of_all (WantsItsCalls now) (place (n ∷ []) (o ∷ []) ∷ ps) f.calls in
     wanted_by now n o (head_of (wanted_call now n) (Some o) [] [] each.0)
 
-pub record Resent (b : Book) (s : SentRow) (p : Place) (ps : List Place) : Type 0 where
+pub record Resent (b : Book) (s : SentRow) (p : NumberedCalls) (ps : List NumberedCalls) : Type 0 where
   pub fits : Fitting (entered (Sent s ∷ []) b) (p ∷ ps)
   pub others : (m : ℕ) → nat_eq s.number m ≡ false → register m (entered (Sent s ∷ []) b).registers ≡ register m b.registers
   pub next : next_number b.registers ≡ next_number (entered (Sent s ∷ []) b).registers
@@ -235,7 +232,7 @@ some_there : (d : Option Request) (q : Request) → d ≡ Some q → IsSome d
 some_there None q e = cc
 some_there (Some x) q e = refl
 
-resend : (b : Book) (n : ℕ) (o : CallMade) (version : ℕ) (d : Option Request) (q : Place) (ps : List Place) → HasRoom b (Sent (again n o.dest version d) ∷ [])
+resend : (b : Book) (n : ℕ) (o : CallMade) (version : ℕ) (d : Option Request) (q : NumberedCalls) (ps : List NumberedCalls) → HasRoom b (Sent (again n o.dest version d) ∷ [])
     → version ≡ raised (version_of b.registers n)
     → ((m : ℕ) → nat_eq n m ≡ false → count m q.numbers ≡ 0) → count n q.numbers ≡ one_if (call_to o.dest d)
     → ((end : List Register) → wanted_call end n ≡ call_to o.dest d → WantsItsCalls end q)
@@ -246,7 +243,7 @@ resend b n o version d q ps few is away here wants f =
     let within = version_within b.journal b.registers n w.made f.sent w.found in
     let this : version_of b.registers n ≡ w.made.version = ap (λ o. option_map_or (λ (r : Register). r.version) o 0) w.found in
     let next : version ≡ w.made.version + 1 = (let all = few.counts in omega (arith, is, this, within, all)) in
-    let alone : stands n ps ≡ 0 = (let all = f.places.once n in let one = count_self n in let most : one_if (wanted_call b.registers n) ≤ 1 = one_most (wanted_call b.registers n) in omega (arith, all, one, most)) in
+    let alone : times_held n ps ≡ 0 = (let all = f.places.once n in let one = count_self n in let most : one_if (wanted_call b.registers n) ≤ 1 = one_most (wanted_call b.registers n) in omega (arith, all, one, most)) in
     let went = send b (again n o.dest version d) (place (n ∷ []) (o ∷ [])) q ps few
     (may_by b.journal (again n o.dest version d) (Some (sent_by w.made)) last (sym w.dest, next, some_there w.made.desired o.request w.desired))
     (λ m differs. (count_other n m differs, away m differs)) alone here wants f in
@@ -272,14 +269,14 @@ resend b n o version d q ps few is away here wants f =
     one_most (Some c) = omega arith
 
 -- a call is deleted
-pub delete_call : (b : Book) (before : List Register) (n : ℕ) (o : CallMade) (ps : List Place) → HasRoom b (deleted before n o ∷ [])
+pub delete_call : (b : Book) (before : List Register) (n : ℕ) (o : CallMade) (ps : List NumberedCalls) → HasRoom b (deleted before n o ∷ [])
     → version_of before n ≡ version_of b.registers n → Fitting b (place (n ∷ []) (o ∷ []) ∷ ps)
     → Resent b (again n o.dest (raised (version_of before n)) None) no_place ps
 delete_call b before n o ps few same f =
     resend b n o (raised (version_of before n)) None no_place ps few (ap raised same) (λ m differs. refl) refl (λ end wanted. refl) f
 
 -- a call gets another request
-pub replace_call : (b : Book) (before : List Register) (n : ℕ) (o : CallMade) (q : Request) (ps : List Place) → HasRoom b (replaced before n o.dest q ∷ [])
+pub replace_call : (b : Book) (before : List Register) (n : ℕ) (o : CallMade) (q : Request) (ps : List NumberedCalls) → HasRoom b (replaced before n o.dest q ∷ [])
     → version_of before n ≡ version_of b.registers n → Fitting b (place (n ∷ []) (o ∷ []) ∷ ps)
     → Resent b (again n o.dest (raised (version_of before n)) (Some q)) (place (n ∷ []) (record { dest = o.dest; request = q } ∷ [])) ps
 replace_call b before n o q ps few same f =

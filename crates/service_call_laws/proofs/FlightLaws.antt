@@ -11,7 +11,7 @@ use Rattle.flights.specs.declared.flight.Flight.{Flight}
 use Rattle.service_events.specs.State.{Kept, without_flight, put_flight, with_flight}
 use Rattle.service_events.specs.Calls.{noted, named, deleted}
 use Rattle.service_events.specs.Flying.{with_slot, with_change, deletion, change_rows}
-use Rattle.service_events.specs.Fits.{FitsPlaces, WantsItsCalls, Place, place_of_entry, place_of_flight}
+use Rattle.service_events.specs.Fits.{FitsPlaces, WantsItsCalls, NumberedCalls, calls_of_entry, calls_of_flight}
 use Rattle.service_call_laws.proofs.RowLemmas.{Each, each_weaker, each_of_all, IsSending, IsUnseen, IsUntaken, IsUnordered, sending_unseen, sending_untaken, sending_unordered}
 use Rattle.service_call_laws.proofs.PlaceLemmas.{place, no_place, rearrange, drawn, laid, lengths, without_none, parted}
 use Rattle.service_call_laws.proofs.FittingLemmas.{Book, entered, HasRoom, room_first, room_then, Fitting, fitting_then, name_call, delete_call}
@@ -24,58 +24,58 @@ abbrev pub flying : Kept → Flight → Kept
 flying s f = record s { flights = with_flight f s.flights }
 
 -- the places of these entries, and of the flights below and above one
-abbrev pub around : List Entry → List Flight → List Flight → List Place
-around es lows highs = (map place_of_entry es ++ map place_of_flight lows) ++ map place_of_flight highs
+abbrev pub around : List Entry → List Flight → List Flight → List NumberedCalls
+around es lows highs = (map calls_of_entry es ++ map calls_of_flight lows) ++ map calls_of_flight highs
 
 split_places : (es : List Entry) (lows : List Flight) (f : Flight) (highs : List Flight)
-    → map place_of_entry es ++ map place_of_flight (lows ++ f ∷ highs)
-    ≡ (map place_of_entry es ++ map place_of_flight lows) ++ place_of_flight f ∷ map place_of_flight highs
+    → map calls_of_entry es ++ map calls_of_flight (lows ++ f ∷ highs)
+    ≡ (map calls_of_entry es ++ map calls_of_flight lows) ++ calls_of_flight f ∷ map calls_of_flight highs
 split_places es lows f highs =
-    ap (λ ps. map place_of_entry es ++ ps) (map-append place_of_flight lows (f ∷ highs))
-    ∙ sym (append_assoc (map place_of_entry es) (map place_of_flight lows) (place_of_flight f ∷ map place_of_flight highs))
+    ap (λ ps. map calls_of_entry es ++ ps) (map-append calls_of_flight lows (f ∷ highs))
+    ∙ sym (append_assoc (map calls_of_entry es) (map calls_of_flight lows) (calls_of_flight f ∷ map calls_of_flight highs))
 
 pub to_head : (rs : List Register) (es : List Entry) (lows : List Flight) (f : Flight) (highs : List Flight)
-    → FitsPlaces rs (map place_of_entry es ++ map place_of_flight (lows ++ f ∷ highs)) → FitsPlaces rs (place_of_flight f ∷ around es lows highs)
+    → FitsPlaces rs (map calls_of_entry es ++ map calls_of_flight (lows ++ f ∷ highs)) → FitsPlaces rs (calls_of_flight f ∷ around es lows highs)
 to_head rs es lows f highs h =
-    let front = map place_of_entry es ++ map place_of_flight lows in
-    let back = map place_of_flight highs in
-    let P : List Place → Type 0 = λ ps. FitsPlaces rs ps in
-    rearrange rs (front ++ place_of_flight f ∷ back) (place_of_flight f ∷ (front ++ back)) (drawn front (place_of_flight f) back) (subst P (split_places es lows f highs) h)
+    let front = map calls_of_entry es ++ map calls_of_flight lows in
+    let back = map calls_of_flight highs in
+    let P : List NumberedCalls → Type 0 = λ ps. FitsPlaces rs ps in
+    rearrange rs (front ++ calls_of_flight f ∷ back) (calls_of_flight f ∷ (front ++ back)) (drawn front (calls_of_flight f) back) (subst P (split_places es lows f highs) h)
 
 pub from_head : (rs : List Register) (es : List Entry) (lows : List Flight) (f : Flight) (highs : List Flight)
-    → FitsPlaces rs (place_of_flight f ∷ around es lows highs) → FitsPlaces rs (map place_of_entry es ++ map place_of_flight (lows ++ f ∷ highs))
+    → FitsPlaces rs (calls_of_flight f ∷ around es lows highs) → FitsPlaces rs (map calls_of_entry es ++ map calls_of_flight (lows ++ f ∷ highs))
 from_head rs es lows f highs h =
-    let front = map place_of_entry es ++ map place_of_flight lows in
-    let back = map place_of_flight highs in
-    let P : List Place → Type 0 = λ ps. FitsPlaces rs ps in
-    subst P (sym (split_places es lows f highs)) (rearrange rs (place_of_flight f ∷ (front ++ back)) (front ++ place_of_flight f ∷ back) (laid front (place_of_flight f) back) h)
+    let front = map calls_of_entry es ++ map calls_of_flight lows in
+    let back = map calls_of_flight highs in
+    let P : List NumberedCalls → Type 0 = λ ps. FitsPlaces rs ps in
+    subst P (sym (split_places es lows f highs)) (rearrange rs (calls_of_flight f ∷ (front ++ back)) (front ++ calls_of_flight f ∷ back) (laid front (calls_of_flight f) back) h)
 
 -- without the flight
 pub to_rest : (rs : List Register) (es : List Entry) (lows highs : List Flight) → FitsPlaces rs (around es lows highs)
-    → FitsPlaces rs (map place_of_entry es ++ map place_of_flight (lows ++ highs))
+    → FitsPlaces rs (map calls_of_entry es ++ map calls_of_flight (lows ++ highs))
 to_rest rs es lows highs h =
-    let P : List Place → Type 0 = λ ps. FitsPlaces rs ps in
-    subst P (append_assoc (map place_of_entry es) (map place_of_flight lows) (map place_of_flight highs)
-    ∙ ap (λ ps. map place_of_entry es ++ ps) (sym (map-append place_of_flight lows highs))) h
+    let P : List NumberedCalls → Type 0 = λ ps. FitsPlaces rs ps in
+    subst P (append_assoc (map calls_of_entry es) (map calls_of_flight lows) (map calls_of_flight highs)
+    ∙ ap (λ ps. map calls_of_entry es ++ ps) (sym (map-append calls_of_flight lows highs))) h
 
-pub from_rest : (rs : List Register) (es : List Entry) (lows highs : List Flight) → FitsPlaces rs (map place_of_entry es ++ map place_of_flight (lows ++ highs))
+pub from_rest : (rs : List Register) (es : List Entry) (lows highs : List Flight) → FitsPlaces rs (map calls_of_entry es ++ map calls_of_flight (lows ++ highs))
     → FitsPlaces rs (around es lows highs)
 from_rest rs es lows highs h =
-    let P : List Place → Type 0 = λ ps. FitsPlaces rs ps in
-    subst P (ap (λ ps. map place_of_entry es ++ ps) (map-append place_of_flight lows highs)
-    ∙ sym (append_assoc (map place_of_entry es) (map place_of_flight lows) (map place_of_flight highs))) h
+    let P : List NumberedCalls → Type 0 = λ ps. FitsPlaces rs ps in
+    subst P (ap (λ ps. map calls_of_entry es ++ ps) (map-append calls_of_flight lows highs)
+    ∙ sym (append_assoc (map calls_of_entry es) (map calls_of_flight lows) (map calls_of_flight highs))) h
 
 -- as an entry at the end
-pub to_entry : (rs : List Register) (es : List Entry) (e : Entry) (lows highs : List Flight) → FitsPlaces rs (place_of_entry e ∷ around es lows highs)
-    → FitsPlaces rs (map place_of_entry (es ++ e ∷ []) ++ map place_of_flight (lows ++ highs))
+pub to_entry : (rs : List Register) (es : List Entry) (e : Entry) (lows highs : List Flight) → FitsPlaces rs (calls_of_entry e ∷ around es lows highs)
+    → FitsPlaces rs (map calls_of_entry (es ++ e ∷ []) ++ map calls_of_flight (lows ++ highs))
 to_entry rs es e lows highs h =
-    let xs = map place_of_entry es in
-    let fs = map place_of_flight (lows ++ highs) in
-    let P : List Place → Type 0 = λ ps. FitsPlaces rs ps in
+    let xs = map calls_of_entry es in
+    let fs = map calls_of_flight (lows ++ highs) in
+    let P : List NumberedCalls → Type 0 = λ ps. FitsPlaces rs ps in
     let order : around es lows highs ≡ xs ++ fs =
-    append_assoc xs (map place_of_flight lows) (map place_of_flight highs) ∙ ap (λ ps. xs ++ ps) (sym (map-append place_of_flight lows highs)) in
-    let there = rearrange rs (place_of_entry e ∷ (xs ++ fs)) (xs ++ place_of_entry e ∷ fs) (laid xs (place_of_entry e) fs) (subst P (ap (λ ps. place_of_entry e ∷ ps) order) h) in
-    subst P (sym (append_assoc xs (place_of_entry e ∷ []) fs) ∙ ap (λ ps. ps ++ fs) (sym (map-append place_of_entry es (e ∷ [])))) there
+    append_assoc xs (map calls_of_flight lows) (map calls_of_flight highs) ∙ ap (λ ps. xs ++ ps) (sym (map-append calls_of_flight lows highs)) in
+    let there = rearrange rs (calls_of_entry e ∷ (xs ++ fs)) (xs ++ calls_of_entry e ∷ fs) (laid xs (calls_of_entry e) fs) (subst P (ap (λ ps. calls_of_entry e ∷ ps) order) h) in
+    subst P (sym (append_assoc xs (calls_of_entry e ∷ []) fs) ∙ ap (λ ps. ps ++ fs) (sym (map-append calls_of_entry es (e ∷ [])))) there
 
 -- ---- a flight's places move
 
@@ -92,16 +92,16 @@ flown s f =
     record { lows = at.lows; highs = at.highs; put = λ g e. ap (λ k. put_flight g (without_flight k s.flights)) e ∙ at.put g e; without = at.is }
 
 -- the flight at the head of all places
-pub fitting_at : (s : Kept) (f : Flight) (w : Flown s f) → FitsCalls (flying s f) → Fitting (book s) (place_of_flight f ∷ around s.entries w.lows w.highs)
+pub fitting_at : (s : Kept) (f : Flight) (w : Flown s f) → FitsCalls (flying s f) → Fitting (book s) (calls_of_flight f ∷ around s.entries w.lows w.highs)
 fitting_at s f w h = record {
   sent = h.sent;
   places = to_head s.registers s.entries w.lows f w.highs
-      (let P : List Flight → Type 0 = λ fs. FitsPlaces s.registers (map place_of_entry s.entries ++ map place_of_flight fs) in subst P (w.put f refl) h.places);
+      (let P : List Flight → Type 0 = λ fs. FitsPlaces s.registers (map calls_of_entry s.entries ++ map calls_of_flight fs) in subst P (w.put f refl) h.places);
 }
 
 -- rows that are sent make another flight of it, which has its number and origin
 pub goes_moves : (s : Kept) (f g : Flight) (rows : List Row) → g.id ≡ f.id → g.origin ≡ f.origin → Each IsSending rows
-    → ((ps : List Place) → HasRoom (book s) rows → Fitting (book s) (place_of_flight f ∷ ps) → Fitting (entered rows (book s)) (place_of_flight g ∷ ps))
+    → ((ps : List NumberedCalls) → HasRoom (book s) rows → Fitting (book s) (calls_of_flight f ∷ ps) → Fitting (entered rows (book s)) (calls_of_flight g ∷ ps))
     → Goes (flying s f) (flying (noted rows s) g)
 goes_moves s f g rows id origin sending moves = record {
   grows = record { rows = rows; is = refl; setting = refl };
@@ -111,7 +111,7 @@ goes_moves s f g rows id origin sending moves = record {
       let room : HasRoom (book s) rows = record { counts = omega (arith, few, sum) } in
       let moved = moves (around s.entries w.lows w.highs) room (fitting_at s f w h) in
       let end = (entered rows (book s)).registers in
-      let P : List Flight → Type 0 = λ fs. FitsPlaces end (map place_of_entry s.entries ++ map place_of_flight fs) in
+      let P : List Flight → Type 0 = λ fs. FitsPlaces end (map calls_of_entry s.entries ++ map calls_of_flight fs) in
       let F : List Flight → Type 0 = λ fs. Flies s.journal fs in
       let old = subst F (w.put f refl) (flies_from s.journal (with_flight f s.flights) h.flights) in
       let new = subst F (sym (w.put g id)) (flies_put s.journal w.lows f g w.highs id origin old) in
@@ -130,9 +130,9 @@ goes_named s f c =
     let next = next_number s.registers in
     let rows = named next c ∷ [] in
     goes_moves s f (with_slot next c f) rows refl refl (tt, tt)
-    (λ ps room h. (let new = name_call (book s) next c (place_of_flight f ∷ ps) room refl h in
+    (λ ps room h. (let new = name_call (book s) next c (calls_of_flight f ∷ ps) room refl h in
     fitting_join (entered rows (book s)) f.numbers (next ∷ []) f.calls (c ∷ []) ps
-    (fitting_swap (entered rows (book s)) (place (next ∷ []) (c ∷ [])) (place_of_flight f) ps new.fits)))
+    (fitting_swap (entered rows (book s)) (place (next ∷ []) (c ∷ [])) (calls_of_flight f) ps new.fits)))
 
 -- ---- a call changes
 
@@ -162,7 +162,7 @@ is_at (x ∷ xs) (suc k) w =
     }
 
 -- at one slot the call is deleted, and another one is named
-change_at : (b : Book) (fn : List ℕ) (n : ℕ) (bn : List ℕ) (fc : List CallMade) (o : CallMade) (bc : List CallMade) (c : CallMade) (ps : List Place)
+change_at : (b : Book) (fn : List ℕ) (n : ℕ) (bn : List ℕ) (fc : List CallMade) (o : CallMade) (bc : List CallMade) (c : CallMade) (ps : List NumberedCalls)
     → length fn ≡ length fc → HasRoom b (deleted b.registers n o ∷ (named (next_number b.registers) c ∷ []))
     → Fitting b (place (fn ++ n ∷ bn) (fc ++ o ∷ bc) ∷ ps)
     → Fitting (entered (deleted b.registers n o ∷ (named (next_number b.registers) c ∷ [])) b) (place (fn ++ next_number b.registers ∷ bn) (fc ++ c ∷ bc) ∷ ps)
@@ -183,11 +183,11 @@ change_at b fn n bn fc o bc c ps same few f =
     let whole = fitting_join end fn (next ∷ bn) fc (c ∷ bc) ps (fitting_swap end (place (next ∷ bn) (c ∷ bc)) front ps back) in
     fitting_then (row ∷ []) (fresh ∷ []) b (place (fn ++ next ∷ bn) (fc ++ c ∷ bc) ∷ ps) whole
 
-change_fits : (s : Kept) (f : Flight) (k : ℕ) (c : CallMade) (ps : List Place) → k < length f.calls → HasRoom (book s) (change_rows s f k c)
-    → Fitting (book s) (place_of_flight f ∷ ps) → Fitting (entered (change_rows s f k c) (book s)) (place_of_flight (with_change k (next_number s.registers) c f) ∷ ps)
+change_fits : (s : Kept) (f : Flight) (k : ℕ) (c : CallMade) (ps : List NumberedCalls) → k < length f.calls → HasRoom (book s) (change_rows s f k c)
+    → Fitting (book s) (calls_of_flight f ∷ ps) → Fitting (entered (change_rows s f k c) (book s)) (calls_of_flight (with_change k (next_number s.registers) c f) ∷ ps)
 change_fits s f k c ps within few h =
     let next = next_number s.registers in
-    let wants = (each_of_all (WantsItsCalls s.registers) (place_of_flight f ∷ ps) h.places.calls).0 in
+    let wants = (each_of_all (WantsItsCalls s.registers) (calls_of_flight f ∷ ps) h.places.calls).0 in
     let same = lengths s.registers f.numbers f.calls wants in
     let ns = is_at f.numbers k (omega (arith, within, same)) in
     let cs = is_at f.calls k within in
@@ -195,13 +195,13 @@ change_fits s f k c ps within few h =
     let is : change_rows s f k c ≡ rows =
     ap (λ o. deletion s o (slice_get f.calls k) ++ named next c ∷ []) ns.got ∙ ap (λ o. deletion s (Some ns.here) o ++ named next c ∷ []) cs.got in
     let R : List Row → Type 0 = λ r. HasRoom (book s) r in
-    let at : place_of_flight f ≡ place (ns.front ++ ns.here ∷ ns.back) (cs.front ++ cs.here ∷ cs.back) =
+    let at : calls_of_flight f ≡ place (ns.front ++ ns.here ∷ ns.back) (cs.front ++ cs.here ∷ cs.back) =
     (let a = ns.is in let d = cs.is in λ i. record { numbers = a i; calls = d i }) in
-    let to : place_of_flight (with_change k next c f) ≡ place (ns.front ++ next ∷ ns.back) (cs.front ++ c ∷ cs.back) =
+    let to : calls_of_flight (with_change k next c f) ≡ place (ns.front ++ next ∷ ns.back) (cs.front ++ c ∷ cs.back) =
     (let a = ns.set next in let d = cs.set c in λ i. record { numbers = a i; calls = d i }) in
-    let P : Place → Type 0 = λ p. Fitting (book s) (p ∷ ps) in
-    let Q : Place → Type 0 = λ p. Fitting (entered rows (book s)) (p ∷ ps) in
-    let W : List Row → Type 0 = λ r. Fitting (entered r (book s)) (place_of_flight (with_change k next c f) ∷ ps) in
+    let P : NumberedCalls → Type 0 = λ p. Fitting (book s) (p ∷ ps) in
+    let Q : NumberedCalls → Type 0 = λ p. Fitting (entered rows (book s)) (p ∷ ps) in
+    let W : List Row → Type 0 = λ r. Fitting (entered r (book s)) (calls_of_flight (with_change k next c f) ∷ ps) in
     subst W (sym is) (subst Q (sym to)
     (change_at (book s) ns.front ns.here ns.back cs.front cs.here cs.back c ps (ns.before ∙ sym cs.before) (subst R is few) (subst P at h)))
 

@@ -11,15 +11,15 @@ use Rattle.handler_run.specs.declared.state.Ran.{Ran}
 use Rattle.handler_run.specs.declared.state.Ran.TheVariants.{Done, Wants}
 use Rattle.handler_run.proofs.RunLaws.{takes_done, counts_done}
 use Rattle.local_repair.specs.Alone.{trace_or_dead}
-use Rattle.local_repair.specs.Current.{rows_of}
+use Rattle.local_repair.specs.Current.{rows_after}
 use Rattle.call_registers.specs.Registers.{next_number}
 use Rattle.call_registers.specs.declared.register.Why.TheVariants.{Changes}
 use Rattle.flights.specs.Moves.{calls_in, first_other, by_run, change_or}
 use Rattle.flights.specs.declared.flight.Flight.{Flight}
-use Rattle.service_events.specs.State.{Kept, After, answers}
+use Rattle.service_events.specs.State.{Kept, After, answers, base}
 use Rattle.service_events.specs.Calls.{noted, named}
 use Rattle.service_events.specs.Flying.{flight_run, committed, with_slot, with_change, change_rows, waits, call_or_none, named_unsent, changed_unsent, completing, completed, changed, moved, goes_on}
-use Rattle.service_events.specs.Fits.{WantsItsCalls, place_of_flight}
+use Rattle.service_events.specs.Fits.{WantsItsCalls, calls_of_flight}
 use Rattle.service_events.specs.declared.answers.Arrived.{Arrived}
 use Rattle.service_call_laws.proofs.RowLemmas.{each_of_all}
 use Rattle.service_call_laws.proofs.PlaceLemmas.{lengths}
@@ -87,8 +87,8 @@ run_few : (s : Kept) (f : Flight) (ran : Ran) → flight_run s f ≡ ran → Has
 run_few s f (Wants slot calls call) e = tt
 run_few s f (Done t) e =
     let given = map (answers s) f.numbers in
-    let took = takes_done s.setting f.request f.inputs given (rows_of s.entries) t e in
-    let made = counts_done s.setting f.request f.inputs given (rows_of s.entries) t e in
+    let took = takes_done s.setting f.request f.inputs given (rows_after (base s) s.entries) t e in
+    let made = counts_done s.setting f.request f.inputs given (rows_after (base s) s.entries) t e in
     let many : length given ≡ length f.numbers = length-map f.numbers (answers s) in
     let sum = ap length took.1 ∙ length-append t.answers took.0 in
     omega (arith, made, many, sum)
@@ -102,7 +102,7 @@ commits s f (Wants slot calls call) few same h = refl
 commits s f (Done t) few same h =
     let w = flown s f in
     let at = fitting_at s f w h in
-    let wants = (each_of_all (WantsItsCalls s.registers) (place_of_flight f ∷ around s.entries w.lows w.highs) at.places.calls).0 in
+    let wants = (each_of_all (WantsItsCalls s.registers) (calls_of_flight f ∷ around s.entries w.lows w.highs) at.places.calls).0 in
     let many = lengths s.registers f.numbers f.calls wants in
     first_calls f.calls t.calls same (omega (arith, few, many))
 

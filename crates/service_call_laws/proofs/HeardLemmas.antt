@@ -1,4 +1,4 @@
--- What is heard of own calls: acknowledgements, answers and confirmations keep what fits of calls.
+-- What is seen of own calls: acknowledgements, answers and confirmations keep what fits of calls.
 use Rattle.std.proofs.Common.{◌≡◌, ℕ, ◌+◌, ◌^◌, ◌<◌, ◌≤◌, true, false, List, [], ◌∷◌, ◌++◌, Option, Some, None, IsSome, IfSome, max, fold, length, nat_eq, option_map, refl, sym, ap, ◌∙◌, subst, inl, inr, arith, length-append, eqb-true, ltb-true, ltb-false}
 use Rattle.std.proofs.lemmas.Bool.{cases_Bool}
 use Rattle.std.specs.List.{list_any}
@@ -13,7 +13,7 @@ use Rattle.call_registers.specs.declared.register.Answer.{Answer}
 use Rattle.call_registers.specs.declared.register.Register.{Register}
 use Rattle.service_events.specs.State.{Kept}
 use Rattle.service_events.specs.Calls.{noted, seen_answer, after_row, after_rows}
-use Rattle.service_events.specs.Fits.{EachAfter, SendsOn, sent_by, SeesOn, answer_of, HasSeen, tells_heard, Place, call_in, FitsPlaces, places}
+use Rattle.service_events.specs.Fits.{EachAfter, SendsOn, sent_by, SeesOn, HasSeen, tells_of_answer, NumberedCalls, call_in, FitsPlaces, places}
 use Rattle.service_call_laws.proofs.RowLemmas.{Each, kind_follows, IsUnsent, IsUntaken, IsUnordered}
 use Rattle.service_call_laws.proofs.SentLemmas.{fits_rows, ack_aside, answer_aside}
 use Rattle.service_call_laws.proofs.SeenLemmas.{sees_rows, answered_more}
@@ -36,25 +36,25 @@ answer_wants a r = elim (cases_Bool (is_newer r.answer a.answer_version)) [
   | inr differs ↦ rw differs refl
 ]
 
-places_row : (at : ℕ) (now : List Register) (row : Row) (ps : List Place) → IsUnsent row → FitsPlaces now ps → FitsPlaces (after_row at now row) ps
+places_row : (at : ℕ) (now : List Register) (row : Row) (ps : List NumberedCalls) → IsUnsent row → FitsPlaces now ps → FitsPlaces (after_row at now row) ps
 places_row at now (Sent s) ps h f = absurd h
 places_row at now (SawAck a) ps h f = places_aside now a.number (with_ack a.version) ps (ack_aside a.version).number (λ r. refl) f
 places_row at now (SawAnswer a) ps h f =
     places_aside now a.number (with_answer (seen_answer a)) ps (answer_aside (seen_answer a)).number (answer_wants (seen_answer a)) f
 places_row at now row ps h f = f
 
-places_rows : (at : ℕ) (now : List Register) (rows : List Row) (ps : List Place) → Each IsUnsent rows → FitsPlaces now ps → FitsPlaces (after_rows at now rows) ps
+places_rows : (at : ℕ) (now : List Register) (rows : List Row) (ps : List NumberedCalls) → Each IsUnsent rows → FitsPlaces now ps → FitsPlaces (after_rows at now rows) ps
 places_rows at now [] ps h f = f
 places_rows at now (row ∷ rows) ps h f = places_rows (at + 1) (after_row at now row) rows ps h.1 (places_row at now row ps h.0 f)
 
 -- what rows claim and tell of a number
 abbrev pub HeardAfter : List Row → ℕ → List Row → Type 0
 HeardAfter journal n rows =
-    (list_any (tells_heard n) rows ≡ true → IsSome (fold (seen_step n) (last_seen n journal) rows))
+    (list_any (tells_of_answer n) rows ≡ true → IsSome (fold (seen_step n) (last_seen n journal) rows))
     × (fold (claim_step n) (claimed n journal) rows ≤ seen_version (fold (seen_step n) (last_seen n journal) rows))
 
-pub never : false ≡ true → ⊥
-never h = cc
+pub false_is_not_true : false ≡ true → ⊥
+false_is_not_true h = cc
 
 -- rows that tell what was seen
 pub goes_heard : (s : Kept) (rows : List Row) → Each IsUnsent rows → Each IsUntaken rows → Each IsUnordered rows
@@ -85,39 +85,39 @@ goes_heard s rows unsent untaken unordered sees heard = record {
 -- what is known of a number's register
 pub record Known (s : Kept) (n : ℕ) (r : Register) : Type 0 where
   pub sent : IsSome (last_sent n s.journal)
-  pub answer : r.answer ≡ option_map answer_of (last_seen n s.journal)
+  pub answer : r.answer ≡ option_map seen_answer (last_seen n s.journal)
 
 pub known : (s : Kept) (n : ℕ) (r : Register) → register n s.registers ≡ Some r → FitsCalls s → Known s n r
 known s n r found f =
-    let P : Option Register → Type 0 = λ o. IfSome o (HasSeen (seen_acked n s.journal) (option_map answer_of (last_seen n s.journal))) in
+    let P : Option Register → Type 0 = λ o. IfSome o (HasSeen (seen_acked n s.journal) (option_map seen_answer (last_seen n s.journal))) in
     record {
       sent = subst IsSome (sym (ap (option_map sent_by) found) ∙ f.sent.registers n) refl;
       answer = (subst P found (f.seen.registers n)).answer;
     }
 
-pub older_by : (o : Option Answer) (v : ℕ) (last : Option SawAnswerRow) → o ≡ option_map answer_of last → is_newer o v ≡ true
+pub older_by : (o : Option Answer) (v : ℕ) (last : Option SawAnswerRow) → o ≡ option_map seen_answer last → is_newer o v ≡ true
     → IfSome last (λ l. l.answer_version < v)
 older_by o v None e new = tt
 older_by None v (Some l) e new = cc
 older_by (Some x) v (Some l) e new =
-    let same : x.answer_version ≡ l.answer_version = ap (λ (y : Answer). y.answer_version) (answer_is x (answer_of l) e) in
+    let same : x.answer_version ≡ l.answer_version = ap (λ (y : Answer). y.answer_version) (answer_is x (seen_answer l) e) in
     let less = ltb-true x.answer_version v new in omega (arith, same, less)
   where
     answer_is : (x y : Answer) → Some x ≡ Some y → x ≡ y
     answer_is x y e = cc
 
-pub as_new_by : (o : Option Answer) (v : ℕ) (last : Option SawAnswerRow) → o ≡ option_map answer_of last → is_newer o v ≡ false → v ≤ seen_version last
+pub as_new_by : (o : Option Answer) (v : ℕ) (last : Option SawAnswerRow) → o ≡ option_map seen_answer last → is_newer o v ≡ false → v ≤ seen_version last
 as_new_by None v last e old = cc
 as_new_by (Some x) v None e old = cc
 as_new_by (Some x) v (Some l) e old =
-    let same : x.answer_version ≡ l.answer_version = ap (λ (y : Answer). y.answer_version) (answer_is x (answer_of l) e) in
+    let same : x.answer_version ≡ l.answer_version = ap (λ (y : Answer). y.answer_version) (answer_is x (seen_answer l) e) in
     let least = ltb-false x.answer_version v old in omega (arith, same, least)
   where
     answer_is : (x y : Answer) → Some x ≡ Some y → x ≡ y
     answer_is x y e = cc
 
 -- one that isn't newer follows one that was seen
-pub seen_by : (o : Option Answer) (v : ℕ) (last : Option SawAnswerRow) → o ≡ option_map answer_of last → is_newer o v ≡ false → IsSome last
+pub seen_by : (o : Option Answer) (v : ℕ) (last : Option SawAnswerRow) → o ≡ option_map seen_answer last → is_newer o v ≡ false → IsSome last
 seen_by None v last e old = cc
 seen_by (Some x) v None e old = cc
 seen_by (Some x) v (Some l) e old = refl
@@ -154,7 +154,7 @@ live_new s n v version a r an av found new =
           let below = subst R (eqb-true n m is) (above k f) in
           let also : nat_eq a.number m ≡ true = ap (λ j. nat_eq j m) an ∙ is in
           rw (is, also) ((λ told. refl), below))
-      | inr differs ↦ (let also : nat_eq a.number m ≡ false = ap (λ j. nat_eq j m) an ∙ differs in rw (differs, also) ((λ told. absurd (never told)), f.seen.heard m))
+      | inr differs ↦ (let also : nat_eq a.number m ≡ false = ap (λ j. nat_eq j m) an ∙ differs in rw (differs, also) ((λ told. absurd (false_is_not_true told)), f.seen.heard m))
     ])
   where
     above : Known s n r → FitsCalls s → max (claimed n s.journal) v ≤ a.answer_version
@@ -174,7 +174,7 @@ live_old s n v version r found old =
           let S : ℕ → Type 0 = λ j. IsSome (last_seen j s.journal) in
           let some = subst S (eqb-true n m is) (seen_by r.answer v (last_seen n s.journal) k.answer old) in
           rw is ((λ told. some), subst R (eqb-true n m is) (above k f)))
-      | inr differs ↦ rw differs ((λ told. absurd (never told)), f.seen.heard m)
+      | inr differs ↦ rw differs ((λ told. absurd (false_is_not_true told)), f.seen.heard m)
     ])
   where
     above : Known s n r → FitsCalls s → max (claimed n s.journal) v ≤ seen_version (last_seen n s.journal)

@@ -8,14 +8,14 @@ use Rattle.lang_core.specs.declared.ids.Origin.TheVariants.{Outside, Call}
 use Rattle.lang_core.specs.declared.inputs.Inputs.{Inputs}
 use Rattle.lang_core.specs.declared.request.Request.{Request}
 use Rattle.request_log.specs.Entries.{find_call}
+use Rattle.request_log.specs.Records.{Record, record_of}
 use Rattle.request_log.specs.declared.entry.Entry.{Entry}
-use Rattle.request_log.specs.declared.entry.Made.{Made}
 use Rattle.repair_messages.specs.declared.messages.AnswerMessage.{AnswerMessage}
 use Rattle.journal_rows.specs.Words.{last_taken, last_taken_of, taken_step, is_version_of}
 use Rattle.journal_rows.specs.declared.callee.TookRow.{TookRow}
 use Rattle.journal_rows.specs.declared.row.Row.{Row}
 use Rattle.journal_rows.specs.declared.caller.AckHow.TheVariants.{WithAnswer}
-use Rattle.journal_rows.specs.declared.caller.How.TheVariants.{Live}
+use Rattle.journal_rows.specs.declared.caller.SawHow.TheVariants.{Live}
 use Rattle.journal_rows.specs.declared.row.Row.TheVariants.{Took, SawAck}
 use Rattle.call_registers.specs.Registers.{register, is_newer}
 use Rattle.call_registers.specs.declared.register.Register.{Register}
@@ -24,8 +24,8 @@ use Rattle.flights.specs.declared.flight.Flight.{Flight}
 use Rattle.service_events.specs.State.{Kept, after, or_else, is_crowded, is_heavy, is_in_flight, same_call_origin, flight_of, without_flight, with_flight}
 use Rattle.service_events.specs.Calls.{noted, all_deleted}
 use Rattle.service_events.specs.Flying.{goes_on, awaited}
-use Rattle.service_events.specs.Arriving.{new_flight, admitted, known_by, arrives_or_known, by_version, unless_gone, arrive_event, answers_register, is_for, is_new_to, seen_live, heard_rows, answered_flight, call_answered_event, told, failed_flight, call_failed_event, abandoned, abandon_event}
-use Rattle.service_events.specs.Fits.{Fits, FitsPlaces, takes_request, place_of_entry, place_of_flight}
+use Rattle.service_events.specs.Arriving.{new_flight, admitted, known_by, arrives_or_known, by_version, unless_gone, arrive_event, answers_register, is_for, is_new_to, seen_live, live_answer_rows, answered_flight, call_answered_event, told, failed_flight, call_failed_event, abandoned, abandon_event}
+use Rattle.service_events.specs.Fits.{Fits, FitsPlaces, takes_request, calls_of_entry, calls_of_flight}
 use Rattle.service_call_laws.proofs.RowLemmas.{go_on, all_follow, each_weaker, IsSending, IsUnseen, IsUntaken, IsUnordered, sending_unseen, sending_untaken, sending_unordered}
 use Rattle.service_call_laws.proofs.PlaceLemmas.{with_none}
 use Rattle.service_call_laws.proofs.FittingLemmas.{entered, HasRoom}
@@ -50,7 +50,7 @@ begins s o q i apart free = record {
       let number = free_number s.flights old.others old.numbered in
       let w = flown s f in
       let same = sym (without_none f.id s.flights number.1) ∙ w.without in
-      let E : List Flight → Type 0 = λ fs. FitsPlaces s.registers (map place_of_entry s.entries ++ map place_of_flight fs) in
+      let E : List Flight → Type 0 = λ fs. FitsPlaces s.registers (map calls_of_entry s.entries ++ map calls_of_flight fs) in
       record {
         sent = h.sent;
         seen = h.seen;
@@ -118,7 +118,7 @@ has_entry s c n t q f last asks none =
     gone None e h = cc
     gone (Some x) e h = cc
 
-known_goes : (s : Kept) (c : List ℕ) (n : ℕ) (e : Entry) (m : Option Made) → Goes s (known_by s c n e m).service
+known_goes : (s : Kept) (c : List ℕ) (n : ℕ) (e : Entry) (m : Option Record) → Goes s (known_by s c n e m).service
 known_goes s c n e None = goes_same s
 known_goes s c n e (Some m) = goes_same s
 
@@ -126,7 +126,7 @@ by_version_goes : (s : Kept) (c : List ℕ) (n : ℕ) (q : Request) (i : Inputs)
     → last_taken c n s.journal ≡ Some t → t.desired ≡ d → find_call (Call c n) s.entries ≡ e
     → Goes s (by_version s t.version d (arrives_or_known s c n q i e)).service
 by_version_goes s c n q i t None e f last asks entry = goes_same s
-by_version_goes s c n q i t (Some r) (Some e) f last asks entry = known_goes s c n e e.made
+by_version_goes s c n q i t (Some r) (Some e) f last asks entry = known_goes s c n e (record_of e)
 by_version_goes s c n q i t (Some r) None f last asks entry = absurd (has_entry s c n t r f last asks entry)
 
 call_goes : (s : Kept) (c : List ℕ) (n : ℕ) (q : Request) (i : Inputs) (b : Bool) (t : Option TookRow) (e : Option Entry) → Fits s → is_in_flight (Call c n) s ≡ b
@@ -134,7 +134,7 @@ call_goes : (s : Kept) (c : List ℕ) (n : ℕ) (q : Request) (i : Inputs) (b : 
     → Goes s (if b then after s (Err (NotYet n)) else unless_gone s t (arrives_or_known s c n q i e)).service
 call_goes s c n q i true t e f flies last entry = goes_same s
 call_goes s c n q i false None None f flies last entry = arrives_goes s (Call c n) q i (or_else (is_crowded s) (is_heavy s)) flies last
-call_goes s c n q i false None (Some e) f flies last entry = known_goes s c n e e.made
+call_goes s c n q i false None (Some e) f flies last entry = known_goes s c n e (record_of e)
 call_goes s c n q i false (Some t) e f flies last entry = by_version_goes s c n q i t t.desired e f last refl entry
 
 pub arrive_goes : (s : Kept) (o : Origin) (q : Request) (i : Inputs) → Fits s → Goes s (arrive_event s o q i).service
@@ -165,15 +165,15 @@ pub answered_by : (s : Kept) (a : AnswerMessage) (o : Option Register) → regis
 answered_by s a None is h = cc
 answered_by s a (Some r) is h = record { made = r; found = is }
 
-heard_by_goes : (s : Kept) (a : AnswerMessage) (r : Register) (b : Bool) → register a.number s.registers ≡ Some r → is_newer r.answer a.answer_version ≡ b
+answer_taken_by_goes : (s : Kept) (a : AnswerMessage) (r : Register) (b : Bool) → register a.number s.registers ≡ Some r → is_newer r.answer a.answer_version ≡ b
     → Goes s (noted (SawAck (record { number = a.number; version = a.version; how = WithAnswer a.answer_version }) ∷ (if b then seen_live a ∷ [] else [])) s)
-heard_by_goes s a r true found is = live_new s a.number a.answer_version a.version ((record { number = a.number; answer_version = a.answer_version; version = a.version; response = a.response; how = Live; who = a.who; rule = 0 })) r refl refl found is
-heard_by_goes s a r false found is = live_old s a.number a.answer_version a.version r found is
+answer_taken_by_goes s a r true found is = live_new s a.number a.answer_version a.version ((record { number = a.number; answer_version = a.answer_version; version = a.version; response = a.response; how = Live; who = a.who; rule = 0 })) r refl refl found is
+answer_taken_by_goes s a r false found is = live_old s a.number a.answer_version a.version r found is
 
-pub heard_goes : (s : Kept) (a : AnswerMessage) (r : Register) → register a.number s.registers ≡ Some r → Goes s (noted (heard_rows s a) s)
+pub heard_goes : (s : Kept) (a : AnswerMessage) (r : Register) → register a.number s.registers ≡ Some r → Goes s (noted (live_answer_rows s a) s)
 heard_goes s a r found =
     let P : Option Register → Type 0 = λ o. Goes s (noted (SawAck (record { number = a.number; version = a.version; how = WithAnswer a.answer_version }) ∷ (if is_new_to a o then seen_live a ∷ [] else [])) s) in
-    subst P (sym found) (heard_by_goes s a r (is_newer r.answer a.answer_version) found refl)
+    subst P (sym found) (answer_taken_by_goes s a r (is_newer r.answer a.answer_version) found refl)
 
 answered_goes : (s : Kept) (id : ℕ) (a : AnswerMessage) (o : Option Flight) → flight_of id s ≡ o → Goes s (answered_flight s id a o).service
 answered_goes s id a None is = goes_same s
@@ -181,7 +181,7 @@ answered_goes s id a (Some f) is = elim (cases_Bool (is_for s a f)) [
   | inl does ↦ rw does (
       let parts = and_parts (nat_eq (awaited f) a.number) (answers_register a (register a.number s.registers)) does in
       let r = answered_by s a (register a.number s.registers) refl parts.1 in
-      let t = noted (heard_rows s a) s in
+      let t = noted (live_answer_rows s a) s in
       goes_then s t (goes_on t f).service (heard_goes s a r.made r.found)
       (goes_then t (flying t f) (goes_on t f).service (flies_known t id f is) (goes_on_goes t f)))
   | inr isnt ↦ rw isnt (goes_same s)
@@ -222,7 +222,7 @@ goes_without s f =
           let gone = delete_all s.registers f.numbers f.calls (book s) (around s.entries w.lows w.highs) room (same_versions s.registers f.numbers) (fitting_at s f w h) in
           let end = (entered rows (book s)).registers in
           let fs = without_flight f.id s.flights in
-          let P : List Flight → Type 0 = λ gs. FitsPlaces end (map place_of_entry s.entries ++ map place_of_flight gs) in
+          let P : List Flight → Type 0 = λ gs. FitsPlaces end (map calls_of_entry s.entries ++ map calls_of_flight gs) in
           let F : List Flight → Type 0 = λ gs. Flies s.journal gs in
           let old = subst F (w.put f refl) (flies_from s.journal (with_flight f s.flights) h.flights) in
           noted_calls (flying s f) s.entries fs s.replies rows room

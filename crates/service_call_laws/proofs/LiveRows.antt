@@ -6,16 +6,9 @@ use Rattle.lang_core.specs.declared.ids.Origin.TheVariants.{Outside, Call}
 use Rattle.lang_core.specs.declared.request.Request.{Request}
 use Rattle.journal_rows.specs.declared.row.Row.{Row}
 use Rattle.journal_rows.specs.declared.row.Row.TheVariants.{Answered, Sent}
+use Rattle.service_events.specs.Commits.{is_live_row, live_rows}
 use Rattle.service_events.specs.Flying.{took_rows}
 use Rattle.service_call_laws.proofs.RowLemmas.{Each, IsSending}
-
--- it answers a live request
-abbrev pub is_live_row : Row → Bool
-is_live_row (Answered a) = a.live
-is_live_row row = false
-
-abbrev pub live_rows : List Row → List Row
-live_rows journal = filter is_live_row journal
 
 -- it answers none
 abbrev pub IsSilent : Row → Type 0

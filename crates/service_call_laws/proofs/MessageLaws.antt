@@ -1,4 +1,4 @@
--- Events of repair messages keep what fits of calls: a version is taken, an answer is heard, something comes back of a post.
+-- Events of repair messages keep what fits of calls: a version is taken, an answer is taken, something comes back of a post.
 use Rattle.std.proofs.Common.{◌≡◌, ℕ, ◌+◌, ◌≤◌, Bool, true, false, not, ◌&&◌, List, [], ◌∷◌, ◌++◌, Option, Some, None, Ok, Err, IsSome, max, map, length, insert, nat_eq, is_some, refl, sym, ap, ◌∙◌, subst, inl, inr, arith, eqb-true, if◌then◌else◌, append-nil}
 use Rattle.std.proofs.lemmas.Bool.{cases_Bool, and_parts}
 use Rattle.std.proofs.lemmas.List.Sums.{fold_push}
@@ -16,7 +16,8 @@ use Rattle.repair_messages.specs.declared.posts.Post.{Post}
 use Rattle.repair_messages.specs.declared.posts.Post.TheVariants.{Set, Answer}
 use Rattle.journal_rows.specs.Words.{sent_step, last_sent, last_seen, seen_version, claimed, comes_from}
 use Rattle.journal_rows.specs.declared.callee.TookRow.{TookRow}
-use Rattle.journal_rows.specs.declared.caller.How.TheVariants.{Message}
+use Rattle.journal_rows.specs.declared.callee.TookHow.TheVariants.{Message}
+use Rattle.journal_rows.specs.declared.caller.SawHow.TheVariants.{Message as SeenMessage}
 use Rattle.journal_rows.specs.declared.caller.SawAnswerRow.{SawAnswerRow}
 use Rattle.journal_rows.specs.declared.row.Row.{Row}
 use Rattle.journal_rows.specs.declared.row.Row.TheVariants.{Asked, Ordered}
@@ -27,15 +28,15 @@ use Rattle.call_registers.specs.Replies.{reply, at_entry, with_taken, made_due}
 use Rattle.flights.specs.declared.flight.Flight.{Flight}
 use Rattle.service_events.specs.State.{Kept, after, me, next_id, is_in_flight, same_call_origin}
 use Rattle.service_events.specs.Calls.{noted}
-use Rattle.service_events.specs.Messages.{rule, origin_of, is_known, is_too_much, acked_row, took_row, at_reply_of, acked_again, created_entry, created_reply, created_place, at_version, taken_by, take_admitted, take_event, confirmed_row, seen_row, heard, heard_where, take_answer_event, had_call, is_ack_of, replies_to, had, is_now, hold_of, held_back, held_where, saw_ack_row, was_confirmed_row, confirmed_reply, posted, posted_event}
+use Rattle.service_events.specs.Messages.{rule, origin_of, is_known, is_too_much, acked_row, took_row, at_reply_of, acked_again, created_entry, created_reply, created_place, at_version, taken_by, take_admitted, take_event, confirmed_row, seen_row, heard, answer_taken_where, take_answer_event, had_call, is_ack_of, replies_to, had, is_now, hold_of, held_back, held_where, saw_ack_row, was_confirmed_row, confirmed_reply, posted, posted_event}
 use Rattle.service_events.specs.declared.answers.PostReply.{PostReply}
-use Rattle.service_events.specs.declared.answers.PostReply.TheVariants.{Acked as WasAcked, Confirmed as WasHeard, Refused, Lost}
+use Rattle.service_events.specs.declared.answers.PostReply.TheVariants.{Acked as WasAcked, Confirmed as WasConfirmedBack, Refused, Lost}
 use Rattle.service_events.specs.declared.refusals.AnswerRefused.TheVariants.{Unknown}
 use Rattle.service_events.specs.declared.refusals.TakeRefused.TheVariants.{NotYet}
-use Rattle.service_events.specs.Fits.{OrdersOn, Fits, place_of_flight}
+use Rattle.service_events.specs.Fits.{OrdersOn, Fits, calls_of_flight}
 use Rattle.service_call_laws.proofs.RowLemmas.{Each, kind_follows, IsPlain, IsUnseen, IsUnordered}
 use Rattle.service_call_laws.proofs.FlightLemmas.{LeavesOrigin, same_flips, any_none, flies_rows, flies_took}
-use Rattle.service_call_laws.proofs.HeardLemmas.{goes_heard, never, seen_by, known, older_by, as_new_by, claims_below}
+use Rattle.service_call_laws.proofs.HeardLemmas.{goes_heard, false_is_not_true, seen_by, known, older_by, as_new_by, claims_below}
 use Rattle.service_call_laws.proofs.CallLaws.{FitsCalls, Goes, goes_same, goes_then, IsMinor, register_calls}
 use Rattle.service_call_laws.proofs.EntryPlaces.{found_stands, places_insert, places_with}
 use Rattle.service_call_laws.proofs.PlainLaws.{goes_entries, goes_plain}
@@ -75,7 +76,7 @@ taken_goes s set i (Some e) d distinct apart found =
     let ps = at_entry e.id (λ p. made_due (length s.journal + 1) (with_taken set.version (is_some set.desired) p)) s.replies in
     let t = record s { entries = es; replies = ps } in
     goes_then s t (taken_by s set i (Some e) d)
-    (goes_entries s es ps (places_with s.registers s.entries e (at_version set e) (map place_of_flight s.flights)
+    (goes_entries s es ps (places_with s.registers s.entries e (at_version set e) (map calls_of_flight s.flights)
     (found_stands (has_origin set.caller set.number) s.entries e found) refl refl distinct))
     (goes_took t set (took_row set ∷ (acked_row set ∷ [])) apart (tt, (tt, tt)) (tt, (tt, tt)) (tt, (tt, tt)) (λ g h. (took_leaves set g h, (tt, tt))))
 taken_goes s set i None (Some q) distinct apart found =
@@ -83,7 +84,7 @@ taken_goes s set i None (Some q) distinct apart found =
     let ps = s.replies ++ created_reply s set ∷ [] in
     let t = record s { entries = es; replies = ps } in
     goes_then s t (taken_by s set i None (Some q))
-    (goes_entries s es ps (places_insert s.registers s.entries (created_place s set) (created_entry s set q i) (map place_of_flight s.flights) refl))
+    (goes_entries s es ps (places_insert s.registers s.entries (created_place s set) (created_entry s set q i) (map calls_of_flight s.flights) refl))
     (goes_took t set (took_row set ∷ (Asked (record { id = next_id s; origin = origin_of set; request = q; inputs = i }) ∷ (acked_row set ∷ []))) apart
     (tt, (tt, (tt, tt))) (tt, (tt, (tt, tt))) (tt, (tt, (tt, tt))) (λ g h. (took_leaves set g h, (tt, (tt, tt)))))
 taken_goes s set i None None distinct apart found =
@@ -121,7 +122,7 @@ heard_row a =
       answer_version = a.answer_version;
       version = a.version;
       response = a.response;
-      how = Message;
+      how = SeenMessage;
       who = a.who;
       rule = rule;
     }
@@ -136,7 +137,7 @@ heard_new s a r found new =
     ((k.sent, older_by r.answer v (last_seen n s.journal) k.answer new), (subst IsSome (sym (fold_push (sent_step n) None s.journal (seen_row a))) k.sent, tt))))
     (λ f m. elim (cases_Bool (nat_eq n m)) [
       | inl is ↦ (let R : ℕ → Type 0 = λ j. max (claimed j s.journal) v ≤ v in rw is ((λ told. refl), subst R (eqb-true n m is) (above f)))
-      | inr differs ↦ rw differs ((λ told. absurd (never told)), f.seen.heard m)
+      | inr differs ↦ rw differs ((λ told. absurd (false_is_not_true told)), f.seen.heard m)
     ])
   where
     above : FitsCalls s → max (claimed a.number s.journal) a.answer_version ≤ a.answer_version
@@ -156,7 +157,7 @@ heard_old s a r found old =
           let S : ℕ → Type 0 = λ j. IsSome (last_seen j s.journal) in
           let some = seen_by r.answer v (last_seen n s.journal) (known s n r found f).answer old in
           rw is ((λ told. subst S (eqb-true n m is) some), subst R (eqb-true n m is) (above f)))
-      | inr differs ↦ rw differs ((λ told. absurd (never told)), f.seen.heard m)
+      | inr differs ↦ rw differs ((λ told. absurd (false_is_not_true told)), f.seen.heard m)
     ])
   where
     above : FitsCalls s → max (claimed a.number s.journal) a.answer_version ≤ seen_version (last_seen a.number s.journal)
@@ -165,22 +166,22 @@ heard_old s a r found old =
         let most = as_new_by r.answer a.answer_version (last_seen a.number s.journal) k.answer old in
         let heard = f.seen.heard a.number in omega (arith, most, heard)
 
-heard_by_cases : (s : Kept) (a : AnswerMessage) (r : Register) (same new : Bool) → register a.number s.registers ≡ Some r → is_newer r.answer a.answer_version ≡ new
+answer_taken_by_cases : (s : Kept) (a : AnswerMessage) (r : Register) (same new : Bool) → register a.number s.registers ≡ Some r → is_newer r.answer a.answer_version ≡ new
     → Goes s
     (if not same then after s (Err (Unknown a.number))
     else (if new
     then after (noted (seen_row a ∷ (confirmed_row a ∷ [])) s) (Ok (heard a (Some rule)))
     else after (noted (confirmed_row a ∷ []) s) (Ok (heard a None)))).service
-heard_by_cases s a r false new found is = goes_same s
-heard_by_cases s a r true true found is = heard_new s a r found is
-heard_by_cases s a r true false found is = heard_old s a r found is
+answer_taken_by_cases s a r false new found is = goes_same s
+answer_taken_by_cases s a r true true found is = heard_new s a r found is
+answer_taken_by_cases s a r true false found is = heard_old s a r found is
 
-heard_where_goes : (s : Kept) (a : AnswerMessage) (o : Option Register) → register a.number s.registers ≡ o → Goes s (heard_where s a o).service
-heard_where_goes s a None is = goes_same s
-heard_where_goes s a (Some r) is = heard_by_cases s a r (same_text r.dest a.callee) (is_newer r.answer a.answer_version) is refl
+answer_taken_where_goes : (s : Kept) (a : AnswerMessage) (o : Option Register) → register a.number s.registers ≡ o → Goes s (answer_taken_where s a o).service
+answer_taken_where_goes s a None is = goes_same s
+answer_taken_where_goes s a (Some r) is = answer_taken_by_cases s a r (same_text r.dest a.callee) (is_newer r.answer a.answer_version) is refl
 
 pub take_answer_goes : (s : Kept) (a : AnswerMessage) → Goes s (take_answer_event s a).service
-take_answer_goes s a = heard_where_goes s a (register a.number s.registers) refl
+take_answer_goes s a = answer_taken_where_goes s a (register a.number s.registers) refl
 
 -- ---- what comes back of a post
 
@@ -212,8 +213,8 @@ acked_goes s (Set set) ack have reply =
     let parts = and_parts (same_text set.caller (me s)) (had_call set (register set.number s.registers)) have in
     (subst S (sym (number_of set ack reply)) (call_sent s set (register set.number s.registers) refl parts.1 f), tt)))
     (λ f m. elim (cases_Bool (nat_eq ack.number m)) [
-      | inl is ↦ rw is ((λ told. absurd (never told)), f.seen.heard m)
-      | inr differs ↦ rw differs ((λ told. absurd (never told)), f.seen.heard m)
+      | inl is ↦ rw is ((λ told. absurd (false_is_not_true told)), f.seen.heard m)
+      | inr differs ↦ rw differs ((λ told. absurd (false_is_not_true told)), f.seen.heard m)
     ])
   where
     number_by : (a b c d : Bool) → (a && b && c && d) ≡ true → c ≡ true
@@ -229,7 +230,7 @@ acked_goes s (Set set) ack have reply =
 
 posted_goes : (s : Kept) (post : Post) (answer : PostReply) → had s post ≡ true → replies_to post answer ≡ true → Goes s (posted s post answer).service
 posted_goes s post (WasAcked ack) have reply = acked_goes s post ack have reply
-posted_goes s post (WasHeard c) have reply =
+posted_goes s post (WasConfirmedBack c) have reply =
     let ps = confirmed_reply s post c.answer_version in
     let t = record s { replies = ps } in
     goes_then s t (noted (was_confirmed_row c ∷ []) t) (goes_entries s s.entries ps (λ h. h))

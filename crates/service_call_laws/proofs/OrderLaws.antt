@@ -2,7 +2,7 @@
 use Rattle.std.proofs.Common.{◌≡◌, ℕ, true, false, List, [], ◌∷◌, ◌++◌, Option, Some, None, map, insert, refl, sym, subst, inl, inr, if◌then◌else◌, append-nil}
 use Rattle.std.proofs.lemmas.Bool.{cases_Bool}
 use Rattle.lang_core.specs.declared.inputs.Inputs.{Inputs}
-use Rattle.request_log.specs.Entries.{has_id}
+use Rattle.request_log.specs.Entries.{has_id, changed, mark, replace}
 use Rattle.request_log.specs.declared.entry.Entry.{Entry}
 use Rattle.create_placement.specs.Placement.{place_between, created}
 use Rattle.repair_messages.specs.declared.posts.PostName.{PostName}
@@ -17,9 +17,9 @@ use Rattle.call_registers.specs.Registers.{released}
 use Rattle.service_events.specs.State.{Kept, next_id}
 use Rattle.service_events.specs.Calls.{noted}
 use Rattle.service_events.specs.Messages.{rule}
-use Rattle.service_events.specs.Orders.{refused, about, original, repaired, at_id, struck_as, asking, asked_rows, order_rows, released_post, carried_out, order_by, order_where, order_event}
+use Rattle.service_events.specs.Orders.{refused, about, original, repaired, asked_rows, order_rows, released_post, carried_out, order_by, order_where, order_event}
 use Rattle.service_events.specs.declared.refusals.OrderRefused.{OrderRefused}
-use Rattle.service_events.specs.Fits.{EachAfter, OrdersOn, place_of_entry, place_of_flight}
+use Rattle.service_events.specs.Fits.{EachAfter, OrdersOn, calls_of_entry, calls_of_flight}
 use Rattle.service_call_laws.proofs.RowLemmas.{Each, IsPlain, IsUnseen, IsUntaken}
 use Rattle.service_call_laws.proofs.FlightLemmas.{flies_rows}
 use Rattle.service_call_laws.proofs.CallLaws.{Goes, goes_same, goes_then, IsMinor, register_calls}
@@ -29,13 +29,13 @@ use Rattle.service_call_laws.proofs.PlainLaws.{goes_entries, goes_plain}
 -- ---- what an order does, but for its rows
 
 -- entries change, but none's calls
-goes_at_id : (s : Kept) (id : ℕ) (f : Entry → Entry) → ((e : Entry) → place_of_entry (f e) ≡ place_of_entry e)
-    → Goes s (record s { entries = at_id id f s.entries })
+goes_at_id : (s : Kept) (id : ℕ) (f : Entry → Entry) → ((e : Entry) → calls_of_entry (f e) ≡ calls_of_entry e)
+    → Goes s (record s { entries = changed id f s.entries })
 goes_at_id s id f same =
-    goes_entries s (at_id id f s.entries) s.replies
-    (places_map s.registers s.entries (λ e. if has_id id e then f e else e) (map place_of_flight s.flights) one)
+    goes_entries s (changed id f s.entries) s.replies
+    (places_map s.registers s.entries (λ e. if has_id id e then f e else e) (map calls_of_flight s.flights) one)
   where
-    one : (e : Entry) → place_of_entry (if has_id id e then f e else e) ≡ place_of_entry e
+    one : (e : Entry) → calls_of_entry (if has_id id e then f e else e) ≡ calls_of_entry e
     one e = elim (cases_Bool (has_id id e)) [
       | inl is ↦ rw is (same e)
       | inr isnt ↦ rw isnt refl
@@ -49,12 +49,12 @@ goes_released s who (OfCall n) = record { grows = record { rows = []; is = sym (
 goes_released s who (OfReply id) = goes_entries s s.entries (released_post who (OfReply id) s).replies (λ h. h)
 
 goes_carried_out : (s : Kept) (command : Command) (who : List ℕ) (i : Inputs) → Goes s (carried_out s command who i)
-goes_carried_out s (Cancel id) who i = goes_at_id s id (struck_as true) (λ e. refl)
-goes_carried_out s (Restore id) who i = goes_at_id s id (struck_as false) (λ e. refl)
-goes_carried_out s (Replace id method path body) who i = goes_at_id s id (asking method path body) (λ e. refl)
+goes_carried_out s (Cancel id) who i = goes_at_id s id (mark true) (λ e. refl)
+goes_carried_out s (Restore id) who i = goes_at_id s id (mark false) (λ e. refl)
+goes_carried_out s (Replace id method path body) who i = goes_at_id s id (replace method path body) (λ e. refl)
 goes_carried_out s (Create before after q) who i =
     goes_entries s (insert s.entries (place_between before after s.entries) (created (next_id s) q i)) s.replies
-    (places_insert s.registers s.entries (place_between before after s.entries) (created (next_id s) q i) (map place_of_flight s.flights) refl)
+    (places_insert s.registers s.entries (place_between before after s.entries) (created (next_id s) q i) (map calls_of_flight s.flights) refl)
 goes_carried_out s (Retry name) who i = goes_released s who name
 
 -- the journal isn't changed before the rows come

@@ -5,7 +5,7 @@ use Rattle.journal_rows.specs.declared.row.Row.{Row}
 use Rattle.call_registers.specs.declared.reply.Reply.{Reply}
 use Rattle.service_events.specs.State.{Kept}
 use Rattle.service_events.specs.Calls.{noted}
-use Rattle.service_events.specs.Fits.{EachAfter, OrdersOn, FitsPlaces, places, place_of_entry, place_of_flight}
+use Rattle.service_events.specs.Fits.{EachAfter, OrdersOn, FitsPlaces, places, calls_of_entry, calls_of_flight}
 use Rattle.service_call_laws.proofs.RowLemmas.{Each, EachAfter-append, IsUnseen, IsPlain}
 use Rattle.service_call_laws.proofs.SeenLemmas.{seen_unseen}
 use Rattle.service_call_laws.proofs.FittingLemmas.{fitting_plain, plain_follow}
@@ -14,7 +14,7 @@ use Rattle.service_call_laws.proofs.CallLaws.{Goes, book}
 
 -- the entries and the replies are others, with the same places
 pub goes_entries : (s : Kept) (es : List Entry) (ps : List Reply)
-    → (FitsPlaces s.registers (places s) → FitsPlaces s.registers (map place_of_entry es ++ map place_of_flight s.flights))
+    → (FitsPlaces s.registers (places s) → FitsPlaces s.registers (map calls_of_entry es ++ map calls_of_flight s.flights))
     → Goes s (record s { entries = es; replies = ps })
 goes_entries s es ps same = record {
   grows = record { rows = []; is = sym (append-nil s.journal); setting = refl };

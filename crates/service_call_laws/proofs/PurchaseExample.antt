@@ -17,7 +17,8 @@ use Rattle.request_log.specs.declared.entry.Made.{Made}
 use Rattle.repair_messages.specs.declared.messages.AnswerMessage.{AnswerMessage}
 use Rattle.repair_messages.specs.declared.messages.SetMessage.{SetMessage}
 use Rattle.journal_rows.specs.declared.caller.AckHow.TheVariants.{WithAnswer}
-use Rattle.journal_rows.specs.declared.caller.How.TheVariants.{Live, Message}
+use Rattle.journal_rows.specs.declared.callee.TookHow.TheVariants.{Live, Message}
+use Rattle.journal_rows.specs.declared.caller.SawHow.TheVariants.{Live as SawLive}
 use Rattle.journal_rows.specs.declared.orders.About.TheVariants.{Request as AboutRequest}
 use Rattle.journal_rows.specs.declared.orders.Command.TheVariants.{Cancel}
 use Rattle.journal_rows.specs.declared.row.Row.{Row}
@@ -30,7 +31,7 @@ use Rattle.flights.specs.declared.flight.Flight.{Flight}
 use Rattle.service_events.specs.State.{Kept}
 use Rattle.service_events.specs.Calls.{noted}
 use Rattle.service_events.specs.Flying.{moved, committed}
-use Rattle.service_events.specs.Arriving.{new_flight, heard_rows}
+use Rattle.service_events.specs.Arriving.{new_flight, live_answer_rows}
 use Rattle.service_events.specs.Orders.{order_rows, carried_out}
 use Rattle.service_events.specs.Steps.{stepped}
 use Rattle.service_events.specs.Messages.{taken_by, saw_ack_row}
@@ -88,7 +89,7 @@ module _ (setting : Setting) (buy pay : Request) (i : Inputs) (read : List Read)
   abbrev pub seen : List Row
   seen =
       SawAck (record { number = 1; version = 1; how = WithAnswer 1 })
-      ∷ (SawAnswer (record { number = 1; answer_version = 1; version = 1; response = ok; how = Live; who = bank_name; rule = 0 }) ∷ [])
+      ∷ (SawAnswer (record { number = 1; answer_version = 1; version = 1; response = ok; how = SawLive; who = bank_name; rule = 0 }) ∷ [])
 
   abbrev pub held : Option Answer
   held = Some (record { answer_version = 1; version = 1; response = ok })
@@ -96,7 +97,7 @@ module _ (setting : Setting) (buy pay : Request) (i : Inputs) (read : List Read)
   abbrev pub answered : Kept
   answered = record named { journal = sent ∷ seen; registers = register 1 (Some pay) 1 held 0 ∷ [] }
 
-  heard : noted (heard_rows named answer) named ≡ answered
+  heard : noted (live_answer_rows named answer) named ≡ answered
   heard = refl
 
   -- the next run ends, and the flight is the first entry

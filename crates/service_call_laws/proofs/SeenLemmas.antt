@@ -12,7 +12,7 @@ use Rattle.call_registers.specs.Registers.{register, at_number, with_ack, with_a
 use Rattle.call_registers.specs.declared.register.Answer.{Answer}
 use Rattle.call_registers.specs.declared.register.Register.{Register}
 use Rattle.service_events.specs.Calls.{seen_answer, after_row, after_rows}
-use Rattle.service_events.specs.Fits.{EachAfter, SendsOn, FitsSent, sent_by, SeesOn, answer_of, HasSeen, tells_heard, FitsSeen}
+use Rattle.service_events.specs.Fits.{EachAfter, SendsOn, FitsSent, sent_by, SeesOn, HasSeen, tells_of_answer, FitsSeen}
 use Rattle.service_call_laws.proofs.RowLemmas.{Each, EachAfter-append, go_on, kind_follows, word_same, IsUnseen}
 use Rattle.service_call_laws.proofs.RegisterLemmas.{find-change}
 use Rattle.service_call_laws.proofs.SentLemmas.{acked_in, answer_in, Put, put, fits_row, ack_aside, answer_aside}
@@ -54,27 +54,27 @@ is_unheard j may = go_on SeesOn IsUnheard
 -- rows and registers, without what was claimed
 pub record Sees (journal : List Row) (kept : List Register) : Type 0 where
   pub rows : EachAfter SeesOn [] journal
-  pub registers : (number : ℕ) → IfSome (register number kept) (HasSeen (seen_acked number journal) (option_map answer_of (last_seen number journal)))
+  pub registers : (number : ℕ) → IfSome (register number kept) (HasSeen (seen_acked number journal) (option_map seen_answer (last_seen number journal)))
 
 abbrev HasNow : List Row → ℕ → Option Register → Type 0
-HasNow journal n o = IfSome o (HasSeen (seen_acked n journal) (option_map answer_of (last_seen n journal)))
+HasNow journal n o = IfSome o (HasSeen (seen_acked n journal) (option_map seen_answer (last_seen n journal)))
 
 -- the words of a number after one row more
 abbrev HasThen : List Row → Row → ℕ → Option Register → Type 0
-HasThen journal row n o = IfSome o (HasSeen (ack_step n (seen_acked n journal) row) (option_map answer_of (seen_step n (last_seen n journal) row)))
+HasThen journal row n o = IfSome o (HasSeen (ack_step n (seen_acked n journal) row) (option_map seen_answer (seen_step n (last_seen n journal) row)))
 
 pushed : (journal : List Row) (row : Row) (n : ℕ) (o : Option Register) → HasThen journal row n o → HasNow (journal ++ row ∷ []) n o
 pushed journal row n o h = rw (fold_push (ack_step n) 0 journal row, fold_push (seen_step n) None journal row) h
 
 record Starts (journal : List Row) (n : ℕ) (o : Option Register) : Type 0 where
   pub acked : acked_in o ≡ seen_acked n journal
-  pub answer : answer_in o ≡ option_map answer_of (last_seen n journal)
+  pub answer : answer_in o ≡ option_map seen_answer (last_seen n journal)
 
 starts : (journal : List Row) (now : List Register) (n : ℕ) (o : Option Register) → FitsSent journal now → Sees journal now → register n now ≡ o
     → HasNow journal n o → Starts journal n o
 starts journal now n None f h is has =
     let unheard = is_unheard journal h.rows n (sym (f.registers n) ∙ ap (option_map sent_by) is) in
-    record { acked = sym unheard.0; answer = sym (ap (option_map answer_of) unheard.1) }
+    record { acked = sym unheard.0; answer = sym (ap (option_map seen_answer) unheard.1) }
 starts journal now n (Some r) f h is has = record { acked = has.acked; answer = has.answer }
 
 sent_one : (journal : List Row) (b : Bool) (made : Register) (n : ℕ) (o : Option Register) → (b ≡ true → HasNow journal n (Some made)) → HasNow journal n o
@@ -89,18 +89,18 @@ ack_one false None v greatest last h = tt
 ack_one true (Some r) v greatest last h = record { acked = ap (λ k. max k v) h.acked; answer = h.answer }
 ack_one false (Some r) v greatest last h = h
 
-newer_than : (o : Option Answer) (v : ℕ) (last : Option SawAnswerRow) → o ≡ option_map answer_of last → IfSome last (λ l. l.answer_version < v) → is_newer o v ≡ true
+newer_than : (o : Option Answer) (v : ℕ) (last : Option SawAnswerRow) → o ≡ option_map seen_answer last → IfSome last (λ l. l.answer_version < v) → is_newer o v ≡ true
 newer_than None v last e h = refl
 newer_than (Some x) v None e h = cc
-newer_than (Some x) v (Some l) e h = (let same : x ≡ answer_of l = some_answer x (answer_of l) e in
+newer_than (Some x) v (Some l) e h = (let same : x ≡ seen_answer l = some_answer x (seen_answer l) e in
     let version : x.answer_version ≡ l.answer_version = ap (λ (y : Answer). y.answer_version) same in lt-ltb x.answer_version v (omega (arith, version, h)))
   where
     some_answer : (x y : Answer) → Some x ≡ Some y → x ≡ y
     some_answer x y e = cc
 
 answer_one : (b : Bool) (o : Option Register) (a : SawAnswerRow) (greatest : ℕ) (last : Option SawAnswerRow)
-    → (b ≡ true → IfSome last (λ l. l.answer_version < a.answer_version)) → IfSome o (HasSeen greatest (option_map answer_of last))
-    → IfSome (cond b (option_map (with_answer (seen_answer a)) o) o) (HasSeen greatest (option_map answer_of (cond b (Some a) last)))
+    → (b ≡ true → IfSome last (λ l. l.answer_version < a.answer_version)) → IfSome o (HasSeen greatest (option_map seen_answer last))
+    → IfSome (cond b (option_map (with_answer (seen_answer a)) o) o) (HasSeen greatest (option_map seen_answer (cond b (Some a) last)))
 answer_one true None a greatest last newer h = tt
 answer_one false None a greatest last newer h = tt
 answer_one true (Some r) a greatest last newer h =
@@ -131,7 +131,7 @@ sees_row journal now (SawAck a) few may sees f h = record {
   registers = λ n. (let P : Option Register → Type 0 = λ o. HasThen journal (SawAck a) n o in
       pushed journal (SawAck a) n (register n (at_number a.number (with_ack a.version) now))
       (subst P (sym (find-change a.number n (with_ack a.version) (ack_aside a.version).number now))
-      (ack_one (nat_eq a.number n) (register n now) a.version (seen_acked n journal) (option_map answer_of (last_seen n journal)) (h.registers n))));
+      (ack_one (nat_eq a.number n) (register n now) a.version (seen_acked n journal) (option_map seen_answer (last_seen n journal)) (h.registers n))));
 }
 sees_row journal now (SawAnswer a) few may sees f h = record {
   rows = EachAfter-append SeesOn journal (SawAnswer a ∷ []) [] h.rows (sees, tt);
@@ -177,7 +177,7 @@ unseen_answers : (n : ℕ) (last : Option SawAnswerRow) (row : Row) → IsUnseen
 unseen_answers n last (SawAnswer a) h = absurd h
 unseen_answers n last row h = refl
 
--- ---- what tells that an answer was heard
+-- ---- what tells that an answer was seen
 
 pub any_parts : (p : Row → Bool) (xs ys : List Row) → list_any p (xs ++ ys) ≡ true → (list_any p xs ≡ true) ⊎ (list_any p ys ≡ true)
 any_parts p [] ys h = inr h
@@ -202,19 +202,19 @@ seen_stays n [] last h = h
 seen_stays n (row ∷ rows) last h = seen_stays n rows (seen_step n last row) (seen_one n last row h)
 
 -- where rows come that tell of no answer but of one that was seen
-pub answered_more : (journal rows : List Row) (n : ℕ) → (list_any (tells_heard n) journal ≡ true → IsSome (last_seen n journal))
-    → (list_any (tells_heard n) rows ≡ true → IsSome (fold (seen_step n) (last_seen n journal) rows))
-    → list_any (tells_heard n) (journal ++ rows) ≡ true → IsSome (last_seen n (journal ++ rows))
-answered_more journal rows n before later told = rw (fold-append (seen_step n) None journal rows) (elim (any_parts (tells_heard n) journal rows told) [
+pub answered_more : (journal rows : List Row) (n : ℕ) → (list_any (tells_of_answer n) journal ≡ true → IsSome (last_seen n journal))
+    → (list_any (tells_of_answer n) rows ≡ true → IsSome (fold (seen_step n) (last_seen n journal) rows))
+    → list_any (tells_of_answer n) (journal ++ rows) ≡ true → IsSome (last_seen n (journal ++ rows))
+answered_more journal rows n before later told = rw (fold-append (seen_step n) None journal rows) (elim (any_parts (tells_of_answer n) journal rows told) [
   | inl early ↦ seen_stays n rows (last_seen n journal) (before early)
   | inr late ↦ later late
 ])
 
-unseen_silent : (n : ℕ) (rows : List Row) → Each IsUnseen rows → list_any (tells_heard n) rows ≡ true → ⊥
+unseen_silent : (n : ℕ) (rows : List Row) → Each IsUnseen rows → list_any (tells_of_answer n) rows ≡ true → ⊥
 unseen_silent n [] h told = cc
-unseen_silent n (row ∷ rows) h told = unseen_silent n rows h.1 (one_silent n row (list_any (tells_heard n) rows) h.0 told)
+unseen_silent n (row ∷ rows) h told = unseen_silent n rows h.1 (one_silent n row (list_any (tells_of_answer n) rows) h.0 told)
   where
-    one_silent : (n : ℕ) (row : Row) (b : Bool) → IsUnseen row → (tells_heard n row || b) ≡ true → b ≡ true
+    one_silent : (n : ℕ) (row : Row) (b : Bool) → IsUnseen row → (tells_of_answer n row || b) ≡ true → b ≡ true
     one_silent n (SawAck a) b h t = absurd h
     one_silent n (SawAnswer a) b h t = absurd h
     one_silent n (Confirmed c) b h t = absurd h
@@ -248,7 +248,7 @@ pub seen_aside : (journal : List Row) (now : List Register) (n : ℕ) (f : Regis
 seen_aside journal now n f number same h = record {
   rows = h.rows;
   registers = λ m. (let P : Option Register → Type 0 = λ o. HasNow journal m o in
-      subst P (sym (find-change n m f number now)) (aside_seen (nat_eq n m) f (register m now) (seen_acked m journal) (option_map answer_of (last_seen m journal)) same (h.registers m)));
+      subst P (sym (find-change n m f number now)) (aside_seen (nat_eq n m) f (register m now) (seen_acked m journal) (option_map seen_answer (last_seen m journal)) same (h.registers m)));
   answered = h.answered;
   heard = h.heard;
 }

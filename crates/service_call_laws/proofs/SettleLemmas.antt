@@ -10,30 +10,30 @@ use Rattle.lang_core.specs.contracts.trace.CallMade as call_made
 use Rattle.lang_core.specs.declared.trace.CallMade.{CallMade}
 use Rattle.local_repair.specs.Steps.{same_call, tentative, answer_or_tentative, answers_for}
 use Rattle.journal_rows.specs.declared.row.Row.{Row}
-use Rattle.call_registers.specs.Registers.{register, next_number, consumed_in}
+use Rattle.call_registers.specs.Registers.{register, next_number, consumed_in, IsTimely}
 use Rattle.call_registers.specs.declared.register.Register.{Register}
 use Rattle.service_events.specs.Calls.{named as named_row, replaced, deleted, version_of, all_deleted, slot_rows, slot_number, next_after, settling_rows, settling_numbers, keeps_number}
-use Rattle.service_events.specs.Fits.{count, Place, wanted_call, WantsItsCalls, FitsPlaces}
+use Rattle.service_events.specs.Fits.{count, NumberedCalls, wanted_call, WantsItsCalls, FitsPlaces}
 use Rattle.service_call_laws.proofs.RowLemmas.{Each, each_of_all}
 use Rattle.service_call_laws.proofs.RegisterLemmas.{flip_false, next_none, found_within}
 use Rattle.service_call_laws.proofs.PlaceLemmas.{one_if, place, no_place, not_counted, count_self, rearrange, swapped, with_none, without_none, parted, joined}
-use Rattle.service_call_laws.proofs.FittingLemmas.{Book, entered, entered-append, HasRoom, room_first, room_then, Fitting, fitting_then, fitting_nil, name_call, delete_call, replace_call, next_unwanted, answered, IsTimely, wanted_at}
+use Rattle.service_call_laws.proofs.FittingLemmas.{Book, entered, entered-append, HasRoom, room_first, room_then, Fitting, fitting_then, fitting_nil, name_call, delete_call, replace_call, next_unwanted, answered, wanted_at}
 
 -- ---- fitting, by the places alone
 
-pub fitting_by : (b : Book) (xs ys : List Place) → (FitsPlaces b.registers xs → FitsPlaces b.registers ys) → Fitting b xs → Fitting b ys
+pub fitting_by : (b : Book) (xs ys : List NumberedCalls) → (FitsPlaces b.registers xs → FitsPlaces b.registers ys) → Fitting b xs → Fitting b ys
 fitting_by b xs ys step f = record { sent = f.sent; places = step f.places }
 
-pub fitting_swap : (b : Book) (p q : Place) (ps : List Place) → Fitting b (p ∷ (q ∷ ps)) → Fitting b (q ∷ (p ∷ ps))
+pub fitting_swap : (b : Book) (p q : NumberedCalls) (ps : List NumberedCalls) → Fitting b (p ∷ (q ∷ ps)) → Fitting b (q ∷ (p ∷ ps))
 fitting_swap b p q ps f = fitting_by b (p ∷ (q ∷ ps)) (q ∷ (p ∷ ps)) (rearrange b.registers (p ∷ (q ∷ ps)) (q ∷ (p ∷ ps)) (swapped p q ps)) f
 
 -- the first slot apart from the others
-pub fitting_first : (b : Book) (n : ℕ) (ns : List ℕ) (o : CallMade) (os : List CallMade) (ps : List Place) → Fitting b (place (n ∷ ns) (o ∷ os) ∷ ps)
+pub fitting_first : (b : Book) (n : ℕ) (ns : List ℕ) (o : CallMade) (os : List CallMade) (ps : List NumberedCalls) → Fitting b (place (n ∷ ns) (o ∷ os) ∷ ps)
     → Fitting b (place (n ∷ []) (o ∷ []) ∷ (place ns os ∷ ps))
 fitting_first b n ns o os ps f =
     fitting_by b (place (n ∷ ns) (o ∷ os) ∷ ps) (place (n ∷ []) (o ∷ []) ∷ (place ns os ∷ ps)) (parted b.registers (n ∷ []) ns (o ∷ []) os ps refl) f
 
-pub fitting_join : (b : Book) (ns ms : List ℕ) (cs ds : List CallMade) (ps : List Place) → Fitting b (place ns cs ∷ (place ms ds ∷ ps))
+pub fitting_join : (b : Book) (ns ms : List ℕ) (cs ds : List CallMade) (ps : List NumberedCalls) → Fitting b (place ns cs ∷ (place ms ds ∷ ps))
     → Fitting b (place (ns ++ ms) (cs ++ ds) ∷ ps)
 fitting_join b ns ms cs ds ps f =
     fitting_by b (place ns cs ∷ (place ms ds ∷ ps)) (place (ns ++ ms) (cs ++ ds) ∷ ps) (joined b.registers ns ms cs ds ps) f
@@ -58,7 +58,7 @@ versions_kept before now end n next same (m ∷ ms) a b h = (
 
 -- ---- calls that are to have no effect
 
-rest_versions : (b : Book) (before : List Register) (n : ℕ) (o : CallMade) (ns : List ℕ) (os : List CallMade) (ps : List Place) (end : List Register)
+rest_versions : (b : Book) (before : List Register) (n : ℕ) (o : CallMade) (ns : List ℕ) (os : List CallMade) (ps : List NumberedCalls) (end : List Register)
     → ((m : ℕ) → nat_eq n m ≡ false → register m end ≡ register m b.registers)
     → Fitting b (place (n ∷ []) (o ∷ []) ∷ (place ns os ∷ ps)) → SameVersions before b.registers ns → SameVersions before end ns
 rest_versions b before n o ns os ps end others f same =
@@ -73,7 +73,7 @@ rest_versions b before n o ns os ps end others f same =
     one_most (Some c) = omega arith
 
 -- what the deletion of all calls of a place leaves: their registers alone change
-pub record Deleted (b : Book) (rows : List Row) (ns : List ℕ) (ps : List Place) : Type 0 where
+pub record Deleted (b : Book) (rows : List Row) (ns : List ℕ) (ps : List NumberedCalls) : Type 0 where
   pub fits : Fitting (entered rows b) ps
   pub others : (m : ℕ) → count m ns ≡ 0 → register m (entered rows b).registers ≡ register m b.registers
   pub timely : IsTimely b.registers → IsTimely (entered rows b).registers
@@ -84,7 +84,7 @@ count_parts n m ns h = elim (cases_Bool (nat_eq n m)) [
   | inr differs ↦ (let more : count m (n ∷ ns) ≡ 0 + count m ns = rw differs refl in (differs, omega (arith, more, h)))
 ]
 
-pub delete_all : (before : List Register) (ns : List ℕ) (os : List CallMade) (b : Book) (ps : List Place) → HasRoom b (all_deleted before ns os)
+pub delete_all : (before : List Register) (ns : List ℕ) (os : List CallMade) (b : Book) (ps : List NumberedCalls) → HasRoom b (all_deleted before ns os)
     → SameVersions before b.registers ns → Fitting b (place ns os ∷ ps) → Deleted b (all_deleted before ns os) ns ps
 delete_all before [] [] b ps few same f =
     record { fits = fitting_nil b ps (fitting_by b (no_place ∷ ps) ps (without_none b.registers ps) f); others = λ m none. refl; timely = λ timely. timely }
@@ -108,14 +108,14 @@ delete_all before (n ∷ ns) (o ∷ os) b ps few same f =
 
 -- ---- one slot
 
-record Slotted (b : Book) (rows : List Row) (n next number : ℕ) (c : CallMade) (later : ℕ) (ps : List Place) (gives : Response) : Type 0 where
+record Slotted (b : Book) (rows : List Row) (n next number : ℕ) (c : CallMade) (later : ℕ) (ps : List NumberedCalls) (gives : Response) : Type 0 where
   pub fits : Fitting (entered rows b) (place (number ∷ []) (c ∷ []) ∷ ps)
   pub others : (m : ℕ) → nat_eq n m ≡ false → nat_eq next m ≡ false → register m (entered rows b).registers ≡ register m b.registers
   pub follows : later ≡ next_number (entered rows b).registers
   pub consumes : IsTimely b.registers → answered (entered rows b).registers number ≡ gives
   pub timely : IsTimely b.registers → IsTimely (entered rows b).registers
 
-module _ (before : List Register) (b : Book) (n next : ℕ) (o c : CallMade) (ps : List Place) (same : version_of before n ≡ version_of b.registers n)
+module _ (before : List Register) (b : Book) (n next : ℕ) (o c : CallMade) (ps : List NumberedCalls) (same : version_of before n ≡ version_of b.registers n)
     (is : next ≡ next_number b.registers) (f : Fitting b (place (n ∷ []) (o ∷ []) ∷ ps)) where
   kept_slot : o ≡ c → Slotted b [] n next n c next ps (answered b.registers n)
   kept_slot e = record {
@@ -171,7 +171,7 @@ module _ (before : List Register) (b : Book) (n next : ℕ) (o c : CallMade) (ps
 -- ---- all slots
 
 -- what settling leaves: the registers of the old numbers and of new ones change, and no other
-pub record Settled (b : Book) (rows : List Row) (ns ks : List ℕ) (os cs : List CallMade) (ps : List Place) : Type 0 where
+pub record Settled (b : Book) (rows : List Row) (ns ks : List ℕ) (os cs : List CallMade) (ps : List NumberedCalls) : Type 0 where
   pub fits : Fitting (entered rows b) (place ks cs ∷ ps)
   pub others : (m : ℕ) → count m ns ≡ 0 → m ≤ length b.registers → register m (entered rows b).registers ≡ register m b.registers
   pub consumes : IsTimely b.registers → map (answered (entered rows b).registers) ks ≡ answers_for (answered b.registers) os ns cs
@@ -203,7 +203,7 @@ next_rises next o c = by_test (keeps_number o c)
     by_test true = omega arith
     by_test false = omega arith
 
-pub settle_all : (before : List Register) (ns : List ℕ) (os cs : List CallMade) (b : Book) (next : ℕ) (ps : List Place)
+pub settle_all : (before : List Register) (ns : List ℕ) (os cs : List CallMade) (b : Book) (next : ℕ) (ps : List NumberedCalls)
     → HasRoom b (settling_rows before next ns os cs) → next ≡ next_number b.registers → SameVersions before b.registers ns → Fitting b (place ns os ∷ ps)
     → Settled b (settling_rows before next ns os cs) ns (settling_numbers next ns os cs) os cs ps
 settle_all before [] (o ∷ os) cs b next ps few is same f = (let w = (each_of_all (WantsItsCalls b.registers) (place [] (o ∷ os) ∷ ps) f.places.calls).0 in cc)

@@ -10,12 +10,12 @@ use Rattle.local_repair.specs.Steps.{calls_of_made, is_new_answer, remade, raise
 use Rattle.local_repair.specs.Tests.{is_current}
 use Rattle.journal_rows.specs.declared.row.Row.{Row}
 use Rattle.journal_rows.specs.declared.row.Row.TheVariants.{Answered}
-use Rattle.call_registers.specs.Registers.{next_number, consumed_in}
-use Rattle.service_events.specs.State.{Kept, answers}
+use Rattle.call_registers.specs.Registers.{next_number, consumed_in, IsTimely}
+use Rattle.service_events.specs.State.{Kept, answers, base}
 use Rattle.service_events.specs.Steps.{new_record, new_numbers, sent_rows, answer_rows, answered_replies, stepped, Stale, stale_in, step_by, step_event}
-use Rattle.service_events.specs.Fits.{Fits, FitsPlaces, place_of_entry, place_of_flight, count}
+use Rattle.service_events.specs.Fits.{Fits, FitsPlaces, calls_of_entry, calls_of_flight, count}
 use Rattle.service_call_laws.proofs.RowLemmas.{Each, each_append, each_weaker, IsSending, IsUnseen, IsUntaken, IsUnordered, IsPlain, sending_unseen, sending_untaken, sending_unordered}
-use Rattle.service_call_laws.proofs.FittingLemmas.{entered, HasRoom, room_first, room_then, Fitting, fitting_then, fitting_plain, Book, entered-append, plain_rows, answered, IsTimely}
+use Rattle.service_call_laws.proofs.FittingLemmas.{entered, HasRoom, room_first, room_then, Fitting, fitting_then, fitting_plain, Book, entered-append, plain_rows, answered}
 use Rattle.service_call_laws.proofs.SettleLemmas.{same_versions, settle_all, Settled}
 use Rattle.service_call_laws.proofs.FlightLemmas.{flies_from, flies_fit, flies_rows}
 use Rattle.service_call_laws.proofs.KindLemmas.{sends_settled}
@@ -67,18 +67,18 @@ goes_stepped s e m st distinct =
       keeps = λ few h. (
           let sum = length-append s.journal rows in
           let room : HasRoom (book s) rows = record { counts = omega (arith, few, sum) } in
-          let fs = map place_of_flight s.flights in
+          let fs = map calls_of_flight s.flights in
           let away = others st.before st.rest fs in
-          let E : List Entry → Type 0 = λ xs. FitsPlaces s.registers (map place_of_entry xs ++ fs) in
-          let at : Fitting (book s) (place_of_entry e ∷ away) = record { sent = h.sent; places = entry_to_head s.registers st.before e st.rest fs (subst E st.is h.places) } in
+          let E : List Entry → Type 0 = λ xs. FitsPlaces s.registers (map calls_of_entry xs ++ fs) in
+          let at : Fitting (book s) (calls_of_entry e ∷ away) = record { sent = h.sent; places = entry_to_head s.registers st.before e st.rest fs (subst E st.is h.places) } in
           let settled = settle_all s.registers e.slots (calls_of_made e.made) m.trace.calls (book s) (next_number s.registers) away
           (room_first (book s) first last room) refl (same_versions s.registers e.slots) at in
-          let whole = fitting_then first last (book s) (place_of_entry new ∷ away)
-          (fitting_plain last (entered first (book s)) (place_of_entry new ∷ away) (room_then (book s) first last room) (answer_plain e m b) settled.fits) in
+          let whole = fitting_then first last (book s) (calls_of_entry new ∷ away)
+          (fitting_plain last (entered first (book s)) (calls_of_entry new ∷ away) (room_then (book s) first last room) (answer_plain e m b) settled.fits) in
           let end = (entered rows (book s)).registers in
           let D : List Entry → Type 0 = λ xs. IsDistinct xs in
           let is : es ≡ st.before ++ new ∷ st.rest = ap (with_entry new) st.is ∙ with_entry_at st.before e new st.rest refl (subst D st.is distinct) in
-          let P : List Entry → Type 0 = λ xs. FitsPlaces end (map place_of_entry xs ++ fs) in
+          let P : List Entry → Type 0 = λ xs. FitsPlaces end (map calls_of_entry xs ++ fs) in
           noted_calls s es s.flights (answered_replies s e m) rows room
           (each_append IsUnseen first last (each_weaker IsSending IsUnseen sending_unseen first sends) (plain_unseen e m b))
           (each_append IsUnordered first last (each_weaker IsSending IsUnordered sending_unordered first sends) (plain_unordered e m b)) h
@@ -88,13 +88,13 @@ goes_stepped s e m st distinct =
           (flies_from s.journal s.flights h.flights))));
     }
 
-goes_step_by : (s : Kept) (x : Option Stale) → stale_in (answers s) [] s.entries ≡ x → IsDistinct s.entries → Goes s (step_by s x).service
+goes_step_by : (s : Kept) (x : Option Stale) → stale_in (answers s) (base s) s.entries ≡ x → IsDistinct s.entries → Goes s (step_by s x).service
 goes_step_by s None is distinct = goes_same s
 goes_step_by s (Some x) is distinct =
     goes_stepped s x.entry (new_record s x.rows x.entry) (stale_stands (answers s) [] s.entries x is) distinct
 
 pub step_goes : (s : Kept) → Fits s → Goes s (step_event s).service
-step_goes s f = goes_step_by s (stale_in (answers s) [] s.entries) refl f.asked.distinct
+step_goes s f = goes_step_by s (stale_in (answers s) (base s) s.entries) refl f.asked.distinct
 
 -- ---- what calls consume after a step
 
@@ -111,10 +111,10 @@ module _ (s : Kept) (e : Entry) (m : Made) (st : Stands s.entries e) (h : FitsCa
   step_room : HasRoom (book s) (first ++ last)
   step_room = record { counts = (let sum = length-append s.journal (first ++ last) in omega (arith, few, sum)) }
 
-  step_settles : Settled (book s) first e.slots (new_numbers s e m) (calls_of_made e.made) m.trace.calls (others st.before st.rest (map place_of_flight s.flights))
+  step_settles : Settled (book s) first e.slots (new_numbers s e m) (calls_of_made e.made) m.trace.calls (others st.before st.rest (map calls_of_flight s.flights))
   step_settles =
-      let fs = map place_of_flight s.flights in
-      let E : List Entry → Type 0 = λ xs. FitsPlaces s.registers (map place_of_entry xs ++ fs) in
+      let fs = map calls_of_flight s.flights in
+      let E : List Entry → Type 0 = λ xs. FitsPlaces s.registers (map calls_of_entry xs ++ fs) in
       settle_all s.registers e.slots (calls_of_made e.made) m.trace.calls (book s) (next_number s.registers) (others st.before st.rest fs)
       (room_first (book s) first last step_room) refl (same_versions s.registers e.slots)
       (record { sent = h.sent; places = entry_to_head s.registers st.before e st.rest fs (subst E st.is h.places) })

@@ -1,9 +1,12 @@
 -- A service at its start.
 use Rattle.std.proofs.Common.{◌≡◌, ◌≤◌, List, [], length, sym, ap, subst, arith}
+use Rattle.std.proofs.lemmas.List.Elements.{All-nil}
 use Rattle.flights.specs.declared.flight.Flight.{Flight}
 use Rattle.service_events.specs.State.{fresh}
 use Rattle.service_events.specs.Fits.{Fits}
 use Rattle.service_events.proofs.StartLaw.{fits_start}
+use Rattle.service_laws.proofs.AgeLaws.{AgesOf}
+use Rattle.service_laws.proofs.AgeLemmas.{IsAged, IsMarked}
 use Rattle.service_parts.specs.Parts.{kept}
 use Rattle.service_parts.specs.Rooms.{aloft}
 use Rattle.service_parts.specs.Services.{IsService}
@@ -15,9 +18,12 @@ new_service p entries flights journal registers replies =
     let same : kept p ≡ fresh p.setting = cc in
     let entered : length p.repairer.entries ≡ 0 = ap length entries in
     let flying : length p.flights.list ≡ 0 = ap length flights in
+    let counted : length p.journal.rows ≡ 0 = ap length journal in
     let least : 0 ≤ p.journal.spare = omega arith in
     record {
       fits = subst Fits (sym same) (fits_start p.setting);
+      counted = omega (arith, counted);
+      ages = subst AgesOf (sym same) (record { calls = All-nil (IsAged []); replies = All-nil (IsMarked []) });
       few = omega (arith, entered, flying);
       room = (let R : List Flight → Type 0 = λ fs. aloft fs ≤ p.journal.spare in subst R (sym flights) least);
     }

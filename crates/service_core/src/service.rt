@@ -1,16 +1,22 @@
 // A service, and its events.
-ghost use Rattle.std.specs.Prelude.{◌≡◌, [], IfOk, MatchOption, Ok, Some, IfSome, IsSome};
-ghost use Rattle.local_repair.specs.Current.{AllCurrent, rows_of};
+ghost use Rattle.std.specs.Prelude.{◌≡◌, IfOk, MatchOption, Ok, OnOk, Some, IfSome, IsSome, IsSomeAnd};
+ghost use Rattle.call_registers.specs.Registers.{IsTimely};
+ghost use Rattle.local_repair.specs.Current.{AllCurrent, rows_after};
 ghost use Rattle.local_repair.specs.Repairs.{IsStaleId};
-ghost use Rattle.service_events.specs.State.{after, answers, fresh};
+ghost use Rattle.service_events.specs.State.{after, answers, fresh, base};
 ghost use Rattle.service_events.specs.Arriving.{abandon_event, arrive_event, call_answered_event, call_failed_event};
+ghost use Rattle.service_events.specs.Ages.{GoesFirst, HasAges};
+ghost use Rattle.service_events.specs.Commits.{live_rows, Commits, CommitsFlight};
 ghost use Rattle.service_events.specs.Fits.{Fits};
-ghost use Rattle.service_core.specs.Readings.{awaited_by, first_stale};
+ghost use Rattle.service_events.specs.Progress.{Counts, GoesFurther, IsLocalStep};
+ghost use Rattle.service_core.specs.Failures.{IsFailure};
+ghost use Rattle.service_core.specs.Readings.{awaited_by, first_stale, AreReplayed, IsReplayedBefore};
 ghost use Rattle.service_events.specs.Doing.{answer_memory, arrive_memory, call_memory, order_memory, post_memory, take_memory, Does};
 ghost use Rattle.journal_rows.specs.Words.{ordered};
 ghost use Rattle.service_events.specs.Messages.{take_event, take_answer_event, posted_event};
 ghost use Rattle.service_events.specs.Orders.{order_event};
 ghost use Rattle.service_events.specs.Posts.{next_post, write_post};
+ghost use Rattle.service_posts.specs.Goes.{GoesTo};
 ghost use Rattle.service_repairs.specs.Answers.{answered_by, Steps};
 
 use crate::stale::first_stale;
@@ -85,10 +91,11 @@ impl Service {
         self.parts.repairer.log()
     }
 
-    /// Its journal, which all that it keeps fits.
+    /// Its journal, which all that it keeps fits, and which tells since when each call and reply waits.
     pub fn journal(&self) -> &Rows
         ensures rows { result.now.rows ≡ self.now.journal }
         ensures fits { Fits self.now }
+        ensures ages { HasAges self.now.journal self.now.registers self.now.replies }
     {
         &self.parts.journal
     }
@@ -116,7 +123,7 @@ impl Service {
 
     /// The rows at the end of the log.
     pub fn rows(&self, alloc: Global) -> Result<Cells, NoMemory>
-        ensures { IfOk result (λ rows. rows ≡ rows_of self.now.entries) }
+        ensures { IfOk result (λ rows. rows ≡ rows_after (base self.now) self.now.entries) }
     {
         self.parts.repairer.rows(alloc)
     }
@@ -129,19 +136,21 @@ impl Service {
         Some(waiting.awaited())
     }
 
-    /// The number of the first stale entry; None exactly where no entry is stale.
+    /// The number of the first stale entry; None exactly where no entry is stale. The entries before it, or all where none is
+    /// stale, are the replay of their requests from empty rows on.
     pub fn first_stale(&self) -> Option<u64>
         ensures first { MatchOption result
-            (AllCurrent (answers self.now) [] self.now.entries)
-            (λ id. IsStaleId (answers self.now) self.now.entries id) }
+            (AllCurrent (answers self.now) (base self.now) self.now.entries)
+            (λ id. IsStaleId (answers self.now) (base self.now) self.now.entries id) }
         ensures test { result ≡ first_stale self.now }
+        ensures replay { MatchOption result (AreReplayed self.now self.now.entries) (λ id. IsReplayedBefore self.now id) }
     {
         first_stale(&self.parts)
     }
 
     /// A live request arrives. It runs, and is committed or waits for a call; or it is a call that has an entry. It is
     /// refused where it is a call in flight, one that was deleted or one whose entry never ran, and where there is too
-    /// much.
+    /// much. What is committed is this request, under the number and the index that are told.
     pub fn arrive(
         &mut self,
         alloc: Global,
@@ -149,26 +158,29 @@ impl Service {
         request: Request,
         inputs: Inputs,
     ) -> Result<Arrived, ArriveRefused>
-        ensures { Does arrive_memory (arrive_event self.old origin request inputs) self.old result self.new }
+        ensures does { Does arrive_memory (arrive_event self.old origin request inputs) self.old result self.new }
+        ensures commits { Commits origin request inputs self.old result self.new }
     {
         arrive(alloc, &mut self.parts, origin, request, inputs)
     }
 
-    /// The call for which a flight waits was answered: the flight goes on. It is refused where the flight isn't there, or
-    /// waits for another call or another version of it.
+    /// The call for which a flight waits was answered: the flight goes on, and where it is committed it is with the request
+    /// and the inputs with which it arrived. It is refused where the flight isn't there, or waits for another call or another
+    /// version of it.
     pub fn call_answered(
         &mut self,
         alloc: Global,
         flight: u64,
-        answer: AnswerMessage,
+        answer: &AnswerMessage,
     ) -> Result<Arrived, CallRefused>
-        ensures { Does call_memory (call_answered_event self.old flight answer) self.old result self.new }
+        ensures does { Does call_memory (call_answered_event self.old flight answer.now) self.old result self.new }
+        ensures commits { CommitsFlight flight self.old result self.new }
     {
-        call_answered(alloc, &mut self.parts, flight, &answer)
+        call_answered(alloc, &mut self.parts, flight, answer)
     }
 
-    /// The call of this number, for which a flight waits, got no answer: the flight goes on without one. It is refused
-    /// where the flight isn't there or waits for another call.
+    /// The call of this number, for which a flight waits, got no answer, as its exchange was lost or refused: the flight goes
+    /// on without one. It is refused where the flight isn't there or waits for another call.
     pub fn call_failed(
         &mut self,
         alloc: Global,
@@ -176,7 +188,9 @@ impl Service {
         number: u64,
         why: Why,
     ) -> Result<Arrived, CallRefused>
-        ensures { Does call_memory (call_failed_event self.old flight number why) self.old result self.new }
+        requires { IsFailure why }
+        ensures does { Does call_memory (call_failed_event self.old flight number why) self.old result self.new }
+        ensures commits { CommitsFlight flight self.old result self.new }
     {
         call_failed(alloc, &mut self.parts, flight, number, why)
     }
@@ -184,16 +198,22 @@ impl Service {
     /// The flight of this number is gone, and its calls are to have no effect; false exactly where there is none, and then
     /// nothing changes. It takes no memory: room for its rows was made when its calls were named.
     pub fn abandon(&mut self, flight: u64) -> bool
-        ensures { after self.new result ≡ abandon_event self.old flight }
+        ensures does { after self.new result ≡ abandon_event self.old flight }
+        ensures silent { live_rows self.new.journal ≡ live_rows self.old.journal }
     {
         abandon(&mut self.parts, flight)
     }
 
     /// Runs the first stale entry again, if there is one, and settles its calls. Where none is stale the answer is Idle, which
-    /// takes no memory.
+    /// takes no memory. Where no answer is held for a later version of a call than its register's, the next stale entry stands
+    /// later: as many steps as there are entries, with no event between, leave none stale.
     pub fn repair_step(&mut self, alloc: Global) -> Result<Stepped, NoMemory>
         ensures steps { Steps self.old result self.new }
-        ensures free { AllCurrent (answers self.old) [] self.old.entries → result ≡ Ok Stepped.Idle }
+        ensures free { AllCurrent (answers self.old) (base self.old) self.old.entries → result ≡ Ok Stepped.Idle }
+        ensures local { IfOk result (λ stepped. IsLocalStep self.old stepped self.new) }
+        ensures once { IfOk result (λ stepped. Counts self.old stepped self.new) }
+        ensures further { OnOk result (IsTimely self.old.registers → GoesFurther self.old self.new) }
+        ensures silent { live_rows self.new.journal ≡ live_rows self.old.journal }
     {
         repair_step(alloc, &mut self.parts)
     }
@@ -211,6 +231,7 @@ impl Service {
     ) -> Result<Ordered, OrderRefused>
         ensures does { Does order_memory (order_event self.old command token who inputs) self.old result self.new }
         ensures repeated { IfSome (answered_by (ordered token self.old.journal)) (λ answer. result ≡ Ok answer) }
+        ensures silent { live_rows self.new.journal ≡ live_rows self.old.journal }
     {
         order(alloc, &mut self.parts, command, token, who, inputs)
     }
@@ -221,12 +242,13 @@ impl Service {
     pub fn take(
         &mut self,
         alloc: Global,
-        set: SetMessage,
+        set: &SetMessage,
         inputs: Inputs,
     ) -> Result<Taken, TakeRefused>
-        ensures { Does take_memory (take_event self.old set inputs) self.old result self.new }
+        ensures does { Does take_memory (take_event self.old set.now inputs) self.old result self.new }
+        ensures silent { live_rows self.new.journal ≡ live_rows self.old.journal }
     {
-        take(alloc, &mut self.parts, &set, inputs)
+        take(alloc, &mut self.parts, set, inputs)
     }
 
     /// An answer to one of its calls came by a message. It is confirmed, and kept where it is newer than the answer that is
@@ -234,9 +256,10 @@ impl Service {
     pub fn take_answer(
         &mut self,
         alloc: Global,
-        answer: AnswerMessage,
+        answer: &AnswerMessage,
     ) -> Result<Heard, AnswerRefused>
-        ensures { Does answer_memory (take_answer_event self.old answer) self.old result self.new }
+        ensures does { Does answer_memory (take_answer_event self.old answer.now) self.old result self.new }
+        ensures silent { live_rows self.new.journal ≡ live_rows self.old.journal }
     {
         take_answer(alloc, &mut self.parts, answer)
     }
@@ -250,16 +273,19 @@ impl Service {
         post: &Post,
         reply: PostReply,
     ) -> Result<Posted, PostRefused>
-        ensures { Does post_memory (posted_event self.old post.now reply) self.old result self.new }
+        ensures does { Does post_memory (posted_event self.old post.now reply) self.old result self.new }
+        ensures silent { live_rows self.new.journal ≡ live_rows self.old.journal }
     {
         posted(alloc, &mut self.parts, post, reply)
     }
 
-    /// The post that goes to another service next: the oldest that is outstanding; None exactly where none is. It has a
-    /// message.
+    /// The post that goes to another service next: the oldest that is outstanding; None exactly where none is. It is the one
+    /// that waits since the earliest row of the journal: a call since its last version was sent, a reply since it was last
+    /// marked. It has a message, which goes there.
     pub fn next_post(&self, dest: &Name) -> Option<PostName>
         ensures next { result ≡ next_post dest.now self.now }
-        ensures written { IfSome result (λ name. IsSome (write_post self.now name)) }
+        ensures first { IfSome result (λ name. GoesFirst dest.now self.now name) }
+        ensures goes { IfSome result (λ name. IsSomeAnd (write_post self.now name) (GoesTo dest.now)) }
     {
         next_post(&self.parts, dest)
     }

@@ -1,8 +1,8 @@
 // The first stale entry.
-ghost use Rattle.std.specs.Prelude.{◌≡◌, [], MatchOption};
+ghost use Rattle.std.specs.Prelude.{◌≡◌, MatchOption};
 ghost use Rattle.local_repair.specs.Current.{AllCurrent};
 ghost use Rattle.local_repair.specs.Repairs.{IsStaleId};
-ghost use Rattle.service_events.specs.State.{answers};
+ghost use Rattle.service_events.specs.State.{answers, base};
 ghost use Rattle.service_parts.specs.Parts.{kept};
 ghost use Rattle.service_core.specs.Readings.{first_stale};
 
@@ -52,8 +52,8 @@ impl Slots for Held<'_> {
 /// The number of the first stale entry; None exactly where no entry is stale.
 pub(crate) fn first_stale(parts: &Parts) -> Option<u64>
     ensures first { MatchOption result
-        (AllCurrent (answers (kept parts.now)) [] parts.now.repairer.entries)
-        (λ id. IsStaleId (answers (kept parts.now)) parts.now.repairer.entries id) }
+        (AllCurrent (answers (kept parts.now)) (base (kept parts.now)) parts.now.repairer.entries)
+        (λ id. IsStaleId (answers (kept parts.now)) (base (kept parts.now)) parts.now.repairer.entries id) }
     ensures test { result ≡ first_stale (kept parts.now) }
 {
     let held = Held {

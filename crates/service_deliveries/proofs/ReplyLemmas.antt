@@ -3,7 +3,7 @@ use Rattle.std.proofs.Common.{◌≡◌, ap, refl, sym, ℕ, ◌∙◌, Bool, tr
 use Rattle.std.specs.Option.{option_copied}
 use Rattle.call_registers.specs.Replies.{has_entry, reply, at_entry, made_due, with_taken}
 use Rattle.call_registers.specs.declared.reply.Reply.{Reply}
-use Rattle.service_repairs.proofs.BookLemmas.{unchanged}
+use Rattle.service_parts.proofs.ReplyLemmas.{unchanged}
 
 copied_some : (found : Option (Bor Reply)) → is_some found ≡ is_some (option_copied found)
 copied_some None = refl

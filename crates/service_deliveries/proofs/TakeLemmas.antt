@@ -23,11 +23,12 @@ use Rattle.service_entry_laws.proofs.PartLemmas.{logged}
 use Rattle.service_entry_laws.proofs.ReplyLemmas.{above_all}
 use Rattle.service_entry_laws.proofs.SearchLemmas.{some_and}
 use Rattle.service_laws.proofs.FitLaws.{take_fits}
+use Rattle.service_laws.proofs.MessageAges.{take_ages}
 use Rattle.service_laws.proofs.MessageBounds.{take_bounded}
 use Rattle.service_parts.specs.Parts.{kept}
 use Rattle.service_parts.specs.Services.{HasRoom, IsService}
 use Rattle.service_parts.specs.declared.parts.Parts.{Parts}
-use Rattle.service_repairs.specs.Ordering.{TellNoCall}
+use Rattle.service_parts.specs.Drafts.{TellNoCall}
 use Rattle.service_laws.proofs.ServiceLaws.{next_service, same_service}
 use Rattle.service_deliveries.specs.TakeChanges.{changed_by, left_by, refused, CanChange, CanCreate, Leaves}
 use Rattle.service_deliveries.specs.declared.take_changes.Taking.{Taking}
@@ -121,5 +122,5 @@ pub take_service : (p p' : Parts) (set : SetMessage) (i : Inputs) (result : Resu
     → OnOk result (length p'.journal.rows < 2 ^ 64) → HasRoom p' → IsService p'
 take_service p p' set i (Ok answer) h is err few room =
     next_service p' (take_event (kept p) set i).service (ap (λ (a : After (Result Taken TakeRefused)). a.service) is)
-    (λ counts. take_fits (kept p) set i h.fits counts) (take_bounded (kept p) set i h.few) few room
+    (λ counts. take_fits (kept p) set i h.fits counts) (λ counts. take_ages (kept p) set i h.fits counts h.ages) (take_bounded (kept p) set i h.few) few room
 take_service p p' set i (Err why) h is err few room = same_service p p' err room h

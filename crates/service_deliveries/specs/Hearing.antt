@@ -8,9 +8,9 @@ use Rattle.call_registers.specs.declared.register.Register.{Register}
 use Rattle.service_events.specs.Messages.{rule, seen_row, confirmed_row}
 
 -- whether it is new to its register; None where no call to that service has its number
-abbrev pub hears : AnswerMessage → Option Register → Option Bool
-hears a None = None
-hears a (Some r) = if same_text r.dest a.callee then Some (is_newer r.answer a.answer_version) else None
+abbrev pub answer_is_new : AnswerMessage → Option Register → Option Bool
+answer_is_new a None = None
+answer_is_new a (Some r) = if same_text r.dest a.callee then Some (is_newer r.answer a.answer_version) else None
 
 -- one that is new is noted as seen, and each is noted as confirmed
 abbrev pub message_rows : AnswerMessage → Bool → List Row

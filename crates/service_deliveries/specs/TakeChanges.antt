@@ -12,9 +12,9 @@ use Rattle.service_events.specs.Messages.{is_too_much, origin_of}
 use Rattle.service_events.specs.declared.answers.Taken.{Taken}
 use Rattle.service_events.specs.declared.refusals.TakeRefused.{TakeRefused}
 use Rattle.service_events.specs.declared.refusals.TakeRefused.TheVariants.{Full, NotYet}
-use Rattle.service_repairs.specs.Ordering.{TellNoCall}
-use Rattle.service_deliveries.specs.declared.take_changes.Change.{Change}
-use Rattle.service_deliveries.specs.declared.take_changes.Change.TheVariants.{Nothing, Due, Amend, Create}
+use Rattle.service_parts.specs.Drafts.{TellNoCall}
+use Rattle.service_deliveries.specs.declared.take_changes.TakeChange.{TakeChange}
+use Rattle.service_deliveries.specs.declared.take_changes.TakeChange.TheVariants.{Nothing, Due, Amend, Create}
 use Rattle.service_deliveries.specs.declared.take_changes.Taking.{Taking}
 
 -- why it isn't taken, but for want of memory
@@ -22,7 +22,7 @@ abbrev pub refused : Kept → SetMessage → Option TakeRefused
 refused s set =
     if is_in_flight (origin_of set) s then Some (NotYet set.number) else option_map (λ much. Full much) (is_too_much s set)
 
-abbrev pub changed_by : Kept → Change → Kept
+abbrev pub changed_by : Kept → TakeChange → Kept
 changed_by s Nothing = s
 changed_by s (Due id since) = record s { replies = at_entry id (made_due since) s.replies }
 changed_by s (Amend entry since) =
@@ -39,7 +39,7 @@ pub record CanCreate (s : Kept) (at : ℕ) (entry : Entry) (reply : Reply) : Typ
   pub is_new : IsNew entry s.entries
   pub above : IsAboveAll reply.id s.replies
 
-abbrev pub CanChange : Kept → Change → Type 0
+abbrev pub CanChange : Kept → TakeChange → Type 0
 CanChange s Nothing = Unit {0}
 CanChange s (Due id since) = Unit {0}
 CanChange s (Amend entry since) = IsAmended entry s.entries

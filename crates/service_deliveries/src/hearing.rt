@@ -6,23 +6,20 @@ ghost use Rattle.service_events.specs.Doing.{Does, answer_memory};
 ghost use Rattle.service_events.specs.Messages.{confirmed_row, heard, seen_row, take_answer_event};
 ghost use Rattle.service_parts.specs.Parts.{kept};
 ghost use Rattle.service_parts.specs.Services.{HasRoom, IsService};
-ghost use Rattle.service_deliveries.specs.Hearing.{hears, message_rows, rule_if};
+ghost use Rattle.service_deliveries.specs.Hearing.{answer_is_new, message_rows, rule_if};
 
 use crate::noting::note_at_once;
 use call_registers::is_newer;
-use journal_rows::{ConfirmedRow, How, Row, SawAnswerRow};
+use journal_rows::{ConfirmedRow, Row, SawAnswerRow, SawHow};
 use lang_core::{NoMemory, Same};
 use repair_messages::{AnswerMessage, Confirm, copied_pair};
 use service_events::{AnswerRefused, Heard};
-use service_parts::Parts;
+use service_parts::{Parts, RULE};
 use std::alloc::Global;
 
-// Every answer is allowed, by this rule.
-const RULE: u32 = 1;
-
 // Whether the answer is new; None where no call to that service has its number.
-fn hears(parts: &Parts, answer: &AnswerMessage) -> Option<bool>
-    ensures { result ≡ hears answer.now (register answer.now.number parts.now.registers.list) }
+fn answer_is_new(parts: &Parts, answer: &AnswerMessage) -> Option<bool>
+    ensures { result ≡ answer_is_new answer.now (register answer.now.number parts.now.registers.list) }
 {
     let register = parts.registers.get(answer.number)?;
     if register.dest.is(&answer.callee) {
@@ -43,7 +40,7 @@ fn seen(alloc: Global, answer: &AnswerMessage) -> Result<Row, NoMemory>
         answer_version: answer.answer_version,
         version: answer.version,
         response,
-        how: How::Message,
+        how: SawHow::Message,
         who,
         rule: RULE,
     }))
@@ -98,31 +95,37 @@ fn rule_if(new: bool) -> Option<u32>
     if new { Some(RULE) } else { None }
 }
 
-fn heard(answer: AnswerMessage, new: bool) -> Heard
-    ensures { result ≡ heard answer (rule_if new) }
+fn heard(alloc: Global, answer: &AnswerMessage, new: bool) -> Result<Heard, NoMemory>
+    ensures { IfOk result (λ h. h ≡ heard answer.now (rule_if new)) }
 {
+    let (caller, callee) = copied_pair(alloc, &answer.caller, &answer.callee)?;
     let confirm = Confirm {
-        caller: answer.caller,
-        callee: answer.callee,
+        caller,
+        callee,
         number: answer.number,
         answer_version: answer.answer_version,
     };
-    Heard {
+    Ok(Heard {
         confirm,
         rule: rule_if(new),
-    }
+    })
 }
 
-fn hear(alloc: Global, parts: &mut Parts, answer: AnswerMessage) -> Result<Heard, AnswerRefused>
+fn confirm_answer(
+    alloc: Global,
+    parts: &mut Parts,
+    answer: &AnswerMessage,
+) -> Result<Heard, AnswerRefused>
     requires { HasRoom parts.old }
-    ensures does { Does answer_memory (take_answer_event (kept parts.old) answer) (kept parts.old) result (kept parts.new) }
+    ensures does { Does answer_memory (take_answer_event (kept parts.old) answer.now) (kept parts.old) result (kept parts.new) }
     ensures room { HasRoom parts.new }
 {
-    match hears(parts, &answer) {
+    match answer_is_new(parts, answer) {
         None => Err(AnswerRefused::Unknown(answer.number)),
         Some(new) => {
-            note_answer(alloc, parts, &answer, new)?;
-            Ok(heard(answer, new))
+            let heard = heard(alloc, answer, new)?;
+            note_answer(alloc, parts, answer, new)?;
+            Ok(heard)
         }
     }
 }
@@ -131,13 +134,13 @@ fn hear(alloc: Global, parts: &mut Parts, answer: AnswerMessage) -> Result<Heard
 pub fn take_answer(
     alloc: Global,
     parts: &mut Parts,
-    answer: AnswerMessage,
+    answer: &AnswerMessage,
 ) -> Result<Heard, AnswerRefused>
     requires { IsService parts.old }
-    ensures does { Does answer_memory (take_answer_event (kept parts.old) answer) (kept parts.old) result (kept parts.new) }
+    ensures does { Does answer_memory (take_answer_event (kept parts.old) answer.now) (kept parts.old) result (kept parts.new) }
     ensures service { IsService parts.new }
 {
-    let heard = hear(alloc, parts, answer);
+    let heard = confirm_answer(alloc, parts, answer);
     let _count = parts.journal.len();
     heard
 }

@@ -7,14 +7,13 @@ ghost use Rattle.service_deliveries.specs.Rows.{asked_row, created_rows, taken_r
 
 use call_registers::Reply;
 use create_placement::place;
-use journal_rows::{AckedRow, AskedRow, How, Row, TookRow};
+use journal_rows::{AckedRow, AskedRow, Row, TookHow, TookRow};
 use lang_base::both;
 use lang_core::{Copied, Inputs, Name, NoMemory, Origin, Request};
 use repair_messages::{Ack, SetMessage, copied_pair};
 use request_log::Entry;
 use service_events::Taken;
-use service_parts::Parts;
-use service_repairs::{RULE, created, next_id};
+use service_parts::{Parts, RULE, created, next_id};
 use std::alloc::Global;
 
 /// What is answered, where this rule allowed it.
@@ -68,7 +67,7 @@ fn push_took(alloc: Global, set: &SetMessage, rows: &mut Vec<Row>) -> Result<(),
         number: set.number,
         version: set.version,
         desired,
-        how: How::Message,
+        how: TookHow::Message,
         who,
         rule: RULE,
     }))?;

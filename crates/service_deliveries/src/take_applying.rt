@@ -5,17 +5,16 @@ ghost use Rattle.local_repair.specs.Repairs.{IsAmended};
 ghost use Rattle.call_registers.specs.Replies.{at_entry, made_due, with_taken, IsAboveAll};
 ghost use Rattle.service_parts.specs.Parts.{kept};
 ghost use Rattle.service_parts.specs.Services.{HasRoom};
-ghost use Rattle.service_repairs.specs.Ordering.{TellNoCall};
+ghost use Rattle.service_parts.specs.Drafts.{TellNoCall};
 ghost use Rattle.service_deliveries.specs.TakeChanges.{changed_by, left_by, CanChange};
 
-use crate::take_changes::{Change, Taking};
+use crate::take_changes::{TakeChange, Taking};
 use call_registers::{Replies, Reply};
 use lang_core::NoMemory;
 use local_repair::Repairer;
 use request_log::Entry;
 use service_events::Taken;
-use service_parts::{Parts, push_rows, reserve};
-use service_repairs::insert;
+use service_parts::{Parts, insert, push_rows, reserve};
 
 // ---- replies, where an entry has one
 
@@ -72,7 +71,7 @@ fn create(
 // ---- all of it
 
 // Changes entries and replies so. Refused, they stay.
-fn apply(parts: &mut Parts, change: Change) -> Result<(), NoMemory>
+fn apply(parts: &mut Parts, change: TakeChange) -> Result<(), NoMemory>
     requires { CanChange (kept parts.old) change }
     ensures ok { OnOk result (kept parts.new ≡ changed_by (kept parts.old) change) }
     ensures err { OnErr result (kept parts.new ≡ kept parts.old) }
@@ -80,23 +79,23 @@ fn apply(parts: &mut Parts, change: Change) -> Result<(), NoMemory>
     ensures flights { parts.new.flights ≡ parts.old.flights }
 {
     match change {
-        Change::Nothing => Ok(()),
-        Change::Due { id, since } => {
+        TakeChange::Nothing => Ok(()),
+        TakeChange::Due { id, since } => {
             make_due(&mut parts.replies, id, since);
             Ok(())
         }
-        Change::Amend { entry, since } => {
+        TakeChange::Amend { entry, since } => {
             amend(&mut parts.repairer, &mut parts.replies, entry, since);
             Ok(())
         }
-        Change::Create { at, entry, reply } => {
+        TakeChange::Create { at, entry, reply } => {
             create(&mut parts.repairer, &mut parts.replies, at, entry, reply)
         }
     }
 }
 
 /// Puts in place what taking a version is to leave, and hands on what it is to answer. Refused, nothing changes.
-#[tactic(auto, using(service_repairs::proofs::OrderLemmas::noted_last))]
+#[tactic(auto, using(service_parts::proofs::DraftLemmas::noted_last))]
 pub(crate) fn put(parts: &mut Parts, taking: Taking) -> Result<Taken, NoMemory>
     requires can { CanChange (kept parts.old) taking.change }
     requires plain { TellNoCall taking.rows.items }

@@ -6,7 +6,7 @@ use service_events::Taken;
 
 /// What taking a version changes of entries and replies.
 #[derive(Drop)]
-pub enum Change {
+pub enum TakeChange {
     /// Nothing.
     Nothing,
     /// The reply of the entry of this number is due, from this index of the journal on.
@@ -25,5 +25,5 @@ pub struct Taking {
     /// The rows, in order.
     pub rows: Vec<Row>,
     /// What else changes.
-    pub change: Change,
+    pub change: TakeChange,
 }

@@ -15,13 +15,12 @@ use crate::making::{
     taken, taken_rows,
 };
 use crate::refusing::is_known;
-use crate::take_changes::{Change, Taking};
+use crate::take_changes::{TakeChange, Taking};
 use journal_rows::Row;
 use lang_core::{Inputs, NoMemory, Request};
 use repair_messages::SetMessage;
 use request_log::Entry;
-use service_parts::Parts;
-use service_repairs::RULE;
+use service_parts::{Parts, RULE};
 use std::alloc::Global;
 
 fn taking(
@@ -29,7 +28,7 @@ fn taking(
     set: &SetMessage,
     rule: Option<u32>,
     rows: Vec<Row>,
-    change: Change,
+    change: TakeChange,
 ) -> Result<Taking, NoMemory>
     ensures { IfOk result (λ t. t ≡ record { taken = taken set.now rule; rows = rows; change = change }) }
 {
@@ -44,13 +43,13 @@ fn taking(
 // ---- a version that is known
 
 // The reply of the call's entry is due, if there is one.
-fn due_again(parts: &Parts, set: &SetMessage) -> Change
+fn due_again(parts: &Parts, set: &SetMessage) -> TakeChange
     ensures is { changed_by (kept parts.now) result ≡ record (kept parts.now) { replies = at_reply_of (find_call (origin_of set.now) parts.now.repairer.entries) (made_due (length parts.now.journal.rows)) parts.now.replies.list } }
     ensures can { CanChange (kept parts.now) result }
 {
     match parts.repairer.log().find_origin(&set.caller, set.number) {
-        None => Change::Nothing,
-        Some(entry) => Change::Due {
+        None => TakeChange::Nothing,
+        Some(entry) => TakeChange::Due {
             id: entry.id,
             since: index(parts, 0),
         },
@@ -76,7 +75,13 @@ fn amended(alloc: Global, parts: &Parts, set: &SetMessage, old: &Entry) -> Resul
     let rows = taken_rows(alloc, set)?;
     let entry = at_version(alloc, set, old)?;
     let since = index(parts, 1);
-    taking(alloc, set, Some(RULE), rows, Change::Amend { entry, since })
+    taking(
+        alloc,
+        set,
+        Some(RULE),
+        rows,
+        TakeChange::Amend { entry, since },
+    )
 }
 
 // The change that makes an entry.
@@ -86,16 +91,16 @@ fn create(
     set: &SetMessage,
     request: &Request,
     inputs: Inputs,
-) -> Result<Change, NoMemory>
+) -> Result<TakeChange, NoMemory>
     requires fits { Fits (kept parts.now) }
     requires none { find_call (origin_of set.now) parts.now.repairer.entries ≡ None }
-    ensures is { IfOk result (λ change. change ≡ Change.Create (created_place (kept parts.now) set.now) (created_entry (kept parts.now) set.now request.now inputs) (created_reply (kept parts.now) set.now)) }
+    ensures is { IfOk result (λ change. change ≡ TakeChange.Create (created_place (kept parts.now) set.now) (created_entry (kept parts.now) set.now request.now inputs) (created_reply (kept parts.now) set.now)) }
     ensures can { IfOk result (λ change. CanChange (kept parts.now) change) }
 {
     let at = created_place(parts, set);
     let entry = created_entry(alloc, parts, set, request, inputs)?;
     let reply = created_reply(alloc, parts, set)?;
-    Ok(Change::Create { at, entry, reply })
+    Ok(TakeChange::Create { at, entry, reply })
 }
 
 // Its call has no entry, and makes one.
@@ -120,7 +125,7 @@ fn unmet(alloc: Global, parts: &Parts, set: &SetMessage) -> Result<Taking, NoMem
     ensures { (i : Inputs) → IfOk result (λ t. Leaves (kept parts.now) t (after (taken_by (kept parts.now) set.now i None None) (Ok (taken set.now (Some rule))))) }
 {
     let rows = taken_rows(alloc, set)?;
-    taking(alloc, set, Some(RULE), rows, Change::Nothing)
+    taking(alloc, set, Some(RULE), rows, TakeChange::Nothing)
 }
 
 // Its call has no entry.

@@ -14,7 +14,7 @@ use Rattle.call_registers.specs.declared.register.Why.{Why}
 use Rattle.call_registers.proofs.ChangeLemmas.{there_within}
 use Rattle.flights.specs.declared.flight.Flight.{Flight}
 use Rattle.service_events.specs.Calls.{version_of, first_sent, put_sent, after_rows, named}
-use Rattle.service_events.specs.Fits.{Fits, Place, place_of_entry, place_of_flight, call_in, wanted_call, count, stands, WantsItsCalls, FitsPlaces, places}
+use Rattle.service_events.specs.Fits.{Fits, NumberedCalls, calls_of_entry, calls_of_flight, call_in, wanted_call, count, times_held, WantsItsCalls, FitsPlaces, places}
 use Rattle.service_events.specs.Flying.{deletion}
 use Rattle.service_events.specs.State.{Kept, has_flight, flight_of}
 use Rattle.service_entry_laws.proofs.OwnLemmas.{numbered_changed, length_changed, consumed_changed, consumed_other, consumed_named, next_free, numbered_named, length_named, IsNone, AreApart, AreWithin, within_more, within_push, within_set, above_none, apart_push, apart_set}
@@ -143,20 +143,20 @@ all_behind : {X : Type 0} (P : X → Type 0) (xs ys : List X) → All P (xs ++ y
 all_behind P [] ys h = h
 all_behind P (x ∷ xs) ys h = all_behind P xs ys (All-tail P x (xs ++ ys) h)
 
-found_place : (P : Place → Type 0) (p : Flight → Bool) (fs : List Flight) (f : Flight) → All P (map place_of_flight fs) → find p fs ≡ Some f → P (place_of_flight f)
+found_place : (P : NumberedCalls → Type 0) (p : Flight → Bool) (fs : List Flight) (f : Flight) → All P (map calls_of_flight fs) → find p fs ≡ Some f → P (calls_of_flight f)
 found_place P p [] f h e = cc
 found_place P p (g ∷ gs) f h e = elim (cases_Bool (p g)) [
   | inl is ↦ (let here : Some g ≡ Some f = rw is at e in
       let same : g ≡ f = cc in
-      subst (λ x. P (place_of_flight x)) same (All-head P (place_of_flight g) (map place_of_flight gs) h))
-  | inr other ↦ found_place P p gs f (All-tail P (place_of_flight g) (map place_of_flight gs) h) (rw other at e)
+      subst (λ x. P (calls_of_flight x)) same (All-head P (calls_of_flight g) (map calls_of_flight gs) h))
+  | inr other ↦ found_place P p gs f (All-tail P (calls_of_flight g) (map calls_of_flight gs) h) (rw other at e)
 ]
 
-stands_more : (n : ℕ) (xs ys : List Place) → stands n ys ≤ stands n (xs ++ ys)
+stands_more : (n : ℕ) (xs ys : List NumberedCalls) → times_held n ys ≤ times_held n (xs ++ ys)
 stands_more n [] ys = omega arith
 stands_more n (x ∷ xs) ys = (let more = stands_more n xs ys in omega (arith, more))
 
-stands_found : (n : ℕ) (p : Flight → Bool) (fs : List Flight) (f : Flight) → find p fs ≡ Some f → count n f.numbers ≤ stands n (map place_of_flight fs)
+stands_found : (n : ℕ) (p : Flight → Bool) (fs : List Flight) (f : Flight) → find p fs ≡ Some f → count n f.numbers ≤ times_held n (map calls_of_flight fs)
 stands_found n p [] f e = cc
 stands_found n p (g ∷ gs) f e = elim (cases_Bool (p g)) [
   | inl is ↦ (let here : Some g ≡ Some f = rw is at e in
@@ -206,15 +206,15 @@ within_wanted rs (n ∷ ns) (c ∷ cs) h e =
 pub aloft_by : (s : Kept) (id : ℕ) (f : Flight) → IsNumbered s.registers → FitsPlaces s.registers (places s) → flight_of id s ≡ Some f
     → IsAloft s.registers f.numbers f.calls
 aloft_by s id f numbered fits found =
-    let front = map place_of_entry s.entries in
-    let wants : WantsItsCalls s.registers (place_of_flight f) =
-    found_place (WantsItsCalls s.registers) (has_flight id) s.flights f (all_behind (WantsItsCalls s.registers) front (map place_of_flight s.flights) fits.calls) found in
+    let front = map calls_of_entry s.entries in
+    let wants : WantsItsCalls s.registers (calls_of_flight f) =
+    found_place (WantsItsCalls s.registers) (has_flight id) s.flights f (all_behind (WantsItsCalls s.registers) front (map calls_of_flight s.flights) fits.calls) found in
     record {
       numbered = numbered;
       apart = apart_of f.numbers (λ n. (
           let once = fits.once n in
           let most = one_most (wanted_call s.registers n) in
-          let more = stands_more n front (map place_of_flight s.flights) in
+          let more = stands_more n front (map calls_of_flight s.flights) in
           let mine = stands_found n (has_flight id) s.flights f found in
           omega (arith, once, most, more, mine)
           ));

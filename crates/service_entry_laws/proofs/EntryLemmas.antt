@@ -4,19 +4,20 @@ use Rattle.std.specs.List.{list_any}
 use Rattle.std.proofs.lemmas.Bool.{or_left}
 use Rattle.std.proofs.lemmas.List.Folds.{list_any-append}
 use Rattle.std.proofs.lemmas.List.Sums.{fold_push}
+use Rattle.lang_core.specs.Origins.{is_call}
 use Rattle.lang_core.specs.declared.ids.Origin.{Origin}
 use Rattle.lang_core.specs.declared.ids.Origin.TheVariants.{Outside, Call}
 use Rattle.lang_core.specs.declared.inputs.Inputs.{Inputs}
-use Rattle.request_log.specs.Entries.{has_id, has_origin, is_call, find_call, IsDistinct}
+use Rattle.request_log.specs.Entries.{has_id, has_origin, find_call, IsDistinct}
+use Rattle.request_log.specs.Records.{Record, record_of}
 use Rattle.request_log.specs.declared.entry.Entry.{Entry}
-use Rattle.request_log.specs.declared.entry.Made.{Made}
 use Rattle.journal_rows.specs.Words.{asked_step, taken_step, last_taken_of, request_step, struck_step, last_answered, given_version}
 use Rattle.journal_rows.specs.declared.callee.AnsweredRow.{AnsweredRow}
 use Rattle.journal_rows.specs.declared.callee.AskedRow.{AskedRow}
 use Rattle.journal_rows.specs.declared.row.Row.{Row}
 use Rattle.journal_rows.specs.declared.row.Row.TheVariants.{Acked, Answered, WasConfirmed}
 use Rattle.call_registers.specs.declared.reply.Reply.{Reply}
-use Rattle.service_events.specs.Fits.{asked_as, answer_given, takes_request, HasAnswered}
+use Rattle.service_events.specs.Fits.{asked_as, answer_recorded, answer_given, takes_request, HasAnswered}
 use Rattle.call_registers.specs.declared.register.Answer.{Answer}
 use Rattle.service_entry_laws.proofs.LogLemmas.{call_is, itself, front_id, found_call}
 use Rattle.service_entry_laws.proofs.PartLemmas.{IsLogged}
@@ -72,18 +73,18 @@ pub made_from : (o : Option AskedRow) (origin : Origin) (inputs : Inputs) → So
 made_from None origin inputs e = cc
 made_from (Some a) origin inputs e = (let same : (origin, inputs) ≡ (a.origin, a.inputs) = cc in ap (λ (p : Origin × Inputs). p.0) (sym same))
 
-version_made : (v : ℕ) (made : Option Made) (last : Option AnsweredRow)
-    → option_map (λ (m : Made). record { answer_version = v; version = m.version; response = m.trace.response }) made ≡ option_map answer_given last → (made ≡ None → v ≡ 0) → v ≡ given_version last
+version_made : (v : ℕ) (made : Option Record) (last : Option AnsweredRow) → option_map (answer_recorded v) made ≡ option_map answer_given last → (made ≡ None → v ≡ 0)
+    → v ≡ given_version last
 version_made v None None e first = first refl
 version_made v None (Some a) e first = cc
-version_made v (Some m) None e first = cc
-version_made v (Some m) (Some a) e first =
-    let same : record { answer_version = v; version = m.version; response = m.trace.response } ≡ answer_given a = cc in
+version_made v (Some r) None e first = cc
+version_made v (Some r) (Some a) e first =
+    let same : answer_recorded v r ≡ answer_given a = cc in
     ap (λ (x : Answer). x.answer_version) same
 
 -- its answer version is that of its last answer
 pub version_given : (j : List Row) (e : Entry) → HasAnswered j e → e.answer_version ≡ given_version (last_answered e.id j)
-version_given j e h = version_made e.answer_version e.made (last_answered e.id j) h.answer h.first
+version_given j e h = version_made e.answer_version (record_of e) (last_answered e.id j) h.answer h.first
 
 pub found_itself : (log : List Entry) (id : ℕ) (e : Entry) → find (has_id id) log ≡ Some e → e.id ≡ id
 found_itself log id e found = eqb-true e.id id (splits (has_id id) log e found).passes

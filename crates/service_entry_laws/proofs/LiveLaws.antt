@@ -10,8 +10,8 @@ use Rattle.lang_core.specs.declared.trace.CallMade.{CallMade}
 use Rattle.lang_core.specs.Traces.{dead_trace}
 use Rattle.handler_run.specs.declared.state.Ran.{Ran}
 use Rattle.request_log.specs.Entries.{find_call}
+use Rattle.request_log.specs.Records.{Record, record_of}
 use Rattle.request_log.specs.declared.entry.Entry.{Entry}
-use Rattle.request_log.specs.declared.entry.Made.{Made}
 use Rattle.local_repair.specs.Alone.{trace_or_dead}
 use Rattle.repair_messages.specs.declared.messages.AnswerMessage.{AnswerMessage}
 use Rattle.journal_rows.specs.Words.{last_taken, last_taken_of}
@@ -24,7 +24,7 @@ use Rattle.flights.specs.Moves.{calls_in, next_move}
 use Rattle.flights.specs.declared.flight.Flight.{Flight}
 use Rattle.flights.specs.declared.flight.Move.{Move}
 use Rattle.flights.specs.declared.flight.Move.TheVariants.{Commit, Name, Change}
-use Rattle.service_events.specs.Arriving.{accepted, new_flight, admitted, arrives, known_by, arrives_or_known, by_version, unless_gone, arrive_event, is_for, heard_rows, is_new_to, seen_live, answered_flight, call_answered_event, told, failed_flight, call_failed_event, abandoned, abandon_event}
+use Rattle.service_events.specs.Arriving.{accepted, new_flight, admitted, arrives, known_by, arrives_or_known, by_version, unless_gone, arrive_event, is_for, live_answer_rows, is_new_to, seen_live, answered_flight, call_answered_event, told, failed_flight, call_failed_event, abandoned, abandon_event}
 use Rattle.service_events.specs.Calls.{noted, named, all_deleted}
 use Rattle.service_events.specs.Fits.{FitsFlights}
 use Rattle.service_events.specs.Flying.{flight_run, awaited, committed, with_slot, with_change, deletion, change_rows, waits, call_or_none, wanted_of, named_unsent, changed_unsent, completing, completed, changed, moved, goes_on}
@@ -120,14 +120,14 @@ module _ (s : Kept) (h : IsLogged s.journal s.entries s.replies) where
   arrives_logged : (o : Origin) (q : Request) (i : Inputs) → last_taken_of o s.journal ≡ None → LeavesLogged (arrives s o q i)
   arrives_logged o q i none = admitted_logged o q i (or_else (is_crowded s) (is_heavy s)) none
 
-  known_logged : (c : List ℕ) (n : ℕ) (e : Entry) (made : Option Made) → LeavesLogged (known_by s c n e made)
+  known_logged : (c : List ℕ) (n : ℕ) (e : Entry) (made : Option Record) → LeavesLogged (known_by s c n e made)
   known_logged c n e None = h
   known_logged c n e (Some m) = h
 
   or_known_logged : (c : List ℕ) (n : ℕ) (q : Request) (i : Inputs) (o : Option Entry) → (o ≡ None → last_taken c n s.journal ≡ None)
       → LeavesLogged (arrives_or_known s c n q i o)
   or_known_logged c n q i None none = arrives_logged (Call c n) q i (none refl)
-  or_known_logged c n q i (Some e) none = known_logged c n e e.made
+  or_known_logged c n q i (Some e) none = known_logged c n e (record_of e)
 
   by_version_logged : (version : ℕ) (desired : Option Request) (known : After (Result Arrived ArriveRefused)) → (IsSome desired → LeavesLogged known)
       → LeavesLogged (by_version s version desired known)
@@ -169,9 +169,9 @@ module _ (s : Kept) (h : IsLogged s.journal s.entries s.replies) (flights : Fits
   answered_logged : (id : ℕ) (a : AnswerMessage) (o : Option Flight) → flight_of id s ≡ o → LeavesLogged (answered_flight s id a o)
   answered_logged id a None is = h
   answered_logged id a (Some f) is =
-      cond_both (is_for s a f) (accepted (goes_on (noted (heard_rows s a) s) f)) (after s (Err (CallRefused.NoFlight id))) LeavesLogged
-      (λ _. goes_on_logged (noted (heard_rows s a) s) f
-      (fly_noted s.journal (heard_rows s a) s.entries s.replies f.origin (tt, heard_callers s a (is_new_to a (register a.number s.registers)))
+      cond_both (is_for s a f) (accepted (goes_on (noted (live_answer_rows s a) s) f)) (after s (Err (CallRefused.NoFlight id))) LeavesLogged
+      (λ _. goes_on_logged (noted (live_answer_rows s a) s) f
+      (fly_noted s.journal (live_answer_rows s a) s.entries s.replies f.origin (tt, heard_callers s a (is_new_to a (register a.number s.registers)))
       (record { logged = h; untaken = free id f is }))) (λ _. h)
 
   pub call_answered_logged : (id : ℕ) (a : AnswerMessage) → LeavesLogged (call_answered_event s id a)

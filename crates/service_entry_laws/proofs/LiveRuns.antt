@@ -15,9 +15,9 @@ use Rattle.handler_run.specs.Handlers.{run_of}
 use Rattle.handler_run.specs.declared.state.Ran.{Ran}
 use Rattle.handler_run.specs.declared.state.Ran.TheVariants.{Done, Wants}
 use Rattle.request_log.specs.Entries.{find_call}
+use Rattle.request_log.specs.Records.{Record, record_of}
 use Rattle.request_log.specs.declared.entry.Entry.{Entry}
-use Rattle.request_log.specs.declared.entry.Made.{Made}
-use Rattle.local_repair.specs.Current.{AllRuns, rows_of}
+use Rattle.local_repair.specs.Current.{AllRuns, rows_after}
 use Rattle.local_repair.specs.Steps.{answer_or_tentative}
 use Rattle.repair_messages.specs.declared.messages.AnswerMessage.{AnswerMessage}
 use Rattle.journal_rows.specs.Words.{last_taken}
@@ -33,11 +33,11 @@ use Rattle.flights.specs.Moves.{calls_in, first_other, by_run, change_or, next_m
 use Rattle.flights.specs.declared.flight.Flight.{Flight}
 use Rattle.flights.specs.declared.flight.Move.{Move}
 use Rattle.flights.specs.declared.flight.Move.TheVariants.{Commit, Name, Change}
-use Rattle.service_events.specs.Arriving.{accepted, new_flight, admitted, known_by, arrives_or_known, by_version, unless_gone, arrive_event, is_for, heard_rows, is_new_to, seen_live, answered_flight, call_answered_event, told, failed_flight, call_failed_event, abandoned, abandon_event}
+use Rattle.service_events.specs.Arriving.{accepted, new_flight, admitted, known_by, arrives_or_known, by_version, unless_gone, arrive_event, is_for, live_answer_rows, is_new_to, seen_live, answered_flight, call_answered_event, told, failed_flight, call_failed_event, abandoned, abandon_event}
 use Rattle.service_events.specs.Calls.{noted, named, after_rows}
 use Rattle.service_events.specs.Fits.{Fits}
 use Rattle.service_events.specs.Flying.{flight_run, awaited, live_version, committed_entry, committed, with_slot, with_change, change_rows, waits, call_or_none, named_unsent, changed_unsent, completing, completed, changed, moved, goes_on}
-use Rattle.service_events.specs.State.{Kept, After, after, answers, or_else, is_crowded, is_heavy, is_in_flight, flight_of}
+use Rattle.service_events.specs.State.{Kept, After, after, answers, or_else, is_crowded, is_heavy, is_in_flight, flight_of, base}
 use Rattle.service_events.specs.declared.answers.Arrived.{Arrived}
 use Rattle.service_events.specs.declared.refusals.ArriveRefused.{ArriveRefused}
 use Rattle.service_events.specs.declared.refusals.CallRefused.{CallRefused}
@@ -49,7 +49,7 @@ use Rattle.service_entry_laws.proofs.RunLemmas.{HasRun, record_is_run}
 
 -- a flight's runs, by the answers
 abbrev pub runs_of : Kept → Flight → List Response → Ran
-runs_of s f xs = run_of s.setting f.request f.inputs xs (rows_of s.entries)
+runs_of s f xs = run_of s.setting f.request f.inputs xs (rows_after (base s) s.entries)
 
 -- the answers that its calls consume
 abbrev pub answers_given : Kept → Flight → List Response
@@ -57,7 +57,7 @@ answers_given s f = map (answers s) f.numbers
 
 committed_runs : (s : Kept) (f : Flight) (t : Trace) → flight_run s f ≡ Done t → AllRuns s.setting s.entries → LeavesRuns (committed s f t)
 committed_runs s f t done h =
-    All-push (HasRun s.setting) s.entries (committed_entry s f t) h (record_is_run s.setting f.request f.inputs (answers_given s f) (rows_of s.entries) t (live_version f.origin) done)
+    All-push (HasRun s.setting) s.entries (committed_entry s f t) h (record_is_run s.setting f.request f.inputs (answers_given s f) (rows_after (base s) s.entries) t (live_version f.origin) done)
 
 -- ---- what a move says of the run
 
@@ -138,7 +138,7 @@ pub record Completes (s : Kept) (f : Flight) (k : ℕ) : Type 0 where
   pub runs : AllRuns s.setting s.entries
 
 pub grows : (s : Kept) (f : Flight) → IsGrowing (runs_of s f)
-grows s f = growing s.setting f.request f.inputs (rows_of s.entries)
+grows s f = growing s.setting f.request f.inputs (rows_after (base s) s.entries)
 
 pub name_completes : (s : Kept) (f : Flight) (k : ℕ) (slot : ℕ) (made : List CallMade) (call : CallMade) → flight_run s f ≡ Wants slot made call
     → first_other f.calls (calls_in (flight_run s f)) ≡ None → Completes s f k → Completes (named_unsent s call) (with_slot (next_number s.registers) call f) (k + 1)
@@ -229,13 +229,13 @@ module _ (s : Kept) (h : Fits s) where
   admitted_runs o q i (Some n) = h.runs
   admitted_runs o q i None = goes_on_runs s (new_flight s o q i) (record { numbered = h.sent.numbered; apart = tt; within = tt; many = refl }) h.runs
 
-  known_runs : (c : List ℕ) (n : ℕ) (e : Entry) (made : Option Made) → LeavesRuns (known_by s c n e made)
+  known_runs : (c : List ℕ) (n : ℕ) (e : Entry) (made : Option Record) → LeavesRuns (known_by s c n e made)
   known_runs c n e None = h.runs
   known_runs c n e (Some m) = h.runs
 
   or_known_runs : (c : List ℕ) (n : ℕ) (q : Request) (i : Inputs) (o : Option Entry) → LeavesRuns (arrives_or_known s c n q i o)
   or_known_runs c n q i None = admitted_runs (Call c n) q i (or_else (is_crowded s) (is_heavy s))
-  or_known_runs c n q i (Some e) = known_runs c n e e.made
+  or_known_runs c n q i (Some e) = known_runs c n e (record_of e)
 
   by_version_runs : (version : ℕ) (desired : Option Request) (known : After (Result Arrived ArriveRefused)) → LeavesRuns known → LeavesRuns (by_version s version desired known)
   by_version_runs version None known keeps = h.runs
@@ -259,8 +259,8 @@ module _ (s : Kept) (h : Fits s) where
   answered_runs : (id : ℕ) (a : AnswerMessage) (o : Option Flight) → flight_of id s ≡ o → LeavesRuns (answered_flight s id a o)
   answered_runs id a None is = h.runs
   answered_runs id a (Some f) is =
-      cond_both (is_for s a f) (accepted (goes_on (noted (heard_rows s a) s) f)) (after s (Err (CallRefused.NoFlight id))) LeavesRuns
-      (λ _. goes_on_runs (noted (heard_rows s a) s) f
+      cond_both (is_for s a f) (accepted (goes_on (noted (live_answer_rows s a) s) f)) (after s (Err (CallRefused.NoFlight id))) LeavesRuns
+      (λ _. goes_on_runs (noted (live_answer_rows s a) s) f
       (heard_aloft a (is_new_to a (register a.number s.registers)) (after_rows (length s.journal) s.registers (saw a ∷ [])) (length s.journal + 1) f.numbers f.calls
       (acked_aloft a.number a.version s.registers f.numbers f.calls (aloft_of s id f h is))) h.runs)
       (λ _. h.runs)

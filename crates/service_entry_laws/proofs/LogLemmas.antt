@@ -5,12 +5,12 @@ use Rattle.std.specs.Cmp.Lexicographic.{nat_list_eq_equiv}
 use Rattle.std.proofs.lemmas.List.Edits.{insert_end}
 use Rattle.std.proofs.lemmas.List.Elements.{All-cons, All-nil}
 use Rattle.lang_base.specs.Texts.{same_text}
+use Rattle.lang_core.specs.Origins.{is_call}
 use Rattle.lang_core.specs.declared.ids.Origin.{Origin}
 use Rattle.lang_core.specs.declared.ids.Origin.TheVariants.{Outside, Call}
-use Rattle.request_log.specs.Entries.{has_id, has_origin, is_call, find_call, IsNew, IsDistinct, with_entry}
+use Rattle.request_log.specs.Entries.{has_id, has_origin, find_call, IsNew, IsDistinct, with_entry, changed}
 use Rattle.request_log.specs.declared.entry.Entry.{Entry}
 use Rattle.request_log.proofs.EntryLemmas.{distinct-insert, distinct-set}
-use Rattle.service_events.specs.Orders.{at_id}
 use Rattle.service_events.specs.State.{same_call_origin}
 use Rattle.service_entry_laws.proofs.SearchLemmas.{text_is, none_first, splits, found_all, none_mid, found_behind, find-insert, find_put, place_is, set_mid, get_mid, none_changed}
 
@@ -92,20 +92,20 @@ with_entry_is log y old found origin apart =
     (with_put s.before old y s.rest id origin (subst IsDistinct s.is apart)))
 
 at_mid : (id : ℕ) (f : Entry → Entry) (xs : List Entry) (x : Entry) (ys : List Entry) → find (has_id id) xs ≡ None → has_id id x ≡ true
-    → find (has_id id) ys ≡ None → at_id id f (xs ++ x ∷ ys) ≡ xs ++ f x ∷ ys
+    → find (has_id id) ys ≡ None → changed id f (xs ++ x ∷ ys) ≡ xs ++ f x ∷ ys
 at_mid id f [] x ys front is rest = rw is (ap (λ zs. f x ∷ zs) (none_changed (has_id id) f ys rest))
 at_mid id f (z ∷ xs) x ys front is rest =
     let parts = none_first (has_id id z) z (find (has_id id) xs) front in
     rw parts.0 (ap (λ zs. z ∷ zs) (at_mid id f xs x ys parts.1 is rest))
 
 pub with_changed : (log : List Entry) (id : ℕ) (f : Entry → Entry) (old : Entry) → find (has_id id) log ≡ Some old → (f old).id ≡ old.id
-    → (f old).origin ≡ old.origin → IsDistinct log → IsWith (f old) log (at_id id f log)
+    → (f old).origin ≡ old.origin → IsDistinct log → IsWith (f old) log (changed id f log)
 with_changed log id f old found same origin apart =
     let s = splits (has_id id) log old found in
     let is : old.id ≡ id = eqb-true old.id id s.passes in
     let whole : IsDistinct (s.before ++ old ∷ s.rest) = subst IsDistinct s.is apart in
     let rest : find (has_id id) s.rest ≡ None = subst (λ k. find (has_id k) s.rest ≡ None) is (behind_new s.before old s.rest whole).id in
-    let P : List Entry → Type 0 = λ l. IsWith (f old) l (at_id id f l) in
+    let P : List Entry → Type 0 = λ l. IsWith (f old) l (changed id f l) in
     subst P (sym s.is)
     (subst (IsWith (f old) (s.before ++ old ∷ s.rest)) (sym (at_mid id f s.before old s.rest s.none s.passes rest))
     (with_put s.before old (f old) s.rest same origin whole))

@@ -11,7 +11,7 @@ use Rattle.lang_core.specs.declared.ids.Origin.TheVariants.{Outside, Call}
 use Rattle.lang_core.specs.declared.inputs.Inputs.{Inputs}
 use Rattle.lang_core.specs.declared.request.Request.{Request}
 use Rattle.lang_tree.specs.declared.method.Method.{Method}
-use Rattle.request_log.specs.Entries.{has_id}
+use Rattle.request_log.specs.Entries.{has_id, changed, mark, replace, with_call}
 use Rattle.request_log.specs.declared.entry.Entry.{Entry}
 use Rattle.repair_messages.specs.declared.posts.PostName.{PostName}
 use Rattle.repair_messages.specs.declared.posts.PostName.TheVariants.{Call as OfCall, Reply as OfReply}
@@ -31,7 +31,7 @@ use Rattle.call_registers.specs.declared.reply.Reply.{Reply}
 use Rattle.service_events.specs.Calls.{noted}
 use Rattle.service_events.specs.Fits.{IsOrderAbout, IsAsNow, HasAnswered, HasReply, IsReply, made_as, asked_as, answer_given, takes_request}
 use Rattle.service_events.specs.Messages.{rule}
-use Rattle.service_events.specs.Orders.{entry_of, unless_there, unless_outside, unless_replaced, misnamed, is_too_much, refused, with_call, at_id, struck_as, asking, about, request_of, order_rows, released_post, carried_out, order_by, order_where, order_event}
+use Rattle.service_events.specs.Orders.{entry_of, unless_there, unless_outside, unless_replaced, misnamed, is_too_much, refused, about, request_of, order_rows, released_post, carried_out, order_by, order_where, order_event}
 use Rattle.service_events.specs.State.{Kept, after, next_id, or_else}
 use Rattle.service_events.specs.declared.answers.Ordered.{Ordered}
 use Rattle.service_events.specs.declared.refusals.OrderRefused.{OrderRefused}
@@ -257,20 +257,20 @@ module _ (s : Kept) (h : IsLogged s.journal s.entries s.replies) where
       (let at = there_is id (entry_of id s) full ok in
       ordered_one s.journal s.entries s.replies h
       (record { token = token; command = Cancel id; who = who; rule = rule; original = request_of id s; repaired = None; about = AboutRequest id }) id refl at.0 at.1
-      (struck_as true at.0) refl (λ before same. same) refl (is_there id at.0 at.1) (at_id id (struck_as true) s.entries)
-      (with_changed s.entries id (struck_as true) at.0 at.1 refl refl h.asked.distinct) (length-map s.entries (λ e. cond (has_id id e) (struck_as true e) e)))
+      (mark true at.0) refl (λ before same. same) refl (is_there id at.0 at.1) (changed id (mark true) s.entries)
+      (with_changed s.entries id (mark true) at.0 at.1 refl refl h.asked.distinct) (length-map s.entries (λ e. cond (has_id id e) (mark true e) e)))
   ordered_logged_by (Restore id) token who i full ok =
       (let at = there_is id (entry_of id s) full ok in
       ordered_one s.journal s.entries s.replies h
       (record { token = token; command = Restore id; who = who; rule = rule; original = request_of id s; repaired = None; about = AboutRequest id }) id refl at.0 at.1
-      (struck_as false at.0) refl (λ before same. same) refl (is_there id at.0 at.1) (at_id id (struck_as false) s.entries)
-      (with_changed s.entries id (struck_as false) at.0 at.1 refl refl h.asked.distinct) (length-map s.entries (λ e. cond (has_id id e) (struck_as false e) e)))
+      (mark false at.0) refl (λ before same. same) refl (is_there id at.0 at.1) (changed id (mark false) s.entries)
+      (with_changed s.entries id (mark false) at.0 at.1 refl refl h.asked.distinct) (length-map s.entries (λ e. cond (has_id id e) (mark false e) e)))
   ordered_logged_by (Replace id m p b) token who i full ok =
       (let at = replaced_is id (entry_of id s) full ok in
       ordered_one s.journal s.entries s.replies h
       (record { token = token; command = Replace id m p b; who = who; rule = rule; original = request_of id s; repaired = option_map (with_call m p b) (request_of id s); about = AboutRequest id }) id refl at.0 at.1
-      (asking m p b at.0) refl (some_replaced m p b (entry_of id s) at.0 at.1) refl (is_outside id at.0 at.1 at.2) (at_id id (asking m p b) s.entries)
-      (with_changed s.entries id (asking m p b) at.0 at.1 refl refl h.asked.distinct) (length-map s.entries (λ e. cond (has_id id e) (asking m p b e) e)))
+      (replace m p b at.0) refl (some_replaced m p b (entry_of id s) at.0 at.1) refl (is_outside id at.0 at.1 at.2) (changed id (replace m p b) s.entries)
+      (with_changed s.entries id (replace m p b) at.0 at.1 refl refl h.asked.distinct) (length-map s.entries (λ e. cond (has_id id e) (replace m p b e) e)))
   ordered_logged_by (Create before after q) token who i full ok =
       ordered_new
       (record { token = token; command = Create before after q; who = who; rule = rule; original = None; repaired = Some q; about = AboutRequest (next_id s) }) q i (place_between before after s.entries) refl tt (λ r. refl) refl

@@ -2,9 +2,10 @@
 use Rattle.std.proofs.Common.{◌≡◌, ℕ, ◌↔◌, true, false, not, ◌&&◌, List, [], ◌++◌, Option, Some, None, IsSome, IfSome, IsSomeAnd, find, length, All, is_some, option_map, refl, sym, ap, ◌∙◌, subst, inl, inr, nat_eq, eqb-true}
 use Rattle.std.specs.List.{AllByRecursion as Each, list_any}
 use Rattle.std.proofs.lemmas.Bool.{cases_Bool, cond-true, cond-false}
+use Rattle.lang_core.specs.Origins.{is_call}
 use Rattle.lang_core.specs.declared.ids.Origin.{Origin}
 use Rattle.lang_core.specs.declared.ids.Origin.TheVariants.{Outside, Call}
-use Rattle.request_log.specs.Entries.{has_id, is_call, find_call}
+use Rattle.request_log.specs.Entries.{has_id, find_call}
 use Rattle.request_log.specs.declared.entry.Entry.{Entry}
 use Rattle.journal_rows.specs.Words.{asked, asked_count, last_taken_of, version_in, wants, request_now, last_mark, settles}
 use Rattle.journal_rows.specs.declared.callee.AskedRow.{AskedRow}

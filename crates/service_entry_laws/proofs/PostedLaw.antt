@@ -1,11 +1,12 @@
--- What comes back of a post, and an answer that is heard, keep how entries and replies follow from the journal.
+-- What comes back of a post, and an answer that is taken, keep how entries and replies follow from the journal.
 use Rattle.std.proofs.Common.{◌≡◌, ℕ, ◌≤◌, true, not, ◌&&◌, cond, List, [], ◌∷◌, ◌++◌, Option, Some, None, IsSome, IsSomeAnd, Ok, Err, find, length, option_map, refl, sym, ap, ◌∙◌, subst, nat_eq, nat_le, arith, eqb-true, leb-true}
 use Rattle.std.proofs.lemmas.Bool.{cond_both, cond-true, and_parts}
 use Rattle.std.proofs.lemmas.List.Sums.{fold_push}
 use Rattle.lang_base.specs.Texts.{same_text}
+use Rattle.lang_core.specs.Origins.{is_call}
 use Rattle.lang_core.specs.declared.ids.Origin.{Origin}
 use Rattle.lang_core.specs.declared.ids.Origin.TheVariants.{Outside, Call}
-use Rattle.request_log.specs.Entries.{has_id, is_call}
+use Rattle.request_log.specs.Entries.{has_id}
 use Rattle.request_log.specs.declared.entry.Entry.{Entry}
 use Rattle.repair_messages.specs.declared.messages.AnswerMessage.{AnswerMessage}
 use Rattle.repair_messages.specs.declared.messages.Confirm.{Confirm}
@@ -21,10 +22,10 @@ use Rattle.call_registers.specs.declared.register.Register.{Register}
 use Rattle.call_registers.specs.declared.reply.Reply.{Reply}
 use Rattle.service_events.specs.Calls.{noted}
 use Rattle.service_events.specs.Fits.{IsAsNow, HasAnswered, HasReply, IsReply, made_as, asked_as, answer_given}
-use Rattle.service_events.specs.Messages.{rule, heard, seen_row, confirmed_row, heard_by, heard_where, take_answer_event, is_version, had_answer, is_confirm_of, replies_to, had, is_now, hold_of, held_back, held_where, saw_ack_row, was_confirmed_row, posted, posted_event}
+use Rattle.service_events.specs.Messages.{rule, heard, seen_row, confirmed_row, answer_taken_by, answer_taken_where, take_answer_event, is_version, had_answer, is_confirm_of, replies_to, had, is_now, hold_of, held_back, held_where, saw_ack_row, was_confirmed_row, posted, posted_event}
 use Rattle.service_events.specs.State.{Kept, after, me}
 use Rattle.service_events.specs.declared.answers.PostReply.{PostReply}
-use Rattle.service_events.specs.declared.answers.PostReply.TheVariants.{Acked as WasAcked, Confirmed as WasHeard, Refused, Lost}
+use Rattle.service_events.specs.declared.answers.PostReply.TheVariants.{Acked as WasAcked, Confirmed as WasConfirmedBack, Refused, Lost}
 use Rattle.service_events.specs.declared.answers.Posted.TheVariants.{Held, Left}
 use Rattle.service_events.specs.declared.refusals.AnswerRefused.{AnswerRefused}
 use Rattle.service_events.specs.declared.refusals.PostRefused.TheVariants.{Foreign}
@@ -37,11 +38,11 @@ use Rattle.service_entry_laws.proofs.ReplyLemmas.{change_own, change_other, risi
 use Rattle.service_entry_laws.proofs.HoldLaw.{replies_changed}
 use Rattle.service_entry_laws.proofs.SearchLemmas.{splits, found_all, text_is}
 
--- ---- an answer is heard
+-- ---- an answer is taken
 
 module _ (s : Kept) (h : IsLogged s.journal s.entries s.replies) (a : AnswerMessage) where
-  heard_by_logged : (r : Register) → LeavesLogged (heard_by s a r)
-  heard_by_logged r =
+  answer_taken_by_logged : (r : Register) → LeavesLogged (answer_taken_by s a r)
+  answer_taken_by_logged r =
       cond_both (not (same_text r.dest a.callee)) (after s (Err (AnswerRefused.Unknown a.number)))
       (cond (is_newer r.answer a.answer_version) (after (noted (seen_row a ∷ (confirmed_row a ∷ [])) s) (Ok (heard a (Some rule)))) (after (noted (confirmed_row a ∷ []) s) (Ok (heard a None)))) LeavesLogged
       (λ _. h)
@@ -49,12 +50,12 @@ module _ (s : Kept) (h : IsLogged s.journal s.entries s.replies) (a : AnswerMess
       (λ _. callers_logged s.journal (seen_row a ∷ (confirmed_row a ∷ [])) s.entries s.replies (tt, (tt, tt)) h)
       (λ _. callers_logged s.journal (confirmed_row a ∷ []) s.entries s.replies (tt, tt) h))
 
-  heard_where_logged : (o : Option Register) → LeavesLogged (heard_where s a o)
-  heard_where_logged None = h
-  heard_where_logged (Some r) = heard_by_logged r
+  answer_taken_where_logged : (o : Option Register) → LeavesLogged (answer_taken_where s a o)
+  answer_taken_where_logged None = h
+  answer_taken_where_logged (Some r) = answer_taken_by_logged r
 
   pub take_answer_logged : LeavesLogged (take_answer_event s a)
-  take_answer_logged = heard_where_logged (register a.number s.registers)
+  take_answer_logged = answer_taken_where_logged (register a.number s.registers)
 
 -- ---- a confirmation of an answer
 
@@ -186,8 +187,8 @@ module _ (s : Kept) (h : IsLogged s.journal s.entries s.replies) where
 
   posted_logged_by : (post : Post) (answer : PostReply) → had s post ≡ true → replies_to post answer ≡ true → LeavesLogged (posted s post answer)
   posted_logged_by post (WasAcked ack) had replies = callers_logged s.journal (saw_ack_row ack ∷ []) s.entries s.replies (tt, tt) h
-  posted_logged_by (Set set) (WasHeard c) had replies = cc
-  posted_logged_by (Answer a) (WasHeard c) had replies =
+  posted_logged_by (Set set) (WasConfirmedBack c) had replies = cc
+  posted_logged_by (Answer a) (WasConfirmedBack c) had replies =
       let it = had_it a (reply a.id s.replies) (and_parts (same_text a.callee (me s)) (had_answer a (reply a.id s.replies)) had).1 in
       let of = of_it a c replies in
       let most = it.4 in

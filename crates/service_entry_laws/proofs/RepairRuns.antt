@@ -4,7 +4,7 @@ use Rattle.std.proofs.lemmas.Bool.{cond_both}
 use Rattle.lang_base.specs.Texts.{same_text}
 use Rattle.lang_core.specs.declared.inputs.Inputs.{Inputs}
 use Rattle.lang_core.specs.declared.request.Request.{Request}
-use Rattle.request_log.specs.Entries.{has_origin, find_call}
+use Rattle.request_log.specs.Entries.{has_origin, find_call, mark, replace}
 use Rattle.request_log.specs.declared.entry.Entry.{Entry}
 use Rattle.repair_messages.specs.declared.messages.AnswerMessage.{AnswerMessage}
 use Rattle.repair_messages.specs.declared.messages.SetMessage.{SetMessage}
@@ -22,12 +22,12 @@ use Rattle.call_registers.specs.declared.register.Hold.{Hold}
 use Rattle.call_registers.specs.declared.register.Register.{Register}
 use Rattle.create_placement.specs.Placement.{place_between, created}
 use Rattle.service_events.specs.Calls.{noted}
-use Rattle.service_events.specs.Messages.{rule, taken, origin_of, is_known, is_too_much, acked_again, created_entry, created_place, at_version, taken_by, take_admitted, take_event, heard, seen_row, confirmed_row, heard_by, heard_where, take_answer_event, replies_to, had, is_now, hold_of, held_back, held_where, posted, posted_event}
-use Rattle.service_events.specs.Orders.{refused, struck_as, asking, carried_out, order_by, order_where, order_event}
-use Rattle.service_events.specs.State.{Kept, After, after, answers, next_id, is_in_flight}
+use Rattle.service_events.specs.Messages.{rule, taken, origin_of, is_known, is_too_much, acked_again, created_entry, created_place, at_version, taken_by, take_admitted, take_event, heard, seen_row, confirmed_row, answer_taken_by, answer_taken_where, take_answer_event, replies_to, had, is_now, hold_of, held_back, held_where, posted, posted_event}
+use Rattle.service_events.specs.Orders.{refused, carried_out, order_by, order_where, order_event}
+use Rattle.service_events.specs.State.{Kept, After, after, answers, next_id, is_in_flight, base}
 use Rattle.service_events.specs.Steps.{new_record, new_numbers, Stale, stale_in, step_by, step_event}
 use Rattle.service_events.specs.declared.answers.PostReply.{PostReply}
-use Rattle.service_events.specs.declared.answers.PostReply.TheVariants.{Acked as WasAcked, Confirmed as WasHeard, Refused, Lost}
+use Rattle.service_events.specs.declared.answers.PostReply.TheVariants.{Acked as WasAcked, Confirmed as WasConfirmedBack, Refused, Lost}
 use Rattle.service_events.specs.declared.answers.Posted.TheVariants.{Held, Left}
 use Rattle.service_events.specs.declared.refusals.AnswerRefused.{AnswerRefused}
 use Rattle.service_events.specs.declared.refusals.OrderRefused.{OrderRefused}
@@ -49,7 +49,7 @@ module _ (s : Kept) (h : AllRuns s.setting s.entries) where
       runs_with s.setting s.entries (remade x.entry (new_record s x.rows x.entry) (new_numbers s x.entry (new_record s x.rows x.entry))) (new_is_run s x.rows x.entry) h
 
   pub step_runs : LeavesRuns (step_event s)
-  step_runs = step_by_runs (stale_in (answers s) [] s.entries)
+  step_runs = step_by_runs (stale_in (answers s) (base s) s.entries)
 
   -- ---- a version of a call
 
@@ -73,20 +73,20 @@ module _ (s : Kept) (h : AllRuns s.setting s.entries) where
 
   -- ---- an answer
 
-  heard_by_runs : (a : AnswerMessage) (r : Register) → LeavesRuns (heard_by s a r)
-  heard_by_runs a r =
+  answer_taken_by_runs : (a : AnswerMessage) (r : Register) → LeavesRuns (answer_taken_by s a r)
+  answer_taken_by_runs a r =
       cond_both (not (same_text r.dest a.callee)) (after s (Err (AnswerRefused.Unknown a.number)))
       (cond (is_newer r.answer a.answer_version) (after (noted (seen_row a ∷ (confirmed_row a ∷ [])) s) (Ok (heard a (Some rule)))) (after (noted (confirmed_row a ∷ []) s) (Ok (heard a None)))) LeavesRuns
       (λ _. h)
       (λ _. cond_both (is_newer r.answer a.answer_version) (after (noted (seen_row a ∷ (confirmed_row a ∷ [])) s) (Ok (heard a (Some rule)))) (after (noted (confirmed_row a ∷ []) s) (Ok (heard a None))) LeavesRuns
       (λ _. h) (λ _. h))
 
-  heard_where_runs : (a : AnswerMessage) (o : Option Register) → LeavesRuns (heard_where s a o)
-  heard_where_runs a None = h
-  heard_where_runs a (Some r) = heard_by_runs a r
+  answer_taken_where_runs : (a : AnswerMessage) (o : Option Register) → LeavesRuns (answer_taken_where s a o)
+  answer_taken_where_runs a None = h
+  answer_taken_where_runs a (Some r) = answer_taken_by_runs a r
 
   pub take_answer_runs : (a : AnswerMessage) → LeavesRuns (take_answer_event s a)
-  take_answer_runs a = heard_where_runs a (register a.number s.registers)
+  take_answer_runs a = answer_taken_where_runs a (register a.number s.registers)
 
   -- ---- what comes back of a post
 
@@ -101,7 +101,7 @@ module _ (s : Kept) (h : AllRuns s.setting s.entries) where
 
   posted_by_runs : (post : Post) (answer : PostReply) → LeavesRuns (posted s post answer)
   posted_by_runs post (WasAcked ack) = h
-  posted_by_runs post (WasHeard c) = h
+  posted_by_runs post (WasConfirmedBack c) = h
   posted_by_runs post (Refused word number) = held_where_runs post (hold_of word number)
   posted_by_runs post (Lost note) = h
 
@@ -112,9 +112,9 @@ module _ (s : Kept) (h : AllRuns s.setting s.entries) where
   -- ---- an order
 
   carried_runs : (command : Command) (who : List ℕ) (i : Inputs) → AllRuns (carried_out s command who i).setting (carried_out s command who i).entries
-  carried_runs (Cancel id) who i = runs_changed s.setting s.entries id (struck_as true) (λ e here. here) h
-  carried_runs (Restore id) who i = runs_changed s.setting s.entries id (struck_as false) (λ e here. here) h
-  carried_runs (Replace id m p b) who i = runs_changed s.setting s.entries id (asking m p b) (λ e here. here) h
+  carried_runs (Cancel id) who i = runs_changed s.setting s.entries id (mark true) (λ e here. here) h
+  carried_runs (Restore id) who i = runs_changed s.setting s.entries id (mark false) (λ e here. here) h
+  carried_runs (Replace id m p b) who i = runs_changed s.setting s.entries id (replace m p b) (λ e here. here) h
   carried_runs (Create before after q) who i = runs_insert s.setting s.entries (place_between before after s.entries) (created (next_id s) q i) tt h
   carried_runs (Retry (OfCall n)) who i = h
   carried_runs (Retry (OfReply n)) who i = h

@@ -7,10 +7,10 @@ use Rattle.std.proofs.lemmas.Bool.{and_left}
 use Rattle.std.proofs.lemmas.List.Folds.{list_any-append}
 use Rattle.std.proofs.lemmas.List.Sums.{fold-append}
 use Rattle.lang_base.specs.Texts.{same_text}
+use Rattle.lang_core.specs.Origins.{is_call}
 use Rattle.lang_core.specs.declared.ids.Origin.{Origin}
 use Rattle.lang_core.specs.declared.ids.Origin.TheVariants.{Outside, Call}
 use Rattle.lang_core.specs.declared.request.Request.{Request}
-use Rattle.request_log.specs.Entries.{is_call}
 use Rattle.journal_rows.specs.Words.{asked_step, asked, taken_step, last_taken_of, request_step, request_now, struck_step, is_struck, answered_step, last_answered, mark_step, last_mark, is_about, comes_from}
 use Rattle.journal_rows.specs.declared.callee.AnsweredRow.{AnsweredRow}
 use Rattle.journal_rows.specs.declared.callee.AskedRow.{AskedRow}

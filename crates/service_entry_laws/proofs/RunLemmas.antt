@@ -14,12 +14,11 @@ use Rattle.lang_core.specs.declared.trace.Trace.{Trace}
 use Rattle.handler_run.specs.Handlers.{run_of}
 use Rattle.handler_run.specs.declared.state.Ran.{Ran}
 use Rattle.handler_run.specs.declared.state.Ran.TheVariants.{Done, Wants}
-use Rattle.request_log.specs.Entries.{has_id, is_alive, with_entry}
+use Rattle.request_log.specs.Entries.{has_id, is_alive, with_entry, changed}
 use Rattle.request_log.specs.declared.entry.Entry.{Entry}
 use Rattle.local_repair.specs.Current.{IsRun, AllRuns}
 use Rattle.local_repair.specs.Steps.{calls_of_made, answer_at}
 use Rattle.local_repair.proofs.HandlerLemmas.{handler}
-use Rattle.service_events.specs.Orders.{at_id}
 use Rattle.service_events.specs.State.{Kept, answers}
 use Rattle.service_events.specs.Steps.{ended_or, rerun, new_trace, new_record}
 
@@ -82,7 +81,7 @@ pub runs_with : (setting : Setting) (log : List Entry) (x : Entry) → HasRun se
 runs_with setting log x here all = All-set (HasRun setting) log (position_or_len (has_id x.id) log) x here all
 
 pub runs_changed : (setting : Setting) (log : List Entry) (id : ℕ) (f : Entry → Entry) → ((e : Entry) → HasRun setting e → HasRun setting (f e)) → AllRuns setting log
-    → AllRuns setting (at_id id f log)
+    → AllRuns setting (changed id f log)
 runs_changed setting log id f keeps all =
     All-map (HasRun setting) (λ e. cond (has_id id e) (f e) e) log
     (All-weaker (HasRun setting) (λ e. HasRun setting (cond (has_id id e) (f e) e))

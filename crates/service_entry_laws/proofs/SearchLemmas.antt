@@ -1,5 +1,5 @@
 -- Searches in lists that get an element more, or another one in the place of one.
-use Rattle.std.proofs.Common.{◌≡◌, ℕ, zero, suc, ◌+◌, Bool, true, false, cond, List, [], ◌∷◌, ◌++◌, map, length, set, slice_get, Option, Some, None, IsSome, IfSome, IsSomeAnd, ◌||◌, find, insert, All, refl, sym, ap, ◌∙◌, subst, inl, inr, ◌⊎◌, nat_eq, arith}
+use Rattle.std.proofs.Common.{◌≡◌, ℕ, zero, suc, ◌+◌, Bool, true, false, cond, List, [], ◌∷◌, ◌++◌, map, length, set, slice_get, Option, Some, None, IsSome, IfSome, IsSomeAnd, ◌||◌, find, insert, All, refl, sym, ap, ◌∙◌, subst, inl, inr, ◌⊎◌, nat_eq, arith, ◌<◌, Contains, get_or}
 use Rattle.std.specs.List.{position_or_len}
 use Rattle.std.proofs.lemmas.Bool.{cases_Bool, and_parts, eqb-true}
 use Rattle.std.proofs.lemmas.List.Elements.{All-head, All-tail}
@@ -132,3 +132,15 @@ pub none_changed : {X : Type 0} (p : X → Bool) (f : X → X) (xs : List X) →
 none_changed p f [] h = refl
 none_changed p f (x ∷ xs) h =
     let parts = none_first (p x) x (find p xs) h in rw parts.0 (ap (λ zs. x ∷ zs) (none_changed p f xs parts.1))
+
+-- ---- what is there
+
+pub contains_here : {X : Type 0} (x : X) (xs : List X) → Contains (x ∷ xs) x
+contains_here x xs = (0, omega arith, refl)
+
+pub contains_cases : {X : Type 0} (y x : X) (xs : List X) → Contains (y ∷ xs) x → (y ≡ x) ⊎ Contains xs x
+contains_cases y x xs h = at h.0 h.1 h.2
+  where
+    at : (k : ℕ) → k < length (y ∷ xs) → get_or (y ∷ xs) k x ≡ x → (y ≡ x) ⊎ Contains xs x
+    at zero l e = inl e
+    at (suc k) l e = inr (k, omega (arith, l), e)

@@ -12,6 +12,7 @@ use Rattle.lang_core.specs.declared.ids.Origin.{Origin}
 use Rattle.lang_core.specs.declared.ids.Origin.TheVariants.{Outside, Call}
 use Rattle.lang_core.specs.declared.trace.CallMade.{CallMade}
 use Rattle.request_log.specs.Entries.{has_id, IsDistinct, with_entry}
+use Rattle.request_log.specs.Records.{record_in}
 use Rattle.request_log.specs.declared.entry.Entry.{Entry}
 use Rattle.request_log.specs.declared.entry.Made.{Made}
 use Rattle.local_repair.specs.Current.{Consumed, after_entry}
@@ -24,12 +25,11 @@ use Rattle.journal_rows.specs.declared.row.Row.TheVariants.{Answered}
 use Rattle.journal_rows.specs.declared.words.Mark.TheVariants.{Unsettled}
 use Rattle.call_registers.specs.Registers.{next_number}
 use Rattle.call_registers.specs.Replies.{reply, at_entry, with_answer}
-use Rattle.call_registers.specs.declared.register.Answer.{Answer}
 use Rattle.call_registers.specs.declared.register.Register.{Register}
 use Rattle.call_registers.specs.declared.reply.Reply.{Reply}
 use Rattle.service_events.specs.Calls.{replaced, deleted, named, slot_rows, next_after, settling_rows}
-use Rattle.service_events.specs.Fits.{IsAsNow, HasAnswered, HasReply, IsReply, made_as, asked_as, answer_given}
-use Rattle.service_events.specs.State.{Kept, answers}
+use Rattle.service_events.specs.Fits.{IsAsNow, HasAnswered, HasReply, IsReply, made_as, asked_as, answer_recorded, answer_given}
+use Rattle.service_events.specs.State.{Kept, answers, base}
 use Rattle.service_events.specs.Steps.{new_record, new_numbers, sent_rows, answer_rows, answered_replies, stepped, Stale, stale_in, step_by, step_event}
 use Rattle.service_entry_laws.proofs.CallerLaws.{IsCallerRow, each_append, callers_logged}
 use Rattle.service_entry_laws.proofs.CommitLaw.{answered_here, deleted_callers}
@@ -66,8 +66,7 @@ settling_callers registers [] (o ∷ os) [] next = tt
 -- ---- where there is no new answer, the record answers what the old one did
 
 same_answer : (v : ℕ) (made : Option Made) (m : Made) → is_new_answer made m ≡ false
-    → option_map {U = Answer} (λ (k : Made). record { answer_version = v; version = k.version; response = k.trace.response }) (Some m)
-    ≡ option_map {U = Answer} (λ (k : Made). record { answer_version = v; version = k.version; response = k.trace.response }) made
+    → Some (answer_recorded v (record_in m)) ≡ option_map (answer_recorded v) (option_map record_in made)
 same_answer v None m e = cc
 same_answer v (Some old) m e =
     let same = not-false (nat_eq old.version m.version && equal response.the_row.coded old.trace.response m.trace.response) e in
@@ -204,7 +203,7 @@ module _ (j : List Row) (log : List Entry) (kept : List Reply) (h : IsLogged j l
 
   same_answered : is_new_answer e.made m ≡ false → HasAnswered j (remade e m slots)
   same_answered is = record {
-    answer = ap (λ v. option_map {U = Answer} (λ (k : Made). record { answer_version = v; version = k.version; response = k.trace.response }) (Some m)) (same_version is)
+    answer = ap (λ v. Some (answer_recorded v (record_in m))) (same_version is)
         ∙ same_answer e.answer_version e.made m is ∙ answered_is.answer;
     first = λ none. cc;
   }
@@ -294,10 +293,10 @@ module _ (s : Kept) (h : IsLogged s.journal s.entries s.replies) where
       subst (λ j. IsLogged j (with_entry (remade e m (new_numbers s e m)) s.entries) (answered_replies s e m)) (append_assoc s.journal sent (answer_rows e m))
       (either e m (is_new_answer e.made m) refl before (λ is. small e m is most few) found version)
 
-  step_by_logged : (o : Option Stale) → stale_in (answers s) [] s.entries ≡ o → IsFew (step_by s o).service → LeavesLogged (step_by s o)
+  step_by_logged : (o : Option Stale) → stale_in (answers s) (base s) s.entries ≡ o → IsFew (step_by s o).service → LeavesLogged (step_by s o)
   step_by_logged None is few = h
   step_by_logged (Some x) is few =
       stepped_logged x.entry (new_record s x.rows x.entry) (stands_found (answers s) s.entries x (steps_at (answers s) [] s.entries x is) h.asked.distinct) refl few
 
   pub step_logged : IsFew (step_event s).service → LeavesLogged (step_event s)
-  step_logged few = step_by_logged (stale_in (answers s) [] s.entries) refl few
+  step_logged few = step_by_logged (stale_in (answers s) (base s) s.entries) refl few

@@ -6,16 +6,17 @@ use Rattle.std.proofs.lemmas.Bool.{cond_both, cond-true, or_right, false_from_ne
 use Rattle.std.proofs.lemmas.List.Elements.{All-push}
 use Rattle.std.proofs.lemmas.List.Folds.{list_any-append}
 use Rattle.std.proofs.lemmas.List.Sums.{fold_push, fold-append}
+use Rattle.lang_core.specs.Origins.{is_call}
 use Rattle.lang_core.specs.declared.ids.Origin.TheVariants.{Call}
 use Rattle.lang_core.specs.declared.inputs.Inputs.{Inputs}
 use Rattle.lang_core.specs.declared.request.Request.{Request}
-use Rattle.request_log.specs.Entries.{has_id, is_call, find_call, with_entry}
+use Rattle.request_log.specs.Entries.{has_id, find_call, with_entry}
 use Rattle.request_log.specs.declared.entry.Entry.{Entry}
 use Rattle.repair_messages.specs.declared.messages.SetMessage.{SetMessage}
 use Rattle.journal_rows.specs.Words.{first_asked, asked_step, asked, count_step, taken_step, last_taken, version_in, taken_version, taken_version_of, wants, request_step, request_now, struck_step, answered_step, mark_step, last_mark, settles, or_before}
 use Rattle.journal_rows.specs.declared.callee.AskedRow.{AskedRow}
 use Rattle.journal_rows.specs.declared.callee.TookRow.{TookRow}
-use Rattle.journal_rows.specs.declared.caller.How.TheVariants.{Message}
+use Rattle.journal_rows.specs.declared.callee.TookHow.TheVariants.{Message}
 use Rattle.journal_rows.specs.declared.row.Row.{Row}
 use Rattle.journal_rows.specs.declared.row.Row.TheVariants.{Asked}
 use Rattle.journal_rows.specs.declared.words.Mark.TheVariants.{Unsettled}

@@ -7,14 +7,14 @@ use Rattle.service_events.specs.Fits.{Fits}
 below_none : (k : ℕ) → k < 0 → ⊥
 below_none k h = omega (arith, h)
 
-never : false ≡ true → ⊥
-never h = cc
+false_is_not_true : false ≡ true → ⊥
+false_is_not_true h = cc
 
 pub fits_start : (setting : Setting) → Fits (fresh setting)
 fits_start setting =
     record {
       sent = record { rows = tt; registers = λ n. refl; count = refl; numbered = tt };
-      seen = record { rows = tt; registers = λ n. tt; answered = λ n told. absurd (never told); heard = λ n. omega arith };
+      seen = record { rows = tt; registers = λ n. tt; answered = λ n told. absurd (false_is_not_true told); heard = λ n. omega arith };
       taken = tt;
       asked = record {
         rows = tt;

@@ -6,13 +6,13 @@ use Rattle.lang_core.specs.declared.ids.Origin.TheVariants.{Outside, Call}
 use Rattle.lang_core.specs.declared.inputs.Inputs.{Inputs}
 use Rattle.lang_core.specs.declared.request.Request.{Request}
 use Rattle.request_log.specs.Entries.{find_call}
+use Rattle.request_log.specs.Records.{Record, record_of}
 use Rattle.request_log.specs.declared.entry.Entry.{Entry}
-use Rattle.request_log.specs.declared.entry.Made.{Made}
 use Rattle.repair_messages.specs.declared.messages.AnswerMessage.{AnswerMessage}
 use Rattle.journal_rows.specs.Words.{last_taken}
 use Rattle.journal_rows.specs.declared.callee.TookRow.{TookRow}
 use Rattle.journal_rows.specs.declared.caller.AckHow.TheVariants.{WithAnswer}
-use Rattle.journal_rows.specs.declared.caller.How.TheVariants.{Live}
+use Rattle.journal_rows.specs.declared.caller.SawHow.TheVariants.{Live}
 use Rattle.journal_rows.specs.declared.row.Row.{Row}
 use Rattle.journal_rows.specs.declared.row.Row.TheVariants.{SawAck, SawAnswer}
 use Rattle.call_registers.specs.Registers.{register, at_number, with_cause, is_newer}
@@ -48,12 +48,12 @@ admitted s origin q i None = accepted (goes_on s (new_flight s origin q i))
 abbrev pub arrives : Kept → Origin → Request → Inputs → After (Result Arrived ArriveRefused)
 arrives s origin q i = admitted s origin q i (or_else (is_crowded s) (is_heavy s))
 
-abbrev pub known_by : Kept → List ℕ → ℕ → Entry → Option Made → After (Result Arrived ArriveRefused)
+abbrev pub known_by : Kept → List ℕ → ℕ → Entry → Option Record → After (Result Arrived ArriveRefused)
 known_by s caller number e None = after s (Err (NotYet number))
-known_by s caller number e (Some m) = after s (Ok (Known (last_answer s caller number e m)))
+known_by s caller number e (Some r) = after s (Ok (Known (last_answer s caller number e r)))
 
 abbrev pub arrives_or_known : Kept → List ℕ → ℕ → Request → Inputs → Option Entry → After (Result Arrived ArriveRefused)
-arrives_or_known s caller number q i (Some e) = known_by s caller number e e.made
+arrives_or_known s caller number q i (Some e) = known_by s caller number e (record_of e)
 arrives_or_known s caller number q i None = arrives s (Call caller number) q i
 
 abbrev pub by_version : Kept → ℕ → Option Request → After (Result Arrived ArriveRefused) → After (Result Arrived ArriveRefused)
@@ -101,15 +101,15 @@ seen_live a =
     })
 
 -- the rows of a live answer
-abbrev pub heard_rows : Kept → AnswerMessage → List Row
-heard_rows s a =
+abbrev pub live_answer_rows : Kept → AnswerMessage → List Row
+live_answer_rows s a =
     SawAck (record { number = a.number; version = a.version; how = WithAnswer a.answer_version })
     ∷ (if is_new_to a (register a.number s.registers) then seen_live a ∷ [] else [])
 
 abbrev pub answered_flight : Kept → ℕ → AnswerMessage → Option Flight → After (Result Arrived CallRefused)
 answered_flight s id a None = after s (Err (NoFlight id))
 answered_flight s id a (Some f) =
-    if is_for s a f then accepted (goes_on (noted (heard_rows s a) s) f) else after s (Err (NoFlight id))
+    if is_for s a f then accepted (goes_on (noted (live_answer_rows s a) s) f) else after s (Err (NoFlight id))
 
 abbrev pub call_answered_event : Kept → ℕ → AnswerMessage → After (Result Arrived CallRefused)
 call_answered_event s id a = answered_flight s id a (flight_of id s)

@@ -8,19 +8,17 @@ use Rattle.lang_core.specs.declared.inputs.Inputs.{Inputs}
 use Rattle.lang_core.specs.declared.request.Request.{Request}
 use Rattle.lang_core.specs.declared.trace.CallMade.{CallMade}
 use Rattle.request_log.specs.Entries.{has_id, find_call, IsDistinct}
+use Rattle.request_log.specs.Records.{Record, record_of, recorded_calls}
 use Rattle.request_log.specs.declared.entry.Entry.{Entry}
-use Rattle.request_log.specs.declared.entry.Made.{Made}
 use Rattle.local_repair.specs.Current.{AllRuns}
-use Rattle.local_repair.specs.Steps.{calls_of_made}
 use Rattle.journal_rows.specs.Words.{last_sent, named, seen_acked, last_seen, seen_version, claimed, taken_version, taken_version_of, last_taken_of, is_version_of, wants, asked, asked_count, last_answered, given_version, request_now, is_struck, last_mark, settles, ordered, last_row}
 use Rattle.journal_rows.specs.declared.callee.AnsweredRow.{AnsweredRow}
 use Rattle.journal_rows.specs.declared.callee.AskedRow.{AskedRow}
 use Rattle.journal_rows.specs.declared.caller.AckHow.{AckHow}
 use Rattle.journal_rows.specs.declared.caller.AckHow.TheVariants.{WithAnswer, ToPost}
-use Rattle.journal_rows.specs.declared.caller.How.TheVariants.{Live, Message}
-use Rattle.journal_rows.specs.declared.caller.SawAnswerRow.{SawAnswerRow}
+use Rattle.journal_rows.specs.declared.callee.TookHow.TheVariants.{Live, Message}
 use Rattle.journal_rows.specs.declared.caller.SentRow.{SentRow}
-use Rattle.journal_rows.specs.declared.caller.How.{How}
+use Rattle.journal_rows.specs.declared.callee.TookHow.{TookHow}
 use Rattle.journal_rows.specs.declared.orders.About.{About}
 use Rattle.journal_rows.specs.declared.orders.About.TheVariants.{Request as AboutRequest, Post as AboutPost}
 use Rattle.journal_rows.specs.declared.orders.Command.{Command}
@@ -34,6 +32,7 @@ use Rattle.call_registers.specs.declared.register.Register.{Register}
 use Rattle.call_registers.specs.declared.reply.Reply.{Reply}
 use Rattle.flights.specs.declared.flight.Flight.{Flight}
 use Rattle.service_events.specs.State.{Kept, same_call_origin}
+use Rattle.service_events.specs.Calls.{seen_answer}
 
 -- each row may stand after those before it
 abbrev pub EachAfter : (List Row → Row → Type 0) → List Row → List Row → Type 0
@@ -74,31 +73,28 @@ abbrev pub is_with_answer : AckHow → Bool
 is_with_answer (WithAnswer answer_version) = true
 is_with_answer ToPost = false
 
-abbrev pub answer_of : SawAnswerRow → Answer
-answer_of a = record { answer_version = a.answer_version; version = a.version; response = a.response }
-
 -- a register has this greatest version that was acknowledged and this last answer
 pub record HasSeen (greatest : ℕ) (last : Option Answer) (r : Register) : Type 0 where
   pub acked : r.acked ≡ greatest
   pub answer : r.answer ≡ last
 
--- the row says that an answer to the call of this number was heard
-abbrev pub tells_heard : ℕ → Row → Bool
-tells_heard number (SawAck a) = nat_eq a.number number && is_with_answer a.how
-tells_heard number (Confirmed c) = nat_eq c.number number
-tells_heard number row = false
+-- the row says that an answer to the call of this number was seen
+abbrev pub tells_of_answer : ℕ → Row → Bool
+tells_of_answer number (SawAck a) = nat_eq a.number number && is_with_answer a.how
+tells_of_answer number (Confirmed c) = nat_eq c.number number
+tells_of_answer number row = false
 
 pub record FitsSeen (journal : List Row) (kept : List Register) : Type 0 where
   pub rows : EachAfter SeesOn [] journal
   pub registers : (number : ℕ)
-      → IfSome (register number kept) (HasSeen (seen_acked number journal) (option_map answer_of (last_seen number journal)))
-  pub answered : (number : ℕ) → list_any (tells_heard number) journal ≡ true → IsSome (last_seen number journal)
+      → IfSome (register number kept) (HasSeen (seen_acked number journal) (option_map seen_answer (last_seen number journal)))
+  pub answered : (number : ℕ) → list_any (tells_of_answer number) journal ≡ true → IsSome (last_seen number journal)
   pub heard : (number : ℕ) → claimed number journal ≤ seen_version (last_seen number journal)
 
 -- ---- c. What was taken of other services' calls
 
 -- a live one is the first of its call
-abbrev pub IsFirst : How → ℕ → Option Request → Type 0
+abbrev pub IsFirst : TookHow → ℕ → Option Request → Type 0
 IsFirst Live version desired = (version ≡ 1) × IsSome desired
 IsFirst Message version desired = Unit {0}
 
@@ -172,9 +168,11 @@ AnswersOn before (Answered a) =
 AnswersOn before row = Unit {0}
 
 -- what a record says of its entry's last answer, and what the row says
+abbrev pub answer_recorded : ℕ → Record → Answer
+answer_recorded answer_version r = record { answer_version = answer_version; version = r.version; response = r.response }
+
 abbrev pub answer_made : Entry → Option Answer
-answer_made e =
-    option_map (λ (m : Made). record { answer_version = e.answer_version; version = m.version; response = m.trace.response }) e.made
+answer_made e = option_map (answer_recorded e.answer_version) (record_of e)
 
 abbrev pub answer_given : AnsweredRow → Answer
 answer_given a = record { answer_version = a.answer_version; version = a.version; response = a.response }
@@ -182,7 +180,7 @@ answer_given a = record { answer_version = a.answer_version; version = a.version
 -- an entry has a record exactly where it answered, and no answer version without one
 pub record HasAnswered (journal : List Row) (e : Entry) : Type 0 where
   pub answer : answer_made e ≡ option_map answer_given (last_answered e.id journal)
-  pub first : e.made ≡ None → e.answer_version ≡ 0
+  pub first : record_of e ≡ None → e.answer_version ≡ 0
 
 pub record FitsAnswered (journal : List Row) (log : List Entry) : Type 0 where
   pub rows : EachAfter AnswersOn [] journal
@@ -223,18 +221,18 @@ pub record FitsReplies (journal : List Row) (log : List Entry) (replies : List R
 -- ---- h. Where calls stand
 
 -- the numbers of an entry's or a flight's calls, and these calls
-pub record Place : Type 0 where
+pub record NumberedCalls : Type 0 where
   pub numbers : List ℕ
   pub calls : List CallMade
 
-abbrev pub place_of_entry : Entry → Place
-place_of_entry e = record { numbers = e.slots; calls = calls_of_made e.made }
+abbrev pub calls_of_entry : Entry → NumberedCalls
+calls_of_entry e = record { numbers = e.slots; calls = recorded_calls (record_of e) }
 
-abbrev pub place_of_flight : Flight → Place
-place_of_flight f = record { numbers = f.numbers; calls = f.calls }
+abbrev pub calls_of_flight : Flight → NumberedCalls
+calls_of_flight f = record { numbers = f.numbers; calls = f.calls }
 
-abbrev pub places : Kept → List Place
-places s = map place_of_entry s.entries ++ map place_of_flight s.flights
+abbrev pub places : Kept → List NumberedCalls
+places s = map calls_of_entry s.entries ++ map calls_of_flight s.flights
 
 abbrev pub call_to : List ℕ → Option Request → Option CallMade
 call_to dest None = None
@@ -253,18 +251,18 @@ count n [] = 0
 count n (m ∷ ms) = (if nat_eq m n then 1 else 0) + count n ms
 
 -- how often a number stands in these places
-abbrev pub stands : ℕ → List Place → ℕ
-stands n [] = 0
-stands n (p ∷ ps) = count n p.numbers + stands n ps
+abbrev pub times_held : ℕ → List NumberedCalls → ℕ
+times_held n [] = 0
+times_held n (p ∷ ps) = count n p.numbers + times_held n ps
 
 -- each call of a place is the one that is wanted under its number
-abbrev pub WantsItsCalls : List Register → Place → Type 0
+abbrev pub WantsItsCalls : List Register → NumberedCalls → Type 0
 WantsItsCalls registers p = map (wanted_call registers) p.numbers ≡ map Some p.calls
 
 -- each number whose call is wanted stands once, and no other stands anywhere
-pub record FitsPlaces (registers : List Register) (ps : List Place) : Type 0 where
+pub record FitsPlaces (registers : List Register) (ps : List NumberedCalls) : Type 0 where
   pub calls : All (WantsItsCalls registers) ps
-  pub once : (number : ℕ) → stands number ps ≡ option_map_or (λ c. 1) (wanted_call registers number) 0
+  pub once : (number : ℕ) → times_held number ps ≡ option_map_or (λ c. 1) (wanted_call registers number) 0
 
 -- ---- i. The flights
 

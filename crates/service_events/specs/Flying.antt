@@ -9,13 +9,13 @@ use Rattle.lang_core.specs.declared.trace.Trace.{Trace}
 use Rattle.handler_run.specs.Handlers.{run_of}
 use Rattle.handler_run.specs.declared.state.Ran.{Ran}
 use Rattle.handler_run.specs.declared.state.Ran.TheVariants.{Done, Wants}
+use Rattle.request_log.specs.Records.{Record, record_of}
 use Rattle.request_log.specs.declared.entry.Entry.{Entry}
-use Rattle.request_log.specs.declared.entry.Made.{Made}
 use Rattle.local_repair.specs.Alone.{trace_or_dead}
-use Rattle.local_repair.specs.Current.{rows_of}
+use Rattle.local_repair.specs.Current.{rows_after}
 use Rattle.repair_messages.specs.declared.messages.AnswerMessage.{AnswerMessage}
 use Rattle.repair_messages.specs.declared.messages.SetMessage.{SetMessage}
-use Rattle.journal_rows.specs.declared.caller.How.TheVariants.{Live}
+use Rattle.journal_rows.specs.declared.callee.TookHow.TheVariants.{Live}
 use Rattle.journal_rows.specs.declared.row.Row.{Row}
 use Rattle.journal_rows.specs.declared.row.Row.TheVariants.{Asked, Took, Answered}
 use Rattle.call_registers.specs.Registers.{next_number, at_number, with_cause}
@@ -26,14 +26,14 @@ pub use Rattle.flights.specs.Numbers.{awaited}
 use Rattle.flights.specs.declared.flight.Flight.{Flight}
 use Rattle.flights.specs.declared.flight.Move.{Move}
 use Rattle.flights.specs.declared.flight.Move.TheVariants.{Commit, Name, Change}
-use Rattle.service_events.specs.State.{Kept, After, after, me, answers, next_id, without_flight, with_flight}
+use Rattle.service_events.specs.State.{Kept, After, after, me, answers, next_id, without_flight, with_flight, base}
 use Rattle.service_events.specs.Calls.{noted, named, deleted, all_deleted}
 use Rattle.service_events.specs.declared.answers.Arrived.{Arrived}
 use Rattle.service_events.specs.declared.answers.Arrived.TheVariants.{Done as Committed, Call as Sends}
 
 -- its run on the rows at the end of the log, with the answers that its calls consume now
 abbrev pub flight_run : Kept → Flight → Ran
-flight_run s f = run_of s.setting f.request f.inputs (map (answers s) f.numbers) (rows_of s.entries)
+flight_run s f = run_of s.setting f.request f.inputs (map (answers s) f.numbers) (rows_after (base s) s.entries)
 
 -- ---- the commit
 
@@ -107,23 +107,23 @@ abbrev pub answer_index : Kept → Flight → Trace → ℕ
 answer_index s f t = length s.journal + length (before_answer s f t)
 
 -- the last answer of an entry, to the call that it comes from
-abbrev pub last_answer : Kept → List ℕ → ℕ → Entry → Made → AnswerMessage
-last_answer s caller number e m =
+abbrev pub last_answer : Kept → List ℕ → ℕ → Entry → Record → AnswerMessage
+last_answer s caller number e r =
     record {
       caller = caller;
       callee = me s;
       id = e.id;
       number = number;
       answer_version = e.answer_version;
-      version = m.version;
-      response = m.trace.response;
+      version = r.version;
+      response = r.response;
       who = me s;
     }
 
 -- the answer of an entry that was made, where it comes from a call
 abbrev pub answer_to_caller : Kept → Origin → Entry → Option AnswerMessage
 answer_to_caller s Outside e = None
-answer_to_caller s (Call caller number) e = option_map (last_answer s caller number e) e.made
+answer_to_caller s (Call caller number) e = option_map (last_answer s caller number e) (record_of e)
 
 -- the flight did this, and is the last entry of the log
 abbrev pub committed : Kept → Flight → Trace → After Arrived

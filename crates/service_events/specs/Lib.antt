@@ -8,3 +8,6 @@ pub mod Orders
 pub mod Fits
 pub mod Posts
 pub mod Doing
+pub mod Commits
+pub mod Progress
+pub mod Ages

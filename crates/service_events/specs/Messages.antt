@@ -1,4 +1,4 @@
--- Events of repair messages: a version of a call is taken, an answer is heard, something comes back of a post.
+-- Events of repair messages: a version of a call is taken, an answer is taken, something comes back of a post.
 use Rattle.std.specs.Prelude.{ℕ, ◌+◌, Bool, true, false, ◌&&◌, not, List, [], ◌∷◌, ◌++◌, Option, Some, None, Result, Ok, Err, if◌then◌else◌, nat_eq, nat_le, length, find, insert, is_some, option_map}
 use Rattle.lang_base.specs.Texts.{same_text}
 use Rattle.lang_core.specs.declared.ids.Origin.{Origin}
@@ -16,7 +16,8 @@ use Rattle.repair_messages.specs.declared.posts.Post.{Post}
 use Rattle.repair_messages.specs.declared.posts.Post.TheVariants.{Set, Answer}
 use Rattle.journal_rows.specs.Words.{taken_version, or_before}
 use Rattle.journal_rows.specs.declared.caller.AckHow.TheVariants.{ToPost}
-use Rattle.journal_rows.specs.declared.caller.How.TheVariants.{Message}
+use Rattle.journal_rows.specs.declared.callee.TookHow.TheVariants.{Message}
+use Rattle.journal_rows.specs.declared.caller.SawHow.TheVariants.{Message as SeenMessage}
 use Rattle.journal_rows.specs.declared.row.Row.{Row}
 use Rattle.journal_rows.specs.declared.row.Row.TheVariants.{Asked, Took, Acked, WasConfirmed, SawAck, SawAnswer, Confirmed}
 use Rattle.call_registers.specs.Registers.{register, at_number, with_hold, is_newer}
@@ -29,7 +30,7 @@ use Rattle.service_events.specs.State.{Kept, After, after, me, next_id, or_else,
 use Rattle.service_events.specs.Calls.{noted}
 use Rattle.service_events.specs.declared.answers.Heard.{Heard}
 use Rattle.service_events.specs.declared.answers.PostReply.{PostReply}
-use Rattle.service_events.specs.declared.answers.PostReply.TheVariants.{Acked as WasAcked, Confirmed as WasHeard, Refused, Lost}
+use Rattle.service_events.specs.declared.answers.PostReply.TheVariants.{Acked as WasAcked, Confirmed as WasConfirmedBack, Refused, Lost}
 use Rattle.service_events.specs.declared.answers.PostWord.{PostWord}
 use Rattle.service_events.specs.declared.answers.PostWord.TheVariants.{Denied as DeniedPost, Unknown as UnknownPost}
 use Rattle.service_events.specs.declared.answers.Posted.{Posted}
@@ -182,7 +183,7 @@ seen_row a =
       answer_version = a.answer_version;
       version = a.version;
       response = a.response;
-      how = Message;
+      how = SeenMessage;
       who = a.who;
       rule = rule;
     })
@@ -190,19 +191,19 @@ seen_row a =
 abbrev pub heard : AnswerMessage → Option ℕ → Heard
 heard a rule = record { confirm = confirm_of a; rule = rule }
 
-abbrev pub heard_by : Kept → AnswerMessage → Register → After (Result Heard AnswerRefused)
-heard_by s a r =
+abbrev pub answer_taken_by : Kept → AnswerMessage → Register → After (Result Heard AnswerRefused)
+answer_taken_by s a r =
     if not (same_text r.dest a.callee) then after s (Err (Unknown a.number))
     else (if is_newer r.answer a.answer_version
     then after (noted (seen_row a ∷ (confirmed_row a ∷ [])) s) (Ok (heard a (Some rule)))
     else after (noted (confirmed_row a ∷ []) s) (Ok (heard a None)))
 
-abbrev pub heard_where : Kept → AnswerMessage → Option Register → After (Result Heard AnswerRefused)
-heard_where s a None = after s (Err (Unknown a.number))
-heard_where s a (Some r) = heard_by s a r
+abbrev pub answer_taken_where : Kept → AnswerMessage → Option Register → After (Result Heard AnswerRefused)
+answer_taken_where s a None = after s (Err (Unknown a.number))
+answer_taken_where s a (Some r) = answer_taken_by s a r
 
 abbrev pub take_answer_event : Kept → AnswerMessage → After (Result Heard AnswerRefused)
-take_answer_event s a = heard_where s a (register a.number s.registers)
+take_answer_event s a = answer_taken_where s a (register a.number s.registers)
 
 -- ---- what comes back of a post
 
@@ -231,8 +232,8 @@ is_confirm_of a c =
 -- the reply is one to that post
 abbrev pub replies_to : Post → PostReply → Bool
 replies_to (Set set) (WasAcked ack) = is_ack_of set ack
-replies_to (Answer a) (WasHeard c) = is_confirm_of a c
-replies_to (Set set) (WasHeard c) = false
+replies_to (Answer a) (WasConfirmedBack c) = is_confirm_of a c
+replies_to (Set set) (WasConfirmedBack c) = false
 replies_to (Answer a) (WasAcked ack) = false
 replies_to post (Refused word number) = true
 replies_to post (Lost note) = true
@@ -282,7 +283,7 @@ confirmed_reply s (Set set) answer_version = s.replies
 
 abbrev pub posted : Kept → Post → PostReply → After (Result Posted PostRefused)
 posted s post (WasAcked ack) = after (noted (saw_ack_row ack ∷ []) s) (Ok PostAcked)
-posted s post (WasHeard c) =
+posted s post (WasConfirmedBack c) =
     after (noted (was_confirmed_row c ∷ []) (record s { replies = confirmed_reply s post c.answer_version })) (Ok PostConfirmed)
 posted s post (Refused word number) = held_where s post (hold_of word number)
 posted s post (Lost note) = after s (Ok Left)

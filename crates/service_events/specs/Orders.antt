@@ -1,12 +1,11 @@
 -- Orders of operators.
-use Rattle.std.specs.Prelude.{ℕ, Bool, true, false, List, [], ◌∷◌, Option, Some, None, Result, Ok, Err, if◌then◌else◌, map, find, insert, option_map}
+use Rattle.std.specs.Prelude.{ℕ, Bool, true, false, List, [], ◌∷◌, Option, Some, None, Result, Ok, Err, if◌then◌else◌, find, insert, option_map}
 use Rattle.std.specs.Option.{option_map_or}
-use Rattle.lang_tree.specs.declared.method.Method.{Method}
 use Rattle.lang_core.specs.declared.ids.Origin.{Origin}
 use Rattle.lang_core.specs.declared.ids.Origin.TheVariants.{Outside, Call}
 use Rattle.lang_core.specs.declared.inputs.Inputs.{Inputs}
 use Rattle.lang_core.specs.declared.request.Request.{Request}
-use Rattle.request_log.specs.Entries.{has_id}
+use Rattle.request_log.specs.Entries.{has_id, changed, mark, replace, with_call}
 use Rattle.request_log.specs.declared.entry.Entry.{Entry}
 use Rattle.create_placement.specs.Placement.{place_between, created}
 use Rattle.repair_messages.specs.declared.posts.PostName.{PostName}
@@ -78,18 +77,6 @@ refused s command = or_else (misnamed s command) (option_map (λ n. Full n) (is_
 
 -- ---- what an accepted order does
 
-abbrev pub with_call : Method → List ℕ → List ℕ → Request → Request
-with_call method path body q = record q { method = method; path = path; body = body }
-
-abbrev pub at_id : ℕ → (Entry → Entry) → List Entry → List Entry
-at_id id f entries = map (λ e. if has_id id e then f e else e) entries
-
-abbrev pub struck_as : Bool → Entry → Entry
-struck_as struck e = record e { struck = struck }
-
-abbrev pub asking : Method → List ℕ → List ℕ → Entry → Entry
-asking method path body e = record e { request = with_call method path body e.request }
-
 abbrev pub about : Kept → Command → About
 about s (Cancel id) = AboutRequest id
 about s (Restore id) = AboutRequest id
@@ -136,9 +123,9 @@ released_post who (OfReply id) s = record s { replies = at_entry id (released_re
 
 -- what it makes of the service, but its rows
 abbrev pub carried_out : Kept → Command → List ℕ → Inputs → Kept
-carried_out s (Cancel id) who i = record s { entries = at_id id (struck_as true) s.entries }
-carried_out s (Restore id) who i = record s { entries = at_id id (struck_as false) s.entries }
-carried_out s (Replace id method path body) who i = record s { entries = at_id id (asking method path body) s.entries }
+carried_out s (Cancel id) who i = record s { entries = changed id (mark true) s.entries }
+carried_out s (Restore id) who i = record s { entries = changed id (mark false) s.entries }
+carried_out s (Replace id method path body) who i = record s { entries = changed id (replace method path body) s.entries }
 carried_out s (Create before after q) who i =
     record s { entries = insert s.entries (place_between before after s.entries) (created (next_id s) q i) }
 carried_out s (Retry name) who i = released_post who name s

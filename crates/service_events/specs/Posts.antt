@@ -5,8 +5,8 @@ use Rattle.std.specs.Option.{option_map_or}
 use Rattle.lang_base.specs.Texts.{same_text}
 use Rattle.lang_core.specs.declared.trace.CallMade.{CallMade}
 use Rattle.request_log.specs.Entries.{has_id}
+use Rattle.request_log.specs.Records.{Record, record_of}
 use Rattle.request_log.specs.declared.entry.Entry.{Entry}
-use Rattle.request_log.specs.declared.entry.Made.{Made}
 use Rattle.repair_messages.specs.declared.messages.SetMessage.{SetMessage}
 use Rattle.repair_messages.specs.declared.posts.Post.{Post}
 use Rattle.repair_messages.specs.declared.posts.Post.TheVariants.{Set, Answer}
@@ -96,12 +96,12 @@ set_message s r =
     }
 
 -- an entry's last answer, to the call that its reply is to
-abbrev pub answer_post : Kept → Reply → Entry → Made → Post
-answer_post s p e m = Answer (record (last_answer s p.caller p.number e m) { who = p.repair_who })
+abbrev pub answer_post : Kept → Reply → Entry → Record → Post
+answer_post s p e r = Answer (record (last_answer s p.caller p.number e r) { who = p.repair_who })
 
 abbrev pub reply_post : Kept → Reply → Option Entry → Option Post
 reply_post s p None = None
-reply_post s p (Some e) = option_map (answer_post s p e) e.made
+reply_post s p (Some e) = option_map (answer_post s p e) (record_of e)
 
 abbrev pub where_there : Kept → Option Reply → Option Post
 where_there s None = None

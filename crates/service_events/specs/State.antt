@@ -2,11 +2,12 @@
 use Rattle.std.specs.Prelude.{ℕ, ◌+◌, Bool, List, [], Option, Some, None, if◌then◌else◌, nat_le, length, refl}
 use Rattle.std.specs.Coded.{Coded, code_by, coded×, coded_list}
 use Rattle.lang_core.specs.contracts.setting.Setting as setting
+use Rattle.lang_core.specs.declared.cells.Cell.{Cell}
 use Rattle.lang_core.specs.declared.ids.Origin.{Origin}
 use Rattle.lang_core.specs.declared.setting.Setting.{Setting}
 use Rattle.request_log.specs.contracts.entry.Entry as entry
 use Rattle.request_log.specs.declared.entry.Entry.{Entry}
-use Rattle.local_repair.specs.Current.{Consumed}
+use Rattle.local_repair.specs.Current.{Consumed, base_rows}
 use Rattle.local_repair.specs.Steps.{answer_or_tentative}
 use Rattle.journal_rows.specs.Weights.{journal_weight}
 use Rattle.journal_rows.specs.contracts.row.Row as row
@@ -63,6 +64,10 @@ after s answer = record { service = s; answer = answer }
 
 abbrev pub me : Kept → List ℕ
 me s = s.setting.me
+
+-- the rows before its first entry: none, since it keeps all its entries
+abbrev pub base : Kept → List Cell
+base s = base_rows
 
 -- what each number consumes
 abbrev pub answers : Kept → Consumed

@@ -38,7 +38,7 @@ pub enum TakeRefused {
     Denied(u32),
 }
 
-/// Why an answer wasn't heard.
+/// Why an answer wasn't taken.
 #[derive(Clone, Copy, PartialEq, Eq)]
 pub enum AnswerRefused {
     /// There was no memory for it.

@@ -6,21 +6,21 @@ use Rattle.local_repair.specs.Settling.{HasItsSlots}
 use Rattle.local_repair.specs.Steps.{calls_of_made, StandOnce, AreApart}
 use Rattle.call_registers.specs.Registers.{IsNumbered}
 use Rattle.call_registers.specs.declared.register.Register.{Register}
-use Rattle.service_events.specs.Fits.{Place, FitsPlaces, WantsItsCalls, place_of_entry, count, stands, wanted_call}
+use Rattle.service_events.specs.Fits.{NumberedCalls, FitsPlaces, WantsItsCalls, calls_of_entry, count, times_held, wanted_call}
 use Rattle.service_call_laws.proofs.RowLemmas.{Each, each_of_all, each_front, all_of_each}
-use Rattle.service_call_laws.proofs.PlaceLemmas.{lengths, stands-append}
+use Rattle.service_call_laws.proofs.PlaceLemmas.{lengths, times_held-append}
 use Rattle.service_call_laws.proofs.EntryPlaces.{Stands}
 use Rattle.service_laws.proofs.SettledLaws.{counted, once_each, one_most, wanted_within}
 
 -- what stands in an entry stands in no other one
-each_away : (e : Entry) (es : List Entry) → ((n : ℕ) → count n e.slots + stands n (map place_of_entry es) ≤ 1) → Each (λ (f : Entry). (n : ℕ) → Contains e.slots n → Contains f.slots n → ⊥) es
+each_away : (e : Entry) (es : List Entry) → ((n : ℕ) → count n e.slots + times_held n (map calls_of_entry es) ≤ 1) → Each (λ (f : Entry). (n : ℕ) → Contains e.slots n → Contains f.slots n → ⊥) es
 each_away e [] h = tt
 each_away e (f ∷ fs) h = (
   λ n here there. (let most = h n in let mine = counted n e.slots here in let theirs = counted n f.slots there in omega (arith, most, mine, theirs)),
   each_away e fs (λ n. (let most = h n in omega (arith, most))),
 )
 
-pairs_apart : (es : List Entry) → ((n : ℕ) → stands n (map place_of_entry es) ≤ 1) → AllPairs (λ (e f : Entry). (n : ℕ) → Contains e.slots n → Contains f.slots n → ⊥) es
+pairs_apart : (es : List Entry) → ((n : ℕ) → times_held n (map calls_of_entry es) ≤ 1) → AllPairs (λ (e f : Entry). (n : ℕ) → Contains e.slots n → Contains f.slots n → ⊥) es
 pairs_apart [] h = none
   where
     none : AllPairs (λ (e f : Entry). (n : ℕ) → Contains e.slots n → Contains f.slots n → ⊥) []
@@ -30,29 +30,29 @@ pairs_apart (e ∷ es) h =
     (all_of_each (λ (f : Entry). (n : ℕ) → Contains e.slots n → Contains f.slots n → ⊥) es (each_away e es h))
     (pairs_apart es (λ n. (let most = h n in omega (arith, most))))
 
-each_once : (es : List Entry) → ((n : ℕ) → stands n (map place_of_entry es) ≤ 1) → Each (λ (e : Entry). StandOnce e.slots) es
+each_once : (es : List Entry) → ((n : ℕ) → times_held n (map calls_of_entry es) ≤ 1) → Each (λ (e : Entry). StandOnce e.slots) es
 each_once [] h = tt
 each_once (e ∷ es) h = (once_each e.slots (λ n. (let most = h n in omega (arith, most))), each_once es (λ n. (let most = h n in omega (arith, most))))
 
-each_given : (last : ℕ) (es : List Entry) → ((n : ℕ) → 0 < stands n (map place_of_entry es) → n ≤ last) → Each (λ (e : Entry). (n : ℕ) → Contains e.slots n → n ≤ last) es
+each_given : (last : ℕ) (es : List Entry) → ((n : ℕ) → 0 < times_held n (map calls_of_entry es) → n ≤ last) → Each (λ (e : Entry). (n : ℕ) → Contains e.slots n → n ≤ last) es
 each_given last [] h = tt
 each_given last (e ∷ es) h = (
   λ n here. h n (let some = counted n e.slots here in omega (arith, some)),
   each_given last es (λ n some. h n (omega (arith, some))),
 )
 
-each_own : (rs : List Register) (es : List Entry) → Each (WantsItsCalls rs) (map place_of_entry es) → Each HasItsSlots es
+each_own : (rs : List Register) (es : List Entry) → Each (WantsItsCalls rs) (map calls_of_entry es) → Each HasItsSlots es
 each_own rs [] h = tt
 each_own rs (e ∷ es) h = (lengths rs e.slots (calls_of_made e.made) h.0, each_own rs es h.1)
 
-module _ (rs : List Register) (es : List Entry) (ps : List Place) (numbered : IsNumbered rs) (fits : FitsPlaces rs (map place_of_entry es ++ ps)) where
-  among : (n : ℕ) → stands n (map place_of_entry es) ≤ 1
+module _ (rs : List Register) (es : List Entry) (ps : List NumberedCalls) (numbered : IsNumbered rs) (fits : FitsPlaces rs (map calls_of_entry es ++ ps)) where
+  among : (n : ℕ) → times_held n (map calls_of_entry es) ≤ 1
   among n =
-      (let total = fits.once n in let sum = stands-append n (map place_of_entry es) ps in let most = one_most (wanted_call rs n) in omega (arith, total, sum, most))
+      (let total = fits.once n in let sum = times_held-append n (map calls_of_entry es) ps in let most = one_most (wanted_call rs n) in omega (arith, total, sum, most))
 
   -- each entry has as many slots as calls
   pub own_slots : All HasItsSlots es
-  own_slots = all_of_each HasItsSlots es (each_own rs es (each_front (WantsItsCalls rs) (map place_of_entry es) ps (each_of_all (WantsItsCalls rs) (map place_of_entry es ++ ps) fits.calls)))
+  own_slots = all_of_each HasItsSlots es (each_own rs es (each_front (WantsItsCalls rs) (map calls_of_entry es) ps (each_of_all (WantsItsCalls rs) (map calls_of_entry es ++ ps) fits.calls)))
 
   -- no slot stands twice, and each was given
   pub all_apart : AreApart (length rs) es
@@ -60,7 +60,7 @@ module _ (rs : List Register) (es : List Entry) (ps : List Place) (numbered : Is
     apart = pairs_apart es among;
     once = all_of_each (λ (e : Entry). StandOnce e.slots) es (each_once es among);
     given = all_of_each (λ (e : Entry). (n : ℕ) → Contains e.slots n → n ≤ length rs) es
-        (each_given (length rs) es (λ n some. (let total = fits.once n in let sum = stands-append n (map place_of_entry es) ps in
+        (each_given (length rs) es (λ n some. (let total = fits.once n in let sum = times_held-append n (map calls_of_entry es) ps in
         wanted_within rs n numbered (omega (arith, some, total, sum)))));
   }
 

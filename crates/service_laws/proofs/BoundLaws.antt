@@ -11,8 +11,8 @@ use Rattle.lang_core.specs.declared.trace.CallMade.{CallMade}
 use Rattle.lang_core.specs.declared.trace.Trace.{Trace}
 use Rattle.handler_run.specs.declared.state.Ran.{Ran}
 use Rattle.request_log.specs.Entries.{find_call}
+use Rattle.request_log.specs.Records.{Record, record_of}
 use Rattle.request_log.specs.declared.entry.Entry.{Entry}
-use Rattle.request_log.specs.declared.entry.Made.{Made}
 use Rattle.local_repair.specs.Alone.{trace_or_dead}
 use Rattle.repair_messages.specs.declared.messages.AnswerMessage.{AnswerMessage}
 use Rattle.journal_rows.specs.Words.{last_taken}
@@ -26,7 +26,7 @@ use Rattle.flights.specs.declared.flight.Move.TheVariants.{Commit, Name, Change}
 use Rattle.service_events.specs.State.{Kept, After, after, in_all, or_else, is_crowded, is_heavy, is_in_flight, has_flight, flight_of, free_flight, without_flight, put_flight}
 use Rattle.service_events.specs.Calls.{noted, named}
 use Rattle.service_events.specs.Flying.{flight_run, awaited, committed, committed_entry, with_slot, with_change, change_rows, waits, wanted_of, named_unsent, changed_unsent, completing, completed, changed, moved, goes_on}
-use Rattle.service_events.specs.Arriving.{new_flight, admitted, arrives, known_by, arrives_or_known, by_version, unless_gone, arrive_event, is_for, heard_rows, answered_flight, call_answered_event, told, failed_flight, call_failed_event, abandoned, abandon_event}
+use Rattle.service_events.specs.Arriving.{new_flight, admitted, arrives, known_by, arrives_or_known, by_version, unless_gone, arrive_event, is_for, live_answer_rows, answered_flight, call_answered_event, told, failed_flight, call_failed_event, abandoned, abandon_event}
 use Rattle.service_events.specs.declared.answers.Arrived.{Arrived}
 use Rattle.service_events.specs.declared.refusals.ArriveRefused.{ArriveRefused}
 use Rattle.service_events.specs.declared.refusals.ArriveRefused.TheVariants.{NotYet}
@@ -135,13 +135,13 @@ admitted_bounded s o q i None h below =
 arrives_bounded : (s : Kept) (o : Origin) (q : Request) (i : Inputs) → IsBounded s → IsBounded (arrives s o q i).service
 arrives_bounded s o q i h = admitted_bounded s o q i (or_else (is_crowded s) (is_heavy s)) h (uncrowded s (is_heavy s))
 
-known_bounded : (s : Kept) (c : List ℕ) (n : ℕ) (e : Entry) (m : Option Made) → IsBounded s → IsBounded (known_by s c n e m).service
+known_bounded : (s : Kept) (c : List ℕ) (n : ℕ) (e : Entry) (m : Option Record) → IsBounded s → IsBounded (known_by s c n e m).service
 known_bounded s c n e None h = h
 known_bounded s c n e (Some m) h = h
 
 call_bounded : (s : Kept) (c : List ℕ) (n : ℕ) (q : Request) (i : Inputs) (e : Option Entry) → IsBounded s → IsBounded (arrives_or_known s c n q i e).service
 call_bounded s c n q i None h = arrives_bounded s (Call c n) q i h
-call_bounded s c n q i (Some e) h = known_bounded s c n e e.made h
+call_bounded s c n q i (Some e) h = known_bounded s c n e (record_of e) h
 
 version_bounded : (s : Kept) (version : ℕ) (d : Option Request) (a : After (Result Arrived ArriveRefused)) → IsBounded s → IsBounded a.service → IsBounded (by_version s version d a).service
 version_bounded s version None a h k = h
@@ -170,7 +170,7 @@ found_bounded s id f h found =
 answered_bounded : (s : Kept) (id : ℕ) (a : AnswerMessage) (o : Option Flight) → flight_of id s ≡ o → IsBounded s → IsBounded (answered_flight s id a o).service
 answered_bounded s id a None is h = h
 answered_bounded s id a (Some f) is h = elim (cases_Bool (is_for s a f)) [
-  | inl does ↦ (let all = goes_on_leaves (noted (heard_rows s a) s) f in let few = found_bounded s id f h is in rw does (omega (arith, all, few)))
+  | inl does ↦ (let all = goes_on_leaves (noted (live_answer_rows s a) s) f in let few = found_bounded s id f h is in rw does (omega (arith, all, few)))
   | inr isnt ↦ rw isnt h
 ]
 

@@ -122,7 +122,7 @@ take_fits s set i f few =
       orders = calls.orders;
     }
 
--- an answer heard
+-- an answer is taken
 pub take_answer_fits : (s : Kept) (a : AnswerMessage) → Fits s → IsFew (take_answer_event s a).service → Fits (take_answer_event s a).service
 take_answer_fits s a f few =
     let calls = take_answer_keeps s a f few in

@@ -25,8 +25,8 @@ use Rattle.call_registers.specs.declared.register.Register.{Register}
 use Rattle.service_events.specs.State.{Kept, after, in_all, answers, next_id, or_else, where_needed, is_crowded, is_heavy, is_in_flight}
 use Rattle.service_events.specs.Calls.{noted}
 use Rattle.service_events.specs.Steps.{Stale, stale_in, step_by, step_event, new_record, new_numbers}
-use Rattle.service_events.specs.Messages.{rule, origin_of, is_known, makes_entry, is_too_much, acked_again, created_entry, created_place, at_version, taken_by, taken, take_admitted, take_event, seen_row, confirmed_row, heard, heard_where, take_answer_event, had, replies_to, is_now, hold_of, held_back, held_where, posted, posted_event}
-use Rattle.service_events.specs.Orders.{refused, misnamed, makes_entry as orders_entry, is_too_much as is_too_much_for, at_id, struck_as, asking, carried_out, order_by, order_where, order_event}
+use Rattle.service_events.specs.Messages.{rule, origin_of, is_known, makes_entry, is_too_much, acked_again, created_entry, created_place, at_version, taken_by, taken, take_admitted, take_event, seen_row, confirmed_row, heard, answer_taken_where, take_answer_event, had, replies_to, is_now, hold_of, held_back, held_where, posted, posted_event}
+use Rattle.service_events.specs.Orders.{refused, misnamed, makes_entry as orders_entry, is_too_much as is_too_much_for, carried_out, order_by, order_where, order_event}
 use Rattle.service_events.specs.declared.answers.PostReply.{PostReply}
 use Rattle.service_events.specs.declared.answers.Taken.{Taken}
 use Rattle.service_events.specs.declared.refusals.TakeRefused.{TakeRefused}
@@ -90,12 +90,12 @@ heard_bounded s a false new h = h
 heard_bounded s a true true h = h
 heard_bounded s a true false h = h
 
-heard_where_bounded : (s : Kept) (a : AnswerMessage) (o : Option Register) → IsBounded s → IsBounded (heard_where s a o).service
-heard_where_bounded s a None h = h
-heard_where_bounded s a (Some r) h = heard_bounded s a (same_text r.dest a.callee) (is_newer r.answer a.answer_version) h
+answer_taken_where_bounded : (s : Kept) (a : AnswerMessage) (o : Option Register) → IsBounded s → IsBounded (answer_taken_where s a o).service
+answer_taken_where_bounded s a None h = h
+answer_taken_where_bounded s a (Some r) h = heard_bounded s a (same_text r.dest a.callee) (is_newer r.answer a.answer_version) h
 
 pub take_answer_bounded : (s : Kept) (a : AnswerMessage) → IsBounded s → IsBounded (take_answer_event s a).service
-take_answer_bounded s a h = heard_where_bounded s a (register a.number s.registers) h
+take_answer_bounded s a h = answer_taken_where_bounded s a (register a.number s.registers) h
 
 held_back_bounded : (s : Kept) (post : Post) (hold : Hold) → IsBounded s → IsBounded (held_back s post hold)
 held_back_bounded s (Set set) hold h = h

@@ -9,20 +9,20 @@ use Rattle.lang_core.specs.declared.trace.CallMade.{CallMade}
 use Rattle.lang_core.specs.declared.trace.Trace.{Trace}
 use Rattle.request_log.specs.declared.entry.Entry.{Entry}
 use Rattle.local_repair.specs.Current.{Consumed}
-use Rattle.local_repair.specs.Registers.{Change}
+use Rattle.local_repair.specs.Registers.{SlotsChange}
 use Rattle.local_repair.specs.Settling.{IsSettled}
 use Rattle.local_repair.specs.Steps.{answer_or_tentative, answers_for, calls_of_made, IsFreshOr, StandOnce}
 use Rattle.journal_rows.specs.declared.caller.SentRow.{SentRow}
 use Rattle.journal_rows.specs.declared.row.Row.{Row}
 use Rattle.journal_rows.specs.declared.row.Row.TheVariants.{Sent, SawAck, SawAnswer}
-use Rattle.call_registers.specs.Registers.{IsNumbered, register, next_number, consumed_in, sent_anew, with_ack, with_answer, has_number}
+use Rattle.call_registers.specs.Registers.{IsNumbered, register, next_number, consumed_in, sent_anew, with_ack, with_answer, has_number, IsTimely}
 use Rattle.call_registers.specs.declared.register.Register.{Register}
 use Rattle.service_events.specs.Calls.{first_sent, put_sent, seen_answer, after_row, after_rows, keeps_number, next_after, settling_rows, settling_numbers}
-use Rattle.service_events.specs.Fits.{Place, WantsItsCalls, place_of_entry, count, wanted_call, call_in}
+use Rattle.service_events.specs.Fits.{NumberedCalls, WantsItsCalls, calls_of_entry, count, wanted_call, call_in}
 use Rattle.service_call_laws.proofs.RowLemmas.{Each, each_of_all, all_of_each, each_weaker, IsPlain}
 use Rattle.service_call_laws.proofs.RegisterLemmas.{found_within, length-change}
 use Rattle.service_call_laws.proofs.PlaceLemmas.{one_if, lengths, not_counted, place}
-use Rattle.service_call_laws.proofs.FittingLemmas.{Book, entered, entered-append, HasRoom, room_first, Fitting, plain_rows, answered, IsTimely}
+use Rattle.service_call_laws.proofs.FittingLemmas.{Book, entered, entered-append, HasRoom, room_first, Fitting, plain_rows, answered}
 use Rattle.service_call_laws.proofs.SettleLemmas.{Settled, settle_all, same_versions}
 
 -- ---- numbers and how often they stand
@@ -135,7 +135,7 @@ rows_longer at rs (row ∷ rows) =
 -- ---- what is left
 
 -- the registers before and after, as a change that local repair sees
-abbrev pub change : List Register → List Register → (Entry → Trace → Bool → List ℕ → Type 0) → Change
+abbrev pub change : List Register → List Register → (Entry → Trace → Bool → List ℕ → Type 0) → SlotsChange
 change now end settles =
     record {
       before = answered now;
@@ -153,9 +153,9 @@ as_many consumed (o ∷ os) [] (c ∷ cs) = ap suc (as_many consumed os [] cs)
 as_many consumed (o ∷ os) (n ∷ ns) (c ∷ cs) = ap suc (as_many consumed os ns cs)
 
 -- an entry's calls are settled by these rows, and more rows come that tell of no call
-module _ (b : Book) (e : Entry) (calls : List CallMade) (more : List Row) (ps : List Place) (plain : Each IsPlain more)
+module _ (b : Book) (e : Entry) (calls : List CallMade) (more : List Row) (ps : List NumberedCalls) (plain : Each IsPlain more)
     (room : HasRoom b (settling_rows b.registers (next_number b.registers) e.slots (calls_of_made e.made) calls ++ more))
-    (fits : Fitting b (place_of_entry e ∷ ps)) where
+    (fits : Fitting b (calls_of_entry e ∷ ps)) where
   abbrev next : ℕ
   next = next_number b.registers
 

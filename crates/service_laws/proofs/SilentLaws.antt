@@ -21,14 +21,15 @@ use Rattle.call_registers.specs.Registers.{register, next_number, is_newer}
 use Rattle.call_registers.specs.declared.register.Hold.{Hold}
 use Rattle.call_registers.specs.declared.register.Register.{Register}
 use Rattle.flights.specs.declared.flight.Flight.{Flight}
-use Rattle.service_events.specs.State.{Kept, After, after, answers, next_id, is_in_flight, flight_of}
+use Rattle.service_events.specs.State.{Kept, After, after, answers, next_id, is_in_flight, flight_of, base}
 use Rattle.service_events.specs.Calls.{noted, all_deleted}
 use Rattle.service_events.specs.Arriving.{abandoned, abandon_event}
+use Rattle.service_events.specs.Commits.{live_rows}
 use Rattle.service_events.specs.Steps.{sent_rows, answer_rows, new_record, Stale, stale_in, step_by, step_event}
-use Rattle.service_events.specs.Messages.{rule, origin_of, is_known, is_too_much, acked_row, took_row, acked_again, taken_by, taken, take_admitted, take_event, seen_row, confirmed_row, heard, heard_where, take_answer_event, had, replies_to, is_now, hold_of, held_back, held_where, saw_ack_row, was_confirmed_row, posted, posted_event}
+use Rattle.service_events.specs.Messages.{rule, origin_of, is_known, is_too_much, acked_row, took_row, acked_again, taken_by, taken, take_admitted, take_event, seen_row, confirmed_row, heard, answer_taken_where, take_answer_event, had, replies_to, is_now, hold_of, held_back, held_where, saw_ack_row, was_confirmed_row, posted, posted_event}
 use Rattle.service_events.specs.Orders.{refused, asked_rows, order_rows, carried_out, order_by, order_where, order_event}
 use Rattle.service_events.specs.declared.answers.PostReply.{PostReply}
-use Rattle.service_events.specs.declared.answers.PostReply.TheVariants.{Acked as WasAcked, Confirmed as WasHeard, Refused, Lost}
+use Rattle.service_events.specs.declared.answers.PostReply.TheVariants.{Acked as WasAcked, Confirmed as WasConfirmedBack, Refused, Lost}
 use Rattle.service_events.specs.declared.answers.Posted.TheVariants.{Held, Left}
 use Rattle.service_events.specs.declared.refusals.AnswerRefused.TheVariants.{Unknown}
 use Rattle.service_events.specs.declared.refusals.OrderRefused.{OrderRefused}
@@ -36,7 +37,7 @@ use Rattle.service_events.specs.declared.refusals.PostRefused.TheVariants.{Forei
 use Rattle.service_events.specs.declared.refusals.TakeRefused.TheVariants.{NotYet}
 use Rattle.service_call_laws.proofs.RowLemmas.{Each, each_append, each_weaker, IsSending}
 use Rattle.service_call_laws.proofs.KindLemmas.{sends_deleted, sends_settled}
-use Rattle.service_call_laws.proofs.LiveRows.{live_rows, IsSilent, live_same, sending_silent}
+use Rattle.service_call_laws.proofs.LiveRows.{IsSilent, live_same, sending_silent}
 use Rattle.service_call_laws.proofs.OrderLaws.{same_journal}
 
 -- the same live requests are answered
@@ -69,7 +70,7 @@ stepped_none s (Some x) =
     (each_append IsSilent (sent_rows s e m) (answer_rows e m) (each_weaker IsSending IsSilent sending_silent (sent_rows s e m) sends) (answer_silent e m (is_new_answer e.made m)))
 
 pub step_answers_none : (s : Kept) → AnswersNone s (step_event s)
-step_answers_none s = stepped_none s (stale_in (answers s) [] s.entries)
+step_answers_none s = stepped_none s (stale_in (answers s) (base s) s.entries)
 
 -- a version of a call
 taken_none : (s : Kept) (set : SetMessage) (i : Inputs) (e : Option Entry) (d : Option Request) → live_rows (taken_by s set i e d).journal ≡ live_rows s.journal
@@ -91,7 +92,7 @@ take_answers_none s set i =
     (λ _. refl) (λ _. admitted_none s set i (is_too_much s set))
 
 -- an answer
-heard_none : (s : Kept) (a : AnswerMessage) (o : Option Register) → AnswersNone s (heard_where s a o)
+heard_none : (s : Kept) (a : AnswerMessage) (o : Option Register) → AnswersNone s (answer_taken_where s a o)
 heard_none s a None = refl
 heard_none s a (Some r) =
     by_test (not (same_text r.dest a.callee)) (is_newer r.answer a.answer_version)
@@ -121,7 +122,7 @@ held_none s post (Some hold) =
 
 posted_none : (s : Kept) (post : Post) (answer : PostReply) → AnswersNone s (posted s post answer)
 posted_none s post (WasAcked ack) = live_same s.journal (saw_ack_row ack ∷ []) (tt, tt)
-posted_none s post (WasHeard c) = live_same s.journal (was_confirmed_row c ∷ []) (tt, tt)
+posted_none s post (WasConfirmedBack c) = live_same s.journal (was_confirmed_row c ∷ []) (tt, tt)
 posted_none s post (Refused word number) = held_none s post (hold_of word number)
 posted_none s post (Lost note) = refl
 

@@ -3,7 +3,7 @@ use Rattle.std.proofs.Common.{◌≡◌, ℕ, zero, suc, ◌<◌, ◌≤◌, Lis
 use Rattle.std.proofs.lemmas.Bool.{cases_Bool, both_ways}
 use Rattle.lang_core.specs.declared.cells.Cell.{Cell}
 use Rattle.request_log.specs.declared.entry.Entry.{Entry}
-use Rattle.local_repair.specs.Current.{Consumed, after_entry, rows_after, rows_of, IsCurrent, AllCurrent, IsFirstStale}
+use Rattle.local_repair.specs.Current.{Consumed, after_entry, rows_after, IsCurrent, AllCurrent, IsFirstStale}
 use Rattle.local_repair.specs.Tests.{is_current}
 use Rattle.local_repair.proofs.TestLemmas.{is_current-true, is_current-from, is_current-false}
 use Rattle.service_events.specs.Steps.{Stale, stale_in}
@@ -57,12 +57,12 @@ stale_at consumed rows (e ∷ es) x is = elim (cases_Bool (is_current consumed r
 ]
 
 -- it is the first stale one
-pub first_of : (consumed : Consumed) (es : List Entry) (x : Stale) (a : StaleAt consumed [] es x) → IsFirstStale consumed es a.place
-first_of consumed es x a = record {
+pub first_of : (consumed : Consumed) (base : List Cell) (es : List Entry) (x : Stale) (a : StaleAt consumed base es x) → IsFirstStale consumed base es a.place
+first_of consumed base es x a = record {
   within = a.within;
   before = a.before;
   stale = λ d current. a.stale
-      (subst (λ r. IsCurrent consumed r x.entry) (sym a.on) (subst (IsCurrent consumed (rows_of (take a.place es))) (a.here d) current));
+      (subst (λ r. IsCurrent consumed r x.entry) (sym a.on) (subst (IsCurrent consumed (rows_after base (take a.place es))) (a.here d) current));
 }
 
 found_from : (consumed : Consumed) (rows : List Cell) (es : List Entry) (place : ℕ) (was : Entry) → place < length es → AllCurrent consumed rows (take place es)
@@ -77,11 +77,11 @@ found_from consumed rows (e ∷ es) (suc place) was w before here stale =
     rw (is_current-from consumed rows e before.0) (found_from consumed (after_entry rows e) es place was (omega (arith, w)) before.1 (λ d. here d) stale)
 
 -- the first stale one is what the walk finds
-pub found_first : (consumed : Consumed) (es : List Entry) (place : ℕ) (was : Entry) → IsFirstStale consumed es place → ((d : Entry) → get_or es place d ≡ was)
-    → stale_in consumed [] es ≡ Some (record { entry = was; rows = rows_of (take place es) })
-found_first consumed es place was first here =
-    found_from consumed [] es place was first.within first.before here
-    (λ current. first.stale was (subst (IsCurrent consumed (rows_of (take place es))) (sym (here was)) current))
+pub found_first : (consumed : Consumed) (base : List Cell) (es : List Entry) (place : ℕ) (was : Entry) → IsFirstStale consumed base es place
+    → ((d : Entry) → get_or es place d ≡ was) → stale_in consumed base es ≡ Some (record { entry = was; rows = rows_after base (take place es) })
+found_first consumed base es place was first here =
+    found_from consumed base es place was first.within first.before here
+    (λ current. first.stale was (subst (IsCurrent consumed (rows_after base (take place es))) (sym (here was)) current))
 
 -- the first ones of those that are current
 pub fewer_current : (consumed : Consumed) (rows : List Cell) (es : List Entry) (k n : ℕ) → k ≤ n → AllCurrent consumed rows (take n es) → AllCurrent consumed rows (take k es)

@@ -1,10 +1,10 @@
 -- A repair step and an order leave no more entries and flights than a service may have.
-use Rattle.std.proofs.Common.{◌≡◌, ℕ, ◌<◌, ◌≤◌, Bool, true, false, cond, List, [], Option, Some, None, nat_le, option_map, refl, arith, length-set}
+use Rattle.std.proofs.Common.{◌≡◌, ℕ, ◌<◌, ◌≤◌, Bool, true, false, cond, List, Option, Some, None, nat_le, option_map, refl, arith, length-set}
 use Rattle.std.proofs.lemmas.List.{length-map}
 use Rattle.std.specs.List.{position_or_len}
 use Rattle.std.proofs.lemmas.Bool.Decides.{nat_tests}
 use Rattle.lang_core.specs.declared.inputs.Inputs.{Inputs}
-use Rattle.request_log.specs.Entries.{has_id}
+use Rattle.request_log.specs.Entries.{has_id, mark, replace}
 use Rattle.create_placement.specs.Placement.{created, place_between}
 use Rattle.repair_messages.specs.declared.posts.PostName.TheVariants.{Call as OfCall, Reply as OfReply}
 use Rattle.local_repair.specs.Steps.{remade}
@@ -12,8 +12,8 @@ use Rattle.journal_rows.specs.Words.{ordered}
 use Rattle.journal_rows.specs.declared.orders.Command.{Command}
 use Rattle.journal_rows.specs.declared.orders.Command.TheVariants.{Cancel, Restore, Replace, Create, Retry}
 use Rattle.journal_rows.specs.declared.orders.OrderedRow.{OrderedRow}
-use Rattle.service_events.specs.State.{Kept, answers, in_all, is_crowded, is_heavy, next_id, or_else}
-use Rattle.service_events.specs.Orders.{asking, carried_out, is_too_much, makes_entry, misnamed, order_by, order_event, order_where, refused, struck_as}
+use Rattle.service_events.specs.State.{Kept, answers, in_all, is_crowded, is_heavy, next_id, or_else, base}
+use Rattle.service_events.specs.Orders.{carried_out, is_too_much, makes_entry, misnamed, order_by, order_event, order_where, refused}
 use Rattle.service_events.specs.Steps.{new_record, new_numbers, Stale, stale_in, step_by, step_event}
 use Rattle.service_events.specs.declared.refusals.OrderRefused.{OrderRefused}
 use Rattle.service_events.specs.declared.refusals.OrderRefused.TheVariants.{Full}
@@ -29,7 +29,7 @@ step_by_bounded s (Some x) h =
     omega (arith, h, same)
 
 pub step_bounded : (s : Kept) → in_all s ≤ 100000 → in_all (step_event s).service ≤ 100000
-step_bounded s h = step_by_bounded s (stale_in (answers s) [] s.entries) h
+step_bounded s h = step_by_bounded s (stale_in (answers s) (base s) s.entries) h
 
 -- ---- an order
 
@@ -62,9 +62,9 @@ has_place s command makes h =
     by_test false is e = cc
 
 carried_bounded : (s : Kept) (command : Command) (who : List ℕ) (i : Inputs) → refused s command ≡ None → in_all s ≤ 100000 → in_all (carried_out s command who i) ≤ 100000
-carried_bounded s (Cancel id) who i none h = let same = length-map s.entries (λ e. cond (has_id id e) (struck_as true e) e) in omega (arith, h, same)
-carried_bounded s (Restore id) who i none h = let same = length-map s.entries (λ e. cond (has_id id e) (struck_as false e) e) in omega (arith, h, same)
-carried_bounded s (Replace id method path body) who i none h = let same = length-map s.entries (λ e. cond (has_id id e) (asking method path body e) e) in omega (arith, h, same)
+carried_bounded s (Cancel id) who i none h = let same = length-map s.entries (λ e. cond (has_id id e) (mark true e) e) in omega (arith, h, same)
+carried_bounded s (Restore id) who i none h = let same = length-map s.entries (λ e. cond (has_id id e) (mark false e) e) in omega (arith, h, same)
+carried_bounded s (Replace id method path body) who i none h = let same = length-map s.entries (λ e. cond (has_id id e) (replace method path body e) e) in omega (arith, h, same)
 carried_bounded s (Create before after q) who i none h =
     let more = length_insert s.entries (place_between before after s.entries) (created (next_id s) q i) in
     let few = has_place s (Create before after q) refl none in

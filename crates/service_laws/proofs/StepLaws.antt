@@ -8,12 +8,12 @@ use Rattle.lang_core.specs.declared.cells.Cell.{Cell}
 use Rattle.lang_core.specs.declared.trace.Trace.{Trace}
 use Rattle.request_log.specs.declared.entry.Entry.{Entry}
 use Rattle.request_log.specs.declared.entry.Made.{Made}
-use Rattle.local_repair.specs.Current.{AllCurrent, rows_of}
-use Rattle.local_repair.specs.Registers.{Change}
+use Rattle.local_repair.specs.Current.{AllCurrent, rows_after}
+use Rattle.local_repair.specs.Registers.{SlotsChange}
 use Rattle.local_repair.specs.Repairs.{stale_id}
 use Rattle.local_repair.specs.Settling.{IsAgain, noted as noted_run}
 use Rattle.local_repair.specs.Steps.{calls_of_made, is_new_answer, raised, RanFirst, StepsTo}
-use Rattle.local_repair.specs.declared.remaking.Again.{Again}
+use Rattle.local_repair.specs.declared.remaking.Rerun.{Rerun}
 use Rattle.local_repair.specs.declared.stepped.Stepped.{Stepped}
 use Rattle.local_repair.specs.declared.stepped.Stepped.TheVariants.{Idle, Ran as RanAgain}
 use Rattle.local_repair.proofs.CurrentLemmas.{current_at}
@@ -22,31 +22,23 @@ use Rattle.local_repair.proofs.StepLemmas.{stepped as remade_steps}
 use Rattle.local_repair.proofs.TestLemmas.{step_with_at, stale_id_none}
 use Rattle.journal_rows.specs.declared.callee.AnsweredRow.{AnsweredRow}
 use Rattle.journal_rows.specs.declared.row.Row.TheVariants.{Answered}
-use Rattle.call_registers.specs.Registers.{next_number}
-use Rattle.service_events.specs.State.{Kept, answers}
-use Rattle.service_events.specs.Calls.{settling_numbers}
-use Rattle.service_events.specs.Fits.{Fits, FitsPlaces, place_of_entry, place_of_flight}
+use Rattle.call_registers.specs.Registers.{IsTimely}
+use Rattle.service_events.specs.State.{Kept, answers, base}
+use Rattle.service_events.specs.Fits.{Fits, FitsPlaces, calls_of_entry, calls_of_flight}
+use Rattle.service_events.specs.Progress.{gives_numbers, changes, raised_at, Counts, GoesFurther}
 use Rattle.service_events.specs.Steps.{new_record, new_numbers, sent_rows, answer_rows, Stale, stale_in, step_by, step_event}
 use Rattle.service_entry_laws.proofs.StepForms.{run_again, step_entries}
 use Rattle.service_call_laws.proofs.RowLemmas.{Each, IsPlain}
-use Rattle.service_call_laws.proofs.FittingLemmas.{HasRoom, Fitting, IsTimely}
+use Rattle.service_call_laws.proofs.FittingLemmas.{HasRoom, Fitting}
 use Rattle.service_call_laws.proofs.CallLaws.{IsFew, book}
 use Rattle.service_call_laws.proofs.EntryPlaces.{Stands, others, entry_to_head}
 use Rattle.service_laws.proofs.FitLaws.{step_fits}
 use Rattle.service_laws.proofs.TraceLaws.{new_is_rerun}
-use Rattle.service_laws.proofs.SettledLaws.{change, settled_is, settled_timely}
+use Rattle.service_laws.proofs.SettledLaws.{settled_is, settled_timely}
 use Rattle.service_laws.proofs.ApartLaws.{own_slots, all_apart, stands_at}
 use Rattle.service_laws.proofs.StaleLaws.{all_current, StaleAt, stale_at, first_of, fewer_current, some_current}
 
 -- ---- one step
-
--- the numbers of an entry's new calls
-abbrev pub gives_numbers : Kept → Entry → Trace → Bool → List ℕ → Type 0
-gives_numbers s e t answered numbers = numbers ≡ settling_numbers (next_number s.registers) e.slots (calls_of_made e.made) t.calls
-
--- the registers before and after a step
-abbrev pub changes : Kept → Kept → Change
-changes s s' = change s.registers s'.registers (gives_numbers s)
 
 abbrev pub after_step : Kept → Kept
 after_step s = (step_event s).service
@@ -56,15 +48,23 @@ answer_plain row true = (tt, tt)
 answer_plain row false = tt
 
 -- an entry's calls stand beside those of all others
-pub fitting_entry : (s : Kept) → Fits s → (e : Entry) (st : Stands s.entries e) → Fitting (book s) (place_of_entry e ∷ others st.before st.rest (map place_of_flight s.flights))
+pub fitting_entry : (s : Kept) → Fits s → (e : Entry) (st : Stands s.entries e) → Fitting (book s) (calls_of_entry e ∷ others st.before st.rest (map calls_of_flight s.flights))
 fitting_entry s f e st =
-    let fs = map place_of_flight s.flights in
-    let E : List Entry → Type 0 = λ xs. FitsPlaces s.registers (map place_of_entry xs ++ fs) in
+    let fs = map calls_of_flight s.flights in
+    let E : List Entry → Type 0 = λ xs. FitsPlaces s.registers (map calls_of_entry xs ++ fs) in
     record { sent = f.sent; places = entry_to_head s.registers st.before e st.rest fs (subst E st.is f.places) }
+
+-- the counts of runs where one entry ran once more
+counts_set : (es : List Entry) (place : ℕ) (was e : Entry) → ((d : Entry) → get_or es place d ≡ was) → e.runs ≡ raised was.runs
+    → map (λ (x : Entry). x.runs) (set es place e) ≡ raised_at place (map (λ (x : Entry). x.runs) es)
+counts_set [] place was e there runs = refl
+counts_set (x ∷ es) zero was e there runs =
+    ap (λ n. n ∷ map (λ (x : Entry). x.runs) es) (runs ∙ ap (λ (y : Entry). raised y.runs) (sym (there x)))
+counts_set (x ∷ es) (suc place) was e there runs = ap (λ ns. x.runs ∷ ns) (counts_set es place was e (λ d. there d) runs)
 
 module _ (s : Kept) (f : Fits s) where
   -- the first stale entry ran again
-  module _ (x : Stale) (is : stale_in (answers s) [] s.entries ≡ Some x) (few : IsFew (step_by s (Some x)).service) where
+  module _ (x : Stale) (is : stale_in (answers s) (base s) s.entries ≡ Some x) (few : IsFew (step_by s (Some x)).service) where
     abbrev e : Entry
     e = x.entry
 
@@ -74,11 +74,11 @@ module _ (s : Kept) (f : Fits s) where
     abbrev now : Kept
     now = (step_by s (Some x)).service
 
-    abbrev again : Again
+    abbrev again : Rerun
     again = record { made = new_record s x.rows x.entry; numbers = new_numbers s x.entry (new_record s x.rows x.entry); answered = is_new_answer (x.entry).made (new_record s x.rows x.entry) }
 
-    at : StaleAt (answers s) [] s.entries x
-    at = stale_at (answers s) [] s.entries x is
+    at : StaleAt (answers s) (base s) s.entries x
+    at = stale_at (answers s) (base s) s.entries x is
 
     standing : Stands s.entries x.entry
     standing = let P : Entry → Type 0 = λ y. Stands s.entries y in subst P (at.here x.entry) (stands_at s.entries at.place x.entry at.within)
@@ -92,7 +92,7 @@ module _ (s : Kept) (f : Fits s) where
     ran_again : IsAgain s.setting (changes s now) x.rows e again
     ran_again = record {
       rerun = new_is_rerun s x.rows x.entry;
-      settled = settled_is (book s) e m.trace.calls (answer_rows e m) (others standing.before standing.rest (map place_of_flight s.flights)) plain room (fitting_entry s f e standing)
+      settled = settled_is (book s) e m.trace.calls (answer_rows e m) (others standing.before standing.rest (map calls_of_flight s.flights)) plain room (fitting_entry s f e standing)
           (gives_numbers s) m.trace.answers (new_is_rerun s x.rows x.entry).answers;
       how = refl;
       tells = refl;
@@ -100,63 +100,83 @@ module _ (s : Kept) (f : Fits s) where
 
     stays_timely : IsTimely s.registers → IsTimely now.registers
     stays_timely timely =
-        settled_timely (book s) e m.trace.calls (answer_rows e m) (others standing.before standing.rest (map place_of_flight s.flights)) plain room (fitting_entry s f e standing) timely
+        settled_timely (book s) e m.trace.calls (answer_rows e m) (others standing.before standing.rest (map calls_of_flight s.flights)) plain room (fitting_entry s f e standing) timely
 
-    again_at : (d : Entry) → IsAgain s.setting (changes s now) (rows_of (take at.place s.entries)) (get_or s.entries at.place d) again
+    again_at : (d : Entry) → IsAgain s.setting (changes s now) (rows_after (base s) (take at.place s.entries)) (get_or s.entries at.place d) again
     again_at d =
         let P : List Cell → Type 0 = λ r. IsAgain s.setting (changes s now) r e again in
-        let Q : Entry → Type 0 = λ y. IsAgain s.setting (changes s now) (rows_of (take at.place s.entries)) y again in
+        let Q : Entry → Type 0 = λ y. IsAgain s.setting (changes s now) (rows_after (base s) (take at.place s.entries)) y again in
         subst Q (sym (at.here d)) (subst P at.on ran_again)
 
     put_at : (d : Entry) → now.entries ≡ set s.entries at.place (noted_run again (get_or s.entries at.place d))
     put_at d =
         ap (λ o. (step_by s o).service.entries) (sym is)
         ∙ step_entries s f.asked.distinct
-        ∙ step_with_at (answers s) (run_again s) s.entries at.place d (first_of (answers s) s.entries x at)
+        ∙ step_with_at (answers s) (run_again s) s.entries at.place d (first_of (answers s) (base s) s.entries x at)
         ∙ ap (λ y. set s.entries at.place y)
-        (ap (λ y. run_again s (rows_of (take at.place s.entries)) y) (at.here d) ∙ ap (λ r. run_again s r e) (sym at.on) ∙ ap (noted_run again) (sym (at.here d)))
+        (ap (λ y. run_again s (rows_after (base s) (take at.place s.entries)) y) (at.here d) ∙ ap (λ r. run_again s r e) (sym at.on) ∙ ap (noted_run again) (sym (at.here d)))
 
-    ran_steps : StepsTo s.setting (changes s now) s.entries (step_by s (Some x)).answer now.entries
+    ran_steps : StepsTo s.setting (changes s now) (base s) s.entries (step_by s (Some x)).answer now.entries
     ran_steps =
-        (remade_steps s.setting (handler s.setting) (changes s now) s.entries now.entries at.place again (step_by s (Some x)).answer (first_of (answers s) s.entries x at) again_at
+        (remade_steps s.setting (handler s.setting) (changes s now) s.entries now.entries at.place again (step_by s (Some x)).answer (first_of (answers s) (base s) s.entries x at) again_at
         (λ d. ap (λ (y : Entry). RanAgain y.id again.answered) (sym (at.here d))) put_at
-        f.runs (all_apart s.registers s.entries (map place_of_flight s.flights) f.sent.numbered f.places) (own_slots s.registers s.entries (map place_of_flight s.flights) f.sent.numbered f.places)).1
+        f.runs (all_apart s.registers s.entries (map calls_of_flight s.flights) f.sent.numbered f.places) (own_slots s.registers s.entries (map calls_of_flight s.flights) f.sent.numbered f.places)).1
 
-  steps_by : (o : Option Stale) → stale_in (answers s) [] s.entries ≡ o → IsFew (step_by s o).service
-      → StepsTo s.setting (changes s (step_by s o).service) s.entries (step_by s o).answer (step_by s o).service.entries
-  steps_by None is few = (all_current (answers s) [] s.entries is, refl)
+  steps_by : (o : Option Stale) → stale_in (answers s) (base s) s.entries ≡ o → IsFew (step_by s o).service
+      → StepsTo s.setting (changes s (step_by s o).service) (base s) s.entries (step_by s o).answer (step_by s o).service.entries
+  steps_by None is few = (all_current (answers s) (base s) s.entries is, refl)
   steps_by (Some x) is few = ran_steps x is few
 
   -- a step answers and leaves what local repair says of one: all entries up to the one that ran again are current then, where the service is on time
-  pub step_steps : IsFew (after_step s) → StepsTo s.setting (changes s (after_step s)) s.entries (step_event s).answer (after_step s).entries
-  step_steps few = steps_by (stale_in (answers s) [] s.entries) refl few
+  pub step_steps : IsFew (after_step s) → StepsTo s.setting (changes s (after_step s)) (base s) s.entries (step_event s).answer (after_step s).entries
+  step_steps few = steps_by (stale_in (answers s) (base s) s.entries) refl few
 
-  timely_by : (o : Option Stale) → stale_in (answers s) [] s.entries ≡ o → IsFew (step_by s o).service → IsTimely s.registers → IsTimely (step_by s o).service.registers
+  timely_by : (o : Option Stale) → stale_in (answers s) (base s) s.entries ≡ o → IsFew (step_by s o).service → IsTimely s.registers → IsTimely (step_by s o).service.registers
   timely_by None is few timely = timely
   timely_by (Some x) is few timely = stays_timely x is few timely
 
   -- and it stays on time
   pub step_timely : IsFew (after_step s) → IsTimely s.registers → IsTimely (after_step s).registers
-  step_timely few timely = timely_by (stale_in (answers s) [] s.entries) refl few timely
+  step_timely few timely = timely_by (stale_in (answers s) (base s) s.entries) refl few timely
 
   -- ---- it goes an entry further
 
-  later_by : (t : Kept) (k id : ℕ) (answered : Bool) → RanFirst s.setting (changes s t) s.entries id answered t.entries → IsTimely s.registers
-      → AllCurrent (answers s) [] (take k s.entries) → AllCurrent (answers t) [] (take (suc k) t.entries)
+  later_by : (t : Kept) (k id : ℕ) (answered : Bool) → RanFirst s.setting (changes s t) (base s) s.entries id answered t.entries → IsTimely s.registers
+      → AllCurrent (answers s) (base s) (take k s.entries) → AllCurrent (answers t) (base t) (take (suc k) t.entries)
   later_by t k id answered r timely h = elim (cases_lt r.place k) [
     | inl passed ↦ absurd (r.first.stale r.was (current_at (answers s) s.entries [] k r.place r.was passed r.first.within h))
-    | inr reached ↦ fewer_current (answers t) [] t.entries (suc k) (r.place + 1) (omega (arith, reached)) (r.current timely)
+    | inr reached ↦ fewer_current (answers t) (base t) t.entries (suc k) (r.place + 1) (omega (arith, reached)) (r.current timely)
   ]
 
-  further_by : (o : Option Stale) → stale_in (answers s) [] s.entries ≡ o → IsFew (step_by s o).service → IsTimely s.registers → (k : ℕ)
-      → AllCurrent (answers s) [] (take k s.entries) → AllCurrent (answers (step_by s o).service) [] (take (suc k) (step_by s o).service.entries)
-  further_by None is few timely k h = some_current (answers s) [] s.entries (suc k) (all_current (answers s) [] s.entries is)
+  further_by : (o : Option Stale) → stale_in (answers s) (base s) s.entries ≡ o → IsFew (step_by s o).service → IsTimely s.registers → (k : ℕ)
+      → AllCurrent (answers s) (base s) (take k s.entries) → AllCurrent (answers (step_by s o).service) [] (take (suc k) (step_by s o).service.entries)
+  further_by None is few timely k h = some_current (answers s) (base s) s.entries (suc k) (all_current (answers s) (base s) s.entries is)
   further_by (Some x) is few timely k h = later_by (step_by s (Some x)).service k (x.entry).id (is_new_answer (x.entry).made (new_record s x.rows x.entry)) (ran_steps x is few) timely h
 
-  pub step_further : IsFew (after_step s) → IsTimely s.registers → (k : ℕ) → AllCurrent (answers s) [] (take k s.entries) → AllCurrent (answers (after_step s)) [] (take (suc k) (after_step s).entries)
-  step_further few timely k h = further_by (stale_in (answers s) [] s.entries) refl few timely k h
+  pub step_further : IsFew (after_step s) → IsTimely s.registers → (k : ℕ) → AllCurrent (answers s) (base s) (take k s.entries) → AllCurrent (answers (after_step s)) (base (after_step s)) (take (suc k) (after_step s).entries)
+  step_further few timely k h = further_by (stale_in (answers s) (base s) s.entries) refl few timely k h
 
-  many_by : (t : Kept) (answer : Stepped) → StepsTo s.setting (changes s t) s.entries answer t.entries → length t.entries ≡ length s.entries
+  -- and no other entry ran
+  counts_by : (t : Kept) (answer : Stepped) → StepsTo s.setting (changes s t) (base s) s.entries answer t.entries → Counts s answer t
+  counts_by t Idle h = ap (map (λ (e : Entry). e.runs)) h.1
+  counts_by t (RanAgain id answered) r = record {
+    place = r.place;
+    first = r.first;
+    counts = ap (map (λ (e : Entry). e.runs)) r.rest ∙ counts_set s.entries r.place r.was r.entry r.there (ap (λ (e : Entry). e.runs) r.remade.is);
+  }
+
+  pub step_counts : IsFew (after_step s) → Counts s (step_event s).answer (after_step s)
+  step_counts few = counts_by (after_step s) (step_event s).answer (step_steps few)
+
+  pub step_goes : IsFew (after_step s) → IsTimely s.registers → GoesFurther s (after_step s)
+  step_goes few timely = record {
+    timely = step_timely few timely;
+    further = λ k h. (let P : ℕ → Type 0 = λ n. AllCurrent (answers (after_step s)) (base (after_step s)) (take n (after_step s).entries) in
+        let same : suc k ≡ k + 1 = omega arith in
+        subst P same (step_further few timely k h));
+  }
+
+  many_by : (t : Kept) (answer : Stepped) → StepsTo s.setting (changes s t) (base s) s.entries answer t.entries → length t.entries ≡ length s.entries
   many_by t Idle h = ap length h.1
   many_by t (RanAgain id answered) r = ap length r.rest ∙ length-set s.entries r.place r.entry
 
@@ -171,18 +191,18 @@ longer_by s (Some x) = (let sum = length-append s.journal (sent_rows s x.entry (
 
 steps_longer : (n : ℕ) (s : Kept) → length s.journal ≤ length (iterate after_step n s).journal
 steps_longer zero s = omega arith
-steps_longer (suc n) s = (let one = longer_by s (stale_in (answers s) [] s.entries) in let more = steps_longer n (after_step s) in omega (arith, one, more))
+steps_longer (suc n) s = (let one = longer_by s (stale_in (answers s) (base s) s.entries) in let more = steps_longer n (after_step s) in omega (arith, one, more))
 
 first_few : (n : ℕ) (s : Kept) → IsFew (iterate after_step (suc n) s) → IsFew (after_step s)
 first_few n s few = (let more = steps_longer n (after_step s) in omega (arith, few, more))
 
-steps_further : (n k : ℕ) (s : Kept) → Fits s → IsTimely s.registers → IsFew (iterate after_step n s) → AllCurrent (answers s) [] (take k s.entries)
-    → AllCurrent (answers (iterate after_step n s)) [] (take (n + k) (iterate after_step n s).entries)
-steps_further zero k s f timely few h = let P : ℕ → Type 0 = λ m. AllCurrent (answers s) [] (take m s.entries) in let same : k ≡ 0 + k = omega arith in subst P same h
+steps_further : (n k : ℕ) (s : Kept) → Fits s → IsTimely s.registers → IsFew (iterate after_step n s) → AllCurrent (answers s) (base s) (take k s.entries)
+    → AllCurrent (answers (iterate after_step n s)) (base (iterate after_step n s)) (take (n + k) (iterate after_step n s).entries)
+steps_further zero k s f timely few h = let P : ℕ → Type 0 = λ m. AllCurrent (answers s) (base s) (take m s.entries) in let same : k ≡ 0 + k = omega arith in subst P same h
 steps_further (suc n) k s f timely few h =
     let t = after_step s in
     let one = first_few n s few in
-    let P : ℕ → Type 0 = λ m. AllCurrent (answers (iterate after_step n t)) [] (take m (iterate after_step n t).entries) in
+    let P : ℕ → Type 0 = λ m. AllCurrent (answers (iterate after_step n t)) (base (iterate after_step n t)) (take m (iterate after_step n t).entries) in
     let same : n + suc k ≡ suc n + k = omega arith in
     subst P same (steps_further n (suc k) t (step_fits s f one) (step_timely s f one timely) few (step_further s f one timely k h))
 
@@ -193,10 +213,10 @@ steps_as_many (suc n) s f few =
 
 -- in a service on time, as many steps as there are entries leave none stale, as long as the rows of its journal can be counted
 pub steps_settle : (s : Kept) → Fits s → IsTimely s.registers → IsFew (iterate after_step (length s.entries) s)
-    → stale_id (answers (iterate after_step (length s.entries) s)) (iterate after_step (length s.entries) s).entries ≡ None
+    → stale_id (answers (iterate after_step (length s.entries) s)) (base (iterate after_step (length s.entries) s)) (iterate after_step (length s.entries) s).entries ≡ None
 steps_settle s f timely few =
     let n = length s.entries in
     let t = iterate after_step n s in
     let whole : take (n + 0) t.entries ≡ t.entries = ap (λ m. take m t.entries) (let e = steps_as_many n s f few in let m : n + 0 ≡ length t.entries = omega arith in m) ∙ take-length t.entries in
-    let all : AllCurrent (answers t) [] t.entries = subst (AllCurrent (answers t) []) whole (steps_further n 0 s f timely few tt) in
+    let all : AllCurrent (answers t) (base t) t.entries = subst (AllCurrent (answers t) (base t)) whole (steps_further n 0 s f timely few tt) in
     sym (stale_id_none (answers t) t.entries all)

@@ -9,6 +9,7 @@ use Rattle.call_registers.specs.Registers.{next_number}
 use Rattle.call_registers.specs.declared.register.Register.{Register}
 use Rattle.service_events.specs.State.{Kept}
 use Rattle.service_events.specs.Calls.{after_row, after_rows, noted, deleted, all_deleted}
+use Rattle.service_parts.specs.Drafts.{TellNoCall}
 
 -- ---- a draft without rows
 
@@ -67,3 +68,12 @@ deleted_more registers rows more i numbers calls c w are e =
     ∙ sym (append_assoc rows (deleted registers (get_or numbers i 0) c ∷ []) (all_deleted registers (drop (suc i) numbers) (drop (suc i) calls)))
     ∙ ap (λ l. l ++ all_deleted registers (drop (suc i) numbers) (drop (suc i) calls)) (sym e)
     ∙ ap (λ k. more ++ all_deleted registers (drop k numbers) (drop k calls)) (sym (add-one i)))
+
+-- ---- rows that tell of no call
+
+-- they are noted where they come last
+pub noted_last : (now s : Kept) (rows journal : List Row) → now ≡ s → journal ≡ now.journal ++ rows → TellNoCall rows → record now { journal = journal } ≡ noted rows s
+noted_last now s rows journal same is none =
+    ap (λ j. record now { journal = j }) is
+    ∙ ap (λ rs. record now { journal = now.journal ++ rows; registers = rs }) (sym (none (length now.journal) now.registers))
+    ∙ ap (noted rows) same

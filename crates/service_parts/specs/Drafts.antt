@@ -1,5 +1,5 @@
 -- A service with rows that are drafted, and which rows tell of a change.
-use Rattle.std.specs.Prelude.{ℕ, List, [], ◌∷◌, ◌++◌, Option, Some, None, slice_get}
+use Rattle.std.specs.Prelude.{ℕ, ◌≡◌, List, [], ◌∷◌, ◌++◌, Option, Some, None, slice_get}
 use Rattle.lang_core.specs.declared.trace.CallMade.{CallMade}
 use Rattle.journal_rows.specs.declared.row.Row.{Row}
 use Rattle.call_registers.specs.Overlays.{overlaid}
@@ -7,7 +7,7 @@ use Rattle.call_registers.specs.Registers.{next_number}
 use Rattle.call_registers.specs.declared.register.Register.{Register}
 use Rattle.flights.specs.declared.flight.Flight.{Flight}
 use Rattle.service_events.specs.State.{Kept}
-use Rattle.service_events.specs.Calls.{deleted, named}
+use Rattle.service_events.specs.Calls.{after_rows, deleted, named}
 use Rattle.service_parts.specs.declared.draft.Draft.{Draft}
 
 -- its rows stand last in the journal, and its changes are made of the registers
@@ -24,3 +24,7 @@ deletion_in registers None call = []
 abbrev pub change_rows_in : List Register → Flight → ℕ → CallMade → List Row
 change_rows_in registers f slot call =
     deletion_in registers (slice_get f.numbers slot) (slice_get f.calls slot) ++ named (next_number registers) call ∷ []
+
+-- rows that tell of no call
+abbrev pub TellNoCall : List Row → Type 0
+TellNoCall rows = (at : ℕ) (registers : List Register) → after_rows at registers rows ≡ registers

@@ -36,9 +36,7 @@ pub fn push_rows(journal: &mut Rows, rows: Vec<Row>)
     ensures rows { journal.new.rows ≡ journal.old.rows ++ rows.items }
     ensures spare { journal.old.spare ≤ journal.new.spare + vec_len rows }
 {
-    let mut rest = rows;
-    while !rest.is_empty() {
-        let row = rest.remove(0);
+    for row in rows {
         journal.push(row).unwrap();
     }
 }

@@ -9,7 +9,7 @@ ghost use Rattle.service_parts.specs.Parts.{kept};
 
 use crate::noting::note_rows;
 use crate::parts::Parts;
-use call_registers::{Change, RegisterChanges, Why};
+use call_registers::{RegisterChange, RegisterChanges, Why};
 use journal_rows::Row;
 use lang_core::NoMemory;
 use std::alloc::Global;
@@ -71,7 +71,7 @@ pub fn tell(
 ) -> Result<(), NoMemory>
     ensures { OnOk result (with_draft draft.new (kept parts.now) ≡ told number why (with_draft draft.old (kept parts.now))) }
 {
-    let change = Change::Tell(why);
+    let change = RegisterChange::Tell(why);
     draft
         .changes
         .change(alloc, &parts.registers, number, change)

@@ -2,18 +2,22 @@
 //! such a draft is put in place.
 #![tactic(auto)]
 
+mod answers;
 mod applying;
 mod draft;
+mod entries;
 mod limits;
 mod noting;
 mod parts;
 mod rows;
 mod view;
 
+pub use answers::last_answer;
 pub use applying::{note_draft, push_rows, reserve, reserve_draft};
 pub use draft::{Draft, next_index, next_number, note, start, tell};
+pub use entries::{created, insert, next_id, next_in};
 pub use limits::{is_crowded, is_heavy};
 pub use noting::note_rows;
 pub use parts::Parts;
-pub use rows::{change_rows, deleted, named, push_deleted, replaced};
+pub use rows::{RULE, change_rows, deleted, named, push_deleted, replaced};
 pub use view::{DraftedRegisters, RegistersView, drafted};

@@ -5,7 +5,7 @@ ghost use Rattle.call_registers.specs.Registers.{register, with_ack, with_answer
 ghost use Rattle.call_registers.specs.Overlays.{overlaid};
 ghost use Rattle.service_events.specs.Calls.{seen_answer};
 
-use call_registers::{Answer, Change, RegisterChanges, Registers};
+use call_registers::{Answer, RegisterChange, RegisterChanges, Registers};
 use journal_rows::{Row, SawAnswerRow, SentRow};
 use lang_core::{Copied, NoMemory};
 use std::alloc::Global;
@@ -28,7 +28,7 @@ fn note_version(
     ensures { OnOk result (overlaid changes.new standing.now.list ≡ at_number sent.now.number (sent_anew sent.now.desired at) (overlaid changes.old standing.now.list)) }
 {
     let desired = Copied::copied(&sent.desired, alloc)?;
-    let change = Change::Send { desired, since: at };
+    let change = RegisterChange::Send { desired, since: at };
     changes.change(alloc, standing, sent.number, change)
 }
 
@@ -64,7 +64,12 @@ fn note_answer(
         version: seen.version,
         response: seen.response.copied(alloc)?,
     };
-    changes.change(alloc, standing, seen.number, Change::Hear(answer))
+    changes.change(
+        alloc,
+        standing,
+        seen.number,
+        RegisterChange::SeeAnswer(answer),
+    )
 }
 
 fn note_row(
@@ -78,7 +83,12 @@ fn note_row(
 {
     match row {
         Row::Sent(sent) => note_sent(alloc, standing, changes, at, sent),
-        Row::SawAck(ack) => changes.change(alloc, standing, ack.number, Change::Ack(ack.version)),
+        Row::SawAck(ack) => changes.change(
+            alloc,
+            standing,
+            ack.number,
+            RegisterChange::Ack(ack.version),
+        ),
         Row::SawAnswer(seen) => note_answer(alloc, standing, changes, seen),
         _ => Ok(()),
     }

@@ -1,18 +1,20 @@
--- The post that goes next has a message.
-use Rattle.std.proofs.Common.{◌≡◌, ℕ, ◌<◌, ◌⊎◌, ◌&&◌, Bool, true, false, List, [], ◌∷◌, Option, Some, None, IsSome, IfSome, Contains, filter, find, is_none, map, nat_eq, nat_lt, option_map, inl, inr, refl, sym, ap, ◌∙◌, subst, arith, eq-eqb, ne_eqb, ltb-true}
+-- The post that goes next has a message, which goes to the service that it is for.
+use Rattle.std.proofs.Common.{◌≡◌, ℕ, ◌<◌, ◌≤◌, ◌+◌, ◌⊎◌, ◌&&◌, Bool, true, false, List, [], ◌∷◌, Option, Some, None, IsSome, IfSome, IsSomeAnd, Contains, filter, find, is_none, map, not, nat_eq, nat_lt, option_map, inl, inr, refl, sym, ap, ◌∙◌, subst, arith, eq-eqb, ne_eqb, ltb-true}
+use Rattle.std.specs.List.{list_any}
 use Rattle.std.proofs.lemmas.Bool.{cases_Bool, cond-true, cond-false, and_parts}
 use Rattle.std.proofs.lemmas.List.Elements.{Contains-append_cases, Contains-append_right}
 use Rattle.lang_base.specs.Texts.{same_text}
 use Rattle.request_log.specs.Entries.{has_id}
+use Rattle.request_log.specs.Records.{Record, record_of}
 use Rattle.request_log.specs.declared.entry.Entry.{Entry}
-use Rattle.request_log.specs.declared.entry.Made.{Made}
 use Rattle.repair_messages.specs.declared.posts.Post.TheVariants.{Set}
 use Rattle.repair_messages.specs.declared.posts.PostName.{PostName}
 use Rattle.repair_messages.specs.declared.posts.PostName.TheVariants.{Call, Reply as OfReply}
-use Rattle.call_registers.specs.Registers.{has_number, register}
+use Rattle.call_registers.specs.Registers.{CountFrom, register}
 use Rattle.call_registers.specs.Replies.{reply, IsBelowAll, IsRising}
 use Rattle.call_registers.specs.declared.register.Register.{Register}
 use Rattle.call_registers.specs.declared.reply.Reply.{Reply}
+use Rattle.service_events.specs.Ages.{GoesFirst}
 use Rattle.service_events.specs.Fits.{Fits, HasAnswered}
 use Rattle.service_events.specs.Flying.{awaited}
 use Rattle.service_events.specs.Posts.{is_unacknowledged, is_owed, Aged, aged_call, aged_reply, outstanding, set_message, answer_post, reply_post, where_there, write_post}
@@ -20,9 +22,11 @@ use Rattle.service_events.specs.State.{Kept}
 use Rattle.service_entry_laws.proofs.EntryLemmas.{found_itself}
 use Rattle.service_entry_laws.proofs.PartLemmas.{logged}
 use Rattle.service_entry_laws.proofs.PostedLaw.{of_entry}
-use Rattle.service_entry_laws.proofs.SearchLemmas.{found_all}
-use Rattle.world_agreement.proofs.ListLemmas.{contains_here, contains_cases}
+use Rattle.service_entry_laws.proofs.SearchLemmas.{text_is, found_all, contains_here, contains_cases}
+use Rattle.service_laws.proofs.AgeLaws.{AgesOf}
+use Rattle.service_laws.proofs.PostAges.{posts_aged}
 use Rattle.repair_queue.specs.Queue.{IsOldest}
+use Rattle.service_posts.specs.Goes.{GoesTo}
 
 -- ---- what is in a list
 
@@ -45,16 +49,28 @@ from_filter p (y ∷ ys) x h = elim (cases_Bool (p y)) [
     first y ys (inl is) passes rest = (subst (λ z. Contains (y ∷ ys) z) is (contains_here y ys), ap p (sym is) ∙ passes)
     first y ys (inr later) passes rest = (let r = rest later in (Contains-append_right (y ∷ []) ys x r.0, r.1))
 
-there_found : {X : Type 0} (p : X → Bool) (xs : List X) (x : X) → Contains xs x → p x ≡ true → IsSome (find p xs)
-there_found p [] x h is = absurd (omega (arith, h.1))
-there_found p (y ∷ ys) x h is = elim (cases_Bool (p y)) [
-  | inl here ↦ rw here refl
-  | inr other ↦ rw other (later (contains_cases y x ys h) other (λ at. there_found p ys x at is))
-]
+-- ---- registers
+
+-- none has a number below the first
+from_first : (n : ℕ) (rs : List Register) (r : Register) → CountFrom n rs → Contains rs r → n ≤ r.number
+from_first n [] r h at = absurd (omega (arith, at.1))
+from_first n (x ∷ xs) r h at = by (contains_cases x r xs at) (λ later. from_first (n + 1) xs r h.1 later)
   where
-    later : (y ≡ x) ⊎ Contains ys x → p y ≡ false → (Contains ys x → IsSome (find p ys)) → IsSome (find p ys)
-    later (inl same) other rest = (let clash : true ≡ false = sym is ∙ ap p (sym same) ∙ other in cc)
-    later (inr at) other rest = rest at
+    by : (x ≡ r) ⊎ Contains xs r → (Contains xs r → n + 1 ≤ r.number) → n ≤ r.number
+    by (inl is) rest = (let same : r.number ≡ n = ap (λ (y : Register). y.number) (sym is) ∙ h.0 in omega (arith, same))
+    by (inr later) rest = (let above = rest later in omega (arith, above))
+
+-- no two have one number
+register_found : (n : ℕ) (rs : List Register) (r : Register) → CountFrom n rs → Contains rs r → register r.number rs ≡ Some r
+register_found n [] r h at = absurd (omega (arith, at.1))
+register_found n (x ∷ xs) r h at = by (contains_cases x r xs at) (λ later. register_found (n + 1) xs r h.1 later)
+  where
+    by : (x ≡ r) ⊎ Contains xs r → (Contains xs r → register r.number xs ≡ Some r) → register r.number (x ∷ xs) ≡ Some r
+    by (inl is) rest = cond-true (nat_eq x.number r.number) (Some x) (register r.number xs) (eq-eqb x.number r.number (ap (λ (y : Register). y.number) is)) ∙ ap Some is
+    by (inr later) rest =
+        (let above = from_first (n + 1) xs r h.1 later in
+        let number : x.number ≡ n = h.0 in
+        cond-false (nat_eq x.number r.number) (Some x) (register r.number xs) (ne_eqb x.number r.number (omega (arith, above, number))) ∙ rest later)
 
 -- ---- replies
 
@@ -80,29 +96,31 @@ reply_found (x ∷ xs) p h at = by (contains_cases x p xs at) (λ later. reply_f
 -- ---- the message
 
 module _ (s : Kept) (fits : Fits s) where
-  call_written : (n : ℕ) → IsSome (register n s.registers) → IsSome (write_post s (Call n))
-  call_written n some = by (register n s.registers) some
-    where
-      by : (o : Option Register) → IsSome o → IsSome (option_map (λ r. Set (set_message s r)) o)
-      by None some = some
-      by (Some r) some = refl
+  -- it has a message, which goes there
+  abbrev Goes : List ℕ → PostName → Type 0
+  Goes dest name = IsSomeAnd (write_post s name) (GoesTo dest)
+
+  call_written : (dest : List ℕ) (r : Register) → register r.number s.registers ≡ Some r → r.dest ≡ dest → Goes dest (Call r.number)
+  call_written dest r found to = subst (λ o. IsSomeAnd (option_map (λ x. Set (set_message s x)) o) (GoesTo dest)) (sym found) to
 
   -- an entry that answered has a record
-  has_record : (e : Entry) → HasAnswered s.journal e → 0 < e.answer_version → (o : Option Made) → e.made ≡ o → (p : Reply) → IsSome (option_map (answer_post s p e) o)
-  has_record e h positive None none p = (let zero = h.first none in absurd (omega (arith, zero, positive)))
-  has_record e h positive (Some m) is p = refl
+  has_record : (dest : List ℕ) (e : Entry) → HasAnswered s.journal e → 0 < e.answer_version → (o : Option Record) → record_of e ≡ o → (p : Reply) → p.caller ≡ dest
+      → IsSomeAnd (option_map (answer_post s p e) o) (GoesTo dest)
+  has_record dest e h positive None none p to = (let zero = h.first none in absurd (omega (arith, zero, positive)))
+  has_record dest e h positive (Some m) is p to = to
 
-  reply_written : (p : Reply) → reply p.id s.replies ≡ Some p → 0 < p.answer_version → IsSome (write_post s (OfReply p.id))
-  reply_written p found positive =
+  reply_written : (dest : List ℕ) (p : Reply) → reply p.id s.replies ≡ Some p → 0 < p.answer_version → p.caller ≡ dest → Goes dest (OfReply p.id)
+  reply_written dest p found positive to =
       let of = of_entry s.journal s.entries s.replies p.id p (logged s fits) found in
       let id = found_itself s.entries p.id of.entry of.found in
       let by_id : find (has_id (of.entry).id) s.entries ≡ Some of.entry = ap (λ k. find (has_id k) s.entries) id ∙ of.found in
       let answered = found_all (HasAnswered s.journal) (has_id (of.entry).id) s.entries of.entry fits.answered.entries by_id in
       let same = of.reply.answer_version in
-      let record_there = has_record of.entry answered (omega (arith, same, positive)) (of.entry).made refl p in
-      subst (λ o. IsSome (where_there s o)) (sym found) (subst (λ o. IsSome (reply_post s p o)) (sym of.found) record_there)
+      let record_there = has_record dest of.entry answered (omega (arith, same, positive)) (record_of of.entry) refl p to in
+      subst (λ o. IsSomeAnd (where_there s o) (GoesTo dest)) (sym found)
+      (subst (λ o. IsSomeAnd (reply_post s p o) (GoesTo dest)) (sym of.found) record_there)
 
-  named_written : (dest : List ℕ) (q : Aged) → Contains (outstanding s.registers s.replies (map awaited s.flights) dest) q → IsSome (write_post s q.name)
+  named_written : (dest : List ℕ) (q : Aged) → Contains (outstanding s.registers s.replies (map awaited s.flights) dest) q → Goes dest q.name
   named_written dest q at =
       let calls = filter (is_unacknowledged (map awaited s.flights) dest) s.registers in
       let replies = filter (is_owed dest) s.replies in
@@ -111,21 +129,36 @@ module _ (s : Kept) (fits : Fits s) where
     where
       by_kind : (calls : List Register) (replies : List Reply) → Contains (map aged_call calls) q ⊎ Contains (map aged_reply replies) q
           → ((r : Register) → Contains calls r → Contains s.registers r × (is_unacknowledged (map awaited s.flights) dest r ≡ true))
-          → ((p : Reply) → Contains replies p → Contains s.replies p × (is_owed dest p ≡ true)) → IsSome (write_post s q.name)
+          → ((p : Reply) → Contains replies p → Contains s.replies p × (is_owed dest p ≡ true)) → Goes dest q.name
       by_kind calls replies (inl at) of_calls of_replies =
           let r = from_map aged_call calls q at in
-          let there = there_found (has_number (r.0).number) s.registers r.0 (of_calls r.0 r.1).0 (eq-eqb (r.0).number (r.0).number refl) in
-          subst (λ (x : Aged). IsSome (write_post s x.name)) r.2 (call_written (r.0).number there)
+          let of = of_calls r.0 r.1 in
+          let awaits = list_any (nat_eq (r.0).number) (map awaited s.flights) in
+          let one = and_parts (same_text (r.0).dest dest && nat_lt (r.0).acked (r.0).version && is_none (r.0).held) (not awaits) of.1 in
+          let two = and_parts (same_text (r.0).dest dest && nat_lt (r.0).acked (r.0).version) (is_none (r.0).held) one.0 in
+          let three = and_parts (same_text (r.0).dest dest) (nat_lt (r.0).acked (r.0).version) two.0 in
+          subst (λ (x : Aged). Goes dest x.name) r.2
+          (call_written dest r.0 (register_found 1 s.registers r.0 fits.sent.numbered of.0) (text_is (r.0).dest dest three.0))
       by_kind calls replies (inr at) of_calls of_replies =
           let p = from_map aged_reply replies q at in
           let of = of_replies p.0 p.1 in
           let one = and_parts (same_text (p.0).caller dest && (p.0).due && nat_lt 0 (p.0).answer_version) (is_none (p.0).held) of.1 in
           let two = and_parts (same_text (p.0).caller dest && (p.0).due) (nat_lt 0 (p.0).answer_version) one.0 in
+          let three = and_parts (same_text (p.0).caller dest) (p.0).due two.0 in
           let positive = ltb-true 0 (p.0).answer_version two.1 in
-          subst (λ (x : Aged). IsSome (write_post s x.name)) p.2 (reply_written p.0 (reply_found s.replies p.0 fits.replies.rising of.0) positive)
+          subst (λ (x : Aged). Goes dest x.name) p.2
+          (reply_written dest p.0 (reply_found s.replies p.0 fits.replies.rising of.0) positive (text_is (p.0).caller dest three.0))
 
   -- so the post that goes next has one
-  pub post_written : (dest : List ℕ) (name : Option PostName) → IfSome name (λ n. IsOldest n (outstanding s.registers s.replies (map awaited s.flights) dest))
-      → IfSome name (λ n. IsSome (write_post s n))
-  post_written dest None oldest = tt
-  post_written dest (Some name) oldest = subst (λ n. IsSome (write_post s n)) oldest.named (named_written dest oldest.post oldest.there)
+  pub post_goes : (dest : List ℕ) (name : Option PostName) → IfSome name (λ n. IsOldest n (outstanding s.registers s.replies (map awaited s.flights) dest))
+      → IfSome name (Goes dest)
+  post_goes dest None oldest = tt
+  post_goes dest (Some name) oldest = subst (Goes dest) oldest.named (named_written dest oldest.post oldest.there)
+
+  -- and none of the others waits since an earlier row
+  pub post_first : AgesOf s → (dest : List ℕ) (name : Option PostName) → IfSome name (λ n. IsOldest n (outstanding s.registers s.replies (map awaited s.flights) dest))
+      → IfSome name (GoesFirst dest s)
+  post_first ages dest None oldest = tt
+  post_first ages dest (Some name) oldest =
+      let aged = posts_aged s fits ages dest in
+      record { post = oldest.post; there = oldest.there; names = oldest.named; first = λ k d within. (aged k d within, oldest.first k d within) }

@@ -1,10 +1,8 @@
 //! What a service posts, on its parts: which post goes next to another service, and the message of a post as it is now.
 #![tactic(auto)]
 
-mod answers;
 mod beside;
 mod posting;
 
-pub use answers::last_answer;
 pub use beside::{Neighbours, neighbours_of};
 pub use posting::{next_post, write_post};

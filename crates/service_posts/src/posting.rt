@@ -1,27 +1,30 @@
 // The post that goes next, and its message.
-ghost use Rattle.std.specs.Prelude.{◌≡◌, None, Some, IfOk, IfSome, IsSome};
+ghost use Rattle.std.specs.Prelude.{◌≡◌, None, Some, IfOk, IfSome, IsSome, IsSomeAnd};
+ghost use Rattle.request_log.specs.Records.{record_in};
+ghost use Rattle.service_events.specs.Ages.{GoesFirst};
 ghost use Rattle.service_events.specs.Posts.{answer_post, calls_to, next_of, next_post, previous_of, set_message, where_new, write_post};
 ghost use Rattle.service_parts.specs.Parts.{kept};
+ghost use Rattle.service_posts.specs.Goes.{GoesTo};
 ghost use Rattle.service_parts.specs.Services.{IsService};
 ghost use Rattle.call_registers.specs.Registers.{register};
 ghost use Rattle.call_registers.specs.Replies.{reply};
 
-use crate::answers::last_answer;
 use crate::beside::{Neighbours, neighbours_of};
 use call_registers::{Register, Reply};
 use lang_core::{Copied, Name, NoMemory};
 use repair_messages::{AnswerMessage, Post, PostName, SetMessage, copied_pair};
 use repair_queue::next;
 use request_log::{Entry, Made};
-use service_parts::Parts;
+use service_parts::{Parts, last_answer};
 use std::alloc::Global;
 
-/// The post that goes to this service next: the oldest that is outstanding; None exactly where none is. It has a message.
-/// It takes no memory.
+/// The post that goes to this service next: the oldest that is outstanding; None exactly where none is. It has a message,
+/// which goes there. It takes no memory.
 pub fn next_post(parts: &Parts, dest: &Name) -> Option<PostName>
     requires { IsService parts.now }
     ensures next { result ≡ next_post dest.now (kept parts.now) }
-    ensures written { IfSome result (λ name. IsSome (write_post (kept parts.now) name)) }
+    ensures first { IfSome result (λ name. GoesFirst dest.now (kept parts.now) name) }
+    ensures goes { IfSome result (λ name. IsSomeAnd (write_post (kept parts.now) name) (GoesTo dest.now)) }
 {
     next(
         &parts.registers,
@@ -84,7 +87,7 @@ fn answer_post(
     entry: &Entry,
     made: &Made,
 ) -> Result<Post, NoMemory>
-    ensures { IfOk result (λ post. post ≡ answer_post (kept parts.now) reply.now entry.now made.now) }
+    ensures { IfOk result (λ post. post ≡ answer_post (kept parts.now) reply.now entry.now (record_in made.now)) }
 {
     let who = reply.repair_who.copied(alloc)?;
     let answer = last_answer(alloc, parts, &reply.caller, reply.number, entry, made)?;

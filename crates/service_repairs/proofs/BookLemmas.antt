@@ -5,38 +5,15 @@ use Rattle.request_log.specs.declared.entry.Entry.{Entry}
 use Rattle.local_repair.specs.Settling.{IsSettled}
 use Rattle.local_repair.specs.Steps.{answers_for, calls_of_made, raised}
 use Rattle.journal_rows.specs.declared.row.Row.{Row}
-use Rattle.call_registers.specs.Changes.{change as change_first}
+use Rattle.call_registers.specs.Registers.{IsTimely}
 use Rattle.call_registers.specs.Replies.{has_entry, reply, at_entry}
 use Rattle.call_registers.specs.declared.reply.Reply.{Reply}
+use Rattle.service_events.specs.Fits.{calls_of_entry}
 use Rattle.service_call_laws.proofs.RowLemmas.{Each, IsPlain}
 use Rattle.service_call_laws.proofs.FittingLemmas.{Book, HasRoom, Fitting}
 use Rattle.service_laws.proofs.SettledLaws.{change, settled_is, settled_timely}
 use Rattle.service_laws.proofs.StepLaws.{answer_plain}
-use Rattle.service_repairs.specs.Books.{KeptBook, answers, answer_rows, new_numbers, sent_rows, entered, settled, Settles, IsOwn, IsTimely}
-
--- ---- a reply that isn't there
-
-none_first : (b : Bool) (p : Reply) (o : Option Reply) → cond b (Some p) o ≡ None → (b ≡ false) × (o ≡ None)
-none_first true p o h = cc
-none_first false p o h = (refl, h)
-
-skipped : (b : Bool) (xs ys : List Reply) → b ≡ false → cond b xs ys ≡ ys
-skipped true xs ys h = cc
-skipped false xs ys h = refl
-
-absent_same : (id : ℕ) (f : Reply → Reply) (ps : List Reply) → reply id ps ≡ None → ps ≡ at_entry id f ps
-absent_same id f [] h = refl
-absent_same id f (p ∷ ps) h =
-    let a = none_first (has_entry id p) p (reply id ps) h in
-    ap (λ l. p ∷ l) (absent_same id f ps a.1) ∙ sym (skipped (has_entry id p) (f p ∷ ps) (p ∷ change_first (has_entry id) f ps) a.0)
-
-no_some : (o : Option Reply) → is_some o ≡ false → o ≡ None
-no_some None h = refl
-no_some (Some p) h = cc
-
--- a change of a reply that isn't there changes nothing
-pub unchanged : (there : Bool) (id : ℕ) (f : Reply → Reply) (ps : List Reply) → there ≡ is_some (reply id ps) → there ≡ false → ps ≡ at_entry id f ps
-unchanged there id f ps h e = absent_same id f ps (no_some (reply id ps) (sym h ∙ e))
+use Rattle.service_repairs.specs.Books.{KeptBook, answers, answer_rows, new_numbers, sent_rows, entered, settled, Settles, IsOwn}
 
 -- ---- what settling leaves
 
@@ -58,7 +35,7 @@ left_by b e t answered own few given =
     let book : Book = record { journal = b.journal; registers = b.registers } in
     let more = answer_rows e t answered in
     let room : HasRoom book (sent_rows b e t ++ more) = record { counts = (let sum = length-append b.journal (sent_rows b e t ++ more) in omega (arith, few, sum)) } in
-    let fits : Fitting book (Rattle.service_events.specs.Fits.place_of_entry e ∷ own.others) = record { sent = own.sent; places = own.places } in
+    let fits : Fitting book (calls_of_entry e ∷ own.others) = record { sent = own.sent; places = own.places } in
     record {
       settled = settled_is book e t.calls more own.others (plain e t answered) room fits any t.answers given;
       timely = settled_timely book e t.calls more own.others (plain e t answered) room fits;

@@ -2,3 +2,4 @@ pub mod BookLemmas
 mod StepDraftLemmas
 pub mod OrderLemmas
 mod RepairLemmas
+pub mod DoneLemmas

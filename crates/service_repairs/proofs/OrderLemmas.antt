@@ -1,5 +1,5 @@
 -- Orders: what is held, and rows that tell of no call.
-use Rattle.std.proofs.Common.{◌≡◌, ◌∙◌, sym, ap, refl, ℕ, List, ◌++◌, Option, Some, None, IsSome, length}
+use Rattle.std.proofs.Common.{◌≡◌, refl, ℕ, List, Option, Some, None, IsSome}
 use Rattle.std.specs.Option.{option_map_or}
 use Rattle.lang_core.specs.declared.inputs.Inputs.{Inputs}
 use Rattle.repair_messages.specs.declared.posts.PostName.TheVariants.{Call as OfCall, Reply as OfReply}
@@ -11,9 +11,8 @@ use Rattle.call_registers.specs.Replies.{reply}
 use Rattle.call_registers.specs.declared.register.Register.{Register}
 use Rattle.call_registers.specs.declared.reply.Reply.{Reply}
 use Rattle.service_events.specs.State.{Kept}
-use Rattle.service_events.specs.Calls.{noted}
 use Rattle.service_events.specs.Orders.{hold_on, order_rows, unless_held}
-use Rattle.service_repairs.specs.Ordering.{TellNoCall}
+use Rattle.service_parts.specs.Drafts.{TellNoCall}
 
 held_register : (o : Option Register) → unless_held (option_map_or (λ (r : Register). r.held) o None) ≡ None → IsSome o
 held_register None h = cc
@@ -37,10 +36,3 @@ orders_tell_none s (Restore id) token who i = λ at rs. refl
 orders_tell_none s (Replace id method path body) token who i = λ at rs. refl
 orders_tell_none s (Create before after q) token who i = λ at rs. refl
 orders_tell_none s (Retry name) token who i = λ at rs. refl
-
--- so they are noted where they come last
-pub noted_last : (now s : Kept) (rows journal : List Row) → now ≡ s → journal ≡ now.journal ++ rows → TellNoCall rows → record now { journal = journal } ≡ noted rows s
-noted_last now s rows journal same is none =
-    ap (λ j. record now { journal = j }) is
-    ∙ ap (λ rs. record now { journal = now.journal ++ rows; registers = rs }) (sym (none (length now.journal) now.registers))
-    ∙ ap (noted rows) same

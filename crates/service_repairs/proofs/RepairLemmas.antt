@@ -14,7 +14,9 @@ use Rattle.service_events.specs.declared.answers.Ordered.{Ordered}
 use Rattle.service_events.specs.declared.refusals.OrderRefused.{OrderRefused}
 use Rattle.service_entry_laws.proofs.FreshLemmas.{unfound}
 use Rattle.service_entry_laws.proofs.PartLemmas.{logged}
+use Rattle.service_laws.proofs.AgeLaws.{step_ages}
 use Rattle.service_laws.proofs.FitLaws.{step_fits, order_fits}
+use Rattle.service_laws.proofs.MessageAges.{order_ages}
 use Rattle.service_parts.specs.Parts.{kept}
 use Rattle.service_parts.specs.declared.parts.Parts.{Parts}
 use Rattle.service_laws.proofs.StepBoundLaws.{accepted_named, step_bounded, order_bounded}
@@ -32,7 +34,7 @@ step_done s s' (Err why) ok err = err
 pub step_service : (p p' : Parts) (result : Result Stepped NoMemory) → IsService p → IfOk result (λ stepped. after (kept p') stepped ≡ step_event (kept p))
     → OnErr result (kept p' ≡ kept p) → length p'.journal.rows < 2 ^ 64 → HasRoom p' → IsService p'
 step_service p p' (Ok stepped) h ok err rows room =
-    next_service p' (step_event (kept p)).service (ap (λ (a : After Stepped). a.service) ok) (λ few. step_fits (kept p) h.fits few) (step_bounded (kept p) h.few) rows room
+    next_service p' (step_event (kept p)).service (ap (λ (a : After Stepped). a.service) ok) (λ few. step_fits (kept p) h.fits few) (λ few. step_ages (kept p) h.fits few h.ages) (step_bounded (kept p) h.few) rows room
 step_service p p' (Err why) h ok err rows room = same_service p p' err room h
 
 -- ---- an order
@@ -61,4 +63,4 @@ pub order_service : (p p' : Parts) (command : Command) (token who : List ℕ) (i
     → after (kept p') (Ok o) ≡ order_event (kept p) command token who i → length p'.journal.rows < 2 ^ 64 → HasRoom p' → IsService p'
 order_service p p' command token who i o h is rows room =
     next_service p' (order_event (kept p) command token who i).service (ap (λ (a : After (Result Ordered OrderRefused)). a.service) is)
-    (λ few. order_fits (kept p) command token who i h.fits few) (order_bounded (kept p) command token who i h.few) rows room
+    (λ few. order_fits (kept p) command token who i h.fits few) (λ few. order_ages (kept p) command token who i h.fits few h.ages) (order_bounded (kept p) command token who i h.few) rows room

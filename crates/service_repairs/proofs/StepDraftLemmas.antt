@@ -5,21 +5,22 @@ use Rattle.lang_core.specs.declared.cells.Cell.{Cell}
 use Rattle.lang_core.specs.declared.setting.Setting.{Setting}
 use Rattle.request_log.specs.declared.entry.Entry.{Entry}
 use Rattle.request_log.specs.declared.entry.Made.{Made}
-use Rattle.local_repair.specs.Current.{rows_of, AllCurrent}
-use Rattle.local_repair.specs.Registers.{Change}
+use Rattle.local_repair.specs.Current.{rows_after, AllCurrent}
+use Rattle.local_repair.specs.Registers.{SlotsChange}
 use Rattle.local_repair.specs.Settling.{CanSettle}
 use Rattle.local_repair.specs.Steps.{is_new_answer, remade, IsRerun, RanFirst, StepsTo}
 use Rattle.local_repair.specs.declared.stepped.Stepped.{Stepped}
 use Rattle.local_repair.specs.declared.stepped.Stepped.TheVariants.{Idle, Ran}
 use Rattle.local_repair.proofs.TestLemmas.{step_with_at}
-use Rattle.service_events.specs.State.{Kept as Service, After, after, answers}
-use Rattle.service_events.specs.Fits.{Fits, FitsPlaces, place_of_entry, place_of_flight}
+use Rattle.call_registers.specs.Registers.{IsTimely}
+use Rattle.service_events.specs.State.{Kept as Service, After, after, answers, base}
+use Rattle.service_events.specs.Fits.{Fits, FitsPlaces, calls_of_entry, calls_of_flight}
 use Rattle.service_events.specs.Steps.{new_record, new_numbers, stepped, step_by, step_event}
 use Rattle.service_entry_laws.proofs.StepForms.{new_trace_is, run_again, step_entries}
 use Rattle.service_call_laws.proofs.EntryPlaces.{others, entry_to_head}
 use Rattle.service_laws.proofs.ApartLaws.{stands_at}
 use Rattle.service_laws.proofs.StaleLaws.{none_stale, found_first}
-use Rattle.service_repairs.specs.Books.{KeptBook, answers as answers_in, settled, Settles, IsOwn, IsTimely, book_of, with_book}
+use Rattle.service_repairs.specs.Books.{KeptBook, answers as answers_in, settled, Settles, IsOwn, book_of, with_book}
 
 -- ---- what a step asks
 
@@ -27,8 +28,8 @@ use Rattle.service_repairs.specs.Books.{KeptBook, answers as answers_in, settled
 pub all_settle : (s : Service) → Fits s → All (CanSettle (λ e t. IsOwn (book_of s) e) s.setting) s.entries
 all_settle s f = λ k d within.
     let st = stands_at s.entries k d within in
-    let fs = map place_of_flight s.flights in
-    let E : List Entry → Type 0 = λ xs. FitsPlaces s.registers (map place_of_entry xs ++ fs) in
+    let fs = map calls_of_flight s.flights in
+    let E : List Entry → Type 0 = λ xs. FitsPlaces s.registers (map calls_of_entry xs ++ fs) in
     let own : IsOwn (book_of s) (get_or s.entries k d) =
     record { sent = f.sent; others = others st.before st.rest fs; places = entry_to_head s.registers st.before (get_or s.entries k d) st.rest fs (subst E st.is f.places) } in
     record { live = λ rows t done. own; dead = own }
@@ -36,7 +37,7 @@ all_settle s f = λ k d within.
 -- ---- what it leaves
 
 -- the registers as a step over a book sees them
-abbrev pub change_in : KeptBook → KeptBook → ℕ → ℕ → Change
+abbrev pub change_in : KeptBook → KeptBook → ℕ → ℕ → SlotsChange
 change_in b b' last later =
     record {
       before = answers_in b;
@@ -53,20 +54,20 @@ record_is s rows e m r =
     λ i. record { alive = r.alive i; version = r.version i; request = r.request i; trace = trace i }
 
 module _ (s : Service) (f : Fits s) (b' : KeptBook) (last later : ℕ) (es' : List Entry) where
-  idle_is : AllCurrent (answers s) [] s.entries → es' ≡ s.entries → b' ≡ book_of s → after (with_book s es' b') Idle ≡ step_event s
+  idle_is : AllCurrent (answers s) (base s) s.entries → es' ≡ s.entries → b' ≡ book_of s → after (with_book s es' b') Idle ≡ step_event s
   idle_is all same book =
       ap (λ es. after (with_book s es b') Idle) same ∙ ap (λ b. after (with_book s s.entries b) Idle) book
       ∙ sym (ap (step_by s) (none_stale (answers s) [] s.entries all))
 
-  module _ (id : ℕ) (answered : Bool) (r : RanFirst s.setting (change_in (book_of s) b' last later) s.entries id answered es') where
+  module _ (id : ℕ) (answered : Bool) (r : RanFirst s.setting (change_in (book_of s) b' last later) (base s) s.entries id answered es') where
     abbrev was : Entry
     was = r.was
 
     abbrev rows : List Cell
-    rows = rows_of (take r.place s.entries)
+    rows = rows_after (base s) (take r.place s.entries)
 
     abbrev fresh : Made
-    fresh = new_record s (rows_of (take r.place s.entries)) r.was
+    fresh = new_record s (rows_after (base s) (take r.place s.entries)) r.was
 
     -- what a step leaves where the entry got this record
     abbrev leaves : Made → After Stepped
@@ -75,7 +76,7 @@ module _ (s : Service) (f : Fits s) (b' : KeptBook) (last later : ℕ) (es' : Li
         (Ran (r.was).id (is_new_answer (r.was).made m))
 
     whole : step_event s ≡ stepped s r.was fresh
-    whole = ap (step_by s) (found_first (answers s) s.entries r.place r.was r.first r.there)
+    whole = ap (step_by s) (found_first (answers s) (base s) s.entries r.place r.was r.first r.there)
 
     entries_are : (stepped s r.was fresh).service.entries ≡ set s.entries r.place (run_again s rows r.was)
     entries_are =
@@ -98,22 +99,22 @@ module _ (s : Service) (f : Fits s) (b' : KeptBook) (last later : ℕ) (es' : Li
     ran_is = made_leaves ∙ ap leaves (record_is s rows r.was r.remade.made r.remade.rerun) ∙ fresh_leaves
 
   -- what the step answers and leaves is what the event does
-  pub step_is : (answer : Stepped) → StepsTo s.setting (change_in (book_of s) b' last later) s.entries answer es' → (answer ≡ Idle → b' ≡ book_of s)
+  pub step_is : (answer : Stepped) → StepsTo s.setting (change_in (book_of s) b' last later) (base s) s.entries answer es' → (answer ≡ Idle → b' ≡ book_of s)
       → after (with_book s es' b') answer ≡ step_event s
   step_is Idle h same = idle_is h.0 h.1 (same refl)
   step_is (Ran id answered) h same = ran_is id answered h
 
 -- the same, where the step ran over a book that was taken out of the service, and was put back into it
 pub repaired : (s : Service) → Fits s → (b b' : KeptBook) (last later : ℕ) (setting : Setting) (es es' : List Entry) (now : Service) (result : Result Stepped NoMemory)
-    → b ≡ book_of s → setting ≡ s.setting → es ≡ s.entries → IfOk result (λ stepped. StepsTo setting (change_in b b' last later) es stepped es')
+    → b ≡ book_of s → setting ≡ s.setting → es ≡ s.entries → IfOk result (λ stepped. StepsTo setting (change_in b b' last later) [] es stepped es')
     → (result ≡ Ok Idle → b' ≡ b)
     → now ≡ record { setting = setting; entries = es'; flights = b'.flights; journal = b'.journal; registers = b'.registers; replies = b'.replies }
     → IfOk result (λ stepped. after now stepped ≡ step_event s)
 repaired s f b b' last later setting es es' now (Err e) book set entries steps idle is = tt
 repaired s f b b' last later setting es es' now (Ok stepped) book set entries steps idle is =
-    let P : KeptBook → Type 0 = λ k. StepsTo setting (change_in k b' last later) es stepped es' in
-    let T : Setting → Type 0 = λ t. StepsTo t (change_in (book_of s) b' last later) es stepped es' in
-    let Q : List Entry → Type 0 = λ xs. StepsTo s.setting (change_in (book_of s) b' last later) xs stepped es' in
+    let P : KeptBook → Type 0 = λ k. StepsTo setting (change_in k b' last later) [] es stepped es' in
+    let T : Setting → Type 0 = λ t. StepsTo t (change_in (book_of s) b' last later) [] es stepped es' in
+    let Q : List Entry → Type 0 = λ xs. StepsTo s.setting (change_in (book_of s) b' last later) (base s) xs stepped es' in
     let there = is ∙ ap (λ (t : Setting). let k : Service = record { setting = t; entries = es'; flights = b'.flights; journal = b'.journal; registers = b'.registers; replies = b'.replies } in k) set in
     ap (λ k. after k stepped) there
     ∙ step_is s f b' last later es' stepped (subst Q entries (subst T set (subst P book steps))) (λ e. idle (ap (λ x. Ok x) e) ∙ book)

@@ -1,19 +1,19 @@
 -- How the calls of an entry that ran again are settled: what it makes of journal, registers and replies.
-use Rattle.std.specs.Prelude.{ℕ, ◌≡◌, ◌+◌, ◌≤◌, Bool, false, List, [], ◌∷◌, ◌++◌, IfSome, if◌then◌else◌, length}
+use Rattle.std.specs.Prelude.{ℕ, ◌≡◌, ◌+◌, Bool, false, List, [], ◌∷◌, ◌++◌, if◌then◌else◌, length}
 use Rattle.lang_core.specs.declared.request.Response.{Response}
 use Rattle.lang_core.specs.declared.trace.Trace.{Trace}
 use Rattle.request_log.specs.declared.entry.Entry.{Entry}
 use Rattle.local_repair.specs.Steps.{answer_or_tentative, calls_of_made, raised}
 use Rattle.journal_rows.specs.declared.row.Row.{Row}
 use Rattle.journal_rows.specs.declared.row.Row.TheVariants.{Answered}
-use Rattle.call_registers.specs.Registers.{consumed, next_number, register}
+use Rattle.call_registers.specs.Registers.{consumed, next_number}
 use Rattle.call_registers.specs.Replies.{at_entry, with_answer}
 use Rattle.call_registers.specs.declared.register.Register.{Register}
 use Rattle.call_registers.specs.declared.reply.Reply.{Reply}
 use Rattle.flights.specs.declared.flight.Flight.{Flight}
 use Rattle.service_events.specs.Calls.{after_rows, settling_rows, settling_numbers}
 use Rattle.service_events.specs.State.{Kept as Service}
-use Rattle.service_events.specs.Fits.{FitsSent, FitsPlaces, Place, place_of_entry}
+use Rattle.service_events.specs.Fits.{FitsSent, FitsPlaces, NumberedCalls, calls_of_entry}
 
 -- a journal, the registers and replies of which it tells, and the flights for whose abandonment it has room
 pub record KeptBook : Type 0 where
@@ -74,12 +74,8 @@ pub record Settles (b b' : KeptBook) (e : Entry) (t : Trace) (answered : Bool) (
 -- the entry's calls are those that are wanted under its numbers, beside those of these other places
 pub record IsOwn (b : KeptBook) (e : Entry) : Type 0 where
   pub sent : FitsSent b.journal b.registers
-  pub others : List Place
-  pub places : FitsPlaces b.registers (place_of_entry e ∷ others)
-
--- no answer is held for a later version of a call than its register's
-abbrev pub IsTimely : List Register → Type 0
-IsTimely registers = (n : ℕ) → IfSome (register n registers) (λ r. IfSome r.answer (λ a. a.version ≤ r.version))
+  pub others : List NumberedCalls
+  pub places : FitsPlaces b.registers (calls_of_entry e ∷ others)
 
 -- ---- a service with its book
 

@@ -7,9 +7,10 @@ ghost use Rattle.local_repair.specs.Steps.{raised};
 ghost use Rattle.call_registers.specs.Overlays.{overlaid};
 ghost use Rattle.call_registers.specs.Replies.{reply, at_entry, with_answer};
 ghost use Rattle.service_events.specs.Calls.{after_rows};
-ghost use Rattle.service_repairs.specs.Books.{answers, answer_rows, replied, entered, Settles, IsOwn, IsTimely};
+ghost use Rattle.call_registers.specs.Registers.{IsTimely};
+ghost use Rattle.service_repairs.specs.Books.{answers, answer_rows, replied, entered, Settles, IsOwn};
 
-use crate::settling::{Plan, plan_calls};
+use crate::settling::{SettlingPlan, plan_calls};
 use call_registers::{RegisterChanges, Registers, Replies};
 use flights::Flights;
 use journal_rows::{AnsweredRow, Row, Rows};
@@ -202,7 +203,7 @@ impl Slots for Book {
         trace: &Trace,
         answered: bool,
     ) -> Result<Numbers, NoMemory> {
-        let Plan { rows, numbers } = plan_calls(alloc, &self.registers, entry, trace)?;
+        let SettlingPlan { rows, numbers } = plan_calls(alloc, &self.registers, entry, trace)?;
         self.enter(alloc, entry, trace, answered, rows)?;
         Ok(numbers)
     }

@@ -9,6 +9,5 @@ mod repairing;
 mod settling;
 mod step_drafts;
 
-pub use order_drafts::{RULE, created, insert, next_id};
 pub use ordering::order;
 pub use repairing::repair_step;

@@ -1,14 +1,15 @@
 // The orders of operators.
 ghost use Rattle.std.specs.Prelude.{◌≡◌, ◌+◌, ◌<◌, ◌≤◌, [], ◌∷◌, ◌++◌, None, IfOk, OnOk, OnErr, find, insert, length, option_map};
-ghost use Rattle.request_log.specs.Entries.{has_id, IsNew};
+ghost use Rattle.request_log.specs.Entries.{has_id, IsNew, with_call};
 ghost use Rattle.create_placement.specs.Placement.{created, place_between};
 ghost use Rattle.service_events.specs.State.{next_id};
 ghost use Rattle.service_events.specs.Calls.{noted};
 ghost use Rattle.service_events.specs.Messages.{rule};
-ghost use Rattle.service_events.specs.Orders.{about, asked_rows, carried_out, order_rows, original, released_post, repaired, request_of, unless_held, hold_on, with_call};
+ghost use Rattle.service_events.specs.Orders.{about, asked_rows, carried_out, order_rows, original, released_post, repaired, request_of, unless_held, hold_on};
 ghost use Rattle.service_parts.specs.Parts.{kept};
 ghost use Rattle.service_parts.specs.Rooms.{aloft};
-ghost use Rattle.service_repairs.specs.Ordering.{MayOrder, TellNoCall};
+ghost use Rattle.service_parts.specs.Drafts.{TellNoCall};
+ghost use Rattle.service_repairs.specs.Ordering.{MayOrder};
 
 use create_placement::place;
 use journal_rows::{About, AskedRow, Command, OrderedRow, Row};
@@ -16,25 +17,8 @@ use lang_core::{Copied, Inputs, Method, NoMemory, Origin, Request, Seq, Text};
 use local_repair::Repairer;
 use repair_messages::{PostName, copied_pair};
 use request_log::{Entry, Log};
-use service_parts::{Parts, push_rows, reserve};
+use service_parts::{Parts, RULE, created, insert, next_id, next_in, push_rows, reserve};
 use std::alloc::Global;
-
-/// The rule that allows every order.
-pub const RULE: u32 = 1;
-
-// The number of the next entry of a log.
-fn next_of(log: &Log) -> u64
-    ensures { result ≡ length log.now.entries + 1 }
-{
-    log.as_slice().len() as u64 + 1
-}
-
-/// The number of the next entry.
-pub fn next_id(parts: &Parts) -> u64
-    ensures { result ≡ next_id (kept parts.now) }
-{
-    next_of(parts.repairer.log())
-}
 
 /// What an order is about.
 pub fn about(parts: &Parts, command: &Command) -> About
@@ -175,7 +159,7 @@ fn ordered(
     let about = about(parts, command);
     let (original, repaired) = requests(alloc, parts, command)?;
     let (command, who) = copied_pair(alloc, command, who)?;
-    Ok(Row::Ordered(OrderedRow {
+    let order = OrderedRow {
         token,
         command,
         who,
@@ -183,7 +167,8 @@ fn ordered(
         original,
         repaired,
         about,
-    }))
+    };
+    Row::ordered(alloc, order)
 }
 
 fn asked(alloc: Global, id: u64, request: &Request, inputs: Inputs) -> Result<Row, NoMemory>
@@ -239,38 +224,6 @@ fn order_rows(
 
 // ---- what it does
 
-/// The entry of a request from outside that never ran.
-pub fn created(alloc: Global, id: u64, request: Request, inputs: Inputs) -> Entry
-    ensures { result ≡ created id request inputs }
-{
-    Entry {
-        id,
-        origin: Origin::Outside,
-        version: 0,
-        request,
-        wanted: true,
-        struck: false,
-        inputs,
-        made: None,
-        slots: Seq::new(alloc),
-        answer_version: 0,
-        runs: 0,
-    }
-}
-
-/// Puts an entry at a place of a log that isn't full, counted from 0. Refused, the log stays.
-pub fn insert(repairer: &mut Repairer, at: u64, entry: Entry) -> Result<(), NoMemory>
-    requires within { at ≤ length repairer.old.entries }
-    requires is_new { IsNew entry repairer.old.entries }
-    ensures ok { OnOk result (repairer.new.entries ≡ insert repairer.old.entries at entry) }
-    ensures err { OnErr result (repairer.new.entries ≡ repairer.old.entries) }
-{
-    match repairer.insert(at, entry) {
-        Ok(()) => Ok(()),
-        Err(_) => Err(NoMemory),
-    }
-}
-
 // Makes an entry of a request that is to have been made, at its place among the others. Refused, the log stays.
 fn create(
     alloc: Global,
@@ -285,7 +238,7 @@ fn create(
     ensures err { OnErr result (repairer.new.entries ≡ repairer.old.entries) }
 {
     let at = place(repairer.log(), before, after);
-    let entry = created(alloc, next_of(repairer.log()), request, inputs);
+    let entry = created(alloc, next_in(repairer.log()), request, inputs);
     insert(repairer, at, entry)
 }
 
@@ -318,11 +271,11 @@ fn carry_out(
 {
     match command {
         Command::Cancel(id) => {
-            let _there = parts.repairer.strike(id, true);
+            let _there = parts.repairer.set_struck(id, true);
             Ok(())
         }
         Command::Restore(id) => {
-            let _there = parts.repairer.strike(id, false);
+            let _there = parts.repairer.set_struck(id, false);
             Ok(())
         }
         Command::Replace {

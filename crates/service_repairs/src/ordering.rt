@@ -9,14 +9,14 @@ ghost use Rattle.service_parts.specs.Parts.{kept};
 ghost use Rattle.service_parts.specs.Services.{IsService};
 ghost use Rattle.service_repairs.specs.Answers.{answered_by};
 
-use crate::order_drafts::{RULE, about, accept};
+use crate::order_drafts::{about, accept};
 use crate::repairing::count_rows;
 use call_registers::Hold;
 use journal_rows::{Command, OrderedRow};
 use lang_core::{Inputs, Origin, Text};
 use repair_messages::PostName;
 use service_events::{OrderRefused, Ordered};
-use service_parts::{Parts, is_crowded, is_heavy};
+use service_parts::{Parts, RULE, is_crowded, is_heavy};
 use std::alloc::Global;
 
 // ---- why an order is refused

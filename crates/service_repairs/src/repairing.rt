@@ -1,7 +1,7 @@
 // A repair step.
-ghost use Rattle.std.specs.Prelude.{◌≡◌, ◌<◌, ◌^◌, [], Ok, length};
+ghost use Rattle.std.specs.Prelude.{◌≡◌, ◌<◌, ◌^◌, Ok, length};
 ghost use Rattle.local_repair.specs.Current.{AllCurrent};
-ghost use Rattle.service_events.specs.State.{answers};
+ghost use Rattle.service_events.specs.State.{answers, base};
 ghost use Rattle.service_parts.specs.Parts.{kept};
 ghost use Rattle.service_parts.specs.Services.{IsService};
 ghost use Rattle.service_repairs.specs.Answers.{Steps};
@@ -24,7 +24,7 @@ pub(crate) fn count_rows(journal: &Rows)
 pub fn repair_step(alloc: Global, parts: &mut Parts) -> Result<Stepped, NoMemory>
     requires { IsService parts.old }
     ensures steps { Steps (kept parts.old) result (kept parts.new) }
-    ensures free { AllCurrent (answers (kept parts.old)) [] parts.old.repairer.entries → result ≡ Ok Stepped.Idle }
+    ensures free { AllCurrent (answers (kept parts.old)) (base (kept parts.old)) parts.old.repairer.entries → result ≡ Ok Stepped.Idle }
     ensures service { IsService parts.new }
 {
     let stepped = repair(alloc, parts);

@@ -14,7 +14,7 @@ use std::alloc::Global;
 
 /// The rows that tell how an entry's calls become those of its new trace, and the numbers of these.
 #[derive(Drop)]
-pub(crate) struct Plan {
+pub(crate) struct SettlingPlan {
     pub rows: Vec<Row>,
     pub numbers: Numbers,
 }
@@ -107,7 +107,7 @@ fn plan_slot(
     number: u64,
     old: &CallMade,
     new: &CallMade,
-    plan: &mut Plan,
+    plan: &mut SettlingPlan,
 ) -> Result<(), NoMemory>
     ensures rows { OnOk result (plan.new.rows.items ≡ plan.old.rows.items ++ slot_rows registers.now.list next number old.now new.now) }
     ensures numbers { OnOk result (plan.new.numbers ≡ plan.old.numbers ++ slot_number next number old.now new.now ∷ []) }
@@ -117,7 +117,12 @@ fn plan_slot(
 }
 
 // The row of a call of a slot more, and its number.
-fn plan_new(alloc: Global, next: u64, call: &CallMade, plan: &mut Plan) -> Result<(), NoMemory>
+fn plan_new(
+    alloc: Global,
+    next: u64,
+    call: &CallMade,
+    plan: &mut SettlingPlan,
+) -> Result<(), NoMemory>
     ensures rows { OnOk result (plan.new.rows.items ≡ plan.old.rows.items ++ named next call.now ∷ []) }
     ensures numbers { OnOk result (plan.new.numbers ≡ plan.old.numbers ++ next ∷ []) }
 {
@@ -134,7 +139,7 @@ fn plan_slots(
     numbers: &[u64],
     old: &[CallMade],
     new: &[CallMade],
-    plan: &mut Plan,
+    plan: &mut SettlingPlan,
 ) -> Result<(), NoMemory>
     ensures rows { OnOk result (plan.new.rows.items ≡ plan.old.rows.items ++ settling_rows registers.now.list next numbers.now old.now new.now) }
     ensures numbers { OnOk result (plan.new.numbers ≡ plan.old.numbers ++ settling_numbers next numbers.now old.now new.now) }
@@ -176,11 +181,11 @@ pub(crate) fn plan_calls(
     registers: &Registers,
     entry: &Entry,
     trace: &Trace,
-) -> Result<Plan, NoMemory>
+) -> Result<SettlingPlan, NoMemory>
     ensures rows { IfOk result (λ p. p.rows.items ≡ settling_rows registers.now.list (next_number registers.now.list) entry.now.slots (calls_of_made entry.now.made) trace.now.calls) }
     ensures numbers { IfOk result (λ p. p.numbers ≡ settling_numbers (next_number registers.now.list) entry.now.slots (calls_of_made entry.now.made) trace.now.calls) }
 {
-    let mut plan = Plan {
+    let mut plan = SettlingPlan {
         rows: Vec::new(alloc),
         numbers: Numbers::new(alloc),
     };

@@ -1,7 +1,7 @@
 // A repair step of a service that calls others.
-ghost use Rattle.std.specs.Prelude.{◌≡◌, ◌≤◌, [], Ok, IfOk, OnErr};
+ghost use Rattle.std.specs.Prelude.{◌≡◌, ◌≤◌, Ok, IfOk, OnErr};
 ghost use Rattle.local_repair.specs.Current.{AllCurrent};
-ghost use Rattle.service_events.specs.State.{after, answers};
+ghost use Rattle.service_events.specs.State.{after, answers, base};
 ghost use Rattle.service_events.specs.Steps.{step_event};
 ghost use Rattle.service_events.specs.Fits.{Fits};
 ghost use Rattle.service_parts.specs.Parts.{kept};
@@ -61,7 +61,7 @@ pub fn repair(alloc: Global, parts: &mut Parts) -> Result<Stepped, NoMemory>
     ensures ok { IfOk result (λ stepped. after (kept parts.new) stepped ≡ step_event (kept parts.old)) }
     ensures err { OnErr result (kept parts.new ≡ kept parts.old) }
     ensures room { aloft parts.new.flights.list ≤ parts.new.journal.spare }
-    ensures free { AllCurrent (answers (kept parts.old)) [] parts.old.repairer.entries → result ≡ Ok Stepped.Idle }
+    ensures free { AllCurrent (answers (kept parts.old)) (base (kept parts.old)) parts.old.repairer.entries → result ≡ Ok Stepped.Idle }
 {
     let mut book = take_book(alloc, parts);
     let stepped = parts.repairer.step(alloc, &parts.setting, &mut book);

@@ -5,8 +5,8 @@ use Rattle.lang_core.specs.declared.ids.Origin.TheVariants.{Outside, Call}
 use Rattle.lang_core.specs.declared.inputs.Inputs.{Inputs}
 use Rattle.lang_core.specs.declared.request.Request.{Request}
 use Rattle.request_log.specs.Entries.{find_call}
+use Rattle.request_log.specs.Records.{Record, record_of}
 use Rattle.request_log.specs.declared.entry.Entry.{Entry}
-use Rattle.request_log.specs.declared.entry.Made.{Made}
 use Rattle.journal_rows.specs.Words.{last_taken}
 use Rattle.journal_rows.specs.declared.callee.TookRow.{TookRow}
 use Rattle.service_events.specs.State.{Kept, After, after, in_all, or_else, is_heavy, is_in_flight}
@@ -24,13 +24,13 @@ unless_early s (Some r) runs = after s r
 unless_early s None runs = runs
 
 module _ (s : Kept) (q : Request) (i : Inputs) where
-  made_is : (c : List ℕ) (n : ℕ) (e : Entry) (m : Option Made) (runs : After (Result Arrived ArriveRefused)) → known_by s c n e m ≡ unless_early s (by_made s c n e m) runs
+  made_is : (c : List ℕ) (n : ℕ) (e : Entry) (m : Option Record) (runs : After (Result Arrived ArriveRefused)) → known_by s c n e m ≡ unless_early s (by_made s c n e m) runs
   made_is c n e None runs = refl
   made_is c n e (Some m) runs = refl
 
   entry_is : (c : List ℕ) (n : ℕ) (e : Option Entry) → arrives_or_known s c n q i e ≡ unless_early s (by_entry s c n e) (arrives s (Call c n) q i)
   entry_is c n None = refl
-  entry_is c n (Some e) = made_is c n e e.made (arrives s (Call c n) q i)
+  entry_is c n (Some e) = made_is c n e (record_of e) (arrives s (Call c n) q i)
 
   version_is : (version : ℕ) (d : Option Request) (a runs : After (Result Arrived ArriveRefused)) (k : Early) → a ≡ unless_early s k runs
       → by_version s version d a ≡ unless_early s (unless_deleted (deletion_of version d) k) runs
@@ -80,9 +80,9 @@ module _ (s : Kept) (q : Request) (i : Inputs) where
 
 no_entry : (s : Kept) (c : List ℕ) (n : ℕ) (e : Option Entry) → by_entry s c n e ≡ None → e ≡ None
 no_entry s c n None h = refl
-no_entry s c n (Some e) h = absurd (known_made e.made h)
+no_entry s c n (Some e) h = absurd (known_made (record_of e) h)
   where
-    known_made : (m : Option Made) → by_made s c n e m ≡ None → ⊥
+    known_made : (m : Option Record) → by_made s c n e m ≡ None → ⊥
     known_made None h = cc
     known_made (Some m) h = cc
 

@@ -95,9 +95,9 @@ pub step_goes : (before now : Kept) (f next : Flight) (ran : Ran) (runs : ℕ) (
 step_goes before now f next ran runs step is w e h =
     ap (λ (st : Step). follows now st (completed (runs - 1))) (sym is) ∙ step_is before now f ran runs step w e h
 
-pub chosen : (go : Kept → Flight → After Arrived) (b : Bool) (s now : Kept) (f next : Flight) (other : After Arrived) → b ≡ true → now ≡ s → next ≡ f → go now next ≡ cond b (go s f) other
-chosen go true s now f next other h e k = ap (λ (x : Kept). go x next) e ∙ ap (go s) k
-chosen go false s now f next other h e k = cc
+pub goes_where_true : (go : Kept → Flight → After Arrived) (b : Bool) (s now : Kept) (f next : Flight) (other : After Arrived) → b ≡ true → now ≡ s → next ≡ f → go now next ≡ cond b (go s f) other
+goes_where_true go true s now f next other h e k = ap (λ (x : Kept). go x next) e ∙ ap (go s) k
+goes_where_true go false s now f next other h e k = cc
 
 pub goes_is : (s : Kept) (f : Flight) (ran : Ran) (move : Move) → ran ≡ flight_run s f → move ≡ next_move f ran → moved s f ran move ≡ goes_on s f
 unfolding goes_on
@@ -115,4 +115,4 @@ changed_by_is s f slot call = refl
 pub changed_completes : (runs : ℕ) (s now : Kept) (f next : Flight) (slot : ℕ) (call : CallMade) → nat_le 3 f.changes ≡ true → now ≡ changed_unsent s f slot call → next ≡ changed_flight s f slot call → completed runs now next ≡ changed_by runs s f slot call
 unfolding changed_by
 changed_completes runs s now f next slot call h e k =
-    chosen (completed runs) (nat_le 3 f.changes) (changed_unsent s f slot call) now (changed_flight s f slot call) next (changed_sent s f slot call) h e k
+    goes_where_true (completed runs) (nat_le 3 f.changes) (changed_unsent s f slot call) now (changed_flight s f slot call) next (changed_sent s f slot call) h e k

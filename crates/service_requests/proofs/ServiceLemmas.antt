@@ -15,6 +15,7 @@ use Rattle.service_entry_laws.proofs.ReplyLemmas.{above_all}
 use Rattle.service_entry_laws.proofs.SearchLemmas.{found_all}
 use Rattle.service_call_laws.proofs.CallLaws.{IsFew}
 use Rattle.service_call_laws.proofs.FlightLemmas.{flies_from, free_number}
+use Rattle.service_laws.proofs.AgeLaws.{AgesOf}
 use Rattle.service_laws.proofs.BoundLaws.{IsBounded}
 use Rattle.service_requests.specs.Endings.{MayEnd}
 use Rattle.service_parts.specs.Parts.{kept}
@@ -64,7 +65,7 @@ new_may_end s o q i fits runs =
 -- where an outcome of an event that keeps what fits was put in place, or was refused for want of memory
 pub event_service : {A E : Type 0} (p p' : Parts) (result : Result A NoMemory) (left : After A) (event : After (Result A E)) → accepted left ≡ event
     → IfOk result (λ a. after (kept p') a ≡ left) → OnErr result (kept p' ≡ kept p)
-    → (IsFew event.service → Fits event.service) → IsBounded event.service → OnOk result (length p'.journal.rows < 2 ^ 64) → HasRoom p' → IsService p → IsService p'
-event_service {A} {E} p p' (Ok a) left event same is err fits few rows room h =
-    next_service p' event.service (ap (λ (x : After A). x.service) is ∙ ap (λ (x : After (Result A E)). x.service) same) fits few rows room
-event_service p p' (Err why) left event same is err fits few rows room h = same_service p p' err room h
+    → (IsFew event.service → Fits event.service) → (IsFew event.service → AgesOf event.service) → IsBounded event.service → OnOk result (length p'.journal.rows < 2 ^ 64) → HasRoom p' → IsService p → IsService p'
+event_service {A} {E} p p' (Ok a) left event same is err fits ages few rows room h =
+    next_service p' event.service (ap (λ (x : After A). x.service) is ∙ ap (λ (x : After (Result A E)). x.service) same) fits ages few rows room
+event_service p p' (Err why) left event same is err fits ages few rows room h = same_service p p' err room h

@@ -5,8 +5,8 @@ use Rattle.lang_core.specs.declared.ids.Origin.{Origin}
 use Rattle.lang_core.specs.declared.ids.Origin.TheVariants.{Outside, Call}
 use Rattle.lang_core.specs.declared.request.Request.{Request}
 use Rattle.request_log.specs.Entries.{find_call}
+use Rattle.request_log.specs.Records.{Record, record_of}
 use Rattle.request_log.specs.declared.entry.Entry.{Entry}
-use Rattle.request_log.specs.declared.entry.Made.{Made}
 use Rattle.journal_rows.specs.Words.{last_taken}
 use Rattle.journal_rows.specs.declared.callee.TookRow.{TookRow}
 use Rattle.service_events.specs.State.{Kept, or_else, is_crowded, is_heavy, is_in_flight}
@@ -32,13 +32,13 @@ early (Err why) = Some (Err why)
 
 -- ---- a call that was here before
 
-abbrev pub by_made : Kept → List ℕ → ℕ → Entry → Option Made → Early
+abbrev pub by_made : Kept → List ℕ → ℕ → Entry → Option Record → Early
 by_made s caller number e None = Some (Err (NotYet number))
-by_made s caller number e (Some m) = Some (Ok (Known (last_answer s caller number e m)))
+by_made s caller number e (Some r) = Some (Ok (Known (last_answer s caller number e r)))
 
 abbrev pub by_entry : Kept → List ℕ → ℕ → Option Entry → Early
 by_entry s caller number None = None
-by_entry s caller number (Some e) = by_made s caller number e e.made
+by_entry s caller number (Some e) = by_made s caller number e (record_of e)
 
 -- the version of a deletion
 abbrev pub deletion_of : ℕ → Option Request → Option ℕ

@@ -14,18 +14,18 @@ use Rattle.service_parts.specs.Rooms.{aloft}
 use Rattle.service_requests.specs.Endings.{ends, CanEnd}
 use Rattle.service_parts.specs.Parts.{kept}
 use Rattle.service_parts.specs.declared.parts.Parts.{Parts}
-use Rattle.service_requests.specs.declared.outcome.Outcome.{Outcome}
+use Rattle.service_requests.specs.declared.outcome.DraftedEnd.{DraftedEnd}
 
 -- ---- an outcome
 
-abbrev pub leaves : Kept → Outcome → After Arrived
+abbrev pub leaves : Kept → DraftedEnd → After Arrived
 leaves s o = ends (with_draft o.draft s) o.ending
 
-abbrev pub CanLeave : Kept → Outcome → Type 0
+abbrev pub CanLeave : Kept → DraftedEnd → Type 0
 CanLeave s o = CanEnd s o.ending
 
 -- a refusal of the event, or an outcome which is what the event leaves and which can be put in place
-abbrev pub Drafts : {E : Type 0} → After (Result Arrived E) → Kept → Result Outcome E → Type 0
+abbrev pub Drafts : {E : Type 0} → After (Result Arrived E) → Kept → Result DraftedEnd E → Type 0
 Drafts event s (Ok outcome) = (accepted (leaves s outcome) ≡ event) × CanLeave s outcome
 Drafts event s (Err why) = after s (Err why) ≡ event
 

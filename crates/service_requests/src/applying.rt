@@ -15,7 +15,7 @@ ghost use Rattle.service_requests.specs.Changes.{leaves, CanLeave, IsReadyFor, w
 ghost use Rattle.service_parts.specs.Services.{HasRoom};
 
 use crate::endings::Ending;
-use crate::outcome::Outcome;
+use crate::outcome::DraftedEnd;
 use call_registers::{Registers, Replies, Reply};
 use flights::{Flight, Flights};
 use journal_rows::Rows;
@@ -24,8 +24,7 @@ use local_repair::Repairer;
 use repair_messages::{AnswerMessage, SetMessage};
 use request_log::Entry;
 use service_events::Arrived;
-use service_parts::{Draft, Parts, note_draft, reserve_draft};
-use service_posts::last_answer;
+use service_parts::{Draft, Parts, last_answer, note_draft, reserve_draft};
 use std::alloc::Global;
 
 // Puts an entry last in a log that isn't full.
@@ -229,7 +228,11 @@ fn commit_answering(
 }
 
 /// Puts an outcome in place. Room for all of it is made first; refused, nothing changes.
-pub(crate) fn apply(alloc: Global, parts: &mut Parts, outcome: Outcome) -> Result<Arrived, NoMemory>
+pub(crate) fn apply(
+    alloc: Global,
+    parts: &mut Parts,
+    outcome: DraftedEnd,
+) -> Result<Arrived, NoMemory>
     requires can { CanLeave (kept parts.old) outcome }
     requires room { HasRoom parts.old }
     ensures ok { IfOk result (λ arrived. after (kept parts.new) arrived ≡ leaves (kept parts.old) outcome) }
@@ -237,7 +240,7 @@ pub(crate) fn apply(alloc: Global, parts: &mut Parts, outcome: Outcome) -> Resul
     ensures err { OnErr result (kept parts.new ≡ kept parts.old) }
     ensures room { HasRoom parts.new }
 {
-    let Outcome { draft, ending } = outcome;
+    let DraftedEnd { draft, ending } = outcome;
     match ending {
         Ending::Commits {
             flight,

@@ -9,7 +9,7 @@ ghost use Rattle.service_events.specs.Doing.{Does, arrive_memory};
 
 use crate::applying::apply;
 use crate::early::before_run;
-use crate::going::begin;
+use crate::going::start_flight;
 use lang_core::{Inputs, NoMemory, Origin, Request};
 use service_events::{ArriveRefused, Arrived};
 use service_parts::Parts;
@@ -29,7 +29,7 @@ fn enter(
     ensures err { OnErr result (kept parts.new ≡ kept parts.old) }
     ensures service { IsService parts.new }
 {
-    let outcome = begin(alloc, parts, origin, request, inputs)?;
+    let outcome = start_flight(alloc, parts, origin, request, inputs)?;
     apply(alloc, parts, outcome)
 }
 

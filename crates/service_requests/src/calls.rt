@@ -2,7 +2,7 @@
 ghost use Rattle.std.specs.Prelude.{◌≡◌, [], ◌∷◌, ◌++◌, if◌then◌else◌, IfOk, OnOk};
 ghost use Rattle.std.specs.Option.{option_copied};
 ghost use Rattle.call_registers.specs.Registers.{register};
-ghost use Rattle.service_events.specs.Arriving.{answers_register, is_for, is_new_to, seen_live, heard_rows, told, call_answered_event, call_failed_event};
+ghost use Rattle.service_events.specs.Arriving.{answers_register, is_for, is_new_to, seen_live, live_answer_rows, told, call_answered_event, call_failed_event};
 ghost use Rattle.service_events.specs.Calls.{noted};
 ghost use Rattle.service_events.specs.Flying.{goes_on};
 ghost use Rattle.service_parts.specs.Drafts.{with_draft};
@@ -15,10 +15,10 @@ ghost use Rattle.service_events.specs.Doing.{Does, call_memory};
 
 use crate::applying::apply;
 use crate::going::follow;
-use crate::outcome::Outcome;
+use crate::outcome::DraftedEnd;
 use call_registers::{Register, Why, is_newer};
 use flights::Flight;
-use journal_rows::{AckHow, How, Row, SawAckRow, SawAnswerRow};
+use journal_rows::{AckHow, Row, SawAckRow, SawAnswerRow, SawHow};
 use lang_core::{Copied, NoMemory, Same};
 use repair_messages::{AnswerMessage, copied_pair};
 use service_events::{Arrived, CallRefused};
@@ -59,7 +59,7 @@ fn seen_live(alloc: Global, answer: &AnswerMessage) -> Result<Row, NoMemory>
         answer_version: answer.answer_version,
         version: answer.version,
         response,
-        how: How::Live,
+        how: SawHow::Live,
         who,
         rule: 0,
     }))
@@ -80,8 +80,12 @@ fn push_seen(
 }
 
 // The rows of a live answer.
-fn heard_rows(alloc: Global, parts: &Parts, answer: &AnswerMessage) -> Result<Vec<Row>, NoMemory>
-    ensures { IfOk result (λ rows. rows.items ≡ heard_rows (kept parts.now) answer.now) }
+fn live_answer_rows(
+    alloc: Global,
+    parts: &Parts,
+    answer: &AnswerMessage,
+) -> Result<Vec<Row>, NoMemory>
+    ensures { IfOk result (λ rows. rows.items ≡ live_answer_rows (kept parts.now) answer.now) }
 {
     let new = is_new_to(answer, parts.registers.get(answer.number));
     let mut rows = Vec::new(alloc);
@@ -95,31 +99,31 @@ fn heard_rows(alloc: Global, parts: &Parts, answer: &AnswerMessage) -> Result<Ve
 }
 
 // A draft of the rows of a live answer.
-fn heard(alloc: Global, parts: &Parts, answer: &AnswerMessage) -> Result<Draft, NoMemory>
-    ensures { IfOk result (λ draft. with_draft draft (kept parts.now) ≡ noted (heard_rows (kept parts.now) answer.now) (kept parts.now)) }
+fn draft_of_answer(alloc: Global, parts: &Parts, answer: &AnswerMessage) -> Result<Draft, NoMemory>
+    ensures { IfOk result (λ draft. with_draft draft (kept parts.now) ≡ noted (live_answer_rows (kept parts.now) answer.now) (kept parts.now)) }
 {
-    let rows = heard_rows(alloc, parts, answer)?;
+    let rows = live_answer_rows(alloc, parts, answer)?;
     let mut draft = start(alloc);
     note(alloc, parts, &mut draft, rows)?;
     Ok(draft)
 }
 
-fn hear(
+fn follow_answer(
     alloc: Global,
     parts: &Parts,
     answer: &AnswerMessage,
     flight: &Flight,
-) -> Result<Outcome, NoMemory>
+) -> Result<DraftedEnd, NoMemory>
     requires { MayEnd (kept parts.now) flight.now }
-    ensures follows { IfOk result (λ outcome. leaves (kept parts.now) outcome ≡ goes_on (noted (heard_rows (kept parts.now) answer.now) (kept parts.now)) flight.now) }
+    ensures follows { IfOk result (λ outcome. leaves (kept parts.now) outcome ≡ goes_on (noted (live_answer_rows (kept parts.now) answer.now) (kept parts.now)) flight.now) }
     ensures can { IfOk result (λ outcome. CanLeave (kept parts.now) outcome) }
 {
-    let draft = heard(alloc, parts, answer)?;
+    let draft = draft_of_answer(alloc, parts, answer)?;
     follow(alloc, parts, draft, flight)
 }
 
 // A draft of why a call has no answer.
-fn failed(alloc: Global, parts: &Parts, number: u64, why: Why) -> Result<Draft, NoMemory>
+fn draft_of_failure(alloc: Global, parts: &Parts, number: u64, why: Why) -> Result<Draft, NoMemory>
     ensures { IfOk result (λ draft. with_draft draft (kept parts.now) ≡ told number why (kept parts.now)) }
 {
     let mut draft = start(alloc);
@@ -127,18 +131,18 @@ fn failed(alloc: Global, parts: &Parts, number: u64, why: Why) -> Result<Draft, 
     Ok(draft)
 }
 
-fn fail(
+fn follow_failure(
     alloc: Global,
     parts: &Parts,
     number: u64,
     why: Why,
     flight: &Flight,
-) -> Result<Outcome, NoMemory>
+) -> Result<DraftedEnd, NoMemory>
     requires { MayEnd (kept parts.now) flight.now }
     ensures follows { IfOk result (λ outcome. leaves (kept parts.now) outcome ≡ goes_on (told number why (kept parts.now)) flight.now) }
     ensures can { IfOk result (λ outcome. CanLeave (kept parts.now) outcome) }
 {
-    let draft = failed(alloc, parts, number, why)?;
+    let draft = draft_of_failure(alloc, parts, number, why)?;
     follow(alloc, parts, draft, flight)
 }
 
@@ -147,7 +151,7 @@ fn draft_answered(
     parts: &Parts,
     id: u64,
     answer: &AnswerMessage,
-) -> Result<Outcome, CallRefused>
+) -> Result<DraftedEnd, CallRefused>
     requires { IsService parts.now }
     ensures { Says call_memory result (Drafts (call_answered_event (kept parts.now) id answer.now) (kept parts.now) result) }
 {
@@ -157,7 +161,7 @@ fn draft_answered(
     if !is_for(parts, answer, flight) {
         return Err(CallRefused::NoFlight(id));
     }
-    let outcome = hear(alloc, parts, answer, flight)?;
+    let outcome = follow_answer(alloc, parts, answer, flight)?;
     Ok(outcome)
 }
 
@@ -167,7 +171,7 @@ fn draft_failed(
     id: u64,
     number: u64,
     why: Why,
-) -> Result<Outcome, CallRefused>
+) -> Result<DraftedEnd, CallRefused>
     requires { IsService parts.now }
     ensures { Says call_memory result (Drafts (call_failed_event (kept parts.now) id number why) (kept parts.now) result) }
 {
@@ -177,7 +181,7 @@ fn draft_failed(
     if flight.awaited() != number {
         return Err(CallRefused::NoFlight(id));
     }
-    let outcome = fail(alloc, parts, number, why, flight)?;
+    let outcome = follow_failure(alloc, parts, number, why, flight)?;
     Ok(outcome)
 }
 

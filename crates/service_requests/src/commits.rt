@@ -8,7 +8,7 @@ ghost use Rattle.service_parts.specs.Parts.{kept};
 use crate::endings::Ending;
 use call_registers::Reply;
 use flights::Flight;
-use journal_rows::{AnsweredRow, AskedRow, How, Row, TookRow};
+use journal_rows::{AnsweredRow, AskedRow, Row, TookHow, TookRow};
 use lang_core::{Copied, Name, NoMemory, Origin, Request, Seq, Trace};
 use repair_messages::copied_pair;
 use request_log::{Entry, Made, Numbers};
@@ -40,7 +40,7 @@ fn took(alloc: Global, caller: &Name, number: u64, request: &Request) -> Result<
         number,
         version: 1,
         desired: Some(desired),
-        how: How::Live,
+        how: TookHow::Live,
         who,
         rule: 0,
     }))
@@ -93,7 +93,7 @@ fn before_answer(
 ) -> Result<Vec<Row>, NoMemory>
     ensures { IfOk result (λ rows. rows.items ≡ before_answer (with_draft draft.now (kept parts.now)) flight.now trace.now) }
 {
-    let mut rows = Vec::new(alloc);
+    let mut rows = Vec::with_capacity(alloc, 1)?;
     let calls = trace.calls.len();
     let numbers = from_place(flight.numbers.as_slice(), calls);
     let surplus = from_place(flight.calls.as_slice(), calls);

@@ -64,7 +64,7 @@ fn note_named(
     ensures { OnOk result (with_draft draft.new (kept parts.now) ≡ noted (named number call.now ∷ []) (with_draft draft.old (kept parts.now))) }
 {
     let row = named(alloc, number, call)?;
-    let mut rows = Vec::new(alloc);
+    let mut rows = Vec::with_capacity(alloc, 1)?;
     rows.push(row)?;
     note(alloc, parts, draft, rows)
 }

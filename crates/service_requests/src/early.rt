@@ -2,6 +2,7 @@
 ghost use Rattle.std.specs.Prelude.{◌≡◌, ◌≤◌, Err, Ok, option_map};
 ghost use Rattle.lang_core.specs.declared.ids.Origin.{Origin};
 ghost use Rattle.request_log.specs.Entries.{find_call};
+ghost use Rattle.request_log.specs.Records.{record_of};
 ghost use Rattle.journal_rows.specs.Words.{last_taken};
 ghost use Rattle.service_events.specs.State.{in_all};
 ghost use Rattle.service_parts.specs.Parts.{kept};
@@ -11,8 +12,7 @@ ghost use Rattle.service_requests.specs.Arrivals.{Says, early, by_made, by_entry
 use lang_core::{Name, Origin};
 use request_log::Entry;
 use service_events::{ArriveRefused, Arrived};
-use service_parts::{Parts, is_crowded, is_heavy};
-use service_posts::last_answer;
+use service_parts::{Parts, is_crowded, is_heavy, last_answer};
 use std::alloc::Global;
 
 fn by_made(
@@ -22,7 +22,7 @@ fn by_made(
     number: u64,
     entry: &Entry,
 ) -> Result<Option<Arrived>, ArriveRefused>
-    ensures { Says arrive_memory result (early result ≡ by_made (kept parts.now) caller.now number entry.now entry.now.made) }
+    ensures { Says arrive_memory result (early result ≡ by_made (kept parts.now) caller.now number entry.now (record_of entry.now)) }
 {
     match &entry.made {
         None => Err(ArriveRefused::NotYet(number)),

@@ -8,7 +8,7 @@ ghost use Rattle.service_parts.specs.Parts.{kept};
 ghost use Rattle.service_requests.specs.Changes.{leaves, CanLeave};
 
 use crate::completing::go_on;
-use crate::outcome::Outcome;
+use crate::outcome::DraftedEnd;
 use flights::Flight;
 use lang_core::{Inputs, NoMemory, Origin, Request, Seq};
 use service_parts::{Draft, Parts, start};
@@ -20,13 +20,13 @@ pub(crate) fn follow(
     parts: &Parts,
     mut draft: Draft,
     flight: &Flight,
-) -> Result<Outcome, NoMemory>
+) -> Result<DraftedEnd, NoMemory>
     requires { MayEnd (kept parts.now) flight.now }
     ensures follows { IfOk result (λ outcome. leaves (kept parts.now) outcome ≡ goes_on (with_draft draft (kept parts.now)) flight.now) }
     ensures can { IfOk result (λ outcome. CanLeave (kept parts.now) outcome) }
 {
     let ending = go_on(alloc, parts, &mut draft, flight)?;
-    Ok(Outcome { draft, ending })
+    Ok(DraftedEnd { draft, ending })
 }
 
 fn new_flight(
@@ -49,14 +49,14 @@ fn new_flight(
     }
 }
 
-/// What follows where a live request begins.
-pub(crate) fn begin(
+/// What follows where a live request arrives.
+pub(crate) fn start_flight(
     alloc: Global,
     parts: &Parts,
     origin: Origin,
     request: Request,
     inputs: Inputs,
-) -> Result<Outcome, NoMemory>
+) -> Result<DraftedEnd, NoMemory>
     requires { MayEnd (kept parts.now) (new_flight (kept parts.now) origin request inputs) }
     ensures follows { IfOk result (λ outcome. leaves (kept parts.now) outcome ≡ goes_on (kept parts.now) (new_flight (kept parts.now) origin request inputs)) }
     ensures can { IfOk result (λ outcome. CanLeave (kept parts.now) outcome) }

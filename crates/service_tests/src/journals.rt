@@ -1,9 +1,8 @@
 // What rows weigh, and what a journal says.
-use crate::given::{equal, fine, holds, name, put, same, text};
+use crate::given::{equal, fine, holds, name, put, text};
 use journal_rows::{
-    About, AckHow, AckedRow, AnsweredRow, AskedRow, Command, How, Mark, OrderedRow, Row, Rows,
-    SawAckRow, SawAnswerRow, SentRow, TookRow, WasConfirmedRow, last_answered, last_mark,
-    last_seen, last_sent, seen_acked, weight,
+    About, AckHow, AckedRow, AnsweredRow, AskedRow, Command, OrderedRow, Row, Rows, SawAckRow,
+    SawAnswerRow, SawHow, SentRow, TookHow, TookRow, WasConfirmedRow, weight,
 };
 use lang_core::{Copied, Inputs, Method, Origin, Same};
 use std::process::Abort;
@@ -65,7 +64,7 @@ fn took(rt: &(impl Abort + AllocGlobal), version: u64, body: &str) -> Row {
         number: 4,
         version,
         desired,
-        how: How::Message,
+        how: TookHow::Message,
         who,
         rule: 1,
     })
@@ -113,7 +112,7 @@ fn saw_answer(rt: &(impl Abort + AllocGlobal), answer_version: u64) -> Row {
         answer_version,
         version: 1,
         response,
-        how: How::Live,
+        how: SawHow::Live,
         who,
         rule: 0,
     })
@@ -126,7 +125,7 @@ fn order(rt: &(impl Abort + AllocGlobal)) -> Row {
     let body = text(rt, "ho");
     let original = Some(put(rt, "ann", "/n/a", "hi"));
     let repaired = Some(put(rt, "ann", "/n/b", "ho"));
-    Row::Ordered(OrderedRow {
+    let order = OrderedRow {
         token,
         command: Command::Replace {
             id: 1,
@@ -139,7 +138,8 @@ fn order(rt: &(impl Abort + AllocGlobal)) -> Row {
         original,
         repaired,
         about: About::Request(1),
-    })
+    };
+    Row::ordered(rt.alloc(), order).expect(rt, "memory")
 }
 
 fn callee_rows(rt: &(impl Abort + AllocGlobal), rows: &mut Rows) {
@@ -155,43 +155,19 @@ fn callee_rows(rt: &(impl Abort + AllocGlobal), rows: &mut Rows) {
     );
 }
 
-fn marks(rt: &(impl Abort + AllocGlobal), rows: &mut Rows) {
-    let shop = name(rt, "shop");
-    holds(
-        rt,
-        "acknowledged",
-        last_mark(rows.as_slice(), 1, &shop, 4) == Mark::Unsettled,
-    );
+fn answer_rows(rt: &(impl Abort + AllocGlobal), rows: &mut Rows) {
     push(rt, rows, confirmed(rt, 1), 64);
-    holds(
-        rt,
-        "confirmed",
-        last_mark(rows.as_slice(), 1, &shop, 4) == Mark::ConfirmedAt(1),
-    );
     push(rt, rows, answered(rt, 2, "no", false), 66);
-    holds(
-        rt,
-        "new answer",
-        last_mark(rows.as_slice(), 1, &shop, 4) == Mark::Unsettled,
-    );
-    let last = last_answered(rows.as_slice(), 1).expect(rt, "answered");
-    same(rt, last.response.body.as_str(), "no");
 }
 
 fn caller_rows(rt: &(impl Abort + AllocGlobal), rows: &mut Rows) {
     push(rt, rows, sent(rt, 1, 1), 64);
     push(rt, rows, sent(rt, 2, 1), 64);
     push(rt, rows, sent(rt, 1, 2), 64);
-    let last = last_sent(rows.as_slice(), 1).expect(rt, "sent");
-    equal(rt, last.version, 2);
-    holds(rt, "not sent", last_sent(rows.as_slice(), 3).is_none());
     push(rt, rows, saw_ack(2), 64);
     push(rt, rows, saw_ack(1), 64);
-    equal(rt, seen_acked(rows.as_slice(), 1), 2);
     push(rt, rows, saw_answer(rt, 1), 70);
     push(rt, rows, saw_answer(rt, 3), 70);
-    let last = last_seen(rows.as_slice(), 1).expect(rt, "seen");
-    equal(rt, last.answer_version, 3);
 }
 
 fn orders(rt: &(impl Abort + AllocGlobal), rows: &mut Rows) {
@@ -203,7 +179,7 @@ fn orders(rt: &(impl Abort + AllocGlobal), rows: &mut Rows) {
 
 fn more_rows(rt: &(impl Abort + AllocGlobal), rows: &mut Rows) {
     callee_rows(rt, rows);
-    marks(rt, rows);
+    answer_rows(rt, rows);
     caller_rows(rt, rows);
     orders(rt, rows);
 }

@@ -1,11 +1,11 @@
 use Rattle.std.proofs.Common.{[], ◌∷◌, length-append, arith}
 use Rattle.call_registers.proofs.ChangeLemmas.{numbered_push}
-use Rattle.call_registers.proofs.WaitingLemmas.{one_more, pushed}
+use Rattle.call_registers.proofs.WaitingLemmas.{queue_has_room, pushed}
 use Rattle.call_registers.proofs.register_list.push_in.Goals as goal
 
 pub exchange-requires-clause-room : goal.exchange-requires-clause-room
 exchange-requires-clause-room c =
-    let room = one_more c.args.list.now.items c.args.waiting.now.keys c.args.register c.args.waiting.now.places c.requires.listed.queued c.requires.place in
+    let room = queue_has_room c.args.list.now.items c.args.waiting.now.keys c.args.register c.args.waiting.now.places c.requires.listed.queued c.requires.place in
     rw c.waiting_key-key.ensures (omega arith)
 
 pub returns-clause-listed : goal.returns-clause-listed

@@ -2,6 +2,7 @@ use Rattle.std.proofs.Common.{arith}
 use Rattle.service_events.specs.Doing.{post_memory}
 use Rattle.service_events.specs.Messages.{posted_event}
 use Rattle.service_laws.proofs.FitLaws.{posted_fits}
+use Rattle.service_laws.proofs.MessageAges.{posted_ages}
 use Rattle.service_laws.proofs.MessageBounds.{posted_bounded}
 use Rattle.service_parts.specs.Parts.{kept}
 use Rattle.service_laws.proofs.ServiceLaws.{done_service}
@@ -11,4 +12,4 @@ pub returns-clause-service : goal.returns-clause-service
 returns-clause-service c =
     let s = kept c.args.parts.now in
     done_service c.args.parts.now c.meet-posted.new.parts post_memory (posted_event s c.args.post.now c.args.reply) c.meet-posted.result c.meet-posted.ensures.does
-    (posted_fits s c.args.post.now c.args.reply c.requires.fits) (posted_bounded s c.args.post.now c.args.reply c.requires.few) (omega arith) c.meet-posted.ensures.room c.requires
+    (posted_fits s c.args.post.now c.args.reply c.requires.fits) (λ few. posted_ages s c.args.post.now c.args.reply c.requires.fits few c.requires.ages) (posted_bounded s c.args.post.now c.args.reply c.requires.few) (omega arith) c.meet-posted.ensures.room c.requires

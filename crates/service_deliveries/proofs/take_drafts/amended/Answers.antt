@@ -4,7 +4,7 @@ use Rattle.service_events.specs.Messages.{at_version, rule, taken}
 use Rattle.service_parts.specs.Parts.{kept}
 use Rattle.service_deliveries.specs.TakeChanges.{changed_by, CanChange}
 use Rattle.service_deliveries.specs.Rows.{taken_rows}
-use Rattle.service_deliveries.specs.declared.take_changes.Change.TheVariants.{Amend}
+use Rattle.service_deliveries.specs.declared.take_changes.TakeChange.TheVariants.{Amend}
 use Rattle.service_deliveries.specs.declared.take_changes.Taking.{Taking}
 use Rattle.service_deliveries.proofs.TakeLemmas.{leaves_of}
 use Rattle.service_deliveries.proofs.take_drafts.amended.Goals as goal

@@ -4,7 +4,7 @@ use Rattle.service_events.specs.Messages.{created_entry, created_place, created_
 use Rattle.service_parts.specs.Parts.{kept}
 use Rattle.service_deliveries.specs.TakeChanges.{changed_by, CanChange}
 use Rattle.service_deliveries.specs.Rows.{created_rows}
-use Rattle.service_deliveries.specs.declared.take_changes.Change.TheVariants.{Create}
+use Rattle.service_deliveries.specs.declared.take_changes.TakeChange.TheVariants.{Create}
 use Rattle.service_deliveries.specs.declared.take_changes.Taking.{Taking}
 use Rattle.service_deliveries.proofs.TakeLemmas.{leaves_of}
 use Rattle.service_deliveries.proofs.take_drafts.made.Goals as goal

@@ -1,6 +1,6 @@
 use Rattle.local_repair.specs.Steps.{raised}
 use Rattle.call_registers.specs.Replies.{with_answer}
-use Rattle.service_repairs.proofs.BookLemmas.{unchanged}
+use Rattle.service_parts.proofs.ReplyLemmas.{unchanged}
 use Rattle.service_repairs.proofs.book.note_answer.Goals as goal
 
 pub returns-else-has_reply : goal.returns-else-has_reply

@@ -6,7 +6,7 @@ use Rattle.local_repair.specs.Repairs.{KeptRepairer}
 use Rattle.local_repair.specs.Settling.{HasItsSlots, CanSettle}
 use Rattle.local_repair.specs.Steps.{AreApart}
 use Rattle.call_registers.specs.declared.register.Register.{Register}
-use Rattle.service_events.specs.Fits.{place_of_flight}
+use Rattle.service_events.specs.Fits.{calls_of_flight}
 use Rattle.service_parts.specs.Parts.{kept}
 use Rattle.service_laws.proofs.ApartLaws.{own_slots, all_apart}
 use Rattle.service_repairs.specs.Books.{KeptBook, answers, IsOwn}
@@ -21,7 +21,7 @@ step-stepped-requires-clause-apart c =
     let Q : List Entry → Type 0 = λ es. AreApart (length c.take_book-book.result.registers) es in
     subst Q (sym (ap (λ (r : KeptRepairer). r.entries) c.take_book-book.ensures.entries))
     (subst P (sym (ap (λ (b : KeptBook). b.registers) c.take_book-book.ensures.book))
-    (all_apart s.registers s.entries (map place_of_flight s.flights) f.sent.numbered f.places))
+    (all_apart s.registers s.entries (map calls_of_flight s.flights) f.sent.numbered f.places))
 
 pub step-stepped-requires-clause-own : goal.step-stepped-requires-clause-own
 step-stepped-requires-clause-own c =
@@ -29,7 +29,7 @@ step-stepped-requires-clause-own c =
     let f = c.requires.fits in
     let Q : List Entry → Type 0 = λ es. All HasItsSlots es in
     subst Q (sym (ap (λ (r : KeptRepairer). r.entries) c.take_book-book.ensures.entries))
-    (own_slots s.registers s.entries (map place_of_flight s.flights) f.sent.numbered f.places)
+    (own_slots s.registers s.entries (map calls_of_flight s.flights) f.sent.numbered f.places)
 
 pub step-stepped-requires-clause-can : goal.step-stepped-requires-clause-can
 step-stepped-requires-clause-can c =

@@ -1,9 +1,28 @@
-use Rattle.std.proofs.Common.{◌≡◌, ap, arith}
+use Rattle.std.proofs.Common.{◌≡◌, ◌++◌, ap, arith}
+use Rattle.call_registers.specs.Overlays.{overlaid}
 use Rattle.flights.specs.Numbers.{with_flight}
-use Rattle.service_events.specs.State.{Kept}
+use Rattle.service_events.specs.State.{Kept, after}
+use Rattle.service_events.specs.declared.answers.Arrived.TheVariants.{Call}
 use Rattle.service_parts.specs.Rooms.{aloft}
 use Rattle.service_laws.proofs.RoomLemmas.{aloft_with, on_ok}
 use Rattle.service_requests.proofs.applying.wait.Goals as goal
+
+pub returns-clause-ok : goal.returns-clause-ok
+returns-clause-ok c =
+    let flight = c.args.flight in
+    let draft = c.args.draft in
+    let before = c.reserve_flight.new.parts.flights.list in
+    let list : c.put.new.self.list ≡ with_flight flight before =
+    on_ok c.put.result (c.put.new.self.list ≡ with_flight flight before) (c.put.ensures.ready c.in_ok-reserve_flight.ensures.flight) c.put.ensures.ok in
+    let moved : Kept → Kept = λ k. record {
+      setting = k.setting;
+      entries = k.entries;
+      flights = with_flight flight k.flights;
+      journal = k.journal ++ draft.rows.items;
+      registers = overlaid draft.changes k.registers;
+      replies = k.replies;
+    } in
+    rw (list, c.note_counted.ensures.rows, c.note_counted.ensures.registers) (ap (λ (k : Kept). after (moved k) (Call flight.id c.args.set)) c.in_ok-reserve_flight.ensures.kept)
 
 pub returns-clause-room : goal.returns-clause-room
 returns-clause-room c =

@@ -3,6 +3,7 @@ use Rattle.std.proofs.lemmas.Result.{IfOk-weaker}
 use Rattle.service_events.specs.State.{Kept}
 use Rattle.service_events.specs.Arriving.{accepted, arrive_event}
 use Rattle.service_events.specs.declared.refusals.ArriveRefused.{ArriveRefused}
+use Rattle.service_laws.proofs.AgeLaws.{arrive_ages}
 use Rattle.service_laws.proofs.BoundLaws.{arrive_bounded}
 use Rattle.service_laws.proofs.FitLaws.{arrive_fits}
 use Rattle.service_parts.specs.Parts.{kept}
@@ -11,8 +12,8 @@ use Rattle.service_requests.proofs.ArrivalLemmas.{arrive_runs}
 use Rattle.service_requests.proofs.ServiceLemmas.{new_may_end, event_service}
 use Rattle.service_requests.proofs.arriving.enter.Goals as goal
 
-pub begin-requires : goal.begin-requires
-begin-requires c =
+pub start_flight-requires : goal.start_flight-requires
+start_flight-requires c =
     new_may_end (kept c.args.parts.now) c.args.origin c.args.request c.args.inputs c.requires.service.fits c.requires.runs
 
 pub returns-clause-ok : goal.returns-clause-ok
@@ -29,5 +30,6 @@ returns-clause-service c =
     (arrive_event s c.args.origin c.args.request c.args.inputs)
     (ap (accepted {E = ArriveRefused}) c.in_ok-outcome.ensures.follows ∙ arrive_runs s c.args.request c.args.inputs c.args.origin c.requires.runs)
     c.apply.ensures.ok c.apply.ensures.err
-    (arrive_fits s c.args.origin c.args.request c.args.inputs c.requires.service.fits) (arrive_bounded s c.args.origin c.args.request c.args.inputs c.requires.service.few)
+    (arrive_fits s c.args.origin c.args.request c.args.inputs c.requires.service.fits)
+    (λ few. arrive_ages s c.args.origin c.args.request c.args.inputs c.requires.service.fits few c.requires.service.ages) (arrive_bounded s c.args.origin c.args.request c.args.inputs c.requires.service.few)
     c.apply.ensures.few c.apply.ensures.room c.requires.service

@@ -7,8 +7,8 @@ use Rattle.service_requests.proofs.CallLemmas.{failed_is}
 use Rattle.service_requests.proofs.ServiceLemmas.{flight_may_end}
 use Rattle.service_requests.proofs.calls.draft_failed.Goals as goal
 
-pub fail-requires : goal.fail-requires
-fail-requires c =
+pub follow_failure-requires : goal.follow_failure-requires
+follow_failure-requires c =
     flight_may_end (kept c.args.parts.now) c.args.id c.in-Some.flight.now c.requires.fits c.requires.few (sym c.in-Some.ensures.found)
 
 pub returns : goal.returns

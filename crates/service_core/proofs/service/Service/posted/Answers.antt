@@ -1,0 +1,16 @@
+use Rattle.std.proofs.Common.{ap, ◌∙◌}
+use Rattle.service_events.specs.State.{Kept}
+use Rattle.service_events.specs.Commits.{live_rows}
+use Rattle.service_events.specs.Doing.{post_memory}
+use Rattle.service_events.specs.Messages.{posted_event}
+use Rattle.service_parts.specs.Parts.{kept}
+use Rattle.service_laws.proofs.SilentLaws.{posted_answers_none}
+use Rattle.service_laws.proofs.DoneLaws.{silent_done}
+use Rattle.service_core.proofs.service.Service.posted.Goals as goal
+
+pub returns-clause-silent : goal.returns-clause-silent
+returns-clause-silent c =
+    let s = kept c.self.inside.parts in
+    silent_done post_memory (posted_event s c.args.post.now c.args.reply) s (kept c.posted.new.parts) c.posted.result c.posted.ensures.does
+    (posted_answers_none s c.args.post.now c.args.reply)
+    ∙ ap (λ (s : Kept). live_rows s.journal) c.self.view_is

@@ -1,0 +1,16 @@
+use Rattle.std.proofs.Common.{ap, ◌∙◌}
+use Rattle.service_events.specs.State.{Kept}
+use Rattle.service_events.specs.Commits.{live_rows}
+use Rattle.service_events.specs.Doing.{take_memory}
+use Rattle.service_events.specs.Messages.{take_event}
+use Rattle.service_parts.specs.Parts.{kept}
+use Rattle.service_laws.proofs.SilentLaws.{take_answers_none}
+use Rattle.service_laws.proofs.DoneLaws.{silent_done}
+use Rattle.service_core.proofs.service.Service.take.Goals as goal
+
+pub returns-clause-silent : goal.returns-clause-silent
+returns-clause-silent c =
+    let s = kept c.self.inside.parts in
+    silent_done take_memory (take_event s c.args.set.now c.args.inputs) s (kept c.take.new.parts) c.take.result c.take.ensures.does
+    (take_answers_none s c.args.set.now c.args.inputs)
+    ∙ ap (λ (s : Kept). live_rows s.journal) c.self.view_is
