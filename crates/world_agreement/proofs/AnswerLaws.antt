@@ -4,6 +4,7 @@ use Rattle.std.proofs.lemmas.Bool.{cond-true}
 use Rattle.lang_core.specs.declared.ids.Origin.TheVariants.{Call}
 use Rattle.lang_core.specs.declared.request.Request.{Request}
 use Rattle.request_log.specs.Entries.{has_id}
+use Rattle.request_log.specs.Records.{record_in}
 use Rattle.request_log.specs.declared.entry.Entry.{Entry}
 use Rattle.request_log.specs.declared.entry.Made.{Made}
 use Rattle.journal_rows.specs.Words.{asked, last_seen, seen_version, claimed, acknowledged, last_answered, given_version, last_mark, settles}
@@ -21,7 +22,8 @@ use Rattle.call_registers.specs.declared.register.Answer.{Answer}
 use Rattle.call_registers.specs.declared.register.Register.{Register}
 use Rattle.call_registers.specs.declared.reply.Reply.{Reply}
 use Rattle.service_events.specs.State.{Kept, me}
-use Rattle.service_events.specs.Fits.{Fits, HasAnswered as HasItsAnswer, HasReply, IsReply, answer_of, answer_given}
+use Rattle.service_events.specs.Fits.{Fits, HasAnswered as HasItsAnswer, HasReply, IsReply, answer_recorded, answer_given}
+use Rattle.service_events.specs.Calls.{seen_answer}
 use Rattle.service_entry_laws.proofs.SearchLemmas.{found_all}
 use Rattle.world_agreement.specs.Partners.{service_of, JournalOfDest, HasAnswered, HasConfirmed, HasAcknowledged}
 use Rattle.world_agreement.specs.Quiet.{IsQuiet}
@@ -67,10 +69,10 @@ pub record LastGiven (t : Kept) (e : Entry) (m : Made) : Type 0 where
   pub response : row.response ≡ m.trace.response
 
 last_given_by : (t : Kept) (e : Entry) (m : Made) (o : Option AnsweredRow) → last_answered e.id t.journal ≡ o
-    → Some (record { answer_version = e.answer_version; version = m.version; response = m.trace.response }) ≡ option_map answer_given o → LastGiven t e m
+    → Some (answer_recorded e.answer_version (record_in m)) ≡ option_map answer_given o → LastGiven t e m
 last_given_by t e m None is h = cc
 last_given_by t e m (Some row) is h =
-    let same : record { answer_version = e.answer_version; version = m.version; response = m.trace.response } ≡ answer_given row = cc in
+    let same : answer_recorded e.answer_version (record_in m) ≡ answer_given row = cc in
     record {
       row = row;
       is = is;
@@ -83,11 +85,11 @@ last_given : (t : Kept) → Fits t → (e : Entry) → find (has_id e.id) t.entr
 last_given t fits e found m made =
     let has = found_all (HasItsAnswer t.journal) (has_id e.id) t.entries e fits.answered.entries found in
     last_given_by t e m (last_answered e.id t.journal) refl
-    (sym (ap (option_map (λ (x : Made). record { answer_version = e.answer_version; version = x.version; response = x.trace.response })) made) ∙ has.answer)
+    (sym (ap (λ o. option_map (answer_recorded e.answer_version) (option_map record_in o)) made) ∙ has.answer)
 
 -- ---- the last answer that was seen
 
-answer_agrees : (r : Register) (held : Option SawAnswerRow) (last : AnsweredRow) → r.answer ≡ option_map answer_of held → 0 < last.answer_version
+answer_agrees : (r : Register) (held : Option SawAnswerRow) (last : AnsweredRow) → r.answer ≡ option_map seen_answer held → 0 < last.answer_version
     → last.answer_version ≤ seen_version held
     → IfSome held (λ a. (a.answer_version ≤ last.answer_version) × (a.answer_version ≡ last.answer_version → (a.version ≡ last.version) × (a.response ≡ last.response)))
     → last.version ≡ r.version → consumed_in (Some r) ≡ Some last.response
@@ -103,7 +105,7 @@ module _ (services : List Kept) (h : AreAtRest services) (s : Kept) (here : serv
   fits : Fits z.callee
   fits = fits_of services h.together r.dest z.callee z.there
 
-  -- the caller heard of the live answer with the acknowledgement
+  -- the caller saw the live answer with the acknowledgement
   heard_live : acknowledged (me s) n z.callee.journal ≡ 0 → (how : AckHow) → Contains s.journal (SawAck (record { number = n; version = r.version; how = how }))
       → HasAcknowledged (me s) n r.version how z.callee.journal → 1 ≤ claimed n s.journal
   heard_live none (WithAnswer v) saw by =
@@ -117,7 +119,7 @@ module _ (services : List Kept) (h : AreAtRest services) (s : Kept) (here : serv
       let positive = version_positive services h.together s here n r found in
       absurd (omega (arith, some, none, positive))
 
-  -- the caller heard of the entry's last answer
+  -- the caller saw the entry's last answer
   heard_last : (row : AnsweredRow) → last_answered e.entry.id z.callee.journal ≡ Some row → row.answer_version ≡ e.entry.answer_version
       → (mark : Mark) → last_mark e.entry.id (me s) n z.callee.journal ≡ mark → settles e.entry.answer_version mark ≡ true → row.answer_version ≤ claimed n s.journal
   heard_last row last same AnsweredLive is yes' =

@@ -7,11 +7,13 @@ use Rattle.lang_core.specs.declared.ids.Origin.{Origin}
 use Rattle.lang_core.specs.declared.ids.Origin.TheVariants.{Outside, Call}
 use Rattle.lang_core.specs.declared.request.Request.{Request}
 use Rattle.lang_core.specs.declared.trace.CallMade.{CallMade}
+use Rattle.execution.specs.Together.{history_in, IsAmong, Makes, IsCalledFor, WantedIsCalledFor}
 use Rattle.request_log.specs.Entries.{is_alive}
+use Rattle.request_log.specs.Records.{record_in}
 use Rattle.request_log.specs.declared.entry.Entry.{Entry}
 use Rattle.request_log.specs.declared.entry.Made.{Made}
 use Rattle.local_repair.specs.Current.{IsRun}
-use Rattle.local_repair.specs.Histories.{trace_of, act_of}
+use Rattle.local_repair.specs.Histories.{deed_in, act_of}
 use Rattle.local_repair.specs.Steps.{calls_of_made}
 use Rattle.journal_rows.specs.Words.{last_sent, last_taken, wants}
 use Rattle.journal_rows.specs.declared.callee.TookRow.{TookRow}
@@ -20,11 +22,12 @@ use Rattle.journal_rows.specs.declared.row.Row.TheVariants.{Took}
 use Rattle.call_registers.specs.Registers.{register}
 use Rattle.call_registers.specs.declared.register.Register.{Register}
 use Rattle.service_events.specs.State.{Kept, me, answers}
-use Rattle.service_events.specs.Fits.{IsAsNow, sent_by, place_of_entry, place_of_flight, places, call_to, call_in, wanted_call, count, stands}
-use Rattle.service_call_laws.proofs.PlaceLemmas.{head_of, tail_of, stands-append}
+use Rattle.service_events.specs.Fits.{IsAsNow, sent_by, calls_of_entry, calls_of_flight, places, call_to, call_in, wanted_call, count, times_held}
+use Rattle.service_call_laws.proofs.PlaceLemmas.{head_of, tail_of, times_held-append}
 use Rattle.world_agreement.specs.Partners.{service_of, JournalOf, HasSent}
-use Rattle.world_agreement.specs.Legal.{history, histories, history_in, IsAmong, Makes, IsCalledFor, WantedIsCalledFor}
-use Rattle.world_agreement.proofs.ListLemmas.{some_out, all_from, any_from, contains_here, contains_map}
+use Rattle.world_agreement.specs.Legal.{history, histories}
+use Rattle.service_entry_laws.proofs.SearchLemmas.{contains_here}
+use Rattle.world_agreement.proofs.ListLemmas.{some_out, all_from, any_from, contains_map}
 use Rattle.world_agreement.proofs.NameLemmas.{found_by_name, name_is, found_history, found_own}
 use Rattle.world_agreement.proofs.SentFacts.{IsSentBefore, sent_before}
 use Rattle.world_agreement.proofs.TakenFacts.{taken_from}
@@ -34,7 +37,7 @@ use Rattle.world_agreement.proofs.ServedLaws.{wants_calls}
 
 -- ---- where a number stands
 
-some_place : (n : ℕ) (entries : List Entry) → 0 < stands n (map place_of_entry entries) → (e : Entry) × Contains entries e × (0 < count n e.slots)
+some_place : (n : ℕ) (entries : List Entry) → 0 < times_held n (map calls_of_entry entries) → (e : Entry) × Contains entries e × (0 < count n e.slots)
 some_place n [] h = absurd (omega (arith, h))
 some_place n (e ∷ es) h = elim (cases_lt 0 (count n e.slots)) [
   | inl here ↦ (e, contains_here e es, here)
@@ -61,7 +64,7 @@ not_among n call (m ∷ ms) h = h
 
 -- an entry with a call survives
 makes : (e : Entry) (n : ℕ) (call : CallMade) (s : Kept) (o : Option Made) → IsSomeAnd o (IsMadeNow e) → IfSome o (IsRun s.setting e.inputs)
-    → IsAmong n call e.slots (calls_of_made o) → (is_alive e ≡ true) × IsSomeAnd (trace_of o) (λ t. IsAmong n call e.slots t.calls)
+    → IsAmong n call e.slots (calls_of_made o) → (is_alive e ≡ true) × IsSomeAnd (option_map deed_in (option_map record_in o)) (λ d. IsAmong n call e.slots d.calls)
 makes e n call s None made run has = absurd made
 makes e n call s (Some m) made run has = elim (cases_Bool m.alive) [
   | inl live ↦ (sym made.alive ∙ live, has)
@@ -97,8 +100,8 @@ module _ (services : List Kept) (h : AreAtRest services) where
       let fits = fits_of services h.together (me s) s here in
       let quiet = quiet_of services h (me s) s here in
       let one = fits.places.once n ∙ ap (λ o. option_map_or (λ (c : CallMade). 1) o 0) is in
-      let both = stands-append n (map place_of_entry s.entries) (map place_of_flight s.flights) in
-      let none : stands n (map place_of_flight s.flights) ≡ 0 = ap (λ fs. stands n (map place_of_flight fs)) quiet.landed in
+      let both = times_held-append n (map calls_of_entry s.entries) (map calls_of_flight s.flights) in
+      let none : times_held n (map calls_of_flight s.flights) ≡ 0 = ap (λ fs. times_held n (map calls_of_flight fs)) quiet.landed in
       let place = some_place n s.entries (omega (arith, one, both, none)) in
       let e = place.0 in
       let has = among s.registers n call is e.slots (calls_of_made e.made) (wants_calls s fits e place.1) place.2 in

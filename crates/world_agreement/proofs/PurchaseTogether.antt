@@ -9,6 +9,7 @@ use Rattle.lang_core.specs.declared.inputs.Inputs.{Inputs}
 use Rattle.lang_core.specs.declared.request.Request.{Request}
 use Rattle.lang_core.specs.declared.setting.Setting.{Setting}
 use Rattle.lang_core.specs.declared.writes.Write.{Write}
+use Rattle.execution.specs.Together.{CallsAreServed, IsLegalTogether}
 use Rattle.request_log.specs.Entries.{has_id}
 use Rattle.request_log.specs.declared.entry.Entry.{Entry}
 use Rattle.local_repair.specs.Current.{IsRun}
@@ -19,8 +20,9 @@ use Rattle.service_events.specs.Fits.{Fits, FitsSent, FitsSeen, FitsAsked, IsAsN
 use Rattle.service_call_laws.proofs.PurchaseExample.{shop_name, bank_name, ok, start, sent, bought, paid, made, paid_made}
 use Rattle.world_agreement.specs.Partners.{NamesDiffer, HasPartner, IsJoined}
 use Rattle.world_agreement.specs.Quiet.{IsQuiet, AreQuiet}
-use Rattle.world_agreement.specs.Legal.{history, histories, CallsAreServed, IsLegalTogether}
-use Rattle.world_agreement.proofs.ListLemmas.{contains_cases, all_one, all_two, no_pairs, one_pair}
+use Rattle.world_agreement.specs.Legal.{history, histories, AreLegal}
+use Rattle.service_entry_laws.proofs.SearchLemmas.{contains_cases}
+use Rattle.world_agreement.proofs.ListLemmas.{all_one, all_two, no_pairs, one_pair}
 use Rattle.world_agreement.proofs.LegalLaws.{legal_together}
 
 pub names_differ : (a b : List ℕ) → same_text a b ≡ false → a ≡ b → ⊥
@@ -201,7 +203,7 @@ module _ (setting : Setting) (buy pay : Request) (i : Inputs) (written : List Wr
   -- ---- one legal execution, where the records are what runs gave
 
   legal : IsRun at_shop i (made at_shop buy pay i [] written token ann) → IsRun at_bank i (paid_made at_bank buy pay i [] written token ann)
-      → IsLegalTogether (histories both)
+      → AreLegal both
   legal shop_ran bank_ran =
       legal_together both
       (all_two Fits shop bank (shop_fits (all_one (λ (e : Entry). IfSome e.made (IsRun at_shop e.inputs)) _ shop_ran))

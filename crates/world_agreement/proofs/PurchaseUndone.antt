@@ -20,7 +20,7 @@ use Rattle.service_events.specs.Fits.{Fits, FitsSent, FitsSeen, FitsAsked, IsAsN
 use Rattle.service_call_laws.proofs.PurchaseExample.{shop_name, bank_name, ok, named, cancelled, remade, dead, unwanted, unpaid, sent}
 use Rattle.world_agreement.specs.Partners.{NamesDiffer, HasPartner, IsJoined}
 use Rattle.world_agreement.specs.Quiet.{IsQuiet, AreQuiet}
-use Rattle.world_agreement.specs.Legal.{histories, IsLegalTogether}
+use Rattle.world_agreement.specs.Legal.{AreLegal}
 use Rattle.world_agreement.proofs.ListLemmas.{all_one, all_two, no_pairs, one_pair}
 use Rattle.world_agreement.proofs.LegalLaws.{legal_together}
 use Rattle.world_agreement.proofs.PurchaseTogether.{names_differ, at_shop, at_bank}
@@ -32,7 +32,7 @@ module _ (setting : Setting) (buy pay : Request) (i : Inputs) (written : List Wr
   abbrev bank_setting : Setting
   bank_setting = at_bank setting buy pay i written token ann
 
-  -- the shop has heard that its deletion is acknowledged
+  -- the shop has seen that its deletion is acknowledged
   abbrev shop : Kept
   shop =
       noted (saw_ack_row (record { caller = shop_name; dest = bank_name; number = 1; version = 2 }) ∷ [])
@@ -204,7 +204,7 @@ module _ (setting : Setting) (buy pay : Request) (i : Inputs) (written : List Wr
     orders = (tt, (tt, (tt, (tt, (tt, (tt, tt))))));
   }
 
-  legal : IsLegalTogether (histories both)
+  legal : AreLegal both
   legal = legal_together both (all_two Fits shop bank shop_fits bank_fits) differ joined quiet
 
   -- ---- what is outstanding on the way there

@@ -1,19 +1,21 @@
 -- Where nothing is outstanding, each call of a request that survives has led to one request, which answered it.
-use Rattle.std.proofs.Common.{◌≡◌, ℕ, List, [], ◌∷◌, Option, Some, None, IsSomeAnd, All, Contains, map, filter, sym, ap, ◌∙◌, subst}
+use Rattle.std.proofs.Common.{◌≡◌, ℕ, List, [], ◌∷◌, Option, Some, None, IsSomeAnd, All, Contains, map, filter, option_map, sym, ap, ◌∙◌, subst}
 use Rattle.std.proofs.lemmas.List.Elements.{All-contains, All-map, Contains-append_left}
 use Rattle.lang_core.specs.declared.trace.CallMade.{CallMade}
+use Rattle.execution.specs.Together.{IsOne, history_in, comes_from, Serves, IsServed, AreServed, CallsAreServed}
 use Rattle.request_log.specs.Entries.{has_id}
+use Rattle.request_log.specs.Records.{record_in}
 use Rattle.request_log.specs.declared.entry.Entry.{Entry}
 use Rattle.request_log.specs.declared.entry.Made.{Made}
-use Rattle.local_repair.specs.Histories.{trace_of, act_of}
+use Rattle.local_repair.specs.Histories.{deed_in, act_of}
 use Rattle.local_repair.specs.Steps.{calls_of_made, answer_or_tentative}
 use Rattle.service_events.specs.State.{Kept, me, answers}
-use Rattle.service_events.specs.Fits.{Fits, place_of_entry, place_of_flight, places, wanted_call, WantsItsCalls}
+use Rattle.service_events.specs.Fits.{Fits, calls_of_entry, calls_of_flight, places, wanted_call, WantsItsCalls}
 use Rattle.service_call_laws.proofs.FittingLemmas.{wanted_by}
 use Rattle.service_call_laws.proofs.PlaceLemmas.{head_of, tail_of}
 use Rattle.service_entry_laws.proofs.SearchLemmas.{found_all}
 use Rattle.world_agreement.specs.Partners.{service_of}
-use Rattle.world_agreement.specs.Legal.{IsOne, history, histories, history_in, comes_from, Serves, IsServed, AreServed, CallsAreServed}
+use Rattle.world_agreement.specs.Legal.{history, histories}
 use Rattle.world_agreement.proofs.ListLemmas.{some_out, all_from, contains_map, filter_map_is}
 use Rattle.world_agreement.proofs.NameLemmas.{found_by_name, found_history, only_one}
 use Rattle.world_agreement.proofs.EntryFacts.{IsMadeNow, all_made_now, entered}
@@ -23,8 +25,8 @@ use Rattle.world_agreement.proofs.AnswerLaws.{consumes}
 -- the calls of an entry are wanted under its numbers
 pub wants_calls : (s : Kept) → Fits s → (e : Entry) → Contains s.entries e → map (wanted_call s.registers) e.slots ≡ map Some (calls_of_made e.made)
 wants_calls s fits e has =
-    All-contains (WantsItsCalls s.registers) (places s) (place_of_entry e) fits.places.calls
-    (Contains-append_left (map place_of_entry s.entries) (map place_of_flight s.flights) (place_of_entry e) (contains_map place_of_entry s.entries e has))
+    All-contains (WantsItsCalls s.registers) (places s) (calls_of_entry e) fits.places.calls
+    (Contains-append_left (map calls_of_entry s.entries) (map calls_of_flight s.flights) (calls_of_entry e) (contains_map calls_of_entry s.entries e has))
 
 module _ (services : List Kept) (h : AreAtRest services) where
   module _ (s : Kept) (here : service_of (me s) services ≡ Some s) where
@@ -49,7 +51,7 @@ module _ (services : List Kept) (h : AreAtRest services) where
         let serves : Serves call (answers s n) (act_of (answers t) x.entry) = record {
           wanted = x.wanted;
           request = x.request;
-          response = subst (λ o. IsSomeAnd (trace_of o) (λ y. y.response ≡ answers s n)) (sym made.1) response;
+          response = subst (λ o. IsSomeAnd (option_map deed_in (option_map record_in o)) (λ y. y.response ≡ answers s n)) (sym made.1) response;
         } in
         subst (λ o. IsSomeAnd o (λ y. IsOne (Serves call (answers s n)) (filter (comes_from (me s) n) y.acts))) (sym found)
         (subst (IsOne (Serves call (answers s n))) (sym only) serves)
@@ -65,7 +67,7 @@ module _ (services : List Kept) (h : AreAtRest services) where
     )
 
     served_by : (e : Entry) (o : Option Made) → IsSomeAnd o (IsMadeNow e) → AreServed (histories services) (me s) e.slots (calls_of_made o) (map (answers s) e.slots)
-        → IsSomeAnd (trace_of o) (λ t. AreServed (histories services) (me s) e.slots t.calls (map (answers s) e.slots))
+        → IsSomeAnd (option_map deed_in (option_map record_in o)) (λ d. AreServed (histories services) (me s) e.slots d.calls (map (answers s) e.slots))
     served_by e None made h = absurd made
     served_by e (Some m) made h = h
 

@@ -12,7 +12,8 @@ use Rattle.journal_rows.specs.declared.row.Row.TheVariants.{Took, SawAck}
 use Rattle.call_registers.specs.Registers.{has_number, register}
 use Rattle.call_registers.specs.declared.register.Register.{Register}
 use Rattle.service_events.specs.State.{Kept, me}
-use Rattle.service_events.specs.Fits.{Fits, sent_by, HasSeen, answer_of}
+use Rattle.service_events.specs.Fits.{Fits, sent_by, HasSeen}
+use Rattle.service_events.specs.Calls.{seen_answer}
 use Rattle.service_entry_laws.proofs.SearchLemmas.{found_all}
 use Rattle.world_agreement.specs.Partners.{has_name, service_of, NamesDiffer, JournalOf, JournalOfDest, HasSent, HasAcknowledged, HasPartner, IsJoined}
 use Rattle.world_agreement.specs.Quiet.{IsQuiet, AreQuiet}
@@ -71,8 +72,8 @@ module _ (services : List Kept) (h : AreTogether services) where
     pub version_positive : 0 < r.version
     version_positive = subst (λ o. IfSome o (λ x. 0 < x.version)) last_is (sent_positive n s.journal (fits_of (me s) s here).sent.rows)
 
-    pub has_seen : HasSeen (seen_acked n s.journal) (option_map answer_of (last_seen n s.journal)) r
-    has_seen = subst (λ o. IfSome o (HasSeen (seen_acked n s.journal) (option_map answer_of (last_seen n s.journal)))) found ((fits_of (me s) s here).seen.registers n)
+    pub has_seen : HasSeen (seen_acked n s.journal) (option_map seen_answer (last_seen n s.journal)) r
+    has_seen = subst (λ o. IfSome o (HasSeen (seen_acked n s.journal) (option_map seen_answer (last_seen n s.journal)))) found ((fits_of (me s) s here).seen.registers n)
 
     -- the journal of the service to which its call was sent
     pub at_dest : (P : List Row → Type 0) → JournalOfDest services s n P → (t : Kept) × (service_of r.dest services ≡ Some t) × P t.journal

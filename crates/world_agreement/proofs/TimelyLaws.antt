@@ -5,11 +5,11 @@ use Rattle.journal_rows.specs.Words.{last_seen, last_taken, version_in}
 use Rattle.journal_rows.specs.declared.callee.TookRow.{TookRow}
 use Rattle.journal_rows.specs.declared.caller.SawAnswerRow.{SawAnswerRow}
 use Rattle.journal_rows.specs.declared.row.Row.TheVariants.{SawAnswer}
-use Rattle.call_registers.specs.Registers.{register}
+use Rattle.call_registers.specs.Registers.{register, IsTimely}
 use Rattle.call_registers.specs.declared.register.Register.{Register}
 use Rattle.service_events.specs.State.{Kept, me}
-use Rattle.service_events.specs.Fits.{Fits, answer_of}
-use Rattle.service_call_laws.proofs.FittingLemmas.{IsTimely}
+use Rattle.service_events.specs.Fits.{Fits}
+use Rattle.service_events.specs.Calls.{seen_answer}
 use Rattle.world_agreement.specs.Partners.{service_of, NamesDiffer, JournalOfDest, HasAnswered, IsJoined}
 use Rattle.world_agreement.proofs.ListLemmas.{all_from}
 use Rattle.world_agreement.proofs.NameLemmas.{found_by_name}
@@ -38,7 +38,7 @@ module _ (services : List Kept) (h : AreTogether services) (s : Kept) (here : se
         let most = at_most t dest.1 (last_taken (me s) n t.journal) refl in
         omega (arith, taken, most)
 
-    on_time_by : (o : Option SawAnswerRow) → IfSome o (λ a. (a.number ≡ n) × Contains s.journal (SawAnswer a)) → IfSome (option_map answer_of o) (λ a. a.version ≤ r.version)
+    on_time_by : (o : Option SawAnswerRow) → IfSome o (λ a. (a.number ≡ n) × Contains s.journal (SawAnswer a)) → IfSome (option_map seen_answer o) (λ a. a.version ≤ r.version)
     on_time_by None from = tt
     on_time_by (Some a) from = seen_on_time a from.0 from.1
 

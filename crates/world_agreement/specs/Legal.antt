@@ -1,88 +1,22 @@
--- Histories of services that call one another, and which of them are one legal execution.
-use Rattle.std.specs.Prelude.{ℕ, ◌≡◌, ◌⊎◌, Bool, true, List, [], ◌∷◌, Option, IsSomeAnd, All, Any, find, filter, map}
-use Rattle.lang_base.specs.Texts.{same_text}
-use Rattle.lang_core.specs.declared.ids.Origin.{Origin}
-use Rattle.lang_core.specs.declared.ids.Origin.TheVariants.{Outside, Call}
-use Rattle.lang_core.specs.declared.request.Response.{Response}
-use Rattle.lang_core.specs.declared.trace.CallMade.{CallMade}
-use Rattle.execution.specs.Executions.{Act, History, survives, IsLegal}
-use Rattle.request_log.specs.Entries.{is_call}
-use Rattle.local_repair.specs.Histories.{history_of}
-use Rattle.service_events.specs.State.{Kept, answers}
-
--- there is exactly one, and this holds of it
-abbrev pub IsOne : {X : Type 0} → (X → Type 0) → List X → Type 0
-IsOne P [] = ⊥
-IsOne P (x ∷ []) = P x
-IsOne P (x ∷ y ∷ ys) = ⊥
-
-abbrev pub name_of : History → List ℕ
-name_of h = h.setting.me
-
--- the history of the service of this name, if it is one of these
-abbrev pub history_in : List ℕ → List History → Option History
-history_in name world = find (λ h. same_text (name_of h) name) world
-
--- ---- each call led to one request
-
-abbrev pub comes_from : List ℕ → ℕ → Act → Bool
-comes_from caller number a = is_call caller number a.origin
-
--- a request that a call led to: its origin wants it, it asks what the call asks, and its response is what the call consumed
-pub record Serves (call : CallMade) (answer : Response) (a : Act) : Type 0 where
-  pub wanted : a.wanted ≡ true
-  pub request : a.request ≡ call.request
-  pub response : IsSomeAnd a.trace (λ t. t.response ≡ answer)
-
--- the service that was called has exactly one request of this call, and that serves it
-abbrev pub IsServed : List History → List ℕ → ℕ → CallMade → Response → Type 0
-IsServed world caller number call answer =
-    IsSomeAnd (history_in call.dest world) (λ h. IsOne (Serves call answer) (filter (comes_from caller number) h.acts))
-
--- each of these calls, by its number and with what it consumed
-abbrev pub AreServed : List History → List ℕ → List ℕ → List CallMade → List Response → Type 0
-AreServed world caller [] [] [] = Unit {0}
-AreServed world caller (n ∷ ns) (c ∷ cs) (r ∷ rs) = IsServed world caller n c r × AreServed world caller ns cs rs
-AreServed world caller ns cs rs = ⊥
-
--- each call of a request that survives
-abbrev pub CallsAreServed : List History → History → Act → Type 0
-CallsAreServed world h a = survives a ≡ true → IsSomeAnd a.trace (λ t. AreServed world (name_of h) a.numbers t.calls a.answers)
-
--- ---- each request was called for
-
--- this call is one of these, by its number
-abbrev pub IsAmong : ℕ → CallMade → List ℕ → List CallMade → Type 0
-IsAmong number call (n ∷ ns) (c ∷ cs) = ((n ≡ number) × (c ≡ call)) ⊎ IsAmong number call ns cs
-IsAmong number call ns cs = ⊥
-
--- a request that survives made this call
-pub record Makes (number : ℕ) (call : CallMade) (a : Act) : Type 0 where
-  pub survives : survives a ≡ true
-  pub makes : IsSomeAnd a.trace (λ t. IsAmong number call a.numbers t.calls)
-
--- the service of this name has a request of this origin: where that is a call, a request of the caller makes it
-abbrev pub IsCalledFor : List History → List ℕ → Act → Origin → Type 0
-IsCalledFor world name a Outside = Unit {0}
-IsCalledFor world name a (Call caller number) =
-    IsSomeAnd (history_in caller world) (λ h. Any (Makes number (record { dest = name; request = a.request })) h.acts)
-
--- each request that its origin wants
-abbrev pub WantedIsCalledFor : List History → History → Act → Type 0
-WantedIsCalledFor world h a = a.wanted ≡ true → IsCalledFor world (name_of h) a a.origin
-
--- ---- all of it
-
--- the services' histories are one legal execution of the surviving requests: each replays alone, each call of a surviving request has
--- exactly one request at its destination, which is wanted and whose response is what the call consumed, and no other call's request is wanted
-pub record IsLegalTogether (world : List History) : Type 0 where
-  pub alone : IsLegal world
-  pub served : All (λ h. All (CallsAreServed world h) h.acts) world
-  pub called_for : All (λ h. All (WantedIsCalledFor world h) h.acts) world
+-- Services whose logs and rows are one legal execution.
+use Rattle.std.specs.Prelude.{List, All, map}
+use Rattle.execution.specs.Executions.{History}
+use Rattle.execution.specs.Together.{IsLegalTogether}
+use Rattle.local_repair.specs.Histories.{history_of, ReplayAsRecorded}
+use Rattle.service_events.specs.State.{Kept, base, answers}
 
 -- a service's log as a history, with what its calls consume now
 abbrev pub history : Kept → History
-history s = history_of s.setting (answers s) s.entries
+history s = history_of s.setting (answers s) (base s) s.entries
 
 abbrev pub histories : List Kept → List History
 histories services = map history services
+
+-- its requests replay to what its records have of them, reads and writes included
+abbrev pub IsAsRecorded : Kept → Type 0
+IsAsRecorded s = ReplayAsRecorded s.setting (answers s) (base s) s.entries
+
+-- their histories are one legal execution of the surviving requests, and the traces of its replay are their records
+pub record AreLegal (services : List Kept) : Type 0 where
+  pub together : IsLegalTogether (histories services)
+  pub recorded : All IsAsRecorded services

@@ -3,12 +3,12 @@ use Rattle.std.specs.Prelude.{◌≡◌, false, List, [], All}
 use Rattle.local_repair.specs.Current.{AllCurrent}
 use Rattle.call_registers.specs.declared.register.Register.{Register}
 use Rattle.call_registers.specs.declared.reply.Reply.{Reply}
-use Rattle.service_events.specs.State.{Kept, answers}
+use Rattle.service_events.specs.State.{Kept, answers, base}
 
 -- no request is in flight, no entry is stale, the last version of each call is acknowledged, that of a deletion too, and no answer is due
 pub record IsQuiet (s : Kept) : Type 0 where
   pub landed : s.flights ≡ []
-  pub current : AllCurrent (answers s) [] s.entries
+  pub current : AllCurrent (answers s) (base s) s.entries
   pub acknowledged : All (λ (r : Register). r.acked ≡ r.version) s.registers
   pub given : All (λ (p : Reply). p.due ≡ false) s.replies
 

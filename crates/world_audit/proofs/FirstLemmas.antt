@@ -8,8 +8,8 @@ use Rattle.service_events.specs.State.{Kept, answers}
 use Rattle.world_agreement.specs.Partners.{HasPartner}
 use Rattle.world_audit.specs.First.{IsFirstWithout}
 use Rattle.world_audit.specs.Verdicts.{IsAcknowledged, IsGiven, NoneOf, IsFirstIn, IsFirstOf, IsJoinedIn, IsForged}
-use Rattle.world_audit.specs.declared.outstanding.Kind.{Kind}
-use Rattle.world_audit.specs.declared.outstanding.Kind.TheVariants.{Flights, Entries, Calls, Answers}
+use Rattle.world_audit.specs.declared.outstanding.OutstandingKind.{OutstandingKind}
+use Rattle.world_audit.specs.declared.outstanding.OutstandingKind.TheVariants.{Flights, Entries, Calls, Answers}
 
 -- where there is a first without it, not all have it
 pub not_all : {X : Type 0} (P : X → Type 0) (xs : List X) (place : ℕ) → IsFirstWithout P xs place → ¬ (All P xs)
@@ -27,13 +27,13 @@ none_flying : (fs : List Flight) (n : ℕ) → IsSomeAnd (slice_get fs 0) (λ f.
 none_flying [] n f none = f
 none_flying (g ∷ gs) n f none = cc
 
-not_done : (kind : Kind) (s : Kept) (number : ℕ) → IsFirstIn kind s number → ¬ (NoneOf kind s)
+not_done : (kind : OutstandingKind) (s : Kept) (number : ℕ) → IsFirstIn kind s number → ¬ (NoneOf kind s)
 not_done Flights s number f done = none_flying s.flights number f done
 not_done Entries s number f done = none_first (answers s) s.entries f.place done f.first
 not_done Calls s number f done = not_all IsAcknowledged s.registers f.place f.first done
 not_done Answers s number f done = not_all IsGiven s.replies f.place f.first done
 
-pub found_first : (kind : Kind) (services : List Kept) (at number : ℕ) (s : Kept) → at < length services → AllWithin (NoneOf kind) services 0 at → s ≡ get_or services at s
+pub found_first : (kind : OutstandingKind) (services : List Kept) (at number : ℕ) (s : Kept) → at < length services → AllWithin (NoneOf kind) services 0 at → s ≡ get_or services at s
     → IsFirstIn kind s number → IsFirstOf kind services at number
 found_first kind services at number s l before is f = record {
   service = first_without (NoneOf kind) services at s l before is (not_done kind s number f);

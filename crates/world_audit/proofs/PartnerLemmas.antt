@@ -7,10 +7,10 @@ use Rattle.std.proofs.lemmas.Slice.Eq.{bytes_eq-Decides}
 use Rattle.lang_base.proofs.EqualLemmas.{equal-true, equal-same}
 use Rattle.lang_base.specs.Equal.{equal}
 use Rattle.lang_base.specs.Texts.{same_text}
+use Rattle.lang_core.specs.Origins.{is_call}
 use Rattle.lang_core.specs.contracts.request.Response as response
 use Rattle.lang_core.specs.declared.ids.Origin.TheVariants.{Call}
 use Rattle.lang_core.specs.declared.request.Response.{Response}
-use Rattle.request_log.specs.Entries.{is_call}
 use Rattle.journal_rows.specs.Words.{last_sent}
 use Rattle.journal_rows.specs.contracts.caller.SentRow as sent_row
 use Rattle.journal_rows.specs.declared.callee.AnsweredRow.{AnsweredRow}

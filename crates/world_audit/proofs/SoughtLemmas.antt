@@ -4,11 +4,11 @@ use Rattle.std.specs.List.{list_any}
 use Rattle.lang_base.proofs.EqualLemmas.{equal-true}
 use Rattle.lang_base.specs.Equal.{equal}
 use Rattle.lang_base.specs.Texts.{same_text}
+use Rattle.lang_core.specs.Origins.{is_call}
 use Rattle.lang_core.specs.contracts.request.Response as response
 use Rattle.lang_core.specs.declared.ids.Origin.{Origin}
 use Rattle.lang_core.specs.declared.ids.Origin.TheVariants.{Outside, Call}
 use Rattle.lang_core.specs.declared.request.Response.{Response}
-use Rattle.request_log.specs.Entries.{is_call}
 use Rattle.lang_lists.specs.Keys.{call_key}
 use Rattle.lang_lists.proofs.KeyLemmas.{call_other}
 use Rattle.lang_lists.proofs.SearchLemmas.{IsQuiet}

@@ -8,8 +8,8 @@ use Rattle.service_events.specs.State.{Kept}
 use Rattle.world_agreement.specs.Partners.{IsJoined}
 use Rattle.world_agreement.specs.Quiet.{IsQuiet, AreQuiet}
 use Rattle.world_audit.specs.Verdicts.{NoneOf, IsJoinedIn, IsForged, IsUnsettled, IsVerdict, NoneIn, SaysForged, SaysUnsettled, kind_of}
-use Rattle.world_audit.specs.declared.outstanding.Kind.{Kind}
-use Rattle.world_audit.specs.declared.outstanding.Kind.TheVariants.{Flights, Entries, Calls, Answers}
+use Rattle.world_audit.specs.declared.outstanding.OutstandingKind.{OutstandingKind}
+use Rattle.world_audit.specs.declared.outstanding.OutstandingKind.TheVariants.{Flights, Entries, Calls, Answers}
 use Rattle.world_audit.proofs.FirstLemmas.{not_all}
 
 -- quiet is that nothing of any kind is outstanding
@@ -17,7 +17,7 @@ pub all_quiet : (services : List Kept) → NoneIn Flights services → NoneIn En
 all_quiet services flights entries calls answers k d l =
     record { landed = flights k d l; current = entries k d l; acknowledged = calls k d l; given = answers k d l }
 
-done_of : (kind : Kind) (s : Kept) → IsQuiet s → NoneOf kind s
+done_of : (kind : OutstandingKind) (s : Kept) → IsQuiet s → NoneOf kind s
 done_of Flights s q = q.landed
 done_of Entries s q = q.current
 done_of Calls s q = q.acknowledged

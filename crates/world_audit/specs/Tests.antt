@@ -3,9 +3,9 @@ use Rattle.std.specs.Prelude.{ℕ, Bool, true, false, ◌&&◌, List, Option, So
 use Rattle.std.specs.List.{list_any}
 use Rattle.lang_base.specs.Equal.{equal}
 use Rattle.lang_base.specs.Texts.{same_text}
+use Rattle.lang_core.specs.Origins.{is_call}
 use Rattle.lang_core.specs.contracts.request.Response as response
 use Rattle.lang_core.specs.declared.request.Response.{Response}
-use Rattle.request_log.specs.Entries.{is_call}
 use Rattle.journal_rows.specs.Words.{last_sent}
 use Rattle.journal_rows.specs.contracts.caller.SentRow as sent_row
 use Rattle.journal_rows.specs.declared.caller.AckHow.{AckHow}

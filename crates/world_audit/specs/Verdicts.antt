@@ -9,12 +9,12 @@ use Rattle.journal_rows.specs.declared.verdict.Verdict.{Verdict}
 use Rattle.journal_rows.specs.declared.verdict.Verdict.TheVariants.{Legal, Forged, Unsettled}
 use Rattle.call_registers.specs.declared.register.Register.{Register}
 use Rattle.call_registers.specs.declared.reply.Reply.{Reply}
-use Rattle.service_events.specs.State.{Kept, answers}
+use Rattle.service_events.specs.State.{Kept, answers, base}
 use Rattle.world_agreement.specs.Partners.{HasPartner, IsJoined}
 use Rattle.world_agreement.specs.Quiet.{AreQuiet}
 use Rattle.world_audit.specs.First.{IsFirstWithout, IsFirstNumber}
-use Rattle.world_audit.specs.declared.outstanding.Kind.{Kind}
-use Rattle.world_audit.specs.declared.outstanding.Kind.TheVariants.{Flights, Entries, Calls, Answers}
+use Rattle.world_audit.specs.declared.outstanding.OutstandingKind.{OutstandingKind}
+use Rattle.world_audit.specs.declared.outstanding.OutstandingKind.TheVariants.{Flights, Entries, Calls, Answers}
 
 -- ---- what is outstanding, by its kind
 
@@ -25,41 +25,41 @@ abbrev pub IsGiven : Reply → Type 0
 IsGiven p = p.due ≡ false
 
 -- nothing of this kind is outstanding of a service
-abbrev pub NoneOf : Kind → Kept → Type 0
+abbrev pub NoneOf : OutstandingKind → Kept → Type 0
 NoneOf Flights s = s.flights ≡ []
-NoneOf Entries s = AllCurrent (answers s) [] s.entries
+NoneOf Entries s = AllCurrent (answers s) (base s) s.entries
 NoneOf Calls s = All IsAcknowledged s.registers
 NoneOf Answers s = All IsGiven s.replies
 
 -- the first of this kind that is outstanding of a service has this number
-abbrev pub IsFirstIn : Kind → Kept → ℕ → Type 0
+abbrev pub IsFirstIn : OutstandingKind → Kept → ℕ → Type 0
 IsFirstIn Flights s number = IsSomeAnd (slice_get s.flights 0) (λ f. f.id ≡ number)
-IsFirstIn Entries s number = IsStaleId (answers s) s.entries number
+IsFirstIn Entries s number = IsStaleId (answers s) (base s) s.entries number
 IsFirstIn Calls s number = IsFirstNumber IsAcknowledged (λ r. r.number) s.registers number
 IsFirstIn Answers s number = IsFirstNumber IsGiven (λ p. p.id) s.replies number
 
 -- nothing of this kind is outstanding of the services before the one at this place, and the first there has this number
-pub record IsFirstOf (kind : Kind) (services : List Kept) (at number : ℕ) : Type 0 where
+pub record IsFirstOf (kind : OutstandingKind) (services : List Kept) (at number : ℕ) : Type 0 where
   pub service : IsFirstWithout (NoneOf kind) services at
   pub first : HoldsAt (λ s. IsFirstIn kind s number) services at
 
-abbrev pub NoneIn : Kind → List Kept → Type 0
+abbrev pub NoneIn : OutstandingKind → List Kept → Type 0
 NoneIn kind services = All (NoneOf kind) services
 
 -- nothing of an earlier kind is outstanding
-abbrev pub NoneEarlier : Kind → List Kept → Type 0
+abbrev pub NoneEarlier : OutstandingKind → List Kept → Type 0
 NoneEarlier Flights services = Unit {0}
 NoneEarlier Entries services = NoneIn Flights services
 NoneEarlier Calls services = NoneIn Flights services × NoneIn Entries services
 NoneEarlier Answers services = NoneIn Flights services × NoneIn Entries services × NoneIn Calls services
 
-abbrev pub what_is : Kind → ℕ → Outstanding
+abbrev pub what_is : OutstandingKind → ℕ → Outstanding
 what_is Flights n = OfFlight n
 what_is Entries n = OfEntry n
 what_is Calls n = OfCall n
 what_is Answers n = OfAnswer n
 
-abbrev pub kind_of : Outstanding → Kind
+abbrev pub kind_of : Outstanding → OutstandingKind
 kind_of (OfFlight n) = Flights
 kind_of (OfEntry n) = Entries
 kind_of (OfCall n) = Calls

@@ -10,7 +10,7 @@ use service_core::Service;
 
 /// The kinds of what may be outstanding, in the order in which the audit looks for them.
 #[derive(Clone, Copy, PartialEq, Eq)]
-pub enum Kind {
+pub enum OutstandingKind {
     /// Live requests that wait for calls.
     Flights,
     /// Stale entries.
@@ -53,25 +53,25 @@ fn first_answer(replies: &[Reply]) -> Option<u64>
 }
 
 /// The number of the first of a kind that is outstanding of a service; None exactly where nothing of it is.
-pub fn first_in(kind: Kind, service: &Service) -> Option<u64>
+pub fn first_in(kind: OutstandingKind, service: &Service) -> Option<u64>
     ensures { MatchOption result (NoneOf kind service.now) (IsFirstIn kind service.now) }
 {
     match kind {
-        Kind::Flights => first_flight(service.flights().as_slice()),
-        Kind::Entries => service.first_stale(),
-        Kind::Calls => first_call(service.registers().as_slice()),
-        Kind::Answers => first_answer(service.replies().as_slice()),
+        OutstandingKind::Flights => first_flight(service.flights().as_slice()),
+        OutstandingKind::Entries => service.first_stale(),
+        OutstandingKind::Calls => first_call(service.registers().as_slice()),
+        OutstandingKind::Answers => first_answer(service.replies().as_slice()),
     }
 }
 
 /// What a verdict says of the thing of this kind and number.
-pub fn outstanding(kind: Kind, number: u64) -> Outstanding
+pub fn outstanding(kind: OutstandingKind, number: u64) -> Outstanding
     ensures { result ≡ what_is kind number }
 {
     match kind {
-        Kind::Flights => Outstanding::Flight(number),
-        Kind::Entries => Outstanding::Stale(number),
-        Kind::Calls => Outstanding::Call(number),
-        Kind::Answers => Outstanding::Answer(number),
+        OutstandingKind::Flights => Outstanding::Flight(number),
+        OutstandingKind::Entries => Outstanding::Stale(number),
+        OutstandingKind::Calls => Outstanding::Call(number),
+        OutstandingKind::Answers => Outstanding::Answer(number),
     }
 }

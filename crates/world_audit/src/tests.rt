@@ -1,8 +1,8 @@
 // What rows of another service say.
 ghost use Rattle.std.specs.Prelude.{◌≡◌, ◌↔◌, IsTrue};
 ghost use Rattle.lang_base.specs.Equal.{equal};
+ghost use Rattle.lang_core.specs.Origins.{is_call};
 ghost use Rattle.lang_core.specs.contracts.request.Response as response;
-ghost use Rattle.request_log.specs.Entries.{is_call};
 ghost use Rattle.world_audit.specs.Tests.{sends, acknowledges, is_answer, answers, gives, confirms, acknowledges_so};
 
 use journal_rows::{AckHow, AnsweredRow, Row, SentRow};

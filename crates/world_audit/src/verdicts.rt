@@ -7,7 +7,7 @@ ghost use Rattle.world_agreement.specs.Quiet.{AreQuiet};
 ghost use Rattle.world_audit.specs.First.{IsFirstWithout};
 ghost use Rattle.world_audit.specs.Verdicts.{IsFirstOf, IsForged, IsVerdict, NoneIn, what_is, SaysForged, SaysUnsettled};
 
-use crate::outstanding::{Kind, first_in, outstanding};
+use crate::outstanding::{OutstandingKind, first_in, outstanding};
 use crate::partners::has_partner;
 use journal_rows::{Row, Verdict};
 use service_core::Service;
@@ -49,7 +49,7 @@ fn forged(services: &[Service]) -> Option<Found>
 }
 
 // The first of a kind that is outstanding.
-fn first_of(kind: Kind, services: &[Service]) -> Option<Found>
+fn first_of(kind: OutstandingKind, services: &[Service]) -> Option<Found>
     ensures { MatchOption result (NoneIn kind services.now) (λ f. IsFirstOf kind services.now f.at f.number) }
 {
     for (at, service) in services.iter().enumerate() {
@@ -63,7 +63,7 @@ fn first_of(kind: Kind, services: &[Service]) -> Option<Found>
     None
 }
 
-fn unsettled(kind: Kind, found: Found) -> Verdict
+fn unsettled(kind: OutstandingKind, found: Found) -> Verdict
     ensures { result ≡ Verdict.Unsettled found.at (what_is kind found.number) }
 {
     Verdict::Unsettled {
@@ -82,17 +82,17 @@ fn judged(services: &[Service]) -> Verdict
             index: found.number,
         };
     }
-    if let Some(found) = first_of(Kind::Flights, services) {
-        return unsettled(Kind::Flights, found);
+    if let Some(found) = first_of(OutstandingKind::Flights, services) {
+        return unsettled(OutstandingKind::Flights, found);
     }
-    if let Some(found) = first_of(Kind::Entries, services) {
-        return unsettled(Kind::Entries, found);
+    if let Some(found) = first_of(OutstandingKind::Entries, services) {
+        return unsettled(OutstandingKind::Entries, found);
     }
-    if let Some(found) = first_of(Kind::Calls, services) {
-        return unsettled(Kind::Calls, found);
+    if let Some(found) = first_of(OutstandingKind::Calls, services) {
+        return unsettled(OutstandingKind::Calls, found);
     }
-    if let Some(found) = first_of(Kind::Answers, services) {
-        return unsettled(Kind::Answers, found);
+    if let Some(found) = first_of(OutstandingKind::Answers, services) {
+        return unsettled(OutstandingKind::Answers, found);
     }
     Verdict::Legal
 }

@@ -16,7 +16,7 @@ use Rattle.call_registers.specs.declared.register.Why.{Why}
 use Rattle.flights.specs.Moves.{calls_in, first_other, by_run, change_or}
 use Rattle.flights.specs.declared.flight.Flight.{Flight}
 use Rattle.service_events.specs.State.{Kept, After, after, or_else, is_crowded, is_heavy, flight_of}
-use Rattle.service_events.specs.Arriving.{accepted, admitted, arrive_event, new_flight, is_for, heard_rows, answered_flight, call_answered_event, told, failed_flight, call_failed_event}
+use Rattle.service_events.specs.Arriving.{accepted, admitted, arrive_event, new_flight, is_for, live_answer_rows, answered_flight, call_answered_event, told, failed_flight, call_failed_event}
 use Rattle.service_events.specs.Calls.{noted}
 use Rattle.service_events.specs.Flying.{awaited, answer_to_caller, committed, committed_entry, flight_run, with_change, call_or_none, changed_unsent, completed, changed, moved, goes_on}
 use Rattle.service_events.specs.declared.answers.Arrived.{Arrived}
@@ -100,8 +100,8 @@ answered_if : (s : Kept) (id : ℕ) (a : AnswerMessage) (o : Option Flight) → 
 answered_if s id a None = tt
 answered_if s id a (Some f) = goes (is_for s a f)
   where
-    goes : (b : Bool) → IfBack f.origin (if b then accepted (goes_on (noted (heard_rows s a) s) f) else after s (Err (NoFlight id))).answer
-    goes true = goes_on_back (noted (heard_rows s a) s) f
+    goes : (b : Bool) → IfBack f.origin (if b then accepted (goes_on (noted (live_answer_rows s a) s) f) else after s (Err (NoFlight id))).answer
+    goes true = goes_on_back (noted (live_answer_rows s a) s) f
     goes false = tt
 
 pub answered_is_back : (s : Kept) (id : ℕ) (a : AnswerMessage) → IfFlying (flight_of id s) (call_answered_event s id a).answer

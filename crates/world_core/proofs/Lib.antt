@@ -1,7 +1,7 @@
 pub mod BackLaws
 pub mod ServeLemmas
-pub mod NameLaws
-pub mod DrawingLemmas
-pub mod PlanLaws
-pub mod TurnLemmas
+pub mod ActLemmas
+pub mod PartLemmas
+pub mod PacketLemmas
+pub mod OrderLemmas
 pub mod WorldLemmas

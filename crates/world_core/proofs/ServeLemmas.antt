@@ -1,5 +1,5 @@
 -- What an event of a live request leaves is what is served.
-use Rattle.std.proofs.Common.{◌≡◌, ℕ, false, ◌||◌, List, [], ◌∷◌, Option, Some, None, Result, Ok, refl, sym, ap, ◌∙◌, subst}
+use Rattle.std.proofs.Common.{◌≡◌, ℕ, false, ◌||◌, List, [], ◌∷◌, Option, Some, None, Result, Ok, Err, refl, sym, ap, ◌∙◌, subst}
 use Rattle.std.specs.Cmp.Lexicographic.{nat_list_eq_equiv}
 use Rattle.lang_core.specs.declared.ids.Origin.{Origin}
 use Rattle.lang_core.specs.declared.ids.Origin.TheVariants.{Outside, Call as CallOrigin}
@@ -11,12 +11,15 @@ use Rattle.call_registers.specs.declared.register.Why.{Why}
 use Rattle.service_events.specs.Arriving.{arrive_event, call_answered_event, call_failed_event}
 use Rattle.service_events.specs.State.{Kept, After, after, me, flight_of}
 use Rattle.service_events.specs.declared.answers.Arrived.{Arrived}
+use Rattle.service_events.specs.declared.refusals.ArriveRefused.{ArriveRefused}
 use Rattle.world_delivery_laws.proofs.AskLaws.{arrive_lightens, call_answered_lightens, call_failed_lightens}
-use Rattle.world_events.specs.Events.{Served, answered, begun, called, failed, lives, outcome_of, reply_among, sent}
+use Rattle.world_events.specs.Events.{Served, call_answered_served, arrive_served, call_arrive_served, call_failed_served, live_refusal, lives, outcome_of, reply_among, sent}
 use Rattle.world_events.specs.declared.happened.Outcome.{Outcome}
 use Rattle.world_events.specs.declared.happened.What.{What}
 use Rattle.world_events.specs.declared.happened.What.TheVariants.{Arrive, CallAnswered, CallFailed}
+use Rattle.world_events.specs.declared.packet.Live.TheVariants.{Answer as LiveAnswer}
 use Rattle.world_events.specs.declared.packet.Packet.{Packet}
+use Rattle.world_events.specs.declared.packet.Packet.TheVariants.{CallReply}
 use Rattle.world_core.specs.Backs.{answer_by, back_for}
 use Rattle.world_core.specs.declared.backs.Back.{Back}
 use Rattle.world_core.proofs.BackLaws.{IfBack, begun_back, answered_is_back, failed_is_back, sent_among, sent_for}
@@ -46,7 +49,7 @@ arrival_name s o q i = (arrive_lightens (me s ∷ []) s q i o (ap (λ b. b || fa
 -- ---- a request from outside
 
 pub begin_serves : (packets : List Packet) (s s' : Kept) (q : Request) (i : Inputs) (from : List ℕ) (arrived : Arrived) (told : Outcome) (packet : Option Packet)
-    → Goes s s' from (λ a. None) arrived told packet (arrive_event s Outside q i) → serves s' (Arrive (Ok told)) packet ≡ begun packets q s i
+    → Goes s s' from (λ a. None) arrived told packet (arrive_event s Outside q i) → serves s' (Arrive (Ok told)) packet ≡ arrive_served packets q s i
 begin_serves packets s s' q i from arrived told packet g =
     let event = arrive_event s Outside q i in
     let B : Result Arrived _ → Type 0 = λ r. IfBack Outside r in
@@ -56,27 +59,44 @@ begin_serves packets s s' q i from arrived told packet g =
 
 -- ---- a live call
 
-pub call_serves : (s s' : Kept) (flight : ℕ) (set : SetMessage) (q : Request) (i : Inputs) (from to caller : List ℕ) (arrived : Arrived) (told : Outcome) (packet : Option Packet)
-    → caller ≡ set.caller → to ≡ set.caller
-    → Goes s s' from (answer_by (Some (record { to = to; flight = flight; set = set }))) arrived told packet (arrive_event s (CallOrigin caller set.number) q i)
-    → serves s' (Arrive (Ok told)) packet ≡ called flight set q s i
-call_serves s s' flight set q i from to caller arrived told packet is_caller is_to g =
-    let own : List ℕ → AnswerMessage → Option Packet = λ n. answer_by (Some (record { to = n; flight = flight; set = set })) in
+same_arrival : (s : Kept) (set : SetMessage) (q asked : Request) (i : Inputs) (caller : List ℕ) → caller ≡ set.caller → asked ≡ q
+    → arrive_event s (CallOrigin caller set.number) asked i ≡ arrive_event s (CallOrigin set.caller set.number) q i
+same_arrival s set q asked i caller is_caller is_asked =
+    ap (λ n. arrive_event s (CallOrigin n set.number) asked i) is_caller ∙ ap (λ r. arrive_event s (CallOrigin set.caller set.number) r i) is_asked
+
+pub call_serves : (s s' : Kept) (flight : ℕ) (set : SetMessage) (q asked : Request) (i : Inputs) (from caller : List ℕ) (back : Back) (arrived : Arrived) (told : Outcome) (packet : Option Packet)
+    → caller ≡ set.caller → asked ≡ q → back ≡ record { to = set.caller; flight = flight; set = set }
+    → Goes s s' from (answer_by (Some back)) arrived told packet (arrive_event s (CallOrigin caller set.number) asked i)
+    → serves s' (Arrive (Ok told)) packet ≡ call_arrive_served flight set q s i
+call_serves s s' flight set q asked i from caller back arrived told packet is_caller is_asked is_back g =
+    let own : Back → AnswerMessage → Option Packet = λ b. answer_by (Some b) in
+    let mine : Back = record { to = set.caller; flight = flight; set = set } in
     let event = arrive_event s (CallOrigin set.caller set.number) q i in
-    let now : Goes s s' from (own to) arrived told packet event = record {
-      is = g.is ∙ ap (λ n. arrive_event s (CallOrigin n set.number) q i) is_caller;
+    let now : Goes s s' from (own back) arrived told packet event = record {
+      is = g.is ∙ same_arrival s set q asked i caller is_caller is_asked;
       from_it = g.from_it;
       tells = g.tells;
       sends = g.sends;
     } in
-    goes_serve Arrive (own set.caller) (own to) _ s s' from arrived told packet event now (arrival_name s (CallOrigin set.caller set.number) q i)
-    (ap (λ n. sent from (own n) arrived) is_to)
+    goes_serve Arrive (own mine) (own back) _ s s' from arrived told packet event now (arrival_name s (CallOrigin set.caller set.number) q i)
+    (ap (λ b. sent from (own b) arrived) is_back)
+
+pub call_refused : (s s' : Kept) (flight : ℕ) (set : SetMessage) (q asked : Request) (i : Inputs) (caller : List ℕ) (back : Back) (why : ArriveRefused) (packet : Packet)
+    → caller ≡ set.caller → asked ≡ q → back ≡ record { to = set.caller; flight = flight; set = set }
+    → after s' (Err why) ≡ arrive_event s (CallOrigin caller set.number) asked i → packet ≡ CallReply back.to back.flight back.set (live_refusal why)
+    → serves s' (Arrive (Err why)) (Some packet) ≡ call_arrive_served flight set q s i
+call_refused s s' flight set q asked i caller back why packet is_caller is_asked is_back is said =
+    let P : Back → Option Packet = λ b. Some (CallReply b.to b.flight b.set (live_refusal why)) in
+    ap (λ p. serves s' (Arrive (Err why)) (Some p)) said
+    ∙ ap (λ b. serves s' (Arrive (Err why)) (P b)) is_back
+    ∙ ap (lives Arrive (λ a. Some (CallReply set.caller flight set (LiveAnswer a))) (λ x. Some (CallReply set.caller flight set (live_refusal x))))
+    (is ∙ same_arrival s set q asked i caller is_caller is_asked)
 
 -- ---- what comes back of a call
 
 pub answered_serves : (packets : List Packet) (s s' : Kept) (flight : ℕ) (a : AnswerMessage) (from : List ℕ) (back : Option Back) (arrived : Arrived) (told : Outcome) (packet : Option Packet)
     → back ≡ back_for packets (flight_of flight s) → Goes s s' from (answer_by back) arrived told packet (call_answered_event s flight a)
-    → serves s' (CallAnswered (Ok told)) packet ≡ answered packets flight a s
+    → serves s' (CallAnswered (Ok told)) packet ≡ call_answered_served packets flight a s
 answered_serves packets s s' flight a from back arrived told packet is g =
     let event = call_answered_event s flight a in
     goes_serve CallAnswered (reply_among packets) (answer_by back) (λ why. None) s s' from arrived told packet event g (call_answered_lightens [] s flight a).0
@@ -85,7 +105,7 @@ answered_serves packets s s' flight a from back arrived told packet is g =
 
 pub failed_serves : (packets : List Packet) (s s' : Kept) (flight number : ℕ) (why : Why) (from : List ℕ) (back : Option Back) (arrived : Arrived) (told : Outcome) (packet : Option Packet)
     → back ≡ back_for packets (flight_of flight s) → Goes s s' from (answer_by back) arrived told packet (call_failed_event s flight number why)
-    → serves s' (CallFailed (Ok told)) packet ≡ failed packets flight number why s
+    → serves s' (CallFailed (Ok told)) packet ≡ call_failed_served packets flight number why s
 failed_serves packets s s' flight number why from back arrived told packet is g =
     let event = call_failed_event s flight number why in
     goes_serve CallFailed (reply_among packets) (answer_by back) (λ why. None) s s' from arrived told packet event g (call_failed_lightens [] s flight number why).0

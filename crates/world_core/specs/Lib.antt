@@ -1,6 +1,4 @@
-pub mod Made
-pub mod Backs
-pub mod Acts
 pub mod Environments
-pub mod Plans
-pub mod Moves
+pub mod Packets
+pub mod Acting
+pub mod Backs

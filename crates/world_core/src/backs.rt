@@ -1,14 +1,14 @@
 // To whom the answer of a live request goes back.
-ghost use Rattle.std.specs.Prelude.{◌≡◌, Some, None, IfOk, find};
-ghost use Rattle.std.specs.Option.{option_copied};
+ghost use Rattle.std.specs.Prelude.{◌≡◌, Some, None, IfOk};
 ghost use Rattle.lang_core.specs.declared.ids.Origin.TheVariants.{Outside};
 ghost use Rattle.service_events.specs.State.{me, flight_of};
-ghost use Rattle.world_events.specs.Events.{answered_back, is_call_of, outcome_of, sent};
+ghost use Rattle.world_events.specs.Events.{answered_back, outcome_of, sent};
 ghost use Rattle.world_events.specs.declared.packet.Packet.{Packet};
 ghost use Rattle.world_core.specs.Backs.{answer_by, back_of, back_to, back_for};
 
+use crate::packets::Packets;
 use lang_base::both;
-use lang_core::{Copied, Name, NoMemory, Origin, Same};
+use lang_core::{Copied, Name, NoMemory, Origin};
 use repair_messages::{AnswerMessage, SetMessage, copied_pair};
 use service_core::Service;
 use service_events::Arrived;
@@ -17,7 +17,7 @@ use world_events::{Live, Outcome, Packet};
 
 /// The flight that sent a live call.
 #[derive(Drop)]
-pub struct Back {
+pub(crate) struct Back {
     /// The caller.
     pub to: Name,
     /// The caller's flight.
@@ -27,7 +27,7 @@ pub struct Back {
 }
 
 /// What goes back to a flight, as a packet.
-pub fn reply(back: Back, reply: Live) -> Packet
+pub(crate) fn reply(back: Back, reply: Live) -> Packet
     ensures { result ≡ Packet.CallReply back.to back.flight back.set reply }
 {
     Packet::CallReply {
@@ -57,7 +57,7 @@ fn answered_back(back: Option<Back>, answer: Option<AnswerMessage>) -> Option<Pa
 }
 
 /// What is sent of a live request of the service of this name: its next call, or its answer, which goes back there.
-pub fn sent(from: Name, back: Option<Back>, arrived: Arrived) -> Option<Packet>
+pub(crate) fn sent(from: Name, back: Option<Back>, arrived: Arrived) -> Option<Packet>
     ensures { result ≡ sent from (answer_by back) arrived }
 {
     match arrived {
@@ -68,7 +68,7 @@ pub fn sent(from: Name, back: Option<Back>, arrived: Arrived) -> Option<Packet>
 }
 
 /// What became of a live request, as it is told.
-pub fn outcome_of(arrived: &Arrived) -> Outcome
+pub(crate) fn outcome_of(arrived: &Arrived) -> Outcome
     ensures { result ≡ outcome_of arrived.now }
 {
     match arrived {
@@ -82,23 +82,6 @@ pub fn outcome_of(arrived: &Arrived) -> Outcome
             answer_version: answer.answer_version,
         },
     }
-}
-
-fn is_call_of(packet: &Packet, caller: &Name, number: u64) -> bool
-    ensures { result ≡ is_call_of caller.now number packet.now }
-{
-    match packet {
-        Packet::Call { set, .. } => { set.number == number && set.caller.text().is(caller.text()) }
-        _ => false,
-    }
-}
-
-fn call_of<'a>(packets: &'a [Packet], caller: &Name, number: u64) -> Option<&'a Packet>
-    ensures { option_copied result ≡ find (is_call_of caller.now number) packets.now }
-{
-    packets
-        .iter()
-        .find(|packet| is_call_of(packet, caller, number))
 }
 
 fn back_of(alloc: Global, packet: &Packet) -> Result<Option<Back>, NoMemory>
@@ -119,20 +102,20 @@ fn back_of(alloc: Global, packet: &Packet) -> Result<Option<Back>, NoMemory>
 
 fn back_among(
     alloc: Global,
-    packets: &[Packet],
+    packets: &Packets,
     caller: &Name,
     number: u64,
 ) -> Result<Option<Back>, NoMemory>
-    ensures { IfOk result (λ back. back ≡ back_to packets.now (Origin.Call caller.now number)) }
+    ensures { IfOk result (λ back. back ≡ back_to packets.now.list (Origin.Call caller.now number)) }
 {
-    match call_of(packets, caller, number) {
+    match packets.find_call(caller, number) {
         None => Ok(None),
         Some(packet) => back_of(alloc, packet),
     }
 }
 
-fn back_to(alloc: Global, packets: &[Packet], origin: &Origin) -> Result<Option<Back>, NoMemory>
-    ensures { IfOk result (λ back. back ≡ back_to packets.now origin.now) }
+fn back_to(alloc: Global, packets: &Packets, origin: &Origin) -> Result<Option<Back>, NoMemory>
+    ensures { IfOk result (λ back. back ≡ back_to packets.now.list origin.now) }
 {
     match origin {
         Origin::Outside => Ok(None),
@@ -142,11 +125,11 @@ fn back_to(alloc: Global, packets: &[Packet], origin: &Origin) -> Result<Option<
 
 fn back_for(
     alloc: Global,
-    packets: &[Packet],
+    packets: &Packets,
     service: &Service,
     flight: u64,
 ) -> Result<Option<Back>, NoMemory>
-    ensures { IfOk result (λ back. back ≡ back_for packets.now (flight_of flight service.now)) }
+    ensures { IfOk result (λ back. back ≡ back_for packets.now.list (flight_of flight service.now)) }
 {
     match service.flights().find(flight) {
         None => Ok(None),
@@ -155,14 +138,14 @@ fn back_for(
 }
 
 /// The service's name, and to whom the answer of its flight of this number goes back.
-pub fn ends_of(
+pub(crate) fn ends_of(
     alloc: Global,
-    packets: &[Packet],
+    packets: &Packets,
     service: &Service,
     flight: u64,
 ) -> Result<(Name, Option<Back>), NoMemory>
     ensures name { IfOk result (λ ends. ends.0 ≡ me service.now) }
-    ensures back { IfOk result (λ ends. ends.1 ≡ back_for packets.now (flight_of flight service.now)) }
+    ensures back { IfOk result (λ ends. ends.1 ≡ back_for packets.now.list (flight_of flight service.now)) }
 {
     let name = service.setting().me.copied(alloc);
     both(name, back_for(alloc, packets, service, flight))

@@ -1,129 +1,29 @@
 // Packets that come to their receivers.
-ghost use Rattle.std.specs.Prelude.{◌≡◌, IfOk, Some};
-ghost use Rattle.std.specs.Option.{option_copied};
-ghost use Rattle.repair_messages.specs.declared.posts.Post.TheVariants.{Set, Answer};
-ghost use Rattle.world_events.specs.Events.{sender};
-ghost use Rattle.world_core.specs.declared.acts.Act.TheVariants.{GetBack};
-ghost use Rattle.world_core.specs.Plans.{Planned, calling, delivery, plans, post_delivery, reply_act};
+ghost use Rattle.std.specs.Prelude.{◌≡◌, ℕ, List, Some};
+ghost use Rattle.repair_messages.specs.declared.messages.SetMessage.{SetMessage};
+ghost use Rattle.world_events.specs.Ends.{IsClosed, post_receiver, receiver};
+ghost use Rattle.world_events.specs.Events.{call_delivered, delivered, post_delivered, reply_delivered, sender, turn};
+ghost use Rattle.world_events.specs.Turns.{Turns};
+ghost use Rattle.world_events.specs.declared.event.Event.{Event};
+ghost use Rattle.world_events.specs.declared.packet.Packet.{Packet};
+ghost use Rattle.world_core.specs.Acting.{Acts, seen};
+ghost use Rattle.world_core.specs.Environments.{Environment};
 
-use crate::acts::Act;
 use crate::environment::Environment;
-use crate::plan::Plan;
-use crate::planning::or_lacks;
+use crate::messages::{posted_reply, take, take_answer};
+use crate::packets::Packets;
+use crate::parts::{Parts, located, tell};
+use crate::requests::{arrive_as_call, call_answered, call_failed};
+use crate::served::Served;
 use call_registers::Why;
-use lang_base::both;
-use lang_core::{Copied, Name, NoMemory, Request};
-use repair_messages::{AnswerMessage, Post, SetMessage, copied_pair};
-use service_events::PostReply;
+use lang_core::Name;
+use repair_messages::{Post, SetMessage};
+use service_core::Service;
 use std::alloc::Global;
-use world_events::{Live, Packet, WorldStepRefused};
-
-// A live call comes, which asks this.
-fn plan_call(
-    alloc: Global,
-    environment: &Environment,
-    flight: u64,
-    set: &SetMessage,
-    request: &Request,
-) -> Result<Plan, NoMemory>
-    ensures { IfOk result (λ plan. plan ≡ calling environment.now flight set.now request.now) }
-{
-    let copies = copied_pair(alloc, set, request);
-    let (name, (set, request)) = both(set.dest.copied(alloc), copies)?;
-    Ok(Plan {
-        name,
-        act: Act::Called {
-            flight,
-            set,
-            request,
-            inputs: environment.inputs(),
-        },
-        environment: environment.behind_drawn(),
-    })
-}
-
-// What a flight is to do with what comes back of its call of this number.
-fn act_at_reply(alloc: Global, flight: u64, number: u64, reply: &Live) -> Result<Act, NoMemory>
-    ensures { IfOk result (λ act. act ≡ reply_act flight number reply.now) }
-{
-    match reply {
-        Live::Answer(answer) => Ok(Act::Answered {
-            flight,
-            answer: answer.copied(alloc)?,
-        }),
-        Live::Refused { word, number: n } => Ok(Act::Failed {
-            flight,
-            number,
-            why: Why::Refused {
-                word: *word,
-                number: *n,
-            },
-        }),
-    }
-}
-
-// What comes back of a live call, to its flight at the service of this name.
-fn plan_reply(
-    alloc: Global,
-    environment: &Environment,
-    to: &Name,
-    flight: u64,
-    set: &SetMessage,
-    reply: &Live,
-) -> Result<Plan, NoMemory>
-    ensures { IfOk result (λ plan. plan ≡ plans to.now (reply_act flight set.now.number reply.now) environment.now) }
-{
-    let act = act_at_reply(alloc, flight, set.number, reply);
-    let (name, act) = both(to.copied(alloc), act)?;
-    Ok(Plan {
-        name,
-        act,
-        environment: environment.again(),
-    })
-}
-
-// A version of a call comes by a message.
-fn plan_set(alloc: Global, environment: &Environment, set: &SetMessage) -> Result<Plan, NoMemory>
-    ensures { IfOk result (λ plan. plan ≡ post_delivery environment.now (Set set.now)) }
-{
-    let (name, set) = copied_pair(alloc, &set.dest, set)?;
-    Ok(Plan {
-        name,
-        act: Act::Take {
-            set,
-            inputs: environment.inputs(),
-        },
-        environment: environment.behind_drawn(),
-    })
-}
-
-// An answer comes by a message.
-fn plan_answer(
-    alloc: Global,
-    environment: &Environment,
-    answer: &AnswerMessage,
-) -> Result<Plan, NoMemory>
-    ensures { IfOk result (λ plan. plan ≡ post_delivery environment.now (Answer answer.now)) }
-{
-    let (name, answer) = copied_pair(alloc, &answer.caller, answer)?;
-    Ok(Plan {
-        name,
-        act: Act::Hear { answer },
-        environment: environment.again(),
-    })
-}
-
-fn plan_message(alloc: Global, environment: &Environment, post: &Post) -> Result<Plan, NoMemory>
-    ensures { IfOk result (λ plan. plan ≡ post_delivery environment.now post.now) }
-{
-    match post {
-        Post::Set(set) => plan_set(alloc, environment, set),
-        Post::Answer(answer) => plan_answer(alloc, environment, answer),
-    }
-}
+use world_events::{Happened, Live, Packet, WorldStepRefused};
 
 /// The service that posted it.
-pub fn sender(post: &Post) -> &Name
+pub(crate) fn sender(post: &Post) -> &Name
     ensures { result.now ≡ sender post.now }
 {
     match post {
@@ -132,74 +32,150 @@ pub fn sender(post: &Post) -> &Name
     }
 }
 
-fn copied_reply(alloc: Global, reply: &PostReply) -> Result<PostReply, NoMemory>
-    ensures { IfOk result (λ copy. copy ≡ reply.now) }
+fn post_receiver(post: &Post) -> &Name
+    ensures { result.now ≡ post_receiver post.now }
 {
-    match reply {
-        PostReply::Acked(ack) => Ok(PostReply::Acked(ack.copied(alloc)?)),
-        PostReply::Confirmed(confirm) => Ok(PostReply::Confirmed(confirm.copied(alloc)?)),
-        PostReply::Refused { word, number } => Ok(PostReply::Refused {
-            word: *word,
-            number: *number,
-        }),
-        PostReply::Lost(note) => Ok(PostReply::Lost(*note)),
+    match post {
+        Post::Set(set) => &set.dest,
+        Post::Answer(answer) => &answer.caller,
     }
 }
 
-// Something comes back of a post, to the service that posted it.
-fn plan_back(
-    alloc: Global,
-    environment: &Environment,
-    post: &Post,
-    reply: &PostReply,
-) -> Result<Plan, NoMemory>
-    ensures { IfOk result (λ plan. plan ≡ plans (sender post.now) (GetBack post.now reply.now) environment.now) }
-{
-    let copies = both(post.copied(alloc), copied_reply(alloc, reply));
-    let (name, (post, reply)) = both(sender(post).copied(alloc), copies)?;
-    Ok(Plan {
-        name,
-        act: Act::GetBack { post, reply },
-        environment: environment.again(),
-    })
-}
-
-// The packet of this number, which is this one, comes to its receiver.
-fn plan_packet(
-    alloc: Global,
-    environment: &Environment,
-    number: u64,
-    packet: &Packet,
-) -> Result<Plan, WorldStepRefused>
-    ensures { Planned (delivery environment.now number (Some packet.now)) result }
+// The service that gets it.
+fn receiver(packet: &Packet) -> &Name
+    ensures { result.now ≡ receiver packet.now }
 {
     match packet {
-        Packet::Call { flight, set, .. } => match &set.desired {
-            None => Err(WorldStepRefused::NoPacket(number)),
-            Some(request) => or_lacks(plan_call(alloc, environment, *flight, set, request)),
-        },
+        Packet::Call { set, .. } => &set.dest,
+        Packet::CallReply { to, .. } => to,
+        Packet::Post(post) => post_receiver(post),
+        Packet::PostReply { post, .. } => sender(post),
+    }
+}
+
+// A live call comes to this service. One that asks nothing is no packet.
+fn deliver_call(
+    alloc: Global,
+    service: &mut Service,
+    environment: &mut Environment,
+    number: u64,
+    flight: u64,
+    set: &SetMessage,
+) -> Result<Served, WorldStepRefused>
+    ensures { (packets : List Packet)
+        → Acts (λ w. call_delivered w number flight set.now set.now.desired) set.now.dest packets service.old environment.old result service.new environment.new }
+{
+    let Some(request) = &set.desired else {
+        return Err(WorldStepRefused::NoPacket(number));
+    };
+    let drawn = environment.draw();
+    let served = arrive_as_call(alloc, service, flight, set, request, drawn.inputs)?;
+    environment.use_up(drawn);
+    Ok(served)
+}
+
+// What comes back of a live call comes to its flight.
+fn deliver_reply(
+    alloc: Global,
+    service: &mut Service,
+    packets: &Packets,
+    flight: u64,
+    number: u64,
+    reply: &Live,
+) -> Result<Served, WorldStepRefused>
+    ensures { (name : List ℕ) (set : SetMessage) (e : Environment) → set.number ≡ number
+        → Acts (λ w. reply_delivered w name flight set reply.now) name packets.now.list service.old e result service.new e }
+{
+    match reply {
+        Live::Answer(answer) => {
+            let served = call_answered(alloc, service, packets, flight, answer)?;
+            Ok(served)
+        }
+        Live::Refused { word, number: n } => {
+            let why = Why::Refused {
+                word: *word,
+                number: *n,
+            };
+            let served = call_failed(alloc, service, packets, flight, number, why)?;
+            Ok(served)
+        }
+    }
+}
+
+// A message that was posted comes to this service.
+fn deliver_post(
+    alloc: Global,
+    service: &mut Service,
+    environment: &mut Environment,
+    post: &Post,
+) -> Result<Served, WorldStepRefused>
+    ensures { (packets : List Packet)
+        → Acts (λ w. post_delivered w post.now) (post_receiver post.now) packets service.old environment.old result service.new environment.new }
+{
+    match post {
+        Post::Set(set) => {
+            let drawn = environment.draw();
+            let served = take(alloc, service, set, drawn.inputs)?;
+            environment.use_up(drawn);
+            Ok(served)
+        }
+        Post::Answer(answer) => {
+            let served = take_answer(alloc, service, answer)?;
+            Ok(served)
+        }
+    }
+}
+
+// The packet of this number, which is this one, comes to its receiver, which is this service.
+fn deliver_to(
+    alloc: Global,
+    service: &mut Service,
+    packets: &Packets,
+    environment: &mut Environment,
+    number: u64,
+    packet: &Packet,
+) -> Result<Served, WorldStepRefused>
+    ensures { Acts (λ w. delivered w number (Some packet.now)) (receiver packet.now) packets.now.list service.old environment.old result service.new environment.new }
+{
+    match packet {
+        Packet::Call { flight, set, .. } => {
+            deliver_call(alloc, service, environment, number, *flight, set)
+        }
         Packet::CallReply {
-            to,
             flight,
             set,
             reply,
-        } => or_lacks(plan_reply(alloc, environment, to, *flight, set, reply)),
-        Packet::Post(post) => or_lacks(plan_message(alloc, environment, post)),
-        Packet::PostReply { post, reply } => or_lacks(plan_back(alloc, environment, post, reply)),
+            ..
+        } => deliver_reply(alloc, service, packets, *flight, set.number, reply),
+        Packet::Post(post) => deliver_post(alloc, service, environment, post),
+        Packet::PostReply { post, reply } => {
+            let served = posted_reply(alloc, service, post, reply)?;
+            Ok(served)
+        }
     }
 }
 
-/// The packet of this number, if there is one, comes to its receiver.
-pub fn plan_delivery(
+/// The packet of this number comes to its receiver. It is lent to it.
+pub(crate) fn deliver(
     alloc: Global,
-    environment: &Environment,
+    world: &mut Parts,
     number: u64,
-    packet: Option<&Packet>,
-) -> Result<Plan, WorldStepRefused>
-    ensures { Planned (delivery environment.now number (option_copied packet.entry)) result }
+) -> Result<Happened, WorldStepRefused>
+    requires { IsClosed (seen world.old) }
+    ensures { Turns (turn (seen world.old) (Event.Deliver number)) (seen world.old) result (seen world.new) }
 {
-    match packet {
-        None => Err(WorldStepRefused::NoPacket(number)),
-        Some(packet) => plan_packet(alloc, environment, number, packet),
-    }
+    world.packets.reserve()?;
+    let Some(packet) = world.packets.get(number) else {
+        return Err(WorldStepRefused::NoPacket(number));
+    };
+    let (at, name) = located(alloc, &world.services, receiver(packet))?;
+    let served = deliver_to(
+        alloc,
+        &mut world.services[at],
+        &world.packets,
+        &mut world.environment,
+        number,
+        packet,
+    )?;
+    Ok(tell(&mut world.packets, name, served))
 }

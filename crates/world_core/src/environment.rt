@@ -1,14 +1,16 @@
 // What a world is given from outside.
-ghost use Rattle.std.specs.Prelude.{◌≡◌};
-ghost use Rattle.world_core.specs.Environments.{behind_drawn, behind_lost, fresh_environment, given, note_of, with_moment, with_word};
+ghost use Rattle.std.specs.Prelude.{◌≡◌, ◌%◌, ◌<◌, min};
+ghost use Rattle.call_registers.specs.Changes.{raised};
+ghost use Rattle.recorded_inputs.specs.Drawing.{drawn, word_after};
+ghost use Rattle.world_core.specs.Environments.{fresh_environment};
 
-use crate::drawing::{draw_next, loss_note};
 use lang_core::{FaultNote, Inputs, LAST_MOMENT};
+use recorded_inputs::{ScriptClock, ScriptWords, draw_script};
 use std::marker::Model;
 
 /// A clock, random words, and how many exchanges failed.
 #[derive(Drop)]
-pub struct Environment {
+pub(crate) struct Environment {
     /// The moment that the clock tells.
     moment: u64,
     /// The word that was drawn last, or what was set in its place.
@@ -29,6 +31,14 @@ impl Model for Environment {
     ghost invariant = { λ e. (e.moment ≤ 9223372036854775807) × (e.word < 65537) };
 }
 
+/// What is drawn for an event, and the word that is the last then.
+#[derive(Clone, Copy)]
+pub(crate) struct Drawn {
+    pub inputs: Inputs,
+    word: u64,
+    ghost small: { word < 65537 },
+}
+
 impl Environment {
     /// Moment 0, the word 1 before the first, and no losses.
     pub fn new() -> Environment
@@ -41,65 +51,57 @@ impl Environment {
         }
     }
 
-    /// The same once more.
-    pub fn again(&self) -> Environment
-        ensures { result ≡ self.now }
+    /// One reading of the clock, and the next eight words. They aren't used up before `use_up`.
+    pub fn draw(&self) -> Drawn
+        ensures inputs { result.inputs ≡ drawn self.now.moment self.now.x }
+        ensures word { result.word ≡ word_after 8 self.now.x }
     {
-        Environment {
-            moment: self.moment,
-            word: self.word,
-            losses: self.losses,
+        let mut clock = ScriptClock::new();
+        clock.set(self.moment);
+        let mut words = ScriptWords::new();
+        words.seed(self.word);
+        let inputs = draw_script(&mut clock, &mut words);
+        Drawn {
+            inputs,
+            word: words.last(),
         }
     }
 
-    /// What the next event that draws is given.
-    pub fn inputs(&self) -> Inputs
-        ensures { result ≡ given self.now }
+    /// The words go on behind those that were drawn.
+    pub fn use_up(&mut self, drawn: Drawn)
+        ensures { self.new ≡ record self.old { x = drawn.word } }
     {
-        draw_next(self.moment, self.word).inputs
-    }
-
-    /// The words go on behind those that the next event is given.
-    pub fn behind_drawn(&self) -> Environment
-        ensures { result ≡ behind_drawn self.now }
-    {
-        let drawn = draw_next(self.moment, self.word);
-        Environment {
-            moment: self.moment,
-            word: drawn.word,
-            losses: self.losses,
-        }
+        self.word = drawn.word;
     }
 
     /// What is told of the next exchange that fails.
     pub fn note(&self) -> FaultNote
-        ensures { result ≡ note_of self.now }
+        ensures before { result.before ≡ self.now.losses }
+        ensures after { result.after ≡ raised self.now.losses }
     {
-        loss_note(self.losses)
+        FaultNote {
+            before: self.losses,
+            after: self.losses.saturating_add(1),
+        }
     }
 
-    /// An exchange more has failed.
-    pub fn behind_lost(&self) -> Environment
-        ensures { result ≡ behind_lost self.now }
+    /// The exchange of which this note tells failed.
+    pub fn lose(&mut self, note: FaultNote)
+        ensures { self.new ≡ record self.old { losses = note.after } }
     {
-        let note = loss_note(self.losses);
-        Environment {
-            moment: self.moment,
-            word: self.word,
-            losses: note.after,
-        }
+        self.losses = note.after;
     }
 
     /// Sets the clock; a moment later than the last is the last.
     pub fn set_moment(&mut self, moment: u64)
-        ensures { self.new ≡ with_moment self.old moment }
+        ensures { self.new ≡ record self.old { moment = min moment 9223372036854775807 } }
     {
         self.moment = moment.min(LAST_MOMENT);
     }
 
     /// Words go on behind this number modulo 65,537.
     pub fn set_word(&mut self, n: u64)
-        ensures { self.new ≡ with_word self.old n }
+        ensures { self.new ≡ record self.old { x = n % 65537 } }
     {
         self.word = n % 65537;
     }

@@ -1,112 +1,95 @@
-// The events of a world.
-ghost use Rattle.std.specs.Prelude.{◌≡◌, None, Result};
+// Events that name their service.
+ghost use Rattle.std.specs.Prelude.{◌≡◌, None};
+ghost use Rattle.world_events.specs.Ends.{IsClosed, PostsWell};
 ghost use Rattle.world_events.specs.Events.{turn};
-ghost use Rattle.world_events.specs.declared.event.Event.{Event};
-ghost use Rattle.world_events.specs.declared.event.WorldStepRefused.{WorldStepRefused};
-ghost use Rattle.world_events.specs.declared.happened.What.{What};
-ghost use Rattle.world_core.specs.Plans.{Planned, carried_out};
 ghost use Rattle.world_events.specs.Turns.{Turns};
-ghost use Rattle.world_core.specs.declared.plan.Plan.{Plan};
+ghost use Rattle.world_events.specs.declared.event.Event.{Event};
+ghost use Rattle.world_events.specs.declared.happened.What.{What};
+ghost use Rattle.world_core.specs.Acting.{seen};
 
-use crate::checked::{plan_abandon, plan_post};
-use crate::deliveries::plan_delivery;
-use crate::losses::plan_loss;
-use crate::plan::Plan;
-use crate::planning::{plan_begin, plan_order, plan_step};
-use crate::world::World;
+use crate::deliveries::deliver;
+use crate::losses::lose;
+use crate::orders::{next_post, repair_step};
+use crate::parts::{Parts, place_beside, ready, tell};
+use crate::requests::arrive;
 use journal_rows::Command;
 use lang_core::{Name, Request, Text};
 use std::alloc::Global;
 use world_events::{Event, Happened, What, WorldStepRefused};
 
-// What was planned is carried out, if anything was.
-fn carry(
-    alloc: Global,
-    world: &mut World,
-    planned: Result<Plan, WorldStepRefused>,
-) -> Result<Happened, WorldStepRefused>
-    ensures { (plan : Result Plan WorldStepRefused) → Planned plan planned → Turns (carried_out world.old plan) world.old result world.new }
-{
-    match planned {
-        Err(why) => Err(why),
-        Ok(plan) => world.carry_out(alloc, plan),
-    }
-}
-
 fn begin(
     alloc: Global,
-    world: &mut World,
+    world: &mut Parts,
     service: Name,
     request: Request,
 ) -> Result<Happened, WorldStepRefused>
-    ensures { Turns (turn world.old (Event.Begin service request)) world.old result world.new }
+    ensures { Turns (turn (seen world.old) (Event.Begin service request)) (seen world.old) result (seen world.new) }
 {
-    let plan = plan_begin(world.environment(), service, request);
-    carry(alloc, world, Ok(plan))
-}
-
-fn deliver(alloc: Global, world: &mut World, number: u64) -> Result<Happened, WorldStepRefused>
-    ensures { Turns (turn world.old (Event.Deliver number)) world.old result world.new }
-{
-    let plan = plan_delivery(alloc, world.environment(), number, world.packet(number));
-    carry(alloc, world, plan)
-}
-
-fn lose(alloc: Global, world: &mut World, number: u64) -> Result<Happened, WorldStepRefused>
-    ensures { Turns (turn world.old (Event.Lose number)) world.old result world.new }
-{
-    let plan = plan_loss(alloc, world.environment(), number, world.packet(number));
-    carry(alloc, world, plan)
-}
-
-fn post(
-    alloc: Global,
-    world: &mut World,
-    from: Name,
-    to: Name,
-) -> Result<Happened, WorldStepRefused>
-    ensures { Turns (turn world.old (Event.Post from to)) world.old result world.new }
-{
-    let plan = plan_post(world.environment(), world.service(&to), from, to);
-    carry(alloc, world, plan)
-}
-
-fn step(alloc: Global, world: &mut World, service: Name) -> Result<Happened, WorldStepRefused>
-    ensures { Turns (turn world.old (Event.Step service)) world.old result world.new }
-{
-    let plan = plan_step(world.environment(), service);
-    carry(alloc, world, Ok(plan))
-}
-
-fn abandon(
-    alloc: Global,
-    world: &mut World,
-    service: Name,
-    flight: u64,
-) -> Result<Happened, WorldStepRefused>
-    ensures { Turns (turn world.old (Event.Abandon service flight)) world.old result world.new }
-{
-    let plan = plan_abandon(
-        world.environment(),
-        world.service(&service),
-        service,
-        flight,
-    );
-    carry(alloc, world, plan)
+    let at = ready(&world.services, &mut world.packets, &service)?;
+    let drawn = world.environment.draw();
+    let served = arrive(alloc, &mut world.services[at], request, drawn.inputs)?;
+    world.environment.use_up(drawn);
+    Ok(tell(&mut world.packets, service, served))
 }
 
 fn order(
     alloc: Global,
-    world: &mut World,
+    world: &mut Parts,
     service: Name,
     command: Command,
     token: Text,
     who: Text,
 ) -> Result<Happened, WorldStepRefused>
-    ensures { Turns (turn world.old (Event.Order service command token who)) world.old result world.new }
+    ensures { Turns (turn (seen world.old) (Event.Order service command token who)) (seen world.old) result (seen world.new) }
 {
-    let plan = plan_order(world.environment(), service, command, token, who);
-    carry(alloc, world, Ok(plan))
+    let at = ready(&world.services, &mut world.packets, &service)?;
+    let drawn = world.environment.draw();
+    let served = crate::orders::order(
+        alloc,
+        &mut world.services[at],
+        command,
+        token,
+        who,
+        drawn.inputs,
+    )?;
+    world.environment.use_up(drawn);
+    Ok(tell(&mut world.packets, service, served))
+}
+
+fn step(alloc: Global, world: &mut Parts, service: Name) -> Result<Happened, WorldStepRefused>
+    ensures { Turns (turn (seen world.old) (Event.Step service)) (seen world.old) result (seen world.new) }
+{
+    let at = ready(&world.services, &mut world.packets, &service)?;
+    let served = repair_step(alloc, &mut world.services[at])?;
+    Ok(tell(&mut world.packets, service, served))
+}
+
+fn abandon(world: &mut Parts, service: Name, flight: u64) -> Result<Happened, WorldStepRefused>
+    ensures { Turns (turn (seen world.old) (Event.Abandon service flight)) (seen world.old) result (seen world.new) }
+{
+    let at = ready(&world.services, &mut world.packets, &service)?;
+    match crate::orders::abandon(&mut world.services[at], flight) {
+        None => Err(WorldStepRefused::NoFlight(flight)),
+        Some(served) => Ok(tell(&mut world.packets, service, served)),
+    }
+}
+
+// Both services are to be there.
+fn post(
+    alloc: Global,
+    world: &mut Parts,
+    from: Name,
+    to: Name,
+) -> Result<Happened, WorldStepRefused>
+    ensures turns { Turns (turn (seen world.old) (Event.Post from to)) (seen world.old) result (seen world.new) }
+    ensures well { PostsWell (seen world.old) (Event.Post from to) }
+{
+    let Some(at) = place_beside(&world.services, &from, &to) else {
+        return Err(WorldStepRefused::NoService);
+    };
+    let served = next_post(alloc, &world.services[at], &to)?;
+    world.packets.reserve()?;
+    Ok(tell(&mut world.packets, from, served))
 }
 
 fn was_set() -> Happened
@@ -120,28 +103,30 @@ fn was_set() -> Happened
 }
 
 // A moment later than the last is the last.
-fn set_clock(world: &mut World, moment: u64) -> Result<Happened, WorldStepRefused>
-    ensures { Turns (turn world.old (Event.Clock moment)) world.old result world.new }
+fn set_clock(world: &mut Parts, moment: u64) -> Result<Happened, WorldStepRefused>
+    ensures { Turns (turn (seen world.old) (Event.Clock moment)) (seen world.old) result (seen world.new) }
 {
-    world.set_moment(moment);
+    world.environment.set_moment(moment);
     Ok(was_set())
 }
 
 // Random words go on behind this number modulo 65,537.
-fn set_seed(world: &mut World, n: u64) -> Result<Happened, WorldStepRefused>
-    ensures { Turns (turn world.old (Event.Seed n)) world.old result world.new }
+fn set_seed(world: &mut Parts, n: u64) -> Result<Happened, WorldStepRefused>
+    ensures { Turns (turn (seen world.old) (Event.Seed n)) (seen world.old) result (seen world.new) }
 {
-    world.set_word(n);
+    world.environment.set_word(n);
     Ok(was_set())
 }
 
 /// An event happens, or is refused. For want of memory nothing changes.
-pub fn world_step(
+pub(crate) fn happen(
     alloc: Global,
-    world: &mut World,
+    world: &mut Parts,
     event: Event,
 ) -> Result<Happened, WorldStepRefused>
-    ensures { Turns (turn world.old event) world.old result world.new }
+    requires { IsClosed (seen world.old) }
+    ensures turns { Turns (turn (seen world.old) event) (seen world.old) result (seen world.new) }
+    ensures well { PostsWell (seen world.old) event }
 {
     match event {
         Event::Begin { service, request } => begin(alloc, world, service, request),
@@ -149,7 +134,7 @@ pub fn world_step(
         Event::Lose(number) => lose(alloc, world, number),
         Event::Post { from, to } => post(alloc, world, from, to),
         Event::Step { service } => step(alloc, world, service),
-        Event::Abandon { service, flight } => abandon(alloc, world, service, flight),
+        Event::Abandon { service, flight } => abandon(world, service, flight),
         Event::Order {
             service,
             command,

@@ -1,84 +1,117 @@
 // Exchanges that fail.
-ghost use Rattle.std.specs.Prelude.{◌≡◌, IfOk};
-ghost use Rattle.std.specs.Option.{option_copied};
-ghost use Rattle.world_core.specs.Plans.{Planned, call_loss, loss, packet_loss, post_loss};
+ghost use Rattle.std.specs.Prelude.{◌≡◌, ℕ, List, Some};
+ghost use Rattle.world_events.specs.Ends.{IsClosed, beginner};
+ghost use Rattle.world_events.specs.Events.{call_lost, lost, post_lost, sender, turn};
+ghost use Rattle.world_events.specs.Turns.{Turns};
+ghost use Rattle.world_events.specs.declared.event.Event.{Event};
+ghost use Rattle.world_events.specs.declared.packet.Packet.{Packet};
+ghost use Rattle.repair_messages.specs.declared.messages.SetMessage.{SetMessage};
+ghost use Rattle.world_core.specs.Acting.{Acts, seen};
 
-use crate::acts::Act;
 use crate::deliveries::sender;
 use crate::environment::Environment;
-use crate::plan::Plan;
-use crate::planning::or_lacks;
+use crate::messages::posted;
+use crate::packets::Packets;
+use crate::parts::{Parts, located, tell};
+use crate::requests::call_failed;
+use crate::served::Served;
 use call_registers::Why;
-use lang_core::{Copied, Name, NoMemory};
-use repair_messages::{Post, SetMessage, copied_pair};
+use lang_core::Name;
+use repair_messages::Post;
+use service_core::Service;
 use service_events::PostReply;
 use std::alloc::Global;
-use world_events::{Packet, WorldStepRefused};
+use world_events::{Happened, Packet, WorldStepRefused};
 
-// The live call of this flight of the service of this name failed.
+// The service that began the exchange.
+fn beginner(packet: &Packet) -> &Name
+    ensures { result.now ≡ beginner packet.now }
+{
+    match packet {
+        Packet::Call { from, .. } => from,
+        Packet::CallReply { to, .. } => to,
+        Packet::Post(post) => sender(post),
+        Packet::PostReply { post, .. } => sender(post),
+    }
+}
+
+// The live call of this number, of this flight, failed.
 fn lose_call(
     alloc: Global,
-    environment: &Environment,
-    name: &Name,
+    service: &mut Service,
+    packets: &Packets,
+    environment: &mut Environment,
     flight: u64,
-    set: &SetMessage,
-) -> Result<Plan, NoMemory>
-    ensures { IfOk result (λ plan. plan ≡ call_loss environment.now name.now flight set.now) }
+    number: u64,
+) -> Result<Served, WorldStepRefused>
+    ensures { (name : List ℕ) (set : SetMessage) → set.number ≡ number
+        → Acts (λ w. call_lost w name flight set) name packets.now.list service.old environment.old result service.new environment.new }
 {
-    let name = name.copied(alloc)?;
-    Ok(Plan {
-        name,
-        act: Act::Failed {
-            flight,
-            number: set.number,
-            why: Why::Lost(environment.note()),
-        },
-        environment: environment.behind_lost(),
-    })
+    let note = environment.note();
+    let served = call_failed(alloc, service, packets, flight, number, Why::Lost(note))?;
+    environment.lose(note);
+    Ok(served)
 }
 
 // The exchange of this post failed.
-fn lose_post(alloc: Global, environment: &Environment, post: &Post) -> Result<Plan, NoMemory>
-    ensures { IfOk result (λ plan. plan ≡ post_loss environment.now post.now) }
-{
-    let (name, post) = copied_pair(alloc, sender(post), post)?;
-    Ok(Plan {
-        name,
-        act: Act::GetBack {
-            post,
-            reply: PostReply::Lost(environment.note()),
-        },
-        environment: environment.behind_lost(),
-    })
-}
-
-fn lose_packet(alloc: Global, environment: &Environment, packet: &Packet) -> Result<Plan, NoMemory>
-    ensures { IfOk result (λ plan. plan ≡ packet_loss environment.now packet.now) }
-{
-    match packet {
-        Packet::Call { from, flight, set } => lose_call(alloc, environment, from, *flight, set),
-        Packet::CallReply {
-            to,
-            flight,
-            set,
-            ..
-        } => lose_call(alloc, environment, to, *flight, set),
-        Packet::Post(post) => lose_post(alloc, environment, post),
-        Packet::PostReply { post, .. } => lose_post(alloc, environment, post),
-    }
-}
-
-/// The service that began the exchange of the packet of this number, if there is one, learns that the exchange failed.
-pub fn plan_loss(
+fn lose_post(
     alloc: Global,
-    environment: &Environment,
-    number: u64,
-    packet: Option<&Packet>,
-) -> Result<Plan, WorldStepRefused>
-    ensures { Planned (loss environment.now number (option_copied packet.entry)) result }
+    service: &mut Service,
+    environment: &mut Environment,
+    post: &Post,
+) -> Result<Served, WorldStepRefused>
+    ensures { (packets : List Packet)
+        → Acts (λ w. post_lost w post.now) (sender post.now) packets service.old environment.old result service.new environment.new }
+{
+    let note = environment.note();
+    let served = posted(alloc, service, post, PostReply::Lost(note))?;
+    environment.lose(note);
+    Ok(served)
+}
+
+// The exchange of this packet, which this service began, failed.
+fn lose_at(
+    alloc: Global,
+    service: &mut Service,
+    packets: &Packets,
+    environment: &mut Environment,
+    packet: &Packet,
+) -> Result<Served, WorldStepRefused>
+    ensures { (number : ℕ)
+        → Acts (λ w. lost w number (Some packet.now)) (beginner packet.now) packets.now.list service.old environment.old result service.new environment.new }
 {
     match packet {
-        None => Err(WorldStepRefused::NoPacket(number)),
-        Some(packet) => or_lacks(lose_packet(alloc, environment, packet)),
+        Packet::Call { flight, set, .. } => {
+            lose_call(alloc, service, packets, environment, *flight, set.number)
+        }
+        Packet::CallReply { flight, set, .. } => {
+            lose_call(alloc, service, packets, environment, *flight, set.number)
+        }
+        Packet::Post(post) => lose_post(alloc, service, environment, post),
+        Packet::PostReply { post, .. } => lose_post(alloc, service, environment, post),
     }
+}
+
+/// The service that began the exchange of the packet of this number learns that the exchange failed.
+pub(crate) fn lose(
+    alloc: Global,
+    world: &mut Parts,
+    number: u64,
+) -> Result<Happened, WorldStepRefused>
+    requires { IsClosed (seen world.old) }
+    ensures { Turns (turn (seen world.old) (Event.Lose number)) (seen world.old) result (seen world.new) }
+{
+    world.packets.reserve()?;
+    let Some(packet) = world.packets.get(number) else {
+        return Err(WorldStepRefused::NoPacket(number));
+    };
+    let (at, name) = located(alloc, &world.services, beginner(packet))?;
+    let served = lose_at(
+        alloc,
+        &mut world.services[at],
+        &world.packets,
+        &mut world.environment,
+        packet,
+    )?;
+    Ok(tell(&mut world.packets, name, served))
 }

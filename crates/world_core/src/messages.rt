@@ -1,9 +1,9 @@
 // Messages that repair come to a service of a world.
-ghost use Rattle.std.specs.Prelude.{◌≡◌};
-ghost use Rattle.world_events.specs.Events.{takes, hears, gets_back, set_reply, answer_reply};
-ghost use Rattle.world_core.specs.Made.{Serves};
+ghost use Rattle.std.specs.Prelude.{◌≡◌, IfOk};
+ghost use Rattle.world_events.specs.Events.{take_served, take_answer_served, posted_served, set_reply, answer_reply};
+ghost use Rattle.world_core.specs.Acting.{Serves};
 
-use crate::made::Made;
+use crate::served::Served;
 use lang_core::{Copied, Inputs, NoMemory};
 use repair_messages::{AnswerMessage, Post, SetMessage};
 use service_core::Service;
@@ -39,17 +39,17 @@ fn answer_refusal(why: AnswerRefused) -> PostReply
 }
 
 /// A version of another service's call comes by a message.
-pub fn take(
+pub(crate) fn take(
     alloc: Global,
     service: &mut Service,
-    set: SetMessage,
+    set: &SetMessage,
     inputs: Inputs,
-) -> Result<Made, NoMemory>
-    ensures { Serves (takes set service.old inputs) service.old result service.new }
+) -> Result<Served, NoMemory>
+    ensures { Serves (take_served set.now service.old inputs) service.old result service.new }
 {
     let post = Post::Set(set.copied(alloc)?);
     match service.take(alloc, set, inputs) {
-        Ok(taken) => Ok(Made {
+        Ok(taken) => Ok(Served {
             what: What::Take(Ok(taken.rule)),
             packet: Some(Packet::PostReply {
                 post,
@@ -57,7 +57,7 @@ pub fn take(
             }),
         }),
         Err(TakeRefused::NoMemory) => Err(NoMemory),
-        Err(why) => Ok(Made {
+        Err(why) => Ok(Served {
             what: What::Take(Err(why)),
             packet: Some(Packet::PostReply {
                 post,
@@ -68,12 +68,16 @@ pub fn take(
 }
 
 /// An answer to a call comes by a message.
-pub fn hear(alloc: Global, service: &mut Service, answer: AnswerMessage) -> Result<Made, NoMemory>
-    ensures { Serves (hears answer service.old) service.old result service.new }
+pub(crate) fn take_answer(
+    alloc: Global,
+    service: &mut Service,
+    answer: &AnswerMessage,
+) -> Result<Served, NoMemory>
+    ensures { Serves (take_answer_served answer.now service.old) service.old result service.new }
 {
     let post = Post::Answer(answer.copied(alloc)?);
     match service.take_answer(alloc, answer) {
-        Ok(heard) => Ok(Made {
+        Ok(heard) => Ok(Served {
             what: What::TakeAnswer(Ok(heard.rule)),
             packet: Some(Packet::PostReply {
                 post,
@@ -81,7 +85,7 @@ pub fn hear(alloc: Global, service: &mut Service, answer: AnswerMessage) -> Resu
             }),
         }),
         Err(AnswerRefused::NoMemory) => Err(NoMemory),
-        Err(why) => Ok(Made {
+        Err(why) => Ok(Served {
             what: What::TakeAnswer(Err(why)),
             packet: Some(Packet::PostReply {
                 post,
@@ -91,20 +95,47 @@ pub fn hear(alloc: Global, service: &mut Service, answer: AnswerMessage) -> Resu
     }
 }
 
+fn copied_reply(alloc: Global, reply: &PostReply) -> Result<PostReply, NoMemory>
+    ensures { IfOk result (λ copy. copy ≡ reply.now) }
+{
+    match reply {
+        PostReply::Acked(ack) => Ok(PostReply::Acked(ack.copied(alloc)?)),
+        PostReply::Confirmed(confirm) => Ok(PostReply::Confirmed(confirm.copied(alloc)?)),
+        PostReply::Refused { word, number } => Ok(PostReply::Refused {
+            word: *word,
+            number: *number,
+        }),
+        PostReply::Lost(note) => Ok(PostReply::Lost(*note)),
+    }
+}
+
 /// Something comes back of a post.
-pub fn get_back(
+pub(crate) fn posted(
     alloc: Global,
     service: &mut Service,
     post: &Post,
     reply: PostReply,
-) -> Result<Made, NoMemory>
-    ensures { Serves (gets_back post.now reply service.old) service.old result service.new }
+) -> Result<Served, NoMemory>
+    ensures { Serves (posted_served post.now reply service.old) service.old result service.new }
 {
     match service.posted(alloc, post, reply) {
         Err(PostRefused::NoMemory) => Err(NoMemory),
-        posted => Ok(Made {
+        posted => Ok(Served {
             what: What::Posted(posted),
             packet: None,
         }),
     }
+}
+
+/// A packet comes that brings what comes back of a post.
+pub(crate) fn posted_reply(
+    alloc: Global,
+    service: &mut Service,
+    post: &Post,
+    reply: &PostReply,
+) -> Result<Served, NoMemory>
+    ensures { Serves (posted_served post.now reply.now service.old) service.old result service.new }
+{
+    let reply = copied_reply(alloc, reply)?;
+    posted(alloc, service, post, reply)
 }

@@ -1,12 +1,14 @@
 // Live requests of a service, in its world.
 ghost use Rattle.std.specs.Prelude.{◌≡◌, List, IfOk};
 ghost use Rattle.service_events.specs.State.{me};
-ghost use Rattle.world_events.specs.Events.{begun, called, answered, failed, live_refusal};
+ghost use Rattle.world_events.specs.Events.{call_answered_served, arrive_served, call_arrive_served, call_failed_served};
 ghost use Rattle.world_events.specs.declared.packet.Packet.{Packet};
-ghost use Rattle.world_core.specs.Made.{Serves};
+ghost use Rattle.service_core.specs.Failures.{IsFailure};
+ghost use Rattle.world_core.specs.Acting.{Serves};
 
 use crate::backs::{Back, ends_of, outcome_of, reply, sent};
-use crate::made::Made;
+use crate::packets::Packets;
+use crate::served::Served;
 use call_registers::Why;
 use lang_base::both;
 use lang_core::{Copied, Inputs, Name, NoMemory, Origin, Request};
@@ -14,102 +16,109 @@ use repair_messages::{AnswerMessage, SetMessage, copied_pair};
 use service_core::Service;
 use service_events::{ArriveRefused, CallRefused};
 use std::alloc::Global;
-use world_events::{Live, Packet, What};
+use world_events::{Live, What};
 
 /// A request comes from outside. Whatever packets there are, its answer goes back to none of their senders.
-pub fn begin(
+pub(crate) fn arrive(
     alloc: Global,
     service: &mut Service,
     request: Request,
     inputs: Inputs,
-) -> Result<Made, NoMemory>
-    ensures { (packets : List Packet) → Serves (begun packets request service.old inputs) service.old result service.new }
+) -> Result<Served, NoMemory>
+    ensures { (packets : List Packet) → Serves (arrive_served packets request service.old inputs) service.old result service.new }
 {
     let from = service.setting().me.copied(alloc)?;
     match service.arrive(alloc, Origin::Outside, request, inputs) {
-        Ok(arrived) => Ok(Made {
+        Ok(arrived) => Ok(Served {
             what: What::Arrive(Ok(outcome_of(&arrived))),
             packet: sent(from, None, arrived),
         }),
         Err(ArriveRefused::NoMemory) => Err(NoMemory),
-        Err(why) => Ok(Made {
+        Err(why) => Ok(Served {
             what: What::Arrive(Err(why)),
             packet: None,
         }),
     }
 }
 
-fn live_refusal(why: ArriveRefused) -> Live
-    ensures { result ≡ live_refusal why }
+// The service's name, and the caller's.
+fn names(alloc: Global, service: &Service, caller: &Name) -> Result<(Name, Name), NoMemory>
+    ensures from { IfOk result (λ names. names.0 ≡ me service.now) }
+    ensures caller { IfOk result (λ names. names.1 ≡ caller.now) }
 {
-    match why {
-        ArriveRefused::NoMemory => Live::Refused { word: 1, number: 0 },
-        ArriveRefused::Full(count) => Live::Refused {
-            word: 2,
-            number: count,
-        },
-        ArriveRefused::NotYet(number) => Live::Refused { word: 3, number },
-        ArriveRefused::Gone(version) => Live::Refused {
-            word: 4,
-            number: version,
-        },
-    }
+    copied_pair(alloc, &service.setting().me, caller)
 }
 
-// The service's name, and the caller's twice.
-fn names(alloc: Global, service: &Service, caller: &Name) -> Result<(Name, (Name, Name)), NoMemory>
-    ensures from { IfOk result (λ names. names.0 ≡ me service.now) }
-    ensures to { IfOk result (λ names. (names.1.0 ≡ caller.now) × (names.1.1 ≡ caller.now)) }
+// The flight that sent a live call.
+fn back_of(alloc: Global, flight: u64, set: &SetMessage) -> Result<Back, NoMemory>
+    ensures { IfOk result (λ back. back ≡ record { to = set.now.caller; flight = flight; set = set.now }) }
 {
-    let name = service.setting().me.copied(alloc);
-    both(name, copied_pair(alloc, caller, caller))
+    let (to, set) = copied_pair(alloc, &set.caller, set)?;
+    Ok(Back { to, flight, set })
+}
+
+// What its arrival, and the packet that answers it, are made of: the service's name and the caller's, to whom the answer
+// goes back, and what it asks.
+fn call_copies(
+    alloc: Global,
+    service: &Service,
+    flight: u64,
+    set: &SetMessage,
+    request: &Request,
+) -> Result<((Name, Name), (Back, Request)), NoMemory>
+    ensures from { IfOk result (λ copies. copies.0.0 ≡ me service.now) }
+    ensures caller { IfOk result (λ copies. copies.0.1 ≡ set.now.caller) }
+    ensures back { IfOk result (λ copies. copies.1.0 ≡ record { to = set.now.caller; flight = flight; set = set.now }) }
+    ensures request { IfOk result (λ copies. copies.1.1 ≡ request.now) }
+{
+    let copies = both(back_of(alloc, flight, set), request.copied(alloc));
+    both(names(alloc, service, &set.caller), copies)
 }
 
 /// A live call of another service's flight comes, which asks this.
-pub fn call(
+pub(crate) fn arrive_as_call(
     alloc: Global,
     service: &mut Service,
     flight: u64,
-    set: SetMessage,
-    request: Request,
+    set: &SetMessage,
+    request: &Request,
     inputs: Inputs,
-) -> Result<Made, NoMemory>
-    ensures { Serves (called flight set request service.old inputs) service.old result service.new }
+) -> Result<Served, NoMemory>
+    ensures { Serves (call_arrive_served flight set.now request.now service.old inputs) service.old result service.new }
 {
-    let (from, (caller, to)) = names(alloc, service, &set.caller)?;
+    let ((from, caller), (back, request)) = call_copies(alloc, service, flight, set, request)?;
     let number = set.number;
-    let back = Back { to, flight, set };
     match service.arrive(alloc, Origin::Call { caller, number }, request, inputs) {
-        Ok(arrived) => Ok(Made {
+        Ok(arrived) => Ok(Served {
             what: What::Arrive(Ok(outcome_of(&arrived))),
             packet: sent(from, Some(back), arrived),
         }),
         Err(ArriveRefused::NoMemory) => Err(NoMemory),
-        Err(why) => Ok(Made {
+        Err(why) => Ok(Served {
             what: What::Arrive(Err(why)),
-            packet: Some(reply(back, live_refusal(why))),
+            packet: Some(reply(back, Live::refused(why))),
         }),
     }
 }
 
 /// The call for which a flight waits was answered. Where the flight is a call itself, these packets tell whose.
-pub fn answered(
+pub(crate) fn call_answered(
     alloc: Global,
     service: &mut Service,
-    packets: &[Packet],
+    packets: &Packets,
     flight: u64,
-    answer: AnswerMessage,
-) -> Result<Made, NoMemory>
-    ensures { Serves (answered packets.now flight answer service.old) service.old result service.new }
+    answer: &AnswerMessage,
+) -> Result<Served, NoMemory>
+    ensures { Serves (call_answered_served packets.now.list flight answer.now service.old) service.old result service.new }
 {
     let (from, back) = ends_of(alloc, packets, service, flight)?;
     match service.call_answered(alloc, flight, answer) {
-        Ok(arrived) => Ok(Made {
+        Ok(arrived) => Ok(Served {
             what: What::CallAnswered(Ok(outcome_of(&arrived))),
             packet: sent(from, back, arrived),
         }),
         Err(CallRefused::NoMemory) => Err(NoMemory),
-        Err(why) => Ok(Made {
+        Err(why) => Ok(Served {
             what: What::CallAnswered(Err(why)),
             packet: None,
         }),
@@ -117,24 +126,25 @@ pub fn answered(
 }
 
 /// The call of this number failed. Where its flight is a call itself, these packets tell whose.
-pub fn failed(
+pub(crate) fn call_failed(
     alloc: Global,
     service: &mut Service,
-    packets: &[Packet],
+    packets: &Packets,
     flight: u64,
     number: u64,
     why: Why,
-) -> Result<Made, NoMemory>
-    ensures { Serves (failed packets.now flight number why service.old) service.old result service.new }
+) -> Result<Served, NoMemory>
+    requires { IsFailure why }
+    ensures { Serves (call_failed_served packets.now.list flight number why service.old) service.old result service.new }
 {
     let (from, back) = ends_of(alloc, packets, service, flight)?;
     match service.call_failed(alloc, flight, number, why) {
-        Ok(arrived) => Ok(Made {
+        Ok(arrived) => Ok(Served {
             what: What::CallFailed(Ok(outcome_of(&arrived))),
             packet: sent(from, back, arrived),
         }),
         Err(CallRefused::NoMemory) => Err(NoMemory),
-        Err(why) => Ok(Made {
+        Err(why) => Ok(Served {
             what: What::CallFailed(Err(why)),
             packet: None,
         }),

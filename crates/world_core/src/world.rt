@@ -1,63 +1,57 @@
 // A world.
-ghost use Rattle.std.specs.Prelude.{◌≡◌, ◌%◌, min, option_map};
-ghost use Rattle.std.specs.Option.{option_copied};
-ghost use Rattle.world_events.specs.Worlds.{fresh_world, packet_in, packet_of};
+ghost use Rattle.std.specs.Prelude.{◌≡◌, option_map};
+ghost use Rattle.lang_base.specs.Memory.{Unless, lacks};
+ghost use Rattle.world_events.specs.Events.{turn};
+ghost use Rattle.world_events.specs.Reach.{AnswersBy, ArePeered, missing};
+ghost use Rattle.world_events.specs.Turns.{Turns, world_memory};
+ghost use Rattle.world_events.specs.Worlds.{fresh_world};
 ghost use Rattle.world_agreement.specs.Partners.{NamesDiffer, service_of};
-ghost use Rattle.world_core.specs.Environments.{environment_of};
-ghost use Rattle.world_core.specs.Plans.{carried};
-ghost use Rattle.world_events.specs.Turns.{Turns};
 
 use crate::environment::Environment;
-use crate::plan::Plan;
-use crate::turns::turn;
+use crate::events::happen;
+use crate::packets::Packets;
+use crate::parts::Parts;
 use lang_core::{Name, Same};
 use service_core::Service;
 use std::alloc::Global;
 use std::marker::Model;
-use world_events::{Happened, Packet, WorldStepRefused};
+use world_events::{Event, Happened, Packet, WorldStepRefused};
 
-/// A world: its services, whose names differ, all packets that were ever written, and what it is given from outside.
+/// A world: its services, all packets that were ever written, and what it is given from outside. Its type keeps that names
+/// differ, that the peers of each service are there, and so are the service that gets a packet and the one that began its
+/// exchange.
 #[derive(Drop)]
 pub struct World {
-    services: Vec<Service>,
-    packets: Vec<Packet>,
-    environment: Environment,
+    parts: Parts,
 }
 
 impl Model for World {
+    ghost use Rattle.world_events.specs.Ends.{IsClosed};
     ghost use Rattle.world_events.specs.Worlds.{World, world_code};
-    ghost use Rattle.world_agreement.specs.Partners.{NamesDiffer};
+    ghost use Rattle.world_core.specs.Acting.{seen};
 
     ghost Value = { World };
 
     ghost coded = { world_code };
 
-    ghost view = { λ w. record { services = w.services.items; packets = w.packets.items; moment = w.environment.moment; x = w.environment.x; losses = w.environment.losses } };
+    ghost view = { λ w. seen w.parts };
 
-    ghost invariant = { λ w. NamesDiffer w.services.items };
-}
-
-// Packets are numbered from 1.
-fn packet_in(packets: &[Packet], number: u64) -> Option<&Packet>
-    ensures { option_copied result ≡ packet_in number packets.now }
-{
-    if number == 0 {
-        return None;
-    }
-    packets.get((number - 1) as usize)
+    ghost invariant = { λ w. IsClosed (seen w.parts) };
 }
 
 impl World {
     /// The world of these services: no packets, moment 0, the word 1 before the first, and no losses.
     pub fn new(alloc: Global, services: Vec<Service>) -> World
-        requires { NamesDiffer services.items }
+        requires differ { NamesDiffer services.items }
+        requires peered { ArePeered services.items }
         ensures { result ≡ fresh_world services.items }
     {
-        World {
+        let parts = Parts {
             services,
-            packets: Vec::new(alloc),
+            packets: Packets::new(alloc),
             environment: Environment::new(),
-        }
+        };
+        World { parts }
     }
 
     /// Its services, in order.
@@ -65,21 +59,22 @@ impl World {
         ensures services { result.now ≡ self.now.services }
         ensures differ { NamesDiffer self.now.services }
     {
-        &self.services
+        &self.parts.services
     }
 
     /// Its services, for good.
     pub fn into_services(self) -> Vec<Service>
         ensures { result.items ≡ self.services }
     {
-        self.services
+        self.parts.services
     }
 
     /// The service of this name, if there is one.
     pub fn service(&self, name: &Name) -> Option<&Service>
         ensures { option_map (λ s. s.now) result ≡ service_of name.now self.now.services }
     {
-        self.services
+        self.parts
+            .services
             .iter()
             .find(|service| service.setting().me.text().is(name.text()))
     }
@@ -88,60 +83,19 @@ impl World {
     pub fn packets(&self) -> &[Packet]
         ensures { result.now ≡ self.now.packets }
     {
-        &self.packets
+        self.parts.packets.as_slice()
     }
+}
 
-    /// The packet of this number; None exactly where none has it.
-    pub(crate) fn packet(&self, number: u64) -> Option<&Packet>
-        ensures { option_copied result ≡ packet_of number self.now }
-    {
-        packet_in(&self.packets, number)
-    }
-
-    /// What it is given from outside.
-    pub(crate) fn environment(&self) -> &Environment
-        ensures { result.now ≡ environment_of self.now }
-    {
-        &self.environment
-    }
-
-    /// Sets the clock; a moment later than the last is the last.
-    pub(crate) fn set_moment(&mut self, moment: u64)
-        ensures { self.new ≡ record self.old { moment = min moment 9223372036854775807 } }
-    {
-        self.environment.set_moment(moment);
-    }
-
-    /// Random words go on behind this number modulo 65,537.
-    pub(crate) fn set_word(&mut self, n: u64)
-        ensures { self.new ≡ record self.old { x = n % 65537 } }
-    {
-        self.environment.set_word(n);
-    }
-
-    /// Carries a plan out. Refused, nothing changes.
-    pub(crate) fn carry_out(
-        &mut self,
-        alloc: Global,
-        plan: Plan,
-    ) -> Result<Happened, WorldStepRefused>
-        ensures { Turns (carried self.old plan) self.old result self.new }
-    {
-        let Plan {
-            name,
-            act,
-            environment,
-        } = plan;
-        match turn(alloc, &mut self.services, &mut self.packets, &name, act) {
-            Err(why) => Err(why),
-            Ok(told) => {
-                self.environment = environment;
-                Ok(Happened {
-                    service: Some(name),
-                    what: told.what,
-                    packet: told.packet,
-                })
-            }
-        }
-    }
+/// An event happens. It is refused exactly where it names a service, a packet or a flight that isn't there, or for want of
+/// memory; then nothing changes.
+pub fn world_step(
+    alloc: Global,
+    world: &mut World,
+    event: Event,
+) -> Result<Happened, WorldStepRefused>
+    ensures turns { Turns (turn world.old event) world.old result world.new }
+    ensures named { Unless (lacks world_memory result) (AnswersBy (missing world.old event) result) (Unit {0}) }
+{
+    happen(alloc, &mut world.parts, event)
 }

@@ -7,8 +7,8 @@ use Rattle.lang_core.specs.declared.ids.Origin.TheVariants.{Outside, Call}
 use Rattle.lang_core.specs.declared.inputs.Inputs.{Inputs}
 use Rattle.lang_core.specs.declared.request.Request.{Request}
 use Rattle.request_log.specs.Entries.{find_call}
+use Rattle.request_log.specs.Records.{Record, record_of}
 use Rattle.request_log.specs.declared.entry.Entry.{Entry}
-use Rattle.request_log.specs.declared.entry.Made.{Made}
 use Rattle.repair_messages.specs.declared.messages.AnswerMessage.{AnswerMessage}
 use Rattle.journal_rows.specs.Words.{last_taken}
 use Rattle.journal_rows.specs.declared.callee.TookRow.{TookRow}
@@ -16,7 +16,7 @@ use Rattle.call_registers.specs.declared.register.Why.{Why}
 use Rattle.flights.specs.Numbers.{has_flight, without_flight}
 use Rattle.flights.specs.declared.flight.Flight.{Flight}
 use Rattle.service_events.specs.State.{Kept, After, after, me, or_else, is_crowded, is_heavy, is_in_flight, flight_of}
-use Rattle.service_events.specs.Arriving.{accepted, new_flight, admitted, known_by, arrives_or_known, by_version, unless_gone, arrive_event, is_for, heard_rows, answered_flight, call_answered_event, told, failed_flight, call_failed_event}
+use Rattle.service_events.specs.Arriving.{accepted, new_flight, admitted, known_by, arrives_or_known, by_version, unless_gone, arrive_event, is_for, live_answer_rows, answered_flight, call_answered_event, told, failed_flight, call_failed_event}
 use Rattle.service_events.specs.Calls.{noted}
 use Rattle.service_events.specs.Flying.{awaited, goes_on}
 use Rattle.service_events.specs.declared.answers.Arrived.{Arrived}
@@ -65,7 +65,7 @@ module _ (names : List (List ℕ)) (s : Kept) (came k : ℕ) (is : came ≡ 19 *
   refused_light : (why : ArriveRefused) → Lightens names s came (after s (Err why))
   refused_light why = (refl, omega (arith, is))
 
-  known_light : (caller : List ℕ) (number : ℕ) (e : Entry) (m : Option Made) → Lightens names s came (known_by s caller number e m)
+  known_light : (caller : List ℕ) (number : ℕ) (e : Entry) (m : Option Record) → Lightens names s came (known_by s caller number e m)
   known_light caller number e None = (refl, omega (arith, is))
   known_light caller number e (Some m) = (refl, omega (arith, is))
 
@@ -85,7 +85,7 @@ module _ (names : List (List ℕ)) (s : Kept) (q : Request) (i : Inputs) where
 
   arrives_or_known_light : (came : ℕ) → came ≡ 19 * behind + 2 → (caller : List ℕ) (number : ℕ) (e : Option Entry)
       → Lightens names s came (arrives_or_known s caller number q i e)
-  arrives_or_known_light came is caller number (Some e) = known_light names s came behind is caller number e e.made
+  arrives_or_known_light came is caller number (Some e) = known_light names s came behind is caller number e (record_of e)
   arrives_or_known_light came is caller number None = admitted_light came is (Call caller number) (or_else (is_crowded s) (is_heavy s))
 
   unless_gone_light : (came : ℕ) → came ≡ 19 * behind + 2 → (t : Option TookRow) (known : After (Result Arrived ArriveRefused)) → Lightens names s came known
@@ -154,7 +154,7 @@ returns_if names s id false a h = refused_return names s (NoFlight id)
 answered_returns : (names : List (List ℕ)) (s : Kept) (id : ℕ) (a : AnswerMessage) (o : Option Flight) → flight_of id s ≡ o → Returns names s (answered_flight s id a o)
 answered_returns names s id a None e = refused_return names s (NoFlight id)
 answered_returns names s id a (Some f) e =
-    let t = noted (heard_rows s a) s in
+    let t = noted (live_answer_rows s a) s in
     returns_if names s id (is_for s a f) (accepted (goes_on t f)) (returns_on names s t id f refl refl e)
 
 -- the answer of a call

@@ -37,8 +37,10 @@ use Rattle.service_entry_laws.proofs.SearchLemmas.{text_is, splits}
 use Rattle.service_call_laws.proofs.RowLemmas.{Each, each_append}
 use Rattle.world_delivery_laws.specs.Weights.{is_among, chain_behind}
 
--- a call that a service with these peers makes for a request
+-- a call that a service with these peers makes for a request: for itself, with the chain of the request and its own name behind it, to a peer that
+-- is no service of that chain
 pub record IsOnward (name : List ℕ) (peers : List (List ℕ)) (q : Request) (c : CallMade) : Type 0 where
+  pub who : c.request.who ≡ name
   pub chain : c.request.chain ≡ chain_behind name q
   pub fresh : is_among c.dest (chain_behind name q) ≡ false
   pub peer : Contains peers c.dest
@@ -221,7 +223,7 @@ module _ {g : Given} where
       let c : CallMade = record { dest = peer; request = call_request g m path body } in
       let P : List ℕ → Type 0 = λ d. is_among d (chain_behind g.me g.request) ≡ false in
       let there : Contains g.peers peer = subst (λ ps. Contains ps peer) (sym found.is) (in_middle found.before peer found.rest) in
-      let ours : Ours g c = record { chain = refl; fresh = subst P (sym named) (not_among g dest none); peer = there } in
+      let ours : Ours g c = record { who = refl; chain = refl; fresh = subst P (sym named) (not_among g dest none); peer = there } in
       inside (nat_lt (length s.calls) 16) s _ h (takes (slice_get g.answers (length s.calls)) x y c s ours h)
 
   calls_to : (b : Bool) (x y dest : List ℕ) (m : Method) (path body : List ℕ) (s : State) → is_loop g dest ≡ b → Each (Ours g) s.calls

@@ -20,7 +20,7 @@ use Rattle.service_events.specs.declared.answers.Arrived.TheVariants.{Done, Call
 use Rattle.service_events.specs.declared.refusals.ArriveRefused.{ArriveRefused}
 use Rattle.service_events.specs.declared.refusals.CallRefused.{CallRefused}
 use Rattle.service_entry_laws.proofs.SearchLemmas.{text_is, splits}
-use Rattle.world_events.specs.Events.{Served, Turn, answered_back, turn, turned, if_there, refused, sent, sent_or, reply_among, reply_to, called, answered, failed, delivered, call_delivered, reply_delivered, is_call_of, live_refusal, begun, drawing_at, unsaid}
+use Rattle.world_events.specs.Events.{Served, Turn, answered_back, turn, turned, if_there, refused, sent, sent_or, reply_among, reply_to, call_arrive_served, call_answered_served, call_failed_served, delivered, call_delivered, reply_delivered, is_call_of, live_refusal, arrive_served, drawing_at, unsaid}
 use Rattle.world_events.specs.Worlds.{World, with_service, packet_of, packet_in, next_packet, next_inputs, once_drawn}
 use Rattle.world_events.specs.declared.event.Event.TheVariants.{Begin, Deliver}
 use Rattle.world_events.specs.declared.event.WorldStepRefused.{WorldStepRefused}
@@ -33,7 +33,8 @@ use Rattle.world_agreement.specs.Partners.{has_name, service_of}
 use Rattle.world_delivery_laws.proofs.AskLaws.{arrive_lightens, call_answered_lightens, call_failed_lightens}
 use Rattle.world_delivery_laws.proofs.WeightLemmas.{cost_some}
 use Rattle.world_delivery_laws.specs.Weights.{is_among, load, cost, left_by, chain_behind, call_weight, message_weight, sent_weight, weight_of_arrival, weight_of_return}
-use Rattle.world_delivery_laws.specs.WorldWeights.{names_of, packet_weight, weight_if, in_hand, world_weight, written_at, IsInHand}
+use Rattle.world_delivery_laws.specs.InHand.{written_at, IsInHand}
+use Rattle.world_delivery_laws.proofs.WorldWeights.{names_of, packet_weight, weight_if, in_hand, world_weight}
 
 -- ---- packets
 
@@ -153,22 +154,22 @@ turn_falls w later name (Some s) act came services packets found some light why 
 
 -- ---- a live call comes
 
-called_weighs : (names : List (List ℕ)) (flight : ℕ) (set : SetMessage) (name : List ℕ) (answer : Result Arrived ArriveRefused)
+call_arrive_served_weighs : (names : List (List ℕ)) (flight : ℕ) (set : SetMessage) (name : List ℕ) (answer : Result Arrived ArriveRefused)
     → weight_if names (sent_or name (λ a. Some (CallReply set.caller flight set (Answer a))) (λ why. Some (CallReply set.caller flight set (live_refusal why))) answer)
     ≤ weight_of_arrival names answer
-called_weighs names flight set name (Ok arrived) = sent_light (λ a. Some (CallReply set.caller flight set (Answer a))) (λ ns a. omega arith) names name arrived
-called_weighs names flight set name (Err why) = omega arith
+call_arrive_served_weighs names flight set name (Ok arrived) = sent_light (λ a. Some (CallReply set.caller flight set (Answer a))) (λ ns a. omega arith) names name arrived
+call_arrive_served_weighs names flight set name (Err why) = omega arith
 
-called_light : (w : World) (flight : ℕ) (set : SetMessage) (q : Request) (s : Kept) → service_of set.dest w.services ≡ Some s
-    → Lightens (names_of w.services) (λ s. called flight set q s (next_inputs w)) (call_weight (names_of w.services) set.dest q) s
-called_light w flight set q s found =
+call_arrive_served_light : (w : World) (flight : ℕ) (set : SetMessage) (q : Request) (s : Kept) → service_of set.dest w.services ≡ Some s
+    → Lightens (names_of w.services) (λ s. call_arrive_served flight set q s (next_inputs w)) (call_weight (names_of w.services) set.dest q) s
+call_arrive_served_light w flight set q s found =
     let names = names_of w.services in
     let there = is_at set.dest w.services s found in
     let a = arrive_event s (CallOrigin set.caller set.number) q (next_inputs w) in
     let A : List ℕ → Type 0 = λ n. is_among n names ≡ true in
     let among = subst A (sym there.named) (found_among set.dest w.services s found) in
     let l = arrive_lightens names s q (next_inputs w) (CallOrigin set.caller set.number) among in
-    let weighs = called_weighs names flight set (me a.service) a.answer in
+    let weighs = call_arrive_served_weighs names flight set (me a.service) a.answer in
     let price : call_weight names (me s) q ≡ call_weight names set.dest q = ap (λ n. call_weight names n q) there.named in
     let less = l.1 in
     (l.0, omega (arith, weighs, price, less))
@@ -178,8 +179,8 @@ call_falls : (w : World) (k flight : ℕ) (set : SetMessage) (o : Option Request
     < sum_by (load (names_of w.services)) w.services + message_weight (names_of w.services) set o
 call_falls w k flight set None = omega arith
 call_falls w k flight set (Some q) =
-    turn_falls w (once_drawn w) set.dest (service_of set.dest w.services) (λ s. called flight set q s (next_inputs w)) (call_weight (names_of w.services) set.dest q) refl refl refl
-    (message_some (names_of w.services) set (Some q)) (called_light w flight set q) _
+    turn_falls w (once_drawn w) set.dest (service_of set.dest w.services) (λ s. call_arrive_served flight set q s (next_inputs w)) (call_weight (names_of w.services) set.dest q) refl refl refl
+    (message_some (names_of w.services) set (Some q)) (call_arrive_served_light w flight set q) _
 
 -- ---- something comes back of a live call
 
@@ -188,8 +189,8 @@ returned_weighs : (names : List (List ℕ)) (packets : List Packet) (name : List
 returned_weighs names packets name (Ok arrived) = sent_light (reply_among packets) (reply_light packets) names name arrived
 returned_weighs names packets name (Err why) = omega arith
 
-answered_light : (w : World) (flight : ℕ) (a : AnswerMessage) (s : Kept) → Lightens (names_of w.services) (answered w.packets flight a) 1 s
-answered_light w flight a s =
+call_answered_served_light : (w : World) (flight : ℕ) (a : AnswerMessage) (s : Kept) → Lightens (names_of w.services) (call_answered_served w.packets flight a) 1 s
+call_answered_served_light w flight a s =
     let names = names_of w.services in
     let e = call_answered_event s flight a in
     let l = call_answered_lightens names s flight a in
@@ -197,8 +198,8 @@ answered_light w flight a s =
     let less = l.1 in
     (l.0, omega (arith, weighs, less))
 
-failed_light : (w : World) (flight number : ℕ) (why : Why) (s : Kept) → Lightens (names_of w.services) (failed w.packets flight number why) 1 s
-failed_light w flight number why s =
+call_failed_served_light : (w : World) (flight number : ℕ) (why : Why) (s : Kept) → Lightens (names_of w.services) (call_failed_served w.packets flight number why) 1 s
+call_failed_served_light w flight number why s =
     let names = names_of w.services in
     let e = call_failed_event s flight number why in
     let l = call_failed_lightens names s flight number why in
@@ -209,9 +210,9 @@ failed_light w flight number why s =
 reply_falls : (w : World) (to : List ℕ) (flight : ℕ) (set : SetMessage) (reply : Live)
     → world_weight (reply_delivered w to flight set reply).world (written_at (reply_delivered w to flight set reply).answer) < sum_by (load (names_of w.services)) w.services + 1
 reply_falls w to flight set (Answer a) =
-    turn_falls w w to (service_of to w.services) (answered w.packets flight a) 1 refl refl refl (omega arith) (λ s found. answered_light w flight a s) _
+    turn_falls w w to (service_of to w.services) (call_answered_served w.packets flight a) 1 refl refl refl (omega arith) (λ s found. call_answered_served_light w flight a s) _
 reply_falls w to flight set (Refused word n) =
-    turn_falls w w to (service_of to w.services) (failed w.packets flight set.number _) 1 refl refl refl (omega arith) (λ s found. failed_light w flight set.number _ s) _
+    turn_falls w w to (service_of to w.services) (call_failed_served w.packets flight set.number _) 1 refl refl refl (omega arith) (λ s found. call_failed_served_light w flight set.number _ s) _
 
 packet_falls : (w : World) (k : ℕ) (p : Packet) → IsLivePacket p
     → world_weight (delivered w k (Some p)).world (written_at (delivered w k (Some p)).answer) < sum_by (load (names_of w.services)) w.services + packet_weight (names_of w.services) p
@@ -272,17 +273,17 @@ turn_live w later (Some s) name act why live = written_live later.packets (act s
 call_live : (w : World) (k flight : ℕ) (set : SetMessage) (o : Option Request) → HandsOn (call_delivered w k flight set o)
 call_live w k flight set None = tt
 call_live w k flight set (Some q) =
-    turn_live w (once_drawn w) (service_of set.dest w.services) set.dest (λ s. called flight set q s (next_inputs w)) _ (λ s.
+    turn_live w (once_drawn w) (service_of set.dest w.services) set.dest (λ s. call_arrive_served flight set q s (next_inputs w)) _ (λ s.
     let a = arrive_event s (CallOrigin set.caller set.number) q (next_inputs w) in
     sent_or_live (λ m. Some (CallReply set.caller flight set (Answer m))) (λ why. Some (CallReply set.caller flight set (live_refusal why))) (λ m. tt) (λ why. tt) (me a.service) a.answer)
 
 reply_live : (w : World) (to : List ℕ) (flight : ℕ) (set : SetMessage) (reply : Live) → HandsOn (reply_delivered w to flight set reply)
 reply_live w to flight set (Answer a) =
-    turn_live w w (service_of to w.services) to (answered w.packets flight a) _ (λ s.
+    turn_live w w (service_of to w.services) to (call_answered_served w.packets flight a) _ (λ s.
     let e = call_answered_event s flight a in
     sent_or_live (reply_among w.packets) (λ why. None) (λ m. reply_to_live m (find (is_call_of m.caller m.number) w.packets)) (λ why. tt) (me e.service) e.answer)
 reply_live w to flight set (Refused word n) =
-    turn_live w w (service_of to w.services) to (failed w.packets flight set.number (WasRefused word n)) _ (λ s.
+    turn_live w w (service_of to w.services) to (call_failed_served w.packets flight set.number (WasRefused word n)) _ (λ s.
     let e = call_failed_event s flight set.number (WasRefused word n) in
     sent_or_live (reply_among w.packets) (λ why. None) (λ m. reply_to_live m (find (is_call_of m.caller m.number) w.packets)) (λ why. tt) (me e.service) e.answer)
 
@@ -292,9 +293,9 @@ packet_live w k (CallReply to flight set reply) live = reply_live w to flight se
 packet_live w k (Post post) live = absurd live
 packet_live w k (PostReply post reply) live = absurd live
 
-begin_live : (w : World) (name : List ℕ) (q : Request) → HandsOn (drawing_at name w (begun w.packets q))
+begin_live : (w : World) (name : List ℕ) (q : Request) → HandsOn (drawing_at name w (arrive_served w.packets q))
 begin_live w name q =
-    turn_live w (once_drawn w) (service_of name w.services) name (λ s. begun w.packets q s (next_inputs w)) _ (λ s.
+    turn_live w (once_drawn w) (service_of name w.services) name (λ s. arrive_served w.packets q s (next_inputs w)) _ (λ s.
     let a = arrive_event s Outside q (next_inputs w) in
     sent_or_live (reply_among w.packets) unsaid (λ m. reply_to_live m (find (is_call_of m.caller m.number) w.packets)) (λ why. tt) (me a.service) a.answer)
 

@@ -3,6 +3,7 @@ pub mod LandingLaws
 pub mod WeightLemmas
 pub mod GoingWeights
 pub mod AskLaws
+pub mod WorldWeights
 pub mod DeliveryLaws
 pub mod RunLaws
 pub mod StillLaws

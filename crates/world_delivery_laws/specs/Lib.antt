@@ -1,3 +1,3 @@
 pub mod Weights
-pub mod WorldWeights
+pub mod InHand
 pub mod Runs

@@ -146,8 +146,8 @@ reply_to a packet = None
 abbrev pub reply_among : List Packet → AnswerMessage → Option Packet
 reply_among packets a = reply_to a (find (is_call_of a.caller a.number) packets)
 
-abbrev pub begun : List Packet → Request → Kept → Inputs → Served
-begun packets q s i = lives what.Arrive (reply_among packets) unsaid (arrive_event s Outside q i)
+abbrev pub arrive_served : List Packet → Request → Kept → Inputs → Served
+arrive_served packets q s i = lives what.Arrive (reply_among packets) unsaid (arrive_event s Outside q i)
 
 -- refusals of arrivals, as they are numbered
 abbrev pub live_refusal : ArriveRefused → Live
@@ -157,17 +157,17 @@ live_refusal (arrive.NotYet n) = LiveRefused 3 n
 live_refusal (arrive.Gone v) = LiveRefused 4 v
 
 -- a delivered call: its answer, or its refusal, goes back to the flight that sent it
-abbrev pub called : ℕ → SetMessage → Request → Kept → Inputs → Served
-called flight set q s i =
+abbrev pub call_arrive_served : ℕ → SetMessage → Request → Kept → Inputs → Served
+call_arrive_served flight set q s i =
     lives what.Arrive (λ a. Some (CallReply set.caller flight set (LiveAnswer a)))
     (λ why. Some (CallReply set.caller flight set (live_refusal why)))
     (arrive_event s (CallOrigin set.caller set.number) q i)
 
-abbrev pub answered : List Packet → ℕ → AnswerMessage → Kept → Served
-answered packets flight a s = lives what.CallAnswered (reply_among packets) unsaid (call_answered_event s flight a)
+abbrev pub call_answered_served : List Packet → ℕ → AnswerMessage → Kept → Served
+call_answered_served packets flight a s = lives what.CallAnswered (reply_among packets) unsaid (call_answered_event s flight a)
 
-abbrev pub failed : List Packet → ℕ → ℕ → Why → Kept → Served
-failed packets flight number why s = lives what.CallFailed (reply_among packets) unsaid (call_failed_event s flight number why)
+abbrev pub call_failed_served : List Packet → ℕ → ℕ → Why → Kept → Served
+call_failed_served packets flight number why s = lives what.CallFailed (reply_among packets) unsaid (call_failed_event s flight number why)
 
 -- ---- posts
 
@@ -188,17 +188,17 @@ set_reply (Err (take.NotYet n)) = PostIsRefused word.NotYet n
 set_reply (Err (take.Denied rule)) = PostIsRefused word.Denied rule
 
 -- a version of a call is delivered, and what its receiver says goes back
-abbrev pub takes : SetMessage → Kept → Inputs → Served
-takes set s i =
+abbrev pub take_served : SetMessage → Kept → Inputs → Served
+take_served set s i =
     record {
       service = (take_event s set i).service;
       what = what.Take (taken_rule (take_event s set i).answer);
       packet = Some (PostReplyPacket (SetPost set) (set_reply (take_event s set i).answer));
     }
 
-abbrev pub heard_rule : Result Heard AnswerRefused → Result (Option ℕ) AnswerRefused
-heard_rule (Ok h) = Ok h.rule
-heard_rule (Err why) = Err why
+abbrev pub answer_rule : Result Heard AnswerRefused → Result (Option ℕ) AnswerRefused
+answer_rule (Ok h) = Ok h.rule
+answer_rule (Err why) = Err why
 
 abbrev pub answer_reply : Result Heard AnswerRefused → PostReply
 answer_reply (Ok h) = Confirmed h.confirm
@@ -207,17 +207,17 @@ answer_reply (Err (answer.Unknown n)) = PostIsRefused word.Unknown n
 answer_reply (Err (answer.Denied rule)) = PostIsRefused word.Denied rule
 
 -- an answer that was posted is delivered, and what its receiver says goes back
-abbrev pub hears : AnswerMessage → Kept → Served
-hears a s =
+abbrev pub take_answer_served : AnswerMessage → Kept → Served
+take_answer_served a s =
     record {
       service = (take_answer_event s a).service;
-      what = what.TakeAnswer (heard_rule (take_answer_event s a).answer);
+      what = what.TakeAnswer (answer_rule (take_answer_event s a).answer);
       packet = Some (PostReplyPacket (AnswerPost a) (answer_reply (take_answer_event s a).answer));
     }
 
 -- something comes back of a post
-abbrev pub gets_back : Post → PostReply → Kept → Served
-gets_back post reply s =
+abbrev pub posted_served : Post → PostReply → Kept → Served
+posted_served post reply s =
     record {
       service = (posted_event s post reply).service;
       what = what.Posted (posted_event s post reply).answer;
@@ -228,24 +228,24 @@ abbrev pub written : Kept → PostName → Option Packet
 written s name = option_map (λ post. PostPacket post) (write_post s name)
 
 -- the oldest outstanding post is written, if there is one
-abbrev pub posts_next : Kept → Option PostName → Served
-posts_next s None = record { service = s; what = what.NextPost None; packet = None }
-posts_next s (Some name) = record { service = s; what = what.NextPost (Some name); packet = written s name }
+abbrev pub next_post_written : Kept → Option PostName → Served
+next_post_written s None = record { service = s; what = what.NextPost None; packet = None }
+next_post_written s (Some name) = record { service = s; what = what.NextPost (Some name); packet = written s name }
 
-abbrev pub posts_to : List ℕ → Kept → Served
-posts_to to s = posts_next s (next_post to s)
+abbrev pub next_post_served : List ℕ → Kept → Served
+next_post_served to s = next_post_written s (next_post to s)
 
 -- ---- the other events of a service
 
-abbrev pub steps : Kept → Served
-steps s = record { service = (step_event s).service; what = what.RepairStep (step_event s).answer; packet = None }
+abbrev pub repair_step_served : Kept → Served
+repair_step_served s = record { service = (step_event s).service; what = what.RepairStep (step_event s).answer; packet = None }
 
-abbrev pub gives_up : ℕ → Kept → Served
-gives_up flight s =
+abbrev pub abandon_served : ℕ → Kept → Served
+abandon_served flight s =
     record { service = (abandon_event s flight).service; what = what.Abandon (abandon_event s flight).answer; packet = None }
 
-abbrev pub orders : Command → List ℕ → List ℕ → Kept → Inputs → Served
-orders command token who s i =
+abbrev pub order_served : Command → List ℕ → List ℕ → Kept → Inputs → Served
+order_served command token who s i =
     record {
       service = (order_event s command token who i).service;
       what = what.Order (order_event s command token who i).answer;
@@ -257,15 +257,15 @@ orders command token who s i =
 -- a call that asks something is delivered; no other is written
 abbrev pub call_delivered : World → ℕ → ℕ → SetMessage → Option Request → Turn
 call_delivered w number flight set None = refused w (NoPacket number)
-call_delivered w number flight set (Some q) = drawing_at set.dest w (called flight set q)
+call_delivered w number flight set (Some q) = drawing_at set.dest w (call_arrive_served flight set q)
 
 abbrev pub reply_delivered : World → List ℕ → ℕ → SetMessage → Live → Turn
-reply_delivered w to flight set (LiveAnswer a) = at_service to w (answered w.packets flight a)
-reply_delivered w to flight set (LiveRefused word n) = at_service to w (failed w.packets flight set.number (WasRefused word n))
+reply_delivered w to flight set (LiveAnswer a) = at_service to w (call_answered_served w.packets flight a)
+reply_delivered w to flight set (LiveRefused word n) = at_service to w (call_failed_served w.packets flight set.number (WasRefused word n))
 
 abbrev pub post_delivered : World → Post → Turn
-post_delivered w (SetPost set) = drawing_at set.dest w (takes set)
-post_delivered w (AnswerPost a) = at_service a.caller w (hears a)
+post_delivered w (SetPost set) = drawing_at set.dest w (take_served set)
+post_delivered w (AnswerPost a) = at_service a.caller w (take_answer_served a)
 
 -- a packet comes to its receiver
 abbrev pub delivered : World → ℕ → Option Packet → Turn
@@ -273,14 +273,14 @@ delivered w number None = refused w (NoPacket number)
 delivered w number (Some (Call from flight set)) = call_delivered w number flight set set.desired
 delivered w number (Some (CallReply to flight set reply)) = reply_delivered w to flight set reply
 delivered w number (Some (PostPacket post)) = post_delivered w post
-delivered w number (Some (PostReplyPacket post reply)) = at_service (sender post) w (gets_back post reply)
+delivered w number (Some (PostReplyPacket post reply)) = at_service (sender post) w (posted_served post reply)
 
 -- the service whose exchange it was learns that it failed
 abbrev pub call_lost : World → List ℕ → ℕ → SetMessage → Turn
-call_lost w name flight set = losing_at name w (λ s note. failed w.packets flight set.number (Lost note) s)
+call_lost w name flight set = losing_at name w (λ s note. call_failed_served w.packets flight set.number (Lost note) s)
 
 abbrev pub post_lost : World → Post → Turn
-post_lost w post = losing_at (sender post) w (λ s note. gets_back post (PostIsLost note) s)
+post_lost w post = losing_at (sender post) w (λ s note. posted_served post (PostIsLost note) s)
 
 abbrev pub lost : World → ℕ → Option Packet → Turn
 lost w number None = refused w (NoPacket number)
@@ -292,17 +292,17 @@ lost w number (Some (PostReplyPacket post reply)) = post_lost w post
 -- ---- events
 
 -- both services are to be there
-abbrev pub posted : World → List ℕ → List ℕ → Turn
-posted w from to = if_there (service_of to w.services) (refused w NoService) (λ _. at_service from w (posts_to to))
+abbrev pub next_post_turn : World → List ℕ → List ℕ → Turn
+next_post_turn w from to = if_there (service_of to w.services) (refused w NoService) (λ _. at_service from w (next_post_served to))
 
 abbrev pub if_flying : World → ℕ → Option Flight → Turn → Turn
 if_flying w flight None turn = refused w (NoFlight flight)
 if_flying w flight (Some f) turn = turn
 
-abbrev pub abandoned : World → List ℕ → ℕ → Turn
-abandoned w name flight =
+abbrev pub abandon_turn : World → List ℕ → ℕ → Turn
+abandon_turn w name flight =
     if_there (service_of name w.services) (refused w NoService)
-    (λ s. if_flying w flight (flight_of flight s) (turned name w (gives_up flight s)))
+    (λ s. if_flying w flight (flight_of flight s) (turned name w (abandon_served flight s)))
 
 -- clock or words are set, at no service
 abbrev pub set : World → Turn
@@ -310,13 +310,13 @@ set w = record { world = w; answer = Ok (record { service = None; what = what.Se
 
 -- what an event comes to. No moment is later than the last, and words are below 65,537
 unfoldable pub turn : World → Event → Turn
-turn w (Begin name q) = drawing_at name w (begun w.packets q)
+turn w (Begin name q) = drawing_at name w (arrive_served w.packets q)
 turn w (Deliver number) = delivered w number (packet_of number w)
 turn w (Lose number) = lost w number (packet_of number w)
-turn w (Posts from to) = posted w from to
-turn w (Step name) = at_service name w steps
-turn w (Abandon name flight) = abandoned w name flight
-turn w (Order name command token who) = drawing_at name w (orders command token who)
+turn w (Posts from to) = next_post_turn w from to
+turn w (Step name) = at_service name w repair_step_served
+turn w (Abandon name flight) = abandon_turn w name flight
+turn w (Order name command token who) = drawing_at name w (order_served command token who)
 turn w (Clock moment) = set (record w { moment = min moment 9223372036854775807 })
 turn w (Seed n) = set (record w { x = n % 65537 })
 

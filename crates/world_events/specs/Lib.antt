@@ -5,3 +5,4 @@ pub mod Refusals
 pub mod Sound
 pub mod Turns
 pub mod Worlds
+pub mod Ends

@@ -98,16 +98,16 @@ IsLiveRow (Answered a) = a.live ≡ true
 IsLiveRow (SawAnswer a) = a.version ≡ 1
 IsLiveRow row = Unit {0}
 
--- an answer to the call was heard, or its register says why there is none
-abbrev pub is_heard : Register → Bool
-is_heard r = is_some r.told || is_some r.answer
+-- the call is over: its register has an answer, or why there is none
+abbrev pub is_call_over : Register → Bool
+is_call_over r = is_some r.told || is_some r.answer
 
-abbrev pub IsHeardOf : ℕ → List Register → Type 0
-IsHeardOf number registers = IsSomeAnd (register number registers) (λ r. is_heard r ≡ true)
+abbrev pub IsCallOver : ℕ → List Register → Type 0
+IsCallOver number registers = IsSomeAnd (register number registers) (λ r. is_call_over r ≡ true)
 
 -- a flight waits for one call at most, the last that was named
 abbrev pub WaitsForOne : List Register → Flight → Type 0
-WaitsForOne registers f = All (λ n. (awaited f ≤ n) ⊎ IsHeardOf n registers) f.numbers
+WaitsForOne registers f = All (λ n. (awaited f ≤ n) ⊎ IsCallOver n registers) f.numbers
 
 pub record IsLive (s : Kept) : Type 0 where
   pub rows : All IsLiveRow s.journal

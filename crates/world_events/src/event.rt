@@ -1,6 +1,9 @@
 // What may happen in a world.
+ghost use Rattle.std.specs.Prelude.{◌≡◌};
+ghost use Rattle.world_events.specs.declared.event.WorldStepRefused.TheVariants.{NoMemory};
+
 use journal_rows::Command;
-use lang_core::{Name, Request, Text};
+use lang_core::{Name, NoMemory, Request, Text};
 
 /// What may happen in a world. Services are named, packets are numbered from 1.
 #[derive(Drop)]
@@ -23,7 +26,7 @@ pub enum Event {
     Step {
         service: Name,
     },
-    /// A service gives a flight up.
+    /// A service abandons a flight.
     Abandon {
         service: Name,
         flight: u64,
@@ -52,4 +55,12 @@ pub enum WorldStepRefused {
     NoPacket(u64),
     /// The service has no flight of this number.
     NoFlight(u64),
+}
+
+impl From<NoMemory> for WorldStepRefused {
+    ghost from_gives = { λ _ why. why ≡ NoMemory };
+
+    fn from(_: NoMemory) -> WorldStepRefused {
+        WorldStepRefused::NoMemory
+    }
 }

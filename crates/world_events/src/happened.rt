@@ -37,7 +37,7 @@ pub enum What {
     NextPost(Option<PostName>),
     /// A repair step.
     RepairStep(Stepped),
-    /// A flight was given up.
+    /// A flight was abandoned.
     Abandon(bool),
     /// An order.
     Order(Result<Ordered, OrderRefused>),

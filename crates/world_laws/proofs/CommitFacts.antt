@@ -1,4 +1,4 @@
--- In a world in which nothing is repaired, a call whose answer was heard consumes the response of its callee's one entry.
+-- In a world in which nothing is repaired, a call whose answer was seen consumes the response of its callee's one entry.
 use Rattle.std.proofs.Common.{◌≡◌, ℕ, ◌<◌, ◌⊎◌, ◌||◌, Bool, true, false, List, [], Option, Some, None, IsSome, IfSome, IsSomeAnd, All, Contains, nat_eq, option_map, is_some, inl, inr, refl, sym, ap, ◌∙◌, subst, arith, eqb-true, eq-eqb}
 use Rattle.std.proofs.lemmas.Bool.{cond-true}
 use Rattle.std.proofs.lemmas.List.Elements.{All-contains}
@@ -6,6 +6,7 @@ use Rattle.lang_core.specs.declared.ids.Origin.TheVariants.{Call}
 use Rattle.lang_core.specs.declared.request.Request.{Request}
 use Rattle.lang_core.specs.declared.trace.CallMade.{CallMade}
 use Rattle.request_log.specs.Entries.{has_id, find_call}
+use Rattle.request_log.specs.Records.{record_in}
 use Rattle.request_log.specs.declared.entry.Entry.{Entry}
 use Rattle.request_log.specs.declared.entry.Made.{Made as EntryMade}
 use Rattle.journal_rows.specs.Words.{last_sent, last_seen, seen_acked, last_taken, last_answered}
@@ -18,8 +19,9 @@ use Rattle.journal_rows.specs.declared.row.Row.TheVariants.{Took, Answered, SawA
 use Rattle.call_registers.specs.Registers.{register, consumed, consumed_in, answer_to}
 use Rattle.call_registers.specs.declared.register.Answer.{Answer}
 use Rattle.call_registers.specs.declared.register.Register.{Register}
-use Rattle.service_events.specs.Fits.{EachAfter, TakesOn, AnswersOn, Fits, HasAnswered as HasItsAnswer, answer_made, answer_given, answer_of, sent_by, call_to, call_in, wanted_call, HasSeen}
+use Rattle.service_events.specs.Fits.{EachAfter, TakesOn, AnswersOn, Fits, HasAnswered as HasItsAnswer, answer_made, answer_recorded, answer_given, sent_by, call_to, call_in, wanted_call, HasSeen}
 use Rattle.service_events.specs.State.{Kept, me}
+use Rattle.service_events.specs.Calls.{seen_answer}
 use Rattle.service_entry_laws.proofs.SearchLemmas.{found_all}
 use Rattle.world_agreement.specs.Partners.{has_name, service_of, JournalOf, HasSent, HasAnswered, HasPartner}
 use Rattle.world_agreement.proofs.AnswerFacts.{IsGivenBefore, given_before, given_from}
@@ -29,7 +31,7 @@ use Rattle.world_agreement.proofs.ListLemmas.{some_out, found_passes}
 use Rattle.world_agreement.proofs.NameLemmas.{name_is, only_one}
 use Rattle.world_agreement.proofs.SentFacts.{IsSentBefore, sent_before, seen_from}
 use Rattle.world_agreement.proofs.TakenFacts.{taken_from}
-use Rattle.world_events.specs.Live.{IsAnswered, IsTold, IsLiveRow, IsHeardOf, IsLive, is_heard}
+use Rattle.world_events.specs.Live.{IsAnswered, IsTold, IsLiveRow, IsCallOver, IsLive, is_call_over}
 use Rattle.world_events.specs.Sound.{AreSound}
 use Rattle.world_events.specs.declared.packet.Packet.{Packet}
 use Rattle.world_laws.proofs.AnswerFacts.{IsOfCall, of_call, taken_there}
@@ -143,36 +145,34 @@ module _ (services : List Kept) (packets : List Packet) (h : AreSound services p
           by_last None last before m is = absurd before
           by_last (Some l) last before None is =
               (let none : None ≡ Some (answer_given l) =
-              sym (ap (option_map (λ (x : EntryMade). record { answer_version = e.answer_version; version = x.version; response = x.trace.response })) is)
-              ∙ answer ∙ ap (option_map answer_given) last in cc)
+              sym (ap (λ o. option_map (answer_recorded e.answer_version) (option_map record_in o)) is) ∙ answer ∙ ap (option_map answer_given) last in cc)
           by_last (Some l) last before (Some x) is =
               let at = subst (λ o. IfSome o (λ a. (a.id ≡ row.id) × Contains k.journal (Answered a))) last (given_from row.id k.journal) in
               let one = row_first row has in
               let other = row_first l at.1 in
               let same = before.same (one ∙ sym other) in
-              let both : Some (record { answer_version = e.answer_version; version = x.version; response = x.trace.response }) ≡ Some (answer_given l) =
-              sym (ap (option_map (λ (y : EntryMade). record { answer_version = e.answer_version; version = y.version; response = y.trace.response })) is)
-              ∙ answer ∙ ap (option_map answer_given) last in
-              let equal : record { answer_version = e.answer_version; version = x.version; response = x.trace.response } ≡ answer_given l = cc in
+              let both : Some (answer_recorded e.answer_version (record_in x)) ≡ Some (answer_given l) =
+              sym (ap (λ o. option_map (answer_recorded e.answer_version) (option_map record_in o)) is) ∙ answer ∙ ap (option_map answer_given) last in
+              let equal : answer_recorded e.answer_version (record_in x) ≡ answer_given l = cc in
               (x, is, same.1 ∙ sym (ap (λ (y : Answer). y.response) equal))
 
     -- ---- a call of this service
 
-    -- the last answer that was heard of it
+    -- the last answer that was seen of it
     answer_row : (n : ℕ) (r : Register) → register n s.registers ≡ Some r → (a : Answer) → r.answer ≡ Some a
-        → (x : SawAnswerRow) × (x.number ≡ n) × Contains s.journal (SawAnswer x) × (answer_of x ≡ a)
+        → (x : SawAnswerRow) × (x.number ≡ n) × Contains s.journal (SawAnswer x) × (seen_answer x ≡ a)
     answer_row n r found a is =
-        let seen = subst (λ o. IfSome o (λ y. y.answer ≡ option_map answer_of (last_seen n s.journal))) found (answers (register n s.registers) (fits.seen.registers n)) in
+        let seen = subst (λ o. IfSome o (λ y. y.answer ≡ option_map seen_answer (last_seen n s.journal))) found (answers (register n s.registers) (fits.seen.registers n)) in
         by_last (last_seen n s.journal) (seen_from n s.journal) (sym is ∙ seen)
       where
-        answers : (o : Option Register) → IfSome o (HasSeen (seen_acked n s.journal) (option_map answer_of (last_seen n s.journal)))
-            → IfSome o (λ y. y.answer ≡ option_map answer_of (last_seen n s.journal))
+        answers : (o : Option Register) → IfSome o (HasSeen (seen_acked n s.journal) (option_map seen_answer (last_seen n s.journal)))
+            → IfSome o (λ y. y.answer ≡ option_map seen_answer (last_seen n s.journal))
         answers None h = tt
         answers (Some y) h = h.answer
 
-        by_last : (o : Option SawAnswerRow) → IfSome o (λ x. (x.number ≡ n) × Contains s.journal (SawAnswer x)) → Some a ≡ option_map answer_of o → (x : SawAnswerRow) × (x.number ≡ n) × Contains s.journal (SawAnswer x) × (answer_of x ≡ a)
+        by_last : (o : Option SawAnswerRow) → IfSome o (λ x. (x.number ≡ n) × Contains s.journal (SawAnswer x)) → Some a ≡ option_map seen_answer o → (x : SawAnswerRow) × (x.number ≡ n) × Contains s.journal (SawAnswer x) × (seen_answer x ≡ a)
         by_last None from e = cc
-        by_last (Some x) from e = (let same : answer_of x ≡ a = cc in (x, from.0, from.1, same))
+        by_last (Some x) from e = (let same : seen_answer x ≡ a = cc in (x, from.0, from.1, same))
 
     answered : (n : ℕ) (c : CallMade) (r : Register) → register n s.registers ≡ Some r → wanted_call s.registers n ≡ Some c → (a : Answer) → r.answer ≡ Some a → IsAnswered services s n c
     answered n c r found wanted a is =
@@ -218,7 +218,7 @@ module _ (services : List Kept) (packets : List Packet) (h : AreSound services p
         dest_is None e = cc
         dest_is (Some q) e = (let same : record { dest = r.dest; request = q } ≡ c = cc in ap (λ (x : CallMade). x.dest) same)
 
-    told_by : (n : ℕ) (r : Register) → register n s.registers ≡ Some r → r.answer ≡ None → is_heard r ≡ true → IsTold s n
+    told_by : (n : ℕ) (r : Register) → register n s.registers ≡ Some r → r.answer ≡ None → is_call_over r ≡ true → IsTold s n
     told_by n r found none heard = record {
       tentative = ap consumed_in found ∙ ap (answer_to r.version) none;
       told = subst (λ o. IsSomeAnd o (λ x. IsSome x.told)) (sym found) (left (is_some r.told) (subst (λ o. (is_some r.told || is_some o) ≡ true) none heard));
@@ -228,14 +228,14 @@ module _ (services : List Kept) (packets : List Packet) (h : AreSound services p
         left true e = refl
         left false e = e
 
-    -- a call that is wanted, and of which something was heard, ended
-    pub call_ends : (n : ℕ) (c : CallMade) → wanted_call s.registers n ≡ Some c → IsHeardOf n s.registers → IsAnswered services s n c ⊎ IsTold s n
+    -- a call that is wanted, and that is over, ended
+    pub call_ends : (n : ℕ) (c : CallMade) → wanted_call s.registers n ≡ Some c → IsCallOver n s.registers → IsAnswered services s n c ⊎ IsTold s n
     call_ends n c wanted heard = by_register (register n s.registers) refl heard
       where
-        by_answer : (r : Register) → register n s.registers ≡ Some r → is_heard r ≡ true → (o : Option Answer) → r.answer ≡ o → IsAnswered services s n c ⊎ IsTold s n
+        by_answer : (r : Register) → register n s.registers ≡ Some r → is_call_over r ≡ true → (o : Option Answer) → r.answer ≡ o → IsAnswered services s n c ⊎ IsTold s n
         by_answer r found heard None is = inr (told_by n r found is heard)
         by_answer r found heard (Some a) is = inl (answered n c r found wanted a is)
 
-        by_register : (o : Option Register) → register n s.registers ≡ o → IsSomeAnd o (λ r. is_heard r ≡ true) → IsAnswered services s n c ⊎ IsTold s n
+        by_register : (o : Option Register) → register n s.registers ≡ o → IsSomeAnd o (λ r. is_call_over r ≡ true) → IsAnswered services s n c ⊎ IsTold s n
         by_register None found h = absurd h
         by_register (Some r) found h = by_answer r found h r.answer refl

@@ -17,3 +17,5 @@ pub mod RefusalLaws
 pub mod PurchaseRun
 pub mod PurchaseTried
 pub mod ReplyLost
+pub mod SendLaws
+pub mod EndLaws

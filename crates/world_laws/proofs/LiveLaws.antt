@@ -10,8 +10,8 @@ use Rattle.lang_core.specs.declared.inputs.Inputs.{Inputs}
 use Rattle.lang_core.specs.declared.request.Request.{Request}
 use Rattle.lang_core.specs.declared.trace.CallMade.{CallMade}
 use Rattle.request_log.specs.Entries.{find_call}
+use Rattle.request_log.specs.Records.{Record, record_of}
 use Rattle.request_log.specs.declared.entry.Entry.{Entry}
-use Rattle.request_log.specs.declared.entry.Made.{Made}
 use Rattle.repair_messages.specs.declared.messages.AnswerMessage.{AnswerMessage}
 use Rattle.journal_rows.specs.Words.{last_sent, last_taken}
 use Rattle.journal_rows.specs.declared.callee.TookRow.{TookRow}
@@ -23,9 +23,9 @@ use Rattle.call_registers.specs.declared.register.Answer.{Answer}
 use Rattle.call_registers.specs.declared.register.Register.{Register}
 use Rattle.call_registers.specs.declared.register.Why.{Why}
 use Rattle.flights.specs.declared.flight.Flight.{Flight}
-use Rattle.service_events.specs.Arriving.{accepted, new_flight, admitted, known_by, arrives_or_known, by_version, unless_gone, arrive_event, answers_register, is_for, is_new_to, seen_live, heard_rows, answered_flight, call_answered_event, told, failed_flight, call_failed_event, abandoned, abandon_event}
+use Rattle.service_events.specs.Arriving.{accepted, new_flight, admitted, known_by, arrives_or_known, by_version, unless_gone, arrive_event, answers_register, is_for, is_new_to, seen_live, live_answer_rows, answered_flight, call_answered_event, told, failed_flight, call_failed_event, abandoned, abandon_event}
 use Rattle.service_events.specs.Calls.{after_rows, noted, all_deleted}
-use Rattle.service_events.specs.Fits.{Fits, WantsItsCalls, place_of_flight, call_to, call_in, wanted_call, sent_by}
+use Rattle.service_events.specs.Fits.{Fits, WantsItsCalls, calls_of_flight, call_to, call_in, wanted_call, sent_by}
 use Rattle.service_events.specs.Flying.{awaited, goes_on}
 use Rattle.service_events.specs.State.{Kept, After, after, or_else, is_crowded, is_heavy, is_in_flight, has_flight, flight_of}
 use Rattle.service_events.specs.declared.answers.Arrived.{Arrived}
@@ -35,8 +35,8 @@ use Rattle.service_call_laws.proofs.RegisterLemmas.{find-change}
 use Rattle.service_call_laws.proofs.RowLemmas.{Each, each_weaker, all_of_each}
 use Rattle.service_entry_laws.proofs.AloftLemmas.{IsAloft, acked_aloft, answered_aloft, told_aloft, aloft_of}
 use Rattle.service_entry_laws.proofs.SearchLemmas.{found_all}
-use Rattle.world_events.specs.Live.{IsLiveRow, IsHeardOf, WaitsForOne, IsLive, is_heard}
-use Rattle.world_laws.proofs.HeardLaws.{Hears, rows_hears, told_hears, told_heard, heard_at, AllHeard, waits_still, others_heard, Ends, HeardOn, goes_on_heard}
+use Rattle.world_events.specs.Live.{IsLiveRow, IsCallOver, WaitsForOne, IsLive, is_call_over}
+use Rattle.world_laws.proofs.HeardLaws.{KeepsOver, rows_keep_over, told_keeps_over, told_over, over_at, AllOver, waits_still, others_over, Ends, OverOn, goes_on_over}
 use Rattle.world_laws.proofs.LivedLaws.{IsNaming, IsOfRequest, Lived, goes_on_lives, deleted_names, without_all}
 use Rattle.world_laws.proofs.PlaceFacts.{wanted_each, flight_wants, numbers_there}
 use Rattle.world_laws.proofs.StillLemmas.{sent_from}
@@ -54,7 +54,7 @@ naming_live : (row : Row) → IsNaming row → IsLiveRow row
 naming_live (Sent s) h = h
 naming_live row h = absurd h
 
-lived_live : (s : Kept) (o : Origin) (q : Request) (a : After Arrived) → IsLive s → Lived s o q a.service → HeardOn s a → IsLive a.service
+lived_live : (s : Kept) (o : Origin) (q : Request) (a : After Arrived) → IsLive s → Lived s o q a.service → OverOn s a → IsLive a.service
 lived_live s o q a live l h = record {
   rows = subst (All IsLiveRow) (sym l.grows.is)
       (All-append IsLiveRow s.journal l.grows.rows live.rows
@@ -82,16 +82,16 @@ module _ (s : Kept) (fits : Fits s) (live : IsLive s) where
   admitted_live o q i None =
       let f = new_flight s o q i in
       let l = goes_on_lives s f in
-      let h = goes_on_heard s f (record { numbered = fits.sent.numbered; apart = tt; within = tt; many = refl }) tt in
+      let h = goes_on_over s f (record { numbered = fits.sent.numbered; apart = tt; within = tt; many = refl }) tt in
       record { live = lived_live s o q (goes_on s f) live l.lived h; ends = h.ends }
 
-  known_live : (c : List ℕ) (n : ℕ) (e : Entry) (made : Option Made) → GoesLive (known_by s c n e made)
+  known_live : (c : List ℕ) (n : ℕ) (e : Entry) (made : Option Record) → GoesLive (known_by s c n e made)
   known_live c n e None = rests (ArriveRefused.NotYet n)
   known_live c n e (Some m) = record { live = live; ends = tt }
 
   or_known_live : (c : List ℕ) (n : ℕ) (q : Request) (i : Inputs) (o : Option Entry) → GoesLive (arrives_or_known s c n q i o)
   or_known_live c n q i None = admitted_live (Call c n) q i (or_else (is_crowded s) (is_heavy s))
-  or_known_live c n q i (Some e) = known_live c n e e.made
+  or_known_live c n q i (Some e) = known_live c n e (record_of e)
 
   by_version_live : (version : ℕ) (desired : Option Request) (known : After (Result Arrived ArriveRefused)) → GoesLive known → GoesLive (by_version s version desired known)
   by_version_live version None known h = rests (ArriveRefused.Gone version)
@@ -138,7 +138,7 @@ module _ (s : Kept) (fits : Fits s) (live : IsLive s) where
       by_desired (Some q) e h = h
 
   -- the number that a flight waits for is wanted, if it isn't 0
-  awaited_first : (f : Flight) → WantsItsCalls s.registers (place_of_flight f) → (r : Register) → register (awaited f) s.registers ≡ Some r → r.version ≡ 1
+  awaited_first : (f : Flight) → WantsItsCalls s.registers (calls_of_flight f) → (r : Register) → register (awaited f) s.registers ≡ Some r → r.version ≡ 1
   awaited_first f wants r found =
       by_number (awaited f) found (max_is IsZeroOrWanted 0 f.numbers (inl refl) (wanted_each s.registers IsZeroOrWanted (λ n c e. inr (c, e)) f.numbers f.calls wants))
     where
@@ -151,13 +151,13 @@ module _ (s : Kept) (fits : Fits s) (live : IsLive s) where
 
   -- ---- a flight goes on
 
-  on : (m : Kept) (f : Flight) → IsLive m → IsAloft m.registers f.numbers f.calls → AllHeard m.registers f.numbers → GoesLive {E = CallRefused} (accepted (goes_on m f))
+  on : (m : Kept) (f : Flight) → IsLive m → IsAloft m.registers f.numbers f.calls → AllOver m.registers f.numbers → GoesLive {E = CallRefused} (accepted (goes_on m f))
   on m f live a h =
       let l = goes_on_lives m f in
-      let heard = goes_on_heard m f a h in
+      let heard = goes_on_over m f a h in
       record { live = lived_live m f.origin f.request (goes_on m f) live l.lived heard; ends = heard.ends }
 
-  still : (m : Kept) → m.flights ≡ s.flights → Hears s.registers m.registers → All IsLiveRow m.journal → IsLive m
+  still : (m : Kept) → m.flights ≡ s.flights → KeepsOver s.registers m.registers → All IsLiveRow m.journal → IsLive m
   still m flights hears rows = record {
     rows = rows;
     flights = subst (All (WaitsForOne m.registers)) (sym flights)
@@ -171,12 +171,12 @@ module _ (s : Kept) (fits : Fits s) (live : IsLive s) where
   failed_live id n why (Some f) is =
       cond_both (nat_eq (awaited f) n) (accepted (goes_on (told n why s) f)) (after s (Err (CallRefused.NoFlight id))) GoesLive
       (λ e. (let same : awaited f ≡ n = eqb-true (awaited f) n e in
-      let hears = told_hears n why s.registers in
+      let hears = told_keeps_over n why s.registers in
       let waits = found_all (WaitsForOne s.registers) (has_flight id) s.flights f live.flights is in
       let m = told n why s in
-      let H : ℕ → Type 0 = λ k. IsSome (register k s.registers) → IsHeardOf k m.registers in
+      let H : ℕ → Type 0 = λ k. IsSome (register k s.registers) → IsCallOver k m.registers in
       on m f (still m refl hears live.rows) (told_aloft n why s.registers f.numbers f.calls (aloft_of s id f fits is))
-      (others_heard s.registers m.registers f hears waits (numbers_there s f (flight_wants s fits id f is)) (subst H (sym same) (told_heard n why s.registers)))))
+      (others_over s.registers m.registers f hears waits (numbers_there s f (flight_wants s fits id f is)) (subst H (sym same) (told_over n why s.registers)))))
       (λ _. rests (CallRefused.NoFlight id))
 
   pub call_failed_live : (id n : ℕ) (why : Why) → GoesLive (call_failed_event s id n why)
@@ -198,7 +198,7 @@ module _ (s : Kept) (fits : Fits s) (live : IsLive s) where
   newer_held (Some a) v e = refl
 
   heard_now : (a : AnswerMessage) (r : Register) → register a.number s.registers ≡ Some r → (b : Bool) → is_newer r.answer a.answer_version ≡ b → (at : ℕ)
-      → IsHeardOf a.number (after_rows at (at_number a.number (with_ack a.version) s.registers) (cond b (seen_live a ∷ []) []))
+      → IsCallOver a.number (after_rows at (at_number a.number (with_ack a.version) s.registers) (cond b (seen_live a ∷ []) []))
   heard_now a r found b new at = by_new b new
     where
       acked : register a.number (at_number a.number (with_ack a.version) s.registers) ≡ Some (with_ack a.version r)
@@ -222,25 +222,25 @@ module _ (s : Kept) (fits : Fits s) (live : IsLive s) where
       held_heard t (Some x) h = heard_some t
 
       by_new : (b : Bool) → is_newer r.answer a.answer_version ≡ b
-          → IsHeardOf a.number (after_rows at (at_number a.number (with_ack a.version) s.registers) (cond b (seen_live a ∷ []) []))
+          → IsCallOver a.number (after_rows at (at_number a.number (with_ack a.version) s.registers) (cond b (seen_live a ∷ []) []))
       by_new true new =
-          heard_at a.number (with_answer answered) number_same (at_number a.number (with_ack a.version) s.registers)
-          (subst (λ o. IsSomeAnd o (λ x. is_heard (with_answer answered x) ≡ true)) (sym acked)
-          (subst (λ x. is_heard x ≡ true) (sym (cond-true (is_newer r.answer a.answer_version) (record (with_ack a.version r) { answer = Some answered }) (with_ack a.version r) new))
+          over_at a.number (with_answer answered) number_same (at_number a.number (with_ack a.version) s.registers)
+          (subst (λ o. IsSomeAnd o (λ x. is_call_over (with_answer answered x) ≡ true)) (sym acked)
+          (subst (λ x. is_call_over x ≡ true) (sym (cond-true (is_newer r.answer a.answer_version) (record (with_ack a.version r) { answer = Some answered }) (with_ack a.version r) new))
           (heard_some (is_some r.told))))
       by_new false new =
-          subst (λ o. IsSomeAnd o (λ x. is_heard x ≡ true)) (sym acked) (held_heard (is_some r.told) r.answer (newer_held r.answer a.answer_version new))
+          subst (λ o. IsSomeAnd o (λ x. is_call_over x ≡ true)) (sym acked) (held_heard (is_some r.told) r.answer (newer_held r.answer a.answer_version new))
 
   answered_live : (id : ℕ) (a : AnswerMessage) (o : Option Flight) → flight_of id s ≡ o → GoesLive (answered_flight s id a o)
   answered_live id a None is = rests (CallRefused.NoFlight id)
   answered_live id a (Some f) is =
-      cond_both (is_for s a f) (accepted (goes_on (noted (heard_rows s a) s) f)) (after s (Err (CallRefused.NoFlight id))) GoesLive
+      cond_both (is_for s a f) (accepted (goes_on (noted (live_answer_rows s a) s) f)) (after s (Err (CallRefused.NoFlight id))) GoesLive
       (λ e. (let parts = and_parts (nat_eq (awaited f) a.number) (answers_register a (register a.number s.registers)) e in
       of_register (register a.number s.registers) refl (eqb-true (awaited f) a.number parts.0) parts.1))
       (λ _. rests (CallRefused.NoFlight id))
     where
       m : Kept
-      m = noted (heard_rows s a) s
+      m = noted (live_answer_rows s a) s
 
       of_register : (o : Option Register) → register a.number s.registers ≡ o → awaited f ≡ a.number → answers_register a o ≡ true → GoesLive {E = CallRefused} (accepted (goes_on m f))
       of_register None found same e = cc
@@ -251,15 +251,15 @@ module _ (s : Kept) (fits : Fits s) (live : IsLive s) where
           let version : a.version ≡ 1 = sym (eqb-true r.version a.version parts.1) ∙ first in
           let new = is_new_to a (register a.number s.registers) in
           let of_new : new ≡ is_newer r.answer a.answer_version = ap (is_new_to a) found in
-          let hears = rows_hears (length s.journal) s.registers (heard_rows s a) in
+          let hears = rows_keep_over (length s.journal) s.registers (live_answer_rows s a) in
           let waits = found_all (WaitsForOne s.registers) (has_flight id) s.flights f live.flights is in
           let heard = heard_now a r found new (sym of_new) (length s.journal + 1) in
-          let rows = All-append IsLiveRow s.journal (heard_rows s a) live.rows (all_of_each IsLiveRow (heard_rows s a) (tt, heard_row_live a version new)) in
+          let rows = All-append IsLiveRow s.journal (live_answer_rows s a) live.rows (all_of_each IsLiveRow (live_answer_rows s a) (tt, heard_row_live a version new)) in
           let aloft = heard_aloft a f.numbers f.calls new (length s.journal + 1) (at_number a.number (with_ack a.version) s.registers)
           (acked_aloft a.number a.version s.registers f.numbers f.calls (aloft_of s id f fits is)) in
-          let H : ℕ → Type 0 = λ k. IsSome (register k s.registers) → IsHeardOf k m.registers in
+          let H : ℕ → Type 0 = λ k. IsSome (register k s.registers) → IsCallOver k m.registers in
           on m f (still m refl hears rows) aloft
-          (others_heard s.registers m.registers f hears waits (numbers_there s f wants) (subst H (sym same) (λ _. heard)))
+          (others_over s.registers m.registers f hears waits (numbers_there s f wants) (subst H (sym same) (λ _. heard)))
 
   pub call_answered_live : (id : ℕ) (a : AnswerMessage) → GoesLive (call_answered_event s id a)
   call_answered_live id a = answered_live id a (flight_of id s) refl
@@ -270,7 +270,7 @@ module _ (s : Kept) (fits : Fits s) (live : IsLive s) where
   abandoned_live None = live
   abandoned_live (Some f) =
       let rows = all_deleted s.registers f.numbers f.calls in
-      let hears = rows_hears (length s.journal) s.registers rows in
+      let hears = rows_keep_over (length s.journal) s.registers rows in
       record {
         rows = All-append IsLiveRow s.journal rows live.rows
             (all_of_each IsLiveRow rows (each_weaker IsNaming IsLiveRow naming_live rows (deleted_names s.registers f.numbers f.calls)));

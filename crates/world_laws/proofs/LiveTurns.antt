@@ -8,8 +8,8 @@ use Rattle.lang_core.specs.declared.ids.Origin.TheVariants.{Outside, Call}
 use Rattle.lang_core.specs.declared.inputs.Inputs.{Inputs}
 use Rattle.lang_core.specs.declared.request.Request.{Request}
 use Rattle.request_log.specs.Entries.{has_id, has_origin, find_call}
+use Rattle.request_log.specs.Records.{Record, record_of}
 use Rattle.request_log.specs.declared.entry.Entry.{Entry}
-use Rattle.request_log.specs.declared.entry.Made.{Made}
 use Rattle.repair_messages.specs.declared.messages.AnswerMessage.{AnswerMessage}
 use Rattle.journal_rows.specs.Words.{last_sent, last_taken, last_answered, asked}
 use Rattle.journal_rows.specs.declared.callee.AnsweredRow.{AnsweredRow}
@@ -23,9 +23,9 @@ use Rattle.call_registers.specs.Registers.{register}
 use Rattle.call_registers.specs.declared.register.Register.{Register}
 use Rattle.call_registers.specs.declared.register.Why.{Why}
 use Rattle.flights.specs.declared.flight.Flight.{Flight}
-use Rattle.service_events.specs.Arriving.{accepted, new_flight, admitted, arrives, known_by, arrives_or_known, by_version, unless_gone, arrive_event, answers_register, is_for, is_new_to, seen_live, heard_rows, answered_flight, call_answered_event, told, failed_flight, call_failed_event}
+use Rattle.service_events.specs.Arriving.{accepted, new_flight, admitted, arrives, known_by, arrives_or_known, by_version, unless_gone, arrive_event, answers_register, is_for, is_new_to, seen_live, live_answer_rows, answered_flight, call_answered_event, told, failed_flight, call_failed_event}
 use Rattle.service_events.specs.Calls.{noted}
-use Rattle.service_events.specs.Fits.{Fits, HasAnswered as HasItsAnswer, sent_by, answer_given}
+use Rattle.service_events.specs.Fits.{Fits, HasAnswered as HasItsAnswer, sent_by, answer_recorded, answer_given}
 use Rattle.service_events.specs.Flying.{awaited, goes_on}
 use Rattle.service_events.specs.State.{Kept, After, after, me, or_else, is_crowded, is_heavy, is_in_flight, has_flight, flight_of}
 use Rattle.service_events.specs.declared.answers.Arrived.{Arrived}
@@ -99,11 +99,11 @@ answer_is a c n av v r origin answer version response j h = (
 )
 
 -- an entry's record was given as its last answer
-pub entry_answered : (s : Kept) → Fits s → (e : Entry) → find (has_id e.id) s.entries ≡ Some e → (c : List ℕ) (n : ℕ) → e.origin ≡ Call c n → (m : Made) → e.made ≡ Some m
-    → HasAnswered c n e.answer_version m.version m.trace.response s.journal
-entry_answered s fits e found c n from m made =
+pub entry_answered : (s : Kept) → Fits s → (e : Entry) → find (has_id e.id) s.entries ≡ Some e → (c : List ℕ) (n : ℕ) → e.origin ≡ Call c n → (r : Record) → record_of e ≡ Some r
+    → HasAnswered c n e.answer_version r.version r.response s.journal
+entry_answered s fits e found c n from r made =
     let has = found_all (HasItsAnswer s.journal) (has_id e.id) s.entries e fits.answered.entries found in
-    let mine = sym (ap (option_map (λ (x : Made). record { answer_version = e.answer_version; version = x.version; response = x.trace.response })) made) ∙ has.answer in
+    let mine = sym (ap (option_map (answer_recorded e.answer_version)) made) ∙ has.answer in
     by_last (last_answered e.id s.journal) mine (given_from e.id s.journal)
   where
     b : Begun s e
@@ -113,14 +113,14 @@ entry_answered s fits e found c n from m made =
     begun_from None is x h = absurd h
     begun_from (Some a) is x h = (let same : a ≡ b.row = cc in sym h ∙ ap (λ (y : AskedRow). y.origin) same ∙ b.origin ∙ from)
 
-    by_last : (o : Option AnsweredRow) → Some (record { answer_version = e.answer_version; version = m.version; response = m.trace.response }) ≡ option_map answer_given o
-        → IfSome o (λ a. (a.id ≡ e.id) × Contains s.journal (Answered a)) → HasAnswered c n e.answer_version m.version m.trace.response s.journal
+    by_last : (o : Option AnsweredRow) → Some (answer_recorded e.answer_version r) ≡ option_map answer_given o
+        → IfSome o (λ a. (a.id ≡ e.id) × Contains s.journal (Answered a)) → HasAnswered c n e.answer_version r.version r.response s.journal
     by_last None is h = cc
     by_last (Some a) is h =
-        let same : record { answer_version = e.answer_version; version = m.version; response = m.trace.response } ≡ answer_given a = cc in
+        let same : answer_recorded e.answer_version r ≡ answer_given a = cc in
         let asked_by = given_asked a s.journal fits.answered.rows h.1 in
         let origin = begun_from (asked a.id s.journal) (ap (λ k. asked k s.journal) h.0 ∙ b.is) a.origin asked_by in
-        answer_is a c n e.answer_version m.version m.trace.response origin (sym (ap (λ x. x.answer_version) same)) (sym (ap (λ x. x.version) same))
+        answer_is a c n e.answer_version r.version r.response origin (sym (ap (λ x. x.answer_version) same)) (sym (ap (λ x. x.version) same))
         (sym (ap (λ x. x.response) same)) s.journal h.1
 
 -- ---- an arrival
@@ -138,7 +138,7 @@ module _ (services : List Kept) (s : Kept) (fits : Fits s) (flights : FlightsSta
   arrives_moves : (o : Origin) (q : Request) (i : Inputs) → OriginStands services (me s) o q → Moves services s o (arrives s o q i)
   arrives_moves o q i stands = admitted_moves o q i (or_else (is_crowded s) (is_heavy s)) stands
 
-  known_moves : (c : List ℕ) (n : ℕ) (e : Entry) → find_call (Call c n) s.entries ≡ Some e → (made : Option Made) → e.made ≡ made
+  known_moves : (c : List ℕ) (n : ℕ) (e : Entry) → find_call (Call c n) s.entries ≡ Some e → (made : Option Record) → record_of e ≡ made
       → Moves services s (Call c n) (known_by s c n e made)
   known_moves c n e found None is = stays (Call c n) (ArriveRefused.NotYet n)
   known_moves c n e found (Some m) is = record {
@@ -154,7 +154,7 @@ module _ (services : List Kept) (s : Kept) (fits : Fits s) (flights : FlightsSta
   or_known_moves : (c : List ℕ) (n : ℕ) (q : Request) (i : Inputs) (o : Option Entry) → find_call (Call c n) s.entries ≡ o → OriginStands services (me s) (Call c n) q
       → Moves services s (Call c n) (arrives_or_known s c n q i o)
   or_known_moves c n q i None is stands = arrives_moves (Call c n) q i stands
-  or_known_moves c n q i (Some e) is stands = known_moves c n e is e.made refl
+  or_known_moves c n q i (Some e) is stands = known_moves c n e is (record_of e) refl
 
   by_version_moves : (o : Origin) (version : ℕ) (desired : Option Request) (known : After (Result Arrived ArriveRefused)) → Moves services s o known
       → Moves services s o (by_version s version desired known)
@@ -221,9 +221,9 @@ module _ (services : List Kept) (s : Kept) (fits : Fits s) (flights : FlightsSta
       (All-cons (HasPartner services s) (seen_live a) [] (heard_said services s fits a r h) (All-nil (HasPartner services s)))
   heard_partners a r h false = All-cons (HasPartner services s) _ [] (saw_ack_partner a r h) (All-nil (HasPartner services s))
 
-  heard_turns : (a : AnswerMessage) (r : Register) → IsHeard services s a r → Turns services s (noted (heard_rows s a) s)
+  heard_turns : (a : AnswerMessage) (r : Register) → IsHeard services s a r → Turns services s (noted (live_answer_rows s a) s)
   heard_turns a r h = record {
-    grows = record { rows = heard_rows s a; is = refl; setting = refl };
+    grows = record { rows = live_answer_rows s a; is = refl; setting = refl };
     partners = heard_partners a r h (is_new_to a (register a.number s.registers));
     flights = flights;
   }
@@ -253,9 +253,9 @@ module _ (services : List Kept) (s : Kept) (fits : Fits s) (flights : FlightsSta
       → FlightMoves {E = CallRefused} (answered_flight s id a o)
   answered_moves id a None is caller answered = rests id
   answered_moves id a (Some f) is caller answered =
-      cond_both (is_for s a f) (accepted (goes_on (noted (heard_rows s a) s) f)) (after s (Err (CallRefused.NoFlight id))) (FlightMoves {E = CallRefused})
+      cond_both (is_for s a f) (accepted (goes_on (noted (live_answer_rows s a) s) f)) (after s (Err (CallRefused.NoFlight id))) (FlightMoves {E = CallRefused})
       (λ e. let r = answers_of a (register a.number s.registers) refl (and_parts (nat_eq (awaited f) a.number) (answers_register a (register a.number s.registers)) e).1 caller answered in
-      on (noted (heard_rows s a) s) f (heard_turns a r.0 r.1) (found_stands id f is))
+      on (noted (live_answer_rows s a) s) f (heard_turns a r.0 r.1) (found_stands id f is))
       (λ _. rests id)
 
   pub call_answered_moves : (id : ℕ) (a : AnswerMessage) → a.caller ≡ me s → WasAnswered services a → FlightMoves {E = CallRefused} (call_answered_event s id a)

@@ -13,7 +13,7 @@ use Rattle.call_registers.specs.declared.register.Why.TheVariants.{Lost, Refused
 use Rattle.flights.specs.declared.flight.Flight.{Flight}
 use Rattle.service_events.specs.State.{Kept, me, flight_of}
 use Rattle.service_events.specs.Arriving.{arrive_event, call_answered_event, call_failed_event}
-use Rattle.service_events.specs.Fits.{Fits, WantsItsCalls, place_of_entry, place_of_flight, places, wanted_call}
+use Rattle.service_events.specs.Fits.{Fits, WantsItsCalls, calls_of_entry, calls_of_flight, places, wanted_call}
 use Rattle.service_events.specs.declared.answers.Arrived.{Arrived}
 use Rattle.service_events.specs.declared.answers.Arrived.TheVariants.{Done, Call as Sends, Known}
 use Rattle.service_entry_laws.proofs.SearchLemmas.{found_all}
@@ -21,7 +21,7 @@ use Rattle.world_agreement.proofs.ListLemmas.{contains_map}
 use Rattle.world_agreement.proofs.NameLemmas.{found_own}
 use Rattle.world_agreement.specs.Partners.{has_name, service_of}
 use Rattle.world_events.specs.Worlds.{World, fresh_world, with_service, packet_of, next_inputs, once_drawn, once_lost, loss_note}
-use Rattle.world_events.specs.Events.{Turn, Served, refused, turned, if_there, turn_at, outcome, sent_or, unsaid, is_call_of, reply_to, reply_among, begun, live_refusal, called, answered, failed, gives_up, call_delivered, reply_delivered, delivered, call_lost, lost, if_flying, abandoned, turn, after_event}
+use Rattle.world_events.specs.Events.{Turn, Served, refused, turned, if_there, turn_at, outcome, sent_or, unsaid, is_call_of, reply_to, reply_among, arrive_served, live_refusal, call_arrive_served, call_answered_served, call_failed_served, abandon_served, call_delivered, reply_delivered, delivered, call_lost, lost, if_flying, abandon_turn, turn, after_event}
 use Rattle.world_events.specs.Live.{IsLiveEvent, AllLiveEvents, IsAnswered, IsTold, EachCall, CallsEnd, EntryEnds, CommitEnds, WhatEnds, CommitsEnd, AllCommitsEnd, IsLiveRow, WaitsForOne, IsLive, IsLivePacket, IsLiveWorld}
 use Rattle.world_events.specs.Sound.{CallStands, ReplyStands, PacketStands, AreSound, IsSound, AreFew, AllFew}
 use Rattle.world_events.specs.declared.event.Event.{Event}
@@ -36,16 +36,16 @@ use Rattle.world_events.specs.declared.packet.Live.TheVariants.{Answer as LiveAn
 use Rattle.world_events.specs.declared.packet.Packet.{Packet}
 use Rattle.world_events.specs.declared.packet.Packet.TheVariants.{Call, CallReply, Post as PostPacket, PostReply as PostReplyPacket}
 use Rattle.world_laws.proofs.CommitFacts.{call_ends}
-use Rattle.world_laws.proofs.HeardLaws.{AllHeard}
+use Rattle.world_laws.proofs.HeardLaws.{AllOver}
 use Rattle.world_laws.proofs.LiveLaws.{EndsOr, arrive_live, call_answered_live, call_failed_live, abandon_live}
 use Rattle.world_laws.proofs.PutLemmas.{put, with_is_put, found_put, all_put}
-use Rattle.world_laws.proofs.WorldLaws.{Owes, written_all, begun_owes, called_owes, answered_owes, failed_owes, gives_up_owes, found_packet, turn_sound}
+use Rattle.world_laws.proofs.WorldLaws.{Owes, written_all, arrive_served_owes, call_arrive_served_owes, call_answered_served_owes, call_failed_served_owes, abandon_served_owes, found_packet, turn_sound}
 
 -- ---- what tells of a commit
 
--- the entry that was made is the last one, and something was heard of each of its calls
+-- the entry that was made is the last one, and each of its calls is over
 abbrev pub OutcomeIs : Kept → Outcome → Type 0
-OutcomeIs t (came.Done index id) = (front : List Entry) × (e : Entry) × (t.entries ≡ front ++ e ∷ []) × (e.id ≡ id) × AllHeard t.registers e.slots
+OutcomeIs t (came.Done index id) = (front : List Entry) × (e : Entry) × (t.entries ≡ front ++ e ∷ []) × (e.id ≡ id) × AllOver t.registers e.slots
 OutcomeIs t outcome = Unit {0}
 
 abbrev pub WhatIs : Kept → What → Type 0
@@ -64,7 +64,7 @@ outcome_is t (Err why) h = tt
 
 module _ (services : List Kept) (packets : List Packet) (h : AreSound services packets) (lives : All IsLive services) (name : List ℕ) (t : Kept)
     (here : service_of name services ≡ Some t) where
-  each_ends : (ns : List ℕ) (cs : List CallMade) → map (wanted_call t.registers) ns ≡ map Some cs → AllHeard t.registers ns
+  each_ends : (ns : List ℕ) (cs : List CallMade) → map (wanted_call t.registers) ns ≡ map Some cs → AllOver t.registers ns
       → EachCall (λ n c. IsAnswered services t n c ⊎ IsTold t n) ns cs
   each_ends [] [] e heard = tt
   each_ends [] (c ∷ cs) e heard = cc
@@ -78,13 +78,13 @@ module _ (services : List Kept) (packets : List Packet) (h : AreSound services p
       tail_is : wanted_call t.registers n ∷ map (wanted_call t.registers) ns ≡ Some c ∷ map Some cs → map (wanted_call t.registers) ns ≡ map Some cs
       tail_is e = cc
 
-  entry_ends : (id : ℕ) (front : List Entry) (e : Entry) → t.entries ≡ front ++ e ∷ [] → e.id ≡ id → AllHeard t.registers e.slots → EntryEnds services id t
+  entry_ends : (id : ℕ) (front : List Entry) (e : Entry) → t.entries ≡ front ++ e ∷ [] → e.id ≡ id → AllOver t.registers e.slots → EntryEnds services id t
   entry_ends id front e is same heard =
       let fits = found_all Fits (has_name name) services t h.fits here in
       let has : Contains t.entries e = subst (λ es. Contains es e) (sym is) (Contains-push front e) in
       let found = found_own t.entries e fits.asked.distinct has in
-      let place = Contains-append_left (map place_of_entry t.entries) (map place_of_flight t.flights) (place_of_entry e) (contains_map place_of_entry t.entries e has) in
-      let wants = All-contains (WantsItsCalls t.registers) (places t) (place_of_entry e) fits.places.calls place in
+      let place = Contains-append_left (map calls_of_entry t.entries) (map calls_of_flight t.flights) (calls_of_entry e) (contains_map calls_of_entry t.entries e has) in
+      let wants = All-contains (WantsItsCalls t.registers) (places t) (calls_of_entry e) fits.places.calls place in
       subst (λ k. EntryEnds services k t) same
       (subst (λ o. IsSomeAnd o (CallsEnd services t)) (sym found) (each_ends e.slots (calls_of_made e.made) wants heard))
 
@@ -126,8 +126,8 @@ reply_live a (Some (PostPacket post)) = tt
 reply_live a (Some (PostReplyPacket post reply)) = tt
 
 module _ (packets : List Packet) (s : Kept) (fits : Fits s) (live : IsLive s) where
-  begun_live : (q : Request) (i : _) → ServesLive (begun packets q s i)
-  begun_live q i =
+  arrive_served_live : (q : Request) (i : _) → ServesLive (arrive_served packets q s i)
+  arrive_served_live q i =
       let a = arrive_event s Outside q i in
       let g = arrive_live s fits live Outside q i in
       record {
@@ -136,8 +136,8 @@ module _ (packets : List Packet) (s : Kept) (fits : Fits s) (live : IsLive s) wh
         tells = outcome_is a.service a.answer g.ends;
       }
 
-  called_live : (flight : ℕ) (call : SetMessage) (q : Request) (i : _) → ServesLive (called flight call q s i)
-  called_live flight call q i =
+  call_arrive_served_live : (flight : ℕ) (call : SetMessage) (q : Request) (i : _) → ServesLive (call_arrive_served flight call q s i)
+  call_arrive_served_live flight call q i =
       let a = arrive_event s (CallOrigin call.caller call.number) q i in
       let g = arrive_live s fits live (CallOrigin call.caller call.number) q i in
       record {
@@ -146,7 +146,7 @@ module _ (packets : List Packet) (s : Kept) (fits : Fits s) (live : IsLive s) wh
         tells = outcome_is a.service a.answer g.ends;
       }
 
-  answered_live : (flight : ℕ) (x : AnswerMessage) → ServesLive (answered packets flight x s)
+  answered_live : (flight : ℕ) (x : AnswerMessage) → ServesLive (call_answered_served packets flight x s)
   answered_live flight x =
       let a = call_answered_event s flight x in
       let g = call_answered_live s fits live flight x in
@@ -156,7 +156,7 @@ module _ (packets : List Packet) (s : Kept) (fits : Fits s) (live : IsLive s) wh
         tells = outcome_is a.service a.answer g.ends;
       }
 
-  failed_live : (flight n : ℕ) (why : Why) → ServesLive (failed packets flight n why s)
+  failed_live : (flight n : ℕ) (why : Why) → ServesLive (call_failed_served packets flight n why s)
   failed_live flight n why =
       let a = call_failed_event s flight n why in
       let g = call_failed_live s fits live flight n why in
@@ -166,8 +166,8 @@ module _ (packets : List Packet) (s : Kept) (fits : Fits s) (live : IsLive s) wh
         tells = outcome_is a.service a.answer g.ends;
       }
 
-  gives_up_live : (flight : ℕ) → ServesLive (gives_up flight s)
-  gives_up_live flight = record { live = abandon_live s fits live flight; packet = tt; tells = tt }
+  abandon_served_live : (flight : ℕ) → ServesLive (abandon_served flight s)
+  abandon_served_live flight = record { live = abandon_live s fits live flight; packet = tt; tells = tt }
 
 -- ---- a world
 
@@ -206,17 +206,17 @@ module _ (w : World) (h : IsSound w) (l : IsLiveWorld w) where
       → LivesOn (call_delivered w number flight call o)
   call_lives number from flight call stands None is = stays number
   call_lives number from flight call stands (Some q) is =
-      live_at call.dest (once_drawn w) refl refl (λ s. called flight call q s (next_inputs w))
-      (λ s found. called_owes w.services w.packets h call.dest s found from flight call q (next_inputs w) stands refl is)
-      (λ s fits live. called_live w.packets s fits live flight call q (next_inputs w))
+      live_at call.dest (once_drawn w) refl refl (λ s. call_arrive_served flight call q s (next_inputs w))
+      (λ s found. call_arrive_served_owes w.services w.packets h call.dest s found from flight call q (next_inputs w) stands refl is)
+      (λ s fits live. call_arrive_served_live w.packets s fits live flight call q (next_inputs w))
 
   reply_lives : (to : List ℕ) (flight : ℕ) (call : SetMessage) (reply : Live) → ReplyStands w.services to reply → LivesOn (reply_delivered w to flight call reply)
   reply_lives to flight call (LiveAnswer a) stands =
-      live_at to w refl refl (answered w.packets flight a) (λ s found. answered_owes w.services w.packets h to s found flight a stands.0 stands.1)
+      live_at to w refl refl (call_answered_served w.packets flight a) (λ s found. call_answered_served_owes w.services w.packets h to s found flight a stands.0 stands.1)
       (λ s fits live. answered_live w.packets s fits live flight a)
   reply_lives to flight call (LiveRefused word n) stands =
-      live_at to w refl refl (failed w.packets flight call.number (WasRefused word n))
-      (λ s found. failed_owes w.services w.packets h to s found flight call.number (WasRefused word n))
+      live_at to w refl refl (call_failed_served w.packets flight call.number (WasRefused word n))
+      (λ s found. call_failed_served_owes w.services w.packets h to s found flight call.number (WasRefused word n))
       (λ s fits live. failed_live w.packets s fits live flight call.number (WasRefused word n))
 
   delivered_lives : (number : ℕ) (p : Option Packet) → IfSome p (PacketStands w.services) → IfSome p IsLivePacket → LivesOn (delivered w number p)
@@ -228,8 +228,8 @@ module _ (w : World) (h : IsSound w) (l : IsLiveWorld w) where
 
   call_lost_lives : (name : List ℕ) (flight : ℕ) (call : SetMessage) → LivesOn (call_lost w name flight call)
   call_lost_lives name flight call =
-      live_at name (once_lost w) refl refl (failed w.packets flight call.number (Lost (loss_note w)))
-      (λ s found. failed_owes w.services w.packets h name s found flight call.number (Lost (loss_note w)))
+      live_at name (once_lost w) refl refl (call_failed_served w.packets flight call.number (Lost (loss_note w)))
+      (λ s found. call_failed_served_owes w.services w.packets h name s found flight call.number (Lost (loss_note w)))
       (λ s fits live. failed_live w.packets s fits live flight call.number (Lost (loss_note w)))
 
   lost_lives : (number : ℕ) (p : Option Packet) → IfSome p IsLivePacket → LivesOn (lost w number p)
@@ -248,25 +248,25 @@ module _ (w : World) (h : IsSound w) (l : IsLiveWorld w) where
   packet_lives zero = tt
   packet_lives (suc place) = got w.packets place l.packets
 
-  abandoned_lives : (name : List ℕ) (flight : ℕ) → LivesOn (abandoned w name flight)
+  abandoned_lives : (name : List ℕ) (flight : ℕ) → LivesOn (abandon_turn w name flight)
   abandoned_lives name flight = by_service (service_of name w.services) refl
     where
-      by_flight : (s : Kept) → service_of name w.services ≡ Some s → (o : Option Flight) → LivesOn (if_flying w flight o (turned name w (gives_up flight s)))
+      by_flight : (s : Kept) → service_of name w.services ≡ Some s → (o : Option Flight) → LivesOn (if_flying w flight o (turned name w (abandon_served flight s)))
       by_flight s found None sound = (l, tt)
       by_flight s found (Some f) sound =
-          live_put name s found w refl refl (gives_up flight s) (gives_up_owes w.services w.packets h name s found flight)
-          (gives_up_live w.packets s (found_all Fits (has_name name) w.services s h.fits found) (found_all IsLive (has_name name) w.services s l.services found) flight) sound
+          live_put name s found w refl refl (abandon_served flight s) (abandon_served_owes w.services w.packets h name s found flight)
+          (abandon_served_live w.packets s (found_all Fits (has_name name) w.services s h.fits found) (found_all IsLive (has_name name) w.services s l.services found) flight) sound
 
       by_service : (o : Option Kept) → service_of name w.services ≡ o
-          → LivesOn (if_there o (refused w NoService) (λ s. if_flying w flight (flight_of flight s) (turned name w (gives_up flight s))))
+          → LivesOn (if_there o (refused w NoService) (λ s. if_flying w flight (flight_of flight s) (turned name w (abandon_served flight s))))
       by_service None found sound = (l, tt)
       by_service (Some s) found sound = by_flight s found (flight_of flight s) sound
 
   turn_lives : (e : Event) → IsLiveEvent e → LivesOn (turn w e)
   unfolding turn
   turn_lives (Begin name q) live =
-      live_at name (once_drawn w) refl refl (λ s. begun w.packets q s (next_inputs w)) (λ s found. begun_owes w.services w.packets h name s found q (next_inputs w))
-      (λ s fits live. begun_live w.packets s fits live q (next_inputs w))
+      live_at name (once_drawn w) refl refl (λ s. arrive_served w.packets q s (next_inputs w)) (λ s found. arrive_served_owes w.services w.packets h name s found q (next_inputs w))
+      (λ s fits live. arrive_served_live w.packets s fits live q (next_inputs w))
   turn_lives (Deliver number) live = delivered_lives number (packet_of number w) (found_packet w h number) (packet_lives number)
   turn_lives (Lose number) live = lost_lives number (packet_of number w) (packet_lives number)
   turn_lives (Abandon name flight) live = abandoned_lives name flight

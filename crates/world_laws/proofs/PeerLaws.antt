@@ -16,10 +16,10 @@ use Rattle.handler_run.specs.Handlers.{run_of}
 use Rattle.handler_run.specs.declared.state.Ran.{Ran}
 use Rattle.handler_run.specs.declared.state.Ran.TheVariants.{Done, Wants}
 use Rattle.request_log.specs.Entries.{find_call, is_alive}
+use Rattle.request_log.specs.Records.{Record, record_of}
 use Rattle.request_log.specs.declared.entry.Entry.{Entry}
-use Rattle.request_log.specs.declared.entry.Made.{Made}
 use Rattle.local_repair.specs.Alone.{trace_or_dead}
-use Rattle.local_repair.specs.Current.{Consumed, rows_of, after_entry}
+use Rattle.local_repair.specs.Current.{Consumed, rows_after, after_entry}
 use Rattle.local_repair.specs.Steps.{calls_of_made, answer_at, same_call}
 use Rattle.local_repair.specs.Tests.{is_current}
 use Rattle.repair_messages.specs.declared.messages.AnswerMessage.{AnswerMessage}
@@ -42,18 +42,18 @@ use Rattle.flights.specs.Moves.{calls_in, next_move}
 use Rattle.flights.specs.declared.flight.Flight.{Flight}
 use Rattle.flights.specs.declared.flight.Move.{Move}
 use Rattle.flights.specs.declared.flight.Move.TheVariants.{Commit, Name, Change}
-use Rattle.service_events.specs.Arriving.{accepted, new_flight, admitted, known_by, arrives_or_known, by_version, unless_gone, arrive_event, is_for, is_new_to, seen_live, heard_rows, answered_flight, call_answered_event, told, failed_flight, call_failed_event, abandoned, abandon_event}
+use Rattle.service_events.specs.Arriving.{accepted, new_flight, admitted, known_by, arrives_or_known, by_version, unless_gone, arrive_event, is_for, is_new_to, seen_live, live_answer_rows, answered_flight, call_answered_event, told, failed_flight, call_failed_event, abandoned, abandon_event}
 use Rattle.service_events.specs.Calls.{noted, named, deleted, replaced, all_deleted, slot_rows, settling_rows, next_after}
-use Rattle.service_events.specs.Fits.{Fits, WantsItsCalls, Place, place_of_entry, place_of_flight, call_to, call_in, wanted_call, sent_by}
+use Rattle.service_events.specs.Fits.{Fits, WantsItsCalls, NumberedCalls, calls_of_entry, calls_of_flight, call_to, call_in, wanted_call, sent_by}
 use Rattle.service_events.specs.Flying.{awaited, flight_run, before_answer, live_answer, surplus_rows, took_rows, committed, with_slot, with_change, deletion, change_rows, waits, call_or_none, wanted_of, named_unsent, changed_unsent, completing, completed, changed, moved, goes_on}
-use Rattle.service_events.specs.Messages.{rule, origin_of, is_known, is_too_much, acked_row, took_row, acked_again, taken_by, taken, take_admitted, take_event, confirmed_row, seen_row, heard, heard_by, heard_where, take_answer_event, had, replies_to, is_now, hold_of, held_back, held_where, posted, posted_event}
+use Rattle.service_events.specs.Messages.{rule, origin_of, is_known, is_too_much, acked_row, took_row, acked_again, taken_by, taken, take_admitted, take_event, confirmed_row, seen_row, heard, answer_taken_by, answer_taken_where, take_answer_event, had, replies_to, is_now, hold_of, held_back, held_where, posted, posted_event}
 use Rattle.service_events.specs.Orders.{order_rows, carried_out, order_by, order_where, refused, order_event}
-use Rattle.service_events.specs.State.{Kept, After, after, answers, or_else, is_crowded, is_heavy, is_in_flight, flight_of}
+use Rattle.service_events.specs.State.{Kept, After, after, answers, or_else, is_crowded, is_heavy, is_in_flight, flight_of, base}
 use Rattle.service_events.specs.Steps.{ended_or, rerun, new_trace, new_record, sent_rows, answer_rows, stepped, Stale, stale_in, step_by, step_event}
 use Rattle.service_events.specs.declared.answers.Arrived.{Arrived}
 use Rattle.service_events.specs.declared.answers.Heard.{Heard}
 use Rattle.service_events.specs.declared.answers.PostReply.{PostReply}
-use Rattle.service_events.specs.declared.answers.PostReply.TheVariants.{Acked as WasAcked, Confirmed as WasHeard, Refused, Lost}
+use Rattle.service_events.specs.declared.answers.PostReply.TheVariants.{Acked as WasAcked, Confirmed as WasConfirmedBack, Refused, Lost}
 use Rattle.service_events.specs.declared.answers.Posted.TheVariants.{Held, Left}
 use Rattle.service_events.specs.declared.refusals.AnswerRefused.{AnswerRefused}
 use Rattle.service_events.specs.declared.refusals.ArriveRefused.{ArriveRefused}
@@ -63,7 +63,7 @@ use Rattle.service_events.specs.declared.refusals.PostRefused.{PostRefused}
 use Rattle.service_events.specs.declared.refusals.TakeRefused.{TakeRefused}
 use Rattle.world_delivery_laws.proofs.ChainLaws.{IsOnward, calls_onward}
 use Rattle.service_call_laws.proofs.RowLemmas.{Each, each_append, each_behind, each_weaker, all_of_each}
-use Rattle.world_agreement.proofs.ListLemmas.{contains_here}
+use Rattle.service_entry_laws.proofs.SearchLemmas.{contains_here}
 use Rattle.world_events.specs.Reach.{GoesTo, CallsPeers}
 use Rattle.world_laws.proofs.PlaceFacts.{wanted_calls, entries_want, flight_wants}
 use Rattle.world_laws.proofs.StillLemmas.{sent_from}
@@ -83,7 +83,7 @@ module _ (peers : List (List ℕ)) where
   deleted_to rs (n ∷ ns) [] h = tt
   deleted_to rs (n ∷ ns) (c ∷ cs) h = (h.0, deleted_to rs ns cs h.1)
 
-  got_to : (cs : List CallMade) (i : ℕ) (o : Option CallMade) → slice_get cs i ≡ o → CallsTo peers cs → IfSome o (λ c. Contains peers c.dest)
+  pub got_to : (cs : List CallMade) (i : ℕ) (o : Option CallMade) → slice_get cs i ≡ o → CallsTo peers cs → IfSome o (λ c. Contains peers c.dest)
   got_to [] i None e h = tt
   got_to [] i (Some c) e h = cc
   got_to (x ∷ xs) zero None e h = tt
@@ -164,8 +164,8 @@ run_to s q i given rows ran is =
     (each_weaker (IsOnward s.setting.me s.setting.peers q) (λ (c : CallMade). Contains s.setting.peers c.dest) (λ c o. o.peer) (calls_in (run_of s.setting q i given rows))
     (calls_onward s.setting q i given rows))
 
-flight_to : (s : Kept) (f : Flight) (ran : Ran) → flight_run s f ≡ ran → CallsTo s.setting.peers (calls_in ran)
-flight_to s f ran is = run_to s f.request f.inputs (map (answers s) f.numbers) (rows_of s.entries) ran is
+pub flight_to : (s : Kept) (f : Flight) (ran : Ran) → flight_run s f ≡ ran → CallsTo s.setting.peers (calls_in ran)
+flight_to s f ran is = run_to s f.request f.inputs (map (answers s) f.numbers) (rows_after (base s) s.entries) ran is
 
 -- ---- a flight goes on
 
@@ -185,12 +185,12 @@ committed_reaches s f t own =
     (tt, took_to peers f.origin f.request))
     (tt, tt))
 
-call_by : (P : After Arrived → Type 0) (o : Option CallMade) (go : CallMade → After Arrived) (never : After Arrived) (Q : CallMade → Type 0) → IfSome o Q
+pub call_by : (P : After Arrived → Type 0) (o : Option CallMade) (go : CallMade → After Arrived) (never : After Arrived) (Q : CallMade → Type 0) → IfSome o Q
     → ((c : CallMade) → Q c → P (go c)) → P never → P (call_or_none o go never)
 call_by P None go never Q h each last = last
 call_by P (Some c) go never Q h each last = each c h
 
-wanted_to : (peers : List (List ℕ)) (ran : Ran) → CallsTo peers (calls_in ran) → IfSome (wanted_of ran) (λ c. Contains peers c.dest)
+pub wanted_to : (peers : List (List ℕ)) (ran : Ran) → CallsTo peers (calls_in ran) → IfSome (wanted_of ran) (λ c. Contains peers c.dest)
 wanted_to peers (Done t) h = tt
 wanted_to peers (Wants slot calls c) h = (each_behind (λ (x : CallMade). Contains peers x.dest) calls (c ∷ []) h).0
 
@@ -268,11 +268,11 @@ module _ (s : Kept) (fits : Fits s) (calls : CallsPeers s) where
           let peer = All-contains (GoesTo s.setting.peers) s.journal (Sent (sent_by r)) calls from.1 in
           subst (Contains s.setting.peers) (dest_is r r.desired e) peer
 
-  place_to : (p : Place) → WantsItsCalls s.registers p → CallsTo s.setting.peers p.calls
+  place_to : (p : NumberedCalls) → WantsItsCalls s.registers p → CallsTo s.setting.peers p.calls
   place_to p wants = wanted_calls s.registers (λ (c : CallMade). Contains s.setting.peers c.dest) wanted_peer p.numbers p.calls wants
 
   own_to : (id : ℕ) (f : Flight) → flight_of id s ≡ Some f → CallsTo s.setting.peers f.calls
-  own_to id f found = place_to (place_of_flight f) (flight_wants s fits id f found)
+  own_to id f found = place_to (calls_of_flight f) (flight_wants s fits id f found)
 
   abbrev Stays : {A : Type 0} → After A → Type 0
   Stays a = Reaches s a.service
@@ -286,13 +286,13 @@ module _ (s : Kept) (fits : Fits s) (calls : CallsPeers s) where
   admitted_reaches o q i (Some n) = same
   admitted_reaches o q i None = goes_on_reaches s (new_flight s o q i) tt
 
-  known_reaches : (c : List ℕ) (n : ℕ) (e : Entry) (m : Option Made) → Stays (known_by s c n e m)
+  known_reaches : (c : List ℕ) (n : ℕ) (e : Entry) (m : Option Record) → Stays (known_by s c n e m)
   known_reaches c n e None = same
   known_reaches c n e (Some m) = same
 
   or_known_reaches : (c : List ℕ) (n : ℕ) (q : Request) (i : Inputs) (o : Option Entry) → Stays (arrives_or_known s c n q i o)
   or_known_reaches c n q i None = admitted_reaches (Call c n) q i (or_else (is_crowded s) (is_heavy s))
-  or_known_reaches c n q i (Some e) = known_reaches c n e e.made
+  or_known_reaches c n q i (Some e) = known_reaches c n e (record_of e)
 
   by_version_reaches : (version : ℕ) (d : Option Request) (known : After (Result Arrived ArriveRefused)) → Stays known → Stays (by_version s version d known)
   by_version_reaches version None known h = same
@@ -317,9 +317,9 @@ module _ (s : Kept) (fits : Fits s) (calls : CallsPeers s) where
   answered_reaches : (id : ℕ) (a : AnswerMessage) (o : Option Flight) → flight_of id s ≡ o → Stays (answered_flight s id a o)
   answered_reaches id a None is = same
   answered_reaches id a (Some f) is =
-      let m = noted (heard_rows s a) s in
+      let m = noted (live_answer_rows s a) s in
       cond_both (is_for s a f) (accepted (goes_on m f)) (after s (Err (CallRefused.NoFlight id))) (λ x. Reaches s x.service)
-      (λ _. reaches_then s m (goes_on m f).service (reaches_by s m (heard_rows s a) refl refl (tt, heard_to a (is_new_to a (register a.number s.registers))))
+      (λ _. reaches_then s m (goes_on m f).service (reaches_by s m (live_answer_rows s a) refl refl (tt, heard_to a (is_new_to a (register a.number s.registers))))
       (goes_on_reaches m f (own_to id f is)))
       (λ _. same)
 
@@ -381,7 +381,7 @@ module _ (s : Kept) (fits : Fits s) (calls : CallsPeers s) where
   stepped_reaches : (e : Entry) (rows : List Cell) → Contains s.entries e → Stays (stepped s e (new_record s rows e))
   stepped_reaches e rows has =
       let m = new_record s rows e in
-      let old = place_to (place_of_entry e) (All-contains (λ x. WantsItsCalls s.registers (place_of_entry x)) s.entries e (entries_want s fits) has) in
+      let old = place_to (calls_of_entry e) (All-contains (λ x. WantsItsCalls s.registers (calls_of_entry x)) s.entries e (entries_want s fits) has) in
       reaches_by s (stepped s e m).service (sent_rows s e m ++ answer_rows e m) refl refl
       (each_append (GoesTo s.setting.peers) (sent_rows s e m) (answer_rows e m)
       (settling_to s.setting.peers s.registers (next_number s.registers) e.slots (calls_of_made e.made) m.trace.calls old (trace_to rows e))
@@ -392,7 +392,7 @@ module _ (s : Kept) (fits : Fits s) (calls : CallsPeers s) where
   step_by_reaches (Some x) h = stepped_reaches x.entry x.rows h
 
   pub step_reaches : Reaches s (step_event s).service
-  step_reaches = step_by_reaches (stale_in (answers s) [] s.entries) (stale_there (answers s) [] s.entries)
+  step_reaches = step_by_reaches (stale_in (answers s) (base s) s.entries) (stale_there (answers s) (base s) s.entries)
 
   -- ---- orders and messages
 
@@ -432,8 +432,8 @@ module _ (s : Kept) (fits : Fits s) (calls : CallsPeers s) where
       cond_both (is_in_flight (origin_of set) s) (after s (Err (TakeRefused.NotYet set.number))) (take_admitted s set i (is_too_much s set)) (λ a. Reaches s a.service)
       (λ _. same) (λ _. take_admitted_reaches set i (is_too_much s set))
 
-  heard_by_reaches : (a : AnswerMessage) (r : Register) → Stays (heard_by s a r)
-  heard_by_reaches a r = by (same_text r.dest a.callee) (is_newer r.answer a.answer_version)
+  answer_taken_by_reaches : (a : AnswerMessage) (r : Register) → Stays (answer_taken_by s a r)
+  answer_taken_by_reaches a r = by (same_text r.dest a.callee) (is_newer r.answer a.answer_version)
     where
       by : (goes new : Bool)
           → Stays {A = Result Heard AnswerRefused} (cond (not goes) (after s (Err (AnswerRefused.Unknown a.number)))
@@ -442,12 +442,12 @@ module _ (s : Kept) (fits : Fits s) (calls : CallsPeers s) where
       by true true = reaches_by s _ (seen_row a ∷ (confirmed_row a ∷ [])) refl refl (tt, (tt, tt))
       by true false = reaches_by s _ (confirmed_row a ∷ []) refl refl (tt, tt)
 
-  heard_where_reaches : (a : AnswerMessage) (o : Option Register) → Stays (heard_where s a o)
-  heard_where_reaches a None = same
-  heard_where_reaches a (Some r) = heard_by_reaches a r
+  answer_taken_where_reaches : (a : AnswerMessage) (o : Option Register) → Stays (answer_taken_where s a o)
+  answer_taken_where_reaches a None = same
+  answer_taken_where_reaches a (Some r) = answer_taken_by_reaches a r
 
   pub take_answer_reaches : (a : AnswerMessage) → Reaches s (take_answer_event s a).service
-  take_answer_reaches a = heard_where_reaches a (register a.number s.registers)
+  take_answer_reaches a = answer_taken_where_reaches a (register a.number s.registers)
 
   held_reaches : (post : Post) (hold : Hold) → Reaches s (held_back s post hold)
   held_reaches (Set set) hold = reaches_same s _ refl refl
@@ -460,7 +460,7 @@ module _ (s : Kept) (fits : Fits s) (calls : CallsPeers s) where
 
   replied_reaches : (post : Post) (reply : PostReply) → Stays (posted s post reply)
   replied_reaches post (WasAcked ack) = reaches_by s _ (_ ∷ []) refl refl (tt, tt)
-  replied_reaches post (WasHeard c) = reaches_by s _ (_ ∷ []) refl refl (tt, tt)
+  replied_reaches post (WasConfirmedBack c) = reaches_by s _ (_ ∷ []) refl refl (tt, tt)
   replied_reaches post (Refused word n) = held_where_reaches post (hold_of word n)
   replied_reaches post (Lost note) = same
 

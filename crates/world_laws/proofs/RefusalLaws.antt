@@ -7,8 +7,8 @@ use Rattle.lang_core.specs.declared.ids.Origin.TheVariants.{Outside, Call as Cal
 use Rattle.lang_core.specs.declared.inputs.Inputs.{Inputs}
 use Rattle.lang_core.specs.declared.request.Request.{Request}
 use Rattle.request_log.specs.Entries.{find_call}
+use Rattle.request_log.specs.Records.{Record, record_of}
 use Rattle.request_log.specs.declared.entry.Entry.{Entry}
-use Rattle.request_log.specs.declared.entry.Made.{Made}
 use Rattle.repair_messages.specs.declared.messages.AnswerMessage.{AnswerMessage}
 use Rattle.repair_messages.specs.declared.messages.SetMessage.{SetMessage}
 use Rattle.repair_messages.specs.declared.posts.Post.{Post}
@@ -24,17 +24,17 @@ use Rattle.call_registers.specs.declared.register.Register.{Register}
 use Rattle.call_registers.specs.declared.register.Why.{Why}
 use Rattle.call_registers.specs.declared.register.Why.TheVariants.{Lost, Refused as WasRefused}
 use Rattle.flights.specs.declared.flight.Flight.{Flight}
-use Rattle.service_events.specs.Arriving.{accepted, admitted, known_by, arrives_or_known, by_version, unless_gone, arrive_event, is_for, heard_rows, answered_flight, call_answered_event, told, failed_flight, call_failed_event}
+use Rattle.service_events.specs.Arriving.{accepted, admitted, known_by, arrives_or_known, by_version, unless_gone, arrive_event, is_for, live_answer_rows, answered_flight, call_answered_event, told, failed_flight, call_failed_event}
 use Rattle.service_events.specs.Calls.{noted}
 use Rattle.service_events.specs.Flying.{awaited, goes_on}
-use Rattle.service_events.specs.Messages.{rule, origin_of, is_known, is_too_much, acked_again, taken_by, taken, take_admitted, take_event, confirmed_row, seen_row, heard, heard_where, take_answer_event, had, replies_to, is_now, hold_of, held_back, held_where, posted, posted_event}
+use Rattle.service_events.specs.Messages.{rule, origin_of, is_known, is_too_much, acked_again, taken_by, taken, take_admitted, take_event, confirmed_row, seen_row, heard, answer_taken_where, take_answer_event, had, replies_to, is_now, hold_of, held_back, held_where, posted, posted_event}
 use Rattle.service_events.specs.Orders.{order_by, order_where, refused as why_refused}
 use Rattle.service_events.specs.Posts.{next_post}
 use Rattle.service_events.specs.State.{Kept, After, after, or_else, is_crowded, is_heavy, is_in_flight, flight_of}
 use Rattle.service_events.specs.declared.answers.Arrived.{Arrived}
 use Rattle.service_events.specs.declared.answers.Heard.{Heard}
 use Rattle.service_events.specs.declared.answers.PostReply.{PostReply}
-use Rattle.service_events.specs.declared.answers.PostReply.TheVariants.{Acked as WasAcked, Confirmed as WasHeard, Refused, Lost as PostIsLost}
+use Rattle.service_events.specs.declared.answers.PostReply.TheVariants.{Acked as WasAcked, Confirmed as WasConfirmedBack, Refused, Lost as PostIsLost}
 use Rattle.service_events.specs.declared.answers.Posted.{Posted}
 use Rattle.service_events.specs.declared.answers.Posted.TheVariants.{Held, Left}
 use Rattle.service_events.specs.declared.answers.Taken.{Taken}
@@ -47,7 +47,7 @@ use Rattle.service_events.specs.declared.refusals.TakeRefused.{TakeRefused}
 use Rattle.world_agreement.specs.Partners.{has_name, service_of}
 use Rattle.world_agreement.proofs.ListLemmas.{some_is}
 use Rattle.world_events.specs.Worlds.{World, with_service, packet_of, next_inputs, once_drawn, once_lost, loss_note}
-use Rattle.world_events.specs.Events.{Turn, Served, refused, turned, if_there, turn_at, at_service, outcome, begun, called, answered, failed, sender, taken_rule, takes, heard_rule, hears, gets_back, posts_next, posts_to, steps, gives_up, orders, call_delivered, reply_delivered, post_delivered, delivered, lost, if_flying, turn, answer_to, after_event}
+use Rattle.world_events.specs.Events.{Turn, Served, refused, turned, if_there, turn_at, at_service, outcome, arrive_served, call_arrive_served, call_answered_served, call_failed_served, sender, taken_rule, take_served, answer_rule, take_answer_served, posted_served, next_post_written, next_post_served, repair_step_served, abandon_served, order_served, call_delivered, reply_delivered, post_delivered, delivered, lost, if_flying, turn, answer_to, after_event}
 use Rattle.world_events.specs.Refusals.{is_refusal, was_refused}
 use Rattle.world_events.specs.declared.event.Event.{Event}
 use Rattle.world_events.specs.declared.event.Event.TheVariants.{Begin, Deliver, Lose, Post as Posts, Step, Abandon, Order, Clock, Seed}
@@ -65,7 +65,7 @@ abbrev StaysIfRefused : {A E : Type 0} → Kept → After (Result A E) → Type 
 StaysIfRefused s a = is_err a.answer ≡ true → a.service ≡ s
 
 module _ (s : Kept) where
-  known_stays : (c : List ℕ) (n : ℕ) (e : Entry) (m : Option Made) → StaysIfRefused s (known_by s c n e m)
+  known_stays : (c : List ℕ) (n : ℕ) (e : Entry) (m : Option Record) → StaysIfRefused s (known_by s c n e m)
   known_stays c n e None bad = refl
   known_stays c n e (Some m) bad = refl
 
@@ -75,7 +75,7 @@ module _ (s : Kept) where
 
   or_known_stays : (c : List ℕ) (n : ℕ) (q : Request) (i : Inputs) (o : Option Entry) → StaysIfRefused s (arrives_or_known s c n q i o)
   or_known_stays c n q i None = admitted_stays (CallOrigin c n) q i (or_else (is_crowded s) (is_heavy s))
-  or_known_stays c n q i (Some e) = known_stays c n e e.made
+  or_known_stays c n q i (Some e) = known_stays c n e (record_of e)
 
   by_version_stays : (v : ℕ) (d : Option Request) (known : After (Result Arrived ArriveRefused)) → StaysIfRefused s known → StaysIfRefused s (by_version s v d known)
   by_version_stays v None known h = λ bad. refl
@@ -95,7 +95,7 @@ module _ (s : Kept) where
   answered_stays : (id : ℕ) (a : AnswerMessage) (o : Option Flight) → StaysIfRefused s (answered_flight s id a o)
   answered_stays id a None = λ bad. refl
   answered_stays id a (Some f) =
-      cond_both (is_for s a f) (accepted (goes_on (noted (heard_rows s a) s) f)) (after s (Err (CallRefused.NoFlight id))) (StaysIfRefused s) (λ _ bad. cc) (λ _ bad. refl)
+      cond_both (is_for s a f) (accepted (goes_on (noted (live_answer_rows s a) s) f)) (after s (Err (CallRefused.NoFlight id))) (StaysIfRefused s) (λ _ bad. cc) (λ _ bad. refl)
 
   failed_stays : (id n : ℕ) (why : Why) (o : Option Flight) → StaysIfRefused s (failed_flight s id n why o)
   failed_stays id n why None = λ bad. refl
@@ -113,7 +113,7 @@ module _ (s : Kept) where
       cond_both (is_in_flight (origin_of set) s) (after s (Err (TakeRefused.NotYet set.number))) (take_admitted s set i (is_too_much s set)) (StaysIfRefused s) (λ _ bad. refl)
       (λ _. take_admitted_stays set i (is_too_much s set))
 
-  heard_stays : (a : AnswerMessage) (o : Option Register) → StaysIfRefused s (heard_where s a o)
+  heard_stays : (a : AnswerMessage) (o : Option Register) → StaysIfRefused s (answer_taken_where s a o)
   heard_stays a None = λ bad. refl
   heard_stays a (Some r) = by (same_text r.dest a.callee) (is_newer r.answer a.answer_version)
     where
@@ -131,7 +131,7 @@ module _ (s : Kept) where
 
   replied_stays : (post : Post) (reply : PostReply) → StaysIfRefused s (posted s post reply)
   replied_stays post (WasAcked ack) = λ bad. cc
-  replied_stays post (WasHeard c) = λ bad. cc
+  replied_stays post (WasConfirmedBack c) = λ bad. cc
   replied_stays post (Refused word n) = held_stays post (hold_of word n)
   replied_stays post (PostIsLost note) = λ bad. refl
 
@@ -157,7 +157,7 @@ rule_err : (r : Result Taken TakeRefused) → is_err (taken_rule r) ≡ is_err r
 rule_err (Ok t) = refl
 rule_err (Err why) = refl
 
-heard_err : (r : Result Heard AnswerRefused) → is_err (heard_rule r) ≡ is_err r
+heard_err : (r : Result Heard AnswerRefused) → is_err (answer_rule r) ≡ is_err r
 heard_err (Ok t) = refl
 heard_err (Err why) = refl
 
@@ -185,31 +185,31 @@ module _ (w : World) where
       by (Some s) found bad =
           ap (λ xs. with_service name (act s).service xs) services ∙ with_is_put name (act s).service w.services ∙ ap (λ t. put name t w.services) (stays s bad) ∙ put_same name s w.services found
 
-  begun_stays : (q : Request) (i : Inputs) (s : Kept) → is_refusal (begun w.packets q s i).what ≡ true → (begun w.packets q s i).service ≡ s
+  begun_stays : (q : Request) (i : Inputs) (s : Kept) → is_refusal (arrive_served w.packets q s i).what ≡ true → (arrive_served w.packets q s i).service ≡ s
   begun_stays q i s bad = arrive_stays s Outside q i (sym (outcome_err (arrive_event s Outside q i).answer) ∙ bad)
 
   call_stays : (number flight : ℕ) (call : SetMessage) (o : Option Request) → Stays (call_delivered w number flight call o)
   call_stays number flight call None = λ bad. refl
   call_stays number flight call (Some q) =
-      stays_at call.dest (once_drawn w) refl (λ s. called flight call q s (next_inputs w))
+      stays_at call.dest (once_drawn w) refl (λ s. call_arrive_served flight call q s (next_inputs w))
       (λ s bad. arrive_stays s (CallOrigin call.caller call.number) q (next_inputs w) (sym (outcome_err (arrive_event s (CallOrigin call.caller call.number) q (next_inputs w)).answer) ∙ bad))
 
-  failed_at : (name : List ℕ) (then : World) → then.services ≡ w.services → (flight n : ℕ) (why : Why) → Stays (turn_at name w then (failed w.packets flight n why))
+  failed_at : (name : List ℕ) (then : World) → then.services ≡ w.services → (flight n : ℕ) (why : Why) → Stays (turn_at name w then (call_failed_served w.packets flight n why))
   failed_at name then services flight n why =
-      stays_at name then services (failed w.packets flight n why) (λ s bad. failed_stays s flight n why (flight_of flight s) (sym (outcome_err (call_failed_event s flight n why).answer) ∙ bad))
+      stays_at name then services (call_failed_served w.packets flight n why) (λ s bad. failed_stays s flight n why (flight_of flight s) (sym (outcome_err (call_failed_event s flight n why).answer) ∙ bad))
 
   reply_stays : (to : List ℕ) (flight : ℕ) (call : SetMessage) (reply : Live) → Stays (reply_delivered w to flight call reply)
   reply_stays to flight call (LiveAnswer a) =
-      stays_at to w refl (answered w.packets flight a) (λ s bad. answered_stays s flight a (flight_of flight s) (sym (outcome_err (call_answered_event s flight a).answer) ∙ bad))
+      stays_at to w refl (call_answered_served w.packets flight a) (λ s bad. answered_stays s flight a (flight_of flight s) (sym (outcome_err (call_answered_event s flight a).answer) ∙ bad))
   reply_stays to flight call (LiveRefused word n) = failed_at to w refl flight call.number (WasRefused word n)
 
   post_stays : (post : Post) → Stays (post_delivered w post)
   post_stays (SetPost set) =
-      stays_at set.dest (once_drawn w) refl (λ s. takes set s (next_inputs w)) (λ s bad. take_stays s set (next_inputs w) (sym (rule_err (take_event s set (next_inputs w)).answer) ∙ bad))
-  post_stays (AnswerPost a) = stays_at a.caller w refl (hears a) (λ s bad. heard_stays s a (register a.number s.registers) (sym (heard_err (take_answer_event s a).answer) ∙ bad))
+      stays_at set.dest (once_drawn w) refl (λ s. take_served set s (next_inputs w)) (λ s bad. take_stays s set (next_inputs w) (sym (rule_err (take_event s set (next_inputs w)).answer) ∙ bad))
+  post_stays (AnswerPost a) = stays_at a.caller w refl (take_answer_served a) (λ s bad. heard_stays s a (register a.number s.registers) (sym (heard_err (take_answer_event s a).answer) ∙ bad))
 
-  back_at : (name : List ℕ) (then : World) → then.services ≡ w.services → (post : Post) (reply : PostReply) → Stays (turn_at name w then (gets_back post reply))
-  back_at name then services post reply = stays_at name then services (gets_back post reply) (λ s bad. posted_stays s post reply bad)
+  back_at : (name : List ℕ) (then : World) → then.services ≡ w.services → (post : Post) (reply : PostReply) → Stays (turn_at name w then (posted_served post reply))
+  back_at name then services post reply = stays_at name then services (posted_served post reply) (λ s bad. posted_stays s post reply bad)
 
   delivered_stays : (number : ℕ) (p : Option Packet) → Stays (delivered w number p)
   delivered_stays number None = λ bad. refl
@@ -225,33 +225,33 @@ module _ (w : World) where
   lost_stays number (Some (PostPacket post)) = back_at (sender post) (once_lost w) refl post (PostIsLost (loss_note w))
   lost_stays number (Some (PostReplyPacket post reply)) = back_at (sender post) (once_lost w) refl post (PostIsLost (loss_note w))
 
-  next_stays : (s : Kept) (o : Option PostName) → is_refusal (posts_next s o).what ≡ true → (posts_next s o).service ≡ s
+  next_stays : (s : Kept) (o : Option PostName) → is_refusal (next_post_written s o).what ≡ true → (next_post_written s o).service ≡ s
   next_stays s None bad = refl
   next_stays s (Some name) bad = refl
 
-  posts_stays : (from to : List ℕ) (o : Option Kept) → Stays (if_there o (refused w NoService) (λ _. at_service from w (posts_to to)))
+  posts_stays : (from to : List ℕ) (o : Option Kept) → Stays (if_there o (refused w NoService) (λ _. at_service from w (next_post_served to)))
   posts_stays from to None = λ bad. refl
-  posts_stays from to (Some s) = stays_at from w refl (posts_to to) (λ s bad. next_stays s (next_post to s) bad)
+  posts_stays from to (Some s) = stays_at from w refl (next_post_served to) (λ s bad. next_stays s (next_post to s) bad)
 
   abandoned_stays : (name : List ℕ) (flight : ℕ) (o : Option Kept)
-      → Stays (if_there o (refused w NoService) (λ s. if_flying w flight (flight_of flight s) (turned name w (gives_up flight s))))
+      → Stays (if_there o (refused w NoService) (λ s. if_flying w flight (flight_of flight s) (turned name w (abandon_served flight s))))
   abandoned_stays name flight None = λ bad. refl
   abandoned_stays name flight (Some s) = by (flight_of flight s)
     where
-      by : (f : Option Flight) → Stays (if_flying w flight f (turned name w (gives_up flight s)))
+      by : (f : Option Flight) → Stays (if_flying w flight f (turned name w (abandon_served flight s)))
       by None bad = refl
       by (Some f) bad = cc
 
   -- an event that is refused, or at which something is refused, changes no service
   pub refused_stays : (e : Event) → was_refused (answer_to w e) ≡ true → (after_event w e).services ≡ w.services
   unfolding turn
-  refused_stays (Begin name q) = stays_at name (once_drawn w) refl (λ s. begun w.packets q s (next_inputs w)) (begun_stays q (next_inputs w))
+  refused_stays (Begin name q) = stays_at name (once_drawn w) refl (λ s. arrive_served w.packets q s (next_inputs w)) (begun_stays q (next_inputs w))
   refused_stays (Deliver number) = delivered_stays number (packet_of number w)
   refused_stays (Lose number) = lost_stays number (packet_of number w)
   refused_stays (Posts from to) = posts_stays from to (service_of to w.services)
-  refused_stays (Step name) = stays_at name w refl steps (λ s bad. cc)
+  refused_stays (Step name) = stays_at name w refl repair_step_served (λ s bad. cc)
   refused_stays (Abandon name flight) = abandoned_stays name flight (service_of name w.services)
   refused_stays (Order name command token who) =
-      stays_at name (once_drawn w) refl (λ s. orders command token who s (next_inputs w)) (λ s bad. order_stays s command token who (next_inputs w) (ordered token s.journal) bad)
+      stays_at name (once_drawn w) refl (λ s. order_served command token who s (next_inputs w)) (λ s bad. order_stays s command token who (next_inputs w) (ordered token s.journal) bad)
   refused_stays (Clock moment) = λ bad. refl
   refused_stays (Seed n) = λ bad. refl

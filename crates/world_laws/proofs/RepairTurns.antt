@@ -7,6 +7,7 @@ use Rattle.lang_core.specs.declared.ids.Origin.TheVariants.{Call}
 use Rattle.lang_core.specs.declared.inputs.Inputs.{Inputs}
 use Rattle.lang_core.specs.declared.request.Request.{Request}
 use Rattle.request_log.specs.Entries.{has_id, find_call}
+use Rattle.request_log.specs.Records.{Record, record_of}
 use Rattle.request_log.specs.declared.entry.Entry.{Entry}
 use Rattle.request_log.specs.declared.entry.Made.{Made}
 use Rattle.local_repair.specs.Steps.{calls_of_made}
@@ -33,14 +34,14 @@ use Rattle.flights.specs.declared.flight.Flight.{Flight}
 use Rattle.service_events.specs.Arriving.{abandoned, abandon_event}
 use Rattle.service_events.specs.Calls.{noted, all_deleted}
 use Rattle.service_events.specs.Fits.{Fits, sent_by}
-use Rattle.service_events.specs.Messages.{rule, origin_of, is_known, is_too_much, ack_of, acked_row, took_row, acked_again, taken_by, taken, take_admitted, take_event, confirm_of, confirmed_row, seen_row, heard, heard_where, take_answer_event, had_call, had, is_ack_of, replies_to, is_now, hold_of, held_back, held_where, posted, posted_event}
+use Rattle.service_events.specs.Messages.{rule, origin_of, is_known, is_too_much, ack_of, acked_row, took_row, acked_again, taken_by, taken, take_admitted, take_event, confirm_of, confirmed_row, seen_row, heard, answer_taken_where, take_answer_event, had_call, had, is_ack_of, replies_to, is_now, hold_of, held_back, held_where, posted, posted_event}
 use Rattle.service_events.specs.Orders.{order_rows, carried_out, order_by, order_where, refused, order_event}
 use Rattle.service_events.specs.Posts.{set_message, answer_post, reply_post, where_there, write_post}
-use Rattle.service_events.specs.State.{Kept, After, after, me, answers, is_in_flight, flight_of, has_flight, next_id}
+use Rattle.service_events.specs.State.{Kept, After, after, me, answers, is_in_flight, flight_of, has_flight, next_id, base}
 use Rattle.service_events.specs.Steps.{Stale, new_record, sent_rows, answer_rows, stepped, stale_in, step_by, step_event}
 use Rattle.service_events.specs.declared.answers.Heard.{Heard}
 use Rattle.service_events.specs.declared.answers.PostReply.{PostReply}
-use Rattle.service_events.specs.declared.answers.PostReply.TheVariants.{Acked as WasAcked, Confirmed as WasHeard, Refused, Lost}
+use Rattle.service_events.specs.declared.answers.PostReply.TheVariants.{Acked as WasAcked, Confirmed as WasConfirmedBack, Refused, Lost}
 use Rattle.service_events.specs.declared.answers.Posted.TheVariants.{Held, Left}
 use Rattle.service_events.specs.declared.answers.Taken.{Taken}
 use Rattle.service_events.specs.declared.refusals.AnswerRefused.{AnswerRefused}
@@ -115,7 +116,7 @@ module _ (services : List Kept) (s : Kept) (fits : Fits s) (flights : FlightsSta
   step_by_turns (Some x) = stepped_turns x.entry (new_record s x.rows x.entry)
 
   pub step_turns : Turns services s (step_event s).service
-  step_turns = step_by_turns (stale_in (answers s) [] s.entries)
+  step_turns = step_by_turns (stale_in (answers s) (base s) s.entries)
 
   ordered_turns : (command : Command) (token who : List ℕ) (i : Inputs) → Turns services s (noted (order_rows s command token who i) (carried_out s command who i))
   ordered_turns (Cancel id) token who i = own_turns services s _ (order_rows s (Cancel id) token who i) refl refl (tt, tt) flights
@@ -209,21 +210,21 @@ module _ (services : List Kept) (s : Kept) (fits : Fits s) (flights : FlightsSta
         cond_both (is_in_flight (origin_of set) s) (after s (Err (TakeRefused.NotYet set.number))) (take_admitted s set i (is_too_much s set)) (Takes set)
         (λ _. takes_not (TakeRefused.NotYet set.number)) (λ _. admitted_takes i (is_too_much s set))
 
-  -- ---- an answer is heard
+  -- ---- an answer is taken
 
   abbrev pub SaysHeard : AnswerMessage → Kept → Result Heard AnswerRefused → Type 0
   SaysHeard a t (Ok h) = (h.confirm ≡ confirm_of a) × HasConfirmed a.number a.answer_version t.journal
   SaysHeard a t (Err why) = Unit {0}
 
-  pub record Hears (a : AnswerMessage) (x : After (Result Heard AnswerRefused)) : Type 0 where
+  pub record KeepsOver (a : AnswerMessage) (x : After (Result Heard AnswerRefused)) : Type 0 where
     pub turns : Turns services s x.service
     pub says : SaysHeard a x.service x.answer
 
   module _ (a : AnswerMessage) (caller : a.caller ≡ me s) (answered : WasAnswered services a) where
-    hears_not : (why : AnswerRefused) → Hears a (after s (Err why))
+    hears_not : (why : AnswerRefused) → KeepsOver a (after s (Err why))
     hears_not why = record { turns = no_turn services s flights; says = tt }
 
-    hears_by : (rows : List Row) (by : Option ℕ) → All (HasPartner services s) rows → Hears a (after (noted (rows ++ confirmed_row a ∷ []) s) (Ok (heard a by)))
+    hears_by : (rows : List Row) (by : Option ℕ) → All (HasPartner services s) rows → KeepsOver a (after (noted (rows ++ confirmed_row a ∷ []) s) (Ok (heard a by)))
     hears_by rows by partners = record {
       turns = record {
         grows = record { rows = rows ++ confirmed_row a ∷ []; is = refl; setting = refl };
@@ -234,23 +235,23 @@ module _ (services : List Kept) (s : Kept) (fits : Fits s) (flights : FlightsSta
     }
 
     heard_new : (r : Register) → IsHeard services s a r → (b : Bool)
-        → Hears a (cond b (after (noted (seen_row a ∷ (confirmed_row a ∷ [])) s) (Ok (heard a (Some rule)))) (after (noted (confirmed_row a ∷ []) s) (Ok (heard a None))))
+        → KeepsOver a (cond b (after (noted (seen_row a ∷ (confirmed_row a ∷ [])) s) (Ok (heard a (Some rule)))) (after (noted (confirmed_row a ∷ []) s) (Ok (heard a None))))
     heard_new r h true =
         hears_by (seen_row a ∷ []) (Some rule) (All-cons (HasPartner services s) (seen_row a) [] (heard_said services s fits a r h) (All-nil (HasPartner services s)))
     heard_new r h false = hears_by [] None (All-nil (HasPartner services s))
 
     heard_if : (r : Register) → register a.number s.registers ≡ Some r → (b : Bool) → same_text r.dest a.callee ≡ b
-        → Hears a (cond (not b) (after s (Err (AnswerRefused.Unknown a.number)))
+        → KeepsOver a (cond (not b) (after s (Err (AnswerRefused.Unknown a.number)))
         (cond (is_newer r.answer a.answer_version) (after (noted (seen_row a ∷ (confirmed_row a ∷ [])) s) (Ok (heard a (Some rule)))) (after (noted (confirmed_row a ∷ []) s) (Ok (heard a None)))))
     heard_if r found true is =
         heard_new r (record { there = found; dest = text_is r.dest a.callee is; caller = caller; answered = answered }) (is_newer r.answer a.answer_version)
     heard_if r found false is = hears_not (AnswerRefused.Unknown a.number)
 
-    heard_of : (o : Option Register) → register a.number s.registers ≡ o → Hears a (heard_where s a o)
+    heard_of : (o : Option Register) → register a.number s.registers ≡ o → KeepsOver a (answer_taken_where s a o)
     heard_of None found = hears_not (AnswerRefused.Unknown a.number)
     heard_of (Some r) found = heard_if r found (same_text r.dest a.callee) refl
 
-    pub take_answer_hears : Hears a (take_answer_event s a)
+    pub take_answer_hears : KeepsOver a (take_answer_event s a)
     take_answer_hears = heard_of (register a.number s.registers) refl
 
   -- ---- something comes back of a post
@@ -281,7 +282,7 @@ module _ (services : List Kept) (s : Kept) (fits : Fits s) (flights : FlightsSta
             flights = flights;
           }
 
-  confirmed_turns : (a : AnswerMessage) (c : Confirm) → PostReplyStands services (WasHeard c) → Turns services s (posted s (Answer a) (WasHeard c)).service
+  confirmed_turns : (a : AnswerMessage) (c : Confirm) → PostReplyStands services (WasConfirmedBack c) → Turns services s (posted s (Answer a) (WasConfirmedBack c)).service
   confirmed_turns a c stands = record {
     grows = record { rows = _ ∷ []; is = refl; setting = refl };
     partners = All-cons (HasPartner services s) _ [] stands (All-nil (HasPartner services s));
@@ -301,8 +302,8 @@ module _ (services : List Kept) (s : Kept) (fits : Fits s) (flights : FlightsSta
   replied_turns : (post : Post) (answer : PostReply) → had s post ≡ true → replies_to post answer ≡ true → PostReplyStands services answer
       → Turns services s (posted s post answer).service
   replied_turns (Set set) (WasAcked ack) has is stands = acked_turns set ack has is stands
-  replied_turns (Answer a) (WasHeard c) has is stands = confirmed_turns a c stands
-  replied_turns (Set set) (WasHeard c) has is stands = cc
+  replied_turns (Answer a) (WasConfirmedBack c) has is stands = confirmed_turns a c stands
+  replied_turns (Set set) (WasConfirmedBack c) has is stands = cc
   replied_turns (Answer a) (WasAcked ack) has is stands = cc
   replied_turns post (Refused word n) has is stands = held_where_turns post (hold_of word n)
   replied_turns post (Lost note) has is stands = no_turn services s flights
@@ -326,7 +327,7 @@ module _ (services : List Kept) (s : Kept) (fits : Fits s) (flights : FlightsSta
       let from = subst (λ o. IfSome o (λ x. (x.number ≡ n) × Contains s.journal (Sent x))) (sym last) (sent_from n s.journal) in
       (refl, from.1)
 
-  answer_here : (p : Reply) (e : Entry) → find (has_id e.id) s.entries ≡ Some e → e.origin ≡ Call p.caller p.number → (o : Option Made) → e.made ≡ o
+  answer_here : (p : Reply) (e : Entry) → find (has_id e.id) s.entries ≡ Some e → e.origin ≡ Call p.caller p.number → (o : Option Record) → record_of e ≡ o
       → IfSome (option_map (answer_post s p e) o) StandsHere
   answer_here p e found from None is = tt
   answer_here p e found from (Some m) is = (refl, entry_answered s fits e found p.caller p.number from m is)
@@ -337,7 +338,7 @@ module _ (services : List Kept) (s : Kept) (fits : Fits s) (flights : FlightsSta
       let of = of_entry s.journal s.entries s.replies id p (logged s fits) found in
       let by_id : find (has_id (of.entry).id) s.entries ≡ Some of.entry =
       ap (λ k. find (has_id k) s.entries) (found_itself s.entries p.id of.entry of.found) ∙ of.found in
-      subst (λ o. IfSome (reply_post s p o) StandsHere) (sym of.found) (answer_here p of.entry by_id of.from (of.entry).made refl)
+      subst (λ o. IfSome (reply_post s p o) StandsHere) (sym of.found) (answer_here p of.entry by_id of.from (record_of of.entry) refl)
 
   pub written_here : (name : PostName) → IfSome (write_post s name) StandsHere
   written_here (OfCall n) = call_here n (register n s.registers) refl

@@ -203,7 +203,7 @@ module _ (program : List Route) (token : List ℕ) where
     pub mends : turn before_step (Step shop_name)
         ≡ happens after_step shop_name (RepairStep (RanAgain 1 true)) None
     unfolding turn
-    mends = rw (alive_still, same_request, other_answers, runs_again, other_answer) refl
+    mends = rw alive_still (rw same_request (rw other_answers (rw runs_again (rw other_answer refl))))
 
   -- and nothing is left to do
   nothing_more : turn after_step (Posts shop_name bank_name)
@@ -222,7 +222,7 @@ module _ (program : List Route) (token : List ℕ) where
   shop_rests : turn after_step (Step shop_name)
       ≡ happens after_step shop_name (RepairStep Idle) None
   unfolding turn
-  shop_rests = rw (same_call, other_answer, alive_still, same_request, same_answers) refl
+  shop_rests = rw same_call (rw other_answer (rw alive_still (rw same_request (rw same_answers refl))))
 
   same_pay : equal request.the_row.coded pay pay ≡ true
   same_pay = equal-same request.the_row.coded pay pay refl
@@ -233,4 +233,4 @@ module _ (program : List Route) (token : List ℕ) where
   bank_rests : turn after_step (Step bank_name)
       ≡ happens after_step bank_name (RepairStep Idle) None
   unfolding turn
-  bank_rests = rw (alive_still, same_pay, no_answers) refl
+  bank_rests = rw alive_still (rw same_pay (rw no_answers refl))

@@ -43,7 +43,7 @@ use Rattle.world_agreement.specs.Partners.{has_name, service_of, NamesDiffer, Is
 use Rattle.world_agreement.proofs.ListLemmas.{found_in, found_passes}
 use Rattle.world_agreement.proofs.NameLemmas.{name_is}
 use Rattle.world_events.specs.Worlds.{World, fresh_world, with_service, packet_of, next_inputs, once_drawn, once_lost, loss_note}
-use Rattle.world_events.specs.Events.{Turn, Served, refused, turned, if_there, turn_at, at_service, sent_or, lives, unsaid, is_call_of, reply_to, reply_among, begun, live_refusal, called, answered, failed, sender, set_reply, takes, answer_reply, hears, gets_back, posts_next, posts_to, steps, gives_up, orders, call_delivered, reply_delivered, post_delivered, delivered, call_lost, post_lost, lost, posted, if_flying, abandoned, turn, after_event, after_events}
+use Rattle.world_events.specs.Events.{Turn, Served, refused, turned, if_there, turn_at, at_service, sent_or, lives, unsaid, is_call_of, reply_to, reply_among, arrive_served, live_refusal, call_arrive_served, call_answered_served, call_failed_served, sender, set_reply, take_served, answer_reply, take_answer_served, posted_served, next_post_written, next_post_served, repair_step_served, abandon_served, order_served, call_delivered, reply_delivered, post_delivered, delivered, call_lost, post_lost, lost, next_post_turn, if_flying, abandon_turn, turn, after_event, after_events}
 use Rattle.world_events.specs.Sound.{WasSent, WasAnswered, CallStands, ReplyStands, PostStands, PostReplyStands, PacketStands, OriginStands, FlightStands, FlightsStand, AreSound, IsSound, AreFew, AllFew}
 use Rattle.world_events.specs.declared.event.Event.{Event}
 use Rattle.world_events.specs.declared.event.Event.TheVariants.{Begin, Deliver, Lose, Post as Posts, Step, Abandon, Order, Clock, Seed}
@@ -142,8 +142,8 @@ module _ (services : List Kept) (packets : List Packet) (h : AreSound services p
   reply_stands t turns o a given (Some (PostPacket post)) found = tt
   reply_stands t turns o a given (Some (PostReplyPacket post reply)) found = tt
 
-  pub begun_owes : (q : Request) (i : Inputs) → Owes services name s (begun packets q s i)
-  begun_owes q i =
+  pub arrive_served_owes : (q : Request) (i : Inputs) → Owes services name s (arrive_served packets q s i)
+  arrive_served_owes q i =
       let m = arrive_moves services s fits flights Outside q i tt in
       live_owes Outside (arrive_event s Outside q i) what.Arrive (reply_among packets) unsaid m (arrive_fits s Outside q i fits)
       (λ a given. reply_stands (arrive_event s Outside q i).service m.turns Outside a given (find (is_call_of a.caller a.number) packets) refl) (λ why. tt)
@@ -155,9 +155,9 @@ module _ (services : List Kept) (packets : List Packet) (h : AreSound services p
   refusal_stands call flight t stands (arrive.NotYet n) = (stands, tt)
   refusal_stands call flight t stands (arrive.Gone v) = (stands, tt)
 
-  pub called_owes : (from : List ℕ) (flight : ℕ) (call : SetMessage) (q : Request) (i : Inputs) → CallStands services from call → call.dest ≡ name → call.desired ≡ Some q
-      → Owes services name s (called flight call q s i)
-  called_owes from flight call q i stands dest desired =
+  pub call_arrive_served_owes : (from : List ℕ) (flight : ℕ) (call : SetMessage) (q : Request) (i : Inputs) → CallStands services from call → call.dest ≡ name → call.desired ≡ Some q
+      → Owes services name s (call_arrive_served flight call q s i)
+  call_arrive_served_owes from flight call q i stands dest desired =
       let origin : Origin = CallOrigin call.caller call.number in
       let Sent : List ℕ → ℕ → Option Request → Type 0 = λ d v r. JournalOf services call.caller (HasSent d call.number v r) in
       let sent_to : List ℕ → Type 0 = λ d. Sent d call.version call.desired in
@@ -176,14 +176,14 @@ module _ (services : List Kept) (packets : List Packet) (h : AreSound services p
       caller_is : (a : AnswerMessage) → CallOrigin call.caller call.number ≡ CallOrigin a.caller a.number → a.caller ≡ call.caller
       caller_is a e = cc
 
-  pub answered_owes : (flight : ℕ) (a : AnswerMessage) → a.caller ≡ name → WasAnswered services a → Owes services name s (answered packets flight a s)
-  answered_owes flight a caller was =
+  pub call_answered_served_owes : (flight : ℕ) (a : AnswerMessage) → a.caller ≡ name → WasAnswered services a → Owes services name s (call_answered_served packets flight a s)
+  call_answered_served_owes flight a caller was =
       let m = call_answered_moves services s fits flights flight a (caller ∙ sym is) was in
       live_owes m.0 (call_answered_event s flight a) what.CallAnswered (reply_among packets) unsaid m.1 (call_answered_fits s flight a fits)
       (λ x given. reply_stands (call_answered_event s flight a).service m.1.turns m.0 x given (find (is_call_of x.caller x.number) packets) refl) (λ why. tt)
 
-  pub failed_owes : (flight n : ℕ) (why : Why) → Owes services name s (failed packets flight n why s)
-  failed_owes flight n why =
+  pub call_failed_served_owes : (flight n : ℕ) (why : Why) → Owes services name s (call_failed_served packets flight n why s)
+  call_failed_served_owes flight n why =
       let m = call_failed_moves services s fits flights flight n why in
       live_owes m.0 (call_failed_event s flight n why) what.CallFailed (reply_among packets) unsaid m.1 (call_failed_fits s flight n why fits)
       (λ x given. reply_stands (call_failed_event s flight n why).service m.1.turns m.0 x given (find (is_call_of x.caller x.number) packets) refl) (λ why. tt)
@@ -193,8 +193,8 @@ module _ (services : List Kept) (packets : List Packet) (h : AreSound services p
   post_later : (t : Kept) → Turns services s t → (post : Post) → PostStands services post → PostStands (put name t services) post
   post_later t turns post stands = packet_still services (put name t services) (grew_put name s t turns.grows services here) (PostPacket post) stands
 
-  takes_owes : (call : SetMessage) (i : Inputs) → WasSent services call → call.dest ≡ name → Owes services name s (takes call s i)
-  takes_owes call i was dest =
+  take_served_owes : (call : SetMessage) (i : Inputs) → WasSent services call → call.dest ≡ name → Owes services name s (take_served call s i)
+  take_served_owes call i was dest =
       let a = take_event s call i in
       let m = take_takes services s fits flights call was (dest ∙ sym is) i in
       record { turns = m.turns; fits = take_fits s call i fits; packet = (post_later a.service m.turns (SetPost call) was, said a.service m.turns a.answer m.says) }
@@ -208,8 +208,8 @@ module _ (services : List Kept) (packets : List Packet) (h : AreSound services p
       said t turns (Err (take.NotYet n)) says = tt
       said t turns (Err (take.Denied n)) says = tt
 
-  hears_owes : (a : AnswerMessage) → a.caller ≡ name → WasAnswered services a → Owes services name s (hears a s)
-  hears_owes a caller was =
+  take_answer_served_owes : (a : AnswerMessage) → a.caller ≡ name → WasAnswered services a → Owes services name s (take_answer_served a s)
+  take_answer_served_owes a caller was =
       let x = take_answer_event s a in
       let m = take_answer_hears services s fits flights a (caller ∙ sym is) was in
       record { turns = m.turns; fits = take_answer_fits s a fits; packet = (post_later x.service m.turns (AnswerPost a) was, said x.service m.turns x.answer m.says) }
@@ -222,13 +222,13 @@ module _ (services : List Kept) (packets : List Packet) (h : AreSound services p
       said t turns (Err (answer.Unknown n)) says = tt
       said t turns (Err (answer.Denied n)) says = tt
 
-  gets_back_owes : (post : Post) (reply : PostReply) → PostReplyStands services reply → Owes services name s (gets_back post reply s)
-  gets_back_owes post reply stands =
+  posted_served_owes : (post : Post) (reply : PostReply) → PostReplyStands services reply → Owes services name s (posted_served post reply s)
+  posted_served_owes post reply stands =
       record { turns = posted_turns services s fits flights post reply stands; fits = posted_fits s post reply fits; packet = tt }
 
-  posts_owes : (o : Option PostName) → Owes services name s (posts_next s o)
-  posts_owes None = record { turns = no_turn services s flights; fits = λ _. fits; packet = tt }
-  posts_owes (Some p) = record { turns = no_turn services s flights; fits = λ _. fits; packet = said (write_post s p) (written_here services s fits flights p) }
+  next_post_written_owes : (o : Option PostName) → Owes services name s (next_post_written s o)
+  next_post_written_owes None = record { turns = no_turn services s flights; fits = λ _. fits; packet = tt }
+  next_post_written_owes (Some p) = record { turns = no_turn services s flights; fits = λ _. fits; packet = said (write_post s p) (written_here services s fits flights p) }
     where
       here_stands : (post : Post) → StandsHere services s fits flights post → PostStands (put name s services) post
       here_stands (SetPost call) says =
@@ -240,14 +240,14 @@ module _ (services : List Kept) (packets : List Packet) (h : AreSound services p
       said None says = tt
       said (Some post) says = here_stands post says
 
-  steps_owes : Owes services name s (steps s)
-  steps_owes = record { turns = step_turns services s fits flights; fits = step_fits s fits; packet = tt }
+  repair_step_served_owes : Owes services name s (repair_step_served s)
+  repair_step_served_owes = record { turns = step_turns services s fits flights; fits = step_fits s fits; packet = tt }
 
-  pub gives_up_owes : (flight : ℕ) → Owes services name s (gives_up flight s)
-  gives_up_owes flight = record { turns = abandon_turns services s fits flights flight; fits = abandon_fits s flight fits; packet = tt }
+  pub abandon_served_owes : (flight : ℕ) → Owes services name s (abandon_served flight s)
+  abandon_served_owes flight = record { turns = abandon_turns services s fits flights flight; fits = abandon_fits s flight fits; packet = tt }
 
-  orders_owes : (command : Command) (token who : List ℕ) (i : Inputs) → Owes services name s (orders command token who s i)
-  orders_owes command token who i =
+  order_served_owes : (command : Command) (token who : List ℕ) (i : Inputs) → Owes services name s (order_served command token who s i)
+  order_served_owes command token who i =
       record { turns = order_turns services s fits flights command token who i; fits = order_fits s command token who i fits; packet = tt }
 
 -- ---- a world
@@ -274,21 +274,21 @@ module _ (w : World) (h : IsSound w) where
       → Keeps (call_delivered w number flight call o)
   call_sound number from flight call stands None e = λ few. h
   call_sound number from flight call stands (Some q) e =
-      sound_at call.dest (once_drawn w) refl refl (λ s. called flight call q s (next_inputs w))
-      (λ s found. called_owes w.services w.packets h call.dest s found from flight call q (next_inputs w) stands refl e)
+      sound_at call.dest (once_drawn w) refl refl (λ s. call_arrive_served flight call q s (next_inputs w))
+      (λ s found. call_arrive_served_owes w.services w.packets h call.dest s found from flight call q (next_inputs w) stands refl e)
 
   reply_sound : (to : List ℕ) (flight : ℕ) (call : SetMessage) (reply : Live) → ReplyStands w.services to reply → Keeps (reply_delivered w to flight call reply)
   reply_sound to flight call (Answer a) stands =
-      sound_at to w refl refl (answered w.packets flight a) (λ s found. answered_owes w.services w.packets h to s found flight a stands.0 stands.1)
+      sound_at to w refl refl (call_answered_served w.packets flight a) (λ s found. call_answered_served_owes w.services w.packets h to s found flight a stands.0 stands.1)
   reply_sound to flight call (Refused word n) stands =
-      sound_at to w refl refl (failed w.packets flight call.number (WasRefused word n))
-      (λ s found. failed_owes w.services w.packets h to s found flight call.number (WasRefused word n))
+      sound_at to w refl refl (call_failed_served w.packets flight call.number (WasRefused word n))
+      (λ s found. call_failed_served_owes w.services w.packets h to s found flight call.number (WasRefused word n))
 
   post_sound : (post : Post) → PostStands w.services post → Keeps (post_delivered w post)
   post_sound (SetPost call) stands =
-      sound_at call.dest (once_drawn w) refl refl (λ s. takes call s (next_inputs w))
-      (λ s found. takes_owes w.services w.packets h call.dest s found call (next_inputs w) stands refl)
-  post_sound (AnswerPost a) stands = sound_at a.caller w refl refl (hears a) (λ s found. hears_owes w.services w.packets h a.caller s found a refl stands)
+      sound_at call.dest (once_drawn w) refl refl (λ s. take_served call s (next_inputs w))
+      (λ s found. take_served_owes w.services w.packets h call.dest s found call (next_inputs w) stands refl)
+  post_sound (AnswerPost a) stands = sound_at a.caller w refl refl (take_answer_served a) (λ s found. take_answer_served_owes w.services w.packets h a.caller s found a refl stands)
 
   delivered_sound : (number : ℕ) (p : Option Packet) → IfSome p (PacketStands w.services) → Keeps (delivered w number p)
   delivered_sound number None stands = λ few. h
@@ -296,17 +296,17 @@ module _ (w : World) (h : IsSound w) where
   delivered_sound number (Some (CallReply to flight call reply)) stands = reply_sound to flight call reply stands.1
   delivered_sound number (Some (PostPacket post)) stands = post_sound post stands
   delivered_sound number (Some (PostReplyPacket post reply)) stands =
-      sound_at (sender post) w refl refl (gets_back post reply) (λ s found. gets_back_owes w.services w.packets h (sender post) s found post reply stands.1)
+      sound_at (sender post) w refl refl (posted_served post reply) (λ s found. posted_served_owes w.services w.packets h (sender post) s found post reply stands.1)
 
   call_lost_sound : (name : List ℕ) (flight : ℕ) (call : SetMessage) → Keeps (call_lost w name flight call)
   call_lost_sound name flight call =
-      sound_at name (once_lost w) refl refl (failed w.packets flight call.number (Lost (loss_note w)))
-      (λ s found. failed_owes w.services w.packets h name s found flight call.number (Lost (loss_note w)))
+      sound_at name (once_lost w) refl refl (call_failed_served w.packets flight call.number (Lost (loss_note w)))
+      (λ s found. call_failed_served_owes w.services w.packets h name s found flight call.number (Lost (loss_note w)))
 
   post_lost_sound : (post : Post) → Keeps (post_lost w post)
   post_lost_sound post =
-      sound_at (sender post) (once_lost w) refl refl (gets_back post (PostIsLost (loss_note w)))
-      (λ s found. gets_back_owes w.services w.packets h (sender post) s found post (PostIsLost (loss_note w)) tt)
+      sound_at (sender post) (once_lost w) refl refl (posted_served post (PostIsLost (loss_note w)))
+      (λ s found. posted_served_owes w.services w.packets h (sender post) s found post (PostIsLost (loss_note w)) tt)
 
   lost_sound : (number : ℕ) (p : Option Packet) → Keeps (lost w number p)
   lost_sound number None = λ few. h
@@ -324,39 +324,39 @@ module _ (w : World) (h : IsSound w) where
   found_packet zero = tt
   found_packet (suc place) = got w.packets place h.standing
 
-  posted_sound : (from to : List ℕ) → Keeps (posted w from to)
+  posted_sound : (from to : List ℕ) → Keeps (next_post_turn w from to)
   posted_sound from to = by_service (service_of to w.services)
     where
-      by_service : (o : Option Kept) → Keeps (if_there o (refused w NoService) (λ _. at_service from w (posts_to to)))
+      by_service : (o : Option Kept) → Keeps (if_there o (refused w NoService) (λ _. at_service from w (next_post_served to)))
       by_service None few = h
       by_service (Some x) few =
-          sound_at from w refl refl (posts_to to) (λ s found. posts_owes w.services w.packets h from s found (next_post to s)) few
+          sound_at from w refl refl (next_post_served to) (λ s found. next_post_written_owes w.services w.packets h from s found (next_post to s)) few
 
-  abandoned_sound : (name : List ℕ) (flight : ℕ) → Keeps (abandoned w name flight)
+  abandoned_sound : (name : List ℕ) (flight : ℕ) → Keeps (abandon_turn w name flight)
   abandoned_sound name flight = by_service (service_of name w.services) refl
     where
-      by_flight : (s : Kept) → service_of name w.services ≡ Some s → (o : Option Flight) → Keeps (if_flying w flight o (turned name w (gives_up flight s)))
+      by_flight : (s : Kept) → service_of name w.services ≡ Some s → (o : Option Flight) → Keeps (if_flying w flight o (turned name w (abandon_served flight s)))
       by_flight s found None few = h
       by_flight s found (Some f) few =
-          sound_served w.services w.packets h name s found (gives_up flight s) (gives_up_owes w.services w.packets h name s found flight) few
+          sound_served w.services w.packets h name s found (abandon_served flight s) (abandon_served_owes w.services w.packets h name s found flight) few
 
       by_service : (o : Option Kept) → service_of name w.services ≡ o
-          → Keeps (if_there o (refused w NoService) (λ s. if_flying w flight (flight_of flight s) (turned name w (gives_up flight s))))
+          → Keeps (if_there o (refused w NoService) (λ s. if_flying w flight (flight_of flight s) (turned name w (abandon_served flight s))))
       by_service None found few = h
       by_service (Some s) found few = by_flight s found (flight_of flight s) few
 
   pub turn_sound : (e : Event) → AreFew (turn w e).world → IsSound (turn w e).world
   unfolding turn
   turn_sound (Begin name q) =
-      sound_at name (once_drawn w) refl refl (λ s. begun w.packets q s (next_inputs w)) (λ s found. begun_owes w.services w.packets h name s found q (next_inputs w))
+      sound_at name (once_drawn w) refl refl (λ s. arrive_served w.packets q s (next_inputs w)) (λ s found. arrive_served_owes w.services w.packets h name s found q (next_inputs w))
   turn_sound (Deliver number) = delivered_sound number (packet_of number w) (found_packet number)
   turn_sound (Lose number) = lost_sound number (packet_of number w)
   turn_sound (Posts from to) = posted_sound from to
-  turn_sound (Step name) = sound_at name w refl refl steps (λ s found. steps_owes w.services w.packets h name s found)
+  turn_sound (Step name) = sound_at name w refl refl repair_step_served (λ s found. repair_step_served_owes w.services w.packets h name s found)
   turn_sound (Abandon name flight) = abandoned_sound name flight
   turn_sound (Order name command token who) =
-      sound_at name (once_drawn w) refl refl (λ s. orders command token who s (next_inputs w))
-      (λ s found. orders_owes w.services w.packets h name s found command token who (next_inputs w))
+      sound_at name (once_drawn w) refl refl (λ s. order_served command token who s (next_inputs w))
+      (λ s found. order_served_owes w.services w.packets h name s found command token who (next_inputs w))
   turn_sound (Clock moment) = λ few. h
   turn_sound (Seed n) = λ few. h
 

@@ -1,8 +1,0 @@
-use Rattle.world_core.proofs.ServeLemmas.{answered_serves}
-use Rattle.world_core.proofs.requests.answered.Goals as goal
-
-pub returns-in-Ok : goal.returns-in-Ok
-returns-in-Ok c =
-    answered_serves c.args.packets.now c.args.service.now c.call_answered.new.self c.args.flight c.args.answer c.in_ok-from.from c.in_ok-from.back c.in-Ok.arrived c.outcome_of.result
-    c.sent.result c.in_ok-from.ensures.back
-    (record { is = c.in-Ok.ensures; from_it = c.in_ok-from.ensures.name; tells = c.outcome_of.ensures; sends = c.sent.ensures })

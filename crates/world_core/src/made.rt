@@ -1,9 +1,0 @@
-// What an event of a world comes to at its service.
-use world_events::{Packet, What};
-
-/// What happened at a service, and the packet that is written of it.
-#[derive(Drop)]
-pub struct Made {
-    pub what: What,
-    pub packet: Option<Packet>,
-}
