@@ -8,8 +8,8 @@ use aire_top::{aire, lacking_status};
 use io_edge::{Reading, RealFiles, Writing};
 use std::alloc::{AllocError, Global};
 use std::env::{Env, FillError};
-use std::io;
 use std::process::ExitCode;
+use std::{io, mem};
 
 // The most bytes of a word and a zero behind it: the system hands over no longer one.
 const LONGEST_WORD: usize = 131072;
@@ -60,7 +60,10 @@ fn main(rt: HostRuntime) -> ExitCode {
             let mut files = RealFiles::new(alloc, &rt);
             let mut input = Reading::new(rt.reader());
             let ended = aire(alloc, &words, &mut files, &mut input, &mut out);
-            ExitCode::from(ended.status)
+            let status = ended.status;
+            // Its memory goes with the process.
+            mem::forget(ended);
+            ExitCode::from(status)
         }
         Err(_) => ExitCode::from(lacking_status(&mut out)),
     }

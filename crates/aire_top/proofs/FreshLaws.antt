@@ -1,4 +1,4 @@
--- A world that begins with services which know each other is sound, and each message in it has a receiver.
+-- A world that begins with services which know each other is sound, nothing is repaired in it yet, and each message in it has a receiver.
 use Rattle.std.proofs.Common.{◌≡◌, ℕ, ◌<◌, Bool, true, false, List, [], ◌∷◌, Option, Some, IsSome, All, length, map, not, cond, refl, sym, ap, subst, ◌∙◌, arith}
 use Rattle.std.specs.List.{IsDistinct}
 use Rattle.std.specs.Cmp.Lexicographic.{bytes_decides}
@@ -10,8 +10,10 @@ use Rattle.service_events.specs.State.{Kept, me}
 use Rattle.service_events.specs.Fits.{Fits}
 use Rattle.service_events.proofs.StartLaw.{fits_start}
 use Rattle.world_agreement.specs.Partners.{HasPartner, NamesDiffer, has_name, service_of}
+use Rattle.world_events.specs.Live.{IsLiveWorld}
 use Rattle.world_events.specs.Reach.{ArePeered, CallsPeers, GoesTo, IsReached}
 use Rattle.world_events.specs.Sound.{IsSound}
+use Rattle.world_laws.proofs.LiveWorldLaws.{fresh_live}
 use Rattle.world_laws.proofs.WorldLaws.{fresh_sound}
 use Rattle.world_file.specs.Worlds.{IsAmong, KnowEachOther, name_of}
 use Rattle.world_file.specs.declared.setup.Setup.{Setup}
@@ -75,6 +77,12 @@ setups_sound setups know =
     fresh_sound services (names_differ setups know)
     (each_fresh Fits (λ setup. fits_start setup.setting) setups)
     (each_fresh (λ (s : Kept). All (HasPartner services s) s.journal) (λ setup. All-nil (HasPartner services (fresh_service setup))) setups)
+    (each_fresh (λ (s : Kept). s.flights ≡ []) (λ setup. refl) setups)
+
+pub setups_live : (setups : List Setup) → IsLiveWorld (fresh setups)
+setups_live setups =
+    fresh_live (map fresh_service setups)
+    (each_fresh (λ (s : Kept). s.journal ≡ []) (λ setup. refl) setups)
     (each_fresh (λ (s : Kept). s.flights ≡ []) (λ setup. refl) setups)
 
 pub setups_reached : (setups : List Setup) → KnowEachOther setups → IsReached (fresh setups)

@@ -6,10 +6,12 @@ use Rattle.io_edge.specs.Edge.{IsFront, ReadFails, Reads, WriteFails, Writes, Wr
 use Rattle.io_edge.specs.Files.{LoadFails, Loads}
 use Rattle.io_edge.proofs.Pieces.{front_whole, wrote_more}
 use Rattle.journal_rows.specs.declared.verdict.Verdict.{Verdict}
+use Rattle.world_events.specs.Live.{IsLiveWorld}
+use Rattle.world_events.specs.Sound.{IsSound}
 use Rattle.world_events.specs.Worlds.{World}
-use Rattle.script_run.specs.Plays.{Played, played, run_of_script}
-use Rattle.script_run.specs.Stops.{DoesAll, IsRefusedAt, StopsEarly, StopsInLine}
-use Rattle.script_run.proofs.PlayLaws.{early_front}
+use Rattle.script_run.specs.Plays.{IsPlayed, IsRunOf, Played, RunsIfLong, lines_of, refused_at}
+use Rattle.script_run.specs.Stops.{DoesAll, StopsEarly, StopsInLine}
+use Rattle.script_run.proofs.PlayLaws.{early_front, one_play}
 use Rattle.world_file.specs.Numbers.{refusal_text}
 use Rattle.world_file.specs.declared.setup.Setup.{Setup}
 use Rattle.aire_top.specs.Causes.{what_of}
@@ -62,65 +64,75 @@ ends_now a = record { front = []; of_line = ([], refl); wrote = λ all told. tol
 
 -- ---- a script in a world
 
-long_script : (start : World) (script : List ℕ) → 16777216 < length script → run_of_script start script ≡ record { world = start; out = []; refused = Some (0, 7) }
-long_script start script long = let e : nat_lt 16777216 (length script) ≡ true = search (tests, rules) in rw e refl
+long_script : (start : World) (script : List ℕ) → 16777216 < length script → IsRunOf start script (refused_at 0 7 start)
+long_script start script long =
+    let e : nat_lt 16777216 (length script) ≡ true = search (tests, rules) in
+    let R : Bool → Type 0 = λ b. RunsIfLong b start script (refused_at 0 7 start) in
+    subst R (sym e) refl
 
-short_script : (start : World) (script : List ℕ) → length script ≤ 16777216 → run_of_script start script ≡ played start script
-short_script start script short = let e : nat_lt 16777216 (length script) ≡ false = search (tests, rules) in rw e refl
+short_script : (start : World) (script : List ℕ) (p : Played) → length script ≤ 16777216 → IsPlayed start script p → IsRunOf start script p
+short_script start script p short played =
+    let e : nat_lt 16777216 (length script) ≡ false = search (tests, rules) in
+    let R : Bool → Type 0 = λ b. RunsIfLong b start script p in
+    subst R (sym e) played
 
-standing_in : (status : ℕ) (p q : Played) (world : World) → p ≡ q → world ≡ q.world → standing status world ≡ standing status p.world
-standing_in status p q world same done = ap (standing status) (done ∙ sym (ap (λ (x : Played). x.world) same))
+one_run_of : (long : Bool) (start : World) (script : List ℕ) (p q : Played) → RunsIfLong long start script p → RunsIfLong long start script q → p ≡ q
+one_run_of true start script p q a b = a ∙ sym b
+one_run_of false start script p q a b = one_play 1 start (lines_of script) p q a b
 
 -- memory is wanting when some of what the script prints is written
-lacks_behind : (start : World) (script : List ℕ) (a b c : Writes) (ans : Answer) → length script ≤ 16777216 → WroteFront a b (played start script).out → a.faults ≤ b.faults → LacksMemory b c ans
-    → LacksInScript (run_of_script start script) a c ans
-lacks_behind start script a b c ans short f h lacks =
-    let F : Played → Type 0 = λ p. IsFront f.0 p.out in
-    record {
-      answered = lacks.answered;
-      front = f.0;
-      of_script = subst F (sym (short_script start script short)) f.1;
-      ends = ends_behind a b c f.0 lacking_line f.2 h lacks.ends;
-    }
+lacks_behind : (start : World) (script : List ℕ) (p : Played) (a b c : Writes) (ans : Answer) → length script ≤ 16777216 → IsPlayed start script p → WroteFront a b p.out → a.faults ≤ b.faults → LacksMemory b c ans
+    → LacksInScript start script a c ans
+lacks_behind start script p a b c ans short played f h lacks = record {
+  p = p;
+  run = short_script start script p short played;
+  answered = lacks.answered;
+  front = f.0;
+  of_script = f.1;
+  ends = ends_behind a b c f.0 lacking_line f.2 h lacks.ends;
+}
 
 -- all lines are done
-pub all_done : (start : World) (script : List ℕ) (world : World) (a b : Writes) (ans : Answer) → length script ≤ 16777216 → DoesAll (played start script) world a b → (played start script).refused ≡ None
+pub all_done : (start : World) (script : List ℕ) (world : World) (a b : Writes) (ans : Answer) → length script ≤ 16777216 → IsSound start → IsLiveWorld start → DoesAll start script None world a b
     → ans ≡ standing 0 world → ScriptEnds start script a b ans
-all_done start script world a b ans short does goes good =
-    let p = short_script start script short in
-    let W : Played → Type 0 = λ q. Wrote a b q.out in
+all_done start script world a b ans short sound live does good =
     inl (record {
-      not_refused = ap (λ (q : Played). q.refused) p ∙ goes;
-      answered = good ∙ standing_in 0 _ _ world p does.same_world;
-      wrote = subst W (sym p) does.wrote;
+      p = does.p;
+      run = short_script start script does.p short does.played;
+      not_refused = does.ends;
+      answered = good ∙ ap (standing 0) does.same_world;
+      wrote = does.wrote;
+      told = does.told sound live;
     })
 
 -- a line is refused
-pub at_line : (start : World) (script : List ℕ) (line number : ℕ) (world : World) (a b c : Writes) (ans : Answer) → length script ≤ 16777216 → DoesAll (played start script) world a b → IsRefusedAt line number (played start script)
+pub at_line : (start : World) (script : List ℕ) (line number : ℕ) (world : World) (a b c : Writes) (ans : Answer) → length script ≤ 16777216 → IsSound start → IsLiveWorld start → DoesAll start script (Some (line, number)) world a b
     → a.faults ≤ b.faults → Closes b c (standing 3 world) (refused_line line number) ans → ScriptEnds start script a c ans
-at_line start script line number world a b c ans short does at h (inl good) =
-    let p = short_script start script short in
-    let E : Played → Type 0 = λ q. EndsWith a c q.out (refused_line line number) in
+at_line start script line number world a b c ans short sound live does h (inl good) =
     inr (inl (record {
+      p = does.p;
+      run = short_script start script does.p short does.played;
       line = line;
       number = number;
-      at_line = ap (λ (q : Played). q.refused) p ∙ at;
-      answered = good.0 ∙ standing_in 3 _ _ world p does.same_world;
-      ends = subst E (sym p) (ends_behind a b c _ _ does.wrote h good.1);
+      at_line = does.ends;
+      answered = good.0 ∙ ap (standing 3) does.same_world;
+      ends = ends_behind a b c _ _ does.wrote h good.1;
+      told = does.told sound live;
     }))
-at_line start script line number world a b c ans short does at h (inr lacks) =
-    inr (inr (inr (lacks_behind start script a b c ans short (front_whole a b _ does.wrote) h lacks)))
+at_line start script line number world a b c ans short sound live does h (inr lacks) =
+    inr (inr (inr (lacks_behind start script does.p a b c ans short does.played (front_whole a b _ does.wrote) h lacks)))
 
 -- a write failed in a line
-pub cut_short : (start : World) (script : List ℕ) (world : World) (a b : Writes) (ans : Answer) → StopsInLine start script world a b → WriteFails a b
+pub cut_short : (start : World) (script : List ℕ) (world : World) (a b : Writes) (ans : Answer) → IsSound start → IsLiveWorld start → StopsInLine start script world a b → WriteFails a b
     → ans ≡ standing 5 world → ScriptEnds start script a b ans
-cut_short start script world a b ans stops fails good =
-    inr (inr (inl (record { world = world; answered = good; in_line = stops; fault = fails })))
+cut_short start script world a b ans sound live stops fails good =
+    inr (inr (inl (record { world = world; answered = good; in_line = stops; fault = fails; told = stops.told sound live })))
 
 -- memory was wanting
 pub lacked : (start : World) (script : List ℕ) (world : World) (a b c : Writes) (ans : Answer) → length script ≤ 16777216 → StopsEarly start script world a b → a.faults ≤ b.faults → LacksMemory b c ans → ScriptEnds start script a c ans
 lacked start script world a b c ans short early h lacks =
-    inr (inr (inr (lacks_behind start script a b c ans short (early_front start script world a b early) h lacks)))
+    let f = early_front start script world a b early in
+    inr (inr (inr (lacks_behind start script f.0 a b c ans short f.1 f.2 h lacks)))
 
 -- ---- a script that a word names
 
@@ -137,17 +149,18 @@ pub too_long : (setups : List Setup) (word : List ℕ) (before now : Outside) (w
     → ((script : List ℕ) × IsGot word before.loads now.loads before.reads now.reads script × (16777216 < length script)) → Closes before.writes now.writes (standing 3 world) (refused_line 0 7) ans
     → RunsIn setups word before now ans
 too_long setups word before now world ans is got (inl good) =
-    let p = long_script (fresh setups) got.0 got.2 in
-    let E : Played → Type 0 = λ q. EndsWith before.writes now.writes q.out (refused_line 0 7) in
     inl (record {
       script = got.0;
       got = got.1;
       ended = inr (inl (record {
+        p = refused_at 0 7 (fresh setups);
+        run = long_script (fresh setups) got.0 got.2;
         line = 0;
         number = 7;
-        at_line = ap (λ (q : Played). q.refused) p;
-        answered = good.0 ∙ standing_in 3 _ _ world p is;
-        ends = subst E (sym p) good.1;
+        at_line = refl;
+        answered = good.0 ∙ ap (standing 3) is;
+        ends = good.1;
+        told = λ _. tt;
       }));
     })
 too_long setups word before now world ans is got (inr lacks) = inr (inr lacks)
@@ -251,19 +264,21 @@ same_setups a b x y is other e = let same : x ≡ y = cc in cc
 stands_refused : (a : List Setup) (what : List ℕ) (x y : WorldOrRefusal) → x ≡ Ok a → y ≡ Err what → Some x ≡ Some y → ⊥
 stands_refused a what x y is other e = let same : x ≡ y = cc in cc
 
-script_well : (start : World) (script : List ℕ) (before now : Writes) (ans : Answer) → (run_of_script start script).refused ≡ None → ¬ (WriteFails before now) → ScriptEnds start script before now ans → (ans.status ≡ 0) ⊎ (ans.status ≡ 6)
-script_well start script before now ans lines writes (inl done) = inl (ap (λ (x : Answer). x.status) done.answered)
-script_well start script before now ans lines writes (inr (inl at)) = absurd (some_none _ _ lines at.at_line)
-script_well start script before now ans lines writes (inr (inr (inl cut))) = absurd (writes cut.fault)
-script_well start script before now ans lines writes (inr (inr (inr lacks))) = inr (ap (λ (x : Answer). x.status) lacks.answered)
+script_well : (start : World) (script : List ℕ) (before now : Writes) (ans : Answer) (p : Played) → IsRunOf start script p → p.refused ≡ None → ¬ (WriteFails before now) → ScriptEnds start script before now ans → (ans.status ≡ 0) ⊎ (ans.status ≡ 6)
+script_well start script before now ans p run lines writes (inl done) = inl (ap (λ (x : Answer). x.status) done.answered)
+script_well start script before now ans p run lines writes (inr (inl at)) =
+    let same = one_run_of (nat_lt 16777216 (length script)) start script p at.p run at.run in
+    absurd (some_none _ _ (sym (ap (λ (x : Played). x.refused) same) ∙ lines) at.at_line)
+script_well start script before now ans p run lines writes (inr (inr (inl cut))) = absurd (writes cut.fault)
+script_well start script before now ans p run lines writes (inr (inr (inr lacks))) = inr (ap (λ (x : Answer). x.status) lacks.answered)
 
 pub ends_well : (words : Words) (before now : Outside) (ans : Answer) → IsGoodRun words before now → RunEnds words before now ans → (ans.status ≡ 0) ⊎ (ans.status ≡ 6)
 ends_well words before now ans good (inl run) =
     let setups = same_setups good.setups run.setups (Ok good.setups) (Ok run.setups) refl refl (run.world (Some (Ok good.setups)) good.world) in
     let script : good.script ≡ run.script = let e = run.of_word (Some good.script) good.of_word in cc in
-    let P : List Setup → Type 0 = λ s. (run_of_script (fresh s) good.script).refused ≡ None in
-    let Q : List ℕ → Type 0 = λ s. (run_of_script (fresh run.setups) s).refused ≡ None in
-    script_well (fresh run.setups) run.script before.writes now.writes ans (subst Q script (subst P setups good.lines)) good.writes run.ended
+    let P : List Setup → Type 0 = λ s. IsRunOf (fresh s) good.script good.p in
+    let Q : List ℕ → Type 0 = λ s. IsRunOf (fresh run.setups) s good.p in
+    script_well (fresh run.setups) run.script before.writes now.writes ans good.p (subst Q script (subst P setups good.run)) good.lines good.writes run.ended
 ends_well words before now ans good (inr (inl misused)) = absurd (some_none words.misfit misused.place good.fit misused.at_word)
 ends_well words before now ans good (inr (inr (inl none))) = absurd (stands_refused good.setups none.what (Ok good.setups) (Err none.what) refl refl (none.refused (Some (Ok good.setups)) good.world))
 ends_well words before now ans good (inr (inr (inr (inl unread)))) =

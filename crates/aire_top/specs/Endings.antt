@@ -7,8 +7,8 @@ use Rattle.service_events.specs.State.{Kept}
 use Rattle.world_events.specs.Worlds.{World}
 use Rattle.world_file.specs.declared.setup.Setup.{Setup}
 use Rattle.script_run.specs.Audits.{verdict}
-use Rattle.script_run.specs.Plays.{Played, run_of_script}
-use Rattle.script_run.specs.Stops.{StopsInLine}
+use Rattle.script_run.specs.Plays.{IsRunOf, Played}
+use Rattle.script_run.specs.Stops.{AreTold, StopsInLine}
 use Rattle.aire_top.specs.Top.{Is, Words, fresh, is_input, script_path, script_told, world_path, world_told}
 
 -- ---- what a run is told by
@@ -66,18 +66,24 @@ pub record EndsWith (before now : Writes) (text line : List ℕ) : Type 0 where
 -- ---- a script that is run in a world
 
 -- 0: all lines are done, and all that they print is written
-pub record AllDone (p : Played) (before now : Writes) (a : Answer) : Type 0 where
+pub record AllDone (start : World) (script : List ℕ) (before now : Writes) (a : Answer) : Type 0 where
+  pub p : Played
+  pub run : IsRunOf start script p
   pub not_refused : p.refused ≡ None
   pub answered : a ≡ standing 0 p.world
   pub wrote : Wrote before now p.out
+  pub told : AreTold start script p.events
 
 -- 3: a line is refused; those before it are done, all that they print is written, and then the refusal
-pub record LineRefused (p : Played) (before now : Writes) (a : Answer) : Type 0 where
+pub record LineRefused (start : World) (script : List ℕ) (before now : Writes) (a : Answer) : Type 0 where
+  pub p : Played
+  pub run : IsRunOf start script p
   pub line : ℕ
   pub number : ℕ
   pub at_line : p.refused ≡ Some (line, number)
   pub answered : a ≡ standing 3 p.world
   pub ends : EndsWith before now p.out (refused_line line number)
+  pub told : AreTold start script p.events
 
 -- 5: a write failed in a line; those before it are done and written, and nothing is done behind it
 pub record CutShort (start : World) (script : List ℕ) (before now : Writes) (a : Answer) : Type 0 where
@@ -85,9 +91,12 @@ pub record CutShort (start : World) (script : List ℕ) (before now : Writes) (a
   pub answered : a ≡ standing 5 world
   pub in_line : StopsInLine start script world before now
   pub fault : WriteFails before now
+  pub told : AreTold start script in_line.whole.events
 
 -- 6: memory is wanting; some of what the script prints is written, from its beginning, and then that
-pub record LacksInScript (p : Played) (before now : Writes) (a : Answer) : Type 0 where
+pub record LacksInScript (start : World) (script : List ℕ) (before now : Writes) (a : Answer) : Type 0 where
+  pub p : Played
+  pub run : IsRunOf start script p
   pub answered : a ≡ nothing 6
   pub front : List ℕ
   pub of_script : IsFront front p.out
@@ -96,10 +105,10 @@ pub record LacksInScript (p : Played) (before now : Writes) (a : Answer) : Type 
 -- a script ends in one of these four ways
 abbrev pub ScriptEnds : World → List ℕ → Writes → Writes → Answer → Type 0
 ScriptEnds start script before now a =
-    AllDone (run_of_script start script) before now a
-    ⊎ (LineRefused (run_of_script start script) before now a
+    AllDone start script before now a
+    ⊎ (LineRefused start script before now a
     ⊎ (CutShort start script before now a
-    ⊎ LacksInScript (run_of_script start script) before now a))
+    ⊎ LacksInScript start script before now a))
 
 -- ---- a run of the program
 
@@ -195,7 +204,9 @@ pub record IsGoodRun (words : Words) (before now : Outside) : Type 0 where
   pub world : world_told before.loads.files words.world ≡ Some (Some (Ok setups))
   pub script : List ℕ
   pub of_word : script_told before.loads.files before.reads.left words.script ≡ Some (Some script)
-  pub lines : (run_of_script (fresh setups) script).refused ≡ None
+  pub p : Played
+  pub run : IsRunOf (fresh setups) script p
+  pub lines : p.refused ≡ None
   pub loads : ¬ (LoadFails before.loads now.loads)
   pub reads : ¬ (ReadFails before.reads now.reads)
   pub writes : ¬ (WriteFails before.writes now.writes)

@@ -59,14 +59,14 @@ fitting world script = record { misfit = None; world = world; script = script }
 -- ---- what the words name
 
 -- What the outside tells of something that is loaded: None where it doesn't tell, Some None where there is none.
-abbrev pub Told : Type 0 → Type 0
-Told X = Option (Option X)
+abbrev pub Loaded : Type 0 → Type 0
+Loaded X = Option (Option X)
 
 -- where it is told, it is there, and is this
-abbrev pub Is : {X : Type 0} → Told X → X → Type 0
+abbrev pub Is : {X : Type 0} → Loaded X → X → Type 0
 Is told x = ForSome told (λ there. there ≡ Some x)
 
-abbrev pub file_told : Option (List ℕ → Option (List ℕ)) → List ℕ → Told (List ℕ)
+abbrev pub file_told : Option (List ℕ → Option (List ℕ)) → List ℕ → Loaded (List ℕ)
 file_told files path = option_map (λ at. at path) files
 
 -- a world, or the number of its refusal and what that is about
@@ -82,19 +82,19 @@ abbrev pub world_within : List ℕ → WorldOrRefusal
 world_within bytes = if nat_lt 4194304 (length bytes) then Err (codes "8") else world_from (world_of bytes)
 
 -- the world that a file holds
-abbrev pub file_world : Option (List ℕ → Option (List ℕ)) → List ℕ → Told WorldOrRefusal
+abbrev pub file_world : Option (List ℕ → Option (List ℕ)) → List ℕ → Loaded WorldOrRefusal
 file_world files path = option_map (option_map world_within) (file_told files path)
 
-abbrev pub world_or : Option (List Setup) → Told WorldOrRefusal → Told WorldOrRefusal
+abbrev pub world_or : Option (List Setup) → Loaded WorldOrRefusal → Loaded WorldOrRefusal
 world_or (Some setups) file = Some (Some (Ok setups))
 world_or None file = file
 
 -- the world of a word: one that comes with the program, or that of the file of this path
-abbrev pub world_told : Option (List ℕ → Option (List ℕ)) → List ℕ → Told WorldOrRefusal
+abbrev pub world_told : Option (List ℕ → Option (List ℕ)) → List ℕ → Loaded WorldOrRefusal
 world_told files word = world_or (built_in word) (file_world files word)
 
 -- the script of a word: the input, or the file of this path
-abbrev pub script_told : Option (List ℕ → Option (List ℕ)) → Option (List ℕ) → List ℕ → Told (List ℕ)
+abbrev pub script_told : Option (List ℕ → Option (List ℕ)) → Option (List ℕ) → List ℕ → Loaded (List ℕ)
 script_told files input word = if is_input word then option_map Some input else file_told files word
 
 -- ---- what is asked for

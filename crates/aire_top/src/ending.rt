@@ -3,7 +3,7 @@ ghost use Rattle.std.specs.Prelude.{◌≡◌, ◌≤◌, IfSome, Some, codes};
 ghost use Rattle.journal_rows.specs.declared.verdict.Verdict.TheVariants.{Legal};
 ghost use Rattle.world_events.specs.Sound.{IsSound};
 ghost use Rattle.script_run.specs.Audits.{SaysForged};
-ghost use Rattle.world_agreement.specs.Legal.{IsLegalTogether, histories};
+ghost use Rattle.world_agreement.specs.Legal.{AreLegal};
 ghost use Rattle.world_file.specs.Numbers.{refusal_text};
 ghost use Rattle.aire_top.specs.Closings.{Closes};
 ghost use Rattle.aire_top.specs.Endings.{LacksMemory, answer, nothing, refused_line, standing, unread_line, usage_line, world_line};
@@ -27,7 +27,7 @@ pub struct Ended {
 // The end of a run without services.
 fn without(alloc: Global, status: u8) -> Ended
     ensures answer { answer result.status result.services.items result.verdict ≡ nothing status }
-    ensures legal { result.verdict ≡ Some Legal → IsLegalTogether (histories result.services.items) }
+    ensures legal { result.verdict ≡ Some Legal → AreLegal result.services.items }
     ensures joined { IfSome result.verdict (λ v. ¬ (SaysForged v)) }
 {
     Ended {
@@ -40,7 +40,7 @@ fn without(alloc: Global, status: u8) -> Ended
 /// The end of a run for want of memory: 6.
 pub fn lacking<K: Sink>(alloc: Global, out: &mut K) -> Ended
     ensures ends { LacksMemory (K.writes out.old) (K.writes out.new) (answer result.status result.services.items result.verdict) }
-    ensures legal { result.verdict ≡ Some Legal → IsLegalTogether (histories result.services.items) }
+    ensures legal { result.verdict ≡ Some Legal → AreLegal result.services.items }
     ensures joined { IfSome result.verdict (λ v. ¬ (SaysForged v)) }
     ensures counted { (K.writes out.old).faults ≤ (K.writes out.new).faults }
 {
@@ -52,7 +52,7 @@ pub fn lacking<K: Sink>(alloc: Global, out: &mut K) -> Ended
 pub fn standing(status: u8, world: World) -> Ended
     requires { IsSound world }
     ensures answer { answer result.status result.services.items result.verdict ≡ standing status world }
-    ensures legal { result.verdict ≡ Some Legal → IsLegalTogether (histories result.services.items) }
+    ensures legal { result.verdict ≡ Some Legal → AreLegal result.services.items }
     ensures joined { IfSome result.verdict (λ v. ¬ (SaysForged v)) }
 {
     let verdict = Some(judge(&world));
@@ -67,7 +67,7 @@ pub fn standing(status: u8, world: World) -> Ended
 pub fn refusal<K: Sink>(alloc: Global, world: World, out: &mut K, line: u64, number: u64) -> Ended
     requires { IsSound world }
     ensures ends { Closes (K.writes out.old) (K.writes out.new) (standing 3 world) (refused_line line number) (answer result.status result.services.items result.verdict) }
-    ensures legal { result.verdict ≡ Some Legal → IsLegalTogether (histories result.services.items) }
+    ensures legal { result.verdict ≡ Some Legal → AreLegal result.services.items }
     ensures joined { IfSome result.verdict (λ v. ¬ (SaysForged v)) }
     ensures counted { (K.writes out.old).faults ≤ (K.writes out.new).faults }
 {
@@ -83,7 +83,7 @@ pub fn refusal<K: Sink>(alloc: Global, world: World, out: &mut K, line: u64, num
 /// The end of a run whose file or input can't be read: 4.
 pub fn unread<K: Sink>(alloc: Global, out: &mut K) -> Ended
     ensures ends { Closes (K.writes out.old) (K.writes out.new) (nothing 4) unread_line (answer result.status result.services.items result.verdict) }
-    ensures legal { result.verdict ≡ Some Legal → IsLegalTogether (histories result.services.items) }
+    ensures legal { result.verdict ≡ Some Legal → AreLegal result.services.items }
     ensures joined { IfSome result.verdict (λ v. ¬ (SaysForged v)) }
 {
     write_last(out, "read fault\n");
@@ -93,7 +93,7 @@ pub fn unread<K: Sink>(alloc: Global, out: &mut K) -> Ended
 /// The end of a run whose words don't fit: 2.
 pub fn misused<K: Sink>(alloc: Global, out: &mut K, place: u64) -> Ended
     ensures ends { Closes (K.writes out.old) (K.writes out.new) (nothing 2) (usage_line place) (answer result.status result.services.items result.verdict) }
-    ensures legal { result.verdict ≡ Some Legal → IsLegalTogether (histories result.services.items) }
+    ensures legal { result.verdict ≡ Some Legal → AreLegal result.services.items }
     ensures joined { IfSome result.verdict (λ v. ¬ (SaysForged v)) }
 {
     match format!(in alloc; "usage: word {place}\n") {
@@ -108,7 +108,7 @@ pub fn misused<K: Sink>(alloc: Global, out: &mut K, place: u64) -> Ended
 /// The end of a run whose world file is too long: 3.
 pub fn world_too_long<K: Sink>(alloc: Global, out: &mut K) -> Ended
     ensures ends { Closes (K.writes out.old) (K.writes out.new) (nothing 3) (world_line (codes "8")) (answer result.status result.services.items result.verdict) }
-    ensures legal { result.verdict ≡ Some Legal → IsLegalTogether (histories result.services.items) }
+    ensures legal { result.verdict ≡ Some Legal → AreLegal result.services.items }
     ensures joined { IfSome result.verdict (λ v. ¬ (SaysForged v)) }
 {
     write_last(out, "world refused 8\n");
@@ -118,7 +118,7 @@ pub fn world_too_long<K: Sink>(alloc: Global, out: &mut K) -> Ended
 /// The end of a run whose world file is refused: 3.
 pub fn world_refused<K: Sink>(alloc: Global, out: &mut K, why: &WorldRefused) -> Ended
     ensures ends { Closes (K.writes out.old) (K.writes out.new) (nothing 3) (world_line (refusal_text why.now)) (answer result.status result.services.items result.verdict) }
-    ensures legal { result.verdict ≡ Some Legal → IsLegalTogether (histories result.services.items) }
+    ensures legal { result.verdict ≡ Some Legal → AreLegal result.services.items }
     ensures joined { IfSome result.verdict (λ v. ¬ (SaysForged v)) }
 {
     match format!(in alloc; "world refused {why}\n") {

@@ -1,9 +1,10 @@
 // The top call.
 ghost use Rattle.std.specs.Prelude.{◌≡◌, ◌⊎◌, ◌≤◌, IfOk, IfSome, Some, map, string_bytes, length};
 ghost use Rattle.journal_rows.specs.declared.verdict.Verdict.TheVariants.{Legal};
+ghost use Rattle.world_events.specs.Live.{IsLiveWorld};
 ghost use Rattle.world_events.specs.Sound.{IsSound};
 ghost use Rattle.script_run.specs.Audits.{SaysForged};
-ghost use Rattle.world_agreement.specs.Legal.{IsLegalTogether, histories};
+ghost use Rattle.world_agreement.specs.Legal.{AreLegal};
 ghost use Rattle.world_file.specs.Worlds.{KnowEachOther};
 ghost use Rattle.aire_top.specs.Closings.{ClosesWorldless, RunsIn};
 ghost use Rattle.aire_top.specs.Endings.{IsGoodRun, RunEnds, ScriptEnds, answer, outside};
@@ -23,7 +24,7 @@ use world_file::Setup;
 // The end of a run that has no world.
 fn worldless<K: Sink>(alloc: Global, why: NoWorld, out: &mut K) -> Ended
     ensures ends { ClosesWorldless why (K.writes out.old) (K.writes out.new) (answer result.status result.services.items result.verdict) }
-    ensures legal { result.verdict ≡ Some Legal → IsLegalTogether (histories result.services.items) }
+    ensures legal { result.verdict ≡ Some Legal → AreLegal result.services.items }
     ensures joined { IfSome result.verdict (λ v. ¬ (SaysForged v)) }
 {
     match why {
@@ -38,8 +39,9 @@ fn worldless<K: Sink>(alloc: Global, why: NoWorld, out: &mut K) -> Ended
 fn play<K: Sink>(alloc: Global, world: World, script: &[u8], out: &mut K) -> Ended
     requires short { length script.now ≤ LONGEST_SCRIPT }
     requires sound { IsSound world }
+    requires live { IsLiveWorld world }
     ensures ends { ScriptEnds world script.now (K.writes out.old) (K.writes out.new) (answer result.status result.services.items result.verdict) }
-    ensures legal { result.verdict ≡ Some Legal → IsLegalTogether (histories result.services.items) }
+    ensures legal { result.verdict ≡ Some Legal → AreLegal result.services.items }
     ensures joined { IfSome result.verdict (λ v. ¬ (SaysForged v)) }
 {
     let mut world = world;
@@ -66,11 +68,12 @@ fn services_of(alloc: Global, setups: &[Setup]) -> Result<Vec<Service>, NoMemory
 }
 
 // A new world of services that are set up so.
-#[tactic(auto, using(crate::proofs::FreshLaws::names_differ, crate::proofs::FreshLaws::setups_sound))]
+#[tactic(auto, using(crate::proofs::FreshLaws::names_differ, crate::proofs::FreshLaws::peered, crate::proofs::FreshLaws::setups_sound, crate::proofs::FreshLaws::setups_live))]
 fn started(alloc: Global, setups: &[Setup]) -> Result<World, NoMemory>
     requires { KnowEachOther setups.now }
     ensures fresh { IfOk result (λ world. world ≡ fresh setups.now) }
     ensures sound { IfOk result (λ world. IsSound world) }
+    ensures live { IfOk result (λ world. IsLiveWorld world) }
 {
     let services = services_of(alloc, setups)?;
     Ok(World::new(alloc, services))
@@ -90,7 +93,7 @@ fn run_in<F: Files, S: Source, K: Sink>(
         (outside (F.loads files.old) (S.reads input.old) (K.writes out.old))
         (outside (F.loads files.new) (S.reads input.new) (K.writes out.new))
         (answer result.status result.services.items result.verdict) }
-    ensures legal { result.verdict ≡ Some Legal → IsLegalTogether (histories result.services.items) }
+    ensures legal { result.verdict ≡ Some Legal → AreLegal result.services.items }
     ensures joined { IfSome result.verdict (λ v. ¬ (SaysForged v)) }
 {
     let Ok(world) = started(alloc, &setups) else {
@@ -117,7 +120,7 @@ fn run<F: Files, S: Source, K: Sink>(
         (outside (F.loads files.old) (S.reads input.old) (K.writes out.old))
         (outside (F.loads files.new) (S.reads input.new) (K.writes out.new))
         (answer result.status result.services.items result.verdict) }
-    ensures legal { result.verdict ≡ Some Legal → IsLegalTogether (histories result.services.items) }
+    ensures legal { result.verdict ≡ Some Legal → AreLegal result.services.items }
     ensures joined { IfSome result.verdict (λ v. ¬ (SaysForged v)) }
 {
     match load_world(alloc, world, files) {
@@ -153,7 +156,7 @@ pub fn aire<F: Files, S: Source, K: Sink>(
     // Where the verdict is Legal, the logs and rows of all services form one legal execution of the surviving requests,
     // each service in logged order: with each call of one of them there is exactly one request at its destination, whose
     // response is what the call consumed, and no other call has one that is wanted.
-    ensures legal { result.verdict ≡ Some Legal → IsLegalTogether (histories result.services.items) }
+    ensures legal { result.verdict ≡ Some Legal → AreLegal result.services.items }
 
     // It is never Forged: what each service says of another is what that one says of itself.
     ensures joined { IfSome result.verdict (λ v. ¬ (SaysForged v)) }

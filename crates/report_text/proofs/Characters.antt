@@ -51,7 +51,7 @@ pub key_char : (c : ℕ) → flat_map key_byte (encode_utf8 c) ≡ (if nat_lt c 
 key_char c = char_by key_byte key_plain c (nat_lt c 128) refl
 
 -- a character more
-pub one_more : (f : ℕ → List ℕ) (before now next cs : List ℕ) (c : ℕ) → now ≡ before ++ flat_map f (encode_utf8_all cs) → next ≡ now ++ flat_map f (encode_utf8 c) → next ≡ before ++ flat_map f (encode_utf8_all (cs ++ c ∷ []))
-one_more f before now next cs c sofar more =
+pub character_more : (f : ℕ → List ℕ) (before now next cs : List ℕ) (c : ℕ) → now ≡ before ++ flat_map f (encode_utf8_all cs) → next ≡ now ++ flat_map f (encode_utf8 c) → next ≡ before ++ flat_map f (encode_utf8_all (cs ++ c ∷ []))
+character_more f before now next cs c sofar more =
     more ∙ rw (sofar, encodes-append cs (c ∷ []), append-nil (encode_utf8 c), flat_map-append f (encode_utf8_all cs) (encode_utf8 c))
     (append_assoc before (flat_map f (encode_utf8_all cs)) (flat_map f (encode_utf8 c)))

@@ -113,5 +113,5 @@ pub fn answer_line(alloc: Global, me: &Name, id: u64, response: &Response) -> Re
     line.push_str(" = ")?;
     push_response(&mut line, response)?;
     line.push_str("\n")?;
-    Ok(Text::from(line))
+    Text::shared(line)
 }

@@ -45,7 +45,7 @@ fn read_escapes(alloc: Global, body: &str) -> Result<Option<Text>, NoMemory>
         rest = more;
     }
     text.push_str(rest)?;
-    Ok(Some(Text::from(text)))
+    Ok(Some(Text::shared(text)?))
 }
 
 /// What a body stands for: `\\`, `\n` and `\r` in it are a backslash, a line feed and a carriage return. None exactly

@@ -24,7 +24,7 @@ pub(crate) fn or_none(mut lines: String) -> Result<Text, NoMemory>
     if lines.is_empty() {
         lines.push_str("none\n")?;
     }
-    Ok(Text::from(lines))
+    Text::shared(lines)
 }
 
 /// The rows, a line for each cell: `TABLE KEY TEXT`, or `none` alone. An empty text leaves out its space; a

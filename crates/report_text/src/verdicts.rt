@@ -50,5 +50,5 @@ pub fn verdict_text(alloc: Global, names: &Names, verdict: &Verdict) -> Result<T
             line.push_str("\n")?;
         }
     }
-    Ok(Text::from(line))
+    Text::shared(line)
 }

@@ -127,8 +127,8 @@ abbrev pub order_with : List ℕ → Command → List ℕ → List ℕ → Optio
 order_with service command token who = order_of (name_part service) command (who_part token) (who_part who)
 
 -- `S/N TOKEN WHO`
-unfoldable pub struck_at : (ℕ → Command) → Option (List ℕ) → Option Line
-struck_at command rest = with_part (order_parts rest) (λ o. at_end o.3
+unfoldable pub entry_order_at : (ℕ → Command) → Option (List ℕ) → Option Line
+entry_order_at command rest = with_part (order_parts rest) (λ o. at_end o.3
     (with_part (numbered o.0) (λ about. order_with about.0 (command about.1) o.1 o.2)))
 
 -- `S/N TOKEN WHO METHOD PATH BODY`
@@ -210,8 +210,8 @@ words_at word rest =
     else (if same_text word (codes "step") then shaped (service_at Step rest)
     else (if same_text word (codes "abandon") then shaped (abandon_at rest)
     else (if same_text word (codes "post") then shaped (post_at rest)
-    else (if same_text word (codes "cancel") then shaped (struck_at Cancel rest)
-    else (if same_text word (codes "restore") then shaped (struck_at Restore rest)
+    else (if same_text word (codes "cancel") then shaped (entry_order_at Cancel rest)
+    else (if same_text word (codes "restore") then shaped (entry_order_at Restore rest)
     else (if same_text word (codes "replace") then shaped (replace_at rest)
     else (if same_text word (codes "create") then shaped (create_at rest)
     else (if same_text word (codes "clock") then shaped (clock_at rest)

@@ -2,7 +2,7 @@
 ghost use Rattle.std.specs.Prelude.{◌≡◌, IfOk};
 ghost use Rattle.std.specs.Option.{option_map};
 ghost use Rattle.journal_rows.specs.declared.orders.Command.TheVariants.{Cancel as Strike, Restore};
-ghost use Rattle.script_lines.specs.Lines.{create_at, created_of, created_parts, name_part, order_of, order_parts, order_with, replace_at, struck_at, who_part};
+ghost use Rattle.script_lines.specs.Lines.{create_at, created_of, created_parts, name_part, order_of, order_parts, order_with, replace_at, entry_order_at, who_part};
 
 use crate::asking::{read_asked, request_of};
 use crate::line::Line;
@@ -80,9 +80,9 @@ fn order_with(
 }
 
 /// `cancel S/N TOKEN WHO`, behind its first word.
-#[tactic(auto, unfolding(crate::specs::Lines::struck_at))]
+#[tactic(auto, unfolding(crate::specs::Lines::entry_order_at))]
 pub fn read_cancel(alloc: Global, rest: Option<&str>) -> Result<Option<Line>, NoMemory>
-    ensures { IfOk result (λ r. r ≡ struck_at Strike (option_map (λ x. x.now) rest.entry)) }
+    ensures { IfOk result (λ r. r ≡ entry_order_at Strike (option_map (λ x. x.now) rest.entry)) }
 {
     let Some((about, token, who, None)) = cut_order(rest) else {
         return Ok(None);
@@ -94,9 +94,9 @@ pub fn read_cancel(alloc: Global, rest: Option<&str>) -> Result<Option<Line>, No
 }
 
 /// `restore S/N TOKEN WHO`, behind its first word.
-#[tactic(auto, unfolding(crate::specs::Lines::struck_at))]
+#[tactic(auto, unfolding(crate::specs::Lines::entry_order_at))]
 pub fn read_restore(alloc: Global, rest: Option<&str>) -> Result<Option<Line>, NoMemory>
-    ensures { IfOk result (λ r. r ≡ struck_at Restore (option_map (λ x. x.now) rest.entry)) }
+    ensures { IfOk result (λ r. r ≡ entry_order_at Restore (option_map (λ x. x.now) rest.entry)) }
 {
     let Some((about, token, who, None)) = cut_order(rest) else {
         return Ok(None);

@@ -22,8 +22,8 @@ use Rattle.world_agreement.specs.Quiet.{IsQuiet, AreQuiet}
 use Rattle.world_audit.specs.First.{IsFirstWithout}
 use Rattle.world_audit.specs.Tests.{is_partnered}
 use Rattle.world_audit.specs.Verdicts.{IsAcknowledged, IsFirstIn, IsFirstOf, IsForged, IsGiven, IsJoinedIn, IsUnsettled, IsVerdict, NoneIn, NoneOf, what_is}
-use Rattle.world_audit.specs.declared.outstanding.Kind.{Kind}
-use Rattle.world_audit.specs.declared.outstanding.Kind.TheVariants.{Flights, Entries, Calls, Answers}
+use Rattle.world_audit.specs.declared.outstanding.OutstandingKind.{OutstandingKind}
+use Rattle.world_audit.specs.declared.outstanding.OutstandingKind.TheVariants.{Flights, Entries, Calls, Answers}
 use Rattle.world_audit.proofs.PartnerLemmas.{partner_exactly}
 use Rattle.script_run.specs.Audits.{alone, first_found, forged_or, found_or, left_of, unless, unsettled_of, unsettled_or, verdict}
 
@@ -94,7 +94,7 @@ due_found n p is = elim (cases_Bool p.due) [
   | inr other ↦ absurd (is.0 other)
 ]
 
-none_left : (kind : Kind) (s : Kept) → NoneOf kind s → left_of kind s ≡ None
+none_left : (kind : OutstandingKind) (s : Kept) → NoneOf kind s → left_of kind s ≡ None
 none_left Flights s done = ap (λ (fs : List Flight). option_map (λ f. f.id) (slice_get fs 0)) done
 none_left Entries s done = sym (stale_id_none (answers s) s.entries done)
 none_left Calls s done =
@@ -106,11 +106,11 @@ flight_left : (fs : List Flight) (n : ℕ) → IsSomeAnd (slice_get fs 0) (λ f.
 flight_left [] n f = absurd f
 flight_left (g ∷ gs) n f = ap Some f
 
-stale_left : (consumed : Consumed) (entries : List Entry) (n : ℕ) → IsStaleId consumed entries n → stale_id consumed entries ≡ Some n
+stale_left : (consumed : Consumed) (entries : List Entry) (n : ℕ) → IsStaleId consumed [] entries n → stale_id consumed [] entries ≡ Some n
 stale_left consumed [] n f = absurd (omega (arith, (f.first).within))
 stale_left consumed (e ∷ es) n f = sym (stale_id_at consumed (e ∷ es) f.place e f.first) ∙ ap Some (f.names e)
 
-left_at : (kind : Kind) (s : Kept) (n : ℕ) → IsFirstIn kind s n → left_of kind s ≡ Some n
+left_at : (kind : OutstandingKind) (s : Kept) (n : ℕ) → IsFirstIn kind s n → left_of kind s ≡ Some n
 left_at Flights s n f = flight_left s.flights n f
 left_at Entries s n f = stale_left (answers s) s.entries n f
 left_at Calls s n f =
@@ -122,10 +122,10 @@ left_at Answers s n f =
 
 -- ---- of all services
 
-none_of : (kind : Kind) (services : List Kept) → NoneIn kind services → first_found (left_of kind) 0 services ≡ None
+none_of : (kind : OutstandingKind) (services : List Kept) → NoneIn kind services → first_found (left_of kind) 0 services ≡ None
 none_of kind services done = none_found (NoneOf kind) (left_of kind) (none_left kind) services 0 done
 
-first_of : (kind : Kind) (services : List Kept) (at n : ℕ) → IsFirstOf kind services at n → first_found (left_of kind) 0 services ≡ Some (at, n)
+first_of : (kind : OutstandingKind) (services : List Kept) (at n : ℕ) → IsFirstOf kind services at n → first_found (left_of kind) 0 services ≡ Some (at, n)
 first_of kind services at n f =
     let from : 0 + at ≡ at = omega arith in
     one_found (NoneOf kind) (λ s. IsFirstIn kind s n) (left_of kind) n (none_left kind) (λ s x. left_at kind s n x) services 0 at (f.service).0 (f.service).1 f.first
@@ -143,16 +143,16 @@ forged_at services at index f =
 
 -- ---- the verdict
 
-done_of : (kind : Kind) (s : Kept) → IsQuiet s → NoneOf kind s
+done_of : (kind : OutstandingKind) (s : Kept) → IsQuiet s → NoneOf kind s
 done_of Flights s q = q.landed
 done_of Entries s q = q.current
 done_of Calls s q = q.acknowledged
 done_of Answers s q = q.given
 
-pass : (kind : Kind) (services : List Kept) (v : Verdict) → NoneIn kind services → unsettled_of kind services v ≡ v
+pass : (kind : OutstandingKind) (services : List Kept) (v : Verdict) → NoneIn kind services → unsettled_of kind services v ≡ v
 pass kind services v done = ap (λ o. unsettled_or kind o v) (none_of kind services done)
 
-stop : (kind : Kind) (services : List Kept) (v : Verdict) (at n : ℕ) → IsFirstOf kind services at n → unsettled_of kind services v ≡ Unsettled at (what_is kind n)
+stop : (kind : OutstandingKind) (services : List Kept) (v : Verdict) (at n : ℕ) → IsFirstOf kind services at n → unsettled_of kind services v ≡ Unsettled at (what_is kind n)
 stop kind services v at n f = ap (λ o. unsettled_or kind o v) (first_of kind services at n f)
 
 module _ (services : List Kept) where

@@ -1,26 +1,31 @@
--- A request, and the deliveries that follow it, one after another.
-use Rattle.std.proofs.Common.{◌≡◌, ℕ, suc, Bool, true, false, List, [], ◌∷◌, ◌++◌, Option, Some, None, Result, Ok, Err, OnErr, ◌<◌, length, take, refl, ap, sym, ◌∙◌, subst, append_assoc}
+-- Events, one behind another, and what is said of them.
+use Rattle.std.proofs.Common.{◌≡◌, ℕ, suc, List, [], ◌∷◌, ◌++◌, Option, Some, None, Result, Ok, Err, IfOk, OnErr, ◌<◌, length, take, refl, ap, sym, ◌∙◌, subst, append_assoc}
 use Rattle.std.proofs.lemmas.List.{append-nil}
-use Rattle.lang_base.specs.Memory.{Unless, lacks}
 use Rattle.lang_core.specs.declared.request.Request.{Request}
-use Rattle.world_events.specs.Events.{Answer, Turn, after_event, after_events, answer_to, turn}
-use Rattle.world_events.specs.Sound.{AreFew, IsSound}
+use Rattle.world_events.specs.Events.{Answer, after_event, after_events, answer_to}
+use Rattle.world_events.specs.Sound.{AreFew}
 use Rattle.world_events.specs.Worlds.{World}
 use Rattle.world_events.specs.declared.event.Event.{Event}
 use Rattle.world_events.specs.declared.event.Event.TheVariants.{Begin, Deliver}
 use Rattle.world_events.specs.declared.event.WorldStepRefused.{WorldStepRefused}
 use Rattle.world_events.specs.declared.happened.Happened.{Happened}
-use Rattle.world_delivery_laws.specs.WorldWeights.{IsInHand, world_weight, written_at}
+use Rattle.world_delivery_laws.specs.InHand.{IsInHand, written_at}
+use Rattle.world_delivery_laws.proofs.WorldWeights.{world_weight}
 use Rattle.world_delivery_laws.proofs.DeliveryLaws.{begin_writes_live}
-use Rattle.world_delivery_laws.specs.Runs.{asking, deliveries, written}
-use Rattle.world_events.specs.Turns.{Turns, turned_to, world_memory}
-use Rattle.world_laws.proofs.WorldLaws.{turn_sound}
-use Rattle.world_delivery_laws.proofs.RunLaws.{hand_falls, hand_hands, next_delivery, no_deliveries}
-use Rattle.script_text.specs.declared.cue.Cue.{Cue}
-use Rattle.script_text.specs.declared.cue.Cue.TheVariants.{Nothing, Packet}
+use Rattle.world_delivery_laws.specs.Runs.{IsAsking, IsRun, written}
+use Rattle.world_delivery_laws.proofs.RunLaws.{hand_falls, hand_hands, has_asking, has_run}
+use Rattle.script_text.specs.Cues.{detail_of}
+use Rattle.script_text.specs.declared.detail.Detail.{Detail}
+use Rattle.script_text.specs.declared.detail.Detail.TheVariants.{Nothing, Packet}
+use Rattle.script_lines.specs.Lines.{Read}
+use Rattle.script_lines.specs.declared.line.Line.{Line}
 use Rattle.script_lines.specs.declared.line.LineFault.{LineFault}
-use Rattle.script_run.specs.Told.{events_said, fault_of, happened_or, last_at, last_line, last_of, line_of, said_of}
-use Rattle.script_run.specs.Stops.{HappenedFirst, KeepsSound}
+use Rattle.script_run.specs.Told.{LineAnswer, events_said, fault_of, happened_or, last_at, last_line, last_of, line_of, said_of}
+use Rattle.script_run.specs.Plays.{AreEventsFor, AreEventsOf, said_by, said_for}
+use Rattle.script_run.specs.Stops.{AreDone, Does, DoesFirst}
+use Rattle.script_run.proofs.LineLaws.{events_for}
+use Rattle.script_run.proofs.PlayLaws.{done_then}
+use Rattle.script_run.specs.Deliveries.{Delivers}
 
 -- ---- what an event answers, as a line takes it
 
@@ -32,60 +37,133 @@ pub heard_err : (a : Answer) (fault : LineFault) → Err fault ≡ happened_or a
 heard_err (Ok x) fault e = let no : ⊥ = cc in absurd no
 heard_err (Err why) fault e = (why, refl, cc)
 
--- where journals can be counted after it, it keeps a world sound
-pub turned_sound : (w next : World) (e : Event) (a : Answer) → Turns (turn w e) w a next → AreFew next → KeepsSound w next
-turned_sound w next e a turns few = by_memory (lacks world_memory a) turns
+-- ---- no event, and one
+
+-- nothing is done
+pub done_nothing : (w : World) → AreDone w [] w
+done_nothing w = record { world = refl; few = tt }
+
+-- one event is
+pub done_one : (w now : World) (e : Event) → now ≡ after_event w e → AreFew now → AreDone w (e ∷ []) now
+done_one w now e same few = record { world = same; few = (subst AreFew same few, tt) }
+
+-- a line of no events
+pub does_nothing : (w : World) (says : List Event → LineAnswer) (said : LineAnswer) → said ≡ says [] → Does w (λ events. events ≡ []) says said w
+does_nothing w says said is = record { events = []; are = refl; done = done_nothing w; told = is }
+
+-- nothing is done yet
+pub does_none : (w now : World) (Are : List Event → Type 0) (events : List Event) → Are events → now ≡ w → DoesFirst w Are now
+does_none w now Are events are same = record { events = events; are = are; count = 0; done = record { world = same; few = tt } }
+
+-- nothing of a line of one event
+pub one_first : (w : World) (e : Event) → DoesFirst w (λ events. events ≡ e ∷ []) w
+one_first w e = does_none w w (λ events. events ≡ e ∷ []) (e ∷ []) refl refl
+
+-- nothing of whatever was read
+pub read_none : (w : World) (r : Read) → DoesFirst w (AreEventsFor w r) w
+read_none w r = let h = events_for w r in does_none w w (AreEventsFor w r) h.0 h.1 refl
+
+-- nothing of a line
+pub act_none : (w : World) (line : Line) → DoesFirst w (AreEventsOf w line) w
+act_none w line = let h = events_for w (Ok line) in does_none w w (AreEventsOf w line) h.0 h.1 refl
+
+-- what can't be read does nothing
+pub unread_does : (w : World) (r : Read) (fault : LineFault) → Err fault ≡ r → Does w (AreEventsFor w r) (said_for w r) (Err fault) w
+unread_does w r fault is =
+    let D : Read → Type 0 = λ x. Does w (AreEventsFor w x) (said_for w x) (Err fault) w in
+    subst D is (does_nothing w (said_for w (Err fault)) (Err fault) refl)
+
+-- what can is done
+pub read_acts : {E : Type 0} (w now : World) (r : Read) (line : Line) (result : Result LineAnswer E) → Ok line ≡ r
+    → IfOk result (λ said. Does w (AreEventsOf w line) (said_by w line) said now) → IfOk result (λ said. Does w (AreEventsFor w r) (said_for w r) said now)
+read_acts w now r line result is acts =
+    let D : Read → Type 0 = λ x. IfOk result (λ said. Does w (AreEventsFor w x) (said_for w x) said now) in
+    subst D is acts
+
+pub read_first : {E : Type 0} (w now : World) (r : Read) (line : Line) (result : Result LineAnswer E) → Ok line ≡ r
+    → OnErr result (DoesFirst w (AreEventsOf w line) now) → OnErr result (DoesFirst w (AreEventsFor w r) now)
+read_first w now r line result is first =
+    let D : Read → Type 0 = λ x. OnErr result (DoesFirst w (AreEventsFor w x) now) in
+    subst D is first
+
+-- all is done, and nothing is said
+pub does_all_first : (w now : World) (Are : List Event → Type 0) (events : List Event) → Are events → AreDone w events now → DoesFirst w Are now
+does_all_first w now Are events are done =
+    let D : List Event → Type 0 = λ es. AreDone w es now in
+    record { events = events; are = are; count = length events; done = subst D (sym (take_length events)) done }
   where
-    by_memory : (lacking : Bool) → Unless lacking (turned_to next a ≡ turn w e) (next ≡ w) → KeepsSound w next
-    by_memory true same = λ sound. subst IsSound (sym same) sound
-    by_memory false is = λ sound.
-        let same : next ≡ after_event w e = ap (λ (t : Turn). t.world) is in
-        subst IsSound (sym same) (turn_sound w sound e (subst AreFew same few))
+    take_length : (xs : List Event) → take (length xs) xs ≡ xs
+    take_length [] = refl
+    take_length (x ∷ xs) = ap (λ es. x ∷ es) (take_length xs)
+
+-- what is said of one event that happened
+pub does_one : (w now : World) (e : Event) (h : Happened) (text : List ℕ) → Ok h ≡ happened_or (answer_to w e) → now ≡ after_event w e → AreFew now
+    → text ≡ line_of now (Some (detail_of e, h)) → Does w (λ events. events ≡ e ∷ []) (events_said w) (Ok text) now
+does_one w now e h text heard same few told =
+    let is = heard_ok (answer_to w e) h heard in
+    let line : text ≡ last_line w (e ∷ []) =
+    told ∙ ap (λ v. line_of v (Some (detail_of e, h))) same ∙ ap (λ a. line_of (after_event w e) (last_of None (detail_of e) a)) (sym is) in
+    record {
+      events = e ∷ [];
+      are = refl;
+      done = done_one w now e same few;
+      told = ap Ok line ∙ sym (ap (λ a. said_of a (last_line w (e ∷ []))) is);
+    }
+
+-- and of one that didn't
+pub does_not : (w now : World) (e : Event) (fault : LineFault) → Err fault ≡ happened_or (answer_to w e) → now ≡ after_event w e → AreFew now
+    → Does w (λ events. events ≡ e ∷ []) (events_said w) (Err fault) now
+does_not w now e fault heard same few =
+    let r = heard_err (answer_to w e) fault heard in
+    record {
+      events = e ∷ [];
+      are = refl;
+      done = done_one w now e same few;
+      told = ap Err (sym r.2) ∙ sym (ap (λ a. said_of a (last_line w (e ∷ []))) r.1);
+    }
 
 -- ---- deliveries, as far as they went
 
 abbrev pub Last : Type 0
-Last = Option (Cue × Happened)
+Last = Option (Detail × Happened)
 
--- of the deliveries that follow what was in hand at first, these are done, and those that follow what is in hand now are left
+-- behind what was in hand at first these are done, and whatever follows what is in hand now follows them
 pub record Follows (start : World) (first : Option ℕ) (before : Last) (now : World) (next : Option ℕ) (last : Last) : Type 0 where
   pub done : List Event
-  pub events : deliveries start first ≡ done ++ deliveries now next
-  pub world : now ≡ after_events start done
-  pub told : last_at before start (deliveries start first) ≡ last_at last now (deliveries now next)
+  pub happened : AreDone start done now
+  pub runs : (rest : List Event) → IsRun now next rest → IsRun start first (done ++ rest)
+  pub told : (rest : List Event) → last_at before start (done ++ rest) ≡ last_at last now rest
   pub hand : IsInHand now next
 
 pub follows_first : (w : World) (first : Option ℕ) (before : Last) → IsInHand w first → Follows w first before w first before
-follows_first w first before hand = record { done = []; events = refl; world = refl; told = refl; hand = hand }
-
-after_append : (w : World) (done more : List Event) → after_events w (done ++ more) ≡ after_events (after_events w done) more
-after_append w [] more = refl
-after_append w (e ∷ done) more = after_append (after_event w e) done more
-
-take_done : (done more : List Event) → take (length done) (done ++ more) ≡ done
-take_done [] more = refl
-take_done (e ∷ done) more = ap (λ es. e ∷ es) (take_done done more)
+follows_first w first before hand = record {
+  done = [];
+  happened = done_nothing w;
+  runs = λ rest run. run;
+  told = λ rest. refl;
+  hand = hand;
+}
 
 -- what is in hand is delivered
-pub follows_on : (start : World) (first : Option ℕ) (before : Last) (now : World) (number : ℕ) (last : Last) → Follows start first before now (Some number) last
+follows_on : (start : World) (first : Option ℕ) (before : Last) (now : World) (number : ℕ) (last : Last) → Follows start first before now (Some number) last
+    → AreFew (after_event now (Deliver number))
     → Follows start first before (after_event now (Deliver number)) (written now (Deliver number)) (last_of last (Packet number) (answer_to now (Deliver number)))
-follows_on start first before now number last f =
+follows_on start first before now number last f few =
     let e = Deliver number in
-    let next = next_delivery now number f.hand in
-    let rest = deliveries (after_event now e) (written now e) in
+    let next = after_event now e in
     record {
       done = f.done ++ e ∷ [];
-      events = f.events ∙ ap (λ es. f.done ++ es) next ∙ sym (append_assoc f.done (e ∷ []) rest);
-      world = ap (λ w. after_event w e) f.world ∙ sym (after_append start f.done (e ∷ []));
-      told = f.told ∙ ap (last_at last now) next;
+      happened = done_then start now next f.done (e ∷ []) f.happened (done_one now next e refl few);
+      runs = λ rest run. subst (IsRun start first) (sym (append_assoc f.done (e ∷ []) rest)) (f.runs (e ∷ rest) (refl, run));
+      told = λ rest. ap (last_at before start) (append_assoc f.done (e ∷ []) rest) ∙ f.told (e ∷ rest);
       hand = hand_hands now number f.hand;
     }
 
 -- by what it answers
 pub follows_answer : (start : World) (first : Option ℕ) (before : Last) (now then : World) (number : ℕ) (last : Last) (a : Answer) → Follows start first before now (Some number) last
-    → answer_to now (Deliver number) ≡ a → then ≡ after_event now (Deliver number) → Follows start first before then (written_at a) (last_of last (Packet number) a)
-follows_answer start first before now then number last a f is same =
-    let on = follows_on start first before now number last f in
+    → answer_to now (Deliver number) ≡ a → then ≡ after_event now (Deliver number) → AreFew then → Follows start first before then (written_at a) (last_of last (Packet number) a)
+follows_answer start first before now then number last a f is same few =
+    let on = follows_on start first before now number last f (subst AreFew same few) in
     let A : Answer → Type 0 = λ x. Follows start first before (after_event now (Deliver number)) (written_at x) (last_of last (Packet number) x) in
     subst (λ w. Follows start first before w (written_at a) (last_of last (Packet number) a)) (sym same) (subst A is on)
 
@@ -108,18 +186,30 @@ pub on_err : {A E : Type 0} (r : Result A E) {P : Type 0} → P → OnErr r P
 on_err (Ok a) p = tt
 on_err (Err e) p = p
 
-pub followed_world : (start : World) (first : Option ℕ) (before : Last) (now : World) (last : Last) → Follows start first before now None last → now ≡ after_events start (deliveries start first)
-followed_world start first before now last f =
-    f.world ∙ ap (after_events start) (sym (f.events ∙ ap (λ es. f.done ++ es) (no_deliveries now) ∙ append-nil f.done))
-
-pub followed_last : (start : World) (first : Option ℕ) (before : Last) (now : World) (last : Last) → Follows start first before now None last → last ≡ last_at before start (deliveries start first)
-followed_last start first before now last f = sym (f.told ∙ ap (last_at last now) (no_deliveries now))
+pub followed : (start : World) (first : Option ℕ) (before : Last) (now : World) (last : Last) → Follows start first before now None last → Delivers start first before last now
+followed start first before now last f = record {
+  events = f.done ++ [];
+  are = f.runs [] tt;
+  done = done_then start now now f.done [] f.happened (done_nothing now);
+  told = sym (f.told []);
+}
 
 -- and where memory is wanting, some first of them are done
 pub followed_first : (start : World) (first : Option ℕ) (before : Last) (now : World) (next : Option ℕ) (last : Last) → Follows start first before now next last
-    → HappenedFirst start (deliveries start first) now
+    → DoesFirst start (IsRun start first) now
 followed_first start first before now next last f =
-    (length f.done, f.world ∙ ap (after_events start) (sym (ap (take (length f.done)) f.events ∙ take_done f.done (deliveries now next))))
+    let rest = has_run now next f.hand in
+    let D : List Event → Type 0 = λ es. AreDone start es now in
+    record {
+      events = f.done ++ rest.0;
+      are = f.runs rest.0 rest.1;
+      count = length f.done;
+      done = subst D (sym (take_done f.done rest.0)) f.happened;
+    }
+  where
+    take_done : (done more : List Event) → take (length done) (done ++ more) ≡ done
+    take_done [] more = refl
+    take_done (e ∷ done) more = ap (λ es. e ∷ es) (take_done done more)
 
 -- ---- the request, and what follows
 
@@ -128,55 +218,71 @@ pub asked_hand : (w next : World) (name : List ℕ) (q : Request) (begun : Happe
 asked_hand w next name q begun is same =
     subst (λ v. IsInHand v begun.packet) (sym same) (subst (λ (a : Answer). IsInHand (after_event w (Begin name q)) (written_at a)) is (begin_writes_live w name q))
 
-asking_is : (w next : World) (name : List ℕ) (q : Request) (a : Answer) → answer_to w (Begin name q) ≡ a → next ≡ after_event w (Begin name q)
-    → asking w name q ≡ Begin name q ∷ deliveries next (written_at a)
-asking_is w next name q a is same =
-    ap (λ x. Begin name q ∷ deliveries (after_event w (Begin name q)) (written_at x)) is
-    ∙ ap (λ v. Begin name q ∷ deliveries v (written_at a)) (sym same)
+-- what follows it, by the request
+behind_request : (w next end : World) (name : List ℕ) (q : Request) (begun : Happened) (last : Last) → answer_to w (Begin name q) ≡ Ok begun → next ≡ after_event w (Begin name q)
+    → Delivers next begun.packet (Some (Nothing, begun)) last end
+    → Delivers (after_event w (Begin name q)) (written w (Begin name q)) (last_of None Nothing (answer_to w (Begin name q))) last end
+behind_request w next end name q begun last is same d =
+    let A : Answer → Type 0 = λ a. Delivers (after_event w (Begin name q)) (written_at a) (last_of None Nothing a) last end in
+    let N : World → Type 0 = λ v. Delivers v begun.packet (Some (Nothing, begun)) last end in
+    subst A (sym is) (subst N same d)
 
-pub asked_world : (w next end : World) (name : List ℕ) (q : Request) (a : Answer) → answer_to w (Begin name q) ≡ a → next ≡ after_event w (Begin name q)
-    → end ≡ after_events next (deliveries next (written_at a)) → end ≡ after_events w (asking w name q)
-asked_world w next end name q a is same ends =
-    ends ∙ ap (λ v. after_events v (deliveries next (written_at a))) same ∙ ap (after_events w) (sym (asking_is w next name q a is same))
+done_behind : (w end : World) (e : Event) (events : List Event) → AreFew (after_event w e) → AreDone (after_event w e) events end → AreDone w (e ∷ events) end
+done_behind w end e events few d = record { world = d.world; few = (few, d.few) }
 
-asked_last : (w next : World) (name : List ℕ) (q : Request) (a : Answer) → answer_to w (Begin name q) ≡ a → next ≡ after_event w (Begin name q)
-    → last_at None w (asking w name q) ≡ last_at (last_of None Nothing a) next (deliveries next (written_at a))
-asked_last w next name q a is same =
-    ap (last_at None w) (asking_is w next name q a is same)
-    ∙ ap (λ x. last_at (last_of None Nothing x) (after_event w (Begin name q)) (deliveries next (written_at a))) is
-    ∙ ap (λ v. last_at (last_of None Nothing a) v (deliveries next (written_at a))) (sym same)
+-- what is said of all of them
+pub asked_does : (w next end : World) (name : List ℕ) (q : Request) (begun : Happened) (last : Detail × Happened) (text : List ℕ) → answer_to w (Begin name q) ≡ Ok begun
+    → next ≡ after_event w (Begin name q) → AreFew next → Delivers next begun.packet (Some (Nothing, begun)) (Some last) end → text ≡ line_of end (Some last)
+    → Does w (IsAsking w name q) (events_said w) (Ok text) end
+asked_does w next end name q begun last text is same few d told =
+    let e = Begin name q in
+    let b = behind_request w next end name q begun (Some last) is same d in
+    let line : text ≡ last_line w (e ∷ b.events) =
+    told ∙ ap (line_of end) b.told ∙ ap (λ v. line_of v (last_at None w (e ∷ b.events))) (b.done).world in
+    record {
+      events = e ∷ b.events;
+      are = (refl, b.are);
+      done = done_behind w end e b.events (subst AreFew same few) b.done;
+      told = ap Ok line ∙ sym (ap (λ a. said_of a (last_line w (e ∷ b.events))) is);
+    }
 
--- what it says where it arrived
-pub asked_said : (w next end : World) (name : List ℕ) (q : Request) (begun : Happened) (last : Cue × Happened) (text : List ℕ) → answer_to w (Begin name q) ≡ Ok begun
-    → next ≡ after_event w (Begin name q) → end ≡ after_events next (deliveries next begun.packet)
-    → Some last ≡ last_at (Some (Nothing, begun)) next (deliveries next begun.packet) → text ≡ line_of end (Some last) → Ok text ≡ events_said w (asking w name q)
-asked_said w next end name q begun last text is same ends lasts told =
-    let line : text ≡ last_line w (asking w name q) =
-    told ∙ ap (line_of end) (lasts ∙ sym (asked_last w next name q (Ok begun) is same))
-    ∙ ap (λ v. line_of v (last_at None w (asking w name q))) (asked_world w next end name q (Ok begun) is same ends) in
-    ap Ok line ∙ sym (ap (λ a. said_of a (last_line w (asking w name q))) is)
+-- all of them happened, and nothing is said
+pub asked_all : (w next end : World) (name : List ℕ) (q : Request) (begun : Happened) (last : Last) → answer_to w (Begin name q) ≡ Ok begun → next ≡ after_event w (Begin name q) → AreFew next
+    → Delivers next begun.packet (Some (Nothing, begun)) last end → DoesFirst w (IsAsking w name q) end
+asked_all w next end name q begun last is same few d =
+    let e = Begin name q in
+    let b = behind_request w next end name q begun last is same d in
+    does_all_first w end (IsAsking w name q) (e ∷ b.events) (refl, b.are) (done_behind w end e b.events (subst AreFew same few) b.done)
 
--- and where it didn't
-pub unasked_said : (w : World) (name : List ℕ) (q : Request) (why : WorldStepRefused) (fault : LineFault) → answer_to w (Begin name q) ≡ Err why → fault_of why ≡ fault
-    → Err fault ≡ events_said w (asking w name q)
-unasked_said w name q why fault is same = ap Err (sym same) ∙ sym (ap (λ a. said_of a (last_line w (asking w name q))) is)
+-- for want of memory the request and some deliveries happened
+pub asked_first : (w next now : World) (name : List ℕ) (q : Request) (begun : Happened) → answer_to w (Begin name q) ≡ Ok begun → next ≡ after_event w (Begin name q) → AreFew next
+    → DoesFirst next (IsRun next begun.packet) now → DoesFirst w (IsAsking w name q) now
+asked_first w next now name q begun is same few d =
+    let e = Begin name q in
+    let A : Answer → Type 0 = λ a. DoesFirst (after_event w e) (IsRun (after_event w e) (written_at a)) now in
+    let N : World → Type 0 = λ v. DoesFirst v (IsRun v begun.packet) now in
+    let b = subst A (sym is) (subst N same d) in
+    record {
+      events = e ∷ b.events;
+      are = (refl, b.are);
+      count = suc b.count;
+      done = done_behind w now e (take b.count b.events) (subst AreFew same few) b.done;
+    }
 
-pub unasked_world : (w next : World) (name : List ℕ) (q : Request) (why : WorldStepRefused) → answer_to w (Begin name q) ≡ Err why → next ≡ after_event w (Begin name q)
-    → next ≡ after_events w (asking w name q)
-unasked_world w next name q why is same = asked_world w next next name q (Err why) is same (sym (ap (after_events next) (no_deliveries next)))
+-- it didn't arrive, so nothing follows
+pub unasked_does : (w now : World) (name : List ℕ) (q : Request) (fault : LineFault) → Err fault ≡ happened_or (answer_to w (Begin name q)) → now ≡ after_event w (Begin name q)
+    → AreFew now → Does w (IsAsking w name q) (events_said w) (Err fault) now
+unasked_does w now name q fault heard same few =
+    let e = Begin name q in
+    let r = heard_err (answer_to w e) fault heard in
+    let A : Answer → Type 0 = λ a. IsRun (after_event w e) (written_at a) [] in
+    record {
+      events = e ∷ [];
+      are = (refl, subst A (sym r.1) tt);
+      done = done_one w now e same few;
+      told = ap Err (sym r.2) ∙ sym (ap (λ a. said_of a (last_line w (e ∷ []))) r.1);
+    }
 
--- for want of memory some first of these happened: nothing, the request, or some deliveries too
-pub asked_first : (w next now : World) (name : List ℕ) (q : Request) (a : Answer) → answer_to w (Begin name q) ≡ a → next ≡ after_event w (Begin name q)
-    → HappenedFirst next (deliveries next (written_at a)) now → HappenedFirst w (asking w name q) now
-asked_first w next now name q a is same first =
-    (suc first.0, first.1 ∙ ap (λ v. after_events v (take first.0 (deliveries next (written_at a)))) same ∙ ap (λ es. after_events w (take (suc first.0) es)) (sym (asking_is w next name q a is same)))
-
--- all of them happened
-whole_first : (w : World) (events : List Event) → HappenedFirst w events (after_events w events)
-whole_first w events =
-    (length events, ap (after_events w) (sym (sym (ap (take (length events)) (append-nil events)) ∙ take_done events [])))
-
-pub asked_all_first : (w next end : World) (name : List ℕ) (q : Request) (a : Answer) → answer_to w (Begin name q) ≡ a → next ≡ after_event w (Begin name q)
-    → end ≡ after_events next (deliveries next (written_at a)) → HappenedFirst w (asking w name q) end
-asked_all_first w next end name q a is same ends =
-    subst (HappenedFirst w (asking w name q)) (sym (asked_world w next end name q a is same ends)) (whole_first w (asking w name q))
+-- nothing of it happened yet
+pub unasked : (w now : World) (name : List ℕ) (q : Request) → now ≡ w → DoesFirst w (IsAsking w name q) now
+unasked w now name q same = let h = has_asking w name q in does_none w now (IsAsking w name q) h.0 h.1 same

@@ -2,3 +2,4 @@ pub mod LineLaws
 pub mod PlayLaws
 pub mod AuditLaws
 pub mod Following
+pub mod Standing

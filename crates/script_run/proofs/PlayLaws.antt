@@ -1,5 +1,5 @@
 -- The lines of a script, one after another.
-use Rattle.std.proofs.Common.{Bor, option_map, ◌≡◌, ℕ, ◌+◌, ◌<◌, ◌≤◌, Bool, true, false, cond, List, [], ◌∷◌, ◌++◌, Option, Some, None, Ok, Err, length, take, drop, ltb, suc, ◌==◌, add-zero, length-drop, refl, ap, sym, ◌∙◌, subst, append_assoc, arith}
+use Rattle.std.proofs.Common.{Bor, option_map, ◌≡◌, ℕ, ◌+◌, zero, ◌<◌, ◌≤◌, Bool, true, false, cond, List, [], ◌∷◌, ◌++◌, Option, Some, None, Ok, Err, length, take, drop, ltb, suc, ◌==◌, add-zero, length-drop, refl, ap, sym, ◌∙◌, subst, append_assoc, arith}
 use Rattle.std.specs.List.{position, position_or_len}
 use Rattle.std.proofs.lemmas.List.Splits.{slice_split_first, slice_split_none}
 use Rattle.std.proofs.lemmas.Bool.Decides.{nat_tests}
@@ -7,15 +7,19 @@ use Rattle.std.proofs.lemmas.Bool.{ltb-true}
 use Rattle.std.proofs.lemmas.List.Sums.{fails_before_first}
 use Rattle.std.proofs.Math.Seq.{take-add}
 use Rattle.std.proofs.lemmas.List.{append-nil, drop-drop, length-take, take-append-drop}
-use Rattle.io_edge.specs.Edge.{IsFront, Writes, Wrote, WroteFront, WroteShort}
-use Rattle.io_edge.proofs.Pieces.{wrote_more}
+use Rattle.io_edge.specs.Edge.{IsFront, Writes, WroteFront}
+use Rattle.world_events.specs.Events.{after_event, after_events}
+use Rattle.world_events.specs.Live.{AllLiveEvents}
+use Rattle.world_events.specs.Sound.{AllFew}
 use Rattle.world_events.specs.Worlds.{World}
+use Rattle.world_events.specs.declared.event.Event.{Event}
 use Rattle.script_lines.specs.declared.line.LineFault.{LineFault}
 use Rattle.script_lines.specs.Faults.{fault_number}
 use Rattle.script_lines.specs.Lines.{line_at}
-use Rattle.script_run.specs.Told.{Said}
-use Rattle.script_run.specs.Plays.{behind, events_for, events_in, first_lines, lines_left, lines_of, Played, played, played_from, said_for, with_line, world_for}
-use Rattle.script_run.specs.Stops.{DoesAll, HappenedFirst, IsRefusedAt, StopsEarly, StopsInLine}
+use Rattle.script_run.specs.Told.{LineAnswer}
+use Rattle.script_run.specs.Plays.{AreEventsFor, AreLiveLines, FirstPlay, GoesOn, IsLiveLine, IsPlayed, Played, Plays, printed_after, ended, lines_left, lines_of, refused_at, said_for}
+use Rattle.script_run.specs.Stops.{AreDone, Does, DoesAll, IsDetermined, StopsEarly}
+use Rattle.script_run.proofs.LineLaws.{events_for, live_for, one_for}
 
 -- ---- where the first line ends
 
@@ -40,137 +44,221 @@ line_last bytes e =
 
 -- ---- some lines, and then others
 
-behind_behind : (a b : List ℕ) (p : Played) → behind (a ++ b) p ≡ behind a (behind b p)
-behind_behind a b p = rw append_assoc refl
+behind_behind : (xs ys : List Event) (a b : List ℕ) (p : Played) → printed_after (xs ++ ys) (a ++ b) p ≡ printed_after xs a (printed_after ys b p)
+behind_behind xs ys a b p =
+    ap (λ (es : List Event). record { events = es; world = p.world; out = (a ++ b) ++ p.out; refused = p.refused }) (append_assoc xs ys p.events)
+    ∙ ap (λ (o : List ℕ). record { events = xs ++ (ys ++ p.events); world = p.world; out = o; refused = p.refused }) (append_assoc a b p.out)
 
--- a line and those behind it, with what the others are known to do
-one_line : (n : ℕ) (w next : World) (said : Said) (xs ys : List (List ℕ))
-    (more : (now : World) → (played_from (n + 1) now xs).refused ≡ None
-    → played_from (n + 1) now (xs ++ ys) ≡ behind (played_from (n + 1) now xs).out (played_from (n + 1 + length xs) (played_from (n + 1) now xs).world ys))
-    → (with_line n w next said (λ now. played_from (n + 1) now xs)).refused ≡ None
-    → with_line n w next said (λ now. played_from (n + 1) now (xs ++ ys))
-    ≡ behind (with_line n w next said (λ now. played_from (n + 1) now xs)).out (played_from (n + 1 + length xs) (with_line n w next said (λ now. played_from (n + 1) now xs)).world ys)
-one_line n w next (Ok text) xs ys more e =
-    let p = played_from (n + 1) next xs in
-    ap (behind text) (more next e) ∙ sym (behind_behind text p.out (played_from (n + 1 + length xs) p.world ys))
-one_line n w next (Err fault) xs ys more e = cc
+goes_then : (n : ℕ) (w : World) (events : List Event) (said : LineAnswer) (xs ys : List (List ℕ)) (p q : Played)
+    (more : (now : World) (rest : Played) → Plays (n + 1) now xs rest → rest.refused ≡ None → Plays (n + 1 + length xs) rest.world ys q
+    → Plays (n + 1) now (xs ++ ys) (printed_after rest.events rest.out q))
+    → GoesOn n w events said (λ next rest. Plays (n + 1) next xs rest) p → p.refused ≡ None → Plays (n + 1 + length xs) p.world ys q
+    → GoesOn n w events said (λ next rest. Plays (n + 1) next (xs ++ ys) rest) (printed_after p.events p.out q)
+goes_then n w events (Ok text) xs ys p q more g e b =
+    let rest = g.0 in
+    let R : Played → Type 0 = λ x. x.refused ≡ None in
+    let W : Played → Type 0 = λ x. Plays (n + 1 + length xs) x.world ys q in
+    let same : printed_after p.events p.out q ≡ printed_after events text (printed_after rest.events rest.out q) =
+    ap (λ (x : Played). printed_after x.events x.out q) g.2 ∙ behind_behind events rest.events text rest.out q in
+    (printed_after rest.events rest.out q, more (after_events w events) rest g.1 (subst R g.2 e) (subst W g.2 b), same)
+goes_then n w events (Err fault) xs ys p q more g e b =
+    let no : None ≡ Some (n, fault_number fault) = sym e ∙ ap (λ (x : Played). x.refused) g in cc
 
--- what some lines did, and then the others
-pub played_append : (n : ℕ) (s : World) (xs ys : List (List ℕ)) → (played_from n s xs).refused ≡ None
-    → played_from n s (xs ++ ys) ≡ behind (played_from n s xs).out (played_from (n + length xs) (played_from n s xs).world ys)
-played_append n s [] ys e = rw add-zero refl
-played_append n s (x ∷ xs) ys e =
-    let next = world_for s (line_at x) in
-    let said = said_for s (line_at x) in
-    let more = one_line n s next said xs ys (λ now h. played_append (n + 1) now xs ys h) e in
-    let same : n + 1 + length xs ≡ n + suc (length xs) = omega arith in
-    let p = with_line n s next said (λ now. played_from (n + 1) now xs) in
-    more ∙ ap (λ (k : ℕ). behind p.out (played_from k p.world ys)) same
+-- what some lines come to, and then the others
+pub plays_then : (n : ℕ) (w : World) (xs ys : List (List ℕ)) (p q : Played) → Plays n w xs p → p.refused ≡ None → Plays (n + length xs) p.world ys q
+    → Plays n w (xs ++ ys) (printed_after p.events p.out q)
+plays_then n w [] ys p q a e b =
+    let B : Played → Type 0 = λ x. Plays (n + 0) x.world ys q in
+    let N : ℕ → Type 0 = λ k. Plays k w ys q in
+    let Q : Played → Type 0 = λ x. Plays n w ys x in
+    subst Q (sym (ap (λ (x : Played). printed_after x.events x.out q) a)) (subst N (add-zero n) (subst B a b))
+plays_then n w (x ∷ xs) ys p q a e b =
+    let same : n + suc (length xs) ≡ n + 1 + length xs = omega arith in
+    let N : ℕ → Type 0 = λ k. Plays k p.world ys q in (
+      a.0,
+      a.1,
+      goes_then n w a.0 (said_for w (line_at x) a.0) xs ys p q (λ now rest c d f. plays_then (n + 1) now xs ys rest q c d f) a.2 e (subst N same b),
+    )
+
+-- ---- there is one thing that lines come to
+
+has_goes : (n : ℕ) (w : World) (events : List Event) (said : LineAnswer) (Rest : World → Played → Type 0) → ((now : World) → (r : Played) × Rest now r) → (p : Played) × GoesOn n w events said Rest p
+has_goes n w events (Ok text) Rest rest =
+    let r = rest (after_events w events) in
+    (printed_after events text r.0, (r.0, r.1, refl))
+has_goes n w events (Err fault) Rest rest = (refused_at n (fault_number fault) w, refl)
+
+pub has_play : (n : ℕ) (w : World) (lines : List (List ℕ)) → (p : Played) × Plays n w lines p
+has_play n w [] = (ended w, refl)
+has_play n w (line ∷ lines) =
+    let es = events_for w (line_at line) in
+    let g = has_goes n w es.0 (said_for w (line_at line) es.0) (λ next rest. Plays (n + 1) next lines rest) (λ now. has_play (n + 1) now lines) in
+    (g.0, (es.0, es.1, g.1))
+
+one_goes : (n : ℕ) (w : World) (events : List Event) (said : LineAnswer) (Rest : World → Played → Type 0) (p q : Played)
+    → ((now : World) (r s : Played) → Rest now r → Rest now s → r ≡ s) → GoesOn n w events said Rest p → GoesOn n w events said Rest q → p ≡ q
+one_goes n w events (Ok text) Rest p q one a b = a.2 ∙ ap (printed_after events text) (one (after_events w events) a.0 b.0 a.1 b.1) ∙ sym b.2
+one_goes n w events (Err fault) Rest p q one a b = a ∙ sym b
+
+pub one_play : (n : ℕ) (w : World) (lines : List (List ℕ)) (p q : Played) → Plays n w lines p → Plays n w lines q → p ≡ q
+one_play n w [] p q a b = a ∙ sym b
+one_play n w (line ∷ lines) p q a b =
+    let same : a.0 ≡ b.0 = one_for w (line_at line) a.0 b.0 a.1 b.1 in
+    let Rest : World → Played → Type 0 = λ next rest. Plays (n + 1) next lines rest in
+    let G : List Event → Type 0 = λ es. GoesOn n w es (said_for w (line_at line) es) Rest p in
+    one_goes n w b.0 (said_for w (line_at line) b.0) Rest p q (λ now r s c d. one_play (n + 1) now lines r s c d) (subst G same a.2) b.2
+
+-- ---- events
+
+pub after_append : (w : World) (xs ys : List Event) → after_events w (xs ++ ys) ≡ after_events (after_events w xs) ys
+after_append w [] ys = refl
+after_append w (e ∷ xs) ys = after_append (after_event w e) xs ys
+
+few_append : (w : World) (xs ys : List Event) → AllFew w xs → AllFew (after_events w xs) ys → AllFew w (xs ++ ys)
+few_append w [] ys a b = b
+few_append w (e ∷ xs) ys a b = (a.0, few_append (after_event w e) xs ys a.1 b)
+
+-- some events are done, and then others
+pub done_then : (start mid now : World) (xs ys : List Event) → AreDone start xs mid → AreDone mid ys now → AreDone start (xs ++ ys) now
+done_then start mid now xs ys a b =
+    let F : World → Type 0 = λ w. AllFew w ys in
+    record {
+      world = b.world ∙ ap (λ w. after_events w ys) a.world ∙ sym (after_append start xs ys);
+      few = few_append start xs ys a.few (subst F a.world b.few);
+    }
+
+goes_leads : (n : ℕ) (w : World) (events : List Event) (said : LineAnswer) (Rest : World → Played → Type 0) (p : Played)
+    → ((now : World) (r : Played) → Rest now r → r.world ≡ after_events now r.events) → GoesOn n w events said Rest p → p.world ≡ after_events w p.events
+goes_leads n w events (Ok text) Rest p leads g =
+    let L : Played → Type 0 = λ x. x.world ≡ after_events w x.events in
+    subst L (sym g.2) (leads (after_events w events) g.0 g.1 ∙ sym (after_append w events (g.0).events))
+goes_leads n w events (Err fault) Rest p leads g =
+    let L : Played → Type 0 = λ x. x.world ≡ after_events w x.events in
+    subst L (sym g) refl
+
+-- the world that lines lead to is the one after their events
+pub play_leads : (n : ℕ) (w : World) (lines : List (List ℕ)) (p : Played) → Plays n w lines p → p.world ≡ after_events w p.events
+play_leads n w [] p a = let L : Played → Type 0 = λ x. x.world ≡ after_events w x.events in subst L (sym a) refl
+play_leads n w (line ∷ lines) p a =
+    goes_leads n w a.0 (said_for w (line_at line) a.0) (λ next rest. Plays (n + 1) next lines rest) p (λ now r c. play_leads (n + 1) now lines r c) a.2
+
+-- a script comes to one thing
+pub determined : (w : World) (script : List ℕ) → IsDetermined w script
+determined w script =
+    let h = has_play 1 w (lines_of script) in
+    record {
+      p = h.0;
+      played = h.1;
+      alone = λ q other. one_play 1 w (lines_of script) q h.0 other h.1;
+      leads = play_leads 1 w (lines_of script) h.0 h.1;
+    }
+
+-- ---- lines of live requests
+
+pub live_append : (xs ys : List Event) → AllLiveEvents xs → AllLiveEvents ys → AllLiveEvents (xs ++ ys)
+live_append [] ys a b = b
+live_append (e ∷ xs) ys a b = (a.0, live_append xs ys a.1 b)
+
+pub live_take : (n : ℕ) (xs : List Event) → AllLiveEvents xs → AllLiveEvents (take n xs)
+live_take zero xs a = tt
+live_take (suc n) [] a = tt
+live_take (suc n) (e ∷ xs) a = (a.0, live_take n xs a.1)
+
+pub lines_take : (n : ℕ) (lines : List (List ℕ)) → AreLiveLines lines → AreLiveLines (take n lines)
+lines_take zero lines a = tt
+lines_take (suc n) [] a = tt
+lines_take (suc n) (line ∷ lines) a = (a.0, lines_take n lines a.1)
+
+pub lines_drop : (n : ℕ) (lines : List (List ℕ)) → AreLiveLines lines → AreLiveLines (drop n lines)
+lines_drop zero lines a = a
+lines_drop (suc n) [] a = a
+lines_drop (suc n) (line ∷ lines) a = lines_drop n lines a.1
+
+goes_live : (n : ℕ) (w : World) (events : List Event) (said : LineAnswer) (Rest : World → Played → Type 0) (p : Played) → AllLiveEvents events
+    → ((now : World) (r : Played) → Rest now r → AllLiveEvents r.events) → GoesOn n w events said Rest p → AllLiveEvents p.events
+goes_live n w events (Ok text) Rest p live rest g =
+    let L : Played → Type 0 = λ x. AllLiveEvents x.events in
+    subst L (sym g.2) (live_append events (g.0).events live (rest (after_events w events) g.0 g.1))
+goes_live n w events (Err fault) Rest p live rest g = let L : Played → Type 0 = λ x. AllLiveEvents x.events in subst L (sym g) tt
+
+-- they have no other events
+pub play_live : (n : ℕ) (w : World) (lines : List (List ℕ)) (p : Played) → AreLiveLines lines → Plays n w lines p → AllLiveEvents p.events
+play_live n w [] p live a = let L : Played → Type 0 = λ x. AllLiveEvents x.events in subst L (sym a) tt
+play_live n w (line ∷ lines) p live a =
+    goes_live n w a.0 (said_for w (line_at line) a.0) (λ next rest. Plays (n + 1) next lines rest) p (live_for w (line_at line) a.0 live.0 a.1)
+    (λ now r c. play_live (n + 1) now lines r live.1 c) a.2
+
+-- ---- the line behind some first lines
 
 take_line : (lines rest : List (List ℕ)) (n : ℕ) (line : List ℕ) → drop n lines ≡ line ∷ rest → take (n + 1) lines ≡ take n lines ++ line ∷ []
 take_line lines rest n line e = take-add n 1 lines ∙ ap (λ (x : List (List ℕ)). take n lines ++ take 1 x) e
 
--- one line more
-pub next_line : (n : ℕ) (s : World) (script line : List ℕ) (rest : List (List ℕ)) (text : List ℕ) → drop n (lines_of script) ≡ line ∷ rest → (first_lines n s script).refused ≡ None
-    → said_for (first_lines n s script).world (line_at line) ≡ Ok text
-    → first_lines (n + 1) s script ≡ record { world = world_for (first_lines n s script).world (line_at line); out = (first_lines n s script).out ++ text; refused = None }
-next_line n s script line rest text d goes says =
-    let w = (first_lines n s script).world in
-    let place = 1 + length (take n (lines_of script)) in
-    ap (played_from 1 s) (take_line (lines_of script) rest n line d)
-    ∙ played_append 1 s (take n (lines_of script)) (line ∷ []) goes
-    ∙ ap (λ (said : Said). behind (first_lines n s script).out (with_line place w (world_for w (line_at line)) said (λ next. played_from (place + 1) next []))) says
-    ∙ rw append-nil refl
-
--- the lines are all done
-pub all_lines : (n : ℕ) (s : World) (script : List ℕ) → drop n (lines_of script) ≡ [] → first_lines n s script ≡ played s script
-all_lines n s script d =
-    let whole = sym (append-nil (take n (lines_of script))) ∙ ap (λ (x : List (List ℕ)). take n (lines_of script) ++ x) (sym d) ∙ take-append-drop n (lines_of script) in
-    ap (played_from 1 s) whole
-
 length_taken : (lines rest : List (List ℕ)) (n : ℕ) (line : List ℕ) → drop n lines ≡ line ∷ rest → length (take n lines) ≡ n
 length_taken lines rest n line d = omega (arith, length-take n lines, length-drop n lines, ap length d)
 
--- a line is refused
-pub refused_line : (n : ℕ) (s : World) (script line : List ℕ) (rest : List (List ℕ)) (fault : LineFault) → drop n (lines_of script) ≡ line ∷ rest → (first_lines n s script).refused ≡ None → said_for (first_lines n s script).world (line_at line) ≡ Err fault
-    → played s script ≡ record { world = (first_lines n s script).world; out = (first_lines n s script).out; refused = Some (n + 1, fault_number fault) }
-refused_line n s script line rest fault d goes says =
-    let whole : lines_of script ≡ take n (lines_of script) ++ line ∷ rest = sym (take-append-drop n (lines_of script)) ∙ ap (λ (x : List (List ℕ)). take n (lines_of script) ++ x) d in
-    let place : 1 + length (take n (lines_of script)) ≡ n + 1 = omega (arith, length_taken (lines_of script) rest n line d) in
-    ap (played_from 1 s) whole
-    ∙ played_append 1 s (take n (lines_of script)) (line ∷ rest) goes
-    ∙ rw (says, append-nil, place) refl
+-- what is done where no line was refused
+abbrev pub gone : List Event → World → List ℕ → Played
+gone events now out = record { events = events; world = now; out = out; refused = None }
 
--- ---- how things stand before a line is done
+-- a line that is good, as lines
+line_plays : (n : ℕ) (w now : World) (line text : List ℕ) (d : Does w (AreEventsFor w (line_at line)) (said_for w (line_at line)) (Ok text) now)
+    → Plays n w (line ∷ []) (printed_after d.events text (ended now))
+line_plays n w now line text d =
+    let Rest : World → Played → Type 0 = λ next rest. rest ≡ ended next in
+    let p = printed_after d.events text (ended now) in
+    let G : LineAnswer → Type 0 = λ said. GoesOn n w d.events said Rest p in
+    let here : G (Ok text) = (ended (after_events w d.events), refl, ap (λ next. printed_after d.events text (ended next)) (d.done).world) in
+    (d.events, d.are, subst G d.told here)
 
-pub record Stands (n : ℕ) (before : World) (script line : List ℕ) (rest : List (List ℕ)) (text : List ℕ) (now : World) : Type 0 where
-  pub left : drop n (lines_of script) ≡ line ∷ rest
-  pub goes : (first_lines n before script).refused ≡ None
-  pub says : said_for now (line_at line) ≡ Ok text
-  pub world : now ≡ (first_lines n before script).world
+-- one line more
+pub next_plays : (n : ℕ) (start now : World) (script line text : List ℕ) (rest : List (List ℕ)) (p : Played) → drop n (lines_of script) ≡ line ∷ rest
+    → FirstPlay n start script p → p.refused ≡ None → (d : Does p.world (AreEventsFor p.world (line_at line)) (said_for p.world (line_at line)) (Ok text) now)
+    → FirstPlay (n + 1) start script (gone (p.events ++ d.events) now (p.out ++ text))
+next_plays n start now script line text rest p left first goes d =
+    let lines = take n (lines_of script) in
+    let more = plays_then 1 start lines (line ∷ []) p (printed_after d.events text (ended now)) first goes (line_plays (1 + length lines) p.world now line text d) in
+    let same : printed_after p.events p.out (printed_after d.events text (ended now)) ≡ gone (p.events ++ d.events) now (p.out ++ text) =
+    ap (λ (es : List Event). gone (p.events ++ es) now (p.out ++ (text ++ []))) (append-nil d.events)
+    ∙ ap (λ (o : List ℕ). gone (p.events ++ d.events) now (p.out ++ o)) (append-nil text) in
+    let Q : Played → Type 0 = λ x. Plays 1 start (lines ++ line ∷ []) x in
+    let L : List (List ℕ) → Type 0 = λ xs. Plays 1 start xs (gone (p.events ++ d.events) now (p.out ++ text)) in
+    subst L (sym (take_line (lines_of script) rest n line left)) (subst Q same more)
 
-stands_next : {n : ℕ} {before : World} {script line : List ℕ} {rest : List (List ℕ)} {text : List ℕ} {now : World} → Stands n before script line rest text now
-    → first_lines (n + 1) before script ≡ record { world = world_for now (line_at line); out = (first_lines n before script).out ++ text; refused = None }
-stands_next {n} {before} {script} {line} {rest} {text} {now} s =
-    next_line n before script line rest text s.left s.goes (ap (λ (k : World). said_for k (line_at line)) (sym s.world) ∙ s.says)
-    ∙ ap (λ (k : World). record { world = world_for k (line_at line); out = (first_lines n before script).out ++ text; refused = None }) (sym s.world)
+-- the lines are all done
+pub all_play : (n : ℕ) (start : World) (script : List ℕ) (p : Played) → drop n (lines_of script) ≡ [] → FirstPlay n start script p → IsPlayed start script p
+all_play n start script p left first =
+    let lines = take n (lines_of script) in
+    let whole : lines ≡ lines_of script = sym (append-nil lines) ∙ ap (λ (x : List (List ℕ)). lines ++ x) (sym left) ∙ take-append-drop n (lines_of script) in
+    let L : List (List ℕ) → Type 0 = λ xs. Plays 1 start xs p in
+    subst L whole first
 
-pub done_goes : {n : ℕ} {before : World} {script line : List ℕ} {rest : List (List ℕ)} {text : List ℕ} {now : World} → Stands n before script line rest text now → (first_lines (n + 1) before script).refused ≡ None
-done_goes s = ap (λ (q : Played). q.refused) (stands_next s)
+-- some lines are done, and the others follow
+pub more_play : (n : ℕ) (start : World) (script : List ℕ) (p q : Played) → FirstPlay n start script p → p.refused ≡ None
+    → Plays (1 + length (take n (lines_of script))) p.world (drop n (lines_of script)) q → IsPlayed start script (printed_after p.events p.out q)
+more_play n start script p q first goes more =
+    let L : List (List ℕ) → Type 0 = λ xs. Plays 1 start xs (printed_after p.events p.out q) in
+    subst L (take-append-drop n (lines_of script)) (plays_then 1 start (take n (lines_of script)) (drop n (lines_of script)) p q first goes more)
 
-pub done_world : {n : ℕ} {before : World} {script line : List ℕ} {rest : List (List ℕ)} {text : List ℕ} {now : World} (next : World) → Stands n before script line rest text now → next ≡ world_for now (line_at line) → next ≡ (first_lines (n + 1) before script).world
-done_world next s e = e ∙ sym (ap (λ (q : Played). q.world) (stands_next s))
-
-done_out : {n : ℕ} {before : World} {script line : List ℕ} {rest : List (List ℕ)} {text : List ℕ} {now : World} → Stands n before script line rest text now → (first_lines (n + 1) before script).out ≡ (first_lines n before script).out ++ text
-done_out s = ap (λ (q : Played). q.out) (stands_next s)
-
-pub done_wrote : {n : ℕ} {before : World} {script line : List ℕ} {rest : List (List ℕ)} {text : List ℕ} {now : World} (a b c : Writes) → Stands n before script line rest text now
-    → Wrote a b (first_lines n before script).out → Wrote b c text → Wrote a c (first_lines (n + 1) before script).out
-done_wrote {n} {before} {script} a b c s f g = let W : List ℕ → Type 0 = λ x. Wrote a c x in subst W (sym (done_out s)) (wrote_more a b c (first_lines n before script).out _ f g)
-
--- ---- where a run stops
-
--- some first events of the next line happened, and nothing that it prints is written, for want of memory
-pub stopped : (n : ℕ) (before : World) (script line : List ℕ) (rest : List (List ℕ)) (now next : World) (a b : Writes) → drop n (lines_of script) ≡ line ∷ rest → (first_lines n before script).refused ≡ None → now ≡ (first_lines n before script).world
-    → Wrote a b (first_lines n before script).out → HappenedFirst now (events_for now (line_at line)) next → StopsEarly before script next a b
-stopped n before script line rest now next a b left goes world f first =
-    let w = (first_lines n before script).world in
-    let here : HappenedFirst w (events_for w (line_at line)) next = (let H : World → Type 0 = λ k. HappenedFirst k (events_for k (line_at line)) next in subst H world first) in
-    let L : List (List ℕ) → Type 0 = λ lines. HappenedFirst w (events_in w lines) next in
-    record { lines = n; not_refused = goes; happened = subst L (sym left) here; wrote = f }
-
--- a line is done, and not all that it prints is written
-pub cut_short : {n : ℕ} {before : World} {script line : List ℕ} {rest : List (List ℕ)} {text : List ℕ} {now : World} (next : World) (a b c : Writes) → Stands n before script line rest text now
-    → Wrote a b (first_lines n before script).out → next ≡ world_for now (line_at line) → WroteShort b c text → StopsInLine before script next a c
-cut_short {n} {before} {script} next a b c s f done short = record {
-  lines = n;
-  not_refused = done_goes s;
-  same_world = done_world next s done;
-  wrote = (
-    short.0,
-    short.1,
-    done_out s ∙ ap (λ (x : List ℕ). (first_lines n before script).out ++ x) short.2,
-    short.3,
-    wrote_more a b c (first_lines n before script).out short.0 f short.4,
-  );
-}
-
--- a line is refused, and the lines before it are done
-pub refused_does : (n : ℕ) (before : World) (script line : List ℕ) (rest : List (List ℕ)) (fault : LineFault) (now : World) (a b : Writes) → drop n (lines_of script) ≡ line ∷ rest → (first_lines n before script).refused ≡ None → said_for now (line_at line) ≡ Err fault
-    → now ≡ (first_lines n before script).world → Wrote a b (first_lines n before script).out → DoesAll (played before script) now a b × IsRefusedAt (n + 1) (fault_number fault) (played before script)
-refused_does n before script line rest fault now a b d goes says same f =
-    let p = refused_line n before script line rest fault d goes (ap (λ (k : World). said_for k (line_at line)) (sym same) ∙ says) in
-    let W : List ℕ → Type 0 = λ x. Wrote a b x in
-    (record { same_world = same ∙ sym (ap (λ (q : Played). q.world) p); wrote = subst W (sym (ap (λ (q : Played). q.out) p)) f }, ap (λ (q : Played). q.refused) p)
-
-pub all_does : (n : ℕ) (before : World) (script : List ℕ) (now : World) (a b : Writes) → drop n (lines_of script) ≡ [] → now ≡ (first_lines n before script).world → Wrote a b (first_lines n before script).out → DoesAll (played before script) now a b
-all_does n before script now a b d same f =
-    let p = all_lines n before script d in
-    let W : List ℕ → Type 0 = λ x. Wrote a b x in
-    record { same_world = same ∙ ap (λ (q : Played). q.world) p; wrote = subst W (ap (λ (q : Played). q.out) p) f }
-
-pub all_good : (n : ℕ) (before : World) (script : List ℕ) → drop n (lines_of script) ≡ [] → (first_lines n before script).refused ≡ None → (played before script).refused ≡ None
-all_good n before script d goes = sym (ap (λ (q : Played). q.refused) (all_lines n before script d)) ∙ goes
+-- the next line is refused
+pub refused_play : (n : ℕ) (start now : World) (script line : List ℕ) (rest : List (List ℕ)) (p : Played) (fault : LineFault) → drop n (lines_of script) ≡ line ∷ rest
+    → FirstPlay n start script p → p.refused ≡ None → Does p.world (AreEventsFor p.world (line_at line)) (said_for p.world (line_at line)) (Err fault) now
+    → IsPlayed start script (record { events = p.events; world = p.world; out = p.out; refused = Some (n + 1, fault_number fault) })
+refused_play n start now script line rest p fault left first goes d =
+    let lines = take n (lines_of script) in
+    let place : 1 + length lines ≡ n + 1 = omega (arith, length_taken (lines_of script) rest n line left) in
+    let q = refused_at (n + 1) (fault_number fault) p.world in
+    let Rest : World → Played → Type 0 = λ next r. Plays (n + 1 + 1) next rest r in
+    let G : LineAnswer → Type 0 = λ said. GoesOn (n + 1) p.world d.events said Rest q in
+    let here : G (Err fault) = refl in
+    let one : Plays (n + 1) p.world (line ∷ rest) q = (d.events, d.are, subst G d.told here) in
+    let N : ℕ → Type 0 = λ k. Plays k p.world (line ∷ rest) q in
+    let L : List (List ℕ) → Type 0 = λ xs. Plays (1 + length lines) p.world xs q in
+    let whole = more_play n start script p q first goes (subst L (sym left) (subst N (sym place) one)) in
+    let same : printed_after p.events p.out q ≡ record { events = p.events; world = p.world; out = p.out; refused = Some (n + 1, fault_number fault) } =
+    ap (λ (es : List Event). record { events = es; world = p.world; out = p.out ++ []; refused = Some (n + 1, fault_number fault) }) (append-nil p.events)
+    ∙ ap (λ (o : List ℕ). record { events = p.events; world = p.world; out = o; refused = Some (n + 1, fault_number fault) }) (append-nil p.out) in
+    let Q : Played → Type 0 = λ x. IsPlayed start script x in
+    subst Q same whole
 
 pub rest_behind : (lines rest : List (List ℕ)) (n : ℕ) (line : List ℕ) → drop n lines ≡ line ∷ rest → drop (n + 1) lines ≡ rest
 rest_behind lines rest n line e = sym (drop-drop 1 n lines) ∙ ap (drop 1) e
@@ -179,22 +267,12 @@ pub nothing_left : (o : Option (Bor (List ℕ))) → ((x : Bor (List ℕ)) → o
 nothing_left None none = refl
 nothing_left (Some x) none = absurd (none x refl)
 
--- what some first lines print begins what the script prints
-lines_front : (n : ℕ) (start : World) (script : List ℕ) → (first_lines n start script).refused ≡ None → IsFront (first_lines n start script).out (played start script).out
-lines_front n start script goes =
-    let whole = sym (take-append-drop n (lines_of script)) in
-    let p = played_from (1 + length (take n (lines_of script))) (first_lines n start script).world (drop n (lines_of script)) in
-    (p.out, ap (λ (lines : List (List ℕ)). (played_from 1 start lines).out) whole ∙ ap (λ (q : Played). q.out) (played_append 1 start (take n (lines_of script)) (drop n (lines_of script)) goes))
-
 -- where a run stops for want of memory, a front of what the script prints was written
-pub early_front : (start : World) (script : List ℕ) (world : World) (a b : Writes) → StopsEarly start script world a b → WroteFront a b (played start script).out
-early_front start script world a b early = ((first_lines early.lines start script).out, lines_front early.lines start script early.not_refused, early.wrote)
-
--- and where it stops in a line
-pub line_front : (start : World) (script : List ℕ) (world : World) (a b : Writes) → StopsInLine start script world a b → WroteFront a b (played start script).out
-line_front start script world a b stops =
-    let into = stops.wrote in
-    let first = (first_lines stops.lines start script).out in
-    let lines = lines_front (stops.lines + 1) start script stops.not_refused in
-    let whole : (first_lines (stops.lines + 1) start script).out ≡ (first ++ into.0) ++ into.1 = into.2 ∙ sym (append_assoc first into.0 into.1) in
-    (first ++ into.0, (into.1 ++ lines.0, lines.1 ∙ ap (λ (x : List ℕ). x ++ lines.0) whole ∙ append_assoc (first ++ into.0) into.1 lines.0), into.4)
+pub early_front : (start : World) (script : List ℕ) (now : World) (a b : Writes) → StopsEarly start script now a b → (p : Played) × IsPlayed start script p × WroteFront a b p.out
+early_front start script now a b early =
+    let p = early.p in
+    let q = has_play (1 + length (take early.lines (lines_of script))) p.world (drop early.lines (lines_of script)) in (
+      printed_after p.events p.out q.0,
+      more_play early.lines start script p q.0 early.first early.not_refused q.1,
+      (p.out, ((q.0).out, refl), early.wrote),
+    )

@@ -3,12 +3,12 @@ use Rattle.std.specs.Prelude.{ℕ, ◌+◌, Bool, List, [], ◌∷◌, Option, S
 use Rattle.local_repair.specs.Repairs.{stale_id}
 use Rattle.journal_rows.specs.declared.verdict.Verdict.{Verdict}
 use Rattle.journal_rows.specs.declared.verdict.Verdict.TheVariants.{Legal, Forged, Unsettled}
-use Rattle.service_events.specs.State.{Kept, answers}
+use Rattle.service_events.specs.State.{Kept, answers, base}
 use Rattle.world_audit.specs.Tests.{is_partnered}
 pub use Rattle.world_audit.specs.Verdicts.{SaysForged}
 use Rattle.world_audit.specs.Verdicts.{what_is}
-use Rattle.world_audit.specs.declared.outstanding.Kind.{Kind}
-use Rattle.world_audit.specs.declared.outstanding.Kind.TheVariants.{Flights, Entries, Calls, Answers}
+use Rattle.world_audit.specs.declared.outstanding.OutstandingKind.{OutstandingKind}
+use Rattle.world_audit.specs.declared.outstanding.OutstandingKind.TheVariants.{Flights, Entries, Calls, Answers}
 
 -- what is found at this place, else what is found later
 abbrev pub found_or : ℕ → Option ℕ → Option (ℕ × ℕ) → Option (ℕ × ℕ)
@@ -29,9 +29,9 @@ abbrev pub alone : List Kept → Kept → Option ℕ
 alone services s = option_map (λ f. f.0) (first_found (λ row. unless (is_partnered services s row) 0) 0 s.journal)
 
 -- the first of this kind that is outstanding of a service
-abbrev pub left_of : Kind → Kept → Option ℕ
+abbrev pub left_of : OutstandingKind → Kept → Option ℕ
 left_of Flights s = option_map (λ f. f.id) (slice_get s.flights 0)
-left_of Entries s = stale_id (answers s) s.entries
+left_of Entries s = stale_id (answers s) (base s) s.entries
 left_of Calls s = option_map (λ f. f.1) (first_found (λ r. unless (nat_eq r.acked r.version) r.number) 0 s.registers)
 left_of Answers s = option_map (λ f. f.1) (first_found (λ p. if p.due then Some p.id else None) 0 s.replies)
 
@@ -39,11 +39,11 @@ abbrev pub forged_or : Option (ℕ × ℕ) → Verdict → Verdict
 forged_or None v = v
 forged_or (Some f) v = Forged f.0 f.1
 
-abbrev pub unsettled_or : Kind → Option (ℕ × ℕ) → Verdict → Verdict
+abbrev pub unsettled_or : OutstandingKind → Option (ℕ × ℕ) → Verdict → Verdict
 unsettled_or kind None v = v
 unsettled_or kind (Some f) v = Unsettled f.0 (what_is kind f.1)
 
-abbrev pub unsettled_of : Kind → List Kept → Verdict → Verdict
+abbrev pub unsettled_of : OutstandingKind → List Kept → Verdict → Verdict
 unsettled_of kind services v = unsettled_or kind (first_found (left_of kind) 0 services) v
 
 -- the first row without a partner, else the first thing outstanding by kind, else Legal

@@ -2,3 +2,4 @@ pub mod Told
 pub mod Audits
 pub mod Plays
 pub mod Stops
+pub mod Deliveries

@@ -1,56 +1,53 @@
 -- What a script does, and what it writes.
-use Rattle.std.specs.Prelude.{ℕ, ◌+◌, List, [], ◌∷◌, ◌++◌, Option, Some, None, Ok, Err, ◌==◌, length, if◌then◌else◌, map, nat_lt, take, drop}
+use Rattle.std.specs.Prelude.{ℕ, ◌≡◌, ◌+◌, Bool, true, false, List, [], ◌∷◌, ◌++◌, Option, Some, None, Ok, Err, ◌==◌, length, map, nat_lt, take, drop}
 use Rattle.std.specs.List.{slice_split}
-use Rattle.local_repair.specs.Current.{rows_of}
+use Rattle.local_repair.specs.Current.{rows_after}
 use Rattle.report_text.specs.Reports.{log_text, rows_text, verdict_text}
-use Rattle.service_events.specs.State.{Kept, me}
+use Rattle.service_events.specs.State.{Kept, me, base}
 use Rattle.world_agreement.specs.Partners.{service_of}
 use Rattle.world_events.specs.Events.{after_events}
 use Rattle.world_events.specs.Worlds.{World}
 use Rattle.world_events.specs.declared.event.Event.{Event}
 use Rattle.world_events.specs.declared.event.Event.TheVariants as event
-use Rattle.world_delivery_laws.specs.Runs.{asking}
+use Rattle.world_delivery_laws.specs.Runs.{IsAsking}
 use Rattle.script_lines.specs.Faults.{fault_number}
 use Rattle.script_lines.specs.Lines.{Read, line_at}
 use Rattle.script_lines.specs.declared.line.Line.{Line}
 use Rattle.script_lines.specs.declared.line.Line.TheVariants.{Blank, Begin, Ask, Deliver, Lose, Step, Abandon, Post, Order, Clock, Seed, Rows, Log, Audit}
+use Rattle.script_lines.specs.declared.line.LineFault.{LineFault}
 use Rattle.script_lines.specs.declared.line.LineFault.TheVariants.{Service}
 use Rattle.script_run.specs.Audits.{verdict}
-use Rattle.script_run.specs.Told.{Said, events_said}
+use Rattle.script_run.specs.Told.{LineAnswer, events_said}
 
 -- ---- what a line does
 
--- the events that a line comes to, in the world that it begins in
-abbrev pub events_of : World → Line → List Event
-events_of w Blank = []
-events_of w (Begin service request) = event.Begin service request ∷ []
-events_of w (Ask service request) = asking w service request
-events_of w (Deliver number) = event.Deliver number ∷ []
-events_of w (Lose number) = event.Lose number ∷ []
-events_of w (Step service) = event.Step service ∷ []
-events_of w (Abandon service flight) = event.Abandon service flight ∷ []
-events_of w (Post service dest) = event.Post service dest ∷ []
-events_of w (Order service command token who) = event.Order service command token who ∷ []
-events_of w (Clock moment) = event.Clock moment ∷ []
-events_of w (Seed n) = event.Seed n ∷ []
-events_of w (Rows service) = []
-events_of w (Log service) = []
-events_of w Audit = []
-
--- the world after a line
-abbrev pub after : World → Line → World
-after w line = after_events w (events_of w line)
+-- these are the events that a line comes to, in the world that it begins in
+abbrev pub AreEventsOf : World → Line → List Event → Type 0
+AreEventsOf w Blank events = events ≡ []
+AreEventsOf w (Begin service request) events = events ≡ event.Begin service request ∷ []
+AreEventsOf w (Ask service request) events = IsAsking w service request events
+AreEventsOf w (Deliver number) events = events ≡ event.Deliver number ∷ []
+AreEventsOf w (Lose number) events = events ≡ event.Lose number ∷ []
+AreEventsOf w (Step service) events = events ≡ event.Step service ∷ []
+AreEventsOf w (Abandon service flight) events = events ≡ event.Abandon service flight ∷ []
+AreEventsOf w (Post service dest) events = events ≡ event.Post service dest ∷ []
+AreEventsOf w (Order service command token who) events = events ≡ event.Order service command token who ∷ []
+AreEventsOf w (Clock moment) events = events ≡ event.Clock moment ∷ []
+AreEventsOf w (Seed n) events = events ≡ event.Seed n ∷ []
+AreEventsOf w (Rows service) events = events ≡ []
+AreEventsOf w (Log service) events = events ≡ []
+AreEventsOf w Audit events = events ≡ []
 
 -- ---- what a line says
 
 abbrev pub rows_of_service : Kept → List ℕ
-rows_of_service s = rows_text (rows_of s.entries)
+rows_of_service s = rows_text (rows_after (base s) s.entries)
 
 abbrev pub log_of_service : Kept → List ℕ
 log_of_service s = log_text (me s) s.entries
 
 -- what a report says of a service, if it is there
-abbrev pub report_of : (Kept → List ℕ) → Option Kept → Said
+abbrev pub report_of : (Kept → List ℕ) → Option Kept → LineAnswer
 report_of report None = Err Service
 report_of report (Some s) = Ok (report s)
 
@@ -58,85 +55,106 @@ report_of report (Some s) = Ok (report s)
 abbrev pub audit_text : List Kept → List ℕ
 audit_text services = verdict_text (map me services) (verdict services)
 
--- what a line prints, or which of the things that it names isn't there: a service, a packet or a flight
-abbrev pub said_by : World → Line → Said
-said_by w (Rows service) = report_of rows_of_service (service_of service w.services)
-said_by w (Log service) = report_of log_of_service (service_of service w.services)
-said_by w Audit = Ok (audit_text w.services)
-said_by w line = events_said w (events_of w line)
+-- what a line prints of its events, or which of the things that it names isn't there: a service, a packet or a flight
+abbrev pub said_by : World → Line → List Event → LineAnswer
+said_by w (Rows service) events = report_of rows_of_service (service_of service w.services)
+said_by w (Log service) events = report_of log_of_service (service_of service w.services)
+said_by w Audit events = Ok (audit_text w.services)
+said_by w line events = events_said w events
 
 -- ---- the same of what was read as a line
 
 -- text, first word and shape of a line are tested before anything that it names
-abbrev pub said_for : World → Read → Said
-said_for w (Ok line) = said_by w line
-said_for w (Err fault) = Err fault
+abbrev pub said_for : World → Read → List Event → LineAnswer
+said_for w (Ok line) events = said_by w line events
+said_for w (Err fault) events = Err fault
 
 -- what can't be read has no events
-abbrev pub events_for : World → Read → List Event
-events_for w (Ok line) = events_of w line
-events_for w (Err fault) = []
-
-abbrev pub world_for : World → Read → World
-world_for w r = after_events w (events_for w r)
+abbrev pub AreEventsFor : World → Read → List Event → Type 0
+AreEventsFor w (Ok line) events = AreEventsOf w line events
+AreEventsFor w (Err fault) events = events ≡ []
 
 -- ---- a script
 
--- where a script ends: the world then, what was written, and the line and number of a refusal
+-- what a script comes to: the events of its lines, one behind another, the world then, what was written, and the line and
+-- number of a refusal
 pub record Played : Type 0 where
+  pub events : List Event
   pub world : World
   pub out : List ℕ
   pub refused : Option (ℕ × ℕ)
 
--- what was written before, and then this
-abbrev pub behind : List ℕ → Played → Played
-behind out p = record { world = p.world; out = out ++ p.out; refused = p.refused }
+-- no line is left
+abbrev pub ended : World → Played
+ended w = record { events = []; world = w; out = []; refused = None }
 
--- a line that is good is done and printed, and the rest follows; one that isn't ends the script, and does nothing
-abbrev pub with_line : ℕ → World → World → Said → (World → Played) → Played
-with_line n w next (Ok text) rest = behind text (rest next)
-with_line n w next (Err fault) rest = record { world = w; out = []; refused = Some (n, fault_number fault) }
+-- a line is refused, and does nothing
+abbrev pub refused_at : ℕ → ℕ → World → Played
+refused_at line number w = record { events = []; world = w; out = []; refused = Some (line, number) }
 
--- lines from the n-th on
-abbrev pub played_from : ℕ → World → List (List ℕ) → Played
-played_from n w [] = record { world = w; out = []; refused = None }
-played_from n w (line ∷ lines) =
-    with_line n w (world_for w (line_at line)) (said_for w (line_at line)) (λ next. played_from (n + 1) next lines)
+-- what was done and written before, and then this
+abbrev pub printed_after : List Event → List ℕ → Played → Played
+printed_after events out p = record { events = events ++ p.events; world = p.world; out = out ++ p.out; refused = p.refused }
+
+-- by what the n-th line says: one that is good is done and printed, and the rest follows; one that isn't ends the script
+abbrev pub GoesOn : ℕ → World → List Event → LineAnswer → (World → Played → Type 0) → Played → Type 0
+GoesOn n w events (Ok text) Rest p = (rest : Played) × Rest (after_events w events) rest × (p ≡ printed_after events text rest)
+GoesOn n w events (Err fault) Rest p = p ≡ refused_at n (fault_number fault) w
+
+-- what lines from the n-th on come to
+abbrev pub Plays : ℕ → World → List (List ℕ) → Played → Type 0
+Plays n w [] p = p ≡ ended w
+Plays n w (line ∷ lines) p =
+    (events : List Event) × AreEventsFor w (line_at line) events
+    × GoesOn n w events (said_for w (line_at line) events) (λ next rest. Plays (n + 1) next lines rest) p
 
 -- lines end with a line feed, which the last may lack
 abbrev pub lines_of : List ℕ → List (List ℕ)
 lines_of script = slice_split (λ b. b == 10) script
 
 -- lines are counted from 1
-abbrev pub played : World → List ℕ → Played
-played w script = played_from 1 w (lines_of script)
+abbrev pub IsPlayed : World → List ℕ → Played → Type 0
+IsPlayed w script p = Plays 1 w (lines_of script) p
+
+abbrev pub RunsIfLong : Bool → World → List ℕ → Played → Type 0
+RunsIfLong true w script p = p ≡ refused_at 0 7 w
+RunsIfLong false w script p = IsPlayed w script p
 
 -- a script of more than 16,777,216 bytes is refused as line 0, before any line
-abbrev pub run_of_script : World → List ℕ → Played
-run_of_script w script =
-    if nat_lt 16777216 (length script) then record { world = w; out = []; refused = Some (0, 7) } else played w script
+abbrev pub IsRunOf : World → List ℕ → Played → Type 0
+IsRunOf w script p = RunsIfLong (nat_lt 16777216 (length script)) w script p
 
 -- ---- where a run of a script stops
 
--- its first lines alone
-abbrev pub first_lines : ℕ → World → List ℕ → Played
-first_lines n w script = played_from 1 w (take n (lines_of script))
+-- what its first lines alone come to
+abbrev pub FirstPlay : ℕ → World → List ℕ → Played → Type 0
+FirstPlay n w script p = Plays 1 w (take n (lines_of script)) p
 
 -- the lines behind a line
 abbrev pub lines_left : Option (List ℕ) → List (List ℕ)
 lines_left None = []
 lines_left (Some rest) = lines_of rest
 
--- the events of the first of some lines
-abbrev pub events_in : World → List (List ℕ) → List Event
-events_in w [] = []
-events_in w (line ∷ lines) = events_for w (line_at line)
-
--- the events of the line behind the first lines
-abbrev pub events_behind : ℕ → World → List ℕ → List Event
-events_behind n w script = events_in (first_lines n w script).world (drop n (lines_of script))
+-- these are the events of the first of some lines
+abbrev pub AreEventsIn : World → List (List ℕ) → List Event → Type 0
+AreEventsIn w [] events = events ≡ []
+AreEventsIn w (line ∷ lines) events = AreEventsFor w (line_at line) events
 
 -- a bound on how many lines those behind are
 abbrev pub bytes_left : Option (List ℕ) → ℕ
 bytes_left None = 0
 bytes_left (Some rest) = length rest + 1
+
+-- ---- scripts of live requests
+
+-- a line of live requests alone, or a report: no step, no order, no post. What can't be read does nothing
+abbrev pub IsLiveLine : Read → Type 0
+IsLiveLine (Ok (Step service)) = ⊥
+IsLiveLine (Ok (Order service command token who)) = ⊥
+IsLiveLine (Ok (Post service dest)) = ⊥
+IsLiveLine (Ok line) = Unit {0}
+IsLiveLine (Err fault) = Unit {0}
+
+abbrev pub AreLiveLines : List (List ℕ) → Type 0
+AreLiveLines [] = Unit {0}
+AreLiveLines (line ∷ lines) = IsLiveLine (line_at line) × AreLiveLines lines

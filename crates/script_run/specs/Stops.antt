@@ -1,36 +1,76 @@
--- Where a run of a script stops.
-use Rattle.std.specs.Prelude.{◌≡◌, ◌≢◌, ℕ, ◌+◌, List, [], ◌++◌, Some, None, take}
+-- What is done of a script, and where its run stops.
+use Rattle.std.specs.Prelude.{◌≡◌, ◌≢◌, ℕ, ◌+◌, List, [], ◌++◌, Option, None, take, drop}
 use Rattle.io_edge.specs.Edge.{Writes, Wrote}
 use Rattle.world_events.specs.Events.{after_events}
-use Rattle.world_events.specs.Sound.{IsSound}
+use Rattle.world_events.specs.Live.{AllCommitsEnd, IsLiveWorld}
+use Rattle.world_events.specs.Sound.{AllFew, IsSound}
 use Rattle.world_events.specs.Worlds.{World}
 use Rattle.world_events.specs.declared.event.Event.{Event}
-use Rattle.script_run.specs.Plays.{Played, events_behind, first_lines}
+use Rattle.script_run.specs.Plays.{AreEventsIn, AreLiveLines, FirstPlay, IsPlayed, Played, lines_of}
+use Rattle.script_run.specs.Told.{LineAnswer}
+
+-- ---- events
+
+-- these events happened, one behind another, and after each of them each journal could be counted
+pub record AreDone (start : World) (events : List Event) (now : World) : Type 0 where
+  pub world : now ≡ after_events start events
+  pub few : AllFew start events
+
+-- events of which this holds are done, and what is said is said of them
+pub record Does (start : World) (Are : List Event → Type 0) (says : List Event → LineAnswer) (said : LineAnswer) (now : World) : Type 0 where
+  pub events : List Event
+  pub are : Are events
+  pub done : AreDone start events now
+  pub told : said ≡ says events
+
+-- of events of which this holds some first are done
+pub record DoesFirst (start : World) (Are : List Event → Type 0) (now : World) : Type 0 where
+  pub events : List Event
+  pub are : Are events
+  pub count : ℕ
+  pub done : AreDone start (take count events) now
+
+-- ---- a script
 
 -- where the one world was sound, the other is
 abbrev pub KeepsSound : World → World → Type 0
 KeepsSound before now = IsSound before → IsSound now
 
--- all that was played is done and written
-pub record DoesAll (p : Played) (world : World) (before now : Writes) : Type 0 where
-  pub same_world : world ≡ p.world
-  pub wrote : Wrote before now p.out
+-- A script comes to exactly one thing, whose world is the one after its events. So what is delivered of an `ask` comes to an end.
+pub record IsDetermined (start : World) (script : List ℕ) : Type 0 where
+  pub p : Played
+  pub played : IsPlayed start script p
+  pub alone : (q : Played) → IsPlayed start script q → q ≡ p
+  pub leads : p.world ≡ after_events start p.events
 
--- the line of this number is refused with this number
-abbrev pub IsRefusedAt : ℕ → ℕ → Played → Type 0
-IsRefusedAt line number p = p.refused ≡ Some (line, number)
+-- Where a script has lines of live requests alone, each call of each request that is committed at these events of it ended:
+-- what the call consumes is the response of its callee's one entry of it, or its register says why there is none.
+abbrev pub AreTold : World → List ℕ → List Event → Type 0
+AreTold start script events = AreLiveLines (lines_of script) → AllCommitsEnd start events
 
--- some first of these events happened
-abbrev pub HappenedFirst : World → List Event → World → Type 0
-HappenedFirst start events world = (n : ℕ) × (world ≡ after_events start (take n events))
+-- so it is where nothing was repaired before
+abbrev pub TellsFrom : World → List ℕ → List Event → Type 0
+TellsFrom start script events = IsSound start → IsLiveWorld start → AreTold start script events
+
+-- all that a script comes to is done and written, and it is refused so, if it is
+pub record DoesAll (start : World) (script : List ℕ) (refused : Option (ℕ × ℕ)) (now : World) (before after : Writes) : Type 0 where
+  pub p : Played
+  pub played : IsPlayed start script p
+  pub ends : p.refused ≡ refused
+  pub same_world : now ≡ p.world
+  pub wrote : Wrote before after p.out
+  pub told : TellsFrom start script p.events
 
 -- Some first lines are done, and what they print is written; of the line behind them some first events happened, and
 -- nothing of it is written.
-pub record StopsEarly (start : World) (script : List ℕ) (world : World) (before now : Writes) : Type 0 where
+pub record StopsEarly (start : World) (script : List ℕ) (now : World) (before after : Writes) : Type 0 where
   pub lines : ℕ
-  pub not_refused : (first_lines lines start script).refused ≡ None
-  pub happened : HappenedFirst (first_lines lines start script).world (events_behind lines start script) world
-  pub wrote : Wrote before now (first_lines lines start script).out
+  pub p : Played
+  pub first : FirstPlay lines start script p
+  pub not_refused : p.refused ≡ None
+  pub next : DoesFirst p.world (AreEventsIn p.world (drop lines (lines_of script))) now
+  pub wrote : Wrote before after p.out
+  pub told : TellsFrom start script (p.events ++ take next.count next.events)
 
 -- All of the first text was written, and of the whole, which goes on behind it, not all.
 abbrev pub WroteInto : Writes → Writes → List ℕ → List ℕ → Type 0
@@ -39,8 +79,13 @@ WroteInto before now first whole =
 
 -- Some first lines are done and all that they print was written; the line behind them is done too, and not all that it
 -- prints was written.
-pub record StopsInLine (start : World) (script : List ℕ) (world : World) (before now : Writes) : Type 0 where
+pub record StopsInLine (start : World) (script : List ℕ) (now : World) (before after : Writes) : Type 0 where
   pub lines : ℕ
-  pub not_refused : (first_lines (lines + 1) start script).refused ≡ None
-  pub same_world : world ≡ (first_lines (lines + 1) start script).world
-  pub wrote : WroteInto before now (first_lines lines start script).out (first_lines (lines + 1) start script).out
+  pub p : Played
+  pub first : FirstPlay lines start script p
+  pub whole : Played
+  pub with_line : FirstPlay (lines + 1) start script whole
+  pub not_refused : whole.refused ≡ None
+  pub same_world : now ≡ whole.world
+  pub wrote : WroteInto before after p.out whole.out
+  pub told : TellsFrom start script whole.events

@@ -6,28 +6,28 @@ use Rattle.world_events.specs.declared.event.Event.{Event}
 use Rattle.world_events.specs.declared.event.WorldStepRefused.{WorldStepRefused}
 use Rattle.world_events.specs.declared.event.WorldStepRefused.TheVariants.{NoMemory, NoService, NoPacket, NoFlight}
 use Rattle.world_events.specs.declared.happened.Happened.{Happened}
-use Rattle.script_text.specs.Cues.{cue_of}
+use Rattle.script_text.specs.Cues.{detail_of}
 use Rattle.script_text.specs.Happenings.{happened_line, journal_of}
-use Rattle.script_text.specs.declared.cue.Cue.{Cue}
+use Rattle.script_text.specs.declared.detail.Detail.{Detail}
 use Rattle.script_lines.specs.declared.line.LineFault.{LineFault}
 use Rattle.script_lines.specs.declared.line.LineFault.TheVariants.{Service, Packet, Flight}
 
 -- ---- the last that happened
 
 -- what happened at an event, with what the event was told; where it didn't happen, what happened before
-abbrev pub last_of : Option (Cue × Happened) → Cue → Answer → Option (Cue × Happened)
-last_of before cue (Ok h) = Some (cue, h)
-last_of before cue (Err why) = before
+abbrev pub last_of : Option (Detail × Happened) → Detail → Answer → Option (Detail × Happened)
+last_of before detail (Ok h) = Some (detail, h)
+last_of before detail (Err why) = before
 
 -- the last that happened at events one behind another, else what happened before
-abbrev pub last_at : Option (Cue × Happened) → World → List Event → Option (Cue × Happened)
+abbrev pub last_at : Option (Detail × Happened) → World → List Event → Option (Detail × Happened)
 last_at before w [] = before
-last_at before w (e ∷ events) = last_at (last_of before (cue_of e) (answer_to w e)) (after_event w e) events
+last_at before w (e ∷ events) = last_at (last_of before (detail_of e) (answer_to w e)) (after_event w e) events
 
 -- the line that is printed of it, by the world after all events
-abbrev pub line_of : World → Option (Cue × Happened) → List ℕ
+abbrev pub line_of : World → Option (Detail × Happened) → List ℕ
 line_of w None = []
-line_of w (Some (cue, h)) = happened_line w.packets (journal_of h.service w) cue h
+line_of w (Some (detail, h)) = happened_line w.packets (journal_of h.service w) detail h
 
 -- events print the line of the last that happened
 abbrev pub last_line : World → List Event → List ℕ
@@ -36,8 +36,8 @@ last_line w events = line_of (after_events w events) (last_at None w events)
 -- ---- what events say
 
 -- what a line says to a world: what it prints, or which of the things that it names isn't there
-abbrev pub Said : Type 0
-Said = Result (List ℕ) LineFault
+abbrev pub LineAnswer : Type 0
+LineAnswer = Result (List ℕ) LineFault
 
 -- what an event names that isn't there. No event wants memory
 abbrev pub fault_of : WorldStepRefused → LineFault
@@ -52,10 +52,10 @@ happened_or (Ok h) = Ok h
 happened_or (Err why) = Err (fault_of why)
 
 -- by the answer of the first event: where it doesn't happen, the line is refused
-abbrev pub said_of : Answer → List ℕ → Said
+abbrev pub said_of : Answer → List ℕ → LineAnswer
 said_of (Ok h) text = Ok text
 said_of (Err why) text = Err (fault_of why)
 
-abbrev pub events_said : World → List Event → Said
+abbrev pub events_said : World → List Event → LineAnswer
 events_said w [] = Ok []
 events_said w (e ∷ events) = said_of (answer_to w e) (last_line w (e ∷ events))

@@ -1,9 +1,8 @@
 // What a line does, and what it prints.
-ghost use Rattle.std.specs.Prelude.{◌≡◌, ◌∷◌, [], Ok, IfOk, OnOk, OnErr};
-ghost use Rattle.world_events.specs.Events.{after_event};
+ghost use Rattle.std.specs.Prelude.{◌≡◌, ◌∷◌, [], Ok, IfOk, OnErr};
 ghost use Rattle.script_run.specs.Told.{events_said};
-ghost use Rattle.script_run.specs.Plays.{after, events_of, said_by};
-ghost use Rattle.script_run.specs.Stops.{HappenedFirst, KeepsSound};
+ghost use Rattle.script_run.specs.Plays.{AreEventsOf, said_by};
+ghost use Rattle.script_run.specs.Stops.{Does, DoesFirst};
 
 use crate::asking::ask;
 use crate::reports::{log, rows, verdict_over};
@@ -11,11 +10,12 @@ use crate::telling::happen;
 use journal_rows::Command;
 use lang_core::{Copied, Name, NoMemory, Text};
 use script_lines::{Line, LineFault};
-use script_text::Cue;
+use script_text::Detail;
 use std::alloc::Global;
 use world_core::{Event, World};
 
 // An order, which is told with its token.
+#[tactic(auto, using(crate::proofs::Following::one_first))]
 fn order(
     alloc: Global,
     world: &mut World,
@@ -24,10 +24,8 @@ fn order(
     token: Text,
     who: Text,
 ) -> Result<Result<Text, LineFault>, NoMemory>
-    ensures said { IfOk result (λ said. said ≡ events_said world.old (Event.Order service command token who ∷ [])) }
-    ensures after { OnOk result (world.new ≡ after_event world.old (Event.Order service command token who)) }
-    ensures early { OnErr result (HappenedFirst world.old (Event.Order service command token who ∷ []) world.new) }
-    ensures sound { KeepsSound world.old world.new }
+    ensures does { IfOk result (λ said. Does world.old (λ events. events ≡ Event.Order service command token who ∷ []) (events_said world.old) said world.new) }
+    ensures early { OnErr result (DoesFirst world.old (λ events. events ≡ Event.Order service command token who ∷ []) world.new) }
 {
     let Ok(told) = token.copied(alloc) else {
         return Err(NoMemory);
@@ -38,25 +36,24 @@ fn order(
         token,
         who,
     };
-    happen(alloc, world, Cue::Token(told), event)
+    happen(alloc, world, Detail::Token(told), event)
 }
 
 // The next post for a service, which is told with its name.
+#[tactic(auto, using(crate::proofs::Following::one_first))]
 fn post(
     alloc: Global,
     world: &mut World,
     from: Name,
     to: Name,
 ) -> Result<Result<Text, LineFault>, NoMemory>
-    ensures said { IfOk result (λ said. said ≡ events_said world.old (Event.Post from to ∷ [])) }
-    ensures after { OnOk result (world.new ≡ after_event world.old (Event.Post from to)) }
-    ensures early { OnErr result (HappenedFirst world.old (Event.Post from to ∷ []) world.new) }
-    ensures sound { KeepsSound world.old world.new }
+    ensures does { IfOk result (λ said. Does world.old (λ events. events ≡ Event.Post from to ∷ []) (events_said world.old) said world.new) }
+    ensures early { OnErr result (DoesFirst world.old (λ events. events ≡ Event.Post from to ∷ []) world.new) }
 {
     let Ok(told) = to.copied(alloc) else {
         return Err(NoMemory);
     };
-    happen(alloc, world, Cue::To(told), Event::Post { from, to })
+    happen(alloc, world, Detail::To(told), Event::Post { from, to })
 }
 
 // A line that prints nothing.
@@ -68,15 +65,14 @@ fn silent(alloc: Global) -> Result<Result<Text, LineFault>, NoMemory>
 
 /// Does what a line says, and answers what it prints, or which of the things that it names isn't there. For want of memory
 /// some first of its events happened, and nothing is printed.
+#[tactic(auto, using(crate::proofs::Following::does_nothing))]
 pub fn act(
     alloc: Global,
     world: &mut World,
     line: Line,
 ) -> Result<Result<Text, LineFault>, NoMemory>
-    ensures said { IfOk result (λ said. said ≡ said_by world.old line) }
-    ensures after { OnOk result (world.new ≡ after world.old line) }
-    ensures early { OnErr result (HappenedFirst world.old (events_of world.old line) world.new) }
-    ensures sound { KeepsSound world.old world.new }
+    ensures does { IfOk result (λ said. Does world.old (AreEventsOf world.old line) (said_by world.old line) said world.new) }
+    ensures early { OnErr result (DoesFirst world.old (AreEventsOf world.old line) world.new) }
 {
     match line {
         Line::Blank => silent(alloc),
@@ -84,21 +80,21 @@ pub fn act(
             happen(
                 alloc,
                 world,
-                Cue::Nothing,
+                Detail::Nothing,
                 Event::Begin { service, request },
             )
         }
         Line::Ask { service, request } => ask(alloc, world, service, request),
         Line::Deliver(number) => {
-            happen(alloc, world, Cue::Packet(number), Event::Deliver(number))
+            happen(alloc, world, Detail::Packet(number), Event::Deliver(number))
         }
-        Line::Lose(number) => happen(alloc, world, Cue::Packet(number), Event::Lose(number)),
-        Line::Step { service } => happen(alloc, world, Cue::Nothing, Event::Step { service }),
+        Line::Lose(number) => happen(alloc, world, Detail::Packet(number), Event::Lose(number)),
+        Line::Step { service } => happen(alloc, world, Detail::Nothing, Event::Step { service }),
         Line::Abandon { service, flight } => {
             happen(
                 alloc,
                 world,
-                Cue::Flight(flight),
+                Detail::Flight(flight),
                 Event::Abandon { service, flight },
             )
         }
@@ -109,8 +105,8 @@ pub fn act(
             token,
             who,
         } => order(alloc, world, service, command, token, who),
-        Line::Clock(moment) => happen(alloc, world, Cue::Nothing, Event::Clock(moment)),
-        Line::Seed(n) => happen(alloc, world, Cue::Nothing, Event::Seed(n)),
+        Line::Clock(moment) => happen(alloc, world, Detail::Nothing, Event::Clock(moment)),
+        Line::Seed(n) => happen(alloc, world, Detail::Nothing, Event::Seed(n)),
         Line::Rows { service } => rows(alloc, world, &service),
         Line::Log { service } => log(alloc, world, &service),
         Line::Audit => verdict_over(alloc, world),

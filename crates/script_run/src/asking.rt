@@ -1,45 +1,42 @@
 // A request, and the deliveries that follow it.
-ghost use Rattle.std.specs.Prelude.{◌≡◌, IfOk, OnOk, OnErr, Some};
-ghost use Rattle.world_events.specs.Events.{after_events};
-ghost use Rattle.world_delivery_laws.specs.WorldWeights.{IsInHand};
-ghost use Rattle.world_delivery_laws.specs.Runs.{asking, deliveries};
-ghost use Rattle.script_run.specs.Told.{events_said, last_at};
-ghost use Rattle.script_run.specs.Stops.{HappenedFirst, KeepsSound};
+ghost use Rattle.std.specs.Prelude.{IfOk, OnErr, Some};
+ghost use Rattle.world_delivery_laws.specs.InHand.{IsInHand};
+ghost use Rattle.world_delivery_laws.specs.Runs.{IsAsking, IsRun};
+ghost use Rattle.script_run.specs.Told.{events_said};
+ghost use Rattle.script_run.specs.Stops.{Does, DoesFirst};
+ghost use Rattle.script_run.specs.Deliveries.{Delivers};
 
 use crate::telling::{step, tell};
 use lang_core::{Name, NoMemory, Request, Text};
 use script_lines::LineFault;
-use script_text::Cue;
+use script_text::Detail;
 use std::alloc::Global;
 use world_core::{Event, Happened, World};
 
 /// What happened last, and what its event was told.
 #[derive(Drop)]
-pub struct Last {
-    pub cue: Cue,
+pub struct LastHappened {
+    pub detail: Detail,
     pub happened: Happened,
 }
 
 // Delivers what is in hand, and what that writes, until nothing is written.
-fn follow(alloc: Global, world: &mut World, begun: Happened) -> Result<Last, NoMemory>
+fn follow(alloc: Global, world: &mut World, begun: Happened) -> Result<LastHappened, NoMemory>
     requires { IsInHand world.now begun.packet }
-    ensures after { OnOk result (world.new ≡ after_events world.old (deliveries world.old begun.packet)) }
-    ensures last { IfOk result (λ last. Some (last.cue, last.happened)
-        ≡ last_at (Some (Cue.Nothing, begun)) world.old (deliveries world.old begun.packet)) }
-    ensures early { OnErr result (HappenedFirst world.old (deliveries world.old begun.packet) world.new) }
-    ensures sound { KeepsSound world.old world.new }
+    ensures run { IfOk result (λ last. Delivers world.old begun.packet (Some (Detail.Nothing, begun)) (Some (last.detail, last.happened)) world.new) }
+    ensures early { OnErr result (DoesFirst world.old (IsRun world.old begun.packet) world.new) }
 {
     let mut next = begun.packet;
-    let mut last = Last {
-        cue: Cue::Nothing,
+    let mut last = LastHappened {
+        detail: Detail::Nothing,
         happened: begun,
     };
     while let Some(number) = next {
         match step(alloc, world, Event::Deliver(number))? {
             Ok(happened) => {
                 next = happened.packet;
-                last = Last {
-                    cue: Cue::Packet(number),
+                last = LastHappened {
+                    detail: Detail::Packet(number),
                     happened,
                 };
             }
@@ -57,15 +54,13 @@ pub fn ask(
     service: Name,
     request: Request,
 ) -> Result<Result<Text, LineFault>, NoMemory>
-    ensures said { IfOk result (λ said. said ≡ events_said world.old (asking world.old service request)) }
-    ensures after { OnOk result (world.new ≡ after_events world.old (asking world.old service request)) }
-    ensures early { OnErr result (HappenedFirst world.old (asking world.old service request) world.new) }
-    ensures sound { KeepsSound world.old world.new }
+    ensures does { IfOk result (λ said. Does world.old (IsAsking world.old service request) (events_said world.old) said world.new) }
+    ensures early { OnErr result (DoesFirst world.old (IsAsking world.old service request) world.new) }
 {
     match step(alloc, world, Event::Begin { service, request })? {
         Ok(begun) => {
             let last = follow(alloc, world, begun)?;
-            Ok(Ok(tell(alloc, world, &last.cue, &last.happened)?))
+            Ok(Ok(tell(alloc, world, &last.detail, &last.happened)?))
         }
         Err(fault) => Ok(Err(fault)),
     }

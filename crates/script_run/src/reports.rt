@@ -1,10 +1,11 @@
 // Lines that print what stands in a world.
 ghost use Rattle.std.specs.Prelude.{◌≡◌, All, Ok, IfOk, length, map};
+ghost use Rattle.call_registers.specs.Registers.{IsTimely};
 ghost use Rattle.journal_rows.specs.declared.verdict.Verdict.TheVariants.{Legal};
 ghost use Rattle.report_text.specs.Reports.{IsVerdictOver};
 ghost use Rattle.service_events.specs.Fits.{Fits};
-ghost use Rattle.service_events.specs.State.{me};
-ghost use Rattle.world_agreement.specs.Legal.{IsLegalTogether, histories};
+ghost use Rattle.service_events.specs.State.{me, Kept};
+ghost use Rattle.world_agreement.specs.Legal.{AreLegal};
 ghost use Rattle.world_agreement.specs.Partners.{IsJoined, service_of};
 ghost use Rattle.script_run.specs.Audits.{SaysForged, verdict};
 ghost use Rattle.script_run.specs.Plays.{audit_text, log_of_service, report_of, rows_of_service};
@@ -68,8 +69,11 @@ fn each_fits(services: &[Service])
 pub fn judge(world: &World) -> Verdict
     ensures same { result ≡ verdict world.now.services }
     ensures over { IsVerdictOver (length world.now.services) result }
-    ensures legal { result ≡ Legal → IsLegalTogether (histories world.now.services) }
+    ensures legal { result ≡ Legal → AreLegal world.now.services }
     ensures joined { IsJoined world.now.services → ¬ (SaysForged result) }
+
+    // Services that are joined are timely: none holds an answer to a later version of a call than its register's.
+    ensures timely { IsJoined world.now.services → All (λ (s : Kept). IsTimely s.registers) world.now.services }
 {
     let services = world.services();
     each_fits(services);

@@ -1,10 +1,10 @@
 // A script, line by line.
-ghost use Rattle.std.specs.Prelude.{◌≡◌, ◌==◌, ◌≤◌, ℕ, ◌∷◌, IfOk, OnOk, OnErr, IsErrOf, None, option_map, length, position};
+ghost use Rattle.std.specs.Prelude.{◌≡◌, ◌==◌, ◌≤◌, ℕ, ◌∷◌, IfOk, OnOk, OnErr, IsErrOf, Some, None, option_map, length, position};
 ghost use Rattle.io_edge.specs.Edge.{WriteFails};
 ghost use Rattle.script_lines.specs.Faults.{fault_number};
 ghost use Rattle.script_lines.specs.Lines.{line_at};
-ghost use Rattle.script_run.specs.Plays.{bytes_left, events_for, lines_left, lines_of, played, said_for, world_for};
-ghost use Rattle.script_run.specs.Stops.{DoesAll, HappenedFirst, IsRefusedAt, KeepsSound, StopsEarly, StopsInLine};
+ghost use Rattle.script_run.specs.Plays.{AreEventsFor, bytes_left, lines_left, lines_of, said_for};
+ghost use Rattle.script_run.specs.Stops.{Does, DoesAll, DoesFirst, IsDetermined, KeepsSound, StopsEarly, StopsInLine};
 ghost use Rattle.script_lines.specs.declared.line.LineFault.{LineFault};
 ghost use Rattle.script_run.specs.declared.script.ScriptRefused.TheVariants.{Refused, NoMemory, WriteFault};
 
@@ -43,15 +43,14 @@ impl From<Failed> for ScriptRefused {
 }
 
 // Does what the bytes of a line say, and answers what it prints, or why it is refused.
+#[tactic(auto, using(crate::proofs::Following::unread_does, crate::proofs::Following::read_acts, crate::proofs::Following::read_first))]
 fn play_line(
     alloc: Global,
     world: &mut World,
     bytes: &[u8],
 ) -> Result<Result<Text, LineFault>, LacksMemory>
-    ensures said { IfOk result (λ said. said ≡ said_for world.old (line_at bytes.now)) }
-    ensures after { OnOk result (world.new ≡ world_for world.old (line_at bytes.now)) }
-    ensures early { OnErr result (HappenedFirst world.old (events_for world.old (line_at bytes.now)) world.new) }
-    ensures sound { KeepsSound world.old world.new }
+    ensures does { IfOk result (λ said. Does world.old (AreEventsFor world.old (line_at bytes.now)) (said_for world.old (line_at bytes.now)) said world.new) }
+    ensures early { OnErr result (DoesFirst world.old (AreEventsFor world.old (line_at bytes.now)) world.new) }
 {
     match read_line(alloc, bytes)? {
         Ok(line) => act(alloc, world, line),
@@ -78,22 +77,26 @@ fn cut_line(bytes: &[u8]) -> (&[u8], Option<&[u8]>)
 
 /// Does a script's lines in order, and writes what each prints before the next is done. On an error the lines before it
 /// are done and written. A line that can't be written is done, and not all that it prints was written. For want of
-/// memory some first events of the line happened, and nothing that it prints was written.
+/// memory some first events of the line happened, and nothing that it prints was written. However far it comes, where all
+/// lines are of live requests each call of a request that was committed consumes its callee's answer, or its register says
+/// why not.
+#[tactic(auto, using(crate::proofs::PlayLaws::determined))]
 pub fn run_script<K: Sink>(
     alloc: Global,
     world: &mut World,
     script: &[u8],
     out: &mut K,
 ) -> Result<(), ScriptRefused>
-    ensures ok { OnOk result (DoesAll (played world.old script.now) world.new (K.writes out.old) (K.writes out.new)) }
-    ensures done { OnOk result ((played world.old script.now).refused ≡ None) }
+    ensures ok { OnOk result (DoesAll world.old script.now None world.new (K.writes out.old) (K.writes out.new)) }
     ensures refused { (line : ℕ) (fault : LineFault) → IsErrOf result (Refused line fault)
-        → DoesAll (played world.old script.now) world.new (K.writes out.old) (K.writes out.new)
-        × IsRefusedAt line (fault_number fault) (played world.old script.now) }
+        → DoesAll world.old script.now (Some (line, fault_number fault)) world.new (K.writes out.old) (K.writes out.new) }
     ensures cut { IsErrOf result WriteFault → StopsInLine world.old script.now world.new (K.writes out.old) (K.writes out.new) }
     ensures fault { IsErrOf result WriteFault → WriteFails (K.writes out.old) (K.writes out.new) }
     ensures early { IsErrOf result NoMemory → StopsEarly world.old script.now world.new (K.writes out.old) (K.writes out.new) }
     ensures counted { (K.writes out.old).faults ≤ (K.writes out.new).faults }
+
+    // A script comes to one thing alone, and what an `ask` delivers comes to an end.
+    ensures one { IsDetermined world.old script.now }
 
     // Whatever it does, services that fit their journals and agree on what went between them do so still.
     ensures sound { KeepsSound world.old world.new }

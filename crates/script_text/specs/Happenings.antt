@@ -36,9 +36,9 @@ use Rattle.world_events.specs.declared.happened.What.{What}
 use Rattle.world_events.specs.declared.happened.What.TheVariants as what
 use Rattle.world_events.specs.declared.packet.Packet.{Packet}
 use Rattle.world_events.specs.declared.packet.Packet.TheVariants as packet
-use Rattle.script_text.specs.Cues.{cue_of, flight_in, packet_told, to_in, token_in}
+use Rattle.script_text.specs.Cues.{detail_of, flight_in, packet_told, to_in, token_in}
 use Rattle.script_text.specs.Refusals.{Refusal, answer_refusal, arrive_refusal, lacking, order_refusal, post_refusal, take_refusal}
-use Rattle.script_text.specs.declared.cue.Cue.{Cue}
+use Rattle.script_text.specs.declared.detail.Detail.{Detail}
 
 -- ---- the end of a line
 
@@ -139,9 +139,9 @@ abbrev pub taken_line : List ℕ → Option Post → Result (Option ℕ) TakeRef
 taken_line service p (Ok rule) packet = of_post p (λ p. ruled_line service (codes "took") rule p packet)
 taken_line service p (Err why) packet = refused_line service (take_refusal why) packet
 
-abbrev pub heard_line : List ℕ → Option Post → Result (Option ℕ) AnswerRefused → Option ℕ → List ℕ
-heard_line service p (Ok rule) packet = of_post p (λ p. ruled_line service (codes "saw") rule p packet)
-heard_line service p (Err why) packet = refused_line service (answer_refusal why) packet
+abbrev pub answer_taken_line : List ℕ → Option Post → Result (Option ℕ) AnswerRefused → Option ℕ → List ℕ
+answer_taken_line service p (Ok rule) packet = of_post p (λ p. ruled_line service (codes "saw") rule p packet)
+answer_taken_line service p (Err why) packet = refused_line service (answer_refusal why) packet
 
 abbrev pub posted_line : List ℕ → Option Post → Result Posted PostRefused → Option ℕ → List ℕ
 posted_line service p (Ok to) packet = of_post p (settled_line service to packet)
@@ -193,18 +193,18 @@ abbrev pub post_in : List Packet → Option ℕ → Option Post
 post_in packets number = option_and_then post_of (option_and_then (λ k. packet_in k packets) number)
 
 -- what happened at a service, by all packets and its journal after it
-abbrev pub what_line : List ℕ → List Packet → List Row → Cue → What → Option ℕ → List ℕ
-what_line service packets rows cue (what.Arrive r) packet = arrived_line service rows r packet
-what_line service packets rows cue (what.CallAnswered r) packet = flown_line service rows r packet
-what_line service packets rows cue (what.CallFailed r) packet = flown_line service rows r packet
-what_line service packets rows cue (what.Take r) packet = taken_line service (post_in packets (packet_told cue)) r packet
-what_line service packets rows cue (what.TakeAnswer r) packet = heard_line service (post_in packets (packet_told cue)) r packet
-what_line service packets rows cue (what.Posted r) packet = posted_line service (post_in packets (packet_told cue)) r packet
-what_line service packets rows cue (what.NextPost name) packet = next_line service (to_in cue) (post_in packets packet) name packet
-what_line service packets rows cue (what.RepairStep stepped) packet = step_line service stepped
-what_line service packets rows cue (what.Abandon was_there) packet = abandoned_line service (flight_in cue) was_there
-what_line service packets rows cue (what.Order r) packet = ordered_line service (token_in cue) r packet
-what_line service packets rows cue what.Set packet = []
+abbrev pub what_line : List ℕ → List Packet → List Row → Detail → What → Option ℕ → List ℕ
+what_line service packets rows detail (what.Arrive r) packet = arrived_line service rows r packet
+what_line service packets rows detail (what.CallAnswered r) packet = flown_line service rows r packet
+what_line service packets rows detail (what.CallFailed r) packet = flown_line service rows r packet
+what_line service packets rows detail (what.Take r) packet = taken_line service (post_in packets (packet_told detail)) r packet
+what_line service packets rows detail (what.TakeAnswer r) packet = answer_taken_line service (post_in packets (packet_told detail)) r packet
+what_line service packets rows detail (what.Posted r) packet = posted_line service (post_in packets (packet_told detail)) r packet
+what_line service packets rows detail (what.NextPost name) packet = next_line service (to_in detail) (post_in packets packet) name packet
+what_line service packets rows detail (what.RepairStep stepped) packet = step_line service stepped
+what_line service packets rows detail (what.Abandon was_there) packet = abandoned_line service (flight_in detail) was_there
+what_line service packets rows detail (what.Order r) packet = ordered_line service (token_in detail) r packet
+what_line service packets rows detail what.Set packet = []
 
 -- at which service it was, if at one
 abbrev pub line_at : Option (List ℕ) → (List ℕ → List ℕ) → List ℕ
@@ -212,8 +212,8 @@ line_at None line = []
 line_at (Some service) line = line service
 
 -- the line that is printed of what happened, by all packets and the journal of its service after it
-abbrev pub happened_line : List Packet → List Row → Cue → Happened → List ℕ
-happened_line packets rows cue h = line_at h.service (λ service. what_line service packets rows cue h.what h.packet)
+abbrev pub happened_line : List Packet → List Row → Detail → Happened → List ℕ
+happened_line packets rows detail h = line_at h.service (λ service. what_line service packets rows detail h.what h.packet)
 
 -- the journal of the service of this name
 abbrev pub journal_in : Option Kept → List Row
@@ -226,4 +226,4 @@ journal_of (Some service) w = journal_in (service_of service w.services)
 
 -- the line that is printed of what happened at an event, by the world after it
 abbrev pub printed : World → Event → Happened → List ℕ
-printed w e h = happened_line w.packets (journal_of h.service w) (cue_of e) h
+printed w e h = happened_line w.packets (journal_of h.service w) (detail_of e) h

@@ -4,9 +4,9 @@ ghost use Rattle.std.specs.Option.{option_map};
 ghost use Rattle.script_text.specs.Happenings.{happened_line, post_in, post_of, what_line};
 ghost use Rattle.world_events.specs.Worlds.{packet_in};
 
-use crate::cue::Cue;
+use crate::detail::Detail;
 use crate::others::{push_abandoned, push_ordered, push_stepped};
-use crate::posts::{push_heard, push_next, push_posted, push_taken};
+use crate::posts::{push_answer_taken, push_next, push_posted, push_taken};
 use crate::requests::{push_arrived, push_flown};
 use journal_rows::Row;
 use lang_core::{Name, NoMemory, Text};
@@ -46,28 +46,40 @@ fn push_what(
     service: &Name,
     packets: &[Packet],
     rows: &[Row],
-    cue: &Cue,
+    detail: &Detail,
     what: What,
     packet: Option<u64>,
 ) -> Result<(), NoMemory>
     ensures { OnOk result (string_bytes text.new ≡ string_bytes text.old
-        ++ what_line service.now packets.now rows.now cue.now what packet) }
+        ++ what_line service.now packets.now rows.now detail.now what packet) }
 {
     match what {
         What::Arrive(arrived) => push_arrived(text, service, rows, arrived, packet),
         What::CallAnswered(flown) => push_flown(text, service, rows, flown, packet),
         What::CallFailed(flown) => push_flown(text, service, rows, flown, packet),
         What::Take(taken) => {
-            push_taken(text, service, post_in(packets, cue.packet()), taken, packet)
+            push_taken(
+                text,
+                service,
+                post_in(packets, detail.packet()),
+                taken,
+                packet,
+            )
         }
         What::TakeAnswer(heard) => {
-            push_heard(text, service, post_in(packets, cue.packet()), heard, packet)
+            push_answer_taken(
+                text,
+                service,
+                post_in(packets, detail.packet()),
+                heard,
+                packet,
+            )
         }
         What::Posted(posted) => {
             push_posted(
                 text,
                 service,
-                post_in(packets, cue.packet()),
+                post_in(packets, detail.packet()),
                 posted,
                 packet,
             )
@@ -76,15 +88,15 @@ fn push_what(
             push_next(
                 text,
                 service,
-                cue.to(),
+                detail.to(),
                 post_in(packets, packet),
                 name,
                 packet,
             )
         }
         What::RepairStep(stepped) => push_stepped(text, service, stepped),
-        What::Abandon(was_there) => push_abandoned(text, service, cue.flight(), was_there),
-        What::Order(ordered) => push_ordered(text, service, cue.token(), ordered, packet),
+        What::Abandon(was_there) => push_abandoned(text, service, detail.flight(), was_there),
+        What::Order(ordered) => push_ordered(text, service, detail.token(), ordered, packet),
         What::Set => Ok(()),
     }
 }
@@ -95,10 +107,10 @@ pub fn happened_line(
     alloc: Global,
     packets: &[Packet],
     rows: &[Row],
-    cue: &Cue,
+    detail: &Detail,
     happened: &Happened,
 ) -> Result<Text, NoMemory>
-    ensures { IfOk result (λ text. text ≡ happened_line packets.now rows.now cue.now happened.now) }
+    ensures { IfOk result (λ text. text ≡ happened_line packets.now rows.now detail.now happened.now) }
 {
     let mut line = String::new(alloc);
     if let Some(service) = &happened.service {
@@ -107,10 +119,10 @@ pub fn happened_line(
             service,
             packets,
             rows,
-            cue,
+            detail,
             happened.what,
             happened.packet,
         )?;
     }
-    Ok(Text::from(line))
+    Text::shared(line)
 }

@@ -1,7 +1,7 @@
 // Posts in a line.
 ghost use Rattle.std.specs.Prelude.{◌≡◌, ◌++◌, [], OnOk, string_bytes};
 ghost use Rattle.std.specs.Option.{option_map};
-ghost use Rattle.script_text.specs.Happenings.{call_text, heard_line, next_line, post_kind, posted_line, ruled_line, settled_line, settled_text, taken_line, version_behind, version_text, written_line};
+ghost use Rattle.script_text.specs.Happenings.{call_text, answer_taken_line, next_line, post_kind, posted_line, ruled_line, settled_line, settled_text, taken_line, version_behind, version_text, written_line};
 
 use crate::refusals::{
     answer_refusal, post_refusal, push_arrow, push_ending, push_refused, take_refusal,
@@ -177,7 +177,7 @@ pub fn push_taken(
 }
 
 /// Puts the line of an answer last that came.
-pub fn push_heard(
+pub fn push_answer_taken(
     text: &mut String,
     service: &Name,
     post: Option<&Post>,
@@ -185,7 +185,7 @@ pub fn push_heard(
     packet: Option<u64>,
 ) -> Result<(), NoMemory>
     ensures { OnOk result (string_bytes text.new ≡ string_bytes text.old
-        ++ heard_line service.now (option_map (λ p. p.now) post.entry) heard packet) }
+        ++ answer_taken_line service.now (option_map (λ p. p.now) post.entry) heard packet) }
 {
     match (heard, post) {
         (Ok(rule), Some(post)) => push_ruled(text, service, "saw", rule, post, packet),

@@ -3,7 +3,7 @@ use journal_rows::{About, AnsweredRow, Row};
 use lang_core::{Name, Origin, Response, Text};
 use local_repair::Stepped;
 use repair_messages::{Ack, AnswerMessage, Post, PostName, SetMessage};
-use script_text::{Cue, happened_line};
+use script_text::{Detail, happened_line};
 use service_events::{
     AnswerRefused, ArriveRefused, CallRefused, OrderRefused, Ordered, PostRefused, PostReply,
     Posted, TakeRefused,
@@ -110,7 +110,7 @@ fn rows(rt: &(impl Abort + AllocGlobal)) -> Vec<Row> {
 fn told(
     rt: &(impl Abort + AllocGlobal),
     service: Option<Name>,
-    cue: &Cue,
+    detail: &Detail,
     what: What,
     packet: Option<u64>,
 ) -> Text {
@@ -119,23 +119,23 @@ fn told(
         what,
         packet,
     };
-    happened_line(rt.alloc(), &packets(rt), &rows(rt), cue, &happened).expect(rt, "memory")
+    happened_line(rt.alloc(), &packets(rt), &rows(rt), detail, &happened).expect(rt, "memory")
 }
 
 fn is_told(
     rt: &(impl Abort + AllocGlobal),
-    cue: &Cue,
+    detail: &Detail,
     what: What,
     packet: Option<u64>,
     want: &str,
 ) {
-    let line = told(rt, Some(name(rt, "bank")), cue, what, packet);
+    let line = told(rt, Some(name(rt, "bank")), detail, what, packet);
     assert_eq!(rt; line.as_str(), want);
 }
 
 // What needs no more than what happened.
 fn says(rt: &(impl Abort + AllocGlobal), what: What, packet: Option<u64>, want: &str) {
-    is_told(rt, &Cue::Nothing, what, packet, want);
+    is_told(rt, &Detail::Nothing, what, packet, want);
 }
 
 fn ends(rt: &(impl Abort + AllocGlobal), outcome: Outcome, packet: Option<u64>, want: &str) {
@@ -177,7 +177,7 @@ fn of_packet(
     back: Option<u64>,
     want: &str,
 ) {
-    is_told(rt, &Cue::Packet(packet), what, back, want);
+    is_told(rt, &Detail::Packet(packet), what, back, want);
 }
 
 fn heard(rt: &(impl Abort + AllocGlobal), heard: Result<Option<u32>, AnswerRefused>, want: &str) {
@@ -208,7 +208,7 @@ fn posts_are_told(rt: HostRuntime) {
         Some(4),
         "bank -> p4 replace_response shop/7 a3\n",
     );
-    let to = Cue::To(name(&rt, "shop"));
+    let to = Detail::To(name(&rt, "shop"));
     is_told(&rt, &to, What::NextPost(None), None, "bank none shop\n");
     taken(&rt, Ok(Some(1)), "bank took shop/7 v2 rule 1 -> p5\n");
     taken(&rt, Ok(None), "bank knew shop/7 v2 -> p5\n");
@@ -247,7 +247,7 @@ fn posts_are_told(rt: HostRuntime) {
 }
 
 fn ordered(rt: &(impl Abort + AllocGlobal), order: Result<Ordered, OrderRefused>, want: &str) {
-    let token = Cue::Token(text(rt, "t1"));
+    let token = Detail::Token(text(rt, "t1"));
     is_told(rt, &token, What::Order(order), None, want);
 }
 
@@ -287,7 +287,7 @@ fn orders_are_told(rt: HostRuntime) {
     };
     says(&rt, What::RepairStep(ran), None, "bank ran bank/9\n");
     says(&rt, What::RepairStep(Stepped::Idle), None, "bank idle\n");
-    let flight = Cue::Flight(3);
+    let flight = Detail::Flight(3);
     is_told(
         &rt,
         &flight,
@@ -295,6 +295,6 @@ fn orders_are_told(rt: HostRuntime) {
         None,
         "bank abandoned f3\n",
     );
-    let set = told(&rt, None, &Cue::Nothing, What::Set, None);
+    let set = told(&rt, None, &Detail::Nothing, What::Set, None);
     assert_eq!(rt; set.as_str(), "");
 }

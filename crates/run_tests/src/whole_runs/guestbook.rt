@@ -1,8 +1,8 @@
 // The run of a guestbook that the first page of the documents shows.
 use crate::memory::ran_over;
 use io_edge::{MemoryFile, MemoryFiles, MemorySource};
-use lang_core::{Bytes, Seq, Text};
-use std::alloc::{AllocError, Global};
+use lang_core::{Bytes, NoMemory, Seq, Text};
+use std::alloc::Global;
 use std::test::Fail;
 
 // What `examples/guestbook.json` holds, without the spaces before its lines.
@@ -66,8 +66,8 @@ const TOLD: &str = "guestbook/1 = 200\n\
     guestbook/6 v0 alive r1 out:dora GET /count/friday = 200 1\n\
     legal\n";
 
-fn file_of(alloc: Global, path: &str, text: &str) -> Result<MemoryFile, AllocError> {
-    let path = Text::from(String::from_str(alloc, path)?);
+fn file_of(alloc: Global, path: &str, text: &str) -> Result<MemoryFile, NoMemory> {
+    let path = Text::of(alloc, path)?;
     let bytes = Bytes::from(text.as_bytes().to_vec(alloc)?);
     Ok(MemoryFile { path, bytes })
 }
@@ -76,8 +76,8 @@ fn file_of(alloc: Global, path: &str, text: &str) -> Result<MemoryFile, AllocErr
 fn undoes_a_signature(rt: HostRuntime) -> Result<(), Fail> {
     let alloc = rt.alloc();
     let mut named = Seq::new(alloc);
-    named.push(file_of(alloc, "guestbook.json", WORLD)?)?;
-    named.push(file_of(alloc, "guestbook.script", SCRIPT)?)?;
+    named.push(file_of(alloc, "guestbook.json", WORLD).expect(&rt, "memory"))?;
+    named.push(file_of(alloc, "guestbook.script", SCRIPT).expect(&rt, "memory"))?;
     let files = MemoryFiles::new(named, Vec::new(alloc));
     let input = MemorySource::new(Vec::new(alloc), Vec::new(alloc));
     let words = &["run", "guestbook.json", "guestbook.script"];

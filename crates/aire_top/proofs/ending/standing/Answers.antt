@@ -1,13 +1,13 @@
 use Rattle.std.proofs.Common.{List, subst, sym}
 use Rattle.journal_rows.specs.declared.verdict.Verdict.TheVariants.{Legal}
 use Rattle.service_events.specs.State.{Kept}
-use Rattle.world_agreement.specs.Legal.{IsLegalTogether, histories}
+use Rattle.world_agreement.specs.Legal.{AreLegal}
 use Rattle.aire_top.proofs.Runs.{verdict_told}
 use Rattle.aire_top.proofs.ending.standing.Goals as goal
 
 pub returns-clause-legal : goal.returns-clause-legal
 returns-clause-legal c = λ e.
-    let P : List Kept → Type 0 = λ services. IsLegalTogether (histories services) in
+    let P : List Kept → Type 0 = AreLegal in
     subst P (sym c.into_services.ensures) (c.judge.ensures.legal (verdict_told c.judge.result Legal e))
 
 pub returns-clause-joined : goal.returns-clause-joined

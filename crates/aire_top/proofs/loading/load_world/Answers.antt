@@ -5,7 +5,7 @@ use Rattle.world_file.specs.Standard.{built_in}
 use Rattle.world_file.proofs.Standards.{built_in_knows}
 use Rattle.aire_top.specs.Causes.{what_of}
 use Rattle.aire_top.specs.Endings.{Asked}
-use Rattle.aire_top.specs.Top.{Is, Told, WorldOrRefusal}
+use Rattle.aire_top.specs.Top.{Is, Loaded, WorldOrRefusal}
 use Rattle.aire_top.proofs.Worlds.{other_path, other_told, standard_path}
 use Rattle.aire_top.proofs.loading.load_world.Goals as goal
 
@@ -13,7 +13,7 @@ pub returns-in-Ok-None-clause-refused : goal.returns-in-Ok-None-clause-refused
 returns-in-Ok-None-clause-refused g c =
     let none : built_in c.args.word.now ≡ None = sym c.in-Ok-None.ensures ∙ ap (option_map _) c.in-Ok-None.field-0-is in
     let same = other_told (g.F.Files.loads c.args.files.now).files c.args.word.now none in
-    let P : Told WorldOrRefusal → Type 0 = λ told. IfErr c.load_file.result (λ why. ForSome (what_of why) (λ what. Is told (Err what))) in
+    let P : Loaded WorldOrRefusal → Type 0 = λ told. IfErr c.load_file.result (λ why. ForSome (what_of why) (λ what. Is told (Err what))) in
     subst P (sym same) c.load_file.ensures.refused
 
 pub returns-in-Ok-None-clause-asked : goal.returns-in-Ok-None-clause-asked

@@ -5,19 +5,19 @@ use Rattle.aire_top.proofs.top.play.Goals as goal
 pub returns-in-Ok-clause-ends : goal.returns-in-Ok-clause-ends
 returns-in-Ok-clause-ends g c =
     all_done c.args.world c.args.script.now c.run_script.new.world (g.K.Sink.writes c.args.out.now) (g.K.Sink.writes c.run_script.new.out) _
-    c.requires.short c.in-Ok.ensures.ok c.in-Ok.ensures.done c.standing.ensures.answer
+    c.requires.short c.requires.sound c.requires.live c.in-Ok.ensures.ok c.standing.ensures.answer
 
 pub returns-in-Err-WriteFault-clause-ends : goal.returns-in-Err-WriteFault-clause-ends
 returns-in-Err-WriteFault-clause-ends g c =
     let is = ap Err c.in-Err-WriteFault.field-0-is in
     cut_short c.args.world c.args.script.now c.run_script.new.world (g.K.Sink.writes c.args.out.now) (g.K.Sink.writes c.run_script.new.out) _
-    (c.in-Err-WriteFault.ensures.cut is) (c.in-Err-WriteFault.ensures.fault is) c.standing-in-Err-WriteFault.ensures.answer
+    c.requires.sound c.requires.live (c.in-Err-WriteFault.ensures.cut is) (c.in-Err-WriteFault.ensures.fault is) c.standing-in-Err-WriteFault.ensures.answer
 
 pub returns-in-Err-Refused-clause-ends : goal.returns-in-Err-Refused-clause-ends
 returns-in-Err-Refused-clause-ends g c =
     let r = c.in-Err-Refused.ensures.refused c.in-Err-Refused.line c.in-Err-Refused.fault (ap Err c.in-Err-Refused.field-0-is) in
     at_line c.args.world c.args.script.now c.in-Err-Refused.line c.number.result c.run_script.new.world (g.K.Sink.writes c.args.out.now) (g.K.Sink.writes c.run_script.new.out) (g.K.Sink.writes c.refusal.new.out) _
-    c.requires.short r.0 (rw c.number.ensures r.1) c.run_script.ensures.counted c.refusal.ensures.ends
+    c.requires.short c.requires.sound c.requires.live (rw c.number.ensures r) c.run_script.ensures.counted c.refusal.ensures.ends
 
 pub returns-in-Err-NoMemory-clause-ends : goal.returns-in-Err-NoMemory-clause-ends
 returns-in-Err-NoMemory-clause-ends g c =

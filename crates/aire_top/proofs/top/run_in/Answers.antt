@@ -30,3 +30,6 @@ refusal-requires g c = c.in-Ok.ensures.sound
 
 pub play-requires-clause-sound : goal.play-requires-clause-sound
 play-requires-clause-sound g c = c.in-Ok.ensures.sound
+
+pub play-requires-clause-live : goal.play-requires-clause-live
+play-requires-clause-live g c = c.in-Ok.ensures.live

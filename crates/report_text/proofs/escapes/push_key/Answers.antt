@@ -1,6 +1,6 @@
 use Rattle.report_text.specs.Reports.{key_byte}
-use Rattle.report_text.proofs.Characters.{one_more}
+use Rattle.report_text.proofs.Characters.{character_more}
 use Rattle.report_text.proofs.escapes.push_key.Goals as goal
 
 pub loop-character-preserved : goal.loop-character-preserved
-loop-character-preserved c = one_more key_byte _ _ _ _ _ c.loop-character.invariant c.in_ok-push_key_char.ensures
+loop-character-preserved c = character_more key_byte _ _ _ _ _ c.loop-character.invariant c.in_ok-push_key_char.ensures

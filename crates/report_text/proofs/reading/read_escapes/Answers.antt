@@ -20,4 +20,4 @@ loop-front-preserved c = record {
 
 pub returns : goal.returns
 returns c =
-    piece_last (string_bytes c.loop-front.text) c.from.result c.loop-front.rest.now (unescaped c.args.body.now) c.loop-front.invariant.whole c.in_default.ensures (c.from.ensures ∙ c.in_ok-push_str-3.ensures.bytes)
+    piece_last (string_bytes c.loop-front.text) c.in_ok-shared.field-0 c.loop-front.rest.now (unescaped c.args.body.now) c.loop-front.invariant.whole c.in_default.ensures (c.in_ok-shared.ensures ∙ c.in_ok-push_str-3.ensures.bytes)

@@ -1,7 +1,7 @@
 use Rattle.std.proofs.Common.{Ok, sym, ◌∙◌}
 use Rattle.world_events.specs.Events.{answer_to}
 use Rattle.world_events.specs.declared.event.Event.TheVariants.{Begin}
-use Rattle.script_run.proofs.Following.{asked_all_first, asked_first, asked_hand, heard_err, heard_ok, on_err, unasked_world}
+use Rattle.script_run.proofs.Following.{asked_all, asked_does, asked_first, asked_hand, heard_ok, on_err, unasked, unasked_does}
 use Rattle.script_run.proofs.asking.ask.Goals as goal
 
 pub follow-requires : goal.follow-requires
@@ -9,23 +9,24 @@ follow-requires c =
     asked_hand c.args.world.now c.step.new.world c.args.service c.args.request c.in-Ok.begun
     (heard_ok (answer_to c.args.world.now (Begin c.args.service c.args.request)) c.in-Ok.begun (sym c.in-Ok.is ∙ c.in_ok-begun.ensures.heard)) c.in_ok-begun.ensures.after
 
+pub returns-in_err-begun-clause-early : goal.returns-in_err-begun-clause-early
+returns-in_err-begun-clause-early c = on_err _ (unasked c.args.world.now c.step.new.world c.args.service c.args.request c.in_err-begun.ensures.early)
+
 pub returns-in_err-last-in-Ok-clause-early : goal.returns-in_err-last-in-Ok-clause-early
 returns-in_err-last-in-Ok-clause-early c =
     let is = heard_ok (answer_to c.args.world.now (Begin c.args.service c.args.request)) c.in-Ok.begun (sym c.in-Ok.is ∙ c.in_ok-begun.ensures.heard) in
-    on_err _ (asked_first c.args.world.now c.step.new.world c.follow.new.world c.args.service c.args.request (Ok c.in-Ok.begun) is c.in_ok-begun.ensures.after c.in_err-last-in-Ok.ensures.early)
+    on_err _ (asked_first c.args.world.now c.step.new.world c.follow.new.world c.args.service c.args.request c.in-Ok.begun is c.in_ok-begun.ensures.after c.in_ok-begun.ensures.few c.in_err-last-in-Ok.ensures.early)
 
 pub returns-in_err-tell-in-Ok-clause-early : goal.returns-in_err-tell-in-Ok-clause-early
 returns-in_err-tell-in-Ok-clause-early c =
     let is = heard_ok (answer_to c.args.world.now (Begin c.args.service c.args.request)) c.in-Ok.begun (sym c.in-Ok.is ∙ c.in_ok-begun.ensures.heard) in
-    on_err _ (asked_all_first c.args.world.now c.step.new.world c.follow.new.world c.args.service c.args.request (Ok c.in-Ok.begun) is c.in_ok-begun.ensures.after c.in_ok-last-in-Ok.ensures.after)
+    on_err _ (asked_all c.args.world.now c.step.new.world c.follow.new.world c.args.service c.args.request c.in-Ok.begun _ is c.in_ok-begun.ensures.after c.in_ok-begun.ensures.few c.in_ok-last-in-Ok.ensures.run)
 
-pub returns-in-Err-clause-after : goal.returns-in-Err-clause-after
-returns-in-Err-clause-after c =
-    let r = heard_err (answer_to c.args.world.now (Begin c.args.service c.args.request)) c.in-Err.fault (sym c.in-Err.is ∙ c.in_ok-begun.ensures.heard) in
-    unasked_world c.args.world.now c.step.new.world c.args.service c.args.request r.0 r.1 c.in_ok-begun.ensures.after
+pub returns-in_ok-tell-in-Ok-clause-does : goal.returns-in_ok-tell-in-Ok-clause-does
+returns-in_ok-tell-in-Ok-clause-does c =
+    let is = heard_ok (answer_to c.args.world.now (Begin c.args.service c.args.request)) c.in-Ok.begun (sym c.in-Ok.is ∙ c.in_ok-begun.ensures.heard) in
+    asked_does c.args.world.now c.step.new.world c.follow.new.world c.args.service c.args.request c.in-Ok.begun _ _ is c.in_ok-begun.ensures.after c.in_ok-begun.ensures.few c.in_ok-last-in-Ok.ensures.run c.in_ok-tell-in-Ok.ensures
 
-pub returns-in_err-last-in-Ok-clause-sound : goal.returns-in_err-last-in-Ok-clause-sound
-returns-in_err-last-in-Ok-clause-sound c = λ h. c.follow.ensures.sound (c.step.ensures.sound h)
-
-pub returns-in_err-tell-in-Ok-clause-sound : goal.returns-in_err-tell-in-Ok-clause-sound
-returns-in_err-tell-in-Ok-clause-sound c = λ h. c.follow.ensures.sound (c.step.ensures.sound h)
+pub returns-in-Err-clause-does : goal.returns-in-Err-clause-does
+returns-in-Err-clause-does c =
+    unasked_does c.args.world.now c.step.new.world c.args.service c.args.request c.in-Err.fault (sym c.in-Err.is ∙ c.in_ok-begun.ensures.heard) c.in_ok-begun.ensures.after c.in_ok-begun.ensures.few

@@ -1,5 +1,6 @@
 use Rattle.script_run.proofs.AuditLaws.{verdict_is, verdict_within}
 use Rattle.world_agreement.proofs.LegalLaws.{legal_together}
+use Rattle.world_agreement.proofs.TimelyLaws.{joined_timely}
 use Rattle.script_run.proofs.reports.judge.Goals as goal
 
 pub returns-clause-same : goal.returns-clause-same
@@ -15,3 +16,6 @@ returns-clause-legal c = λ e.
 
 pub returns-clause-joined : goal.returns-clause-joined
 returns-clause-joined c = λ joined says. c.audit.ensures.forged.0 says (rw c.services-services.ensures.services joined)
+
+pub returns-clause-timely : goal.returns-clause-timely
+returns-clause-timely c = joined_timely c.args.world.now.services (rw c.services-services.ensures.services at c.each_fits.ensures) c.services-services.ensures.differ

@@ -1,4 +1,4 @@
-// What a line keeps of its event.
+// What an event was told, as far as the line that is printed of it needs it.
 ghost use Rattle.std.specs.Prelude.{◌≡◌};
 ghost use Rattle.script_text.specs.Cues.{flight_in, packet_told, to_in, token_in};
 
@@ -6,26 +6,26 @@ use lang_core::{Name, Text};
 
 /// What an event was told beside its service, as far as its line prints it.
 #[derive(Drop)]
-pub enum Cue {
+pub enum Detail {
     /// Nothing that its line prints.
     Nothing,
     /// The number of the packet that is delivered or lost.
     Packet(u64),
     /// The service for which a post is to be written.
     To(Name),
-    /// The number of the flight that is given up.
+    /// The number of the flight that is abandoned.
     Flight(u64),
     /// The token of the order.
     Token(Text),
 }
 
-impl Cue {
+impl Detail {
     /// The number of the packet.
     pub(crate) fn packet(&self) -> Option<u64>
         ensures { result ≡ packet_told self.now }
     {
         match self {
-            Cue::Packet(number) => Some(*number),
+            Detail::Packet(number) => Some(*number),
             _ => None,
         }
     }
@@ -35,7 +35,7 @@ impl Cue {
         ensures { result.now ≡ to_in self.now }
     {
         match self {
-            Cue::To(name) => name.as_str(),
+            Detail::To(name) => name.as_str(),
             _ => "",
         }
     }
@@ -45,7 +45,7 @@ impl Cue {
         ensures { result ≡ flight_in self.now }
     {
         match self {
-            Cue::Flight(number) => *number,
+            Detail::Flight(number) => *number,
             _ => 0,
         }
     }
@@ -55,7 +55,7 @@ impl Cue {
         ensures { result.now ≡ token_in self.now }
     {
         match self {
-            Cue::Token(token) => token.as_str(),
+            Detail::Token(token) => token.as_str(),
             _ => "",
         }
     }
