@@ -1,5 +1,8 @@
 -- The bytes of a message that is written are read back as it.
-use Rattle.std.proofs.Common.{◌≡◌, ℕ, true, List, Some, refl, ap, ◌∙◌}
+use Rattle.std.proofs.Common.{◌≡◌, ℕ, true, List, Option, Some, IsUtf8, refl, ap, subst, ◌∙◌}
+use Rattle.std.specs.Str.{is_utf8}
+use Rattle.std.proofs.lemmas.Bool.{and_parts}
+use Rattle.std.proofs.lemmas.Str.{is_utf8-from_IsUtf8}
 use Rattle.lang_core.specs.declared.request.Request.{Request}
 use Rattle.lang_tree.specs.Forms.{is_path}
 use Rattle.http_front.specs.declared.message.WireRequest.{WireRequest}
@@ -10,7 +13,8 @@ use Rattle.repair_messages.specs.declared.messages.SetMessage.{SetMessage}
 use Rattle.wire_fields.proofs.MadeHeads.{ArePlain, AreSingle, table_plain}
 use Rattle.wire_fields.proofs.SameFields.{request_agrees, same_lines}
 use Rattle.aire_wire.specs.ReadBack.{AnswerBytesReadBack, AreReadAs, CallBytesReadBack, IsReadAs, SetBytesReadBack}
-use Rattle.aire_wire.specs.Written.{call_asking, written_answer, written_set}
+use Rattle.wire_fields.specs.Forms.{is_notifier}
+use Rattle.aire_wire.specs.Written.{body_of, call_asking, written_answer, written_set}
 use Rattle.aire_wire.specs.declared.incoming.Incoming.{Incoming}
 use Rattle.aire_wire.proofs.PlainMessages.{answer_plain, answer_single, call_plain, call_single, set_plain, set_single}
 use Rattle.aire_wire.proofs.ReadAnswers.{answer_reads_back}
@@ -20,13 +24,14 @@ use Rattle.aire_wire.proofs.SameMessages.{same_message}
 
 -- a request that is read as a message is read so from its bytes
 carried : (me sender secret : List ℕ) (written : WireRequest) (message : Incoming) → IsReadAs me sender secret written message → is_path written.path ≡ true
-    → ArePlain written.head → AreSingle written.head → AreReadAs me sender secret written message
-carried me sender secret written message reads path plain one = λ sent carries peers console peer rest answer left spells.
+    → is_utf8 written.body ≡ true → ArePlain written.head → AreSingle written.head → AreReadAs me sender secret written message
+carried me sender secret written message reads path text plain one = λ sent carries peers console peer rest answer left spells.
     let sendable : IsSendable sent = record {
       path = ap is_path carries.path ∙ path;
       host = carries.host;
       fields = same_lines sent.head written.head carries.fields (table_plain written.head plain);
       within = carries.within;
+      text = ap is_utf8 carries.body ∙ text;
     } in
     let back = request_reads_back sent sendable rest answer left spells in (
       request_read sent,
@@ -36,16 +41,17 @@ carried me sender secret written message reads path plain one = λ sent carries 
       back.1,
     )
 
-pub call_bytes : (set : SetMessage) (notifier secret : List ℕ) (asked : Request) → set.desired ≡ Some asked → CallBytesReadBack set notifier secret (call_asking set notifier secret asked)
-call_bytes set notifier secret asked is = λ request sent live spelt visible.
+pub call_bytes : (set : SetMessage) (notifier secret : List ℕ) (asked : Request) → set.desired ≡ Some asked → IsUtf8 (body_of set.desired) → CallBytesReadBack set notifier secret (call_asking set notifier secret asked)
+call_bytes set notifier secret asked is utf8 = λ request sent live spelt.
     let called = sent.desired asked is in
     carried set.dest set.caller secret (call_asking set notifier secret asked) _ (call_from set notifier secret asked is request sent live spelt)
-    called.path (call_plain set asked notifier secret sent called visible) (call_single set asked notifier secret)
+    called.path (is_utf8-from_IsUtf8 asked.body (subst (λ (o : Option Request). IsUtf8 (body_of o)) is utf8))
+    (call_plain set asked notifier secret sent called (and_parts (is_utf8 notifier) (is_notifier notifier) spelt).1) (call_single set asked notifier secret)
 
-pub set_bytes : (set : SetMessage) (secret : List ℕ) → SetBytesReadBack set secret (written_set set secret)
-set_bytes set secret = λ sent.
-    carried set.dest set.caller secret (written_set set secret) _ (set_reads_back set secret sent) refl (set_plain set secret sent) (set_single set secret)
+pub set_bytes : (set : SetMessage) (secret : List ℕ) → IsUtf8 (body_of set.desired) → SetBytesReadBack set secret (written_set set secret)
+set_bytes set secret utf8 = λ sent.
+    carried set.dest set.caller secret (written_set set secret) _ (set_reads_back set secret sent) refl (is_utf8-from_IsUtf8 (body_of set.desired) utf8) (set_plain set secret sent) (set_single set secret)
 
-pub answer_bytes : (answer : AnswerMessage) (secret : List ℕ) → AnswerBytesReadBack answer secret (written_answer answer secret)
-answer_bytes answer secret = λ is.
-    carried answer.caller answer.callee secret (written_answer answer secret) _ (answer_reads_back answer secret is) refl (answer_plain answer secret is) (answer_single answer secret)
+pub answer_bytes : (answer : AnswerMessage) (secret : List ℕ) → IsUtf8 answer.response.body → AnswerBytesReadBack answer secret (written_answer answer secret)
+answer_bytes answer secret utf8 = λ is.
+    carried answer.caller answer.callee secret (written_answer answer secret) _ (answer_reads_back answer secret is) refl (is_utf8-from_IsUtf8 answer.response.body utf8) (answer_plain answer secret is) (answer_single answer secret)

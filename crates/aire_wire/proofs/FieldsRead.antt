@@ -1,6 +1,6 @@
 -- What is read of fields that were written.
 use Rattle.std.proofs.Common.{◌≡◌, ℕ, ◌<◌, ◌^◌, Bool, true, false, cond, List, [], ◌∷◌, Option, Some, None, Ok, length, codes, decimal, Err, Result, refl, sym, subst, ap, ◌∙◌, arith}
-use Rattle.std.specs.List.{find, list_all}
+use Rattle.std.specs.List.{list_all}
 use Rattle.std.specs.Option.{ForSome, is_some}
 use Rattle.std.specs.Result.{IfOk}
 use Rattle.request_names.specs.Numbers.{number_of}
@@ -22,10 +22,10 @@ use Rattle.request_names.specs.Ids.{id_text}
 use Rattle.request_names.specs.Ids.{id_of}
 use Rattle.wire_fields.specs.Forms.{has_form}
 use Rattle.wire_fields.specs.Rows.{field_refusal, text_at}
-use Rattle.wire_fields.specs.Secrets.{has_name}
+use Rattle.wire_fields.specs.Named.{value_of}
+use Rattle.wire_fields.specs.Secrets.{Secrets}
 use Rattle.wire_fields.specs.declared.refused.WireRefused.{WireRefused}
 use Rattle.wire_fields.specs.declared.refused.WireRefused.TheVariants.{Seal}
-use Rattle.wire_fields.specs.declared.secrets.Peer.{Peer}
 use Rattle.wire_fields.specs.Fits.{bad_unless, number_in, number_or_zero, service_in, service_or_none}
 use Rattle.aire_wire.specs.Incoming.{names_in, says_replace_response, sealed_by, unless_refused}
 use Rattle.aire_wire.specs.Written.{chain_text}
@@ -86,8 +86,8 @@ pub answered : (why : Option WireRefused) (read message : Incoming) → why ≡ 
 answered why read message none same = rw none (ap Ok same)
 
 -- a text that stands where it is expected
-pub stands : (header : AireHeader) (text wanted : List ℕ) → text ≡ wanted → bad_unless header (same_text text wanted) ≡ None
-stands header text wanted is = fits header (same_text text wanted) (ap (λ t. same_text t wanted) is ∙ text_same wanted)
+pub good_where_expected : (header : AireHeader) (text wanted : List ℕ) → text ≡ wanted → bad_unless header (same_text text wanted) ≡ None
+good_where_expected header text wanted is = fits header (same_text text wanted) (ap (λ t. same_text t wanted) is ∙ text_same wanted)
 
 -- an id's service stands for its side
 pub on_side : (header : AireHeader) (id side name : List ℕ) (n : ℕ) → id ≡ id_text name n → side ≡ name → is_name name ≡ true → 0 < n → n < 2 ^ 64
@@ -101,14 +101,14 @@ pub id_number : (id name : List ℕ) (n : ℕ) → id ≡ id_text name n → is_
 id_number id name n is named positive small = ap number_in is ∙ ap number_or_zero (id_back name n named positive small)
 
 -- the seal is that of these bytes by the sender's secret
-pub sealed_well : (peers : List Peer) (sender name secret bytes sealed text : List ℕ) → sender ≡ name
-    → find (has_name name) peers ≡ Some (record { name = name; secret = secret }) → bytes ≡ sealed → text ≡ seal_digits secret sealed
-    → sealed_by (find (has_name sender) peers) bytes text ≡ None
+pub sealed_well : (peers : Secrets) (sender name secret bytes sealed text : List ℕ) → sender ≡ name
+    → value_of name peers ≡ Some secret → bytes ≡ sealed → text ≡ seal_digits secret sealed
+    → sealed_by (value_of sender peers) bytes text ≡ None
 sealed_well peers sender name secret bytes sealed text is peer same_bytes digits =
-    ap (λ t. sealed_by (find (has_name t) peers) bytes text) is
+    ap (λ t. sealed_by (value_of t peers) bytes text) is
     ∙ ap (λ p. sealed_by p bytes text) peer
-    ∙ ap (λ b. sealed_by (Some (record { name = name; secret = secret })) b text) same_bytes
-    ∙ ap (λ t. sealed_by (Some (record { name = name; secret = secret })) sealed t) digits
+    ∙ ap (λ b. sealed_by (Some secret) b text) same_bytes
+    ∙ ap (λ t. sealed_by (Some secret) sealed t) digits
     ∙ ap (λ b. cond b None (Some Seal)) (text_same (seal_digits secret sealed))
 
 -- ---- messages with the same parts
@@ -170,4 +170,4 @@ neighbour_back head header (Some n) holds small =
 -- the word of a response message
 pub replaces_response : (head : Entries FieldValue) → text_at head headers.Repair ≡ codes "replace_response" → bad_unless headers.Repair (says_replace_response head) ≡ None
 unfolding says_replace_response
-replaces_response head is = stands headers.Repair (text_at head headers.Repair) (codes "replace_response") is
+replaces_response head is = good_where_expected headers.Repair (text_at head headers.Repair) (codes "replace_response") is

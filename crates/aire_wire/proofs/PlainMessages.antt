@@ -20,9 +20,10 @@ use Rattle.repair_messages.specs.declared.kinds.Kind.TheVariants.{Create, Replac
 use Rattle.repair_messages.specs.declared.messages.AnswerMessage.{AnswerMessage}
 use Rattle.repair_messages.specs.declared.messages.SetMessage.{SetMessage}
 use Rattle.request_names.specs.Ids.{id_text}
+use Rattle.wire_fields.specs.Forms.{is_notifier}
 use Rattle.wire_fields.specs.Heads.{Field, with_field, with_fields}
 use Rattle.wire_fields.proofs.MadeHeads.{ArePlain, AreSingle, all_plain, are_single, each_single, is_plain_field, none_plain, one_plain}
-use Rattle.wire_fields.proofs.PlainForms.{id_plain, name_bytes, name_plain, path_plain, seal_plain, who_plain}
+use Rattle.wire_fields.proofs.PlainForms.{id_plain, name_bytes, name_plain, notifier_plain, path_plain, seal_plain, who_plain}
 use Rattle.aire_wire.specs.ReadBack.{IsAnswered, IsCalled, IsNumber, IsSent}
 use Rattle.aire_wire.specs.Written.{answer_fields, behind_comma, call_asking, call_fields, chain_text, desired_fields, neighbour_field, set_message_fields, version_fields, written_answer, written_set}
 use Rattle.aire_wire.proofs.ReadSets.{listed}
@@ -68,14 +69,14 @@ kind_plain Retry = visible_plain (codes "retry") refl
 
 -- ---- calls
 
-pub call_plain : (set : SetMessage) (request : Request) (notifier secret : List ℕ) → IsSent set → IsCalled request → list_all is_visible notifier ≡ true
+pub call_plain : (set : SetMessage) (request : Request) (notifier secret : List ℕ) → IsSent set → IsCalled request → is_notifier notifier ≡ true
     → ArePlain (call_asking set notifier secret request).head
-call_plain set request notifier secret sent called visible =
+call_plain set request notifier secret sent called spelt =
     sealed_plain (call_fields set request notifier) _
     (and_from _ _ (name_plain set.caller sent.caller)
     (and_from _ _ (name_plain set.dest sent.dest)
     (and_from _ _ (id_plain set.caller set.number sent.caller sent.number.1)
-    (and_from _ _ (visible_plain notifier visible)
+    (and_from _ _ (notifier_plain notifier spelt)
     (and_from _ _ (who_plain request.who called.who)
     (and_from _ _ (chain_plain request.chain called.chain) refl))))))
     (seal_plain secret _)

@@ -12,7 +12,6 @@ use Rattle.request_names.specs.Ids.{id_text}
 use Rattle.request_names.specs.Numbers.{number_of}
 use Rattle.wire_fields.specs.Forms.{status_in, status_of}
 use Rattle.wire_fields.specs.Rows.{answer_headers, first_refusal, text_at}
-use Rattle.wire_fields.specs.Secrets.{peers_of}
 use Rattle.wire_fields.specs.Fits.{number_in, or_zero, version_at}
 use Rattle.wire_fields.specs.Rows.{seal_header}
 use Rattle.aire_wire.specs.Incoming.{answer_head_refusal, answer_message, answer_refusal, answer_sides, seal_refusal, sealed_bytes}
@@ -20,8 +19,8 @@ use Rattle.aire_wire.specs.ReadBack.{AnswerReadsBack}
 use Rattle.aire_wire.specs.Written.{answer_fields, written_answer}
 use Rattle.wire_fields.specs.Heads.{with_fields}
 use Rattle.aire_wire.specs.declared.incoming.Incoming.TheVariants.{Answer}
-use Rattle.aire_wire.proofs.FieldsRead.{IsFine, answered, fine_id, fine_name, fine_number, fine_seal, fine_who, none_refused, id_number, on_side, replaces_response, same_answer, sealed_well, stands, text_read}
-use Rattle.wire_fields.proofs.Refusals.{neither}
+use Rattle.aire_wire.proofs.FieldsRead.{IsFine, answered, fine_id, fine_name, fine_number, fine_seal, fine_who, none_refused, id_number, on_side, replaces_response, same_answer, sealed_well, good_where_expected, text_read}
+use Rattle.wire_fields.proofs.Refusals.{first_of_none}
 use Rattle.aire_wire.proofs.ReadSets.{word_fine}
 use Rattle.wire_fields.proofs.SpeltLemmas.{decimal_utf8, number_back}
 
@@ -71,24 +70,24 @@ answer_reads_back answer secret = λ is peers console peer.
     let status_read = text_read head headers.Status (decimal answer.response.status) refl status.utf8 in
     let seal_read = text_read head headers.Seal digits refl seal.utf8 in
     let fields : first_refusal head true answer_headers ≡ None =
-    neither _ _ (none_refused head headers.From answer.callee true refl from)
-    (neither _ _ (none_refused head headers.Dest answer.caller true refl dest)
-    (neither _ _ (none_refused head headers.RequestId id true refl request)
-    (neither _ _ (none_refused head headers.ResponseId call true refl response)
-    (neither _ _ (none_refused head headers.Repair word true refl repair)
-    (neither _ _ (none_refused head headers.Version (decimal answer.version) true refl version)
-    (neither _ _ (none_refused head headers.AnswerVersion (decimal answer.answer_version) true refl again)
-    (neither _ _ (none_refused head headers.Who answer.who true refl who)
-    (neither _ _ (none_refused head headers.Status (decimal answer.response.status) true refl status) refl)))))))) in
-    let sealing : first_refusal head true seal_header ≡ None = neither _ _ (none_refused head headers.Seal digits true refl seal) refl in
+    first_of_none _ _ (none_refused head headers.From answer.callee true refl from)
+    (first_of_none _ _ (none_refused head headers.Dest answer.caller true refl dest)
+    (first_of_none _ _ (none_refused head headers.RequestId id true refl request)
+    (first_of_none _ _ (none_refused head headers.ResponseId call true refl response)
+    (first_of_none _ _ (none_refused head headers.Repair word true refl repair)
+    (first_of_none _ _ (none_refused head headers.Version (decimal answer.version) true refl version)
+    (first_of_none _ _ (none_refused head headers.AnswerVersion (decimal answer.answer_version) true refl again)
+    (first_of_none _ _ (none_refused head headers.Who answer.who true refl who)
+    (first_of_none _ _ (none_refused head headers.Status (decimal answer.response.status) true refl status) refl)))))))) in
+    let sealing : first_refusal head true seal_header ≡ None = first_of_none _ _ (none_refused head headers.Seal digits true refl seal) refl in
     let sides : answer_sides answer.caller head ≡ None =
-    neither _ _ (stands headers.Dest (text_at head headers.Dest) answer.caller dest_read)
-    (neither _ _ (replaces_response head word_read)
-    (neither _ _ (on_side headers.RequestId (text_at head headers.RequestId) (text_at head headers.From) answer.callee answer.id request_read from_read is.callee is.id.0 is.id.1)
+    first_of_none _ _ (good_where_expected headers.Dest (text_at head headers.Dest) answer.caller dest_read)
+    (first_of_none _ _ (replaces_response head word_read)
+    (first_of_none _ _ (on_side headers.RequestId (text_at head headers.RequestId) (text_at head headers.From) answer.callee answer.id request_read from_read is.callee is.id.0 is.id.1)
     (on_side headers.ResponseId (text_at head headers.ResponseId) (text_at head headers.Dest) answer.caller answer.number response_read dest_read is.caller is.number.0 is.number.1))) in
-    let head_fits : answer_head_refusal answer.caller head ≡ None = neither _ _ fields (neither _ _ sealing sides) in
-    let well : seal_refusal (peers_of peers) written answer_headers ≡ None =
-    sealed_well (peers_of peers) (text_at head headers.From) answer.callee secret (sealed_bytes written answer_headers) (sealed_bytes unsealed aire_headers)
+    let head_fits : answer_head_refusal answer.caller head ≡ None = first_of_none _ _ fields (first_of_none _ _ sealing sides) in
+    let well : seal_refusal peers written answer_headers ≡ None =
+    sealed_well peers (text_at head headers.From) answer.callee secret (sealed_bytes written answer_headers) (sealed_bytes unsealed aire_headers)
     (text_at head headers.Seal) from_read peer refl seal_read in
     let message : answer_message written ≡ answer =
     same_answer answer (text_at head headers.Dest) (text_at head headers.From) (number_in (text_at head headers.RequestId)) (number_in (text_at head headers.ResponseId))
@@ -98,4 +97,4 @@ answer_reads_back answer secret = λ is peers console peer.
     (ap (λ t. or_zero (number_of t)) again_read ∙ ap or_zero (number_back answer.answer_version is.answer_version))
     (ap (λ t. or_zero (number_of t)) version_read ∙ ap or_zero (number_back answer.version is.version))
     (ap (λ t. or_zero (status_of t)) status_read ∙ ap or_zero (status_back answer.response.status is.status)) refl who_read in
-    answered (answer_refusal answer.caller (peers_of peers) written) (Answer (answer_message written)) (Answer answer) (neither _ _ head_fits well) (ap Answer message)
+    answered (answer_refusal answer.caller peers written) (Answer (answer_message written)) (Answer answer) (first_of_none _ _ head_fits well) (ap Answer message)

@@ -11,9 +11,8 @@ use Rattle.request_names.specs.Ids.{id_text}
 use Rattle.wire_fields.specs.Forms.{is_notifier}
 use Rattle.wire_fields.specs.Rows.{call_headers, first_refusal, is_spelt, text_at}
 use Rattle.wire_fields.specs.Kinds.{request_kind}
-use Rattle.wire_fields.specs.Secrets.{peers_of}
 use Rattle.wire_fields.specs.declared.kinds.RequestKind.TheVariants.{Call}
-use Rattle.wire_fields.specs.declared.secrets.Secrets.{Secrets}
+use Rattle.wire_fields.specs.Secrets.{Secrets}
 use Rattle.wire_fields.specs.Fits.{number_in}
 use Rattle.wire_fields.specs.Rows.{seal_header}
 use Rattle.aire_wire.specs.Incoming.{call_head_refusal, call_message, call_refusal, call_request, ends_with_name, incoming, incoming_as, names_in, seal_refusal, sealed_bytes}
@@ -21,8 +20,8 @@ use Rattle.aire_wire.specs.ReadBack.{CallReadsBack, IsCalled, IsLive, IsPeer, Is
 use Rattle.aire_wire.specs.Written.{call_asking, call_fields, call_or_deletion, chain_text}
 use Rattle.wire_fields.specs.Heads.{with_fields}
 use Rattle.aire_wire.specs.declared.incoming.Incoming.TheVariants.{Live}
-use Rattle.aire_wire.proofs.FieldsRead.{IsFine, answered, chain_back, fine_chain, fine_id, fine_name, fine_seal, fine_who, none_refused, id_number, on_side, same_request, same_set, sealed_well, stands, text_read}
-use Rattle.wire_fields.proofs.Refusals.{fits, neither}
+use Rattle.aire_wire.proofs.FieldsRead.{IsFine, answered, chain_back, fine_chain, fine_id, fine_name, fine_seal, fine_who, none_refused, id_number, on_side, same_request, same_set, sealed_well, good_where_expected, text_read}
+use Rattle.wire_fields.proofs.Refusals.{fits, first_of_none}
 use Rattle.aire_wire.proofs.TextForms.{chain_ends}
 use Rattle.std.proofs.lemmas.Bool.{and_parts}
 
@@ -56,23 +55,23 @@ call_reads_back set request notifier secret peers console sent live spelt peer =
     let chain_read = text_read head headers.Chain (chain_text request.chain) refl chain.utf8 in
     let seal_read = text_read head headers.Seal digits refl seal.utf8 in
     let fields : first_refusal head true call_headers ≡ None =
-    neither _ _ (none_refused head headers.From set.caller true refl from)
-    (neither _ _ (none_refused head headers.Dest set.dest true refl dest)
-    (neither _ _ (none_refused head headers.ResponseId id true refl number)
-    (neither _ _ (none_refused head headers.NotifierUrl notifier true refl url)
-    (neither _ _ (none_refused head headers.Who request.who true refl who)
-    (neither _ _ (none_refused head headers.Chain (chain_text request.chain) true refl chain) refl))))) in
-    let sealing : first_refusal head true seal_header ≡ None = neither _ _ (none_refused head headers.Seal digits true refl seal) refl in
+    first_of_none _ _ (none_refused head headers.From set.caller true refl from)
+    (first_of_none _ _ (none_refused head headers.Dest set.dest true refl dest)
+    (first_of_none _ _ (none_refused head headers.ResponseId id true refl number)
+    (first_of_none _ _ (none_refused head headers.NotifierUrl notifier true refl url)
+    (first_of_none _ _ (none_refused head headers.Who request.who true refl who)
+    (first_of_none _ _ (none_refused head headers.Chain (chain_text request.chain) true refl chain) refl))))) in
+    let sealing : first_refusal head true seal_header ≡ None = first_of_none _ _ (none_refused head headers.Seal digits true refl seal) refl in
     let last : ends_with_name (text_at head headers.Chain) (text_at head headers.From) ≡ true =
     ap (λ t. ends_with_name t (text_at head headers.From)) chain_read ∙ ap (λ t. ends_with_name (chain_text request.chain) t) from_read
     ∙ ap (λ c. ends_with_name (chain_text c) set.caller) live.last.1 ∙ chain_ends live.last.0 set.caller in
     let head_fits : call_head_refusal set.dest head ≡ None =
-    neither _ _ fields (neither _ _ sealing
-    (neither _ _ (stands headers.Dest (text_at head headers.Dest) set.dest dest_read)
-    (neither _ _ (on_side headers.ResponseId (text_at head headers.ResponseId) (text_at head headers.From) set.caller set.number id_read from_read sent.caller sent.number.0 sent.number.1)
+    first_of_none _ _ fields (first_of_none _ _ sealing
+    (first_of_none _ _ (good_where_expected headers.Dest (text_at head headers.Dest) set.dest dest_read)
+    (first_of_none _ _ (on_side headers.ResponseId (text_at head headers.ResponseId) (text_at head headers.From) set.caller set.number id_read from_read sent.caller sent.number.0 sent.number.1)
     (fits headers.Chain _ last)))) in
-    let well : seal_refusal (peers_of peers) written call_headers ≡ None =
-    sealed_well (peers_of peers) (text_at head headers.From) set.caller secret (sealed_bytes written call_headers) (sealed_bytes unsealed aire_headers)
+    let well : seal_refusal peers written call_headers ≡ None =
+    sealed_well peers (text_at head headers.From) set.caller secret (sealed_bytes written call_headers) (sealed_bytes unsealed aire_headers)
     (text_at head headers.Seal) from_read peer refl seal_read in
     let asked : call_request written ≡ request =
     same_request request request.method request.path request.body (text_at head headers.Who) (names_in (text_at head headers.Chain))
@@ -82,8 +81,8 @@ call_reads_back set request notifier secret peers console sent live spelt peer =
     from_read dest_read (id_number (text_at head headers.ResponseId) set.caller set.number id_read sent.caller sent.number.0 sent.number.1)
     (sym live.version) (ap Some asked ∙ sym live.desired) (sym live.before) (sym live.after) (who_read ∙ sym live.who) in
     let kind : request_kind written.method written.path head ≡ Some Call = rw live.handled refl in
-    ap (incoming_as set.dest (peers_of peers) console written) kind
-    ∙ answered (call_refusal set.dest (peers_of peers) written) (Live (call_message written)) (Live set) (neither _ _ head_fits well) (ap Live message)
+    ap (incoming_as set.dest peers console written) kind
+    ∙ answered (call_refusal set.dest peers written) (Live (call_message written)) (Live set) (first_of_none _ _ head_fits well) (ap Live message)
 
 -- whatever the message says that it asks
 pub call_from : (set : SetMessage) (notifier secret : List ℕ) (asked : Request) → set.desired ≡ Some asked → CallReadsBack set notifier secret (call_asking set notifier secret asked)

@@ -23,7 +23,6 @@ use Rattle.repair_messages.specs.declared.messages.SetMessage.{SetMessage}
 use Rattle.request_names.specs.Ids.{id_text}
 use Rattle.request_names.specs.Numbers.{number_of}
 use Rattle.wire_fields.specs.Rows.{first_refusal, neighbour_headers, set_headers, text_at}
-use Rattle.wire_fields.specs.Secrets.{peers_of}
 use Rattle.wire_fields.specs.Fits.{number_in, or_zero, version_at}
 use Rattle.wire_fields.specs.Rows.{seal_header}
 use Rattle.aire_wire.specs.Incoming.{desired_in, desired_refusal, is_deletion, names_in, or_get, seal_refusal, sealed_bytes, set_fields, set_head_refusal, set_message, set_refusal, set_word}
@@ -31,8 +30,8 @@ use Rattle.aire_wire.specs.ReadBack.{IsCalled, SetReadsBack}
 use Rattle.aire_wire.specs.Written.{body_of, chain_text, desired_fields, neighbour_field, set_message_fields, written_set}
 use Rattle.wire_fields.specs.Heads.{Field, with_field, with_fields}
 use Rattle.aire_wire.specs.declared.incoming.Incoming.TheVariants.{Set}
-use Rattle.aire_wire.proofs.FieldsRead.{Holds, IsFine, answered, chain_back, fine_chain, fine_id, fine_name, fine_number, fine_seal, fine_who, neighbour_back, neighbour_fine, neighbour_values, none_refused, id_number, on_side, same_request, same_set, sealed_well, stands, text_read}
-use Rattle.wire_fields.proofs.Refusals.{neither}
+use Rattle.aire_wire.proofs.FieldsRead.{Holds, IsFine, answered, chain_back, fine_chain, fine_id, fine_name, fine_number, fine_seal, fine_who, neighbour_back, neighbour_fine, neighbour_values, none_refused, id_number, on_side, same_request, same_set, sealed_well, good_where_expected, text_read}
+use Rattle.wire_fields.proofs.Refusals.{first_of_none}
 use Rattle.aire_wire.proofs.TextForms.{path_utf8, visible_utf8}
 use Rattle.wire_fields.proofs.SpeltLemmas.{number_back}
 
@@ -134,10 +133,10 @@ desired_fine : (head : Entries FieldValue) (desired : Option Request) → HoldsD
 desired_fine head None holds called = refl
 desired_fine head (Some request) holds called =
     let q = called request refl in
-    neither _ _ (none_refused head headers.Method (method_word request.method) true holds.0 (method_fine request.method))
-    (neither _ _ (none_refused head headers.Path request.path true holds.1 (record { utf8 = path_utf8 request.path q.path; form = q.path }))
-    (neither _ _ (none_refused head headers.RequestWho request.who true holds.2 (fine_who headers.RequestWho request.who q.who refl))
-    (neither _ _ (none_refused head headers.Chain (chain_text request.chain) true holds.3 (fine_chain request.chain q.chain q.some)) refl)))
+    first_of_none _ _ (none_refused head headers.Method (method_word request.method) true holds.0 (method_fine request.method))
+    (first_of_none _ _ (none_refused head headers.Path request.path true holds.1 (record { utf8 = path_utf8 request.path q.path; form = q.path }))
+    (first_of_none _ _ (none_refused head headers.RequestWho request.who true holds.2 (fine_who headers.RequestWho request.who q.who refl))
+    (first_of_none _ _ (none_refused head headers.Chain (chain_text request.chain) true holds.3 (fine_chain request.chain q.chain q.some)) refl)))
 
 desired_back : (written : WireRequest) (desired : Option Request) → HoldsDesired written.head desired → ForSome desired IsCalled → written.body ≡ body_of desired
     → desired_in (deletes desired) written ≡ desired
@@ -185,29 +184,29 @@ set_reads_back set secret = λ sent peers console peer.
     let version_back : version_at head headers.Version ≡ set.version = ap (λ t. or_zero (number_of t)) version_read ∙ ap or_zero (number_back set.version sent.version) in
     let deletion : is_deletion head ≡ deletes set.desired = ap (λ t. same_text t (codes "delete")) word_read ∙ word_is.1 in
     let fields : first_refusal head true set_headers ≡ None =
-    neither _ _ (none_refused head headers.From set.caller true all.from from)
-    (neither _ _ (none_refused head headers.Dest set.dest true all.dest dest)
-    (neither _ _ (none_refused head headers.ResponseId id true all.id number)
-    (neither _ _ (none_refused head headers.Repair word true all.repair word_is.0)
-    (neither _ _ (none_refused head headers.Version (decimal set.version) true all.version version)
-    (neither _ _ (none_refused head headers.Who set.who true all.who who) refl))))) in
+    first_of_none _ _ (none_refused head headers.From set.caller true all.from from)
+    (first_of_none _ _ (none_refused head headers.Dest set.dest true all.dest dest)
+    (first_of_none _ _ (none_refused head headers.ResponseId id true all.id number)
+    (first_of_none _ _ (none_refused head headers.Repair word true all.repair word_is.0)
+    (first_of_none _ _ (none_refused head headers.Version (decimal set.version) true all.version version)
+    (first_of_none _ _ (none_refused head headers.Who set.who true all.who who) refl))))) in
     let asked : desired_refusal (is_deletion head) head ≡ None = ap (λ d. desired_refusal d head) deletion ∙ desired_fine head set.desired all.desired sent.desired in
     let neighbours : first_refusal head false neighbour_headers ≡ None =
-    neither _ _ (neighbour_fine head headers.Before set.before all.before sent.before (λ t. refl))
-    (neither _ _ (neighbour_fine head headers.After set.after all.after sent.after (λ t. refl)) refl) in
-    let sealing : first_refusal head true seal_header ≡ None = neither _ _ (none_refused head headers.Seal digits true all.seal seal) refl in
+    first_of_none _ _ (neighbour_fine head headers.Before set.before all.before sent.before (λ t. refl))
+    (first_of_none _ _ (neighbour_fine head headers.After set.after all.after sent.after (λ t. refl)) refl) in
+    let sealing : first_refusal head true seal_header ≡ None = first_of_none _ _ (none_refused head headers.Seal digits true all.seal seal) refl in
     let right_word : text_at head headers.Repair ≡ set_word (is_deletion head) (version_at head headers.Version) =
     word_read ∙ word_is.2 ∙ sym (ap (λ d. set_word d (version_at head headers.Version)) deletion ∙ ap (λ v. set_word (deletes set.desired) v) version_back) in
     let head_fits : set_head_refusal set.dest head ≡ None =
-    neither _ _ fields (neither _ _ asked (neither _ _ neighbours (neither _ _ sealing
-    (neither _ _ (stands headers.Dest (text_at head headers.Dest) set.dest dest_read)
-    (neither _ _ (stands headers.Repair (text_at head headers.Repair) (set_word (is_deletion head) (version_at head headers.Version)) right_word)
+    first_of_none _ _ fields (first_of_none _ _ asked (first_of_none _ _ neighbours (first_of_none _ _ sealing
+    (first_of_none _ _ (good_where_expected headers.Dest (text_at head headers.Dest) set.dest dest_read)
+    (first_of_none _ _ (good_where_expected headers.Repair (text_at head headers.Repair) (set_word (is_deletion head) (version_at head headers.Version)) right_word)
     (on_side headers.ResponseId (text_at head headers.ResponseId) (text_at head headers.From) set.caller set.number id_read from_read sent.caller sent.number.0 sent.number.1)))))) in
     let bytes : sealed_bytes written (set_fields (is_deletion head)) ≡ sealed_bytes unsealed aire_headers =
     ap (λ d. sealed_bytes written (set_fields d)) deletion
     ∙ same_sealed set.caller set.dest id word (decimal set.version) set.who digits (body_of set.desired) set.desired set.before set.after in
-    let well : seal_refusal (peers_of peers) written (set_fields (is_deletion head)) ≡ None =
-    sealed_well (peers_of peers) (text_at head headers.From) set.caller secret (sealed_bytes written (set_fields (is_deletion head))) (sealed_bytes unsealed aire_headers)
+    let well : seal_refusal peers written (set_fields (is_deletion head)) ≡ None =
+    sealed_well peers (text_at head headers.From) set.caller secret (sealed_bytes written (set_fields (is_deletion head))) (sealed_bytes unsealed aire_headers)
     (text_at head headers.Seal) from_read peer bytes seal_read in
     let message : set_message written ≡ set =
     same_set set (text_at head headers.From) (text_at head headers.Dest) (number_in (text_at head headers.ResponseId)) (version_at head headers.Version)
@@ -215,4 +214,4 @@ set_reads_back set secret = λ sent peers console peer.
     from_read dest_read (id_number (text_at head headers.ResponseId) set.caller set.number id_read sent.caller sent.number.0 sent.number.1) version_back
     (ap (λ d. desired_in d written) deletion ∙ desired_back written set.desired all.desired sent.desired refl)
     (neighbour_back head headers.Before set.before all.before sent.before) (neighbour_back head headers.After set.after all.after sent.after) who_read in
-    answered (set_refusal set.dest (peers_of peers) written) (Set (set_message written)) (Set set) (neither _ _ head_fits well) (ap Set message)
+    answered (set_refusal set.dest peers written) (Set (set_message written)) (Set set) (first_of_none _ _ head_fits well) (ap Set message)

@@ -10,12 +10,10 @@ use Rattle.request_names.specs.Numbers.{number_of}
 use Rattle.wire_fields.specs.Fits.{bad_unless, service_in, version_at}
 use Rattle.wire_fields.specs.Kinds.{request_kind}
 use Rattle.wire_fields.specs.Rows.{first_of, first_refusal, neighbour_headers, seal_header, set_headers, text_at}
-use Rattle.wire_fields.specs.Secrets.{peers_of}
 use Rattle.wire_fields.specs.declared.kinds.RequestKind.{RequestKind}
 use Rattle.wire_fields.specs.declared.kinds.RequestKind.TheVariants as kinds
 use Rattle.wire_fields.specs.declared.refused.WireRefused.{WireRefused}
-use Rattle.wire_fields.specs.declared.secrets.Peer.{Peer}
-use Rattle.wire_fields.specs.declared.secrets.Secrets.{Secrets}
+use Rattle.wire_fields.specs.Secrets.{Secrets}
 use Rattle.wire_fields.proofs.SameFields.{Agree, of_table, same_table}
 use Rattle.lang_base.specs.Texts.{same_text}
 use Rattle.aire_wire.specs.Incoming.{desired_in, desired_refusal, incoming, incoming_as, is_deletion, says_replace_response, seal_refusal, set_answer, set_fields, set_with, set_word, unless_refused}
@@ -36,7 +34,7 @@ request_same : (deletion : Bool) (request : WireRequest) → desired_in deletion
 request_same true request = refl
 request_same false request = refl
 
-seal_same : (peers : List Peer) (deletion : Bool) (request : WireRequest) → seal_refusal peers request (set_fields deletion) ≡ seal_refusal peers (tabled request) (set_fields deletion)
+seal_same : (peers : Secrets) (deletion : Bool) (request : WireRequest) → seal_refusal peers request (set_fields deletion) ≡ seal_refusal peers (tabled request) (set_fields deletion)
 seal_same peers true request = refl
 seal_same peers false request = refl
 
@@ -55,7 +53,7 @@ set_by me request desired seal asked =
     seal)
     (Set (set_with request asked (version_at head headers.Version) (number_of (text_at head headers.Before)) (number_of (text_at head headers.After))))
 
-set_same : (me : List ℕ) (peers : List Peer) (request : WireRequest) → set_answer me peers request ≡ set_answer me peers (tabled request)
+set_same : (me : List ℕ) (peers : Secrets) (request : WireRequest) → set_answer me peers request ≡ set_answer me peers (tabled request)
 set_same me peers request =
     let head = request.head in
     let deletion = is_deletion head in
@@ -65,7 +63,7 @@ set_same me peers request =
 
 -- ---- any request
 
-as_tabled : (me : List ℕ) (peers : List Peer) (console : List ℕ) (request : WireRequest) (kind : Option RequestKind)
+as_tabled : (me : List ℕ) (peers : Secrets) (console : List ℕ) (request : WireRequest) (kind : Option RequestKind)
     → incoming_as me peers console request kind ≡ incoming_as me peers console (tabled request) kind
 unfolding says_replace_response
 as_tabled me peers console request None = refl
@@ -77,7 +75,7 @@ as_tabled me peers console request (Some (kinds.Console word)) = refl
 
 by_table : (me : List ℕ) (peers : Secrets) (console : List ℕ) (request : WireRequest) → incoming me peers console request ≡ incoming me peers console (tabled request)
 by_table me peers console request =
-    as_tabled me (peers_of peers) console request (request_kind request.method request.path request.head)
+    as_tabled me peers console request (request_kind request.method request.path request.head)
 
 parts : (method other : Method) (path named : List ℕ) (head made : Entries FieldValue) (body said : List ℕ) → method ≡ other → path ≡ named → head ≡ made → body ≡ said
     → ◌≡◌ {A = WireRequest} (record { method = method; path = path; head = head; body = body }) (record { method = other; path = named; head = made; body = said })

@@ -1,5 +1,5 @@
 -- Which message a request spells, or the first refusal.
-use Rattle.std.specs.Prelude.{ℕ, ◌-◌, Bool, true, false, ◌&&◌, ◌||◌, List, [], ◌∷◌, ◌++◌, Option, Some, None, Result, Ok, Err, codes, find, length, take, nat_eq, ◌==◌, if◌then◌else◌}
+use Rattle.std.specs.Prelude.{ℕ, ◌-◌, Bool, true, false, ◌&&◌, ◌||◌, List, [], ◌∷◌, ◌++◌, Option, Some, None, Result, Ok, Err, codes, length, take, nat_eq, ◌==◌, if◌then◌else◌}
 use Rattle.std.specs.List.{ends_with, slice_split}
 use Rattle.lang_core.specs.declared.request.Request.{Request}
 use Rattle.lang_base.specs.Texts.{same_text}
@@ -20,15 +20,14 @@ use Rattle.wire_fields.specs.Forms.{status_of}
 use Rattle.wire_fields.specs.Kinds.{request_kind}
 use Rattle.wire_fields.specs.Rows.{answer_headers, call_headers, console_headers, desired_headers, first_of, first_refusal, neighbour_headers, seal_header, set_headers, text_at}
 use Rattle.wire_fields.specs.Sealed.{sealed_request}
-use Rattle.wire_fields.specs.Secrets.{has_name, peers_of}
+use Rattle.wire_fields.specs.Named.{value_of}
+use Rattle.wire_fields.specs.Secrets.{Secrets}
 use Rattle.wire_fields.specs.declared.console.ConsoleRequest.{ConsoleRequest}
 use Rattle.wire_fields.specs.declared.console.ConsoleWord.{ConsoleWord}
 use Rattle.wire_fields.specs.declared.kinds.RequestKind.{RequestKind}
 use Rattle.wire_fields.specs.declared.kinds.RequestKind.TheVariants as kinds
 use Rattle.wire_fields.specs.declared.refused.WireRefused.{WireRefused}
 use Rattle.wire_fields.specs.declared.refused.WireRefused.TheVariants.{UnknownKind, Seal}
-use Rattle.wire_fields.specs.declared.secrets.Peer.{Peer}
-use Rattle.wire_fields.specs.declared.secrets.Secrets.{Secrets}
 use Rattle.aire_wire.specs.declared.incoming.Incoming.{Incoming}
 use Rattle.aire_wire.specs.declared.incoming.Incoming.TheVariants.{Outside, Live, Set, Answer, Console}
 
@@ -58,17 +57,17 @@ names_in chain = slice_split (λ b. b == 44) chain
 
 -- ---- seals
 
--- who sealed these bytes is this peer
-abbrev pub sealed_by : Option Peer → List ℕ → List ℕ → Option WireRefused
+-- these bytes were sealed with a peer's secret, which the sender has if it is one
+abbrev pub sealed_by : Option (List ℕ) → List ℕ → List ℕ → Option WireRefused
 sealed_by None bytes text = Some Seal
-sealed_by (Some peer) bytes text = if same_text text (seal_digits peer.secret bytes) then None else Some Seal
+sealed_by (Some secret) bytes text = if same_text text (seal_digits secret bytes) then None else Some Seal
 
 abbrev pub sealed_bytes : WireRequest → List AireHeader → List ℕ
 sealed_bytes request fields = sealed_request request.method request.path request.head fields request.body
 
-abbrev pub seal_refusal : List Peer → WireRequest → List AireHeader → Option WireRefused
+abbrev pub seal_refusal : Secrets → WireRequest → List AireHeader → Option WireRefused
 seal_refusal peers request fields =
-    sealed_by (find (has_name (text_at request.head headers.From)) peers) (sealed_bytes request fields) (text_at request.head headers.Seal)
+    sealed_by (value_of (text_at request.head headers.From) peers) (sealed_bytes request fields) (text_at request.head headers.Seal)
 
 -- ---- requests from outside
 
@@ -216,23 +215,23 @@ console_request word request = record { word = word; who = text_at request.head 
 abbrev pub outside_answer : WireRequest → Result Incoming WireRefused
 outside_answer request = unless_refused (outside_refusal request.head) (Outside (outside_request request))
 
-abbrev pub call_refusal : List ℕ → List Peer → WireRequest → Option WireRefused
+abbrev pub call_refusal : List ℕ → Secrets → WireRequest → Option WireRefused
 call_refusal me peers request = first_of (call_head_refusal me request.head) (seal_refusal peers request call_headers)
 
-abbrev pub call_answer : List ℕ → List Peer → WireRequest → Result Incoming WireRefused
+abbrev pub call_answer : List ℕ → Secrets → WireRequest → Result Incoming WireRefused
 call_answer me peers request = unless_refused (call_refusal me peers request) (Live (call_message request))
 
-abbrev pub set_refusal : List ℕ → List Peer → WireRequest → Option WireRefused
+abbrev pub set_refusal : List ℕ → Secrets → WireRequest → Option WireRefused
 set_refusal me peers request =
     first_of (set_head_refusal me request.head) (seal_refusal peers request (set_fields (is_deletion request.head)))
 
-abbrev pub set_answer : List ℕ → List Peer → WireRequest → Result Incoming WireRefused
+abbrev pub set_answer : List ℕ → Secrets → WireRequest → Result Incoming WireRefused
 set_answer me peers request = unless_refused (set_refusal me peers request) (Set (set_message request))
 
-abbrev pub answer_refusal : List ℕ → List Peer → WireRequest → Option WireRefused
+abbrev pub answer_refusal : List ℕ → Secrets → WireRequest → Option WireRefused
 answer_refusal me peers request = first_of (answer_head_refusal me request.head) (seal_refusal peers request answer_headers)
 
-abbrev pub answer_answer : List ℕ → List Peer → WireRequest → Result Incoming WireRefused
+abbrev pub answer_answer : List ℕ → Secrets → WireRequest → Result Incoming WireRefused
 answer_answer me peers request = unless_refused (answer_refusal me peers request) (Answer (answer_message request))
 
 abbrev pub console_refusal : List ℕ → List ℕ → WireRequest → Option WireRefused
@@ -242,7 +241,7 @@ abbrev pub console_answer : List ℕ → List ℕ → ConsoleWord → WireReques
 console_answer me secret word request = unless_refused (console_refusal me secret request) (Console (console_request word request))
 
 -- what a request of a kind says
-abbrev pub incoming_as : List ℕ → List Peer → List ℕ → WireRequest → Option RequestKind → Result Incoming WireRefused
+abbrev pub incoming_as : List ℕ → Secrets → List ℕ → WireRequest → Option RequestKind → Result Incoming WireRefused
 incoming_as me peers secret request None = Err UnknownKind
 incoming_as me peers secret request (Some kinds.Outside) = outside_answer request
 incoming_as me peers secret request (Some kinds.Call) = call_answer me peers request
@@ -253,4 +252,4 @@ incoming_as me peers secret request (Some (kinds.Console word)) = console_answer
 -- what a request says to the service of this name, whose peers these are and whose console has this secret
 abbrev pub incoming : List ℕ → Secrets → List ℕ → WireRequest → Result Incoming WireRefused
 incoming me peers secret request =
-    incoming_as me (peers_of peers) secret request (request_kind request.method request.path request.head)
+    incoming_as me peers secret request (request_kind request.method request.path request.head)

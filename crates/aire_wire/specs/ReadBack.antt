@@ -1,11 +1,10 @@
 -- What is written for a message is read as that message, where its parts have their forms.
-use Rattle.std.specs.Prelude.{◌≡◌, ℕ, ◌<◌, ◌^◌, true, false, List, [], ◌∷◌, ◌++◌, Some, None, Result, Ok, codes, find, length, nat_eq}
+use Rattle.std.specs.Prelude.{◌≡◌, ℕ, ◌<◌, ◌^◌, true, false, List, [], ◌∷◌, ◌++◌, Some, None, Result, Ok, codes, length, nat_eq}
 use Rattle.std.specs.List.{list_all, starts_with}
 use Rattle.std.specs.Option.{ForSome}
 use Rattle.lang_core.specs.Names.{is_name, is_who}
 use Rattle.lang_core.specs.declared.request.Request.{Request}
 use Rattle.lang_tree.specs.Forms.{is_path}
-use Rattle.lang_base.specs.Characters.{is_visible}
 use Rattle.http_header.specs.HeaderMap.{get_all}
 use Rattle.http_header.specs.Token.{lowercase}
 use Rattle.http_front.specs.Reading.{SpellsRequest}
@@ -21,15 +20,15 @@ use Rattle.repair_messages.specs.declared.messages.SetMessage.{SetMessage}
 use Rattle.repair_messages.specs.declared.posts.Post.{Post}
 use Rattle.repair_messages.specs.declared.posts.Post.TheVariants as posts
 use Rattle.wire_fields.specs.Rows.{is_spelt}
-use Rattle.wire_fields.specs.Secrets.{has_name, peers_of}
-use Rattle.wire_fields.specs.declared.secrets.Secrets.{Secrets}
+use Rattle.wire_fields.specs.Named.{value_of}
+use Rattle.wire_fields.specs.Secrets.{Secrets}
 use Rattle.aire_wire.specs.Incoming.{incoming}
 use Rattle.aire_wire.specs.declared.incoming.Incoming.{Incoming}
 use Rattle.aire_wire.specs.declared.incoming.Incoming.TheVariants.{Live, Set, Answer}
 
 -- a service of this name is a peer, with this secret
 abbrev pub IsPeer : Secrets → List ℕ → List ℕ → Type 0
-IsPeer peers name secret = find (has_name name) (peers_of peers) ≡ Some (record { name = name; secret = secret })
+IsPeer peers name secret = value_of name peers ≡ Some secret
 
 -- a service reads the request as this message, where its sender is a peer with this secret
 abbrev pub IsReadAs : List ℕ → List ℕ → List ℕ → WireRequest → Incoming → Type 0
@@ -121,7 +120,7 @@ AreReadAs me sender secret written message =
 
 abbrev pub CallBytesReadBack : SetMessage → List ℕ → List ℕ → WireRequest → Type 0
 CallBytesReadBack set notifier secret written =
-    (request : Request) → IsSent set → IsLive set request → is_spelt NotifierUrl notifier ≡ true → list_all is_visible notifier ≡ true
+    (request : Request) → IsSent set → IsLive set request → is_spelt NotifierUrl notifier ≡ true
     → AreReadAs set.dest set.caller secret written (Live set)
 
 abbrev pub SetBytesReadBack : SetMessage → List ℕ → WireRequest → Type 0

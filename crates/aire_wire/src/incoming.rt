@@ -2,7 +2,6 @@
 ghost use Rattle.std.specs.Prelude.{◌≡◌, false, IfOk};
 ghost use Rattle.aire_wire.specs.Incoming.{answer_answer, answer_refusal, call_answer, call_refusal, console_answer, console_refusal, incoming, outside_answer, set_answer, set_refusal};
 ghost use Rattle.wire_fields.specs.Fits.{lacks_memory};
-ghost use Rattle.wire_fields.specs.Secrets.{peers_of};
 
 use crate::building::{
     answer_message, call_message, console_request, outside_request, set_message,
@@ -12,7 +11,7 @@ use crate::refusals::{
     is_deletion, outside_refusal, seal_refusal, set_head_refusal, set_seal_refusal,
 };
 use http_front::WireRequest;
-use lang_core::{Name, NoMemory, Request, Text};
+use lang_core::{Copied, Name, NoMemory, Request, Text};
 use repair_messages::{AnswerMessage, SetMessage};
 use std::alloc::Global;
 use wire_fields::{
@@ -35,6 +34,18 @@ pub enum Incoming {
     Console(ConsoleRequest),
 }
 
+impl Copied for Incoming {
+    fn copied(&self, alloc: Global) -> Result<Incoming, NoMemory> {
+        match self {
+            Incoming::Outside(request) => Ok(Incoming::Outside(request.copied(alloc)?)),
+            Incoming::Live(set) => Ok(Incoming::Live(set.copied(alloc)?)),
+            Incoming::Set(set) => Ok(Incoming::Set(set.copied(alloc)?)),
+            Incoming::Answer(answer) => Ok(Incoming::Answer(answer.copied(alloc)?)),
+            Incoming::Console(request) => Ok(Incoming::Console(request.copied(alloc)?)),
+        }
+    }
+}
+
 fn read_outside(alloc: Global, request: &WireRequest) -> Result<Incoming, WireRefused>
     ensures { lacks_memory result ≡ false → result ≡ outside_answer request.now }
 {
@@ -53,7 +64,7 @@ fn call_refusal(
     peers: &Secrets,
     request: &WireRequest,
 ) -> Result<Option<WireRefused>, NoMemory>
-    ensures { IfOk result (λ refusal. refusal ≡ call_refusal me.now (peers_of peers.now) request.now) }
+    ensures { IfOk result (λ refusal. refusal ≡ call_refusal me.now peers.now request.now) }
 {
     match call_head_refusal(me, &request.head) {
         Some(why) => Ok(Some(why)),
@@ -67,7 +78,7 @@ fn read_call(
     peers: &Secrets,
     request: &WireRequest,
 ) -> Result<Incoming, WireRefused>
-    ensures { lacks_memory result ≡ false → result ≡ call_answer me.now (peers_of peers.now) request.now }
+    ensures { lacks_memory result ≡ false → result ≡ call_answer me.now peers.now request.now }
 {
     match call_refusal(alloc, me, peers, request) {
         Err(_) => Err(WireRefused::NoMemory),
@@ -85,7 +96,7 @@ fn set_refusal(
     peers: &Secrets,
     request: &WireRequest,
 ) -> Result<Option<WireRefused>, NoMemory>
-    ensures { IfOk result (λ refusal. refusal ≡ set_refusal me.now (peers_of peers.now) request.now) }
+    ensures { IfOk result (λ refusal. refusal ≡ set_refusal me.now peers.now request.now) }
 {
     match set_head_refusal(me, &request.head) {
         Some(why) => Ok(Some(why)),
@@ -99,7 +110,7 @@ fn read_set(
     peers: &Secrets,
     request: &WireRequest,
 ) -> Result<Incoming, WireRefused>
-    ensures { lacks_memory result ≡ false → result ≡ set_answer me.now (peers_of peers.now) request.now }
+    ensures { lacks_memory result ≡ false → result ≡ set_answer me.now peers.now request.now }
 {
     match set_refusal(alloc, me, peers, request) {
         Err(_) => Err(WireRefused::NoMemory),
@@ -117,7 +128,7 @@ fn answer_refusal(
     peers: &Secrets,
     request: &WireRequest,
 ) -> Result<Option<WireRefused>, NoMemory>
-    ensures { IfOk result (λ refusal. refusal ≡ answer_refusal me.now (peers_of peers.now) request.now) }
+    ensures { IfOk result (λ refusal. refusal ≡ answer_refusal me.now peers.now request.now) }
 {
     match answer_head_refusal(me, &request.head) {
         Some(why) => Ok(Some(why)),
@@ -131,7 +142,7 @@ fn read_answer(
     peers: &Secrets,
     request: &WireRequest,
 ) -> Result<Incoming, WireRefused>
-    ensures { lacks_memory result ≡ false → result ≡ answer_answer me.now (peers_of peers.now) request.now }
+    ensures { lacks_memory result ≡ false → result ≡ answer_answer me.now peers.now request.now }
 {
     match answer_refusal(alloc, me, peers, request) {
         Err(_) => Err(WireRefused::NoMemory),

@@ -1,12 +1,12 @@
 // Requests, written.
-ghost use Rattle.std.specs.Prelude.{◌≡◌, [], OnOk, IfOk};
+ghost use Rattle.std.specs.Prelude.{◌≡◌, [], OnOk, IfOk, IsUtf8};
 ghost use Rattle.aire_wire.specs.ReadBack.{CallBytesReadBack, CallReadsBack, PostBytesReadBack, PostReadsBack};
 ghost use Rattle.aire_wire.specs.Written.{answer_fields, body_of, call_asking, call_fields, sealed, set_message_fields, written_answer, written_call, written_post, written_set};
 ghost use Rattle.wire_fields.specs.Heads.{with_fields};
 
 use crate::building::texts_of;
 use crate::heads::{put_answer, put_call, put_set};
-use http_front::{AIRE_HEADERS, AireHeader, WireRequest};
+use http_front::{AIRE_HEADERS, AireHeader, WireRequest, is_text};
 use http_header::HeaderMap;
 use lang_core::{Method, NoMemory, Request, Text};
 use peer_seal::seal_text;
@@ -106,12 +106,26 @@ fn body_of(desired: &Option<Request>) -> &str
     }
 }
 
+// Says to the proof that the body of a version is UTF-8, as each text is.
+fn set_text(set: &SetMessage)
+    ensures { IsUtf8 (body_of set.now.desired) }
+{
+    is_text(body_of(&set.desired));
+}
+
 fn write_set(alloc: Global, set: &SetMessage, secret: &Text) -> Result<WireRequest, NoMemory>
     ensures { IfOk result (λ written. written ≡ written_set set.now secret.now) }
 {
     let head = set_head(alloc, set)?;
     let body = body_of(&set.desired);
     sealed(alloc, Method::Post, "/aire/repair", body, head, secret)
+}
+
+// Likewise of an answer's.
+fn answer_text(answer: &AnswerMessage)
+    ensures { IsUtf8 answer.now.response.body }
+{
+    is_text(answer.response.body.as_str());
 }
 
 fn answer_head(alloc: Global, answer: &AnswerMessage) -> Result<HeaderMap, NoMemory>
@@ -149,6 +163,7 @@ pub fn write_call(
     ensures reads_back { IfOk result (CallReadsBack set.now notifier.now secret.now) }
     ensures bytes_read_back { IfOk result (CallBytesReadBack set.now notifier.now secret.now) }
 {
+    set_text(set);
     match &set.desired {
         None => write_set(alloc, set, secret),
         Some(request) => call_asking(alloc, set, request, notifier, secret),
@@ -167,7 +182,13 @@ pub fn write_post_request(
     ensures bytes_read_back { IfOk result (PostBytesReadBack post.now secret.now) }
 {
     match post {
-        Post::Set(set) => write_set(alloc, set, secret),
-        Post::Answer(answer) => write_answer(alloc, answer, secret),
+        Post::Set(set) => {
+            set_text(set);
+            write_set(alloc, set, secret)
+        }
+        Post::Answer(answer) => {
+            answer_text(answer);
+            write_answer(alloc, answer, secret)
+        }
     }
 }

@@ -1,7 +1,6 @@
 // What is wrong with a request's head, and with its seal.
 ghost use Rattle.std.specs.Prelude.{◌≡◌, IfOk};
 ghost use Rattle.std.specs.Option.{option_copied};
-ghost use Rattle.wire_fields.specs.Secrets.{peers_of};
 ghost use Rattle.aire_wire.specs.Incoming.{answer_head_refusal, answer_sides, says_replace_response, call_head_refusal, console_head_refusal, console_seal_refusal, desired_refusal, is_deletion, outside_refusal, seal_refusal, sealed_by, set_fields, set_head_refusal, set_word};
 
 use crate::texts::ends_with_name;
@@ -11,9 +10,9 @@ use lang_core::{NoMemory, Text};
 use peer_seal::check;
 use std::alloc::Global;
 use wire_fields::{
-    ANSWER_HEADERS, CALL_HEADERS, CONSOLE_HEADERS, DESIRED_HEADERS, NEIGHBOUR_HEADERS, Peer,
-    SEAL_HEADER, SET_HEADERS, Secrets, WireRefused, bad_unless, dest_refusal, first_of,
-    first_refusal, sealed_request, service_in, side_refusal, text_at, version_at,
+    ANSWER_HEADERS, CALL_HEADERS, CONSOLE_HEADERS, DESIRED_HEADERS, NEIGHBOUR_HEADERS, SEAL_HEADER,
+    SET_HEADERS, Secrets, WireRefused, bad_unless, dest_refusal, first_of, first_refusal,
+    sealed_request, service_in, side_refusal, text_at, version_at,
 };
 
 const WHO_HEADER: [AireHeader; 1] = [AireHeader::Who];
@@ -164,13 +163,13 @@ pub fn console_head_refusal(me: &str, head: &HeaderMap) -> Option<WireRefused>
     first_of(fields, first_of(seal, dest))
 }
 
-fn sealed_by(peer: Option<&Peer>, bytes: &[u8], text: &str) -> Option<WireRefused>
-    ensures { result ≡ sealed_by (option_copied peer.entry) bytes.now text.now }
+fn sealed_by(secret: Option<&Text>, bytes: &[u8], text: &str) -> Option<WireRefused>
+    ensures { result ≡ sealed_by (option_copied secret.entry) bytes.now text.now }
 {
-    match peer {
+    match secret {
         None => Some(WireRefused::Seal),
-        Some(peer) => {
-            if check(peer.secret.as_bytes(), bytes, text) {
+        Some(secret) => {
+            if check(secret.as_bytes(), bytes, text) {
                 None
             } else {
                 Some(WireRefused::Seal)
@@ -186,12 +185,12 @@ pub fn seal_refusal(
     request: &WireRequest,
     fields: &[AireHeader],
 ) -> Result<Option<WireRefused>, NoMemory>
-    ensures { IfOk result (λ refusal. refusal ≡ seal_refusal (peers_of peers.now) request.now fields.now) }
+    ensures { IfOk result (λ refusal. refusal ≡ seal_refusal peers.now request.now fields.now) }
 {
     let bytes = sealed_request(alloc, request, fields)?;
-    let peer = peers.peer(text_at(&request.head, AireHeader::From));
+    let secret = peers.get(text_at(&request.head, AireHeader::From));
     Ok(sealed_by(
-        peer,
+        secret,
         bytes.as_slice(),
         text_at(&request.head, AireHeader::Seal),
     ))
@@ -204,7 +203,7 @@ pub fn set_seal_refusal(
     peers: &Secrets,
     request: &WireRequest,
 ) -> Result<Option<WireRefused>, NoMemory>
-    ensures { IfOk result (λ refusal. refusal ≡ seal_refusal (peers_of peers.now) request.now (set_fields deletion)) }
+    ensures { IfOk result (λ refusal. refusal ≡ seal_refusal peers.now request.now (set_fields deletion)) }
 {
     if deletion {
         seal_refusal(alloc, peers, request, DELETION_FIELDS.as_slice())

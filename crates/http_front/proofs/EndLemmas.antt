@@ -1,11 +1,14 @@
 -- Bytes without a head's end.
-use Rattle.std.proofs.Common.{◌≡◌, ℕ, ◌<◌, ◌≤◌, ◌⊎◌, false, List, [], ◌++◌, Some, length, take, refl, sym, subst, ap, ◌∙◌, arith, inl, inr, length-append}
+use Rattle.std.proofs.Common.{◌≡◌, ℕ, ◌<◌, ◌≤◌, ◌⊎◌, Bool, true, false, ◌||◌, List, [], ◌∷◌, ◌++◌, Some, length, take, refl, sym, subst, ap, ◌∙◌, arith, inl, inr, length-append}
 use Rattle.std.proofs.Math.Seq.{take-nil}
 use Rattle.std.proofs.lemmas.Bool.{cases_lt}
 use Rattle.std.proofs.lemmas.List.{append-nil, take_all, take-append-le, drop_at}
 use Rattle.io_edge.specs.Edge.{Reads, Took, IsAtEnd}
-use Rattle.http_front.specs.Ends.{ends_head}
+use Rattle.std.specs.List.{list_any}
+use Rattle.std.proofs.lemmas.List.Folds.{list_any-append}
+use Rattle.http_front.specs.Ends.{ends_head, is_of_line}
 use Rattle.http_front.specs.Reading.{HasNoHead, NeverEnds}
+use Rattle.http_front.proofs.HeadEnds.{one_more}
 use Rattle.http_front.specs.declared.message.FrontRefused.TheVariants.{Cut, HeadTooLong}
 
 abbrev pub Unended : List ℕ → Type 0
@@ -60,3 +63,25 @@ too_long before now head took full unended = λ all told.
         inr (omega (arith, length-append head rest), refl, sym (drop_at head rest 16384 full)),
       ),
     )
+
+-- ---- one byte more
+
+or_nothing : (b : Bool) → (b || false) ≡ b
+or_nothing true = refl
+or_nothing false = refl
+
+-- whether a line has begun
+pub begun_more : (begun now : Bool) (byte : ℕ) (head bytes : List ℕ) → begun ≡ list_any is_of_line head → now ≡ (begun || is_of_line byte) → bytes ≡ head ++ byte ∷ []
+    → now ≡ list_any is_of_line bytes
+begun_more begun now byte head bytes was is more =
+    let here : list_any is_of_line (byte ∷ []) ≡ is_of_line byte = or_nothing (is_of_line byte) in
+    let whole : list_any is_of_line bytes ≡ (list_any is_of_line head || is_of_line byte) =
+    ap (list_any is_of_line) more ∙ list_any-append is_of_line head (byte ∷ []) ∙ ap (λ (b : Bool). list_any is_of_line head || b) here in
+    is ∙ ap (λ (b : Bool). b || is_of_line byte) was ∙ sym whole
+
+-- none of the bytes before it, nor this one, ends a head
+pub unended_more : (head : List ℕ) (byte : ℕ) (bytes : List ℕ) → bytes ≡ head ++ byte ∷ [] → Unended head → ends_head bytes ≡ false → Unended bytes
+unended_more head byte bytes more unended quiet =
+    let now : ends_head (head ++ byte ∷ []) ≡ false = ap ends_head (sym more) ∙ quiet in
+    let P : List ℕ → Type 0 = λ xs. Unended xs in
+    subst P (sym more) (one_more head byte unended now)

@@ -48,7 +48,7 @@ pub nothing_ended : Unended []
 unfolding ends_head
 nothing_ended = λ n within. rw (take-nil {A = ℕ} n) refl
 
-one_more : (bytes : List ℕ) (b : ℕ) → Unended bytes → ends_head (bytes ++ b ∷ []) ≡ false → Unended (bytes ++ b ∷ [])
+pub one_more : (bytes : List ℕ) (b : ℕ) → Unended bytes → ends_head (bytes ++ b ∷ []) ≡ false → Unended (bytes ++ b ∷ [])
 one_more bytes b unended quiet = λ n within. by n within (cases_lt n (length bytes + 1))
   where
     by : (n : ℕ) → n ≤ length (bytes ++ b ∷ []) → (n < length bytes + 1) ⊎ (length bytes + 1 ≤ n) → ends_head (take n (bytes ++ b ∷ [])) ≡ false

@@ -2,6 +2,8 @@ mod StartLemmas
 mod EndLemmas
 mod ReadLemmas
 mod TextLemmas
+mod TakenLemmas
+mod CopyLemmas
 mod BodyLemmas
 mod HeadEnds
 mod LineLemmas

@@ -205,7 +205,7 @@ behind : (request : WireRequest) (rest : List ℕ) → IsSendable request
     → request_behind (length (head_of_bytes request)) (request.body ++ rest) (Ok (start request)) ≡ (Ok (request_read request), rest)
 behind request rest sendable =
     let body = request.body in
-    ap (λ (r : Result (List ℕ) FrontRefused). (request_with (start request) r, drop (length body) (body ++ rest))) (body_back (length (head_of_bytes request)) body rest sendable.within.text)
+    ap (λ (r : Result (List ℕ) FrontRefused). (request_with (start request) r, drop (length body) (body ++ rest))) (body_back (length (head_of_bytes request)) body rest sendable.text)
     ∙ ap (λ (left : List ℕ). (Ok (request_read request), left)) (drop-append_seam body rest)
 
 within : (request : WireRequest) → IsSendable request → length (head_of_bytes request) ≤ 16384

@@ -180,7 +180,7 @@ behind : (response : WireResponse) (rest : List ℕ) → IsRepliable response
     → response_behind (length (head_of_bytes response)) (response.body ++ rest) (Ok (start response)) ≡ (Ok (response_read response), rest)
 behind response rest repliable =
     let body = response.body in
-    ap (λ (r : Result (List ℕ) FrontRefused). (response_with (start response) r, drop (length body) (body ++ rest))) (body_back (length (head_of_bytes response)) body rest repliable.within.text)
+    ap (λ (r : Result (List ℕ) FrontRefused). (response_with (start response) r, drop (length body) (body ++ rest))) (body_back (length (head_of_bytes response)) body rest repliable.text)
     ∙ ap (λ (left : List ℕ). (Ok (response_read response), left)) (drop-append_seam body rest)
 
 within : (response : WireResponse) → IsRepliable response → length (head_of_bytes response) ≤ 16384

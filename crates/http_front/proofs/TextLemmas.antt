@@ -9,16 +9,16 @@ on_ok (Ok x) f p = f p
 on_ok (Err e) f p = p
 
 -- four pieces
-pub four : (a b c d e w x y z : List ℕ) → b ≡ a ++ w → c ≡ b ++ x → d ≡ c ++ y → e ≡ d ++ z → e ≡ a ++ (w ++ (x ++ (y ++ z)))
-four a b c d e w x y z first second third fourth =
+pub joined_in_four : (a b c d e w x y z : List ℕ) → b ≡ a ++ w → c ≡ b ++ x → d ≡ c ++ y → e ≡ d ++ z → e ≡ a ++ (w ++ (x ++ (y ++ z)))
+joined_in_four a b c d e w x y z first second third fourth =
     let one = fourth ∙ ap (λ (t : List ℕ). t ++ z) third in
     let two = one ∙ ap (λ (t : List ℕ). (t ++ y) ++ z) second in
     let three = two ∙ ap (λ (t : List ℕ). ((t ++ x) ++ y) ++ z) first in
     three ∙ simp append_assoc
 
 -- four pieces behind a first one of four
-pub regroup : (m s p h rest : List ℕ) → (m ++ (s ++ (p ++ h))) ++ rest ≡ m ++ (s ++ (p ++ (h ++ rest)))
-regroup m s p h rest = simp append_assoc
+pub regroup_four_pieces : (m s p h rest : List ℕ) → (m ++ (s ++ (p ++ h))) ++ rest ≡ m ++ (s ++ (p ++ (h ++ rest)))
+regroup_four_pieces m s p h rest = simp append_assoc
 
 -- the lines of three groups of fields, and what follows
 pub three_groups : {A : Type 0} (line : A → List ℕ) (xs ys zs : List A) (rest : List ℕ)

@@ -19,20 +19,20 @@ is_plain value = list_all is_value_byte value && same_text (trim_ows value) valu
 abbrev pub is_plain_line : Line → Bool
 is_plain_line line = is_plain line.1
 
--- before a body the bytes have a head within the limit, and the body is a text within its own
+-- before a body the bytes have a head within the limit, and the body is within its own
 pub record IsWithin (bytes body : List ℕ) : Type 0 where
   pub short_head : length bytes ≤ 16384 + length body
   pub short_body : length body ≤ 65536
-  pub text : is_utf8 body ≡ true
 
 -- ---- requests
 
--- to a path, with a head and a body within the limits, and field values that a line gives back
+-- to a path, with a head and a text as its body within the limits, and field values that a line gives back
 pub record IsSendable (request : WireRequest) : Type 0 where
   pub path : is_path request.path ≡ true
   pub host : list_all is_plain_line (first_of request.head (codes "Host")) ≡ true
   pub fields : list_all is_plain_line (aire_lines request.head) ≡ true
   pub within : IsWithin (request_bytes request) request.body
+  pub text : is_utf8 request.body ≡ true
 
 -- what is read of it: the same request, with the fields that are written
 abbrev pub request_read : WireRequest → WireRequest
@@ -51,12 +51,13 @@ RequestReadsBack request =
 
 -- ---- responses
 
--- with a status of three digits, a head and a body within the limits, and field values that a line gives back
+-- with a status of three digits, a head and a text as its body within the limits, and field values that a line gives back
 pub record IsRepliable (response : WireResponse) : Type 0 where
   pub three_digits : (100 ≤ response.status) × (response.status < 1000)
   pub kind : is_plain_line (type_line response.head) ≡ true
   pub fields : list_all is_plain_line (aire_lines response.head) ≡ true
   pub within : IsWithin (response_bytes response) response.body
+  pub text : is_utf8 response.body ≡ true
 
 -- what is read of it: the same response, with the fields that are written
 abbrev pub response_read : WireResponse → WireResponse

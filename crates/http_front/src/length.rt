@@ -1,5 +1,5 @@
 // The length of a body.
-ghost use Rattle.std.specs.Prelude.{◌≡◌, ◌≤◌, codes, length, IsErrOf, IsTrue};
+ghost use Rattle.std.specs.Prelude.{◌≡◌, ◌≤◌, codes, length, IfOk, IsErrOf, IsTrue};
 ghost use Rattle.std.specs.List.{list_all};
 ghost use Rattle.lang_base.specs.Characters.{digits_value, is_digit};
 ghost use Rattle.http_header.specs.HeaderMap.{get_all};
@@ -55,6 +55,7 @@ fn length_given(head: &HeaderMap) -> Option<u64>
 
 fn within_limit(given: Option<u64>) -> Result<u64, FrontRefused>
     ensures answer { result ≡ within_limit given }
+    ensures short { IfOk result (λ length. length ≤ 65536) }
     ensures unread { ¬ (IsErrOf result FrontRefused.ReadFault) }
 {
     match given {
@@ -67,6 +68,7 @@ fn within_limit(given: Option<u64>) -> Result<u64, FrontRefused>
 /// The length of the body that a head announces, or why its message is refused.
 pub fn body_length(head: &HeaderMap) -> Result<u64, FrontRefused>
     ensures answer { result ≡ body_length head.now }
+    ensures short { IfOk result (λ length. length ≤ 65536) }
     ensures unread { ¬ (IsErrOf result FrontRefused.ReadFault) }
 {
     match head.get("transfer-encoding") {

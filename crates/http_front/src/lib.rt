@@ -21,4 +21,5 @@ pub use message::{FrontRefused, WireRequest, WireResponse, WriteRefused};
 pub use read::{read_request, read_response};
 pub use reading::LONGEST_HEAD;
 pub use request_head::MOST_FIELDS;
+pub use texts::is_text;
 pub use write::{request_bytes, response_bytes, write_request, write_response};

@@ -1,13 +1,13 @@
 // Messages over HTTP, and why one isn't read or written.
 ghost use Rattle.http_front.specs.declared.message.FrontRefused.TheVariants.{NoMemory as NoRoom, ReadFault};
 ghost use Rattle.http_front.specs.declared.message.WriteRefused.TheVariants.{NoMemory as NoRoomToWrite, WriteFault};
-ghost use Rattle.std.specs.Prelude.{◌≡◌};
+ghost use Rattle.std.specs.Prelude.{◌≡◌, IfOk};
 
 use http_header::{HeaderMap, HeaderMapError, HeaderNameError, HeaderValueError};
 use io_edge::Failed;
-use lang_base::{NoMemory, Text};
+use lang_base::{Copied, NoMemory, Text, both};
 use lang_tree::Method;
-use std::alloc::{AllocError, AllocFailed};
+use std::alloc::{AllocError, AllocFailed, Global};
 
 /// A request as it comes or goes over the wire.
 #[derive(Drop)]
@@ -27,6 +27,41 @@ pub struct WireResponse {
     /// The fields of the head, under their names in lower case.
     pub head: HeaderMap,
     pub body: Text,
+}
+
+// An equal map of fields.
+#[tactic(auto, using(crate::proofs::CopyLemmas::map_same))]
+fn head_copied(head: &HeaderMap) -> Result<HeaderMap, NoMemory>
+    ensures { IfOk result (λ copy. copy ≡ head.now) }
+{
+    match head.clone() {
+        Ok(copy) => Ok(copy),
+        Err(_) => Err(NoMemory),
+    }
+}
+
+impl Copied for WireRequest {
+    fn copied(&self, alloc: Global) -> Result<WireRequest, NoMemory> {
+        let texts = both(self.path.copied(alloc), self.body.copied(alloc));
+        let ((path, body), head) = both(texts, head_copied(&self.head))?;
+        Ok(WireRequest {
+            method: self.method,
+            path,
+            head,
+            body,
+        })
+    }
+}
+
+impl Copied for WireResponse {
+    fn copied(&self, alloc: Global) -> Result<WireResponse, NoMemory> {
+        let (body, head) = both(self.body.copied(alloc), head_copied(&self.head))?;
+        Ok(WireResponse {
+            status: self.status,
+            head,
+            body,
+        })
+    }
 }
 
 /// Why no message was read.

@@ -1,7 +1,7 @@
 // Requests and responses, read.
 ghost use Rattle.std.specs.Prelude.{◌≡◌, ◌≤◌, ℕ, List, Some, length, IsErrOf};
 ghost use Rattle.std.specs.Option.{ForSome};
-ghost use Rattle.io_edge.specs.Edge.{ReadFails};
+ghost use Rattle.io_edge.specs.Edge.{TookUpTo, ReadFails};
 ghost use Rattle.http_front.specs.Answers.{UnlessInterrupted};
 ghost use Rattle.http_front.specs.Reading.{RequestBehind, ResponseBehind, SpellsRequest, SpellsResponse, request_with, response_with};
 
@@ -54,6 +54,7 @@ fn request_behind<S: Source>(
     requires { length head.now ≤ 16384 }
     ensures request { UnlessInterrupted result (ForSome (S.reads source.old).left (λ behind.
         (rest : List ℕ) × ((S.reads source.new).left ≡ Some rest) × RequestBehind head.now behind result rest)) }
+    ensures taken { TookUpTo 65536 (S.reads source.old) (S.reads source.new) }
     ensures whole { (S.reads source.new).whole ≡ (S.reads source.old).whole }
     ensures beside { S.beside source.new ≡ S.beside source.old }
 
@@ -77,6 +78,7 @@ fn response_behind<S: Source>(
     requires { length head.now ≤ 16384 }
     ensures response { UnlessInterrupted result (ForSome (S.reads source.old).left (λ behind.
         (rest : List ℕ) × ((S.reads source.new).left ≡ Some rest) × ResponseBehind head.now behind result rest)) }
+    ensures taken { TookUpTo 65536 (S.reads source.old) (S.reads source.new) }
     ensures whole { (S.reads source.new).whole ≡ (S.reads source.old).whole }
     ensures beside { S.beside source.new ≡ S.beside source.old }
 
@@ -97,10 +99,11 @@ fn response_behind<S: Source>(
 /// The head ends with the first LF LF or LF CR LF behind a byte that is neither CR nor LF, and has at most 16,384 bytes.
 /// The body has the length that `Content-Length` says, 0 without one, and at most 65,536 bytes. A refusal is the first of:
 /// `Cut` or `HeadTooLong` where no head ends; `BadHead`; `Method`; `Coding`; `BadLength`; `BodyTooLong`; `Cut` within the
-/// body; `NotText`. `NoMemory` and `ReadFault` may come at any time, and then a front of the bytes is gone.
+/// body; `NotText`. `NoMemory` and `ReadFault` may come at any time, and then a front of the bytes is gone, of 81,920 at most.
 pub fn read_request<S: Source>(alloc: Global, source: &mut S) -> Result<WireRequest, FrontRefused>
     ensures request { UnlessInterrupted result (ForSome (S.reads source.old).left (λ bytes.
         (rest : List ℕ) × ((S.reads source.new).left ≡ Some rest) × SpellsRequest bytes result rest)) }
+    ensures taken { TookUpTo 81920 (S.reads source.old) (S.reads source.new) }
     ensures whole { (S.reads source.new).whole ≡ (S.reads source.old).whole }
     ensures beside { S.beside source.new ≡ S.beside source.old }
 
@@ -117,6 +120,7 @@ pub fn read_request<S: Source>(alloc: Global, source: &mut S) -> Result<WireRequ
 pub fn read_response<S: Source>(alloc: Global, source: &mut S) -> Result<WireResponse, FrontRefused>
     ensures response { UnlessInterrupted result (ForSome (S.reads source.old).left (λ bytes.
         (rest : List ℕ) × ((S.reads source.new).left ≡ Some rest) × SpellsResponse bytes result rest)) }
+    ensures taken { TookUpTo 81920 (S.reads source.old) (S.reads source.new) }
     ensures whole { (S.reads source.new).whole ≡ (S.reads source.old).whole }
     ensures beside { S.beside source.new ≡ S.beside source.old }
 

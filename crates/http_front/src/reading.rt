@@ -1,11 +1,11 @@
 // Heads and bodies taken from a source.
 ghost use Rattle.std.specs.Prelude.{◌≡◌, ◌≤◌, None, Some, drop, length, IfOk, OnErr, IsErrOf};
 ghost use Rattle.std.specs.Option.{ForSome};
-ghost use Rattle.io_edge.specs.Edge.{Took, IsAtEnd, ReadFails};
+ghost use Rattle.io_edge.specs.Edge.{Took, TookUpTo, IsAtEnd, ReadFails};
 ghost use Rattle.http_front.specs.Answers.{UnlessInterrupted};
 ghost use Rattle.http_front.specs.Reading.{HeadTaken, body_behind, taken_byte};
 
-use crate::ends::ends_head;
+use crate::ends::{ends_head, has_begun};
 use crate::message::FrontRefused;
 use crate::texts::text_of;
 use io_edge::{Failed, Source};
@@ -22,6 +22,7 @@ const PIECE: usize = 4096;
 fn read_byte<S: Source>(source: &mut S) -> Result<Option<u8>, Failed>
     ensures took { IfOk result (λ byte. Took (S.reads source.old) (S.reads source.new) (taken_byte byte)) }
     ensures end { IfOk result (λ byte. byte ≡ None → IsAtEnd (S.reads source.new)) }
+    ensures taken { TookUpTo 1 (S.reads source.old) (S.reads source.new) }
     ensures whole { (S.reads source.new).whole ≡ (S.reads source.old).whole }
     ensures beside { S.beside source.new ≡ S.beside source.old }
 
@@ -33,10 +34,11 @@ fn read_byte<S: Source>(source: &mut S) -> Result<Option<u8>, Failed>
     if n == 0 { Ok(None) } else { Ok(Some(byte[0])) }
 }
 
-/// The bytes up to the end of the head, and nothing behind it.
+/// The bytes up to the end of the head, and nothing behind it. Whatever it answers, no more than the longest head is taken.
 pub fn read_head<S: Source>(alloc: Global, source: &mut S) -> Result<Bytes, FrontRefused>
     ensures head { UnlessInterrupted result
         (HeadTaken (S.reads source.old) (S.reads source.new) result) }
+    ensures taken { TookUpTo 16384 (S.reads source.old) (S.reads source.new) }
     ensures whole { (S.reads source.new).whole ≡ (S.reads source.old).whole }
     ensures beside { S.beside source.new ≡ S.beside source.old }
 
@@ -44,19 +46,21 @@ pub fn read_head<S: Source>(alloc: Global, source: &mut S) -> Result<Bytes, Fron
     ensures fault { IsErrOf result FrontRefused.ReadFault → ReadFails (S.reads source.old) (S.reads source.new) }
 {
     let mut head = Vec::new(alloc);
+    let mut begun = false;
     while (head.len() as u64) < LONGEST_HEAD {
         let Some(byte) = read_byte(source)? else {
             return Err(FrontRefused::Cut(head.len() as u64));
         };
         head.push(byte)?;
-        if ends_head(&head) {
+        begun = has_begun(begun, byte);
+        if ends_head(&head, begun) {
             return Ok(Bytes::from(head));
         }
     }
     Err(FrontRefused::HeadTooLong)
 }
 
-/// A body of `length` bytes, behind a head of `head` bytes.
+/// A body of `length` bytes, behind a head of `head` bytes. Whatever it answers, no more than the body is taken.
 pub fn read_body<S: Source>(
     alloc: Global,
     source: &mut S,
@@ -66,6 +70,7 @@ pub fn read_body<S: Source>(
     requires { head ≤ 16384 }
     ensures body { UnlessInterrupted result (ForSome (S.reads source.old).left (λ behind.
         (result ≡ body_behind head length behind) × ((S.reads source.new).left ≡ Some (drop length behind)))) }
+    ensures taken { TookUpTo length (S.reads source.old) (S.reads source.new) }
     ensures whole { (S.reads source.new).whole ≡ (S.reads source.old).whole }
     ensures beside { S.beside source.new ≡ S.beside source.old }
 

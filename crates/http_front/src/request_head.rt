@@ -1,5 +1,5 @@
 // The head of a request.
-ghost use Rattle.std.specs.Prelude.{◌≡◌, ◌⊎◌, ◌≤◌, length, take, map, All, IsSome, IfSome, IsErrOf, IsUtf8, Err};
+ghost use Rattle.std.specs.Prelude.{◌≡◌, ◌⊎◌, ◌≤◌, length, take, map, All, IsSome, IfOk, IfSome, IsErrOf, IsUtf8, Err};
 ghost use Rattle.httparse.specs.Grammar.{RequestHead};
 ghost use Rattle.httparse.specs.Spans.{IsRequestOf, IsRequestWithin, IsHeaderWithin, IsWithin, header_bytes, span_bytes};
 ghost use Rattle.http_header.specs.HeaderMap.{Entries};
@@ -46,6 +46,7 @@ fn spans_of(bytes: &[u8], fields: &mut [HeaderSpan]) -> Option<RequestSpans>
 // What these parts say of a request.
 fn start_from(method: &[u8], target: Text, head: HeaderMap) -> Result<RequestStart, FrontRefused>
     ensures answer { result ≡ start_from method.now target head }
+    ensures short { IfOk result (λ start. start.length ≤ 65536) }
     ensures unread { ¬ (IsErrOf result FrontRefused.ReadFault) }
 {
     if !is_path(&target) {
@@ -77,6 +78,7 @@ fn start_at(
     requires fields { All (IsHeaderWithin (length bytes.now)) fields.now }
     ensures answer { UnlessInterrupted result (result ≡ start_from (span_bytes bytes.now spans.method)
         (span_bytes bytes.now spans.path) (map_of (map (header_bytes bytes.now) fields.now))) }
+    ensures short { IfOk result (λ start. start.length ≤ 65536) }
     ensures unread { ¬ (IsErrOf result FrontRefused.ReadFault) }
 {
     let target = known_text(alloc, spans.path.of(bytes))?;
@@ -87,6 +89,7 @@ fn start_at(
 /// What the bytes up to a head's end say of a request.
 pub fn request_start(alloc: Global, bytes: &[u8]) -> Result<RequestStart, FrontRefused>
     ensures answer { UnlessInterrupted result (StartsRequest bytes.now result) }
+    ensures short { IfOk result (λ start. start.length ≤ 65536) }
     ensures unread { ¬ (IsErrOf result FrontRefused.ReadFault) }
 {
     let mut fields = [EMPTY_HEADER_SPAN; MOST_FIELDS];

@@ -1,5 +1,5 @@
 // The head of a response.
-ghost use Rattle.std.specs.Prelude.{◌≡◌, ◌⊎◌, ◌≤◌, length, map, All, IsSome, IfSome, IsErrOf, Err};
+ghost use Rattle.std.specs.Prelude.{◌≡◌, ◌⊎◌, ◌≤◌, length, map, All, IsSome, IfOk, IfSome, IsErrOf, Err};
 ghost use Rattle.httparse.specs.Grammar.{ResponseHead};
 ghost use Rattle.httparse.specs.Spans.{IsResponseOf, IsResponseWithin, IsHeaderWithin, header_bytes};
 ghost use Rattle.http_front.specs.Answers.{UnlessInterrupted};
@@ -39,6 +39,7 @@ fn spans_of(bytes: &[u8], fields: &mut [HeaderSpan]) -> Option<ResponseSpans>
 // What these parts say of a response.
 fn start_from(status: u16, head: HeaderMap) -> Result<ResponseStart, FrontRefused>
     ensures answer { result ≡ start_from status head }
+    ensures short { IfOk result (λ start. start.length ≤ 65536) }
     ensures unread { ¬ (IsErrOf result FrontRefused.ReadFault) }
 {
     match body_length(&head) {
@@ -60,6 +61,7 @@ fn start_at(
     requires { All (IsHeaderWithin (length bytes.now)) fields.now }
     ensures answer { UnlessInterrupted result
         (result ≡ start_from status (map_of (map (header_bytes bytes.now) fields.now))) }
+    ensures short { IfOk result (λ start. start.length ≤ 65536) }
     ensures unread { ¬ (IsErrOf result FrontRefused.ReadFault) }
 {
     let head = map_of(alloc, bytes, fields)?;
@@ -69,6 +71,7 @@ fn start_at(
 /// What the bytes up to a head's end say of a response.
 pub fn response_start(alloc: Global, bytes: &[u8]) -> Result<ResponseStart, FrontRefused>
     ensures answer { UnlessInterrupted result (StartsResponse bytes.now result) }
+    ensures short { IfOk result (λ start. start.length ≤ 65536) }
     ensures unread { ¬ (IsErrOf result FrontRefused.ReadFault) }
 {
     let mut fields = [EMPTY_HEADER_SPAN; MOST_FIELDS];

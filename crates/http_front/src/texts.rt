@@ -1,5 +1,5 @@
 // Bytes as texts.
-ghost use Rattle.std.specs.Prelude.{◌≡◌, IsTrue, IsUtf8, IfOk, Err, Ok, if◌then◌else◌};
+ghost use Rattle.std.specs.Prelude.{◌≡◌, IsTrue, IsUtf8, IfOk, IsErrOf, Err, Ok, if◌then◌else◌};
 ghost use Rattle.std.specs.Str.{is_utf8};
 ghost use Rattle.http_front.specs.Answers.{UnlessInterrupted};
 ghost use Rattle.http_front.specs.declared.message.FrontRefused.TheVariants.{NotText};
@@ -20,6 +20,13 @@ pub fn known_text(alloc: Global, bytes: &[u8]) -> Result<Text, NoMemory>
     }
 }
 
+/// Says to a caller's proof that the bytes of a text are UTF-8, as those of each text are; it does nothing.
+pub fn is_text(text: &str)
+    ensures { IsUtf8 text.now }
+{
+    let _ = text;
+}
+
 fn is_utf8(bytes: &[u8]) -> bool
     ensures test { result ≡ is_utf8 bytes.now }
     ensures utf8 { IsTrue result → IsUtf8 bytes.now }
@@ -32,13 +39,15 @@ fn is_utf8(bytes: &[u8]) -> bool
 
 /// The bytes as a text, where they are UTF-8.
 pub fn text_of(bytes: Vec<u8>) -> Result<Text, FrontRefused>
-    ensures { result ≡ (if is_utf8 bytes.items then Ok bytes.items else Err NotText) }
+    ensures text { UnlessInterrupted result
+        (result ≡ (if is_utf8 bytes.items then Ok bytes.items else Err NotText)) }
+    ensures unread { ¬ (IsErrOf result FrontRefused.ReadFault) }
 {
     if !is_utf8(&bytes) {
         return Err(FrontRefused::NotText);
     }
     match String::from_utf8(bytes) {
-        Ok(text) => Ok(Text::from(text)),
+        Ok(text) => Ok(Text::shared(text)?),
         Err(_) => Err(FrontRefused::NotText),
     }
 }

@@ -1,6 +1,6 @@
 // Requests and responses, written.
 ghost use Rattle.std.specs.Prelude.{◌≡◌, ◌≤◌, ◌++◌, codes, decimal, IfOk, OnOk, OnErr, IsErrOf};
-ghost use Rattle.io_edge.specs.Edge.{Wrote, WroteFront, WriteFails};
+ghost use Rattle.io_edge.specs.Edge.{Wrote, WroteShort, WriteFails};
 ghost use Rattle.lang_tree.specs.Methods.{method_word};
 ghost use Rattle.http_front.specs.Writing.{phrase, request_bytes, response_bytes};
 
@@ -96,7 +96,8 @@ pub fn response_bytes(alloc: Global, response: &WireResponse) -> Result<Bytes, N
 
 fn write_bytes<K: Sink>(sink: &mut K, bytes: &[u8]) -> Result<(), WriteRefused>
     ensures ok { OnOk result (Wrote (K.writes sink.old) (K.writes sink.new) bytes.now) }
-    ensures err { OnErr result (WroteFront (K.writes sink.old) (K.writes sink.new) bytes.now) }
+    ensures err { OnErr result (WroteShort (K.writes sink.old) (K.writes sink.new) bytes.now) }
+    ensures faulty { OnErr result (IsErrOf result WriteRefused.WriteFault) }
     ensures beside { K.beside sink.new ≡ K.beside sink.old }
 
     ensures counted { (K.writes sink.old).faults ≤ (K.writes sink.new).faults }
@@ -108,14 +109,17 @@ fn write_bytes<K: Sink>(sink: &mut K, bytes: &[u8]) -> Result<(), WriteRefused>
     }
 }
 
-/// Writes a request's bytes. After an `Err` a front of them was written, perhaps none or all.
+/// Writes a request's bytes. After a `WriteFault` a front of them was written, perhaps none but not all; where memory was
+/// wanting, nothing was.
 pub fn write_request<K: Sink>(
     alloc: Global,
     sink: &mut K,
     request: &WireRequest,
 ) -> Result<(), WriteRefused>
     ensures ok { OnOk result (Wrote (K.writes sink.old) (K.writes sink.new) (request_bytes request.now)) }
-    ensures err { OnErr result (WroteFront (K.writes sink.old) (K.writes sink.new) (request_bytes request.now)) }
+    ensures short { IsErrOf result WriteRefused.WriteFault
+        → WroteShort (K.writes sink.old) (K.writes sink.new) (request_bytes request.now) }
+    ensures memory { IsErrOf result WriteRefused.NoMemory → K.writes sink.new ≡ K.writes sink.old }
     ensures beside { K.beside sink.new ≡ K.beside sink.old }
 
     ensures counted { (K.writes sink.old).faults ≤ (K.writes sink.new).faults }
@@ -127,14 +131,17 @@ pub fn write_request<K: Sink>(
     }
 }
 
-/// Writes a response's bytes. After an `Err` a front of them was written, perhaps none or all.
+/// Writes a response's bytes. After a `WriteFault` a front of them was written, perhaps none but not all; where memory was
+/// wanting, nothing was.
 pub fn write_response<K: Sink>(
     alloc: Global,
     sink: &mut K,
     response: &WireResponse,
 ) -> Result<(), WriteRefused>
     ensures ok { OnOk result (Wrote (K.writes sink.old) (K.writes sink.new) (response_bytes response.now)) }
-    ensures err { OnErr result (WroteFront (K.writes sink.old) (K.writes sink.new) (response_bytes response.now)) }
+    ensures short { IsErrOf result WriteRefused.WriteFault
+        → WroteShort (K.writes sink.old) (K.writes sink.new) (response_bytes response.now) }
+    ensures memory { IsErrOf result WriteRefused.NoMemory → K.writes sink.new ≡ K.writes sink.old }
     ensures beside { K.beside sink.new ≡ K.beside sink.old }
 
     ensures counted { (K.writes sink.old).faults ≤ (K.writes sink.new).faults }

@@ -1,7 +1,7 @@
 -- What a source and a sink in memory tell.
 use Rattle.std.specs.Prelude.{ℕ, List, Some, drop, length, min}
 use Rattle.io_edge.specs.Edge.{Reads, Writes}
-use Rattle.io_edge.specs.declared.told.Told.{Told}
+use Rattle.io_edge.specs.declared.told.FailingCalls.{FailingCalls}
 use Rattle.io_edge.specs.declared.memory.MemorySource.{MemorySource}
 use Rattle.io_edge.specs.declared.memory.MemorySink.{MemorySink}
 
@@ -22,7 +22,7 @@ abbrev pub source_reads : MemorySource → Reads
 source_reads s = record { left = Some (source_left s); whole = Some (source_whole s); faults = source_faults s }
 
 -- the reads that are to fail, and how many were made
-abbrev pub source_calls : MemorySource → Told
+abbrev pub source_calls : MemorySource → FailingCalls
 source_calls s = s.calls
 
 -- the most bytes that a read gives
@@ -46,7 +46,7 @@ abbrev pub sink_writes : MemorySink → Writes
 sink_writes s = record { written = Some (sink_bytes s); faults = sink_faults s }
 
 -- the writes that are to fail, and how many were made
-abbrev pub sink_calls : MemorySink → Told
+abbrev pub sink_calls : MemorySink → FailingCalls
 sink_calls s = s.calls
 
 -- the most bytes that a write takes

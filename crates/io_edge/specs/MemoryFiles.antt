@@ -2,7 +2,7 @@
 use Rattle.std.specs.Prelude.{ℕ, Bool, List, Option, Some, find, option_map, nat_eq}
 use Rattle.std.specs.Cmp.Lexicographic.{pointwise}
 use Rattle.io_edge.specs.Files.{Loads}
-use Rattle.io_edge.specs.declared.told.Told.{Told}
+use Rattle.io_edge.specs.declared.told.FailingCalls.{FailingCalls}
 use Rattle.io_edge.specs.declared.memory_files.MemoryFile.{MemoryFile}
 use Rattle.io_edge.specs.declared.memory_files.MemoryFiles.{MemoryFiles}
 
@@ -31,5 +31,5 @@ abbrev pub memory_loads : MemoryFiles → Loads
 memory_loads s = record { files = Some (bytes_at (memory_files s)); asked = paths_asked s; faults = load_faults s }
 
 -- the loads that are to fail, and how many were made
-abbrev pub load_calls : MemoryFiles → Told
+abbrev pub load_calls : MemoryFiles → FailingCalls
 load_calls s = s.calls

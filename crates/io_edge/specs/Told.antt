@@ -1,11 +1,11 @@
 -- Which calls of a source or a sink in memory are to fail.
 use Rattle.std.specs.Prelude.{ℕ, ◌+◌, ◌-◌, ◌^◌, Contains, min}
-use Rattle.io_edge.specs.declared.told.Told.{Told}
+use Rattle.io_edge.specs.declared.told.FailingCalls.{FailingCalls}
 
 -- one more, up to the greatest u64
-abbrev pub one_more : ℕ → ℕ
-one_more n = min (n + 1) (2 ^ 64 - 1)
+abbrev pub count_after : ℕ → ℕ
+count_after n = min (n + 1) (2 ^ 64 - 1)
 
 -- the next call is one of those that are to fail
-abbrev pub IsToldToFail : Told → Type 0
-IsToldToFail calls = Contains calls.failing.items (one_more calls.made)
+abbrev pub IsToldToFail : FailingCalls → Type 0
+IsToldToFail calls = Contains calls.failing.items (count_after calls.made)

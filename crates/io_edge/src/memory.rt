@@ -1,8 +1,8 @@
 // A source and a sink in memory. Each tells its bytes, and fails at the calls that it is told to.
-ghost use Rattle.std.specs.Prelude.{◌≡◌, ◌+◌, ◌<◌, ◌≤◌, ◌↔◌, ℕ, List, Some, [], drop, length, take, min, IsErr, IfOk, OnErr};
+ghost use Rattle.std.specs.Prelude.{◌≡◌, ◌+◌, ◌<◌, ◌≤◌, ◌↔◌, ℕ, List, Some, [], drop, length, take, min, IsErr, IfOk, OnOk, OnErr};
 ghost use Rattle.io_edge.specs.Edge.{Took, IsAtEnd, Wrote, ReadFails, WriteFails};
 
-use crate::told::Told;
+use crate::told::FailingCalls;
 use crate::{Failed, Sink, Source};
 use std::alloc::Global;
 
@@ -13,7 +13,7 @@ pub struct MemorySource {
     bytes: Vec<u8>,
     at: usize,
     most: usize,
-    calls: Told,
+    calls: FailingCalls,
     ghost in_bytes: { at ≤ length bytes.items },
     ghost moves_on: { 0 < most },
 }
@@ -49,7 +49,7 @@ impl MemorySource {
             bytes,
             at: 0,
             most,
-            calls: Told::new(failing),
+            calls: FailingCalls::new(failing),
         }
     }
 
@@ -66,18 +66,11 @@ impl MemorySource {
     {
         &self.bytes
     }
-
-    /// How many reads have failed, up to the greatest `u64`.
-    pub fn faults(&self) -> u64
-        ensures faults { result ≡ source_faults self.now }
-    {
-        self.calls.faults
-    }
 }
 
 impl Source for MemorySource {
     ghost use Rattle.io_edge.specs.Memory.{source_left, source_whole, source_faults, source_reads, source_most, source_calls, read_count};
-    ghost use Rattle.io_edge.specs.Told.{one_more, IsToldToFail};
+    ghost use Rattle.io_edge.specs.Told.{count_after, IsToldToFail};
 
     ghost reads = { λ s. source_reads s };
 
@@ -93,12 +86,16 @@ impl Source for MemorySource {
         ensures counted { source_faults self.old ≤ source_faults self.new }
         ensures failed { OnErr result (ReadFails (source_reads self.old) (source_reads self.new)) }
 
+        // Each failed read counts once, and nothing else counts.
+        ensures one { OnErr result (source_faults self.new ≡ count_after (source_faults self.old)) }
+        ensures none_else { OnOk result (source_faults self.new ≡ source_faults self.old) }
+
         // It fails exactly where it is told to, and gives as much as it may.
         ensures told { IsErr result ↔ IsToldToFail (source_calls self.old) }
         ensures count { IfOk result (λ n. n ≡ read_count self.old (length into.new)) }
         ensures most { source_most self.new ≡ source_most self.old }
         ensures failing { (source_calls self.new).failing ≡ (source_calls self.old).failing }
-        ensures made { (source_calls self.new).made ≡ one_more (source_calls self.old).made }
+        ensures made { (source_calls self.new).made ≡ count_after (source_calls self.old).made }
     {
         if self.calls.fails() {
             self.calls.fault();
@@ -109,6 +106,10 @@ impl Source for MemorySource {
         self.at += n;
         Ok(n as u64)
     }
+
+    fn faults(&self) -> u64 {
+        self.calls.faults
+    }
 }
 
 /// A sink in memory, which tells what was written. It takes at most so many bytes a write, and
@@ -117,7 +118,7 @@ impl Source for MemorySource {
 pub struct MemorySink {
     bytes: Vec<u8>,
     most: usize,
-    calls: Told,
+    calls: FailingCalls,
     ghost moves_on: { 0 < most },
 }
 
@@ -149,7 +150,7 @@ impl MemorySink {
         MemorySink {
             bytes: Vec::new(alloc),
             most,
-            calls: Told::new(failing),
+            calls: FailingCalls::new(failing),
         }
     }
 
@@ -159,18 +160,11 @@ impl MemorySink {
     {
         &self.bytes
     }
-
-    /// How many writes have failed, up to the greatest `u64`.
-    pub fn faults(&self) -> u64
-        ensures faults { result ≡ sink_faults self.now }
-    {
-        self.calls.faults
-    }
 }
 
 impl Sink for MemorySink {
     ghost use Rattle.io_edge.specs.Memory.{sink_bytes, sink_faults, sink_writes, sink_most, sink_calls};
-    ghost use Rattle.io_edge.specs.Told.{one_more, IsToldToFail};
+    ghost use Rattle.io_edge.specs.Told.{count_after, IsToldToFail};
 
     ghost writes = { λ s. sink_writes s };
 
@@ -185,12 +179,16 @@ impl Sink for MemorySink {
         ensures counted { sink_faults self.old ≤ sink_faults self.new }
         ensures failed { OnErr result (WriteFails (sink_writes self.old) (sink_writes self.new)) }
 
+        // Each failed write counts once, and nothing else counts.
+        ensures one { OnErr result (sink_faults self.new ≡ count_after (sink_faults self.old)) }
+        ensures none_else { OnOk result (sink_faults self.new ≡ sink_faults self.old) }
+
         // It fails where it is told to, or memory runs out, and takes as much as it may.
         ensures told { IsToldToFail (sink_calls self.old) → IsErr result }
         ensures count { IfOk result (λ n. n ≡ min (length bytes.now) (sink_most self.old)) }
         ensures most { sink_most self.new ≡ sink_most self.old }
         ensures failing { (sink_calls self.new).failing ≡ (sink_calls self.old).failing }
-        ensures made { (sink_calls self.new).made ≡ one_more (sink_calls self.old).made }
+        ensures made { (sink_calls self.new).made ≡ count_after (sink_calls self.old).made }
     {
         if self.calls.fails() {
             self.calls.fault();
@@ -202,5 +200,9 @@ impl Sink for MemorySink {
             return Err(Failed);
         }
         Ok(n as u64)
+    }
+
+    fn faults(&self) -> u64 {
+        self.calls.faults
     }
 }

@@ -5,7 +5,7 @@ ghost use Rattle.io_edge.specs.Files.{AskedFor, AskedNothing, IsFile, IsLonger, 
 ghost use Rattle.io_edge.specs.MemoryFiles.{has_path};
 
 use crate::files::keep_path;
-use crate::told::Told;
+use crate::told::FailingCalls;
 use crate::{Files, LoadRefused};
 use lang_base::{Bytes, Copied, Seq, Text};
 use std::alloc::Global;
@@ -22,7 +22,7 @@ pub struct MemoryFile {
 pub struct MemoryFiles {
     files: Seq<MemoryFile>,
     asked: Seq<Text>,
-    calls: Told,
+    calls: FailingCalls,
 }
 
 fn found<'a>(files: &'a [MemoryFile], path: &str) -> Option<&'a MemoryFile>
@@ -62,7 +62,7 @@ impl MemoryFiles {
         MemoryFiles {
             files,
             asked,
-            calls: Told::new(failing),
+            calls: FailingCalls::new(failing),
         }
     }
 
@@ -83,7 +83,7 @@ impl MemoryFiles {
 
 impl Files for MemoryFiles {
     ghost use Rattle.io_edge.specs.MemoryFiles.{bytes_at, memory_files, load_faults, load_calls, memory_loads};
-    ghost use Rattle.io_edge.specs.Told.{one_more, IsToldToFail};
+    ghost use Rattle.io_edge.specs.Told.{count_after, IsToldToFail};
 
     ghost loads = { λ s. memory_loads s };
 
@@ -101,6 +101,12 @@ impl Files for MemoryFiles {
         ensures failed { IsErrOf result LoadRefused.Failed
             → LoadFails (memory_loads self.old) (memory_loads self.new) }
 
+        // Each failed load counts once, and nothing else counts.
+        ensures one { IsErrOf result LoadRefused.Failed
+            → load_faults self.new ≡ count_after (load_faults self.old) }
+        ensures none_else { load_faults self.new ≡ load_faults self.old
+            ⊎ IsErrOf result LoadRefused.Failed }
+
         // It fails exactly where it is told to, or there is no such file, unless memory is wanting.
         ensures told { IsToldToFail (load_calls self.old)
             → IsErrOf result LoadRefused.Failed ⊎ IsErrOf result LoadRefused.NoMemory }
@@ -109,7 +115,7 @@ impl Files for MemoryFiles {
         ensures cause { IsErrOf result LoadRefused.Failed → IsToldToFail (load_calls self.old)
             ⊎ (bytes_at (memory_files self.old) path.now ≡ None) }
         ensures failing { (load_calls self.new).failing ≡ (load_calls self.old).failing }
-        ensures made { (load_calls self.new).made ≡ one_more (load_calls self.old).made }
+        ensures made { (load_calls self.new).made ≡ count_after (load_calls self.old).made }
     {
         let fails = self.calls.fails();
         if keep_path(alloc, &mut self.asked, path).is_err() {

@@ -96,6 +96,9 @@ impl<'a, R: rt::Files> Files for RealFiles<'a, R> {
         ensures counted { real_faults self.old ≤ real_faults self.new }
         ensures failed { IsErrOf result LoadRefused.Failed
             → LoadFails (real_loads self.old) (real_loads self.new) }
+        // Nothing else counts.
+        ensures none_else { real_faults self.new ≡ real_faults self.old
+            ⊎ IsErrOf result LoadRefused.Failed }
     {
         if keep_path(alloc, &mut self.asked, path).is_err() {
             return Err(LoadRefused::NoMemory);

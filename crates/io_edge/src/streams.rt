@@ -1,5 +1,5 @@
 // Readers and writers of std as a source and a sink. They count their faults and tell no bytes.
-ghost use Rattle.std.specs.Prelude.{◌≡◌, ◌≤◌, ◌<◌, length, IfOk, OnErr};
+ghost use Rattle.std.specs.Prelude.{◌≡◌, ◌≤◌, ◌<◌, length, IfOk, OnOk, OnErr};
 ghost use Rattle.std.specs.Io.KnownBytes.{ReadConsumes, WriteAppends};
 ghost use Rattle.io_edge.specs.Edge.{ReadFails, WriteFails};
 
@@ -22,13 +22,6 @@ impl<R: io::Read + Drop> Reading<R> {
     {
         Reading { inner, faults: 0 }
     }
-
-    /// How many reads have failed, up to the greatest `u64`.
-    pub fn faults(&self) -> u64
-        ensures faults { result ≡ read_faults self.now }
-    {
-        self.faults
-    }
 }
 
 impl<R: io::Read + Drop> Source for Reading<R> {
@@ -43,6 +36,8 @@ impl<R: io::Read + Drop> Source for Reading<R> {
         ensures bound { IfOk result (λ n. n ≤ length into.new) }
         ensures counted { read_faults self.old ≤ read_faults self.new }
         ensures failed { OnErr result (ReadFails (told_reads self.old) (told_reads self.new)) }
+        // Nothing else counts.
+        ensures none_else { OnOk result (read_faults self.new ≡ read_faults self.old) }
     {
         match self.inner.read(into) {
             Ok(n) => Ok(n as u64),
@@ -51,6 +46,10 @@ impl<R: io::Read + Drop> Source for Reading<R> {
                 Err(Failed)
             }
         }
+    }
+
+    fn faults(&self) -> u64 {
+        self.faults
     }
 }
 
@@ -71,13 +70,6 @@ impl<W: io::Write + Drop> Writing<W> {
     {
         Writing { inner, faults: 0 }
     }
-
-    /// How many writes have failed, up to the greatest `u64`.
-    pub fn faults(&self) -> u64
-        ensures faults { result ≡ write_faults self.now }
-    {
-        self.faults
-    }
 }
 
 impl<W: io::Write + Drop> Sink for Writing<W> {
@@ -94,6 +86,11 @@ impl<W: io::Write + Drop> Sink for Writing<W> {
             → WriteFails (told_writes self.old) (told_writes self.new)) }
         ensures counted { write_faults self.old ≤ write_faults self.new }
         ensures failed { OnErr result (WriteFails (told_writes self.old) (told_writes self.new)) }
+        // Nothing else counts.
+        ensures none_else { IfOk result (λ n. 0 < n
+            → write_faults self.new ≡ write_faults self.old) }
+        ensures empty { OnOk result (length bytes.now ≡ 0
+            → write_faults self.new ≡ write_faults self.old) }
     {
         match self.inner.write(bytes) {
             // A writer that takes nothing of something is full: going on would never end.
@@ -107,5 +104,9 @@ impl<W: io::Write + Drop> Sink for Writing<W> {
                 Err(Failed)
             }
         }
+    }
+
+    fn faults(&self) -> u64 {
+        self.faults
     }
 }

@@ -3,14 +3,14 @@ ghost use Rattle.std.specs.Prelude.{◌≡◌, ◌≤◌, ◌↔◌, IsTrue};
 
 /// The calls that are to fail, counted from 1, how many were made, and how many failed.
 #[derive(Drop)]
-pub struct Told {
+pub struct FailingCalls {
     pub failing: Vec<u64>,
     pub made: u64,
     pub faults: u64,
 }
 
-impl Told {
-    ghost use Rattle.io_edge.specs.Told.{one_more, IsToldToFail};
+impl FailingCalls {
+    ghost use Rattle.io_edge.specs.Told.{count_after, IsToldToFail};
 
     /// No call was made so far.
     pub fn new(failing: Vec<u64>) -> Self
@@ -18,7 +18,7 @@ impl Told {
         ensures made { result.made ≡ 0 }
         ensures faults { result.faults ≡ 0 }
     {
-        Told {
+        FailingCalls {
             failing,
             made: 0,
             faults: 0,
@@ -29,7 +29,7 @@ impl Told {
     pub fn fails(&mut self) -> bool
         ensures told { IsTrue result ↔ IsToldToFail self.old }
         ensures failing { self.new.failing ≡ self.old.failing }
-        ensures made { self.new.made ≡ one_more self.old.made }
+        ensures made { self.new.made ≡ count_after self.old.made }
         ensures faults { self.new.faults ≡ self.old.faults }
     {
         self.made = self.made.saturating_add(1);
@@ -40,7 +40,7 @@ impl Told {
     pub fn fault(&mut self)
         ensures failing { self.new.failing ≡ self.old.failing }
         ensures made { self.new.made ≡ self.old.made }
-        ensures faults { self.new.faults ≡ one_more self.old.faults }
+        ensures faults { self.new.faults ≡ count_after self.old.faults }
         ensures counted { self.old.faults ≤ self.new.faults }
     {
         self.faults = self.faults.saturating_add(1);

@@ -30,6 +30,10 @@ pub trait Source {
 
         ensures counted { (reads self.old).faults ≤ (reads self.new).faults }
         ensures failed { OnErr result (ReadFails (reads self.old) (reads self.new)) };
+
+    /// How many reads have failed, up to the greatest `u64`.
+    fn faults(&self) -> u64
+        ensures { result ≡ (reads self.now).faults };
 }
 
 /// Where bytes go to. A sink that knows what was written tells it to contracts, as one in memory
@@ -54,6 +58,10 @@ pub trait Sink {
 
         ensures counted { (writes self.old).faults ≤ (writes self.new).faults }
         ensures failed { OnErr result (WriteFails (writes self.old) (writes self.new)) };
+
+    /// How many writes have failed, up to the greatest `u64`.
+    fn faults(&self) -> u64
+        ensures { result ≡ (writes self.now).faults };
 }
 
 /// A source and a sink in one, as a socket is: a read leaves what was written, and a write what is

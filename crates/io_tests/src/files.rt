@@ -4,6 +4,7 @@ use io_edge::{Files, LoadRefused, MemoryFile, MemoryFiles, RealFiles};
 use lang_base::{Bytes, Seq, Text};
 use std::fs;
 use std::process::Abort;
+use std::rt::Files as OpensFiles;
 
 // A load gives this text.
 fn gives<F: Files>(
@@ -72,15 +73,60 @@ fn loads_real_files(rt: HostRuntime) {
     equal(&rt, files.faults(), 3);
 }
 
-// A real file is loaded up to the limit, and its path is taken as it stands, with a space at its
-// end.
+// A real file is loaded up to the limit, by this path and not by the other one.
+fn loads_by(rt: &(impl Abort + AllocGlobal + OpensFiles), path: &str, other: &str) {
+    holds(rt, "written", fs::write(rt, path, "nine more").is_ok());
+    let mut files = RealFiles::new(rt.alloc(), rt);
+    gives(rt, &mut files, path, 9, "nine more");
+    refuses(rt, &mut files, path, 8, LoadRefused::TooLong);
+    refuses(rt, &mut files, other, 9, LoadRefused::Failed);
+    holds(rt, "removed", fs::remove_file(rt, path).is_ok());
+}
+
+// A path is taken as it stands, with a space at its end or at its front.
 #[test]
-fn loads_a_path_that_ends_in_a_space(rt: HostRuntime) {
-    let path = "a file of edge_tests ";
-    holds(&rt, "written", fs::write(&rt, path, "nine more").is_ok());
-    let mut files = RealFiles::new(rt.alloc(), &rt);
-    gives(&rt, &mut files, path, 9, "nine more");
-    refuses(&rt, &mut files, path, 8, LoadRefused::TooLong);
-    refuses(&rt, &mut files, path.trim_end(), 9, LoadRefused::Failed);
-    holds(&rt, "removed", fs::remove_file(&rt, path).is_ok());
+fn loads_a_path_with_a_space_at_an_end(rt: HostRuntime) {
+    loads_by(&rt, "a file of edge_tests ", "a file of edge_tests");
+    loads_by(
+        &rt,
+        " another file of edge_tests",
+        "another file of edge_tests",
+    );
+}
+
+// Lines of sixteen bytes, which differ, and one byte more.
+fn lines(rt: &(impl Abort + AllocGlobal), count: u64) -> String {
+    let mut text = String::new(rt.alloc());
+    for line in 0..count {
+        let line = format!(in rt.alloc(); "{line:15}\n").expect(rt, "memory");
+        text.push_str(&line).expect(rt, "memory");
+    }
+    text.push('.').expect(rt, "memory");
+    text
+}
+
+// A real file of so many lines and one byte comes whole.
+fn comes_whole(rt: &(impl Abort + AllocGlobal + OpensFiles), count: u64, bytes: u64) {
+    let path = "a long file of edge_tests";
+    let text = lines(rt, count);
+    equal(rt, text.len() as u64, bytes);
+    holds(rt, "written", fs::write(rt, path, text.as_bytes()).is_ok());
+    let mut files = RealFiles::new(rt.alloc(), rt);
+    gives(rt, &mut files, path, bytes, &text);
+    refuses(
+        rt,
+        &mut files,
+        path,
+        bytes.saturating_sub(1),
+        LoadRefused::TooLong,
+    );
+    equal(rt, files.faults(), 0);
+    holds(rt, "removed", fs::remove_file(rt, path).is_ok());
+}
+
+// Real files come whole where they are longer than one read or two.
+#[test]
+fn loads_files_of_several_reads(rt: HostRuntime) {
+    comes_whole(&rt, 256, 4097);
+    comes_whole(&rt, 512, 8193);
 }

@@ -1,5 +1,5 @@
 // What no clause says: that calls succeed with memory at hand, and where faults fall in mid-stream.
-ghost use Rattle.std.specs.Prelude.{◌≡◌, ◌<◌, ◌≤◌, OnOk};
+ghost use Rattle.std.specs.Prelude.{◌≡◌, ◌<◌, ◌≤◌, IfOk, OnOk};
 ghost use Rattle.std.specs.Option.{ForSome};
 ghost use Rattle.io_edge.specs.Edge.{Wrote};
 
@@ -102,8 +102,19 @@ fn echoes_a_connection(rt: HostRuntime) {
     holds(&rt, "echo", echo(rt.alloc(), &mut connection).is_ok());
     same(&rt, connection.sink.bytes(), "ask");
     fails(&rt, &mut connection, "more");
-    equal(&rt, connection.source.faults(), 0);
-    equal(&rt, connection.sink.faults(), 1);
+    equal(&rt, Source::faults(&connection), 0);
+    equal(&rt, Sink::faults(&connection), 1);
+}
+
+// A connection's read fails where its source is told to, and takes nothing.
+#[test]
+fn counts_faults_of_a_connection(rt: HostRuntime) {
+    let mut connection = MemoryConnection::new(source(&rt, "ask", 9, 1), sink(&rt, 9, 0));
+    let refused = read_all(rt.alloc(), &mut connection, 9).err();
+    holds(&rt, "fault", refused == Some(ReadRefused::Fault));
+    equal(&rt, Source::faults(&connection), 1);
+    equal(&rt, Sink::faults(&connection), 0);
+    same(&rt, connection.source.left(), "ask");
 }
 
 // A reader and a writer that fail at each call.
@@ -124,6 +135,57 @@ impl io::Write for Broken {
     fn flush(&mut self) -> io::Result<()> {
         Ok(())
     }
+}
+
+// A reader and a writer that fail once, and then read nothing and write all.
+#[derive(Drop)]
+struct FailsOnce {
+    failed: bool,
+}
+
+// An error at the first call, an interrupted one, and `then` at each later one.
+fn first_fails(failed: &mut bool, then: usize) -> io::Result<usize>
+    ensures { IfOk result (λ n. n ≡ then) }
+{
+    if *failed {
+        return Ok(then);
+    }
+    *failed = true;
+    Err(io::Error::from(io::ErrorKind::Interrupted))
+}
+
+impl io::Read for FailsOnce {
+    fn read(&mut self, _: &mut [u8]) -> io::Result<usize> {
+        first_fails(&mut self.failed, 0)
+    }
+}
+
+impl io::Write for FailsOnce {
+    fn write(&mut self, bytes: &[u8]) -> io::Result<usize> {
+        first_fails(&mut self.failed, bytes.len())
+    }
+
+    fn flush(&mut self) -> io::Result<()> {
+        Ok(())
+    }
+}
+
+// A call that failed isn't made again, an interrupted one neither: the caller is told, and decides.
+#[test]
+fn tries_no_failed_call_again(rt: HostRuntime) {
+    let mut reader = Reading::new(FailsOnce { failed: false });
+    let refused = read_all(rt.alloc(), &mut reader, 9).err();
+    holds(&rt, "read", refused == Some(ReadRefused::Fault));
+    equal(&rt, reader.faults(), 1);
+    let none = read_all(rt.alloc(), &mut reader, 9).expect(&rt, "bytes");
+    same(&rt, none.as_slice(), "");
+    equal(&rt, reader.faults(), 1);
+
+    let mut writer = Writing::new(FailsOnce { failed: false });
+    fails(&rt, &mut writer, "x");
+    equal(&rt, writer.faults(), 1);
+    writes(&rt, &mut writer, "x");
+    equal(&rt, writer.faults(), 1);
 }
 
 // The adapters pass bytes on.

@@ -28,7 +28,7 @@ pub fn seal_text(alloc: Global, secret: &[u8], bytes: &[u8]) -> Result<Text, NoM
 {
     let seal = seal(secret, bytes);
     let digits = hex::encode(alloc, seal.as_slice())?;
-    Ok(Text::from(digits))
+    Text::shared(digits)
 }
 
 // Looks at each pair of bytes, whatever the earlier ones were.

@@ -1,6 +1,7 @@
 -- Names with commas between them, cut at the first comma.
-use Rattle.std.proofs.Common.{◌≡◌, ℕ, ◌+◌, ◌<◌, ◌≤◌, Bool, true, false, ◌&&◌, cond, List, [], ◌∷◌, Option, Some, None, length, take, drop, ltb, ◌==◌, refl, ap, sym, ◌∙◌, arith}
+use Rattle.std.proofs.Common.{◌≡◌, ℕ, ◌+◌, ◌-◌, ◌<◌, ◌≤◌, Bool, true, false, ◌&&◌, cond, List, [], ◌∷◌, Option, Some, None, length, take, drop, ltb, ◌==◌, refl, ap, sym, ◌∙◌, length-drop, arith}
 use Rattle.std.specs.List.{position, position_or_len, slice_split}
+use Rattle.std.proofs.lemmas.List.{take_all}
 use Rattle.std.proofs.lemmas.List.Splits.{slice_split_first, slice_split_none}
 use Rattle.std.proofs.lemmas.Bool.Decides.{nat_tests}
 use Rattle.std.proofs.lemmas.Bool.{ltb-true}
@@ -53,3 +54,7 @@ pub chain_stops : (bytes : List ℕ) (end : ℕ) (first : Bool) → position (λ
 chain_stops bytes end first at is unnamed =
     let both : (false && is_chain (drop (end + 1) bytes)) ≡ (is_name (take end bytes) && is_chain (drop (end + 1) bytes)) = ap (λ (b : Bool). b && is_chain (drop (end + 1) bytes)) (sym unnamed ∙ is) in
     unnamed ∙ both ∙ chain_of_more bytes end at
+
+-- a slice from a place to the end, as goals write it
+pub slice_rest : (bytes : List ℕ) (at : ℕ) → take (length bytes - at) (drop at bytes) ≡ drop at bytes
+slice_rest bytes at = take_all (length bytes - at) (drop at bytes) (omega (arith, length-drop at bytes))

@@ -1,4 +1,5 @@
 mod ChainLemmas
+mod NamedLemmas
 pub mod SealLemmas
 pub mod SpeltLemmas
 pub mod WordLemmas

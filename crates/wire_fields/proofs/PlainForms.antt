@@ -1,6 +1,6 @@
 -- Texts of header fields that a line gives back as they are.
 use Rattle.std.proofs.Common.{◌≡◌, ◌⊎◌, inl, inr, ℕ, ◌<◌, ◌^◌, true, ◌&&◌, not, List, [], ◌∷◌, IsSome, length, codes, decimal, nat_eq, nat_le, ap, ◌∙◌, arith}
-use Rattle.std.specs.List.{list_all, starts_with}
+use Rattle.std.specs.List.{ends_with, list_all, starts_with}
 use Rattle.std.proofs.lemmas.Bool.Decides.{nat_tests}
 use Rattle.std.proofs.lemmas.Fmt.{decimal_nonempty}
 use Rattle.std.proofs.lemmas.List.Folds.{list_all-append}
@@ -9,7 +9,7 @@ use Rattle.lang_core.specs.Names.{is_name, is_name_byte, is_who}
 use Rattle.lang_tree.specs.Forms.{is_path}
 use Rattle.peer_seal.specs.Seal.{seal_digits}
 use Rattle.request_names.specs.Ids.{id_text}
-use Rattle.wire_fields.specs.Forms.{is_seal_digit}
+use Rattle.wire_fields.specs.Forms.{is_notifier, is_seal_digit}
 use Rattle.wire_fields.specs.Words.{lone_status, numbered_status, refusal_text}
 use Rattle.wire_fields.proofs.SealLemmas.{seal_form}
 use Rattle.wire_fields.proofs.WordLemmas.{lone_text, lone_word, numbered_text, numbered_word}
@@ -41,6 +41,11 @@ who_plain who is = visible_plain who (and_parts (not (nat_eq (length who) 0) && 
 
 pub path_plain : (path : List ℕ) → is_path path ≡ true → is_plain path ≡ true
 path_plain path is = visible_plain path (and_parts (starts_with nat_eq path (codes "/") && nat_le (length path) 1024) (list_all is_visible path) is).1
+
+pub notifier_plain : (text : List ℕ) → is_notifier text ≡ true → is_plain text ≡ true
+notifier_plain text is =
+    let framed = starts_with nat_eq text (codes "http://") && ends_with nat_eq text (codes "/aire/notify") && nat_le 20 (length text) && nat_le (length text) 83 in
+    visible_plain text (and_parts framed (list_all is_visible text) is).1
 
 -- ---- seals
 

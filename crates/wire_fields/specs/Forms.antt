@@ -3,7 +3,7 @@ use Rattle.std.specs.Prelude.{ℕ, Bool, ◌&&◌, ◌||◌, List, Option, Some,
 use Rattle.std.specs.List.{list_all, slice_split, starts_with, ends_with}
 use Rattle.std.specs.Option.{is_some}
 use Rattle.lang_core.specs.Names.{is_name, is_who}
-use Rattle.lang_base.specs.Characters.{is_digit}
+use Rattle.lang_base.specs.Characters.{is_digit, is_visible}
 use Rattle.lang_base.specs.Texts.{same_text}
 use Rattle.lang_tree.specs.Forms.{is_path}
 use Rattle.request_names.specs.Ids.{id_of}
@@ -47,10 +47,11 @@ is_seal_digit b = is_digit b || (nat_le 97 b && nat_le b 102)
 abbrev pub is_seal : List ℕ → Bool
 is_seal text = nat_eq (length text) 64 && list_all is_seal_digit text
 
--- where a service hears of new responses
+-- where a service hears of new responses: at its door, of 1 to 64 visible characters
 abbrev pub is_notifier : List ℕ → Bool
 is_notifier text =
     starts_with nat_eq text (codes "http://") && ends_with nat_eq text (codes "/aire/notify") && nat_le 20 (length text) && nat_le (length text) 83
+    && list_all is_visible text
 
 -- the text is of its header's form
 abbrev pub has_form : AireHeader → List ℕ → Bool

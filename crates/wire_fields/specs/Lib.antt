@@ -2,6 +2,7 @@ pub mod Fits
 pub mod Forms
 pub mod Heads
 pub mod Kinds
+pub mod Named
 pub mod Rows
 pub mod Sealed
 pub mod Secrets

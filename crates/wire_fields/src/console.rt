@@ -2,7 +2,9 @@
 ghost use Rattle.std.specs.Prelude.{◌≡◌};
 ghost use Rattle.wire_fields.specs.Kinds.{console_word};
 
-use lang_core::Text;
+use lang_base::both;
+use lang_core::{Copied, NoMemory, Text};
+use std::alloc::Global;
 
 /// What an operator asks for.
 #[derive(Clone, Copy, Debug, PartialEq, Eq)]
@@ -26,6 +28,17 @@ pub struct ConsoleRequest {
     /// Who asks, from 1 to 64 visible characters.
     pub who: Text,
     pub body: Text,
+}
+
+impl Copied for ConsoleRequest {
+    fn copied(&self, alloc: Global) -> Result<ConsoleRequest, NoMemory> {
+        let (who, body) = both(self.who.copied(alloc), self.body.copied(alloc))?;
+        Ok(ConsoleRequest {
+            word: self.word,
+            who,
+            body,
+        })
+    }
 }
 
 /// What the word asks for; None exactly where it is none of the ten.

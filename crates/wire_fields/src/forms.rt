@@ -86,6 +86,7 @@ fn is_notifier(bytes: &[u8]) -> bool
         && bytes.ends_with(b"/aire/notify")
         && bytes.len() >= 20
         && bytes.len() <= 83
+        && all_visible(bytes)
 }
 
 /// Whether the text is of its header's form.

@@ -7,6 +7,7 @@ mod fits;
 mod forms;
 mod heads;
 mod kinds;
+mod named;
 mod refused;
 mod rows;
 mod sealed;
@@ -20,6 +21,7 @@ pub use fits::{
 pub use forms::{has_form, kind_named, status_of};
 pub use heads::{put_field, put_id, put_number, put_sides};
 pub use kinds::{RequestKind, request_kind};
+pub use named::{ByName, Named};
 pub use refused::WireRefused;
 pub use rows::{
     ACK_HEADERS, ANSWER_HEADERS, CALL_HEADERS, CONFIRM_HEADERS, CONSOLE_HEADERS, DESIRED_HEADERS,
@@ -27,5 +29,5 @@ pub use rows::{
     first_refusal, text_at,
 };
 pub use sealed::{sealed_request, sealed_response};
-pub use secrets::{Peer, Secrets};
+pub use secrets::Secrets;
 pub use words::{refusal_of, refusal_status, refusal_text};

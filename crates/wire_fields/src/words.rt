@@ -66,7 +66,7 @@ pub fn refusal_text(alloc: Global, word: &str, number: u64) -> Result<Text, NoMe
 {
     if numbered_status(word).is_some() {
         let text = format!(in alloc; "{word} {number}")?;
-        Ok(Text::from(text))
+        Text::shared(text)
     } else {
         Text::of(alloc, word)
     }

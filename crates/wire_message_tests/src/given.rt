@@ -1,9 +1,9 @@
 // Assertions, and what the service `bank` reads, whose one peer `shop` has the secret `s`, and whose console has `c`.
 use crate::told::{message_told, refusal_told};
-use aire_wire::read_incoming;
+use aire_wire::{Incoming, read_incoming};
 use http_front::{WireRequest, read_request};
 use io_edge::MemorySource;
-use lang_core::{Name, Text};
+use lang_core::{Copied, Name, Text};
 use std::alloc::Global;
 use std::process::Abort;
 use wire_fields::Secrets;
@@ -29,30 +29,51 @@ pub struct Reader {
     console: Text,
 }
 
-fn peers(rt: &(impl Abort + AllocGlobal)) -> Secrets {
-    let shop = name(rt, "shop");
+fn peers(rt: &(impl Abort + AllocGlobal), peer: &str) -> Secrets {
+    let peer = name(rt, peer);
     let secret = text(rt, "s");
     let mut peers = Secrets::new(rt.alloc());
-    peers.add(shop, secret).expect(rt, "memory");
+    peers.add(peer, secret).expect(rt, "memory");
     peers
 }
 
-pub fn bank(rt: &(impl Abort + AllocGlobal)) -> Reader {
+/// The service `bank` with this peer.
+pub fn bank_of(rt: &(impl Abort + AllocGlobal), peer: &str) -> Reader {
     let me = name(rt, "bank");
     let console = text(rt, "c");
-    let peers = peers(rt);
+    let peers = peers(rt, peer);
     Reader { me, peers, console }
 }
 
-/// The request that these bytes are.
-pub fn request_of(alloc: Global, bytes: &[u8]) -> Option<WireRequest> {
+pub fn bank(rt: &(impl Abort + AllocGlobal)) -> Reader {
+    bank_of(rt, "shop")
+}
+
+// The request that these bytes are, as it was read.
+fn read_of(alloc: Global, bytes: &[u8]) -> Option<WireRequest> {
     let mut source = MemorySource::new(bytes.to_vec(alloc).ok()?, Vec::new(alloc));
     read_request(alloc, &mut source).ok()
 }
 
+/// A copy of the request that these bytes are.
+pub fn request_of(alloc: Global, bytes: &[u8]) -> Option<WireRequest> {
+    match read_of(alloc, bytes) {
+        Some(request) => request.copied(alloc).ok(),
+        None => None,
+    }
+}
+
+// What a copy of the message says.
+fn copy_told(alloc: Global, message: &Incoming) -> Option<String> {
+    match message.copied(alloc) {
+        Ok(copy) => message_told(alloc, &copy),
+        Err(_) => None,
+    }
+}
+
 fn told_of(alloc: Global, reader: &Reader, request: &WireRequest) -> Option<String> {
     match read_incoming(alloc, &reader.me, &reader.peers, &reader.console, request) {
-        Ok(message) => message_told(alloc, &message),
+        Ok(message) => copy_told(alloc, &message),
         Err(why) => refusal_told(alloc, why),
     }
 }

@@ -4,15 +4,31 @@ use crate::reply_given::{
 };
 use http_front::{AireHeader, WireResponse, read_response};
 use io_edge::MemorySource;
+use lang_core::Copied;
 use repair_messages::AnswerMessage;
 use std::alloc::Global;
 use wire_fields::WireRefused;
 use wire_replies::{Asking, Outgoing, read_reply};
 
-fn response(alloc: Global, text: &str) -> Option<WireResponse> {
+fn read_of(alloc: Global, text: &str) -> Option<WireResponse> {
     let bytes = text.as_bytes().to_vec(alloc).ok()?;
     let mut source = MemorySource::new(bytes, Vec::new(alloc));
     read_response(alloc, &mut source).ok()
+}
+
+// A copy of the response that the text spells.
+fn response(alloc: Global, text: &str) -> Option<WireResponse> {
+    match read_of(alloc, text) {
+        Some(response) => response.copied(alloc).ok(),
+        None => None,
+    }
+}
+
+fn copy_of(alloc: Global, reply: &Outgoing) -> Result<Outgoing, WireRefused> {
+    match reply.copied(alloc) {
+        Ok(copy) => Ok(copy),
+        Err(_) => Err(WireRefused::NoMemory),
+    }
 }
 
 fn read(
@@ -22,14 +38,20 @@ fn read(
     text: &str,
 ) -> Result<Outgoing, WireRefused> {
     match response(alloc, text) {
-        Some(response) => read_reply(
-            alloc,
-            &services.shop,
-            &services.bank,
-            &services.secret,
-            &asked,
-            &response,
-        ),
+        Some(response) => {
+            let reply = read_reply(
+                alloc,
+                &services.shop,
+                &services.bank,
+                &services.secret,
+                &asked,
+                &response,
+            );
+            match reply {
+                Ok(reply) => copy_of(alloc, &reply),
+                Err(why) => Err(why),
+            }
+        }
         None => Err(WireRefused::NoMemory),
     }
 }

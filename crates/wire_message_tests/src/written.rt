@@ -1,9 +1,9 @@
 // Requests as they are written, by their bytes, and read back by the service that they are for. The seals are those that
 // `openssl dgst -sha256 -hmac s` prints for the sealed bytes.
-use crate::given::{holds, name, reads, text};
+use crate::given::{bank_of, holds, is_told, name, reads, text};
 use aire_wire::{write_call, write_post_request};
 use http_front::{WireRequest, request_bytes};
-use lang_core::{Method, Names, NoMemory, Request, Response};
+use lang_core::{Method, Names, NoMemory, Request, Response, Text};
 use repair_messages::{AnswerMessage, Post, SetMessage};
 use std::alloc::Global;
 use std::process::Abort;
@@ -163,4 +163,72 @@ fn calls(rt: HostRuntime) {
         CALL,
         " live shop bank 3 1 - - shop shop asked POST /pay/1 shop 5",
     );
+}
+
+const LONGEST_NAME: &str = "abcdefghijklmnopqrstuvwxyz_01234";
+
+// A body of more bytes than one read takes.
+fn long_body(rt: &(impl Abort + AllocGlobal)) -> String {
+    let mut body = String::new(rt.alloc());
+    for _ in 0..4100 {
+        body.push('x').expect(rt, "memory");
+    }
+    body
+}
+
+// A call of the service with the longest name, with a long body.
+fn long_request(rt: &(impl Abort + AllocGlobal), body: Text) -> Request {
+    let mut chain = Names::new(rt.alloc());
+    chain.push(name(rt, LONGEST_NAME)).expect(rt, "memory");
+    let path = text(rt, "/pay/1");
+    let who = text(rt, "ann");
+    Request {
+        method: Method::Put,
+        path,
+        body,
+        who,
+        chain,
+    }
+}
+
+fn long_call(rt: &(impl Abort + AllocGlobal), desired: Request) -> SetMessage {
+    let caller = name(rt, LONGEST_NAME);
+    let dest = name(rt, "bank");
+    let who = text(rt, "ann");
+    SetMessage {
+        caller,
+        dest,
+        number: 3,
+        version: 1,
+        desired: Some(desired),
+        before: None,
+        after: None,
+        who,
+    }
+}
+
+// The call is written, and the service that it is for reads it so.
+fn call_reads(rt: &(impl Abort + AllocGlobal), call: &SetMessage, told: &str) {
+    let secret = text(rt, "s");
+    let notifier = text(rt, "http://127.0.0.1:8101/aire/notify");
+    let written = write_call(rt.alloc(), call, &notifier, &secret).expect(rt, "memory");
+    let bytes = request_bytes(rt.alloc(), &written).expect(rt, "memory");
+    let bank = bank_of(rt, LONGEST_NAME);
+    holds(
+        rt,
+        "long",
+        is_told(rt.alloc(), &bank, bytes.as_slice(), told),
+    );
+}
+
+#[test]
+fn a_long_body_of_a_long_name(rt: HostRuntime) {
+    let body = long_body(&rt);
+    let told = format!(in rt.alloc();
+        " live {LONGEST_NAME} bank 3 1 - - ann {LONGEST_NAME} asked PUT /pay/1 ann {body}"
+    ).expect(&rt, "memory");
+    let body = Text::shared(body).expect(&rt, "memory");
+    let request = long_request(&rt, body);
+    let call = long_call(&rt, request);
+    call_reads(&rt, &call, &told);
 }

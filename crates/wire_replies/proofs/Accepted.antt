@@ -36,9 +36,9 @@ fine head header text f = rw (f.there, f.spelt) refl
 pub said : (head : Entries FieldValue) (header : AireHeader) (text : List ℕ) → IsField head header text → text_at head header ≡ text
 said head header text f = rw (f.there, (and_parts (is_utf8 text) (has_form header text) f.spelt).0) refl
 
-pub one_more : (head : Entries FieldValue) (header : AireHeader) (others : List AireHeader) (text : List ℕ) → IsField head header text
+pub field_accepted : (head : Entries FieldValue) (header : AireHeader) (others : List AireHeader) (text : List ℕ) → IsField head header text
     → first_refusal head true others ≡ None → first_refusal head true (header ∷ others) ≡ None
-one_more head header others text f rest = rw (fine head header text f, rest) refl
+field_accepted head header others text f rest = rw (fine head header text f, rest) refl
 
 same_service : (left right name : List ℕ) → left ≡ name → right ≡ name → same_text left right ≡ true
 same_service left right name l r = rw (l, r) (text_same name)
@@ -88,5 +88,5 @@ pub accepted : (me peer secret : List ℕ) (kind : ReplyKind) (response : WireRe
 accepted me peer secret kind response from dest seal fields ids =
     none_of_five (first_refusal response.head true (reply_headers kind)) (first_refusal response.head true seal_header)
     (dest_refusal peer response.head) (ids_refusal kind response.head) (reply_seal_refusal me secret kind response)
-    fields (one_more response.head headers.Seal [] (seal_digits secret (sealed_bytes response (reply_headers kind))) seal refl)
+    fields (field_accepted response.head headers.Seal [] (seal_digits secret (sealed_bytes response (reply_headers kind))) seal refl)
     (dest_fits peer response.head dest) ids (seal_fits me secret kind response from seal)

@@ -29,8 +29,8 @@ use Rattle.wire_replies.specs.declared.kinds.ReplyKind.{ReplyKind}
 use Rattle.wire_replies.specs.declared.kinds.ReplyKind.TheVariants as kinds
 use Rattle.wire_replies.specs.declared.replies.Outgoing.{Outgoing}
 use Rattle.wire_replies.specs.declared.replies.Outgoing.TheVariants as replies
-use Rattle.wire_fields.proofs.Refusals.{neither}
-use Rattle.wire_replies.proofs.Accepted.{IsField, accepted, number_of_id, one_more, said, side_fits}
+use Rattle.wire_fields.proofs.Refusals.{first_of_none}
+use Rattle.wire_replies.proofs.Accepted.{IsField, accepted, number_of_id, field_accepted, said, side_fits}
 use Rattle.std.proofs.lemmas.Bool.{and_from}
 
 -- ---- each field as it is written
@@ -102,10 +102,10 @@ live_reads : (me peer secret : List ℕ) (i k v a : ℕ) (response : WireRespons
 live_reads me peer secret i k v a response b i_from i_small k_from k_small v_small a_small id call version answer =
     accepts (reply_refusal peer me secret kinds.Live response) (reply_in kinds.Live response) (live me peer i k v a (response_in response))
     (accepted me peer secret kinds.Live response b.from b.dest b.seal
-    (one_more response.head headers.From (headers.Dest ∷ headers.RequestId ∷ headers.ResponseId ∷ headers.Version ∷ headers.AnswerVersion ∷ []) me b.from (one_more response.head headers.Dest (headers.RequestId ∷ headers.ResponseId ∷ headers.Version ∷ headers.AnswerVersion ∷ []) peer b.dest
-    (one_more response.head headers.RequestId (headers.ResponseId ∷ headers.Version ∷ headers.AnswerVersion ∷ []) (id_text me i) id (one_more response.head headers.ResponseId (headers.Version ∷ headers.AnswerVersion ∷ []) (id_text peer k) call
-    (one_more response.head headers.Version (headers.AnswerVersion ∷ []) (decimal v) version (one_more response.head headers.AnswerVersion [] (decimal a) answer refl))))))
-    (neither (side_refusal response.head headers.RequestId headers.From) (side_refusal response.head headers.ResponseId headers.Dest)
+    (field_accepted response.head headers.From (headers.Dest ∷ headers.RequestId ∷ headers.ResponseId ∷ headers.Version ∷ headers.AnswerVersion ∷ []) me b.from (field_accepted response.head headers.Dest (headers.RequestId ∷ headers.ResponseId ∷ headers.Version ∷ headers.AnswerVersion ∷ []) peer b.dest
+    (field_accepted response.head headers.RequestId (headers.ResponseId ∷ headers.Version ∷ headers.AnswerVersion ∷ []) (id_text me i) id (field_accepted response.head headers.ResponseId (headers.Version ∷ headers.AnswerVersion ∷ []) (id_text peer k) call
+    (field_accepted response.head headers.Version (headers.AnswerVersion ∷ []) (decimal v) version (field_accepted response.head headers.AnswerVersion [] (decimal a) answer refl))))))
+    (first_of_none (side_refusal response.head headers.RequestId headers.From) (side_refusal response.head headers.ResponseId headers.Dest)
     (side_fits response.head headers.RequestId headers.From me i b.my_name i_from i_small id b.from)
     (side_fits response.head headers.ResponseId headers.Dest peer k b.peer_name k_from k_small call b.dest)))
     (same_live me peer (text_at response.head headers.From) (text_at response.head headers.Dest) i k v a
@@ -132,8 +132,8 @@ ack_reads : (me peer secret : List ℕ) (k v : ℕ) (response : WireResponse) �
 ack_reads me peer secret k v response b k_from k_small v_small call version =
     accepts (reply_refusal peer me secret kinds.Ack response) (reply_in kinds.Ack response) (acked me peer k v)
     (accepted me peer secret kinds.Ack response b.from b.dest b.seal
-    (one_more response.head headers.From (headers.Dest ∷ headers.ResponseId ∷ headers.Version ∷ []) me b.from (one_more response.head headers.Dest (headers.ResponseId ∷ headers.Version ∷ []) peer b.dest
-    (one_more response.head headers.ResponseId (headers.Version ∷ []) (id_text peer k) call (one_more response.head headers.Version [] (decimal v) version refl))))
+    (field_accepted response.head headers.From (headers.Dest ∷ headers.ResponseId ∷ headers.Version ∷ []) me b.from (field_accepted response.head headers.Dest (headers.ResponseId ∷ headers.Version ∷ []) peer b.dest
+    (field_accepted response.head headers.ResponseId (headers.Version ∷ []) (id_text peer k) call (field_accepted response.head headers.Version [] (decimal v) version refl))))
     (side_fits response.head headers.ResponseId headers.Dest peer k b.peer_name k_from k_small call b.dest))
     (same_ack me peer (text_at response.head headers.From) (text_at response.head headers.Dest) k v
     (number_in (text_at response.head headers.ResponseId)) (version_at response.head headers.Version)
@@ -157,8 +157,8 @@ confirm_reads : (me peer secret : List ℕ) (k a : ℕ) (response : WireResponse
 confirm_reads me peer secret k a response b k_from k_small a_small call version =
     accepts (reply_refusal peer me secret kinds.Confirm response) (reply_in kinds.Confirm response) (confirmed me peer k a)
     (accepted me peer secret kinds.Confirm response b.from b.dest b.seal
-    (one_more response.head headers.From (headers.Dest ∷ headers.ResponseId ∷ headers.AnswerVersion ∷ []) me b.from (one_more response.head headers.Dest (headers.ResponseId ∷ headers.AnswerVersion ∷ []) peer b.dest
-    (one_more response.head headers.ResponseId (headers.AnswerVersion ∷ []) (id_text me k) call (one_more response.head headers.AnswerVersion [] (decimal a) version refl))))
+    (field_accepted response.head headers.From (headers.Dest ∷ headers.ResponseId ∷ headers.AnswerVersion ∷ []) me b.from (field_accepted response.head headers.Dest (headers.ResponseId ∷ headers.AnswerVersion ∷ []) peer b.dest
+    (field_accepted response.head headers.ResponseId (headers.AnswerVersion ∷ []) (id_text me k) call (field_accepted response.head headers.AnswerVersion [] (decimal a) version refl))))
     (side_fits response.head headers.ResponseId headers.From me k b.my_name k_from k_small call b.from))
     (same_confirm me peer (text_at response.head headers.From) (text_at response.head headers.Dest) k a
     (number_in (text_at response.head headers.ResponseId)) (version_at response.head headers.AnswerVersion)
@@ -177,8 +177,8 @@ refusal_reads : (me peer secret word text : List ℕ) (n : ℕ) (response : Wire
 refusal_reads me peer secret word text n response b is refused =
     accepts (reply_refusal peer me secret kinds.Refusal response) (reply_in kinds.Refusal response) (replies.Refused word n)
     (accepted me peer secret kinds.Refusal response b.from b.dest b.seal
-    (one_more response.head headers.From (headers.Dest ∷ headers.Refused ∷ []) me b.from (one_more response.head headers.Dest (headers.Refused ∷ []) peer b.dest
-    (one_more response.head headers.Refused [] text refused refl)))
+    (field_accepted response.head headers.From (headers.Dest ∷ headers.Refused ∷ []) me b.from (field_accepted response.head headers.Dest (headers.Refused ∷ []) peer b.dest
+    (field_accepted response.head headers.Refused [] text refused refl)))
     refl)
     (named_so (refusal_of (text_at response.head headers.Refused)) word n
     (ap refusal_of (said response.head headers.Refused text refused) ∙ is))

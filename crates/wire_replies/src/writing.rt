@@ -1,5 +1,5 @@
 // Replies, written.
-ghost use Rattle.std.specs.Prelude.{◌≡◌, ◌<◌, ◌^◌, [], ◌∷◌, Some, OnOk, IfOk};
+ghost use Rattle.std.specs.Prelude.{◌≡◌, ◌<◌, ◌^◌, [], ◌∷◌, Some, OnOk, IfOk, IsUtf8};
 ghost use Rattle.std.specs.Option.{ForSome, option_copied};
 ghost use Rattle.wire_fields.specs.Words.{refusal_text};
 ghost use Rattle.wire_replies.specs.Sent.{BytesReadBack};
@@ -7,7 +7,7 @@ ghost use Rattle.wire_replies.specs.Writing.{AreNumbers, IsFor, ReadsBack, ack_f
 ghost use Rattle.wire_fields.specs.Heads.{with_fields};
 
 use crate::replies::Outgoing;
-use http_front::{AIRE_HEADERS, AireHeader, WireResponse};
+use http_front::{AIRE_HEADERS, AireHeader, WireResponse, is_text};
 use http_header::HeaderMap;
 use lang_core::{Name, NoMemory, RequestId, Text};
 use peer_seal::seal_text;
@@ -118,6 +118,13 @@ fn reply_body(reply: &Outgoing) -> &str
         Outgoing::Answered { response, .. } => response.body.as_str(),
         Outgoing::Ack(_) | Outgoing::Confirm(_) | Outgoing::Refused { .. } => "",
     }
+}
+
+// Says to the proof that the body of a reply is UTF-8, as each text is.
+fn reply_text(reply: &Outgoing)
+    ensures { IsUtf8 (reply_body reply.now) }
+{
+    is_text(reply_body(reply));
 }
 
 // A response with no fields.
@@ -248,6 +255,7 @@ pub fn write_reply(
         None => open_reply(alloc, reply),
         Some(peer) => {
             numbers(reply);
+            reply_text(reply);
             sealed_reply(alloc, me.text(), peer.text(), reply, secret)
         }
     }

@@ -1,14 +1,14 @@
 // Header fields of messages between services: their forms, the first that is refused, what is sealed.
 use http_front::{AireHeader, WireRequest};
 use http_header::{HeaderMap, HeaderName, HeaderValue};
-use lang_core::{Name, Text};
+use lang_core::{Copied, Name, Text};
 use lang_tree::Method;
 use peer_seal::check;
 use std::alloc::Global;
 use std::process::Abort;
 use wire_fields::{
     CALL_HEADERS, CONSOLE_HEADERS, ConsoleWord, RequestKind, Secrets, WireRefused, first_refusal,
-    has_form, request_kind, sealed_request,
+    has_form, refusal_status, request_kind, sealed_request,
 };
 
 // Whether each of these texts has the header's form, or none of them has.
@@ -65,7 +65,12 @@ fn forms_of_fields(rt: HostRuntime) {
     forms(
         &rt,
         AireHeader::NotifierUrl,
-        &["http://127.0.0.1:8101/aire/notify", "http://x/aire/notify"],
+        &[
+            "http://127.0.0.1:8101/aire/notify",
+            "http://x/aire/notify",
+            "http://~!/aire/notify",
+            "http://abcdefghijklmnopqrstuvwxyz0123456789abcdefghijklmnopqrstuvwxyz01/aire/notify",
+        ],
         true,
     );
     forms(
@@ -77,6 +82,11 @@ fn forms_of_fields(rt: HostRuntime) {
             "https://x/aire/notify",
             "http://x/aire/notify/",
             "x/aire/notify",
+            "http://a b/aire/notify",
+            "http://a\tb/aire/notify",
+            "http:// /aire/notify",
+            "http://\u{e9}/aire/notify",
+            "http://abcdefghijklmnopqrstuvwxyz0123456789abcdefghijklmnopqrstuvwxyz012/aire/notify",
         ],
         false,
     );
@@ -165,6 +175,47 @@ fn forms_of_fields(rt: HostRuntime) {
         ],
         false,
     );
+}
+
+// So many names of one letter, with commas between them.
+fn long_chain(rt: &(impl Abort + AllocGlobal), names: u64) -> String {
+    let mut chain = String::from_str(rt.alloc(), "a").expect(rt, "memory");
+    for _ in 1..names {
+        chain.push_str(",a").expect(rt, "memory");
+    }
+    chain
+}
+
+// A long chain, and one whose last name is none.
+#[test]
+fn long_chains(rt: HostRuntime) {
+    let chain = long_chain(&rt, 100);
+    assert!(rt; has_form(AireHeader::Chain, &chain));
+    let mut ill = long_chain(&rt, 100);
+    ill.push_str(",A").expect(&rt, "memory");
+    assert!(rt; !has_form(AireHeader::Chain, &ill));
+}
+
+fn statuses(rt: &impl Abort, status: u16, words: &[&str]) {
+    for word in words {
+        assert!(rt; refusal_status(word) == status, "{word}");
+    }
+}
+
+// The status of each word, and of one that is none of them.
+#[test]
+fn statuses_of_refusals(rt: HostRuntime) {
+    statuses(&rt, 400, &["head", "headlong", "length", "text"]);
+    statuses(&rt, 413, &["body"]);
+    statuses(&rt, 501, &["coding", "method"]);
+    statuses(&rt, 400, &["missing", "bad", "kind"]);
+    statuses(&rt, 403, &["seal", "denied"]);
+    statuses(&rt, 404, &["unknown", "nosuchrequest"]);
+    statuses(&rt, 409, &["notyet", "notoutside", "notheld"]);
+    statuses(&rt, 410, &["gone"]);
+    statuses(&rt, 507, &["full"]);
+    statuses(&rt, 503, &["nomemory"]);
+    statuses(&rt, 500, &["", "Head", "heads"]);
 }
 
 fn put(alloc: Global, head: &mut HeaderMap, name: &str, value: &str) -> bool {
@@ -351,20 +402,41 @@ fn an_operators_seal(rt: HostRuntime) {
 }
 
 fn has_secret(secrets: &Secrets, name: &str, secret: &str) -> bool {
-    match secrets.peer(name) {
-        Some(peer) => peer.secret.as_str() == secret,
+    match secrets.get(name) {
+        Some(found) => found.as_str() == secret,
         None => false,
     }
 }
 
+fn add_secret(
+    rt: &(impl Abort + AllocGlobal),
+    secrets: &mut Secrets,
+    peer: &str,
+    secret: &str,
+    added: bool,
+) {
+    let peer = name(rt, peer);
+    let secret = text(rt, secret);
+    assert!(rt; secrets.add(peer, secret) == Ok(added));
+}
+
+fn stands_at(secrets: &Secrets, place: u64, name: &str, secret: &str) -> bool {
+    match secrets.at(place) {
+        Some(peer) => peer.name.as_str() == name && peer.value.as_str() == secret,
+        None => false,
+    }
+}
+
+// A name is added once; a copy has the same names and secrets.
 #[test]
 fn secrets(rt: HostRuntime) {
     let mut secrets = Secrets::new(rt.alloc());
-    let bank = name(&rt, "bank");
-    let first = text(&rt, "s");
-    assert!(rt; secrets.add(bank, first) == Ok(true));
-    let bank = name(&rt, "bank");
-    let second = text(&rt, "t");
-    assert!(rt; secrets.add(bank, second) == Ok(false));
-    assert!(rt; has_secret(&secrets, "bank", "s") && secrets.peer("shop").is_none());
+    add_secret(&rt, &mut secrets, "bank", "s", true);
+    add_secret(&rt, &mut secrets, "bank", "t", false);
+    add_secret(&rt, &mut secrets, "desk", "s", true);
+    let copy = secrets.copied(rt.alloc()).expect(&rt, "memory");
+    add_secret(&rt, &mut secrets, "shop", "u", true);
+    assert!(rt; has_secret(&copy, "bank", "s") && copy.get("shop").is_none());
+    assert!(rt; stands_at(&copy, 0, "bank", "s") && stands_at(&copy, 1, "desk", "s"));
+    assert!(rt; copy.len() == 2 && copy.at(2).is_none() && secrets.len() == 3);
 }

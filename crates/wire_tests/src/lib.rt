@@ -5,7 +5,11 @@
 #[cfg(test)]
 mod fields;
 #[cfg(test)]
+mod given;
+#[cfg(test)]
 mod reading;
+#[cfg(test)]
+mod responses;
 #[cfg(test)]
 mod seals;
 #[cfg(test)]

@@ -1,6 +1,7 @@
 // What each request's bytes are read as, worked by hand: the request and what is left behind it, or the refusal.
+use crate::given::{filled, front, with_body, with_fields, with_value};
 use http_front::{FrontRefused, read_request};
-use io_edge::MemorySource;
+use io_edge::{MemorySource, Source};
 use lang_tree::Method;
 use std::alloc::Global;
 use std::test::Fail;
@@ -296,44 +297,24 @@ fn cut_at_each_byte(rt: HostRuntime) {
     );
 }
 
-// A head with so many bytes in the value of its one field.
-fn with_value(alloc: Global, bytes: usize) -> Result<Vec<u8>, Fail> {
-    let mut head = b"GET /a HTTP/1.1\r\nA:".to_vec(alloc)?;
-    for _ in 0..bytes {
-        head.push(b'x')?;
-    }
-    head.extend_from_slice(b"\r\n\r\n")?;
-    Ok(head)
-}
+const GET: &str = "GET /a HTTP/1.1";
 
-fn front(bytes: &[u8], count: usize) -> &[u8] {
-    if count <= bytes.len() {
-        &bytes[..count]
-    } else {
-        bytes
-    }
-}
+const PUT: &str = "PUT /a HTTP/1.1";
 
 // The start of the first head is 19 bytes, and its end 4.
 #[test]
 fn long_heads(rt: HostRuntime) -> Result<(), Fail> {
     let alloc = rt.alloc();
-    let longest = with_value(alloc, 16361)?;
+    let longest = with_value(alloc, GET, 16361)?;
     assert!(rt; read_in_pieces(alloc, 4096, &longest, Method::Get, "/a", "", b""));
-    let longer = with_value(alloc, 16362)?;
+    let longer = with_value(alloc, GET, 16362)?;
     assert!(rt; refused(alloc, &longer, FrontRefused::HeadTooLong, b"\n"));
     assert!(rt; refused(alloc, front(&longer, 16384), FrontRefused::HeadTooLong, b""));
     assert!(rt; refused(alloc, front(&longer, 16383), FrontRefused::Cut(16383), b""));
+    let blank = filled(alloc, b'\n', 16385)?;
+    assert!(rt; refused(alloc, &blank, FrontRefused::HeadTooLong, b"\n"));
+    assert!(rt; refused(alloc, front(&blank, 16383), FrontRefused::Cut(16383), b""));
     Ok(())
-}
-
-fn with_fields(alloc: Global, fields: usize) -> Result<Vec<u8>, Fail> {
-    let mut head = b"GET /a HTTP/1.1\r\n".to_vec(alloc)?;
-    for _ in 0..fields {
-        head.extend_from_slice(b"A: x\r\n")?;
-    }
-    head.extend_from_slice(b"\r\n")?;
-    Ok(head)
 }
 
 fn with_path(alloc: Global, bytes: usize) -> Result<Vec<u8>, Fail> {
@@ -343,14 +324,6 @@ fn with_path(alloc: Global, bytes: usize) -> Result<Vec<u8>, Fail> {
     }
     head.extend_from_slice(b" HTTP/1.1\r\n\r\n")?;
     Ok(head)
-}
-
-fn with_body(alloc: Global, bytes: usize) -> Result<Vec<u8>, Fail> {
-    let mut message = b"PUT /a HTTP/1.1\r\nContent-Length: 65536\r\n\r\n".to_vec(alloc)?;
-    for _ in 0..bytes {
-        message.push(b'b')?;
-    }
-    Ok(message)
 }
 
 fn is_read(alloc: Global, bytes: &[u8], left: &[u8]) -> bool {
@@ -364,15 +337,22 @@ fn is_read(alloc: Global, bytes: &[u8], left: &[u8]) -> bool {
 #[test]
 fn limits(rt: HostRuntime) -> Result<(), Fail> {
     let alloc = rt.alloc();
-    assert!(rt; is_read(alloc, &with_fields(alloc, 64)?, b""));
-    assert!(rt; refused(alloc, &with_fields(alloc, 65)?, FrontRefused::BadHead, b""));
-    assert!(rt; is_read(alloc, &with_path(alloc, 1023)?, b""));
-    assert!(rt; refused(alloc, &with_path(alloc, 1024)?, FrontRefused::BadHead, b""));
-    assert!(rt; is_read(alloc, &with_body(alloc, 65537)?, b"b"));
+    assert!(rt; is_read(alloc, &with_fields(alloc, GET, 64)?, b""));
     assert!(rt;
         refused(
             alloc,
-            &with_body(alloc, 65535)?,
+            &with_fields(alloc, GET, 65)?,
+            FrontRefused::BadHead,
+            b""
+        )
+    );
+    assert!(rt; is_read(alloc, &with_path(alloc, 1023)?, b""));
+    assert!(rt; refused(alloc, &with_path(alloc, 1024)?, FrontRefused::BadHead, b""));
+    assert!(rt; is_read(alloc, &with_body(alloc, PUT, 65537)?, b"b"));
+    assert!(rt;
+        refused(
+            alloc,
+            &with_body(alloc, PUT, 65535)?,
             FrontRefused::Cut(65577),
             b""
         )

@@ -1,10 +1,10 @@
 // Messages by their bytes, written and read.
 use http_front::{
     FrontRefused, WireRequest, WireResponse, WriteRefused, read_request, read_response,
-    request_bytes, response_bytes, write_response,
+    request_bytes, response_bytes, write_request, write_response,
 };
 use http_header::{HeaderMap, HeaderName, HeaderValue};
-use io_edge::{MemorySink, MemorySource};
+use io_edge::{MemorySink, MemorySource, Sink};
 use lang_base::Text;
 use lang_tree::Method;
 use std::alloc::Global;
@@ -241,8 +241,31 @@ fn a_write_that_fails(rt: HostRuntime) -> Result<(), Fail> {
     let mut sink = MemorySink::in_pieces(alloc, 10, vec![in alloc; 2]?);
     assert!(rt; write_response(alloc, &mut sink, &response) == Err(WriteRefused::WriteFault));
     assert_eq!(rt; sink.bytes(), b"HTTP/1.1 4".as_slice());
+    assert_eq!(rt; sink.faults(), 1);
     let mut sink = MemorySink::new(alloc, Vec::new(alloc));
     assert!(rt; write_response(alloc, &mut sink, &response).is_ok());
     assert_eq!(rt; sink.bytes(), NOT_FOUND.as_bytes());
+    Ok(())
+}
+
+// A request is written as its bytes, and a front of them where a write fails.
+#[test]
+fn a_request_is_written(rt: HostRuntime) -> Result<(), Fail> {
+    let alloc = rt.alloc();
+    let request = WireRequest {
+        method: Method::Put,
+        path: Text::of(alloc, "/n/a")?,
+        head: HeaderMap::new(alloc),
+        body: Text::of(alloc, "hi")?,
+    };
+    let mut sink = MemorySink::in_pieces(alloc, 10, Vec::new(alloc));
+    assert!(rt; write_request(alloc, &mut sink, &request).is_ok());
+    assert_eq!(rt;
+        sink.bytes(),
+        b"PUT /n/a HTTP/1.1\r\nContent-Length: 2\r\nConnection: close\r\n\r\nhi".as_slice()
+    );
+    let mut sink = MemorySink::in_pieces(alloc, 10, vec![in alloc; 1]?);
+    assert!(rt; write_request(alloc, &mut sink, &request) == Err(WriteRefused::WriteFault));
+    assert_eq!(rt; sink.bytes(), b"".as_slice());
     Ok(())
 }

@@ -15,4 +15,4 @@ pub returns-in-Some-clause-bytes_read_back : goal.returns-in-Some-clause-bytes_r
 returns-in-Some-clause-bytes_read_back c =
     of_result c.call_asking.result (call_asking c.args.set.now c.args.notifier.now c.args.secret.now c.in-Some.request)
     (CallBytesReadBack c.args.set.now c.args.notifier.now c.args.secret.now) c.call_asking.ensures
-    (call_bytes c.args.set.now c.args.notifier.now c.args.secret.now c.in-Some.request c.in-Some.is)
+    (call_bytes c.args.set.now c.args.notifier.now c.args.secret.now c.in-Some.request c.in-Some.is c.set_text.ensures)

@@ -26,10 +26,10 @@ pub returns-in-Set-clause-bytes_read_back : goal.returns-in-Set-clause-bytes_rea
 returns-in-Set-clause-bytes_read_back c =
     subst (λ (post : Post). IfOk c.write_set.result (PostBytesReadBack post c.args.secret.now)) (sym c.in-Set.is)
     (of_result c.write_set.result (written_set c.in-Set.set c.args.secret.now) (PostBytesReadBack (Set c.in-Set.set) c.args.secret.now) c.write_set.ensures
-    (set_bytes c.in-Set.set c.args.secret.now))
+    (set_bytes c.in-Set.set c.args.secret.now c.set_text.ensures))
 
 pub returns-in-Answer-clause-bytes_read_back : goal.returns-in-Answer-clause-bytes_read_back
 returns-in-Answer-clause-bytes_read_back c =
     subst (λ (post : Post). IfOk c.write_answer.result (PostBytesReadBack post c.args.secret.now)) (sym c.in-Answer.is)
     (of_result c.write_answer.result (written_answer c.in-Answer.answer c.args.secret.now) (PostBytesReadBack (Answer c.in-Answer.answer) c.args.secret.now) c.write_answer.ensures
-    (answer_bytes c.in-Answer.answer c.args.secret.now))
+    (answer_bytes c.in-Answer.answer c.args.secret.now c.answer_text.ensures))

@@ -1,6 +1,5 @@
 use Rattle.std.proofs.Common.{◌∙◌, sym}
-use Rattle.io_edge.proofs.Pieces.{slice_rest}
-use Rattle.wire_fields.proofs.ChainLemmas.{chain_of_one, chain_goes_on, chain_stops}
+use Rattle.wire_fields.proofs.ChainLemmas.{chain_of_one, chain_goes_on, chain_stops, slice_rest}
 use Rattle.wire_fields.proofs.forms.+is_chain.Goals as goal
 
 pub returns-in-None : goal.returns-in-None

@@ -21,5 +21,5 @@ returns-in-Some-clause-bytes_read_back c =
     for_ok _ _ c.sealed_reply.result c.sealed_reply.ensures
     (λ response is.
     bytes_of c.args.me.now c.in-Some.peer.now c.text.result.now c.text-in-Some.result.now c.args.secret.now (option_copied c.args.to)
-    c.args.reply.now response c.text.ensures.name c.text-in-Some.ensures.name c.numbers.ensures c.requires
+    c.args.reply.now response c.text.ensures.name c.text-in-Some.ensures.name c.numbers.ensures c.reply_text.ensures c.requires
     (ap option_copied c.in-Some.is) c.text.ensures.text c.text-in-Some.ensures.text is)
