@@ -12,12 +12,6 @@ script_of() {
     done
 }
 
-# The most memory in KiB that a run of this script has at once.
-peak_of() {
-    "$timer" -f %M -o "$folder/peak" "$program" run @notes "$1" >"$folder/told"
-    cat "$folder/peak"
-}
-
 first=
 for ((n = 1000; n <= most; n *= 2)); do
     script_of "$n" >"$folder/asks"
@@ -27,7 +21,7 @@ for ((n = 1000; n <= most; n *= 2)); do
     echo "$n requests: $each ms each, ratio to the first $(ratio "$each" "$first")"
 done
 
-timer=$(type -P time) || exit 0
+[ -n "$timer" ] || exit 0
 script_of $((most / 4)) >"$folder/quarter"
 script_of "$most" >"$folder/asks"
 bytes=$((($(peak_of "$folder/asks") - $(peak_of "$folder/quarter")) * 1024 / (most * 3 / 4)))

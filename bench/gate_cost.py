@@ -5,7 +5,7 @@
 
 It looks at the running provers four times a second and adds up the processor time that each has used, by the crate
 and by what it was started for: `proof` is the crate alone, `tests` the crate with its tests, `edits` a wrong body or
-the check that its crate's wrong bodies begin with. A prover that ends between two looks loses a quarter of a second.
+the check that its crate's wrong bodies begin with, where it has any in the gate. A prover that ends between two looks loses a quarter of a second.
 """
 import os
 import re
@@ -44,7 +44,9 @@ def provers(of):
             above = int(found[above][1][1])
         if above == of:
             crate = words[words.index("--crate-name") + 1]
-            kind = "edits" if words[1] == "check" else "tests" if "--test" in words else "proof"
+            # a program without wrong bodies is proved by such a check too
+            is_edit = words[1] == "check" and os.path.isdir(f"crates/{crate}/must-fail")
+            kind = "edits" if is_edit else "tests" if "--test" in words else "proof"
             # the start time keeps two processes of one number apart
             yield (name, told[19]), crate, kind, (int(told[11]) + int(told[12])) / TICKS
 

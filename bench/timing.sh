@@ -24,3 +24,10 @@ less() {
 ratio() {
     echo "$1 $2" | awk '{ printf "%.3f", $1 / $2 }'
 }
+
+# The most memory in KiB that a run of this script in @notes has at once, by GNU time.
+timer=$(type -P time) || timer=
+peak_of() {
+    "$timer" -f %M -o "$folder/peak" "$program" run @notes "$1" >"$folder/told"
+    cat "$folder/peak"
+}

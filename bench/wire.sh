@@ -1,6 +1,7 @@
 #!/usr/bin/env bash
 # Reading and writing one call with a body of 1 KB and of 64 KB, with its seal: requests by second on one processor, and
-# the time of each beside that of the hash alone over the same bytes.
+# the time of each beside that of the hash alone over the same bytes. And the instructions, counted by valgrind's callgrind, of
+# reading 16,384 line feeds, which are no head, beside those of 16,384 letters, which are none either: at most twice as many.
 #
 # No program of the repository reads messages yet, so one is made here, outside of it: the crates that it stands on are
 # copied, and it is proved and run.
@@ -39,7 +40,7 @@ cat >"$folder/crates/wire_run/src/main.rt" <<'END'
 
 use aire_wire::{read_incoming, write_call};
 use http_front::{WireRequest, read_request, request_bytes};
-use io_edge::MemorySource;
+use io_edge::{MemorySource, Reading, read_all};
 use lang_core::{Method, Name, Names, NoMemory, Request, Text};
 use repair_messages::SetMessage;
 use sha2::{Digest, Sha256};
@@ -262,16 +263,34 @@ fn measured(rt: &(impl Clock + Print), alloc: Global, size: u64, times: u64) {
     }
 }
 
+// The input as a request: whether it is one.
+fn is_request(alloc: Global, bytes: Vec<u8>) -> bool {
+    let mut source = MemorySource::new(bytes, Vec::new(alloc));
+    read_request(alloc, &mut source).is_ok()
+}
+
+/// Measures calls where the input is empty, and else reads it as a request.
 fn main(rt: HostRuntime) -> ExitCode {
     let alloc = rt.alloc();
-    measured(&rt, alloc, 1024, 20000);
-    measured(&rt, alloc, 65536, 1000);
-    ExitCode::from(0)
+    match read_all(alloc, &mut Reading::new(rt.reader()), 100000) {
+        Ok(input) if !input.is_empty() => {
+            if is_request(alloc, input) {
+                ExitCode::from(0)
+            } else {
+                ExitCode::from(2)
+            }
+        }
+        _ => {
+            measured(&rt, alloc, 1024, 20000);
+            measured(&rt, alloc, 65536, 1000);
+            ExitCode::from(0)
+        }
+    }
 }
 END
 
 cd "$folder/crates/wire_run"
-rt run >"$folder/told" 2>"$folder/log" || { tail -n 40 "$folder/log" "$folder/told" >&2; exit 1; }
+rt run </dev/null >"$folder/told" 2>"$folder/log" || { tail -n 40 "$folder/log" "$folder/told" >&2; exit 1; }
 awk '
     $1 != "hashed" && $4 != $3 { print "not each call was " $1; bad = 1; exit 1 }
     { nanoseconds[$1, $2] = $5; times[$2] = $3 }
@@ -286,3 +305,26 @@ awk '
             printf "a call read takes %.2f of its hash, one written %.2f\n", beside("read", size), beside("written", size)
         }
     }' "$folder/told"
+
+command -v valgrind >/dev/null || {
+    echo "wire.sh: valgrind isn't here, so no instructions are counted" >&2
+    exit 0
+}
+
+# So many times this byte.
+bytes() { head -c "$1" /dev/zero | tr '\0' "$2"; }
+
+# The instructions of reading what stands on the input as a request.
+count() {
+    { valgrind --tool=callgrind --callgrind-out-file=/dev/null out/wire_run 2>&1 || true; } |
+        sed -n 's/.*Collected : *//p'
+}
+
+none=$(bytes 1 x | count)
+letters=$(bytes 16384 x | count)
+feeds=$(bytes 16384 '\n' | count)
+echo "$none $letters $feeds" | awk '{
+    ratio = ($3 - $1) / ($2 - $1)
+    printf "16384 line feeds take %.2f of the instructions of 16384 letters, %d of %d\n", ratio, $3 - $1, $2 - $1
+    exit ratio > 2
+}'
