@@ -4,6 +4,8 @@ ghost use Rattle.std.specs.List.{slice_range};
 ghost use Rattle.std.specs.List.Sorted.{IsPartitionPoint};
 ghost use Rattle.lang_lists.specs.Ages.{is_before, of_code, IsRising};
 
+use crate::halves::count_front;
+
 /// What waits: for whom, since when, and which it is.
 #[derive(Clone, Copy, PartialEq, Eq)]
 pub struct AgeKey {
@@ -29,7 +31,7 @@ pub(crate) fn count_before(keys: &[AgeKey], key: AgeKey) -> usize
     ensures within { result ≤ length keys.now }
     ensures parted { IsPartitionPoint (λ k. is_before k key ≡ true) (λ k. is_before k key ≡ false) keys.now result }
 {
-    keys.partition_point(|other| is_before(other, &key))
+    count_front(keys, |other| is_before(other, &key))
 }
 
 // How many keys have a lower code.
@@ -38,7 +40,7 @@ fn count_below(keys: &[AgeKey], code: u64) -> usize
     ensures within { result ≤ length keys.now }
     ensures parted { IsPartitionPoint (λ k. nat_lt k.code code ≡ true) (λ k. nat_lt k.code code ≡ false) keys.now result }
 {
-    keys.partition_point(|key| key.code < code)
+    count_front(keys, |key| key.code < code)
 }
 
 // How many keys have this code or a lower one.
@@ -47,7 +49,7 @@ fn count_to(keys: &[AgeKey], code: u64) -> usize
     ensures within { result ≤ length keys.now }
     ensures parted { IsPartitionPoint (λ k. nat_le k.code code ≡ true) (λ k. nat_le k.code code ≡ false) keys.now result }
 {
-    keys.partition_point(|key| key.code <= code)
+    count_front(keys, |key| key.code <= code)
 }
 
 fn part(keys: &[AgeKey], start: usize, end: usize) -> &[AgeKey]
