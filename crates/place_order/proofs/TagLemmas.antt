@@ -1,15 +1,17 @@
 -- What tags that rise along a list say of places, and what keeps them rising.
-use Rattle.std.proofs.Common.{◌≡◌, ◌≢◌, ℕ, ◌+◌, ◌-◌, ◌*◌, ◌<◌, ◌≤◌, List, [], ◌∷◌, ◌++◌, length, get_or, set, refl, sym, ap, ◌∙◌, subst, inl, inr, arith, length-append, get_or-set_same, get_or-set_other, eq-eqb}
+use Rattle.std.proofs.Common.{◌≡◌, ◌≢◌, true, false, nat_lt, ℕ, ◌+◌, ◌-◌, ◌*◌, ◌<◌, ◌≤◌, List, [], ◌∷◌, ◌++◌, length, get_or, set, refl, sym, ap, ◌∙◌, subst, inl, inr, arith, length-append, get_or-set_same, get_or-set_other, eq-eqb}
 use Rattle.std.specs.declared.cmp.Ordering.{Ordering}
 use Rattle.std.specs.declared.cmp.Ordering.TheVariants.{Less, Equal, Greater}
 use Rattle.std.specs.Ordering.{nat_cmp, MatchOrdering}
 use Rattle.std.specs.Cmp.{nat_cmp_is}
 use Rattle.std.specs.List.{Contains, insert}
+use Rattle.std.specs.List.Sorted.{IsPartitionedBy, IsPartitionPoint}
 use Rattle.std.proofs.Math.Dec.{eqb}
 use Rattle.std.proofs.lemmas.Cmp.{ranked}
-use Rattle.std.proofs.lemmas.Bool.{ne_eqb, cases_lt, cases_order, lt-ltb, le-ltb}
+use Rattle.std.proofs.lemmas.Bool.{ne_eqb, cases_lt, cases_order, lt-ltb, le-ltb, ltb-true, ltb-false}
 use Rattle.std.proofs.lemmas.List.{get_or_default, get_or_append_left, get_or_at}
 use Rattle.std.proofs.lemmas.List.Sums.{position_or_len_is}
+use Rattle.std.proofs.lemmas.List.Sorted.{IsPartitionedBy-ltb, IsNonDecreasingBy-from_default}
 use Rattle.std.proofs.lemmas.List.Edits.{length-insert, get_or-insert_below, get_or-insert_at, get_or-insert_above}
 use Rattle.place_order.specs.Labels.{place_in, IsNew}
 use Rattle.place_order.specs.Tags.{tag_of, tag_at, even_tag, IsTagged, IsBetween}
@@ -73,20 +75,29 @@ module _ (labels tags : List ℕ) (t : IsTagged labels tags) where
         | inr ge ↦ (let e : i ≡ j = omega arith in let same = ap (tag_at labels tags) e in omega arith)
       ]
 
-  -- a search by halves goes on above what is below the label
-  pub found_above : (i label : ℕ) → Contains labels label → i < length labels → tag_at labels tags i < tag_of tags label → i < place_in labels label
-  found_above i label there within lt =
-      elim (cases_lt i (place_in labels label)) [
-        | inl is ↦ is
-        | inr ge ↦ (let r = climbs (place_in labels label) i ge within in let e = tag_is label there in omega arith)
-      ]
+  -- each label of the list has a tag
+  pub has_tag : (label : ℕ) → Contains labels label → label < length tags
+  has_tag label there =
+      let s = stands label there in
+      let P : ℕ → Type 0 = λ l. l < length tags in
+      subst P s.1 (t.known (place_in labels label) s.0)
 
-  -- and else not above it
-  pub found_below : (i label : ℕ) → Contains labels label → tag_of tags label ≤ tag_at labels tags i → place_in labels label ≤ i
-  found_below i label there le =
-      elim (cases_lt i (place_in labels label)) [
-        | inl lt ↦ (let r = t.rising i (place_in labels label) lt (stands label there).0 in let e = tag_is label there in omega arith)
-        | inr ge ↦ ge
+  -- labels of lower tags stand before the others
+  pub parted_by_tags : (tag : ℕ) → IsPartitionedBy (λ l. nat_lt (tag_of tags l) tag) labels
+  parted_by_tags tag = IsPartitionedBy-ltb (tag_of tags) labels tag (IsNonDecreasingBy-from_default (tag_of tags) labels 0 climbs)
+
+  -- a label stands where those of lower tags end
+  pub place_by_tags : (label at : ℕ) → Contains labels label
+      → IsPartitionPoint (λ l. nat_lt (tag_of tags l) (tag_of tags label) ≡ true) (λ l. nat_lt (tag_of tags l) (tag_of tags label) ≡ false) labels at
+      → at ≡ place_in labels label
+  place_by_tags label at there point =
+      let place = place_in labels label in
+      let within = (stands label there).0 in
+      let e = tag_is label there in
+      elim (cases_order at place) [
+        | inl is ↦ is
+        | inr (inl lower) ↦ (let a = ltb-false _ _ (point.1 at 0 (omega arith) (omega arith)) in let r = t.rising at place lower within in absurd (omega arith))
+        | inr (inr higher) ↦ (let a = ltb-true _ _ (point.0 place 0 (omega arith) higher) in absurd (omega arith))
       ]
 
   -- a tag between its neighbours' fits the gap

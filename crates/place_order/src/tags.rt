@@ -4,6 +4,8 @@ ghost use Rattle.std.specs.List.{Contains};
 ghost use Rattle.place_order.specs.Labels.{place_in};
 ghost use Rattle.place_order.specs.Tags.{tag_of, tag_at, even_tag, IsTagged, IsBetween};
 
+use lang_lists::count_front;
+
 // The first tag of all, and the lowest of those that are given afresh.
 const FIRST: u64 = 1 << 62;
 
@@ -28,17 +30,7 @@ pub(crate) fn place_of(labels: &[u64], tags: &[u64], label: u64) -> usize
     ensures few { length labels.now ≤ 100000 }
 {
     let tag = tag_of(labels, tags, label);
-    let mut low = 0;
-    let mut high = labels.len();
-    while low < high {
-        let middle = low + (high - low) / 2;
-        if tags[labels[middle] as usize] < tag {
-            low = middle + 1;
-        } else {
-            high = middle;
-        }
-    }
-    low
+    count_front(labels, |other| tags[*other as usize] < tag)
 }
 
 fn even_tag(gap: usize, place: usize) -> u64

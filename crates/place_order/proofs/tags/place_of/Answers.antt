@@ -1,23 +1,23 @@
-use Rattle.std.proofs.Common.{◌+◌, ◌-◌, ◌/◌, arith}
-use Rattle.place_order.proofs.TagLemmas.{stands, found_above, found_below}
+use Rattle.std.proofs.Common.{◌≡◌, ◌<◌, nat_lt, arith, length, rules}
+use Rattle.place_order.specs.Labels.{place_in}
+use Rattle.place_order.specs.Tags.{tag_of}
+use Rattle.place_order.proofs.TagLemmas.{stands, has_tag, parted_by_tags, place_by_tags}
 use Rattle.place_order.proofs.tags.place_of.Goals as goal
 
-pub loop-low-init : goal.loop-low-init
-loop-low-init c =
-    let there = (stands c.args.labels.now c.args.tags.now c.requires.tagged c.args.label c.requires.there).0 in
-    record { low = omega arith; high = omega arith; within = omega arith }
+pub count_front-requires : goal.count_front-requires
+count_front-requires c = λ x there.
+    let known : x.now < length c.args.tags.now = has_tag c.args.labels.now c.args.tags.now c.requires.tagged x.now there in
+    search rules
 
-pub loop-low-preserved-then-tags-labels : goal.loop-low-preserved-then-tags-labels
-loop-low-preserved-then-tags-labels c =
-    let above = found_above c.args.labels.now c.args.tags.now c.requires.tagged (c.loop-low.low + (c.loop-low.high - c.loop-low.low) / 2) c.args.label c.requires.there (omega arith) (omega arith) in
-    record { low = omega arith; high = omega arith; within = omega arith }
-
-pub loop-low-preserved : goal.loop-low-preserved
-loop-low-preserved c =
-    let below = found_below c.args.labels.now c.args.tags.now c.requires.tagged (c.loop-low.low + (c.loop-low.high - c.loop-low.low) / 2) c.args.label c.requires.there (omega arith) in
-    record { low = omega arith; high = omega arith; within = omega arith }
+pub returns-clause-place : goal.returns-clause-place
+returns-clause-place c =
+    let labels = c.args.labels.now in
+    let tags = c.args.tags.now in
+    place_by_tags labels tags c.requires.tagged c.args.label c.count_front.result c.requires.there
+    (c.count_front.ensures.parted (λ l. nat_lt (tag_of tags l) (tag_of tags c.args.label)) (λ x r there e. search rules) (parted_by_tags labels tags c.requires.tagged (tag_of tags c.args.label)))
 
 pub returns-clause-within : goal.returns-clause-within
 returns-clause-within c =
-    let there = (stands c.args.labels.now c.args.tags.now c.requires.tagged c.args.label c.requires.there).0 in
+    let is : c.count_front.result ≡ place_in c.args.labels.now c.args.label = returns-clause-place c in
+    let within = (stands c.args.labels.now c.args.tags.now c.requires.tagged c.args.label c.requires.there).0 in
     omega arith
