@@ -5,3 +5,4 @@ pub mod KeyLemmas
 pub mod SearchLemmas
 pub mod AgeLemmas
 pub mod SumLemmas
+pub mod NumberLemmas

@@ -1,6 +1,7 @@
-pub mod Room
+pub mod Ages
 pub mod Chains
 pub mod Ends
 pub mod Indexes
 pub mod Keys
-pub mod Ages
+pub mod Numbers
+pub mod Room

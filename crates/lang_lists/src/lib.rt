@@ -2,6 +2,7 @@
 //!
 //! - `HashIndex`: where a key stands last in a growing list, by a hash table whose buckets are chains of places.
 //! - `AgeQueue`: what waits for somebody, in the order of age, as a sorted list of keys.
+//! - `Sorted`: items in the order of their numbers, of which no two have one, found by halves.
 //! - `count_front`: how many items stand at the front of a list, found by halves: the one such search of the repository.
 //! - `take_room`: room for a later call, so that a change of several parts makes all its room first and then changes
 //!   everything without memory.
@@ -15,6 +16,7 @@ mod halves;
 mod hash_chains;
 mod hash_index;
 mod hash_keys;
+mod sorted;
 
 pub use age_keys::AgeKey;
 pub use age_queue::AgeQueue;
@@ -22,3 +24,4 @@ pub use call_room::take_room;
 pub use halves::count_front;
 pub use hash_index::HashIndex;
 pub use hash_keys::{call_key, text_key};
+pub use sorted::{Numbered, Sorted, find_number, search_number};
