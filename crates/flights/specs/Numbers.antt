@@ -1,6 +1,7 @@
 -- Flights in the order of their numbers.
 use Rattle.std.specs.Prelude.{ℕ, ◌+◌, ◌<◌, ◌≤◌, ◌≡◌, Bool, false, not, List, [], ◌∷◌, Option, Some, None, IsSome, if◌then◌else◌, nat_eq, nat_lt, nat_le, find, filter, fold, max}
 use Rattle.std.specs.List.{list_any}
+use Rattle.lang_lists.specs.Numbers.{RisesFrom}
 use Rattle.lang_core.specs.Origins.{is_call}
 use Rattle.lang_core.specs.declared.ids.Origin.{Origin}
 use Rattle.lang_core.specs.declared.ids.Origin.TheVariants.{Outside, Call}
@@ -30,22 +31,9 @@ put_flight f (g ∷ gs) = if nat_lt f.id g.id then f ∷ g ∷ gs else g ∷ put
 abbrev pub with_flight : Flight → List Flight → List Flight
 with_flight f flights = put_flight f (without_flight f.id flights)
 
--- its number is this or a greater one
-abbrev pub reaches : ℕ → Flight → Bool
-reaches id f = nat_le id f.id
-
-abbrev pub is_here : ℕ → Option Flight → Bool
-is_here id None = false
-is_here id (Some f) = has_flight id f
-
--- numbers rise, beginning with this or a greater one
-abbrev pub RisesFrom : ℕ → List Flight → Type 0
-RisesFrom id [] = Unit {0}
-RisesFrom id (f ∷ fs) = (id ≤ f.id) × RisesFrom (f.id + 1) fs
-
 -- numbers rise, from 1
 abbrev pub IsRising : List Flight → Type 0
-IsRising flights = RisesFrom 1 flights
+IsRising flights = RisesFrom (λ (f : Flight). f.id) 1 flights
 
 -- ---- the least free number
 

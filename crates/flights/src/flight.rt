@@ -3,6 +3,7 @@ ghost use Rattle.std.specs.Prelude.{◌≡◌};
 ghost use Rattle.flights.specs.Numbers.{awaited};
 
 use lang_core::{Calls, Copied, Inputs, NoMemory, Origin, Request, Seq};
+use lang_lists::Numbered;
 use repair_messages::copied_pair;
 use std::alloc::Global;
 
@@ -44,6 +45,14 @@ pub enum Move {
     Name,
     /// It deletes the call of this slot and names another one there.
     Change { slot: u64 },
+}
+
+impl Numbered for Flight {
+    ghost number = { λ f. f.id };
+
+    fn number(&self) -> u64 {
+        self.id
+    }
 }
 
 impl Copied for Flight {
