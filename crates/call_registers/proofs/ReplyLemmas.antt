@@ -1,10 +1,8 @@
 -- Replies are changed by their place, and stay in order.
-use Rattle.std.proofs.Common.{◌≡◌, ◌∙◌, sym, ap, refl, ℕ, zero, suc, ◌<◌, Bool, true, false, cond, List, [], ◌∷◌, ◌++◌, length, set, get_or, slice_get, Option, Some, None, find, position, IsSome, nat_lt, arith, subst}
-use Rattle.std.specs.List.{position_or_len}
-use Rattle.std.proofs.lemmas.Bool.{lt-ltb}
-use Rattle.std.proofs.lemmas.List.Folds.{find_at}
-use Rattle.std.proofs.lemmas.List.Quantifiers.{position-Some}
-use Rattle.std.proofs.lemmas.Option.{slice_get_within}
+use Rattle.std.proofs.Common.{◌≡◌, ◌∙◌, sym, ap, refl, ℕ, zero, suc, ◌+◌, ◌<◌, Bool, true, false, List, [], ◌∷◌, ◌++◌, set, get_or, find, nat_eq, arith, subst}
+use Rattle.std.proofs.lemmas.Bool.Decides.{nat_tests}
+use Rattle.lang_lists.specs.Numbers.{RisesFrom, IsRising as NumbersRise, IsAt, IsMissing}
+use Rattle.lang_lists.proofs.NumberLemmas.{found_nowhere, none_there}
 use Rattle.call_registers.proofs.ChangeLemmas.{pass, fail}
 use Rattle.call_registers.specs.Changes.{change}
 use Rattle.call_registers.specs.Replies.{has_entry, IsThere, IsAboveAll, IsBelowAll, IsRising, at_entry, changed}
@@ -12,22 +10,23 @@ use Rattle.call_registers.specs.declared.reply.ReplyChange.{ReplyChange}
 use Rattle.call_registers.specs.declared.reply.ReplyChange.TheVariants.{Take, Answer, Confirm, Due, Hold, Release}
 use Rattle.call_registers.specs.declared.reply.Reply.{Reply}
 
--- ---- the place of a reply
+-- ---- replies as items with numbers
 
-some_within : {X : Type 0} (xs : List X) (k : ℕ) (o : Option X) → slice_get xs k ≡ o → IsSome o → k < length xs
-some_within xs k None e h = cc
-some_within xs k (Some x) e h = slice_get_within xs k x e
+abbrev id_of : Reply → ℕ
+id_of p = p.id
 
-chosen : (b : Bool) (n : ℕ) → b ≡ true → IsSome (cond b (Some n) None)
-chosen true n h = refl
-chosen false n h = cc
+numbers_from : (id : ℕ) (ps : List Reply) → IsBelowAll id ps → IsRising ps → RisesFrom id_of (id + 1) ps
+numbers_from id [] b h = tt
+numbers_from id (p ∷ ps) b h = (let lower = b.0 in omega (arith, lower), numbers_from p.id ps h.0 h.1)
 
--- a reply that is there has a place
-pub there_placed : (id : ℕ) (ps : List Reply) → IsThere id ps → IsSome (position (has_entry id) ps)
-there_placed id ps there =
-    let n = position_or_len (has_entry id) ps in
-    let w : n < length ps = some_within ps n (find (has_entry id) ps) (sym (find_at (has_entry id) ps)) there in
-    chosen (nat_lt n (length ps)) n (lt-ltb n (length ps) w)
+-- replies in order are so by their entries' numbers
+pub numbers_rise : (ps : List Reply) → IsRising ps → NumbersRise id_of ps
+numbers_rise [] h = tt
+numbers_rise (p ∷ ps) h = (omega arith, numbers_from p.id ps h.0 h.1)
+
+-- none is there where a search finds none
+pub not_there : {A : Type 0} (id place : ℕ) (ps : List Reply) → IsRising ps → IsMissing id_of id ps place → IsThere id ps → A
+not_there id place ps h at there = none_there (find (has_entry id) ps) (found_nowhere id_of 0 id place ps (numbers_rise ps h) at) there
 
 -- ---- a change by the place
 
@@ -40,10 +39,16 @@ set_changes p f (x ∷ xs) (suc i) old here before is =
     ap (λ l. x ∷ l) (set_changes p f xs i old here (λ k w. before (suc k) (omega (arith, w))) is)
     ∙ sym (fail (p x) (f x) x xs (change p f xs) skipped)
 
-pub change_placed : (id place : ℕ) (f : Reply → Reply) (ps : List Reply) (old : Reply) → position (has_entry id) ps ≡ Some place → old ≡ get_or ps place old → set ps place (f old) ≡ at_entry id f ps
+another : (m n : ℕ) → n < m → nat_eq n m ≡ false
+another m n h = grind (arith, nat_tests)
+
+itself : (m n : ℕ) → n ≡ m → nat_eq n m ≡ true
+itself m n h = grind (arith, nat_tests)
+
+pub change_placed : (id place : ℕ) (f : Reply → Reply) (ps : List Reply) (old : Reply) → IsAt id_of id ps place → old ≡ get_or ps place old → set ps place (f old) ≡ at_entry id f ps
 change_placed id place f ps old at is =
-    let first = position-Some (has_entry id) ps place old at in
-    set_changes (has_entry id) f ps place old first.1 first.2 is
+    set_changes (has_entry id) f ps place old (itself id (get_or ps place old).id (at.here old))
+    (λ k w. another id (get_or ps k old).id (at.front k old (omega arith) w)) is
 
 -- ---- the order
 

@@ -1,17 +1,16 @@
 // The replies of a service.
 ghost use Rattle.std.specs.Prelude.{◌≡◌, ◌↔◌, ◌+◌, ◌<◌, ◌≤◌, [], ◌∷◌, ◌++◌, length, slice_get, position, IfOk, IsOk, OnOk, OnErr, IsTrue, vec_len, vec_capacity};
-ghost use Rattle.std.specs.List.Sorted.{IsPartitionPoint};
 ghost use Rattle.std.specs.Option.{option_copied};
 ghost use Rattle.lang_base.specs.Equal.{equal};
 ghost use Rattle.lang_lists.specs.Room.{is_made, spend};
-ghost use Rattle.call_registers.specs.Replies.{has_entry, reply, IsThere, IsAboveAll, IsRising, at_entry, with_taken, with_answer, with_confirm, made_due, with_hold, released, changed, call_code, add_call};
+ghost use Rattle.call_registers.specs.Replies.{reply, IsThere, IsAboveAll, IsRising, at_entry, with_taken, with_answer, with_confirm, made_due, with_hold, released, changed, call_code, add_call};
 ghost use Rattle.call_registers.specs.declared.reply.ReplyChange.{ReplyChange};
 
 use crate::register::Hold;
 use crate::reply::{Reply, ReplyChange, apply};
 use lang_base::copied_items;
 use lang_core::{NoMemory, Text};
-use lang_lists::take_room;
+use lang_lists::{find_number, search_number, take_room};
 use std::alloc::Global;
 use std::marker::Model;
 
@@ -39,31 +38,6 @@ impl Model for Replies {
     ghost invariant = { λ r. IsKept r.list.items (vec_len r.list + vec_len r.room) (vec_capacity r.list) };
 }
 
-// How many of these are replies of lower entries, found by halves.
-fn count_below(list: &[Reply], id: u64) -> usize
-    requires { IsRising list.now }
-    ensures { IsPartitionPoint (λ p. p.id < id) (λ p. id ≤ p.id) list.now result }
-{
-    list.partition_point(|reply| reply.id < id)
-}
-
-fn item_at(list: &[Reply], place: usize) -> Option<&Reply>
-    ensures { option_copied result ≡ slice_get list.now place }
-{
-    list.get(place)
-}
-
-fn place_of(list: &[Reply], id: u64) -> Option<usize>
-    requires { IsRising list.now }
-    ensures { result ≡ position (has_entry id) list.now }
-{
-    let below = count_below(list, id);
-    match item_at(list, below) {
-        None => None,
-        Some(reply) => { if reply.id == id { Some(below) } else { None } }
-    }
-}
-
 fn change_in(list: &mut Vec<Reply>, id: u64, change: ReplyChange)
     requires rising { IsRising list.old.items }
     requires there { IsThere id list.old.items }
@@ -72,8 +46,10 @@ fn change_in(list: &mut Vec<Reply>, id: u64, change: ReplyChange)
     ensures len { vec_len list.new ≡ vec_len list.old }
     ensures capacity { vec_capacity list.new ≡ vec_capacity list.old }
 {
-    let place = place_of(list, id).unwrap();
-    apply(&mut list[place], change);
+    match search_number(list, id) {
+        Ok(place) => apply(&mut list[place], change),
+        Err(_) => {}
+    }
 }
 
 fn passes_add(call: &RepliesCall, id: u64) -> bool
@@ -176,10 +152,7 @@ impl Replies {
     pub fn get(&self, id: u64) -> Option<&Reply>
         ensures { option_copied result ≡ reply id self.now.list }
     {
-        match place_of(&self.list, id) {
-            None => None,
-            Some(place) => item_at(&self.list, place),
-        }
+        find_number(&self.list, id)
     }
 
     fn change(&mut self, id: u64, change: ReplyChange)
@@ -282,14 +255,6 @@ impl Replies {
         take_add(&mut self.room, reply.id);
         self.list.push_reserved(reply);
         Ok(())
-    }
-
-    /// Lets all room go.
-    pub fn forget_room(&mut self)
-        ensures list { self.new.list ≡ self.old.list }
-        ensures room { self.new.room ≡ [] }
-    {
-        self.room.clear();
     }
 
     /// Equal replies, without room.

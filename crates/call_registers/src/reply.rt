@@ -4,6 +4,7 @@ ghost use Rattle.call_registers.specs.Replies.{with_taken, with_answer, with_con
 
 use crate::register::Hold;
 use lang_core::{Copied, Name, NoMemory, Text};
+use lang_lists::Numbered;
 use repair_messages::copied_pair;
 use std::alloc::Global;
 
@@ -31,6 +32,14 @@ pub struct Reply {
     pub repair_who: Text,
     /// The index in the journal of what was last said of it.
     pub since: u64,
+}
+
+impl Numbered for Reply {
+    ghost number = { λ p. p.id };
+
+    fn number(&self) -> u64 {
+        self.id
+    }
 }
 
 impl Copied for Reply {
