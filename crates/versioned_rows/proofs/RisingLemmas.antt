@@ -109,13 +109,6 @@ module _ {X : Type 0} (label : X → ℕ) (order : List ℕ) (xs : List X) (r : 
         | inr ge ↦ (let e : i ≡ j = omega arith in ap (λ n. is_before order end (label (get_or xs n d))) e ∙ h)
       ]
 
-  pub later : (end : Option ℕ) (i j : ℕ) (d : X) → i ≤ j → j < length xs → is_before order end (label (get_or xs i d)) ≡ false → is_before order end (label (get_or xs j d)) ≡ false
-  later end i j d le within h =
-      elim (cases_lt i j) [
-        | inl lt ↦ not_before_later order end (label (get_or xs i d)) (label (get_or xs j d)) (rises i j d lt within) h
-        | inr ge ↦ (let e : j ≡ i = omega arith in ap (λ n. is_before order end (label (get_or xs n d))) e ∙ h)
-      ]
-
   -- a label that doesn't stand where it would is no one's
   module _ (at lab : ℕ) (front : (i : ℕ) (d : X) → i < at → is_before order (Some lab) (label (get_or xs i d)) ≡ true)
       (rest : (i : ℕ) (d : X) → at ≤ i → i < length xs → is_before order (Some lab) (label (get_or xs i d)) ≡ false)

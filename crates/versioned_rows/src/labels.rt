@@ -4,6 +4,7 @@ ghost use Rattle.std.specs.List.{Contains};
 ghost use Rattle.std.specs.Option.{ForSome};
 ghost use Rattle.place_order.specs.Rising.{IsRising, is_before};
 
+use lang_lists::count_front;
 use place_order::Order;
 
 /// What stands at a label of an order.
@@ -34,19 +35,6 @@ fn is_before(order: &Order, label: u64, end: Option<u64>) -> bool
     }
 }
 
-// Where to look next: at the last of all first, behind which most labels come, then by halves.
-fn probe(low: usize, high: usize, len: usize) -> usize
-    requires { low < high }
-    ensures low { low ≤ result }
-    ensures high { result < high }
-{
-    if high == len {
-        high - 1
-    } else {
-        low + (high - low) / 2
-    }
-}
-
 /// How many of these stand before a label; all do where there is none.
 pub(crate) fn count_before<T: Labelled>(order: &Order, items: &[T], end: Option<u64>) -> usize
     requires rising { IsRising order.now.labels (map T.label items.now) }
@@ -56,15 +44,11 @@ pub(crate) fn count_before<T: Labelled>(order: &Order, items: &[T], end: Option<
     ensures rest { (i : ℕ) (d : T) → result ≤ i → i < length items.now → is_before order.now.labels end (T.label (slice_index_or items.now i d)) ≡ false }
     ensures count { filter (λ x. is_before order.now.labels end (T.label x)) items.now ≡ take result items.now }
 {
-    let mut low = 0;
-    let mut high = items.len();
-    while low < high {
-        let middle = probe(low, high, items.len());
-        if is_before(order, items[middle].label(), end) {
-            low = middle + 1;
-        } else {
-            high = middle;
-        }
-    }
-    low
+    count_front(
+        items,
+        |item: &T|
+            requires label { Contains order.now.labels (T.label item.now) }
+            requires end { ForSome end (Contains order.now.labels) }
+        { is_before(order, item.label(), end) },
+    )
 }
