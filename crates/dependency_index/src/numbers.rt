@@ -4,39 +4,17 @@ ghost use Rattle.lang_core.specs.Places.{IsRank, past};
 ghost use Rattle.dependency_index.specs.Numbers.{Rises, with_number};
 
 use lang_core::NoMemory;
+use lang_lists::count_front;
 use versioned_rows::Labelled;
 
-// Where to look next: at the last of all first, as most labels come behind it, then by halves.
-fn probe(low: usize, high: usize, len: usize) -> usize
-    requires { low < high }
-    ensures low { low ≤ result }
-    ensures high { result < high }
-{
-    if high == len {
-        high - 1
-    } else {
-        low + (high - low) / 2
-    }
-}
-
-/// How many of these have lower labels.
+// How many of these have lower labels.
 fn count_below<T: Labelled>(items: &[T], label: u64) -> usize
     requires { Rises (map T.label items.now) }
     ensures within { result ≤ length items.now }
     ensures front { (i : ℕ) (d : T) → i < result → T.label (slice_index_or items.now i d) < label }
     ensures rest { (i : ℕ) (d : T) → result ≤ i → i < length items.now → label ≤ T.label (slice_index_or items.now i d) }
 {
-    let mut low = 0;
-    let mut high = items.len();
-    while low < high {
-        let middle = probe(low, high, items.len());
-        if items[middle].label() < label {
-            low = middle + 1;
-        } else {
-            high = middle;
-        }
-    }
-    low
+    count_front(items, |item| item.label() < label)
 }
 
 fn stands_at<T: Labelled>(items: &[T], at: usize, label: u64) -> bool

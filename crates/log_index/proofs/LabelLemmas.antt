@@ -1,8 +1,10 @@
 -- Labels of an order, of which no two are equal, rise in it; and they stay so with one more.
-use Rattle.std.proofs.Common.{◌≡◌, ◌≢◌, ℕ, zero, suc, ◌+◌, ◌<◌, true, false, List, [], ◌∷◌, ◌++◌, nat_eq, length, get_or, take, drop, sym, subst, inl, inr, refl, arith, eq-eqb}
+use Rattle.std.proofs.Common.{◌≡◌, ◌≢◌, ℕ, zero, suc, ◌+◌, ◌<◌, true, false, nat_lt, ap, ◌∙◌, List, [], ◌∷◌, ◌++◌, nat_eq, length, get_or, take, drop, sym, subst, inl, inr, refl, arith, eq-eqb}
 use Rattle.std.specs.List.{Contains, insert}
-use Rattle.std.proofs.lemmas.Bool.{ne_eqb}
+use Rattle.std.specs.List.Sorted.{IsPartitionedBy, IsPartitionPoint}
+use Rattle.std.proofs.lemmas.Bool.{ne_eqb, cases_order, ltb-true, ltb-false}
 use Rattle.std.proofs.lemmas.List.{take-append-drop, get_or_default}
+use Rattle.std.proofs.lemmas.List.Sorted.{IsPartitionedBy-ltb}
 use Rattle.std.proofs.lemmas.List.Elements.{Contains-append_left, Contains-append_right, Contains-append_cases}
 use Rattle.place_order.specs.Labels.{place_in, IsNew}
 use Rattle.place_order.specs.Rising.{IsBeforeAll, IsRising}
@@ -66,3 +68,30 @@ place_at (x ∷ xs) (suc i) apart lt =
     let e : nat_eq x (get_or xs i 0) ≡ false = ne_eqb x (get_or xs i 0) (differs x (get_or xs i 0) xs apart.0 (contains_at xs i n)) in
     let more = place_at xs i apart.1 n in
     rw e (omega arith)
+
+-- ---- the place of a label, found by halves
+
+module _ (xs : List ℕ) (apart : IsApart xs) where
+  stands_there : (i d : ℕ) → i < length xs → place_in xs (get_or xs i d) ≡ i
+  stands_there i d lt = ap (place_in xs) (get_or_default xs i d 0 lt) ∙ place_at xs i apart lt
+
+  parted : (n : ℕ) → IsPartitionedBy (λ x. nat_lt (place_in xs x) n) xs
+  parted n = IsPartitionedBy-ltb (place_in xs) xs n (λ i j d le lt. let e = stands_there i d (omega arith) in let f = stands_there j d lt in omega arith)
+
+  placed : (n at : ℕ) → n < length xs → IsPartitionPoint (λ x. nat_lt (place_in xs x) n ≡ true) (λ x. nat_lt (place_in xs x) n ≡ false) xs at → at ≡ n
+  placed n at within point =
+      elim (cases_order at n) [
+        | inl is ↦ is
+        | inr (inl lower) ↦ (let e = stands_there at 0 (omega arith) in let a = ltb-false _ _ (point.1 at 0 (omega arith) (omega arith)) in absurd (omega arith))
+        | inr (inr higher) ↦ (let e = stands_there n 0 within in let a = ltb-true _ _ (point.0 n 0 (omega arith) higher) in absurd (omega arith))
+      ]
+
+-- by the places in the order, which has the same labels
+module _ (xs order : List ℕ) (same : xs ≡ order) (apart : IsApart xs) where
+  pub parted_by_order : (n : ℕ) → IsPartitionedBy (λ x. nat_lt (place_in order x) n) xs
+  parted_by_order n = subst (λ o. IsPartitionedBy (λ x. nat_lt (place_in o x) n) xs) same (parted xs apart n)
+
+  pub placed_by_order : (n at : ℕ) → n < length xs → IsPartitionPoint (λ x. nat_lt (place_in order x) n ≡ true) (λ x. nat_lt (place_in order x) n ≡ false) xs at → at ≡ n
+  placed_by_order n at within point =
+      placed xs apart n at within
+      (subst (λ o. IsPartitionPoint (λ x. nat_lt (place_in o x) n ≡ true) (λ x. nat_lt (place_in o x) n ≡ false) xs at) (sym same) point)

@@ -9,6 +9,7 @@ ghost use Rattle.place_order.specs.declared.room.OrderCall.{OrderCall};
 ghost use Rattle.log_index.specs.Places.{AreLabels, HasPlace};
 
 use lang_core::NoMemory;
+use lang_lists::count_front;
 use place_order::Order;
 use std::alloc::Global;
 use std::marker::Model;
@@ -130,18 +131,7 @@ impl Places {
         ensures place { result ≡ place_in self.now.labels label }
         ensures within { result < length self.now.labels }
     {
-        let mut low = 0;
-        let mut high = self.labels.len();
-        while low < high {
-            let middle = low + (high - low) / 2;
-            let before = is_before(&self.order, self.labels[middle], label);
-            if before {
-                low = middle + 1;
-            } else {
-                high = middle;
-            }
-        }
-        low
+        count_front(&self.labels, |other| is_before(&self.order, *other, label))
     }
 
     /// Makes room for an `insert` at a place.
