@@ -1,5 +1,6 @@
 pub mod RoomLemmas
 pub mod ChainLemmas
+pub mod InsertLemmas
 pub mod HashEndLemmas
 pub mod KeyLemmas
 pub mod SearchLemmas

@@ -1,5 +1,5 @@
 -- Chains of places: of each bucket the places of its keys, from the last back to the first.
-use Rattle.std.specs.Prelude.{◌≡◌, ℕ, ◌%◌, ◌<◌, Bool, List, nat_eq, length, take, slice_index}
+use Rattle.std.specs.Prelude.{◌≡◌, ℕ, ◌+◌, ◌-◌, ◌%◌, ◌<◌, ◌≤◌, Bool, true, List, nat_eq, length, take, slice_index}
 use Rattle.lang_lists.specs.Ends.{last_end}
 
 -- the bucket of a key, where there are so many
@@ -24,3 +24,12 @@ pub record IsLinked (keys before last : List ℕ) : Type 0 where
   pub len : length before ≡ length keys
   pub buckets : 0 < length keys → 0 < length last
   pub chained : IsChained (length last) (length keys) keys before last
+
+-- where the keys of a bucket part at a place: the end of the last of them before it, and that of the first from it on, which is
+-- beyond the end of all keys where there is none
+pub record IsParted (count bucket at : ℕ) (keys : List ℕ) (front behind : ℕ) : Type 0 where
+  pub front_before : front ≤ at
+  pub from : at < behind
+  pub within : behind ≤ length keys + 1
+  pub next : behind ≤ length keys → is_in count bucket (slice_index keys (behind - 1)) ≡ true
+  pub between : front ≡ end_in count bucket (take (behind - 1) keys)

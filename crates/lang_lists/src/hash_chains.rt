@@ -1,7 +1,7 @@
 // Chains of places, of which each bucket has one.
-ghost use Rattle.std.specs.Prelude.{ℕ, ◌≡◌, ◌+◌, ◌-◌, ◌<◌, ◌≤◌, true, nat_eq, length, take, slice_index, OnOk, vec_len, vec_capacity};
-ghost use Rattle.lang_lists.specs.Chains.{bucket_of, is_in, IsChained, IsLinked};
-ghost use Rattle.lang_lists.specs.Ends.{last_end};
+ghost use Rattle.std.specs.Prelude.{ℕ, ◌≡◌, ◌+◌, ◌-◌, ◌<◌, ◌≤◌, true, nat_eq, length, take, insert, slice_index, OnOk, vec_len, vec_capacity};
+ghost use Rattle.lang_lists.specs.Chains.{bucket_of, is_in, IsChained, IsLinked, IsParted};
+ghost use Rattle.lang_lists.specs.Ends.{last_end, raised};
 
 use lang_base::NoMemory;
 
@@ -69,6 +69,67 @@ pub(crate) fn spread(
     last.resize(keys.capacity() / 2 + 1, 0)?;
     chain(keys, before, last);
     Ok(())
+}
+
+// Where the keys of a bucket part at a place.
+fn part(keys: &[u64], before: &[usize], last: &[usize], bucket: usize, at: usize) -> (usize, usize)
+    requires linked { IsLinked keys.now before.now last.now }
+    requires bucket { bucket < length last.now }
+    requires at { at ≤ length keys.now }
+    ensures { IsParted (length last.now) bucket at keys.now result.0 result.1 }
+{
+    let mut behind = keys.len() + 1;
+    let mut end = last[bucket];
+    while end > at {
+        behind = end;
+        end = before[end - 1];
+    }
+    (end, behind)
+}
+
+// Raises each end that lies behind a place by one.
+fn raise(ends: &mut [usize], at: usize)
+    requires { (i : ℕ) → i < length ends.old → slice_index ends.old i < 18446744073709551615 }
+    ensures len { length ends.new ≡ length ends.old }
+    ensures each { (i : ℕ) → i < length ends.old → slice_index ends.new i ≡ raised at (slice_index ends.old i) }
+{
+    for place in 0..ends.len() {
+        if ends[place] > at {
+            ends[place] += 1;
+        }
+    }
+}
+
+/// Puts a key, for which there is room, at a place before what stands there. The ends behind the place are raised, and the key
+/// goes into its chain; no other chain is looked at.
+pub(crate) fn link_between(
+    keys: &mut Vec<u64>,
+    before: &mut Vec<usize>,
+    last: &mut [usize],
+    at: usize,
+    key: u64,
+)
+    requires linked { IsLinked keys.old.items before.old.items last.old }
+    requires within { at < vec_len keys.old }
+    requires keys { vec_len keys.old < vec_capacity keys.old }
+    requires before { vec_len before.old < vec_capacity before.old }
+    ensures linked { IsLinked keys.new.items before.new.items last.new }
+    ensures items { keys.new.items ≡ insert keys.old.items at key }
+    ensures keys { vec_capacity keys.new ≡ vec_capacity keys.old }
+    ensures before { vec_capacity before.new ≡ vec_capacity before.old }
+    ensures last { length last.new ≡ length last.old }
+{
+    let bucket = bucket_of(last, key);
+    let (front, behind) = part(keys, before, last, bucket, at);
+    raise(before, at);
+    raise(last, at);
+    let _ = keys.insert(at, key);
+    let _ = before.insert(at, front);
+    if behind < keys.len() {
+        before[behind] = at + 1;
+    } else {
+        last[bucket] = at + 1;
+    }
 }
 
 // From the end of a key in its bucket's chain back to the end of the first that is the key itself.

@@ -2,7 +2,7 @@
 ghost use Rattle.std.specs.Prelude.{◌≡◌, ◌+◌, ◌-◌, ◌<◌, ◌≤◌, [], ◌∷◌, ◌++◌, nat_eq, length, take, insert, slice_index, OnOk, IfOk, IsOk};
 ghost use Rattle.lang_lists.specs.Ends.{last_end};
 
-use crate::hash_chains::{chain, end_before, end_of, link, spread};
+use crate::hash_chains::{end_before, end_of, link, link_between, spread};
 use lang_base::NoMemory;
 use std::alloc::Global;
 use std::marker::Model;
@@ -84,7 +84,7 @@ impl HashIndex {
     }
 
     /// Puts a key, for which there has to be room, at a place, counted from 0, before what stands there. Last it costs as a push
-    /// does; else with the number of keys, as all of them are chained afresh.
+    /// does; else with the number of keys, as those behind the place move up by one.
     pub fn insert(&mut self, at: usize, key: u64)
         requires within { at ≤ length self.old.keys }
         requires room { 0 < self.old.spare }
@@ -94,9 +94,7 @@ impl HashIndex {
         if at == self.keys.len() {
             self.push(key);
         } else {
-            let _ = self.keys.insert(at, key);
-            self.before.push_reserved(0);
-            chain(&self.keys, &mut self.before, &mut self.last);
+            link_between(&mut self.keys, &mut self.before, &mut self.last, at, key);
         }
     }
 
