@@ -15,7 +15,7 @@ use Rattle.handler_run.specs.Handlers.{finish, finish_of, start, run_block}
 use Rattle.handler_run.specs.Laws.{IfDone, IfWants, IsDone, calls_of}
 use Rattle.handler_run.specs.declared.state.Flow.{Flow}
 use Rattle.handler_run.specs.declared.state.Flow.TheVariants.{GoesOn, Replied, Wants, Faulted}
-use Rattle.lang_values.specs.declared.given.Given.{Given}
+use Rattle.lang_values.specs.Given.{Given}
 use Rattle.handler_run.specs.declared.state.Ran.{Ran}
 use Rattle.handler_run.specs.declared.state.Ran.TheVariants.{Done}
 use Rattle.handler_run.specs.declared.state.State.{State}

@@ -9,7 +9,7 @@ use Rattle.lang_tree.specs.declared.stmt.Stmt.TheOpen.{Stmt-F}
 use Rattle.lang_tree.specs.declared.stmt.Stmt.TheFolds.{fold-roll-Stmt}
 use Rattle.lang_core.specs.declared.cells.Cell.{Cell}
 use Rattle.lang_values.specs.declared.given.Fault.{Fault}
-use Rattle.lang_values.specs.declared.given.Given.{Given}
+use Rattle.lang_values.specs.Given.{Given}
 use Rattle.handler_run.specs.declared.state.Flow.{Flow}
 use Rattle.handler_run.specs.declared.state.State.{State}
 use Rattle.handler_run.specs.Runs.{Effect, ended, faulted, act, block_step, if_of, maybe, stmt_of, block_of}

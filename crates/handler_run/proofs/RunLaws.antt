@@ -1,6 +1,7 @@
 -- The laws of a service's run, and the same of what a function answers for it.
-use Rattle.std.proofs.Common.{◌≡◌, ◌<◌, ℕ, List, [], ◌∷◌, ◌++◌, length, Option, Some, None, Result, Ok, Err, IfOk, refl, sym, subst}
+use Rattle.std.proofs.Common.{◌≡◌, ◌∙◌, ap, ◌<◌, ℕ, List, [], ◌∷◌, ◌++◌, length, Option, Some, None, Result, Ok, Err, IfOk, refl, sym, subst}
 use Rattle.std.proofs.lemmas.List.Elements.{All-nil}
+use Rattle.std.proofs.lemmas.Result.{IfOk-weaker}
 use Rattle.lang_base.specs.declared.memory.NoMemory.{NoMemory}
 use Rattle.lang_tree.specs.declared.program.Route.{Route}
 use Rattle.lang_core.specs.declared.cells.Cell.{Cell}
@@ -15,7 +16,7 @@ use Rattle.handler_run.specs.Reads.{Gives, GivesAll}
 use Rattle.lang_values.specs.Paths.{route_of, segments_of}
 use Rattle.handler_run.specs.Handlers.{given, run_route, run_of}
 use Rattle.handler_run.specs.Laws.{IfDone, IfWants, IsDone, calls_of}
-use Rattle.lang_values.specs.declared.given.Given.{Given}
+use Rattle.lang_values.specs.Given.{Given, given_with}
 use Rattle.handler_run.specs.declared.state.Ran.{Ran}
 use Rattle.handler_run.specs.declared.state.Ran.TheVariants.{Done, Wants}
 use Rattle.handler_run.proofs.TwoRuns.{with_answers}
@@ -198,3 +199,14 @@ module _ (s : Setting) (q : Request) (i : Inputs) (answers : List Response) (row
 -- the first run has no calls
 pub starts : (s : Setting) (q : Request) (i : Inputs) (rows : List Cell) → calls_of (run_of s q i [] rows) ≡ []
 starts s q i rows = starts_at s q i [] rows refl
+
+-- what a function answers of the route that takes a request is its run, where memory suffices
+pub route_if_ok : (s : Setting) (q : Request) (i : Inputs) (answers : List Response) (rows : List Cell) (segments : List (List ℕ)) (routes : List Route) (g : Given) (r : Result Ran NoMemory)
+    → segments ≡ segments_of q.path → routes ≡ s.program → g ≡ given_with s q segments i answers
+    → IfOk r (λ ran. ran ≡ run_route (route_of routes g.request.method g.segments) g rows) → IfOk r (λ ran. ran ≡ run_of s q i answers rows)
+route_if_ok s q i answers rows segments routes g r cut all is =
+    IfOk-weaker r _ _
+    (λ ran e. e
+    ∙ ap (λ (rs : List Route). run_route (route_of rs g.request.method g.segments) g rows) all
+    ∙ ap (λ (h : Given). run_route (route_of s.program h.request.method h.segments) h rows) is
+    ∙ ap (λ (xs : List (List ℕ)). run_route (route_of s.program q.method xs) (given_with s q xs i answers) rows) cut)

@@ -7,7 +7,7 @@ use Rattle.lang_tree.specs.declared.stmt.Block.{Block, roll-Block}
 use Rattle.lang_core.specs.declared.cells.Cell.{Cell}
 use Rattle.lang_core.specs.declared.request.Response.{Response}
 use Rattle.handler_run.specs.Runs.{Effect, act, in_turn, block_step, stmt_of, block_of}
-use Rattle.lang_values.specs.declared.given.Given.{Given}
+use Rattle.lang_values.specs.Given.{Given}
 use Rattle.handler_run.proofs.TwoRuns.{notes_of, with_answers, Same, stays, follow, steps}
 use Rattle.handler_run.proofs.TwoCalls.{calls}
 use Rattle.handler_run.proofs.TwoStmts.{lets, gets, puts, drops, eaches, ifs, nows, randoms, replied}

@@ -14,7 +14,7 @@ use Rattle.lang_core.specs.declared.trace.CallMade.{CallMade}
 use Rattle.lang_core.specs.declared.value.Value.{Value}
 use Rattle.lang_values.specs.Values.{value_of}
 use Rattle.handler_run.specs.Runs.{note_call, answered, take_answer, send_to, call_request, is_loop, call_to, call_path_fits, call_at, call_of, within}
-use Rattle.lang_values.specs.declared.given.Given.{Given}
+use Rattle.lang_values.specs.Given.{Given}
 use Rattle.handler_run.specs.declared.state.State.{State}
 use Rattle.handler_run.proofs.RunLists.{take_next, get_behind, get_none}
 use Rattle.handler_run.proofs.TwoRuns.{notes_of, with_answers, Extends, extends_none, Holds, MeetsCall, Follows, Same, stays, fails, chosen, inside, values, texts, shorts}

@@ -14,7 +14,7 @@ use Rattle.handler_run.specs.Runs.{Ended, ended, Effect, goes_on, faulted, go_on
 use Rattle.lang_values.specs.declared.given.Fault.{Fault}
 use Rattle.handler_run.specs.declared.state.Flow.{Flow}
 use Rattle.handler_run.specs.declared.state.Flow.TheVariants.{GoesOn, Replied, Wants, Faulted}
-use Rattle.lang_values.specs.declared.given.Given.{Given}
+use Rattle.lang_values.specs.Given.{Given}
 use Rattle.handler_run.specs.declared.state.State.{State}
 use Rattle.handler_run.proofs.RunLists.{all_last}
 

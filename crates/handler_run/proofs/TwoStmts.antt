@@ -11,7 +11,7 @@ use Rattle.lang_core.specs.declared.value.Value.TheVariants.{Int, Str, Nothing}
 use Rattle.lang_values.specs.Values.{value_of, text_or_nothing}
 use Rattle.handler_run.specs.Runs
 use Rattle.handler_run.specs.Runs.{Ended, ended, Effect, goes_on, faulted, then_do, step, set_var, noted, turns, scan_fits, laid_over, with_cells, act, in_turn, block_step, stmt_of, block_of}
-use Rattle.lang_values.specs.declared.given.Given.{Given}
+use Rattle.lang_values.specs.Given.{Given}
 use Rattle.handler_run.specs.declared.state.State.{State}
 use Rattle.handler_run.proofs.TwoRuns.{notes_of, with_answers, Follows, Same, stays, fails, replies, chosen, inside, values, texts, keys, shorts, follow, steps, reads_same}
 

@@ -14,7 +14,7 @@ use Rattle.lang_values.specs.declared.given.Fault.{Fault}
 use Rattle.lang_values.specs.declared.given.Fault.TheVariants.{Steps, Range, Kind, Limit, Words}
 use Rattle.handler_run.specs.declared.state.Flow.{Flow}
 use Rattle.handler_run.specs.declared.state.Flow.TheVariants.{GoesOn, Replied, Wants, Faulted}
-use Rattle.lang_values.specs.declared.given.Given.{Given}
+use Rattle.lang_values.specs.Given.{Given, given_with}
 use Rattle.handler_run.specs.declared.state.Ran.{Ran}
 use Rattle.handler_run.specs.declared.state.Ran.TheVariants.{Done, Wants as Asks}
 use Rattle.handler_run.specs.declared.state.State.{State}
@@ -53,7 +53,7 @@ start = record { vars = []; own = []; reads = []; calls = []; answers = []; draw
 
 abbrev pub given : Setting → Request → Inputs → List Response → Given
 given setting request inputs answers =
-    record { me = setting.me; peers = setting.peers; request = request; segments = segments_of request.path; inputs = inputs; answers = answers }
+    given_with setting request (segments_of request.path) inputs answers
 
 -- no route takes the request
 abbrev pub not_found : Trace

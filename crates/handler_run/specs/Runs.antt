@@ -29,7 +29,7 @@ use Rattle.lang_values.specs.declared.given.Fault.{Fault}
 use Rattle.lang_values.specs.declared.given.Fault.TheVariants.{Steps, Kind, Limit, Words}
 use Rattle.handler_run.specs.declared.state.Flow.{Flow}
 use Rattle.handler_run.specs.declared.state.Flow.TheVariants.{GoesOn, Replied, Wants, Faulted}
-use Rattle.lang_values.specs.declared.given.Given.{Given}
+use Rattle.lang_values.specs.Given.{Given}
 use Rattle.handler_run.specs.declared.state.State.{State}
 
 -- how a statement ends, and the state there

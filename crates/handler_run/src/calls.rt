@@ -43,7 +43,7 @@ fn named<'a>(names: &'a [Name], text: &Text) -> Option<&'a Name>
 fn is_loop(given: &Given, dest: &Text) -> bool
     ensures { result ≡ is_loop given.now dest.now }
 {
-    given.me.text().is(dest) || has_name(given.request.chain.as_slice(), dest)
+    given.me().text().is(dest) || has_name(given.request().chain.as_slice(), dest)
 }
 
 // Whether a call may have the path.
@@ -103,7 +103,7 @@ fn send(
     if state.calls.len() >= MOST_CALLS {
         return Ok(Flow::Faulted(Fault::Limit));
     }
-    let answer = given.answers.at(state.calls.len());
+    let answer = given.answers().at(state.calls.len());
     take_answer(alloc, answer, state, status_var, body_var, call)
 }
 
@@ -111,7 +111,10 @@ fn send(
 fn chain_on(alloc: Global, given: &Given) -> Result<Names, NoMemory>
     ensures { IfOk result (λ chain. chain ≡ given.now.request.chain ++ given.now.me ∷ []) }
 {
-    let (mut chain, me) = both(given.request.chain.copied(alloc), given.me.copied(alloc))?;
+    let (mut chain, me) = both(
+        given.request().chain.copied(alloc),
+        given.me().copied(alloc),
+    )?;
     chain.push(me)?;
     Ok(chain)
 }
@@ -126,7 +129,7 @@ fn call_request(
 ) -> Result<Request, NoMemory>
     ensures { IfOk result (λ request. request ≡ call_request given.now method path body) }
 {
-    let (who, chain) = both(given.me.text().copied(alloc), chain_on(alloc, given))?;
+    let (who, chain) = both(given.me().text().copied(alloc), chain_on(alloc, given))?;
     Ok(Request {
         method,
         path,
@@ -176,7 +179,7 @@ fn call_to(
     if is_loop(given, dest) {
         return refuse(alloc, state, status_var, body_var, 508);
     }
-    let peer = named(given.peers.as_slice(), dest);
+    let peer = named(given.peers().as_slice(), dest);
     send_to(
         alloc, given, state, status_var, body_var, peer, method, path, body,
     )

@@ -1,9 +1,8 @@
 // What a service answers a request.
 ghost use Rattle.std.specs.Prelude.{◌≡◌, ◌<◌, List, [], ◌∷◌, ◌++◌, IfOk, length};
-ghost use Rattle.std.specs.Option.{option_copied};
 ghost use Rattle.lang_core.specs.declared.cells.Cell.{Cell};
 ghost use Rattle.lang_core.specs.declared.request.Response.{Response};
-ghost use Rattle.handler_run.specs.Handlers.{fault_number, fault_text, replied, faulted_trace, finish, start, given, not_found, run_block, run_route, run_of};
+ghost use Rattle.handler_run.specs.Handlers.{fault_number, fault_text, replied, faulted_trace, finish, start, not_found, run_route, run_of};
 ghost use Rattle.handler_run.specs.Laws.{IfDone, IfWants, IsDone, calls_of};
 ghost use Rattle.lang_values.specs.Paths.{route_of};
 ghost use Rattle.handler_run.specs.Reads.{GivesAll};
@@ -12,10 +11,8 @@ ghost use Rattle.handler_run.specs.declared.state.Ran.TheVariants.{Done};
 use crate::blocks::run_block;
 use crate::state::{Flow, Ran, State};
 use crate::view::View;
-use lang_base::both;
 use lang_core::{
-    Answers, Block, Calls, Copied, Inputs, Method, NoMemory, Reads, Request, Response, Route,
-    Setting, Text, Trace, Writes,
+    Answers, Calls, Inputs, NoMemory, Reads, Request, Response, Route, Setting, Text, Trace, Writes,
 };
 use lang_values::{Fault, Given, Recorded, Variables, route_of, segments_of};
 use std::alloc::Global;
@@ -102,33 +99,11 @@ fn start(alloc: Global) -> State
     }
 }
 
-fn given(
-    alloc: Global,
-    setting: &Setting,
-    request: &Request,
-    inputs: &Inputs,
-    answers: &Answers,
-) -> Result<Given, NoMemory>
-    ensures { IfOk result (λ g. g ≡ given setting.now request.now inputs.now answers.now) }
+// A run that no route takes.
+fn not_found(alloc: Global) -> Result<Ran, NoMemory>
+    ensures { IfOk result (λ ran. ran ≡ Done not_found) }
 {
-    let names = both(setting.me.copied(alloc), setting.peers.copied(alloc));
-    let asked = both(request.copied(alloc), segments_of(alloc, &request.path));
-    let (head, answers) = both(both(names, asked), answers.copied(alloc))?;
-    let (names, asked) = head;
-    Ok(Given {
-        me: names.0,
-        peers: names.1,
-        request: asked.0,
-        segments: asked.1,
-        inputs: *inputs,
-        answers,
-    })
-}
-
-fn not_found(alloc: Global) -> Result<Trace, NoMemory>
-    ensures { IfOk result (λ trace. trace ≡ not_found) }
-{
-    Ok(Trace {
+    Ok(Ran::Done(Trace {
         reads: Reads::new(alloc),
         calls: Calls::new(alloc),
         answers: Answers::new(alloc),
@@ -137,62 +112,25 @@ fn not_found(alloc: Global) -> Result<Trace, NoMemory>
             status: 404,
             body: Text::of(alloc, "")?,
         },
-    })
+    }))
 }
 
-fn run_from_start<V: View>(
-    alloc: Global,
-    given: &Given,
-    view: &V,
-    block: &Block,
-) -> Result<Ran, NoMemory>
-    ensures { IfOk result (λ ran. ran ≡ run_block block.now given.now (V.rows view.now)) }
-{
-    let mut state = start(alloc);
-    let flow = run_block(alloc, given, view, &mut state, block)?;
-    finish(alloc, flow, state)
-}
-
+// The first of the routes that takes the request runs; without one the answer is 404.
 fn run_route<V: View>(
     alloc: Global,
     given: &Given,
-    view: &V,
-    route: Option<&Route>,
-) -> Result<Ran, NoMemory>
-    ensures { IfOk result (λ ran. ran ≡ run_route (option_copied route.entry) given.now (V.rows view.now)) }
-{
-    match route {
-        None => Ok(Ran::Done(not_found(alloc)?)),
-        Some(route) => run_from_start(alloc, given, view, &route.block),
-    }
-}
-
-fn run_given<V: View>(
-    alloc: Global,
-    given: &Given,
     routes: &[Route],
-    method: Method,
     view: &V,
 ) -> Result<Ran, NoMemory>
-    ensures { IfOk result (λ ran. ran ≡ run_route (route_of routes.now method given.now.segments) given.now (V.rows view.now)) }
+    ensures { IfOk result (λ ran. ran ≡ run_route (route_of routes.now given.now.request.method given.now.segments) given.now (V.rows view.now)) }
 {
-    let route = route_of(alloc, routes, method, given.segments.as_slice())?;
-    run_route(alloc, given, view, route)
-}
-
-fn run_request<V: View>(
-    alloc: Global,
-    setting: &Setting,
-    request: &Request,
-    inputs: &Inputs,
-    answers: &Answers,
-    view: &V,
-) -> Result<Ran, NoMemory>
-    ensures { IfOk result (λ ran. ran ≡ run_of setting.now request.now inputs.now answers.now (V.rows view.now)) }
-{
-    let given = given(alloc, setting, request, inputs, answers)?;
-    let routes = setting.program.routes();
-    run_given(alloc, &given, routes, request.method, view)
+    let method = given.request().method;
+    let Some(route) = route_of(alloc, routes, method, given.segments())? else {
+        return not_found(alloc);
+    };
+    let mut state = start(alloc);
+    let flow = run_block(alloc, given, view, &mut state, &route.block)?;
+    finish(alloc, flow, state)
 }
 
 /// Runs a request on the rows of a view, with the answers of its first calls: the first route that takes its method
@@ -230,5 +168,7 @@ pub fn run<V: View>(
     ensures few { IfOk result (λ ran. IfWants ran (λ slot calls call. slot < 16)) }
     ensures alone { setting.now.peers ≡ [] → IfOk result (λ ran. IsDone ran) }
 {
-    run_request(alloc, setting, request, inputs, answers, view)
+    let segments = segments_of(alloc, &request.path)?;
+    let given = Given::of(setting, request, segments.as_slice(), inputs, answers);
+    run_route(alloc, &given, setting.program.routes(), view)
 }

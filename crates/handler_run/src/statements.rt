@@ -112,7 +112,7 @@ pub fn run_now(
 ) -> Result<Flow, NoMemory>
     ensures { IfOk result (λ flow. ended flow state.new ≡ now_of given.now var.now state.old) }
 {
-    let moment = moment_of(&given.inputs);
+    let moment = moment_of(given.inputs());
     state.set_var(alloc, var, Value::Int(moment))?;
     Ok(Flow::GoesOn)
 }
@@ -141,7 +141,7 @@ pub fn run_random(
 ) -> Result<Flow, NoMemory>
     ensures { IfOk result (λ flow. ended flow state.new ≡ random_of given.now var.now state.old) }
 {
-    match word_at(&given.inputs, state.drawn) {
+    match word_at(given.inputs(), state.drawn) {
         None => Ok(Flow::Faulted(Fault::Words)),
         Some(word) => {
             state.drawn += 1;

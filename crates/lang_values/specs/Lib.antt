@@ -1,3 +1,4 @@
+pub mod Given
 pub mod Numbers
 pub mod Parts
 pub mod Paths

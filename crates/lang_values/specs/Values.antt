@@ -13,7 +13,7 @@ use Rattle.lang_tree.specs.declared.expr.Expr.TheFolds.{fold-Expr}
 use Rattle.lang_values.specs.declared.given.Fault.{Fault}
 use Rattle.lang_values.specs.declared.given.Fault.TheVariants.{Range, Kind, Limit}
 use Rattle.lang_values.specs.declared.given.Binding.{Binding}
-use Rattle.lang_values.specs.declared.given.Given.{Given}
+use Rattle.lang_values.specs.Given.{Given}
 use Rattle.lang_values.specs.Numbers.{fits_i64, signed_text, signed_number}
 use Rattle.lang_values.specs.Parts.{piece}
 

@@ -1,5 +1,9 @@
 // What a run is given, what its variables hold, and why it faults.
-use lang_core::{Answers, Inputs, Name, Names, Request, Seq, Text, Value};
+ghost use Rattle.std.specs.Prelude.{◌≡◌};
+ghost use Rattle.lang_values.specs.Given.{given_with};
+
+use lang_core::{Answers, Inputs, Name, Names, Request, Setting, Text, Value};
+use std::marker::Model;
 
 /// Why a handler faults. Its number stands in the response's body.
 #[derive(Clone, Copy, PartialEq, Eq)]
@@ -24,13 +28,83 @@ pub struct Binding {
 }
 
 /// What a run is given beside its rows: the service's name and peers, the request, the segments of its path, its
-/// clock and random words, and the answers of its first calls.
+/// clock and random words, and the answers of its first calls. All of it is lent.
 #[derive(Drop)]
-pub struct Given {
-    pub me: Name,
-    pub peers: Names,
-    pub request: Request,
-    pub segments: Seq<Text>,
-    pub inputs: Inputs,
-    pub answers: Answers,
+pub struct Given<'a> {
+    setting: &'a Setting,
+    request: &'a Request,
+    segments: &'a [Text],
+    inputs: &'a Inputs,
+    answers: &'a Answers,
+}
+
+impl<'a> Model for Given<'a> {
+    ghost use Rattle.lang_values.specs.Given.{Given, given_with};
+
+    ghost Value = { Given };
+
+    ghost view = { λ g. given_with g.setting.now g.request.now g.segments.now g.inputs.now g.answers.now };
+}
+
+impl<'a> Given<'a> {
+    /// What a run of a request with these segments is given.
+    pub fn of(
+        setting: &'a Setting,
+        request: &'a Request,
+        segments: &'a [Text],
+        inputs: &'a Inputs,
+        answers: &'a Answers,
+    ) -> Given<'a>
+        ensures { result ≡ given_with setting.now request.now segments.now inputs.now answers.now }
+    {
+        Given {
+            setting,
+            request,
+            segments,
+            inputs,
+            answers,
+        }
+    }
+
+    /// The name of the service.
+    pub fn me(&self) -> &Name
+        ensures { result.now ≡ self.now.me }
+    {
+        &self.setting.me
+    }
+
+    /// The services that it may call.
+    pub fn peers(&self) -> &Names
+        ensures { result.now ≡ self.now.peers }
+    {
+        &self.setting.peers
+    }
+
+    /// The request.
+    pub fn request(&self) -> &Request
+        ensures { result.now ≡ self.now.request }
+    {
+        self.request
+    }
+
+    /// The segments of the request's path.
+    pub fn segments(&self) -> &[Text]
+        ensures { result.now ≡ self.now.segments }
+    {
+        self.segments
+    }
+
+    /// The clock and the random words.
+    pub fn inputs(&self) -> &Inputs
+        ensures { result.now ≡ self.now.inputs }
+    {
+        self.inputs
+    }
+
+    /// The answers of its first calls.
+    pub fn answers(&self) -> &Answers
+        ensures { result.now ≡ self.now.answers }
+    {
+        self.answers
+    }
 }

@@ -7,7 +7,7 @@ use crate::given::{Binding, Fault, Given};
 use crate::numbers::{signed_number, signed_text};
 use crate::parts::piece;
 use lang_base::both;
-use lang_core::{Copied, Expr, LONGEST_TEXT, NoMemory, Op, Same, Seq, Text, Value};
+use lang_core::{Copied, Expr, LONGEST_TEXT, NoMemory, Op, Same, Text, Value};
 use std::alloc::Global;
 use std::cmp::Ordering;
 
@@ -196,10 +196,10 @@ fn var(alloc: Global, vars: &[Binding], name: &Text) -> Result<Value, NoMemory>
     Ok(Value::Nothing)
 }
 
-fn segment(alloc: Global, segments: &Seq<Text>, n: u64) -> Result<Value, NoMemory>
+fn segment(alloc: Global, segments: &[Text], n: u64) -> Result<Value, NoMemory>
     ensures { IfOk result (λ value. value ≡ text_or_nothing (slice_get segments.now (n - 1))) }
 {
-    match segments.at(n.saturating_sub(1)) {
+    match segments.get(n.saturating_sub(1) as usize) {
         None => Ok(Value::Nothing),
         Some(text) => Ok(Value::Str(text.copied(alloc)?)),
     }
@@ -295,10 +295,10 @@ pub fn value_of(
         Expr::Integer(n) => Ok(Ok(Value::Int(*n))),
         Expr::Str(text) => fine(text_value(alloc, text)),
         Expr::Nothing => Ok(Ok(Value::Nothing)),
-        Expr::Body => fine(text_value(alloc, &given.request.body)),
-        Expr::Who => fine(text_value(alloc, &given.request.who)),
+        Expr::Body => fine(text_value(alloc, &given.request().body)),
+        Expr::Who => fine(text_value(alloc, &given.request().who)),
         Expr::Var(name) => fine(var(alloc, vars, name)),
-        Expr::Path(n) => fine(segment(alloc, &given.segments, *n)),
+        Expr::Path(n) => fine(segment(alloc, given.segments(), *n)),
         Expr::Part { text, by, n } => {
             let text = value_of(alloc, given, vars, text.get());
             let by = value_of(alloc, given, vars, by.get());

@@ -25,7 +25,7 @@ use Rattle.lang_core.specs.declared.value.Value.TheVariants.{Int, Str, Nothing}
 use Rattle.lang_values.specs.Paths.{route_of, segments_of}
 use Rattle.lang_values.specs.Values.{Outcome, value_of, text_or_nothing}
 use Rattle.lang_values.specs.declared.given.Fault.{Fault}
-use Rattle.lang_values.specs.declared.given.Given.{Given}
+use Rattle.lang_values.specs.Given.{Given}
 use Rattle.handler_run.specs.Handlers.{finish, start, given, run_route, run_of}
 use Rattle.handler_run.specs.Runs
 use Rattle.handler_run.specs.Runs.{Ended, ended, Effect, goes_on, faulted, go_on, then_do, begin, step, with_value, with_text, within, key_fits, text_fits, with_key, with_short, note_read, reads_fit, noted, set_var, turns, scan_fits, laid_over, with_cells, note_call, answered, take_answer, send_to, call_request, is_loop, call_path_fits, call_at, call_of, act, in_turn, block_step, stmt_of, block_of}

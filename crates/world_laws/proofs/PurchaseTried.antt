@@ -16,7 +16,7 @@ use Rattle.recorded_inputs.specs.Drawing.{drawn, word_after}
 use Rattle.lang_values.specs.Values.{Outcome, value_of, value_step, var}
 use Rattle.lang_values.specs.Variables.{bind}
 use Rattle.lang_values.specs.declared.given.Binding.{Binding}
-use Rattle.lang_values.specs.declared.given.Given.{Given}
+use Rattle.lang_values.specs.Given.{Given}
 use Rattle.handler_run.specs.Runs.{Effect, act, block_step, stmt_of, block_of, in_turn, call_of, reply_of}
 use Rattle.handler_run.specs.Handlers.{run_of, finish_of, given, start}
 use Rattle.handler_run.specs.declared.state.Ran.{Ran}
