@@ -1,5 +1,5 @@
 -- The laws of a service's run, and the same of what a function answers for it.
-use Rattle.std.proofs.Common.{◌≡◌, ◌∙◌, ap, ◌<◌, ℕ, List, [], ◌∷◌, ◌++◌, length, Option, Some, None, Result, Ok, Err, IfOk, refl, sym, subst}
+use Rattle.std.proofs.Common.{◌≡◌, ◌∙◌, ap, ◌<◌, ℕ, List, [], ◌∷◌, ◌++◌, length, map, Option, Some, None, Result, Ok, Err, IfOk, refl, sym, subst}
 use Rattle.std.proofs.lemmas.List.Elements.{All-nil}
 use Rattle.std.proofs.lemmas.Result.{IfOk-weaker}
 use Rattle.lang_base.specs.declared.memory.NoMemory.{NoMemory}
@@ -199,6 +199,10 @@ module _ (s : Setting) (q : Request) (i : Inputs) (answers : List Response) (row
 -- the first run has no calls
 pub starts : (s : Setting) (q : Request) (i : Inputs) (rows : List Cell) → calls_of (run_of s q i [] rows) ≡ []
 starts s q i rows = starts_at s q i [] rows refl
+
+-- texts of equal lists
+pub texts_same : {X : Type 0} (text : X → List ℕ) (xs ys : List X) (texts : List (List ℕ)) → xs ≡ ys → map text ys ≡ texts → map text xs ≡ texts
+texts_same text xs ys texts same is = ap (map text) same ∙ is
 
 -- what a function answers of the route that takes a request is its run, where memory suffices
 pub route_if_ok : (s : Setting) (q : Request) (i : Inputs) (answers : List Response) (rows : List Cell) (segments : List (List ℕ)) (routes : List Route) (g : Given) (r : Result Ran NoMemory)

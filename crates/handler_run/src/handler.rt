@@ -169,6 +169,6 @@ pub fn run<V: View>(
     ensures alone { setting.now.peers ≡ [] → IfOk result (λ ran. IsDone ran) }
 {
     let segments = segments_of(alloc, &request.path)?;
-    let given = Given::of(setting, request, segments.as_slice(), inputs, answers);
+    let given = Given::of(setting, request, &segments, inputs, answers);
     run_route(alloc, &given, setting.program.routes(), view)
 }

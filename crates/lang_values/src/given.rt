@@ -1,5 +1,5 @@
 // What a run is given, what its variables hold, and why it faults.
-ghost use Rattle.std.specs.Prelude.{◌≡◌};
+ghost use Rattle.std.specs.Prelude.{◌≡◌, map};
 ghost use Rattle.lang_values.specs.Given.{given_with};
 
 use lang_core::{Answers, Inputs, Name, Names, Request, Setting, Text, Value};
@@ -33,17 +33,18 @@ pub struct Binding {
 pub struct Given<'a> {
     setting: &'a Setting,
     request: &'a Request,
-    segments: &'a [Text],
+    segments: &'a [&'a str],
     inputs: &'a Inputs,
     answers: &'a Answers,
 }
 
 impl<'a> Model for Given<'a> {
+    ghost use Rattle.std.specs.Prelude.{map};
     ghost use Rattle.lang_values.specs.Given.{Given, given_with};
 
     ghost Value = { Given };
 
-    ghost view = { λ g. given_with g.setting.now g.request.now g.segments.now g.inputs.now g.answers.now };
+    ghost view = { λ g. given_with g.setting.now g.request.now (map (λ x. x.now) g.segments.now) g.inputs.now g.answers.now };
 }
 
 impl<'a> Given<'a> {
@@ -51,11 +52,11 @@ impl<'a> Given<'a> {
     pub fn of(
         setting: &'a Setting,
         request: &'a Request,
-        segments: &'a [Text],
+        segments: &'a [&'a str],
         inputs: &'a Inputs,
         answers: &'a Answers,
     ) -> Given<'a>
-        ensures { result ≡ given_with setting.now request.now segments.now inputs.now answers.now }
+        ensures { result ≡ given_with setting.now request.now (map (λ x. x.now) segments.now) inputs.now answers.now }
     {
         Given {
             setting,
@@ -88,8 +89,8 @@ impl<'a> Given<'a> {
     }
 
     /// The segments of the request's path.
-    pub fn segments(&self) -> &[Text]
-        ensures { result.now ≡ self.now.segments }
+    pub fn segments(&self) -> &[&'a str]
+        ensures { map (λ x. x.now) result.now ≡ self.now.segments }
     {
         self.segments
     }

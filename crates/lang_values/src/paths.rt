@@ -5,7 +5,7 @@ ghost use Rattle.std.specs.List.{slice_split};
 ghost use Rattle.lang_base.specs.Texts.{same_text};
 ghost use Rattle.lang_values.specs.Paths.{past_slash, segments_of, same_method, segments_match, route_matches, route_of};
 
-use lang_core::{Method, NoMemory, Route, Same, Seq, Text};
+use lang_core::{Method, NoMemory, Route, Text};
 use std::alloc::{AllocError, Global};
 
 fn past_slash(path: &str) -> &str
@@ -23,22 +23,12 @@ fn cut_at_slashes(alloc: Global, text: &str) -> Result<Vec<&str>, AllocError>
     text.split('/').collect(alloc)
 }
 
-fn texts_of(alloc: Global, pieces: &[&str]) -> Result<Seq<Text>, NoMemory>
-    ensures { IfOk result (λ texts. texts ≡ map (λ x. x.now) pieces.now) }
+/// The segments of a path, which is cut at each slash after the first byte. They stand where the path does.
+pub fn segments_of(alloc: Global, path: &Text) -> Result<Vec<&str>, NoMemory>
+    ensures { IfOk result (λ segments. map (λ x. x.now) segments.items ≡ segments_of path.now) }
 {
-    let mut texts = Seq::new(alloc);
-    for piece in pieces {
-        texts.push(Text::of(alloc, piece)?)?;
-    }
-    Ok(texts)
-}
-
-/// The segments of a path, which is cut at each slash after the first byte.
-pub fn segments_of(alloc: Global, path: &Text) -> Result<Seq<Text>, NoMemory>
-    ensures { IfOk result (λ segments. segments ≡ segments_of path.now) }
-{
-    let pieces = cut_at_slashes(alloc, past_slash(path.as_str()))?;
-    texts_of(alloc, &pieces)
+    let segments = cut_at_slashes(alloc, past_slash(path.as_str()))?;
+    Ok(segments)
 }
 
 fn same_method(left: Method, right: Method) -> bool
@@ -53,21 +43,21 @@ fn same_method(left: Method, right: Method) -> bool
     }
 }
 
-fn segment_matches(pattern: &str, segment: &Text) -> bool
+fn segment_matches(pattern: &str, segment: &str) -> bool
     ensures { result ≡ (same_text pattern.now (codes "*") || same_text pattern.now segment.now) }
 {
-    pattern == "*" || pattern == segment.as_str()
+    pattern == "*" || pattern == segment
 }
 
 #[tactic(auto, using(crate::proofs::PathLemmas::lengths_differ))]
-fn segments_match(pattern: &[&str], segments: &[Text]) -> bool
-    ensures { result ≡ segments_match (map (λ x. x.now) pattern.now) segments.now }
+fn segments_match(pattern: &[&str], segments: &[&str]) -> bool
+    ensures { result ≡ segments_match (map (λ x. x.now) pattern.now) (map (λ x. x.now) segments.now) }
 {
     if pattern.len() != segments.len() {
         return false;
     }
     for (i, part) in pattern.iter().enumerate() {
-        if !segment_matches(part, &segments[i]) {
+        if !segment_matches(part, segments[i]) {
             return false;
         }
     }
@@ -77,15 +67,15 @@ fn segments_match(pattern: &[&str], segments: &[Text]) -> bool
 fn route_matches(
     alloc: Global,
     method: Method,
-    segments: &[Text],
+    segments: &[&str],
     route: &Route,
 ) -> Result<bool, NoMemory>
-    ensures { IfOk result (λ matches. matches ≡ route_matches method segments.now route.now) }
+    ensures { IfOk result (λ matches. matches ≡ route_matches method (map (λ x. x.now) segments.now) route.now) }
 {
     if !same_method(route.method, method) {
         return Ok(false);
     }
-    let pattern = cut_at_slashes(alloc, past_slash(route.pattern.as_str()))?;
+    let pattern = segments_of(alloc, &route.pattern)?;
     Ok(segments_match(&pattern, segments))
 }
 
@@ -94,9 +84,9 @@ pub fn route_of<'a>(
     alloc: Global,
     routes: &'a [Route],
     method: Method,
-    segments: &[Text],
+    segments: &[&str],
 ) -> Result<Option<&'a Route>, NoMemory>
-    ensures { IfOk result (λ found. option_copied found ≡ route_of routes.now method segments.now) }
+    ensures { IfOk result (λ found. option_copied found ≡ route_of routes.now method (map (λ x. x.now) segments.now)) }
 {
     for route in routes {
         if route_matches(alloc, method, segments, route)? {

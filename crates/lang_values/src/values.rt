@@ -1,5 +1,5 @@
 // What an expression gives.
-ghost use Rattle.std.specs.Prelude.{◌≡◌, ◌+ℤ◌, ◌-ℤ◌, ◌*ℤ◌, ◌++◌, ◌-◌, ◌⊎◌, slice_get, Ok, Err, IfOk, IfErr, IsOkAnd};
+ghost use Rattle.std.specs.Prelude.{◌≡◌, ◌+ℤ◌, ◌-ℤ◌, ◌*ℤ◌, ◌++◌, ◌-◌, ◌⊎◌, slice_get, map, Ok, Err, IfOk, IfErr, IsOkAnd};
 ghost use Rattle.lang_core.specs.declared.value.Value.TheVariants.{Str};
 ghost use Rattle.lang_values.specs.Values.{and_then, same_value, is_less, truth, exact, within_limit, less, join, apply, text_or_nothing, int_or_nothing, piece_at, part, number, as_text, var, value_of};
 
@@ -196,12 +196,13 @@ fn var(alloc: Global, vars: &[Binding], name: &Text) -> Result<Value, NoMemory>
     Ok(Value::Nothing)
 }
 
-fn segment(alloc: Global, segments: &[Text], n: u64) -> Result<Value, NoMemory>
-    ensures { IfOk result (λ value. value ≡ text_or_nothing (slice_get segments.now (n - 1))) }
+#[tactic(auto, using(crate::proofs::PathLemmas::segment_missing, crate::proofs::PathLemmas::segment_there))]
+fn segment(alloc: Global, segments: &[&str], n: u64) -> Result<Value, NoMemory>
+    ensures { IfOk result (λ value. value ≡ text_or_nothing (slice_get (map (λ x. x.now) segments.now) (n - 1))) }
 {
     match segments.get(n.saturating_sub(1) as usize) {
         None => Ok(Value::Nothing),
-        Some(text) => Ok(Value::Str(text.copied(alloc)?)),
+        Some(text) => Ok(Value::Str(Text::of(alloc, text)?)),
     }
 }
 

@@ -1,11 +1,10 @@
-use Rattle.std.proofs.Common.{◌∙◌}
-use Rattle.handler_run.proofs.RunLaws.{route_if_ok, reads_if_ok, same_if_ok, takes_if_ok, counts_if_ok, starts_if_ok, goes_on_if_ok, few_if_ok, alone_if_ok}
+use Rattle.handler_run.proofs.RunLaws.{texts_same, route_if_ok, reads_if_ok, same_if_ok, takes_if_ok, counts_if_ok, starts_if_ok, goes_on_if_ok, few_if_ok, alone_if_ok}
 use Rattle.handler_run.proofs.handler.run.Goals as goal
 
 pub returns-clause-meaning : goal.returns-clause-meaning
 returns-clause-meaning g c =
-    route_if_ok c.args.setting.now c.args.request.now c.args.inputs.now c.args.answers.now (g.V.View.rows c.args.view.now) c.as_slice.result.now c.routes.result.now c.of-given.result c.run_route.result
-    (c.as_slice.ensures ∙ c.in_ok-segments.ensures) c.routes.ensures.routes c.of-given.ensures c.run_route.ensures
+    route_if_ok c.args.setting.now c.args.request.now c.args.inputs.now c.args.answers.now (g.V.View.rows c.args.view.now) _ c.routes.result.now c.of-given.result c.run_route.result
+    (texts_same _ _ _ _ c.deref.ensures.value c.in_ok-segments.ensures) c.routes.ensures.routes c.of-given.ensures c.run_route.ensures
 
 pub returns-clause-reads : goal.returns-clause-reads
 returns-clause-reads g c = reads_if_ok c.args.setting.now c.args.request.now c.args.inputs.now c.args.answers.now (g.V.View.rows c.args.view.now) c.run_route.result (returns-clause-meaning g c)
