@@ -121,7 +121,7 @@ request_about id q row command (OfRequest n) before h e = elim (cases_Bool (nat_
 ]
 
 struck_stays : (id : ℕ) (before : List Row) (row : Row) → AsksOn before row → asked id before ≡ None → (b : Bool) → struck_step id b row ≡ b
-struck_stays id before (Ordered o) may none b = struck_about id b o.command o.about before may none
+struck_stays id before (Ordered o) may none b = struck_about id b o.command o.about before may.0 none
 struck_stays id before row may none b = refl
 
 pub not_struck : (j : List Row) (id : ℕ) → EachAfter AsksOn [] j → asked id j ≡ None → is_struck id j ≡ false
@@ -151,7 +151,7 @@ took_nothing (Call c n) q t h = no_request (is_version_of c n t) q t.desired h
 request_stays : (id : ℕ) (o : Origin) (before : List Row) (row : Row) → AsksOn before row → asked id before ≡ None → IsUntaken o (row ∷ []) → (q : Request)
     → request_step id o q row ≡ q
 request_stays id o before (Took t) may none h q = took_nothing o q t h
-request_stays id o before (Ordered r) may none h q = request_about id q r r.command r.about before may none
+request_stays id o before (Ordered r) may none h q = request_about id q r r.command r.about before may.0 none
 request_stays id o before row may none h q = refl
 
 pub not_asked_anew : (j : List Row) (id : ℕ) (o : Origin) (q : Request) → EachAfter AsksOn [] j → asked id j ≡ None → IsUntaken o j → request_now id o q j ≡ q

@@ -1,5 +1,5 @@
 -- Orders of operators keep how entries and replies follow from the journal.
-use Rattle.std.proofs.Common.{◌≡◌, ℕ, ◌+◌, true, false, not, ◌&&◌, cond, List, [], ◌∷◌, ◌++◌, Option, Some, None, IsSome, IsSomeAnd, Result, Ok, find, insert, length, is_some, option_map, refl, sym, ap, ◌∙◌, subst, nat_eq, eq-eqb}
+use Rattle.std.proofs.Common.{◌≡◌, ℕ, ◌+◌, true, false, not, ◌&&◌, cond, List, [], ◌∷◌, ◌++◌, Option, Some, None, IsSome, IfSome, IsSomeAnd, Result, Ok, find, insert, length, is_some, option_map, refl, sym, ap, ◌∙◌, subst, nat_eq, eq-eqb}
 use Rattle.std.specs.List.{list_any}
 use Rattle.std.specs.Option.{option_map_or}
 use Rattle.std.proofs.lemmas.Bool.{cond-true}
@@ -29,7 +29,7 @@ use Rattle.journal_rows.specs.declared.words.Mark.TheVariants.{Unsettled}
 use Rattle.call_registers.specs.Replies.{reply, released as released_reply}
 use Rattle.call_registers.specs.declared.reply.Reply.{Reply}
 use Rattle.service_events.specs.Calls.{noted}
-use Rattle.service_events.specs.Fits.{IsOrderAbout, IsAsNow, HasAnswered, HasReply, IsReply, made_as, asked_as, answer_given, takes_request}
+use Rattle.service_events.specs.Fits.{IsOrderAbout, TellsRequests, IsAsNow, HasAnswered, HasReply, IsReply, made_as, asked_as, answer_given, takes_request, request_found}
 use Rattle.service_events.specs.Messages.{rule}
 use Rattle.service_events.specs.Orders.{entry_of, unless_there, unless_outside, unless_replaced, misnamed, is_too_much, refused, about, request_of, order_rows, released_post, carried_out, order_by, order_where, order_event}
 use Rattle.service_events.specs.State.{Kept, after, next_id, or_else}
@@ -49,7 +49,7 @@ use Rattle.service_entry_laws.proofs.SearchLemmas.{found_all, length_insert, if_
 
 module _ (j : List Row) (log : List Entry) (kept : List Reply) (h : IsLogged j log kept) (o : OrderedRow) (id : ℕ) (is : o.about ≡ AboutRequest id) (e : Entry) (found : find (has_id id) log ≡ Some e)
     (x : Entry) (same : x ≡ record e { request = x.request; struck = x.struck }) (requested : (before : Request) → e.request ≡ before → x.request ≡ replaced_by before o o.command)
-    (struck : x.struck ≡ struck_by e.struck o.command) (may : IsOrderAbout o.about o.command j) where
+    (struck : x.struck ≡ struck_by e.struck o.command) (may : IsOrderAbout o.about o.command j) (tells : TellsRequests o j) where
   mine : e.id ≡ id
   mine = found_itself log id e found
 
@@ -124,7 +124,7 @@ module _ (j : List Row) (log : List Entry) (kept : List Reply) (h : IsLogged j l
       let W : IsWith (record e { request = x.request; struck = x.struck }) log log' = subst (λ v. IsWith v log log') same w in
       logged_one j (OrderedAs o ∷ []) log log' kept kept (record e { request = x.request; struck = x.struck })
       (record {
-        may = record { takes = (tt, tt); asks = (may, tt); answers = (tt, tt); confirms = (tt, tt) };
+        may = record { takes = (tt, tt); asks = ((may, tells), tt); answers = (tt, tt); confirms = (tt, tt) };
         only = (subst (IsAboutEntry e.id) (sym is) (sym mine), tt);
         whole = W;
         count = many ∙ h.asked.count ∙ sym (fold_push count_step 0 j (OrderedAs o));
@@ -142,10 +142,10 @@ module _ (j : List Row) (log : List Entry) (kept : List Reply) (h : IsLogged j l
 -- ---- an order about a post
 
 module _ (s : Kept) (h : IsLogged s.journal s.entries s.replies) where
-  post_ordered : (o : OrderedRow) (name : PostName) → o.about ≡ AboutPost name → IsLogged (s.journal ++ OrderedAs o ∷ []) s.entries s.replies
-  post_ordered o name is = logged_none s.journal (OrderedAs o ∷ []) s.entries s.replies
+  post_ordered : (o : OrderedRow) (name : PostName) → o.about ≡ AboutPost name → TellsRequests o s.journal → IsLogged (s.journal ++ OrderedAs o ∷ []) s.entries s.replies
+  post_ordered o name is tells = logged_none s.journal (OrderedAs o ∷ []) s.entries s.replies
       (record {
-        may = record { takes = (tt, tt); asks = (subst (λ a. IsOrderAbout a o.command s.journal) (sym is) tt, tt); answers = (tt, tt); confirms = (tt, tt) };
+        may = record { takes = (tt, tt); asks = ((subst (λ a. IsOrderAbout a o.command s.journal) (sym is) tt, tells), tt); answers = (tt, tt); confirms = (tt, tt) };
         count = fold_push count_step 0 s.journal (OrderedAs o);
         made = λ id. fold_push (asked_step id) None s.journal (OrderedAs o);
         calls = λ c n. list_any-append (takes_request c n) s.journal (OrderedAs o ∷ []) ∙ or_none (list_any (takes_request c n) s.journal) (list_any (takes_request c n) (OrderedAs o ∷ [])) refl;
@@ -159,7 +159,7 @@ module _ (s : Kept) (h : IsLogged s.journal s.entries s.replies) where
 
   -- ---- an order that makes an entry
 
-  module _ (o : OrderedRow) (q : Request) (i : Inputs) (place : ℕ) (is : o.about ≡ AboutRequest (next_id s)) (may : IsOrderAbout o.about o.command s.journal) (unreplaced : (before : Request) → replaced_by before o o.command ≡ before)
+  module _ (o : OrderedRow) (q : Request) (i : Inputs) (place : ℕ) (is : o.about ≡ AboutRequest (next_id s)) (may : IsOrderAbout o.about o.command s.journal) (tells : TellsRequests o s.journal) (unreplaced : (before : Request) → replaced_by before o o.command ≡ before)
       (unstruck_by : struck_by false o.command ≡ false) where
     abbrev asks : AskedRow
     asks = record { id = next_id s; origin = Outside; request = q; inputs = i }
@@ -195,7 +195,7 @@ module _ (s : Kept) (h : IsLogged s.journal s.entries s.replies) where
         let whole = with_insert s.entries place x (is_new s.journal s.entries s.replies h x refl tt) h.asked.distinct in
         logged_one s.journal rows s.entries log' s.replies s.replies x
         (record {
-          may = record { takes = (tt, (tt, tt)); asks = (may, (ap (λ k. k + 1) (h.asked.count ∙ sym (fold_push count_step 0 s.journal (OrderedAs o))), tt)); answers = (tt, (tt, tt)); confirms = (tt, (tt, tt)) };
+          may = record { takes = (tt, (tt, tt)); asks = ((may, tells), (ap (λ k. k + 1) (h.asked.count ∙ sym (fold_push count_step 0 s.journal (OrderedAs o))), tt)); answers = (tt, (tt, tt)); confirms = (tt, (tt, tt)) };
           only = (subst (IsAboutEntry (next_id s)) (sym is) refl, (refl, tt));
           whole = whole;
           count = length_insert s.entries place x ∙ ap (λ k. k + 1) h.asked.count ∙ sym (fold-append count_step 0 s.journal rows);
@@ -251,32 +251,50 @@ module _ (s : Kept) (h : IsLogged s.journal s.entries s.replies) where
   some_replaced m p b None e is before same = cc
   some_replaced m p b (Some v) e is before same = (let one : v ≡ e = cc in ap (λ (w : Entry). with_call m p b w.request) (sym one))
 
+  -- what an order finds is what the journal says that the entry asks by then
+  found_as_told : (id : ℕ) → request_of id s ≡ request_found (AboutRequest id) s.journal
+  found_as_told id = by (entry_of id s) (asked id s.journal) refl refl (h.asked.entries id)
+    where
+      by : (o : Option Entry) (made : Option AskedRow) → find (has_id id) s.entries ≡ o → asked id s.journal ≡ made → option_map made_as o ≡ option_map asked_as made
+          → option_map (λ (e : Entry). e.request) o ≡ option_map (λ (a : AskedRow). request_now id a.origin a.request s.journal) made
+      by None None found is same = refl
+      by None (Some a) found is same = cc
+      by (Some e) None found is same = cc
+      by (Some e) (Some a) found is same =
+          let now = found_all (IsAsNow s.journal) (has_id id) s.entries e h.asked.now found in
+          let Asks : ℕ → Option AskedRow → Type 0 = λ k o. IfSome o (λ (r : AskedRow). e.request ≡ request_now k e.origin r.request s.journal) in
+          let told = subst (λ k. Asks k (asked k s.journal)) (found_itself s.entries id e found) now.request in
+          let asks : e.request ≡ request_now id e.origin a.request s.journal = subst (Asks id) is told in
+          let one : made_as e ≡ asked_as a = cc in
+          ap Some (asks ∙ ap (λ from. request_now id from a.request s.journal) (ap (λ (x : Origin × Inputs). x.0) one))
+
   ordered_logged_by : (command : Command) (token who : List ℕ) (i : Inputs) (full : Option OrderRefused) → or_else (misnamed s command) full ≡ None
       → IsLogged (s.journal ++ order_rows s command token who i) (carried_out s command who i).entries (carried_out s command who i).replies
   ordered_logged_by (Cancel id) token who i full ok =
       (let at = there_is id (entry_of id s) full ok in
       ordered_one s.journal s.entries s.replies h
       (record { token = token; command = Cancel id; who = who; rule = rule; original = request_of id s; repaired = None; about = AboutRequest id }) id refl at.0 at.1
-      (mark true at.0) refl (λ before same. same) refl (is_there id at.0 at.1) (changed id (mark true) s.entries)
+      (mark true at.0) refl (λ before same. same) refl (is_there id at.0 at.1) (found_as_told id, refl) (changed id (mark true) s.entries)
       (with_changed s.entries id (mark true) at.0 at.1 refl refl h.asked.distinct) (length-map s.entries (λ e. cond (has_id id e) (mark true e) e)))
   ordered_logged_by (Restore id) token who i full ok =
       (let at = there_is id (entry_of id s) full ok in
       ordered_one s.journal s.entries s.replies h
       (record { token = token; command = Restore id; who = who; rule = rule; original = request_of id s; repaired = None; about = AboutRequest id }) id refl at.0 at.1
-      (mark false at.0) refl (λ before same. same) refl (is_there id at.0 at.1) (changed id (mark false) s.entries)
+      (mark false at.0) refl (λ before same. same) refl (is_there id at.0 at.1) (found_as_told id, refl) (changed id (mark false) s.entries)
       (with_changed s.entries id (mark false) at.0 at.1 refl refl h.asked.distinct) (length-map s.entries (λ e. cond (has_id id e) (mark false e) e)))
   ordered_logged_by (Replace id m p b) token who i full ok =
       (let at = replaced_is id (entry_of id s) full ok in
       ordered_one s.journal s.entries s.replies h
       (record { token = token; command = Replace id m p b; who = who; rule = rule; original = request_of id s; repaired = option_map (with_call m p b) (request_of id s); about = AboutRequest id }) id refl at.0 at.1
-      (replace m p b at.0) refl (some_replaced m p b (entry_of id s) at.0 at.1) refl (is_outside id at.0 at.1 at.2) (changed id (replace m p b) s.entries)
+      (replace m p b at.0) refl (some_replaced m p b (entry_of id s) at.0 at.1) refl (is_outside id at.0 at.1 at.2) (found_as_told id, refl) (changed id (replace m p b) s.entries)
       (with_changed s.entries id (replace m p b) at.0 at.1 refl refl h.asked.distinct) (length-map s.entries (λ e. cond (has_id id e) (replace m p b e) e)))
   ordered_logged_by (Create before after q) token who i full ok =
       ordered_new
-      (record { token = token; command = Create before after q; who = who; rule = rule; original = None; repaired = Some q; about = AboutRequest (next_id s) }) q i (place_between before after s.entries) refl tt (λ r. refl) refl
+      (record { token = token; command = Create before after q; who = who; rule = rule; original = None; repaired = Some q; about = AboutRequest (next_id s) }) q i (place_between before after s.entries) refl tt
+      (sym (ap (option_map (λ (a : AskedRow). request_now (next_id s) a.origin a.request s.journal)) (unmade s.journal s.entries s.replies h)), refl) (λ r. refl) refl
   ordered_logged_by (Retry name) token who i full ok =
       retried (s.journal ++ order_rows s (Retry name) token who i) who name
-      (post_ordered (record { token = token; command = Retry name; who = who; rule = rule; original = None; repaired = None; about = AboutPost name }) name refl)
+      (post_ordered (record { token = token; command = Retry name; who = who; rule = rule; original = None; repaired = None; about = AboutPost name }) name refl (refl, refl))
 
   order_by_logged : (command : Command) (token who : List ℕ) (i : Inputs) (o : Option OrderRefused) → refused s command ≡ o → LeavesLogged (order_by s command token who i o)
   order_by_logged command token who i (Some why) is = h

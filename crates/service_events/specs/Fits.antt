@@ -23,6 +23,7 @@ use Rattle.journal_rows.specs.declared.orders.About.{About}
 use Rattle.journal_rows.specs.declared.orders.About.TheVariants.{Request as AboutRequest, Post as AboutPost}
 use Rattle.journal_rows.specs.declared.orders.Command.{Command}
 use Rattle.journal_rows.specs.declared.orders.Command.TheVariants.{Cancel, Restore, Replace}
+use Rattle.journal_rows.specs.declared.orders.OrderedRow.{OrderedRow}
 use Rattle.journal_rows.specs.declared.row.Row.{Row}
 use Rattle.journal_rows.specs.declared.row.Row.TheVariants.{Asked, Took, Acked, Answered, WasConfirmed, Sent, SawAck, SawAnswer, Confirmed, Ordered}
 use Rattle.call_registers.specs.Registers.{register, IsNumbered}
@@ -33,6 +34,7 @@ use Rattle.call_registers.specs.declared.reply.Reply.{Reply}
 use Rattle.flights.specs.declared.flight.Flight.{Flight}
 use Rattle.service_events.specs.State.{Kept, same_call_origin}
 use Rattle.service_events.specs.Calls.{seen_answer}
+use Rattle.service_events.specs.Orders.{request_put}
 
 -- each row may stand after those before it
 abbrev pub EachAfter : (List Row → Row → Type 0) → List Row → List Row → Type 0
@@ -118,9 +120,18 @@ abbrev pub IsOrderAbout : About → Command → List Row → Type 0
 IsOrderAbout (AboutRequest id) command before = IsOrderOn command (asked id before)
 IsOrderAbout (AboutPost name) command before = Unit {0}
 
+-- the request that an order about this finds: what that entry asks by then
+abbrev pub request_found : About → List Row → Option Request
+request_found (AboutRequest id) before = option_map (λ (a : AskedRow). request_now id a.origin a.request before) (asked id before)
+request_found (AboutPost name) before = None
+
+-- an order's row has the request that the order found, and that it put there
+abbrev pub TellsRequests : OrderedRow → List Row → Type 0
+TellsRequests o before = (o.original ≡ request_found o.about before) × (o.repaired ≡ request_put o.command o.original)
+
 abbrev pub AsksOn : List Row → Row → Type 0
 AsksOn before (Asked a) = a.id ≡ asked_count before + 1
-AsksOn before (Ordered o) = IsOrderAbout o.about o.command before
+AsksOn before (Ordered o) = IsOrderAbout o.about o.command before × TellsRequests o before
 AsksOn before row = Unit {0}
 
 -- how an entry was made, and what of the row says so

@@ -95,11 +95,14 @@ original s (Replace id method path body) = request_of id s
 original s (Create before after q) = None
 original s (Retry name) = None
 
--- the request that it put there
+-- the request that a command puts there, where it finds this one
+abbrev pub request_put : Command → Option Request → Option Request
+request_put (Replace id method path body) found = option_map (with_call method path body) found
+request_put (Create before after q) found = Some q
+request_put command found = None
+
 abbrev pub repaired : Kept → Command → Option Request
-repaired s (Replace id method path body) = option_map (with_call method path body) (request_of id s)
-repaired s (Create before after q) = Some q
-repaired s command = None
+repaired s command = request_put command (original s command)
 
 abbrev pub asked_rows : Kept → Command → Inputs → List Row
 asked_rows s (Create before after q) i = Asked (record { id = next_id s; origin = Outside; request = q; inputs = i }) ∷ []

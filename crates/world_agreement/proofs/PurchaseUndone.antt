@@ -111,7 +111,7 @@ module _ (setting : Setting) (buy pay : Request) (i : Inputs) (written : List Wr
 
   shop_asked : FitsAsked shop.journal shop.entries
   shop_asked = record {
-    rows = (tt, (tt, (tt, (refl, (tt, (refl, (tt, (tt, (tt, tt)))))))));
+    rows = (tt, (tt, (tt, (refl, (tt, ((refl, (refl, refl)), (tt, (tt, (tt, tt)))))))));
     count = refl;
     distinct = (record { id = refl; origin = refl }, tt);
     entries = λ n. elim (cases_Bool (nat_eq 1 n)) [

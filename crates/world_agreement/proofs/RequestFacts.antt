@@ -65,7 +65,7 @@ module _ (id : ℕ) (c : List ℕ) (n : ℕ) (first : Request) where
   asks_stays : (before : List Row) (row : Row) (last : Option TookRow) (now : Request) → AsksOn before row → IsOfCall (asked id before) → AsksTaken last now
       → AsksTaken (taken_step c n last row) (request_step id (Call c n) now row)
   asks_stays before (Took t) last now f of h = takes (is_version_of c n t) t last now h
-  asks_stays before (Ordered o) last now f of h = subst (AsksTaken last) (sym (unordered o before now o.about f of)) h
+  asks_stays before (Ordered o) last now f of h = subst (AsksTaken last) (sym (unordered o before now o.about f.0 of)) h
   asks_stays before row last now f of h = h
 
   pub asks_taken : (journal : List Row) → EachAfter AsksOn [] journal → IfSome (asked id journal) (λ a. a.origin ≡ Call c n)
