@@ -24,7 +24,7 @@ use Rattle.service_call_laws.proofs.RowLemmas.{Each, each_behind}
 use Rattle.world_delivery_laws.proofs.LandingLaws.{Lands, lands_after, completed_lands}
 use Rattle.world_delivery_laws.proofs.ChainLaws.{IsOnward, calls_onward}
 use Rattle.world_delivery_laws.proofs.WeightLemmas.{left_less, cost_grows, cost_some, fewer_weigh, sum_between}
-use Rattle.world_delivery_laws.specs.Weights.{is_among, left_by, chain_behind, cost, room, flight_weight, load, call_weight, sent_weight}
+use Rattle.world_delivery_laws.proofs.Weights.{is_among, left_by, chain_behind, cost, room, flight_weight, load, call_weight, sent_weight}
 
 -- ---- a call that is sent
 

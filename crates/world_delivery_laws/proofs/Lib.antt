@@ -1,3 +1,4 @@
+pub mod Weights
 pub mod ChainLaws
 pub mod LandingLaws
 pub mod WeightLemmas
