@@ -1,7 +1,8 @@
 // What events of a service answer.
 use journal_rows::About;
-use lang_core::FaultNote;
+use lang_core::{Copied, FaultNote, NoMemory};
 use repair_messages::{Ack, AnswerMessage, Confirm, SetMessage};
+use std::alloc::Global;
 
 /// What became of a live request.
 #[derive(Drop)]
@@ -79,4 +80,53 @@ pub enum Posted {
 pub struct Ordered {
     pub about: About,
     pub rule: u32,
+}
+
+impl Copied for Arrived {
+    fn copied(&self, alloc: Global) -> Result<Arrived, NoMemory> {
+        match self {
+            Arrived::Done { index, id, answer } => Ok(Arrived::Done {
+                index: *index,
+                id: *id,
+                answer: Copied::copied(answer, alloc)?,
+            }),
+            Arrived::Call { flight, set } => Ok(Arrived::Call {
+                flight: *flight,
+                set: set.copied(alloc)?,
+            }),
+            Arrived::Known(answer) => Ok(Arrived::Known(answer.copied(alloc)?)),
+        }
+    }
+}
+
+impl Copied for Taken {
+    fn copied(&self, alloc: Global) -> Result<Taken, NoMemory> {
+        Ok(Taken {
+            ack: self.ack.copied(alloc)?,
+            rule: self.rule,
+        })
+    }
+}
+
+impl Copied for Heard {
+    fn copied(&self, alloc: Global) -> Result<Heard, NoMemory> {
+        Ok(Heard {
+            confirm: self.confirm.copied(alloc)?,
+            rule: self.rule,
+        })
+    }
+}
+
+impl Copied for PostReply {
+    fn copied(&self, alloc: Global) -> Result<PostReply, NoMemory> {
+        match self {
+            PostReply::Acked(ack) => Ok(PostReply::Acked(ack.copied(alloc)?)),
+            PostReply::Confirmed(confirm) => Ok(PostReply::Confirmed(confirm.copied(alloc)?)),
+            PostReply::Refused { word, number } => Ok(PostReply::Refused {
+                word: *word,
+                number: *number,
+            }),
+            PostReply::Lost(fault) => Ok(PostReply::Lost(fault.copied(alloc)?)),
+        }
+    }
 }

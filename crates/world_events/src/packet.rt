@@ -1,10 +1,13 @@
 // What goes over the network.
-ghost use Rattle.std.specs.Prelude.{◌≡◌};
+ghost use Rattle.std.specs.Prelude.{◌≡◌, IfOk};
 ghost use Rattle.world_events.specs.Events.{live_refusal};
+ghost use Rattle.world_events.specs.declared.packet.Packet.TheVariants as packet;
 
-use lang_core::Name;
+use lang_base::both;
+use lang_core::{Copied, Name, NoMemory};
 use repair_messages::{AnswerMessage, Post, SetMessage};
 use service_events::{ArriveRefused, PostReply};
+use std::alloc::Global;
 
 /// What comes back of a live call.
 #[derive(Drop)]
@@ -54,4 +57,70 @@ pub enum Packet {
         post: Post,
         reply: PostReply,
     },
+}
+
+impl Copied for Live {
+    fn copied(&self, alloc: Global) -> Result<Live, NoMemory> {
+        match self {
+            Live::Answer(answer) => Ok(Live::Answer(answer.copied(alloc)?)),
+            Live::Refused { word, number } => Ok(Live::Refused {
+                word: *word,
+                number: *number,
+            }),
+        }
+    }
+}
+
+fn copied_call(
+    alloc: Global,
+    from: &Name,
+    flight: u64,
+    set: &SetMessage,
+) -> Result<Packet, NoMemory>
+    ensures { IfOk result (λ copy. copy ≡ packet.Call from.now flight set.now) }
+{
+    let (from, set) = both(from.copied(alloc), set.copied(alloc))?;
+    Ok(Packet::Call { from, flight, set })
+}
+
+fn copied_call_reply(
+    alloc: Global,
+    to: &Name,
+    flight: u64,
+    set: &SetMessage,
+    reply: &Live,
+) -> Result<Packet, NoMemory>
+    ensures { IfOk result (λ copy. copy ≡ packet.CallReply to.now flight set.now reply.now) }
+{
+    let call = both(to.copied(alloc), set.copied(alloc));
+    let (call, reply) = both(call, reply.copied(alloc))?;
+    Ok(Packet::CallReply {
+        to: call.0,
+        flight,
+        set: call.1,
+        reply,
+    })
+}
+
+fn copied_post_reply(alloc: Global, post: &Post, reply: &PostReply) -> Result<Packet, NoMemory>
+    ensures { IfOk result (λ copy. copy ≡ packet.PostReply post.now reply.now) }
+{
+    let (post, reply) = both(post.copied(alloc), reply.copied(alloc))?;
+    Ok(Packet::PostReply { post, reply })
+}
+
+impl Copied for Packet {
+    fn copied(&self, alloc: Global) -> Result<Packet, NoMemory> {
+        match self {
+            Packet::Call { from, flight, set } => copied_call(alloc, from, *flight, set),
+            Packet::CallReply {
+                to,
+                flight,
+                set,
+                reply,
+            } => copied_call_reply(alloc, to, *flight, set, reply),
+            Packet::Post(post) => Ok(Packet::Post(post.copied(alloc)?)),
+            Packet::PostReply { post, reply } => copied_post_reply(alloc, post, reply),
+        }
+    }
 }
