@@ -1,5 +1,7 @@
 // How a service is set up.
-use lang_core::{Setting, Text};
+use lang_base::both;
+use lang_core::{Copied, NoMemory, Setting, Text};
+use std::alloc::Global;
 
 /// How a service of a world is set up: its setting, and how it is reached.
 #[derive(Drop)]
@@ -14,4 +16,19 @@ pub struct Setup {
     pub door: Text,
     /// How many workers serve requests, from 1 to 8.
     pub workers: u64,
+}
+
+impl Copied for Setup {
+    fn copied(&self, alloc: Global) -> Result<Setup, NoMemory> {
+        let secrets = both(self.secret.copied(alloc), self.console.copied(alloc));
+        let reached = both(secrets, self.door.copied(alloc));
+        let (setting, (secrets, door)) = both(self.setting.copied(alloc), reached)?;
+        Ok(Setup {
+            setting,
+            secret: secrets.0,
+            console: secrets.1,
+            door,
+            workers: self.workers,
+        })
+    }
 }
