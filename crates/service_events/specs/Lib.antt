@@ -10,4 +10,5 @@ pub mod Posts
 pub mod Doing
 pub mod Commits
 pub mod Progress
+pub mod RunsOn
 pub mod Ages

@@ -162,7 +162,7 @@ ends_after s f t g a same quiet first e = record {
 }
 
 -- a call that is there is taken
-with_call : (P : After Arrived → Type 0) (o : Option CallMade) (c : CallMade) (go : CallMade → After Arrived) (never : After Arrived) → o ≡ Some c → P (go c)
+pub with_call : (P : After Arrived → Type 0) (o : Option CallMade) (c : CallMade) (go : CallMade → After Arrived) (never : After Arrived) → o ≡ Some c → P (go c)
     → P (call_or_none o go never)
 with_call P None c go never e h = cc
 with_call P (Some d) c go never e h = (let Q : CallMade → Type 0 = λ x. P (go x) in subst Q (sym (call_is d c e)) h)

@@ -2,6 +2,7 @@ pub mod BoundLaws
 pub mod MessageBounds
 pub mod FitLaws
 pub mod CommitLaws
+pub mod RunsOnLaws
 pub mod SilentLaws
 pub mod AgeLemmas
 pub mod OwnedLemmas
