@@ -41,7 +41,7 @@ IsNot (Some n) m = nat_eq n m ≡ false
 
 -- ---- a call is named
 
-named_is : (at : ℕ) (rs : List Register) (next : ℕ) (call : CallMade) → next ≡ next_number rs → IsNumbered rs → after_rows at rs (named next call ∷ []) ≡ with_call call.dest call.request at rs
+pub named_is : (at : ℕ) (rs : List Register) (next : ℕ) (call : CallMade) → next ≡ next_number rs → IsNumbered rs → after_rows at rs (named next call ∷ []) ≡ with_call call.dest call.request at rs
 named_is at rs next call same h =
     ap (λ o. put_sent at (record { number = next; dest = call.dest; version = 1; desired = Some call.request }) o rs) (ap (λ k. register k rs) same ∙ next_free rs h)
 
@@ -52,7 +52,7 @@ named_became at rs next call same h =
 
 -- ---- a call is deleted
 
-put_deleted : (at : ℕ) (s : SentRow) (o : Option Register) (rs : List Register) → s.desired ≡ None → IsNumbered rs → Became rs (put_sent at s o rs) 0 (λ m. nat_eq s.number m ≡ false)
+pub put_deleted : (at : ℕ) (s : SentRow) (o : Option Register) (rs : List Register) → s.desired ≡ None → IsNumbered rs → Became rs (put_sent at s o rs) 0 (λ m. nat_eq s.number m ≡ false)
 put_deleted at s None rs gone h =
     subst (λ r. Became rs r 0 (λ m. nat_eq s.number m ≡ false)) (ap (λ d. first_sent at s d rs) (sym gone)) (record { numbered = h; many = omega arith; gives = λ m other. refl })
 put_deleted at s (Some r) rs gone h = record {
@@ -126,7 +126,7 @@ pub acked_aloft : (n version : ℕ) (rs : List Register) (ns : List ℕ) (cs : L
 acked_aloft n version rs ns cs a =
     aloft_same rs (at_number n (with_ack version) rs) ns cs (numbered_changed n (with_ack version) (λ r. refl) rs a.numbered) (length_changed n (with_ack version) (λ r. refl) rs) a
 
-answer_number : (x : Answer) (r : Register) → (with_answer x r).number ≡ r.number
+pub answer_number : (x : Answer) (r : Register) → (with_answer x r).number ≡ r.number
 answer_number x r = cond_both (is_newer r.answer x.answer_version) (record r { answer = Some x }) r (λ (y : Register). y.number ≡ r.number) (λ _. refl) (λ _. refl)
 
 pub answered_aloft : (n : ℕ) (x : Answer) (rs : List Register) (ns : List ℕ) (cs : List CallMade) → IsAloft rs ns cs → IsAloft (at_number n (with_answer x) rs) ns cs

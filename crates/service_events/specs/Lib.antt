@@ -11,4 +11,5 @@ pub mod Doing
 pub mod Commits
 pub mod Progress
 pub mod RunsOn
+pub mod Causes
 pub mod Ages

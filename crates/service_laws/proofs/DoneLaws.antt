@@ -1,5 +1,5 @@
 -- Laws of a service's events, said of a call that did its event or wanted memory and changed nothing.
-use Rattle.std.proofs.Common.{◌≡◌, ℕ, Bool, true, false, Option, Some, None, Result, Ok, Err, MatchOption, refl, sym, ap, subst, ◌∙◌}
+use Rattle.std.proofs.Common.{◌≡◌, ℕ, Bool, true, false, Option, Some, None, Result, Ok, Err, MatchOption, refl, sym, subst, ◌∙◌}
 use Rattle.lang_base.specs.Memory.{Unless, lacks}
 use Rattle.lang_core.specs.declared.ids.Origin.{Origin}
 use Rattle.lang_core.specs.declared.inputs.Inputs.{Inputs}
@@ -17,6 +17,7 @@ use Rattle.service_events.specs.declared.refusals.ArriveRefused.{ArriveRefused}
 use Rattle.service_events.specs.declared.refusals.CallRefused.{CallRefused}
 use Rattle.service_call_laws.proofs.CallLaws.{IsFew}
 use Rattle.service_laws.proofs.CommitLaws.{arrive_commits, call_answered_commits, call_failed_commits}
+use Rattle.service_laws.proofs.UntoldLaws.{TellsNone, same_tells_none}
 
 -- what holds of an event and of a refusal for want of memory holds of a call
 pub does_holds : {A E : Type 0} (P : Result A E → Kept → Type 0) (is_memory : E → Bool) (event : After (Result A E)) (s t : Kept) (r : Result A E)
@@ -62,12 +63,22 @@ call_failed_done s t id number why r fits few does =
     does_holds (λ r t. CommitsFlight id s r t) call_memory (call_failed_event s id number why) s t r does few
     (call_failed_commits s id number why fits) (refused_flight call_memory id s r)
 
--- ---- which events answer no live request
+-- ---- which events answer no live request, and tell no call why it has no answer
+
+-- what holds of what an event leaves and of the service before it holds of what a call leaves
+pub left_done : {A E : Type 0} (P : Kept → Type 0) (is_memory : E → Bool) (event : After (Result A E)) (s t : Kept) (r : Result A E) → Does is_memory event s r t
+    → P event.service → P s → P t
+left_done {A} {E} P is_memory event s t r does leaves before = by (lacks is_memory r) does
+  where
+    by : (wants : Bool) → Unless wants (after t r ≡ event) (t ≡ s) → P t
+    by true same = subst P (sym same) before
+    by false is = (let Q : After (Result A E) → Type 0 = λ a. P a.service in subst Q (sym is) leaves)
 
 pub silent_done : {A E : Type 0} (is_memory : E → Bool) (event : After (Result A E)) (s t : Kept) (r : Result A E) → Does is_memory event s r t
     → live_rows event.service.journal ≡ live_rows s.journal → live_rows t.journal ≡ live_rows s.journal
-silent_done {A} {E} is_memory event s t r does silent = by (lacks is_memory r) does
-  where
-    by : (wants : Bool) → Unless wants (after t r ≡ event) (t ≡ s) → live_rows t.journal ≡ live_rows s.journal
-    by true same = ap (λ (k : Kept). live_rows k.journal) same
-    by false is = ap (λ (a : After (Result A E)). live_rows a.service.journal) is ∙ silent
+silent_done is_memory event s t r does silent =
+    left_done (λ (k : Kept). live_rows k.journal ≡ live_rows s.journal) is_memory event s t r does silent refl
+
+pub untold_done : {A E : Type 0} (is_memory : E → Bool) (event : After (Result A E)) (s t : Kept) (r : Result A E) → Does is_memory event s r t
+    → TellsNone s event.service → TellsNone s t
+untold_done is_memory event s t r does untold = left_done (TellsNone s) is_memory event s t r does untold (same_tells_none s s refl)

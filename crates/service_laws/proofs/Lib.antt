@@ -3,6 +3,8 @@ pub mod MessageBounds
 pub mod FitLaws
 pub mod CommitLaws
 pub mod RunsOnLaws
+pub mod CauseLaws
+pub mod UntoldLaws
 pub mod SilentLaws
 pub mod AgeLemmas
 pub mod OwnedLemmas
