@@ -19,7 +19,8 @@ use crate::slots::Slots;
 use crate::stepped::Stepped;
 use crate::view::RowsBefore;
 use crate::written::{insert_entry, may_call};
-use lang_core::{Cells, Method, NoMemory, Setting, Text};
+use lang_base::both;
+use lang_core::{Cells, Copied, Method, NoMemory, Setting, Text};
 use log_index::{EntryMarks, EntryRows};
 use request_log::{Entry, Log, LogFull};
 use std::alloc::Global;
@@ -339,5 +340,19 @@ impl Repairer {
                 ))
             }
         }
+    }
+}
+
+impl Copied for Repairer {
+    fn copied(&self, alloc: Global) -> Result<Repairer, NoMemory> {
+        let indexes = both(self.rows.copied(alloc), self.marks.copied(alloc));
+        let (log, indexes) = both(self.log.copied(alloc), indexes)?;
+        Ok(Repairer {
+            alloc,
+            log,
+            rows: indexes.0,
+            marks: indexes.1,
+            calls: self.calls,
+        })
     }
 }

@@ -1,5 +1,5 @@
 // Where the reads of entries looked, and which entries are marked.
-ghost use Rattle.std.specs.Prelude.{ℕ, ◌≡◌, ◌+◌, ◌<◌, ◌≤◌, ◌&&◌, ◌||◌, not, nat_eq, nat_lt, [], length, map, insert, slice_set, IsTrue, OnOk, OnErr};
+ghost use Rattle.std.specs.Prelude.{ℕ, ◌≡◌, ◌+◌, ◌<◌, ◌≤◌, ◌&&◌, ◌||◌, not, nat_eq, nat_lt, [], length, map, insert, slice_set, IsTrue, IfOk, OnOk, OnErr, vec_capacity};
 ghost use Rattle.dependency_index.specs.Reads.{read_at};
 ghost use Rattle.log_index.specs.Marks.{changes, is_marked, lacking, sees_behind, AreMarks, IsReadyToInsert, IsReadyToSet};
 
@@ -7,6 +7,7 @@ use crate::behind::mark_writes;
 use crate::numbers::{drop_below, insert_mark};
 use crate::places::Places;
 use dependency_index::{Index, put_reserved};
+use lang_base::both;
 use lang_core::{NoMemory, Reads, Writes};
 use std::alloc::Global;
 use std::marker::Model;
@@ -42,6 +43,17 @@ impl Model for EntryMarks {
         × (length m.places.labels ≤ vec_capacity m.marks) };
 }
 
+// The same marks, and a place for the mark of each of so many entries.
+fn copied_marks(alloc: Global, marks: &[u64], count: usize) -> Result<Vec<u64>, NoMemory>
+    requires { length marks.now ≤ count }
+    ensures marks { IfOk result (λ copy. copy.items ≡ marks.now) }
+    ensures spots { IfOk result (λ copy. count ≤ vec_capacity copy) }
+{
+    let mut copy = Vec::from_slice(alloc, marks)?;
+    copy.reserve(count - marks.len())?;
+    Ok(copy)
+}
+
 impl EntryMarks {
     /// Of no entries.
     pub fn new(alloc: Global) -> EntryMarks
@@ -53,6 +65,21 @@ impl EntryMarks {
             index: Index::new(alloc),
             marks: Vec::new(alloc),
         }
+    }
+
+    /// Equal reads and marks, without room.
+    pub fn copied(&self, alloc: Global) -> Result<EntryMarks, NoMemory>
+        ensures reads { IfOk result (λ copy. copy.reads ≡ self.now.reads) }
+        ensures marks { IfOk result (λ copy. copy.marks ≡ self.now.marks) }
+    {
+        let marks = copied_marks(alloc, &self.marks, self.places.len());
+        let reads = both(self.places.copied(alloc), self.index.copied(alloc));
+        let (marks, (places, index)) = both(marks, reads)?;
+        Ok(EntryMarks {
+            places,
+            index,
+            marks,
+        })
     }
 
     /// The places of the marked entries, rising.

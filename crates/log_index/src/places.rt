@@ -1,5 +1,5 @@
 // Places in logged order, each with a label that stays when others come before it.
-ghost use Rattle.std.specs.Prelude.{◌≡◌, ◌+◌, ◌<◌, ◌≤◌, ◌∷◌, [], ◌++◌, IsTrue, OnOk, OnErr, insert, length, nat_lt, slice_index, vec_len, vec_capacity};
+ghost use Rattle.std.specs.Prelude.{◌≡◌, ◌+◌, ◌<◌, ◌≤◌, ◌∷◌, [], ◌++◌, IsTrue, IfOk, OnOk, OnErr, insert, length, nat_lt, slice_index, vec_len, vec_capacity};
 ghost use Rattle.std.specs.List.{Contains};
 ghost use Rattle.lang_lists.specs.Room.{is_made};
 ghost use Rattle.place_order.specs.Labels.{place_in, IsNew};
@@ -8,6 +8,7 @@ ghost use Rattle.log_index.specs.Rows.{call_at};
 ghost use Rattle.place_order.specs.declared.room.OrderCall.{OrderCall};
 ghost use Rattle.log_index.specs.Places.{AreLabels, HasPlace};
 
+use lang_base::both;
 use lang_core::NoMemory;
 use lang_lists::count_front;
 use place_order::Order;
@@ -90,6 +91,12 @@ fn new_label(order: &mut Order, labels: &[u64], place: usize) -> u64
     }
 }
 
+fn copied_labels(alloc: Global, labels: &[u64]) -> Result<Vec<u64>, NoMemory>
+    ensures { IfOk result (λ copy. copy.items ≡ labels.now) }
+{
+    Ok(Vec::from_slice(alloc, labels)?)
+}
+
 impl Places {
     /// No places.
     pub fn new(alloc: Global) -> Places
@@ -99,6 +106,14 @@ impl Places {
             order: Order::new(alloc),
             labels: Vec::new(alloc),
         }
+    }
+
+    /// Equal places, without room.
+    pub fn copied(&self, alloc: Global) -> Result<Places, NoMemory>
+        ensures { IfOk result (λ copy. copy.labels ≡ self.now.labels) }
+    {
+        let (order, labels) = both(self.order.copied(alloc), copied_labels(alloc, &self.labels))?;
+        Ok(Places { order, labels })
     }
 
     /// How many there are.

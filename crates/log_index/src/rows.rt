@@ -5,6 +5,7 @@ ghost use Rattle.lang_core.specs.Rows.{get, scan};
 ghost use Rattle.log_index.specs.Rows.{rows_before, IsReadyToInsert, IsReadyToSet};
 
 use crate::labels::{label_at, new_label, ready_label};
+use lang_base::both;
 use lang_core::{Cells, NoMemory, Text, Writes};
 use place_order::Order;
 use std::alloc::Global;
@@ -41,6 +42,14 @@ impl EntryRows {
             order: Order::new(alloc),
             versions: Versions::new(alloc),
         }
+    }
+
+    /// What the same entries wrote, without room.
+    pub fn copied(&self, alloc: Global) -> Result<EntryRows, NoMemory>
+        ensures { IfOk result (λ copy. copy.writes ≡ self.now.writes) }
+    {
+        let (order, versions) = both(self.order.copied(alloc), self.versions.copied(alloc))?;
+        Ok(EntryRows { order, versions })
     }
 
     /// The text at a key of a table in the rows before the entry at a place, or in those after all entries where it is
