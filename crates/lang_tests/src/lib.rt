@@ -1,5 +1,4 @@
-//! Tests of the ground and of the handler language: values, trees, rows, logs, what a request draws; tokens, programs
-//! read and printed, and what runs come to.
+//! Tests of the ground and of logs: values, trees, rows, what a request draws; entries, and where one is put.
 #![tactic(auto)]
 
 #[cfg(test)]
@@ -11,13 +10,7 @@ mod logs;
 #[cfg(test)]
 mod placing;
 #[cfg(test)]
-mod programs;
-#[cfg(test)]
 mod rows;
-#[cfg(test)]
-mod runs;
-#[cfg(test)]
-mod tokens;
 #[cfg(test)]
 mod trees;
 #[cfg(test)]
