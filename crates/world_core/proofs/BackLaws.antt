@@ -123,7 +123,7 @@ failed_is_back s id number why = failed_if s id number why (flight_of id s)
 one_back : (a : AnswerMessage) (o : Option Packet) → answer_by (option_and_then back_of o) a ≡ reply_to a o
 one_back a None = refl
 one_back a (Some (Call from flight set)) = refl
-one_back a (Some (CallReply to flight set reply)) = refl
+one_back a (Some (CallReply to flight number reply)) = refl
 one_back a (Some (Post post)) = refl
 one_back a (Some (PostReply post reply)) = refl
 

@@ -65,12 +65,12 @@ same_arrival s set q asked i caller is_caller is_asked =
     ap (λ n. arrive_event s (CallOrigin n set.number) asked i) is_caller ∙ ap (λ r. arrive_event s (CallOrigin set.caller set.number) r i) is_asked
 
 pub call_serves : (s s' : Kept) (flight : ℕ) (set : SetMessage) (q asked : Request) (i : Inputs) (from caller : List ℕ) (back : Back) (arrived : Arrived) (told : Outcome) (packet : Option Packet)
-    → caller ≡ set.caller → asked ≡ q → back ≡ record { to = set.caller; flight = flight; set = set }
+    → caller ≡ set.caller → asked ≡ q → back ≡ record { to = set.caller; flight = flight; number = set.number }
     → Goes s s' from (answer_by (Some back)) arrived told packet (arrive_event s (CallOrigin caller set.number) asked i)
     → serves s' (Arrive (Ok told)) packet ≡ call_arrive_served flight set q s i
 call_serves s s' flight set q asked i from caller back arrived told packet is_caller is_asked is_back g =
     let own : Back → AnswerMessage → Option Packet = λ b. answer_by (Some b) in
-    let mine : Back = record { to = set.caller; flight = flight; set = set } in
+    let mine : Back = record { to = set.caller; flight = flight; number = set.number } in
     let event = arrive_event s (CallOrigin set.caller set.number) q i in
     let now : Goes s s' from (own back) arrived told packet event = record {
       is = g.is ∙ same_arrival s set q asked i caller is_caller is_asked;
@@ -82,14 +82,14 @@ call_serves s s' flight set q asked i from caller back arrived told packet is_ca
     (ap (λ b. sent from (own b) arrived) is_back)
 
 pub call_refused : (s s' : Kept) (flight : ℕ) (set : SetMessage) (q asked : Request) (i : Inputs) (caller : List ℕ) (back : Back) (why : ArriveRefused) (packet : Packet)
-    → caller ≡ set.caller → asked ≡ q → back ≡ record { to = set.caller; flight = flight; set = set }
-    → after s' (Err why) ≡ arrive_event s (CallOrigin caller set.number) asked i → packet ≡ CallReply back.to back.flight back.set (live_refusal why)
+    → caller ≡ set.caller → asked ≡ q → back ≡ record { to = set.caller; flight = flight; number = set.number }
+    → after s' (Err why) ≡ arrive_event s (CallOrigin caller set.number) asked i → packet ≡ CallReply back.to back.flight back.number (live_refusal why)
     → serves s' (Arrive (Err why)) (Some packet) ≡ call_arrive_served flight set q s i
 call_refused s s' flight set q asked i caller back why packet is_caller is_asked is_back is said =
-    let P : Back → Option Packet = λ b. Some (CallReply b.to b.flight b.set (live_refusal why)) in
+    let P : Back → Option Packet = λ b. Some (CallReply b.to b.flight b.number (live_refusal why)) in
     ap (λ p. serves s' (Arrive (Err why)) (Some p)) said
     ∙ ap (λ b. serves s' (Arrive (Err why)) (P b)) is_back
-    ∙ ap (lives Arrive (λ a. Some (CallReply set.caller flight set (LiveAnswer a))) (λ x. Some (CallReply set.caller flight set (live_refusal x))))
+    ∙ ap (lives Arrive (λ a. Some (CallReply set.caller flight set.number (LiveAnswer a))) (λ x. Some (CallReply set.caller flight set.number (live_refusal x))))
     (is ∙ same_arrival s set q asked i caller is_caller is_asked)
 
 -- ---- what comes back of a call

@@ -13,10 +13,10 @@ use Rattle.world_core.specs.declared.backs.Back.{Back}
 -- an answer as a packet, where it goes back to somebody
 abbrev pub answer_by : Option Back → AnswerMessage → Option Packet
 answer_by None a = None
-answer_by (Some back) a = Some (CallReply back.to back.flight back.set (Answer a))
+answer_by (Some back) a = Some (CallReply back.to back.flight back.number (Answer a))
 
 abbrev pub back_of : Packet → Option Back
-back_of (Call from flight set) = Some (record { to = from; flight = flight; set = set })
+back_of (Call from flight set) = Some (record { to = from; flight = flight; number = set.number })
 back_of packet = None
 
 -- to the flight that sent its call

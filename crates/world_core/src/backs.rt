@@ -2,14 +2,14 @@
 ghost use Rattle.std.specs.Prelude.{◌≡◌, Some, None, IfOk};
 ghost use Rattle.lang_core.specs.declared.ids.Origin.TheVariants.{Outside};
 ghost use Rattle.service_events.specs.State.{me, flight_of};
-ghost use Rattle.world_events.specs.Events.{answered_back, outcome_of, sent};
+ghost use Rattle.world_events.specs.Events.{outcome_of, sent};
 ghost use Rattle.world_events.specs.declared.packet.Packet.{Packet};
 ghost use Rattle.world_core.specs.Backs.{answer_by, back_of, back_to, back_for};
 
 use crate::packets::Packets;
 use lang_base::both;
 use lang_core::{Copied, Name, NoMemory, Origin};
-use repair_messages::{AnswerMessage, SetMessage, copied_pair};
+use repair_messages::AnswerMessage;
 use service_core::Service;
 use service_events::Arrived;
 use std::alloc::Global;
@@ -22,18 +22,18 @@ pub(crate) struct Back {
     pub to: Name,
     /// The caller's flight.
     pub flight: u64,
-    /// The call.
-    pub set: SetMessage,
+    /// The call's number.
+    pub number: u64,
 }
 
 /// What goes back to a flight, as a packet.
 pub(crate) fn reply(back: Back, reply: Live) -> Packet
-    ensures { result ≡ Packet.CallReply back.to back.flight back.set reply }
+    ensures { result ≡ Packet.CallReply back.to back.flight back.number reply }
 {
     Packet::CallReply {
         to: back.to,
         flight: back.flight,
-        set: back.set,
+        number: back.number,
         reply,
     }
 }
@@ -47,21 +47,12 @@ fn answer_by(back: Option<Back>, answer: AnswerMessage) -> Option<Packet>
     }
 }
 
-fn answered_back(back: Option<Back>, answer: Option<AnswerMessage>) -> Option<Packet>
-    ensures { result ≡ answered_back (answer_by back) answer }
-{
-    match answer {
-        None => None,
-        Some(answer) => answer_by(back, answer),
-    }
-}
-
 /// What is sent of a live request of the service of this name: its next call, or its answer, which goes back there.
 pub(crate) fn sent(from: Name, back: Option<Back>, arrived: Arrived) -> Option<Packet>
     ensures { result ≡ sent from (answer_by back) arrived }
 {
     match arrived {
-        Arrived::Done { answer, .. } => answered_back(back, answer),
+        Arrived::Done { answer, .. } => answer_by(back, answer?),
         Arrived::Call { flight, set } => Some(Packet::Call { from, flight, set }),
         Arrived::Known(answer) => answer_by(back, answer),
     }
@@ -88,14 +79,11 @@ fn back_of(alloc: Global, packet: &Packet) -> Result<Option<Back>, NoMemory>
     ensures { IfOk result (λ back. back ≡ back_of packet.now) }
 {
     match packet {
-        Packet::Call { from, flight, set } => {
-            let (to, set) = copied_pair(alloc, from, set)?;
-            Ok(Some(Back {
-                to,
-                flight: *flight,
-                set,
-            }))
-        }
+        Packet::Call { from, flight, set } => Ok(Some(Back {
+            to: from.copied(alloc)?,
+            flight: *flight,
+            number: set.number,
+        })),
         _ => Ok(None),
     }
 }

@@ -1,6 +1,5 @@
 // Packets that come to their receivers.
 ghost use Rattle.std.specs.Prelude.{◌≡◌, ℕ, List, Some};
-ghost use Rattle.repair_messages.specs.declared.messages.SetMessage.{SetMessage};
 ghost use Rattle.world_events.specs.Ends.{IsClosed, post_receiver, receiver};
 ghost use Rattle.world_events.specs.Events.{call_delivered, delivered, post_delivered, reply_delivered, sender, turn};
 ghost use Rattle.world_events.specs.Turns.{Turns};
@@ -83,8 +82,8 @@ fn deliver_reply(
     number: u64,
     reply: &Live,
 ) -> Result<Served, WorldStepRefused>
-    ensures { (name : List ℕ) (set : SetMessage) (e : Environment) → set.number ≡ number
-        → Acts (λ w. reply_delivered w name flight set reply.now) name packets.now.list service.old e result service.new e }
+    ensures { (name : List ℕ) (e : Environment)
+        → Acts (λ w. reply_delivered w name flight number reply.now) name packets.now.list service.old e result service.new e }
 {
     match reply {
         Live::Answer(answer) => {
@@ -143,10 +142,10 @@ fn deliver_to(
         }
         Packet::CallReply {
             flight,
-            set,
+            number,
             reply,
             ..
-        } => deliver_reply(alloc, service, packets, *flight, set.number, reply),
+        } => deliver_reply(alloc, service, packets, *flight, *number, reply),
         Packet::Post(post) => deliver_post(alloc, service, environment, post),
         Packet::PostReply { post, reply } => {
             let served = posted_reply(alloc, service, post, reply)?;

@@ -5,7 +5,6 @@ ghost use Rattle.world_events.specs.Events.{call_lost, lost, post_lost, sender, 
 ghost use Rattle.world_events.specs.Turns.{Turns};
 ghost use Rattle.world_events.specs.declared.event.Event.{Event};
 ghost use Rattle.world_events.specs.declared.packet.Packet.{Packet};
-ghost use Rattle.repair_messages.specs.declared.messages.SetMessage.{SetMessage};
 ghost use Rattle.world_core.specs.Acting.{Acts, seen};
 
 use crate::deliveries::sender;
@@ -44,8 +43,8 @@ fn lose_call(
     flight: u64,
     number: u64,
 ) -> Result<Served, WorldStepRefused>
-    ensures { (name : List ℕ) (set : SetMessage) → set.number ≡ number
-        → Acts (λ w. call_lost w name flight set) name packets.now.list service.old environment.old result service.new environment.new }
+    ensures { (name : List ℕ)
+        → Acts (λ w. call_lost w name flight number) name packets.now.list service.old environment.old result service.new environment.new }
 {
     let note = environment.note();
     let served = call_failed(alloc, service, packets, flight, number, Why::Lost(note))?;
@@ -84,8 +83,8 @@ fn lose_at(
         Packet::Call { flight, set, .. } => {
             lose_call(alloc, service, packets, environment, *flight, set.number)
         }
-        Packet::CallReply { flight, set, .. } => {
-            lose_call(alloc, service, packets, environment, *flight, set.number)
+        Packet::CallReply { flight, number, .. } => {
+            lose_call(alloc, service, packets, environment, *flight, *number)
         }
         Packet::Post(post) => lose_post(alloc, service, environment, post),
         Packet::PostReply { post, .. } => lose_post(alloc, service, environment, post),

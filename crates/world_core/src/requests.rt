@@ -41,20 +41,15 @@ pub(crate) fn arrive(
     }
 }
 
-// The service's name, and the caller's.
-fn names(alloc: Global, service: &Service, caller: &Name) -> Result<(Name, Name), NoMemory>
-    ensures from { IfOk result (λ names. names.0 ≡ me service.now) }
-    ensures caller { IfOk result (λ names. names.1 ≡ caller.now) }
-{
-    copied_pair(alloc, &service.setting().me, caller)
-}
-
 // The flight that sent a live call.
 fn back_of(alloc: Global, flight: u64, set: &SetMessage) -> Result<Back, NoMemory>
-    ensures { IfOk result (λ back. back ≡ record { to = set.now.caller; flight = flight; set = set.now }) }
+    ensures { IfOk result (λ back. back ≡ record { to = set.now.caller; flight = flight; number = set.now.number }) }
 {
-    let (to, set) = copied_pair(alloc, &set.caller, set)?;
-    Ok(Back { to, flight, set })
+    Ok(Back {
+        to: set.caller.copied(alloc)?,
+        flight,
+        number: set.number,
+    })
 }
 
 // What its arrival, and the packet that answers it, are made of: the service's name and the caller's, to whom the answer
@@ -68,11 +63,14 @@ fn call_copies(
 ) -> Result<((Name, Name), (Back, Request)), NoMemory>
     ensures from { IfOk result (λ copies. copies.0.0 ≡ me service.now) }
     ensures caller { IfOk result (λ copies. copies.0.1 ≡ set.now.caller) }
-    ensures back { IfOk result (λ copies. copies.1.0 ≡ record { to = set.now.caller; flight = flight; set = set.now }) }
+    ensures back { IfOk result (λ copies. copies.1.0 ≡ record { to = set.now.caller; flight = flight; number = set.now.number }) }
     ensures request { IfOk result (λ copies. copies.1.1 ≡ request.now) }
 {
-    let copies = both(back_of(alloc, flight, set), request.copied(alloc));
-    both(names(alloc, service, &set.caller), copies)
+    let names = copied_pair(alloc, &service.setting().me, &set.caller);
+    both(
+        names,
+        both(back_of(alloc, flight, set), request.copied(alloc)),
+    )
 }
 
 /// A live call of another service's flight comes, which asks this.

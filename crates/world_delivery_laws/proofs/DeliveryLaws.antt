@@ -58,7 +58,7 @@ message_some names set (Some q) = some_weight (is_among set.dest names) (left_by
 
 packet_some : (names : List (List ℕ)) (p : Packet) → 1 ≤ packet_weight names p
 packet_some names (Call from flight set) = message_some names set set.desired
-packet_some names (CallReply to flight set reply) = omega arith
+packet_some names (CallReply to flight call_number reply) = omega arith
 packet_some names (Post post) = omega arith
 packet_some names (PostReply post reply) = omega arith
 
@@ -78,7 +78,7 @@ sent_light back light names name (Known a) = light names a
 reply_to_light : (names : List (List ℕ)) (a : AnswerMessage) (o : Option Packet) → weight_if names (reply_to a o) ≤ 1
 reply_to_light names a None = omega arith
 reply_to_light names a (Some (Call from flight set)) = omega arith
-reply_to_light names a (Some (CallReply to flight set reply)) = omega arith
+reply_to_light names a (Some (CallReply to flight call_number reply)) = omega arith
 reply_to_light names a (Some (Post post)) = omega arith
 reply_to_light names a (Some (PostReply post reply)) = omega arith
 
@@ -155,9 +155,9 @@ turn_falls w later name (Some s) act came services packets found some light why 
 -- ---- a live call comes
 
 call_arrive_served_weighs : (names : List (List ℕ)) (flight : ℕ) (set : SetMessage) (name : List ℕ) (answer : Result Arrived ArriveRefused)
-    → weight_if names (sent_or name (λ a. Some (CallReply set.caller flight set (Answer a))) (λ why. Some (CallReply set.caller flight set (live_refusal why))) answer)
+    → weight_if names (sent_or name (λ a. Some (CallReply set.caller flight set.number (Answer a))) (λ why. Some (CallReply set.caller flight set.number (live_refusal why))) answer)
     ≤ weight_of_arrival names answer
-call_arrive_served_weighs names flight set name (Ok arrived) = sent_light (λ a. Some (CallReply set.caller flight set (Answer a))) (λ ns a. omega arith) names name arrived
+call_arrive_served_weighs names flight set name (Ok arrived) = sent_light (λ a. Some (CallReply set.caller flight set.number (Answer a))) (λ ns a. omega arith) names name arrived
 call_arrive_served_weighs names flight set name (Err why) = omega arith
 
 call_arrive_served_light : (w : World) (flight : ℕ) (set : SetMessage) (q : Request) (s : Kept) → service_of set.dest w.services ≡ Some s
@@ -207,17 +207,17 @@ call_failed_served_light w flight number why s =
     let less = l.1 in
     (l.0, omega (arith, weighs, less))
 
-reply_falls : (w : World) (to : List ℕ) (flight : ℕ) (set : SetMessage) (reply : Live)
-    → world_weight (reply_delivered w to flight set reply).world (written_at (reply_delivered w to flight set reply).answer) < sum_by (load (names_of w.services)) w.services + 1
-reply_falls w to flight set (Answer a) =
+reply_falls : (w : World) (to : List ℕ) (flight : ℕ) (number : ℕ) (reply : Live)
+    → world_weight (reply_delivered w to flight number reply).world (written_at (reply_delivered w to flight number reply).answer) < sum_by (load (names_of w.services)) w.services + 1
+reply_falls w to flight number (Answer a) =
     turn_falls w w to (service_of to w.services) (call_answered_served w.packets flight a) 1 refl refl refl (omega arith) (λ s found. call_answered_served_light w flight a s) _
-reply_falls w to flight set (Refused word n) =
-    turn_falls w w to (service_of to w.services) (call_failed_served w.packets flight set.number _) 1 refl refl refl (omega arith) (λ s found. call_failed_served_light w flight set.number _ s) _
+reply_falls w to flight number (Refused word n) =
+    turn_falls w w to (service_of to w.services) (call_failed_served w.packets flight number _) 1 refl refl refl (omega arith) (λ s found. call_failed_served_light w flight number _ s) _
 
 packet_falls : (w : World) (k : ℕ) (p : Packet) → IsLivePacket p
     → world_weight (delivered w k (Some p)).world (written_at (delivered w k (Some p)).answer) < sum_by (load (names_of w.services)) w.services + packet_weight (names_of w.services) p
 packet_falls w k (Call from flight set) live = call_falls w k flight set set.desired
-packet_falls w k (CallReply to flight set reply) live = reply_falls w to flight set reply
+packet_falls w k (CallReply to flight call_number reply) live = reply_falls w to flight call_number reply
 packet_falls w k (Post post) live = absurd live
 packet_falls w k (PostReply post reply) live = absurd live
 
@@ -238,7 +238,7 @@ LiveIf o = IfSome o IsLivePacket
 reply_to_live : (a : AnswerMessage) (o : Option Packet) → LiveIf (reply_to a o)
 reply_to_live a None = tt
 reply_to_live a (Some (Call from flight set)) = tt
-reply_to_live a (Some (CallReply to flight set reply)) = tt
+reply_to_live a (Some (CallReply to flight call_number reply)) = tt
 reply_to_live a (Some (Post post)) = tt
 reply_to_live a (Some (PostReply post reply)) = tt
 
@@ -275,21 +275,21 @@ call_live w k flight set None = tt
 call_live w k flight set (Some q) =
     turn_live w (once_drawn w) (service_of set.dest w.services) set.dest (λ s. call_arrive_served flight set q s (next_inputs w)) _ (λ s.
     let a = arrive_event s (CallOrigin set.caller set.number) q (next_inputs w) in
-    sent_or_live (λ m. Some (CallReply set.caller flight set (Answer m))) (λ why. Some (CallReply set.caller flight set (live_refusal why))) (λ m. tt) (λ why. tt) (me a.service) a.answer)
+    sent_or_live (λ m. Some (CallReply set.caller flight set.number (Answer m))) (λ why. Some (CallReply set.caller flight set.number (live_refusal why))) (λ m. tt) (λ why. tt) (me a.service) a.answer)
 
-reply_live : (w : World) (to : List ℕ) (flight : ℕ) (set : SetMessage) (reply : Live) → HandsOn (reply_delivered w to flight set reply)
-reply_live w to flight set (Answer a) =
+reply_live : (w : World) (to : List ℕ) (flight : ℕ) (number : ℕ) (reply : Live) → HandsOn (reply_delivered w to flight number reply)
+reply_live w to flight number (Answer a) =
     turn_live w w (service_of to w.services) to (call_answered_served w.packets flight a) _ (λ s.
     let e = call_answered_event s flight a in
     sent_or_live (reply_among w.packets) (λ why. None) (λ m. reply_to_live m (find (is_call_of m.caller m.number) w.packets)) (λ why. tt) (me e.service) e.answer)
-reply_live w to flight set (Refused word n) =
-    turn_live w w (service_of to w.services) to (call_failed_served w.packets flight set.number (WasRefused word n)) _ (λ s.
-    let e = call_failed_event s flight set.number (WasRefused word n) in
+reply_live w to flight number (Refused word n) =
+    turn_live w w (service_of to w.services) to (call_failed_served w.packets flight number (WasRefused word n)) _ (λ s.
+    let e = call_failed_event s flight number (WasRefused word n) in
     sent_or_live (reply_among w.packets) (λ why. None) (λ m. reply_to_live m (find (is_call_of m.caller m.number) w.packets)) (λ why. tt) (me e.service) e.answer)
 
 packet_live : (w : World) (k : ℕ) (p : Packet) → IsLivePacket p → HandsOn (delivered w k (Some p))
 packet_live w k (Call from flight set) live = call_live w k flight set set.desired
-packet_live w k (CallReply to flight set reply) live = reply_live w to flight set reply
+packet_live w k (CallReply to flight call_number reply) live = reply_live w to flight call_number reply
 packet_live w k (Post post) live = absurd live
 packet_live w k (PostReply post reply) live = absurd live
 

@@ -44,9 +44,9 @@ call_still : (w : World) (k flight : ℕ) (set : SetMessage) (o : Option Request
 call_still w k flight set None = refused_still w (NoPacket k)
 call_still w k flight set (Some q) = at_still w (once_drawn w) set.dest (λ s. call_arrive_served flight set q s (next_inputs w))
 
-reply_still : (w : World) (to : List ℕ) (flight : ℕ) (set : SetMessage) (reply : Live) → IsStill w (reply_delivered w to flight set reply)
-reply_still w to flight set (Answer a) = at_still w w to (call_answered_served w.packets flight a)
-reply_still w to flight set (Refused word n) = at_still w w to (call_failed_served w.packets flight set.number (WasRefused word n))
+reply_still : (w : World) (to : List ℕ) (flight : ℕ) (number : ℕ) (reply : Live) → IsStill w (reply_delivered w to flight number reply)
+reply_still w to flight number (Answer a) = at_still w w to (call_answered_served w.packets flight a)
+reply_still w to flight number (Refused word n) = at_still w w to (call_failed_served w.packets flight number (WasRefused word n))
 
 post_still : (w : World) (post : Post) → IsStill w (post_delivered w post)
 post_still w (SetPost set) = at_still w (once_drawn w) set.dest (λ s. take_served set s (next_inputs w))
@@ -55,20 +55,20 @@ post_still w (AnswerPost a) = at_still w w a.caller (take_answer_served a)
 delivered_still : (w : World) (k : ℕ) (p : Option Packet) → IsStill w (delivered w k p)
 delivered_still w k None = refused_still w (NoPacket k)
 delivered_still w k (Some (Call from flight set)) = call_still w k flight set set.desired
-delivered_still w k (Some (CallReply to flight set reply)) = reply_still w to flight set reply
+delivered_still w k (Some (CallReply to flight call_number reply)) = reply_still w to flight call_number reply
 delivered_still w k (Some (PostPacket post)) = post_still w post
 delivered_still w k (Some (PostReplyPacket post reply)) = at_still w w (sender post) (posted_served post reply)
 
-call_lost_still : (w : World) (name : List ℕ) (flight : ℕ) (set : SetMessage) → IsStill w (call_lost w name flight set)
-call_lost_still w name flight set = at_still w (once_lost w) name (λ s. call_failed_served w.packets flight set.number (Lost (loss_note w)) s)
+call_lost_still : (w : World) (name : List ℕ) (flight : ℕ) (number : ℕ) → IsStill w (call_lost w name flight number)
+call_lost_still w name flight number = at_still w (once_lost w) name (λ s. call_failed_served w.packets flight number (Lost (loss_note w)) s)
 
 post_lost_still : (w : World) (post : Post) → IsStill w (post_lost w post)
 post_lost_still w post = at_still w (once_lost w) (sender post) (λ s. posted_served post (PostIsLost (loss_note w)) s)
 
 lost_still : (w : World) (k : ℕ) (p : Option Packet) → IsStill w (lost w k p)
 lost_still w k None = refused_still w (NoPacket k)
-lost_still w k (Some (Call from flight set)) = call_lost_still w from flight set
-lost_still w k (Some (CallReply to flight set reply)) = call_lost_still w to flight set
+lost_still w k (Some (Call from flight set)) = call_lost_still w from flight set.number
+lost_still w k (Some (CallReply to flight call_number reply)) = call_lost_still w to flight call_number
 lost_still w k (Some (PostPacket post)) = post_lost_still w post
 lost_still w k (Some (PostReplyPacket post reply)) = post_lost_still w post
 

@@ -22,14 +22,14 @@ post_receiver (AnswerPost a) = a.caller
 -- the service that gets it when it is delivered
 abbrev pub receiver : Packet → List ℕ
 receiver (Call from flight set) = set.dest
-receiver (CallReply to flight set reply) = to
+receiver (CallReply to flight number reply) = to
 receiver (PostPacket post) = post_receiver post
 receiver (PostReplyPacket post reply) = sender post
 
 -- the service that began the exchange, which learns when it is lost
 abbrev pub beginner : Packet → List ℕ
 beginner (Call from flight set) = from
-beginner (CallReply to flight set reply) = to
+beginner (CallReply to flight number reply) = to
 beginner (PostPacket post) = sender post
 beginner (PostReplyPacket post reply) = sender post
 

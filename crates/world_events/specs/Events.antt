@@ -139,7 +139,7 @@ is_call_of caller number packet = false
 
 -- an answer, to the flight that sent this packet
 abbrev pub reply_to : AnswerMessage → Option Packet → Option Packet
-reply_to a (Some (Call from flight set)) = Some (CallReply from flight set (LiveAnswer a))
+reply_to a (Some (Call from flight set)) = Some (CallReply from flight set.number (LiveAnswer a))
 reply_to a packet = None
 
 -- an answer goes to the flight that sent its call
@@ -159,8 +159,8 @@ live_refusal (arrive.Gone v) = LiveRefused 4 v
 -- a delivered call: its answer, or its refusal, goes back to the flight that sent it
 abbrev pub call_arrive_served : ℕ → SetMessage → Request → Kept → Inputs → Served
 call_arrive_served flight set q s i =
-    lives what.Arrive (λ a. Some (CallReply set.caller flight set (LiveAnswer a)))
-    (λ why. Some (CallReply set.caller flight set (live_refusal why)))
+    lives what.Arrive (λ a. Some (CallReply set.caller flight set.number (LiveAnswer a)))
+    (λ why. Some (CallReply set.caller flight set.number (live_refusal why)))
     (arrive_event s (CallOrigin set.caller set.number) q i)
 
 abbrev pub call_answered_served : List Packet → ℕ → AnswerMessage → Kept → Served
@@ -259,9 +259,9 @@ abbrev pub call_delivered : World → ℕ → ℕ → SetMessage → Option Requ
 call_delivered w number flight set None = refused w (NoPacket number)
 call_delivered w number flight set (Some q) = drawing_at set.dest w (call_arrive_served flight set q)
 
-abbrev pub reply_delivered : World → List ℕ → ℕ → SetMessage → Live → Turn
-reply_delivered w to flight set (LiveAnswer a) = at_service to w (call_answered_served w.packets flight a)
-reply_delivered w to flight set (LiveRefused word n) = at_service to w (call_failed_served w.packets flight set.number (WasRefused word n))
+abbrev pub reply_delivered : World → List ℕ → ℕ → ℕ → Live → Turn
+reply_delivered w to flight number (LiveAnswer a) = at_service to w (call_answered_served w.packets flight a)
+reply_delivered w to flight number (LiveRefused word n) = at_service to w (call_failed_served w.packets flight number (WasRefused word n))
 
 abbrev pub post_delivered : World → Post → Turn
 post_delivered w (SetPost set) = drawing_at set.dest w (take_served set)
@@ -271,21 +271,21 @@ post_delivered w (AnswerPost a) = at_service a.caller w (take_answer_served a)
 abbrev pub delivered : World → ℕ → Option Packet → Turn
 delivered w number None = refused w (NoPacket number)
 delivered w number (Some (Call from flight set)) = call_delivered w number flight set set.desired
-delivered w number (Some (CallReply to flight set reply)) = reply_delivered w to flight set reply
+delivered w number (Some (CallReply to flight call_number reply)) = reply_delivered w to flight call_number reply
 delivered w number (Some (PostPacket post)) = post_delivered w post
 delivered w number (Some (PostReplyPacket post reply)) = at_service (sender post) w (posted_served post reply)
 
 -- the service whose exchange it was learns that it failed
-abbrev pub call_lost : World → List ℕ → ℕ → SetMessage → Turn
-call_lost w name flight set = losing_at name w (λ s note. call_failed_served w.packets flight set.number (Lost note) s)
+abbrev pub call_lost : World → List ℕ → ℕ → ℕ → Turn
+call_lost w name flight number = losing_at name w (λ s note. call_failed_served w.packets flight number (Lost note) s)
 
 abbrev pub post_lost : World → Post → Turn
 post_lost w post = losing_at (sender post) w (λ s note. posted_served post (PostIsLost note) s)
 
 abbrev pub lost : World → ℕ → Option Packet → Turn
 lost w number None = refused w (NoPacket number)
-lost w number (Some (Call from flight set)) = call_lost w from flight set
-lost w number (Some (CallReply to flight set reply)) = call_lost w to flight set
+lost w number (Some (Call from flight set)) = call_lost w from flight set.number
+lost w number (Some (CallReply to flight call_number reply)) = call_lost w to flight call_number
 lost w number (Some (PostPacket post)) = post_lost w post
 lost w number (Some (PostReplyPacket post reply)) = post_lost w post
 

@@ -116,7 +116,7 @@ pub record IsLive (s : Kept) : Type 0 where
 -- a live call or what comes back of it
 abbrev pub IsLivePacket : Packet → Type 0
 IsLivePacket (Call from flight set) = Unit {0}
-IsLivePacket (CallReply to flight set reply) = Unit {0}
+IsLivePacket (CallReply to flight number reply) = Unit {0}
 IsLivePacket packet = ⊥
 
 pub record IsLiveWorld (w : World) : Type 0 where

@@ -56,7 +56,7 @@ PostReplyStands services reply = Unit {0}
 
 abbrev pub PacketStands : List Kept → Packet → Type 0
 PacketStands services (Call from flight set) = CallStands services from set
-PacketStands services (CallReply to flight set reply) = CallStands services to set × ReplyStands services to reply
+PacketStands services (CallReply to flight number reply) = ReplyStands services to reply
 PacketStands services (PostPacket post) = PostStands services post
 PacketStands services (PostReplyPacket post reply) = PostStands services post × PostReplyStands services reply
 

@@ -43,11 +43,11 @@ pub enum Packet {
         flight: u64,
         set: SetMessage,
     },
-    /// What comes back of that call, to that flight of the service `to`, which is the call's caller.
+    /// What comes back of the call of this number, to that flight of the service `to`, which is the call's caller.
     CallReply {
         to: Name,
         flight: u64,
-        set: SetMessage,
+        number: u64,
         reply: Live,
     },
     /// A message that was posted.
@@ -87,17 +87,16 @@ fn copied_call_reply(
     alloc: Global,
     to: &Name,
     flight: u64,
-    set: &SetMessage,
+    number: u64,
     reply: &Live,
 ) -> Result<Packet, NoMemory>
-    ensures { IfOk result (λ copy. copy ≡ packet.CallReply to.now flight set.now reply.now) }
+    ensures { IfOk result (λ copy. copy ≡ packet.CallReply to.now flight number reply.now) }
 {
-    let call = both(to.copied(alloc), set.copied(alloc));
-    let (call, reply) = both(call, reply.copied(alloc))?;
+    let (to, reply) = both(to.copied(alloc), reply.copied(alloc))?;
     Ok(Packet::CallReply {
-        to: call.0,
+        to,
         flight,
-        set: call.1,
+        number,
         reply,
     })
 }
@@ -116,9 +115,9 @@ impl Copied for Packet {
             Packet::CallReply {
                 to,
                 flight,
-                set,
+                number,
                 reply,
-            } => copied_call_reply(alloc, to, *flight, set, reply),
+            } => copied_call_reply(alloc, to, *flight, *number, reply),
             Packet::Post(post) => Ok(Packet::Post(post.copied(alloc)?)),
             Packet::PostReply { post, reply } => copied_post_reply(alloc, post, reply),
         }

@@ -196,7 +196,7 @@ module _ (services : List Kept) (packets : List Packet) (h : AreClosed services 
   reply_ends a (Some (Call from flight set)) found =
       let e = All-contains (HasEnds services) packets (Call from flight set) h.ends (found_in (is_call_of a.caller a.number) packets (Call from flight set) found) in
       record { gets = e.began; began = e.began; call = tt }
-  reply_ends a (Some (CallReply to flight set reply)) found = tt
+  reply_ends a (Some (CallReply to flight call_number reply)) found = tt
   reply_ends a (Some (PostPacket post)) found = tt
   reply_ends a (Some (PostReplyPacket post reply)) found = tt
 
@@ -219,9 +219,9 @@ module _ (services : List Kept) (packets : List Packet) (h : AreClosed services 
   called_writes : (from : List ℕ) (flight : ℕ) (set : SetMessage) (q : Request) (i : Inputs) → HasEnds services (Call from flight set) → Writes services s (call_arrive_served flight set q s i)
   called_writes from flight set q i e =
       let caller : IsThere services set.caller = subst (IsThere services) (sym e.call.0) e.began in
-      let ends : (reply : Live) → HasEnds services (CallReply set.caller flight set reply) = λ reply. record { gets = caller; began = caller; call = tt } in
-      live_writes (arrive_event s (CallOrigin set.caller set.number) q i) what.Arrive (λ a. Some (CallReply set.caller flight set (LiveAnswer a)))
-      (λ why. Some (CallReply set.caller flight set (live_refusal why))) (arrive_lives s (CallOrigin set.caller set.number) q i)
+      let ends : (reply : Live) → HasEnds services (CallReply set.caller flight set.number reply) = λ reply. record { gets = caller; began = caller; call = tt } in
+      live_writes (arrive_event s (CallOrigin set.caller set.number) q i) what.Arrive (λ a. Some (CallReply set.caller flight set.number (LiveAnswer a)))
+      (λ why. Some (CallReply set.caller flight set.number (live_refusal why))) (arrive_lives s (CallOrigin set.caller set.number) q i)
       (λ a. ends (LiveAnswer a)) (λ why. ends (live_refusal why))
 
   answered_writes : (flight : ℕ) (a : AnswerMessage) → Writes services s (call_answered_served packets flight a s)
@@ -311,12 +311,12 @@ module _ (w : World) (h : IsClosed w) where
       closed_at set.dest (once_drawn w) refl refl (λ s. call_arrive_served flight set q s (next_inputs w))
       (λ s here. called_writes w.services w.packets h set.dest s here from flight set q (next_inputs w) e)
 
-  reply_closed : (to : List ℕ) (flight : ℕ) (set : SetMessage) (reply : Live) → IsClosed (reply_delivered w to flight set reply).world
-  reply_closed to flight set (LiveAnswer a) =
+  reply_closed : (to : List ℕ) (flight : ℕ) (number : ℕ) (reply : Live) → IsClosed (reply_delivered w to flight number reply).world
+  reply_closed to flight number (LiveAnswer a) =
       closed_at to w refl refl (call_answered_served w.packets flight a) (λ s here. answered_writes w.services w.packets h to s here flight a)
-  reply_closed to flight set (LiveRefused word n) =
-      closed_at to w refl refl (call_failed_served w.packets flight set.number (WasRefused word n))
-      (λ s here. failed_writes w.services w.packets h to s here flight set.number (WasRefused word n))
+  reply_closed to flight number (LiveRefused word n) =
+      closed_at to w refl refl (call_failed_served w.packets flight number (WasRefused word n))
+      (λ s here. failed_writes w.services w.packets h to s here flight number (WasRefused word n))
 
   post_closed : (post : Post) → HasEnds w.services (PostPacket post) → IsClosed (post_delivered w post).world
   post_closed (SetPost set) e =
@@ -332,19 +332,19 @@ module _ (w : World) (h : IsClosed w) where
   delivered_closed : (number : ℕ) (p : Option Packet) → IfSome p (HasEnds w.services) → IsClosed (delivered w number p).world
   delivered_closed number None e = h
   delivered_closed number (Some (Call from flight set)) e = call_closed number from flight set set.desired e
-  delivered_closed number (Some (CallReply to flight set reply)) e = reply_closed to flight set reply
+  delivered_closed number (Some (CallReply to flight call_number reply)) e = reply_closed to flight call_number reply
   delivered_closed number (Some (PostPacket post)) e = post_closed post e
   delivered_closed number (Some (PostReplyPacket post reply)) e = back_closed (sender post) w refl refl post reply
 
-  call_lost_closed : (name : List ℕ) (flight : ℕ) (set : SetMessage) → IsClosed (call_lost w name flight set).world
-  call_lost_closed name flight set =
-      closed_at name (once_lost w) refl refl (call_failed_served w.packets flight set.number (Lost (loss_note w)))
-      (λ s here. failed_writes w.services w.packets h name s here flight set.number (Lost (loss_note w)))
+  call_lost_closed : (name : List ℕ) (flight : ℕ) (number : ℕ) → IsClosed (call_lost w name flight number).world
+  call_lost_closed name flight number =
+      closed_at name (once_lost w) refl refl (call_failed_served w.packets flight number (Lost (loss_note w)))
+      (λ s here. failed_writes w.services w.packets h name s here flight number (Lost (loss_note w)))
 
   lost_closed : (number : ℕ) (p : Option Packet) → IsClosed (lost w number p).world
   lost_closed number None = h
-  lost_closed number (Some (Call from flight set)) = call_lost_closed from flight set
-  lost_closed number (Some (CallReply to flight set reply)) = call_lost_closed to flight set
+  lost_closed number (Some (Call from flight set)) = call_lost_closed from flight set.number
+  lost_closed number (Some (CallReply to flight call_number reply)) = call_lost_closed to flight call_number
   lost_closed number (Some (PostPacket post)) = back_closed (sender post) (once_lost w) refl refl post (PostIsLost (loss_note w))
   lost_closed number (Some (PostReplyPacket post reply)) = back_closed (sender post) (once_lost w) refl refl post (PostIsLost (loss_note w))
 
@@ -401,9 +401,9 @@ module _ (w : World) (h : IsClosed w) where
   call_ok number flight set None there asks = cc
   call_ok number flight set (Some q) there asks = at_ok set.dest (once_drawn w) (λ s. call_arrive_served flight set q s (next_inputs w)) there
 
-  reply_ok : (to : List ℕ) (flight : ℕ) (set : SetMessage) (reply : Live) → IsThere w.services to → IsOk (reply_delivered w to flight set reply).answer
-  reply_ok to flight set (LiveAnswer a) there = at_ok to w (call_answered_served w.packets flight a) there
-  reply_ok to flight set (LiveRefused word n) there = at_ok to w (call_failed_served w.packets flight set.number (WasRefused word n)) there
+  reply_ok : (to : List ℕ) (flight : ℕ) (number : ℕ) (reply : Live) → IsThere w.services to → IsOk (reply_delivered w to flight number reply).answer
+  reply_ok to flight number (LiveAnswer a) there = at_ok to w (call_answered_served w.packets flight a) there
+  reply_ok to flight number (LiveRefused word n) there = at_ok to w (call_failed_served w.packets flight number (WasRefused word n)) there
 
   post_ok : (post : Post) → IsThere w.services (post_receiver post) → IsOk (post_delivered w post).answer
   post_ok (SetPost set) there = at_ok set.dest (once_drawn w) (λ s. take_served set s (next_inputs w)) there
@@ -412,14 +412,14 @@ module _ (w : World) (h : IsClosed w) where
   delivered_by : (number : ℕ) (p : Option Packet) → IfSome p (HasEnds w.services) → AnswersBy (where_none (NoPacket number) p) (delivered w number p).answer
   delivered_by number None e = refl
   delivered_by number (Some (Call from flight set)) e = call_ok number flight set set.desired e.gets e.call.1
-  delivered_by number (Some (CallReply to flight set reply)) e = reply_ok to flight set reply e.gets
+  delivered_by number (Some (CallReply to flight call_number reply)) e = reply_ok to flight call_number reply e.gets
   delivered_by number (Some (PostPacket post)) e = post_ok post e.gets
   delivered_by number (Some (PostReplyPacket post reply)) e = at_ok (sender post) w (posted_served post reply) e.gets
 
   lost_by : (number : ℕ) (p : Option Packet) → IfSome p (HasEnds w.services) → AnswersBy (where_none (NoPacket number) p) (lost w number p).answer
   lost_by number None e = refl
   lost_by number (Some (Call from flight set)) e = at_ok from (once_lost w) (call_failed_served w.packets flight set.number (Lost (loss_note w))) e.began
-  lost_by number (Some (CallReply to flight set reply)) e = at_ok to (once_lost w) (call_failed_served w.packets flight set.number (Lost (loss_note w))) e.began
+  lost_by number (Some (CallReply to flight call_number reply)) e = at_ok to (once_lost w) (call_failed_served w.packets flight call_number (Lost (loss_note w))) e.began
   lost_by number (Some (PostPacket post)) e = at_ok (sender post) (once_lost w) (posted_served post (PostIsLost (loss_note w))) e.began
   lost_by number (Some (PostReplyPacket post reply)) e = at_ok (sender post) (once_lost w) (posted_served post (PostIsLost (loss_note w))) e.began
 

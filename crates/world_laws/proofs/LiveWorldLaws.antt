@@ -121,7 +121,7 @@ live_packet name back refusal backs refuses (Err why) = refuses why
 reply_live : (a : AnswerMessage) (p : Option Packet) → IfSome (reply_to a p) IsLivePacket
 reply_live a None = tt
 reply_live a (Some (Call from flight call)) = tt
-reply_live a (Some (CallReply to flight call reply)) = tt
+reply_live a (Some (CallReply to flight call_number reply)) = tt
 reply_live a (Some (PostPacket post)) = tt
 reply_live a (Some (PostReplyPacket post reply)) = tt
 
@@ -142,7 +142,7 @@ module _ (packets : List Packet) (s : Kept) (fits : Fits s) (live : IsLive s) wh
       let g = arrive_live s fits live (CallOrigin call.caller call.number) q i in
       record {
         live = g.live;
-        packet = live_packet (me a.service) (λ x. Some (CallReply call.caller flight call (LiveAnswer x))) (λ why. Some (CallReply call.caller flight call (live_refusal why))) (λ x. tt) (λ why. tt) a.answer;
+        packet = live_packet (me a.service) (λ x. Some (CallReply call.caller flight call.number (LiveAnswer x))) (λ why. Some (CallReply call.caller flight call.number (live_refusal why))) (λ x. tt) (λ why. tt) a.answer;
         tells = outcome_is a.service a.answer g.ends;
       }
 
@@ -210,32 +210,32 @@ module _ (w : World) (h : IsSound w) (l : IsLiveWorld w) where
       (λ s found. call_arrive_served_owes w.services w.packets h call.dest s found from flight call q (next_inputs w) stands refl is)
       (λ s fits live. call_arrive_served_live w.packets s fits live flight call q (next_inputs w))
 
-  reply_lives : (to : List ℕ) (flight : ℕ) (call : SetMessage) (reply : Live) → ReplyStands w.services to reply → LivesOn (reply_delivered w to flight call reply)
-  reply_lives to flight call (LiveAnswer a) stands =
+  reply_lives : (to : List ℕ) (flight : ℕ) (number : ℕ) (reply : Live) → ReplyStands w.services to reply → LivesOn (reply_delivered w to flight number reply)
+  reply_lives to flight number (LiveAnswer a) stands =
       live_at to w refl refl (call_answered_served w.packets flight a) (λ s found. call_answered_served_owes w.services w.packets h to s found flight a stands.0 stands.1)
       (λ s fits live. answered_live w.packets s fits live flight a)
-  reply_lives to flight call (LiveRefused word n) stands =
-      live_at to w refl refl (call_failed_served w.packets flight call.number (WasRefused word n))
-      (λ s found. call_failed_served_owes w.services w.packets h to s found flight call.number (WasRefused word n))
-      (λ s fits live. failed_live w.packets s fits live flight call.number (WasRefused word n))
+  reply_lives to flight number (LiveRefused word n) stands =
+      live_at to w refl refl (call_failed_served w.packets flight number (WasRefused word n))
+      (λ s found. call_failed_served_owes w.services w.packets h to s found flight number (WasRefused word n))
+      (λ s fits live. failed_live w.packets s fits live flight number (WasRefused word n))
 
   delivered_lives : (number : ℕ) (p : Option Packet) → IfSome p (PacketStands w.services) → IfSome p IsLivePacket → LivesOn (delivered w number p)
   delivered_lives number None stands live = stays number
   delivered_lives number (Some (Call from flight call)) stands live = call_lives number from flight call stands call.desired refl
-  delivered_lives number (Some (CallReply to flight call reply)) stands live = reply_lives to flight call reply stands.1
+  delivered_lives number (Some (CallReply to flight call_number reply)) stands live = reply_lives to flight call_number reply stands
   delivered_lives number (Some (PostPacket post)) stands live = absurd live
   delivered_lives number (Some (PostReplyPacket post reply)) stands live = absurd live
 
-  call_lost_lives : (name : List ℕ) (flight : ℕ) (call : SetMessage) → LivesOn (call_lost w name flight call)
-  call_lost_lives name flight call =
-      live_at name (once_lost w) refl refl (call_failed_served w.packets flight call.number (Lost (loss_note w)))
-      (λ s found. call_failed_served_owes w.services w.packets h name s found flight call.number (Lost (loss_note w)))
-      (λ s fits live. failed_live w.packets s fits live flight call.number (Lost (loss_note w)))
+  call_lost_lives : (name : List ℕ) (flight : ℕ) (number : ℕ) → LivesOn (call_lost w name flight number)
+  call_lost_lives name flight number =
+      live_at name (once_lost w) refl refl (call_failed_served w.packets flight number (Lost (loss_note w)))
+      (λ s found. call_failed_served_owes w.services w.packets h name s found flight number (Lost (loss_note w)))
+      (λ s fits live. failed_live w.packets s fits live flight number (Lost (loss_note w)))
 
   lost_lives : (number : ℕ) (p : Option Packet) → IfSome p IsLivePacket → LivesOn (lost w number p)
   lost_lives number None live = stays number
-  lost_lives number (Some (Call from flight call)) live = call_lost_lives from flight call
-  lost_lives number (Some (CallReply to flight call reply)) live = call_lost_lives to flight call
+  lost_lives number (Some (Call from flight call)) live = call_lost_lives from flight call.number
+  lost_lives number (Some (CallReply to flight call_number reply)) live = call_lost_lives to flight call_number
   lost_lives number (Some (PostPacket post)) live = absurd live
   lost_lives number (Some (PostReplyPacket post reply)) live = absurd live
 

@@ -138,7 +138,7 @@ module _ (program : List Route) (token : List ℕ) where
   paid_answer = answer shop_setting buy pay i [] [] token shop_name
 
   abbrev pub answered : List Packet
-  answered = asked ++ CallReply shop_name 1 first_call (LiveAnswer paid_answer) ∷ []
+  answered = asked ++ CallReply shop_name 1 1 (LiveAnswer paid_answer) ∷ []
 
   abbrev pub deleted : List Packet
   deleted = answered ++ PostPacket (SetPost deletion) ∷ []

@@ -72,10 +72,10 @@ module _ (w : World) (h : IsSound w) (r : IsReached w) where
       reached_at call.dest (once_drawn w) refl (λ s. call_arrive_served flight call q s (next_inputs w))
       (λ s fits calls. arrive_reaches s fits calls (CallOrigin call.caller call.number) q (next_inputs w))
 
-  reply_reached : (to : List ℕ) (flight : ℕ) (call : SetMessage) (reply : Live) → AreReached (reply_delivered w to flight call reply).world.services
-  reply_reached to flight call (LiveAnswer a) = reached_at to w refl (call_answered_served w.packets flight a) (λ s fits calls. call_answered_reaches s fits calls flight a)
-  reply_reached to flight call (LiveRefused word n) =
-      reached_at to w refl (call_failed_served w.packets flight call.number (WasRefused word n)) (λ s fits calls. call_failed_reaches s fits calls flight call.number (WasRefused word n))
+  reply_reached : (to : List ℕ) (flight : ℕ) (number : ℕ) (reply : Live) → AreReached (reply_delivered w to flight number reply).world.services
+  reply_reached to flight number (LiveAnswer a) = reached_at to w refl (call_answered_served w.packets flight a) (λ s fits calls. call_answered_reaches s fits calls flight a)
+  reply_reached to flight number (LiveRefused word n) =
+      reached_at to w refl (call_failed_served w.packets flight number (WasRefused word n)) (λ s fits calls. call_failed_reaches s fits calls flight number (WasRefused word n))
 
   post_reached : (post : Post) → AreReached (post_delivered w post).world.services
   post_reached (SetPost set) = reached_at set.dest (once_drawn w) refl (λ s. take_served set s (next_inputs w)) (λ s fits calls. take_reaches s fits calls set (next_inputs w))
@@ -84,15 +84,15 @@ module _ (w : World) (h : IsSound w) (r : IsReached w) where
   delivered_reached : (number : ℕ) (p : Option Packet) → AreReached (delivered w number p).world.services
   delivered_reached number None = r
   delivered_reached number (Some (Call from flight call)) = call_reached number flight call call.desired
-  delivered_reached number (Some (CallReply to flight call reply)) = reply_reached to flight call reply
+  delivered_reached number (Some (CallReply to flight call_number reply)) = reply_reached to flight call_number reply
   delivered_reached number (Some (PostPacket post)) = post_reached post
   delivered_reached number (Some (PostReplyPacket post reply)) =
       reached_at (sender post) w refl (posted_served post reply) (λ s fits calls. posted_reaches s fits calls post reply)
 
-  call_lost_reached : (name : List ℕ) (flight : ℕ) (call : SetMessage) → AreReached (call_lost w name flight call).world.services
-  call_lost_reached name flight call =
-      reached_at name (once_lost w) refl (call_failed_served w.packets flight call.number (Lost (loss_note w)))
-      (λ s fits calls. call_failed_reaches s fits calls flight call.number (Lost (loss_note w)))
+  call_lost_reached : (name : List ℕ) (flight : ℕ) (number : ℕ) → AreReached (call_lost w name flight number).world.services
+  call_lost_reached name flight number =
+      reached_at name (once_lost w) refl (call_failed_served w.packets flight number (Lost (loss_note w)))
+      (λ s fits calls. call_failed_reaches s fits calls flight number (Lost (loss_note w)))
 
   post_lost_reached : (post : Post) → AreReached (post_lost w post).world.services
   post_lost_reached post =
@@ -100,8 +100,8 @@ module _ (w : World) (h : IsSound w) (r : IsReached w) where
 
   lost_reached : (number : ℕ) (p : Option Packet) → AreReached (lost w number p).world.services
   lost_reached number None = r
-  lost_reached number (Some (Call from flight call)) = call_lost_reached from flight call
-  lost_reached number (Some (CallReply to flight call reply)) = call_lost_reached to flight call
+  lost_reached number (Some (Call from flight call)) = call_lost_reached from flight call.number
+  lost_reached number (Some (CallReply to flight call_number reply)) = call_lost_reached to flight call_number
   lost_reached number (Some (PostPacket post)) = post_lost_reached post
   lost_reached number (Some (PostReplyPacket post reply)) = post_lost_reached post
 

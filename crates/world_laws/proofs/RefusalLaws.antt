@@ -198,10 +198,10 @@ module _ (w : World) where
   failed_at name then services flight n why =
       stays_at name then services (call_failed_served w.packets flight n why) (λ s bad. failed_stays s flight n why (flight_of flight s) (sym (outcome_err (call_failed_event s flight n why).answer) ∙ bad))
 
-  reply_stays : (to : List ℕ) (flight : ℕ) (call : SetMessage) (reply : Live) → Stays (reply_delivered w to flight call reply)
-  reply_stays to flight call (LiveAnswer a) =
+  reply_stays : (to : List ℕ) (flight : ℕ) (number : ℕ) (reply : Live) → Stays (reply_delivered w to flight number reply)
+  reply_stays to flight number (LiveAnswer a) =
       stays_at to w refl (call_answered_served w.packets flight a) (λ s bad. answered_stays s flight a (flight_of flight s) (sym (outcome_err (call_answered_event s flight a).answer) ∙ bad))
-  reply_stays to flight call (LiveRefused word n) = failed_at to w refl flight call.number (WasRefused word n)
+  reply_stays to flight number (LiveRefused word n) = failed_at to w refl flight number (WasRefused word n)
 
   post_stays : (post : Post) → Stays (post_delivered w post)
   post_stays (SetPost set) =
@@ -214,14 +214,14 @@ module _ (w : World) where
   delivered_stays : (number : ℕ) (p : Option Packet) → Stays (delivered w number p)
   delivered_stays number None = λ bad. refl
   delivered_stays number (Some (Call from flight call)) = call_stays number flight call call.desired
-  delivered_stays number (Some (CallReply to flight call reply)) = reply_stays to flight call reply
+  delivered_stays number (Some (CallReply to flight call_number reply)) = reply_stays to flight call_number reply
   delivered_stays number (Some (PostPacket post)) = post_stays post
   delivered_stays number (Some (PostReplyPacket post reply)) = back_at (sender post) w refl post reply
 
   lost_stays : (number : ℕ) (p : Option Packet) → Stays (lost w number p)
   lost_stays number None = λ bad. refl
   lost_stays number (Some (Call from flight call)) = failed_at from (once_lost w) refl flight call.number (Lost (loss_note w))
-  lost_stays number (Some (CallReply to flight call reply)) = failed_at to (once_lost w) refl flight call.number (Lost (loss_note w))
+  lost_stays number (Some (CallReply to flight call_number reply)) = failed_at to (once_lost w) refl flight call_number (Lost (loss_note w))
   lost_stays number (Some (PostPacket post)) = back_at (sender post) (once_lost w) refl post (PostIsLost (loss_note w))
   lost_stays number (Some (PostReplyPacket post reply)) = back_at (sender post) (once_lost w) refl post (PostIsLost (loss_note w))
 

@@ -159,7 +159,7 @@ module _ (old new : List Kept) (g : Grew old new) where
 
   pub packet_still : (p : Packet) → PacketStands old p → PacketStands new p
   packet_still (Call from flight set) h = call_still from set h
-  packet_still (CallReply to flight set reply) h = (call_still to set h.0, reply_still to reply h.1)
+  packet_still (CallReply to flight call_number reply) h = reply_still to reply h
   packet_still (PostPacket post) h = post_still post h
   packet_still (PostReplyPacket post reply) h = (post_still post h.0, post_reply_still reply h.1)
 

@@ -137,8 +137,8 @@ module _ (services : List Kept) (packets : List Packet) (h : AreSound services p
       let stands = packet_still services (put name t services) (grew_put name s t turns.grows services here) (Call from flight call) old in
       let passes = found_passes (is_call_of a.caller a.number) packets (Call from flight call) found in
       let caller = text_is call.caller a.caller (and_parts (nat_eq call.number a.number) (same_text call.caller a.caller) passes).1 in
-      (stands, (sym caller ∙ stands.caller, given_stands t turns o a given))
-  reply_stands t turns o a given (Some (CallReply to flight call reply)) found = tt
+      (sym caller ∙ stands.caller, given_stands t turns o a given)
+  reply_stands t turns o a given (Some (CallReply to flight call_number reply)) found = tt
   reply_stands t turns o a given (Some (PostPacket post)) found = tt
   reply_stands t turns o a given (Some (PostReplyPacket post reply)) found = tt
 
@@ -148,12 +148,11 @@ module _ (services : List Kept) (packets : List Packet) (h : AreSound services p
       live_owes Outside (arrive_event s Outside q i) what.Arrive (reply_among packets) unsaid m (arrive_fits s Outside q i fits)
       (λ a given. reply_stands (arrive_event s Outside q i).service m.turns Outside a given (find (is_call_of a.caller a.number) packets) refl) (λ why. tt)
 
-  refusal_stands : (call : SetMessage) (flight : ℕ) (t : Kept) → CallStands (put name t services) call.caller call → (why : ArriveRefused)
-      → PacketStands (put name t services) (CallReply call.caller flight call (live_refusal why))
-  refusal_stands call flight t stands arrive.NoMemory = (stands, tt)
-  refusal_stands call flight t stands (arrive.Full n) = (stands, tt)
-  refusal_stands call flight t stands (arrive.NotYet n) = (stands, tt)
-  refusal_stands call flight t stands (arrive.Gone v) = (stands, tt)
+  refusal_stands : (call : SetMessage) (flight : ℕ) (t : Kept) (why : ArriveRefused) → PacketStands (put name t services) (CallReply call.caller flight call.number (live_refusal why))
+  refusal_stands call flight t arrive.NoMemory = tt
+  refusal_stands call flight t (arrive.Full n) = tt
+  refusal_stands call flight t (arrive.NotYet n) = tt
+  refusal_stands call flight t (arrive.Gone v) = tt
 
   pub call_arrive_served_owes : (from : List ℕ) (flight : ℕ) (call : SetMessage) (q : Request) (i : Inputs) → CallStands services from call → call.dest ≡ name → call.desired ≡ Some q
       → Owes services name s (call_arrive_served flight call q s i)
@@ -167,11 +166,9 @@ module _ (services : List Kept) (packets : List Packet) (h : AreSound services p
       subst sent_with desired (subst sent_as stands.first (subst sent_to (dest ∙ sym is) stands.sent)) in
       let m = arrive_moves services s fits flights origin q i called_for in
       let t = (arrive_event s origin q i).service in
-      let still = packet_still services (put name t services) (grew_put name s t m.turns.grows services here) (Call from flight call) stands in
-      let mine : CallStands (put name t services) call.caller call = record { caller = refl; first = still.first; asks = still.asks; sent = still.sent } in
-      live_owes origin (arrive_event s origin q i) what.Arrive (λ a. Some (CallReply call.caller flight call (Answer a)))
-      (λ why. Some (CallReply call.caller flight call (live_refusal why))) m (arrive_fits s origin q i fits)
-      (λ a given. (mine, (caller_is a given.from, given_stands t m.turns origin a given))) (λ why. refusal_stands call flight t mine why)
+      live_owes origin (arrive_event s origin q i) what.Arrive (λ a. Some (CallReply call.caller flight call.number (Answer a)))
+      (λ why. Some (CallReply call.caller flight call.number (live_refusal why))) m (arrive_fits s origin q i fits)
+      (λ a given. (caller_is a given.from, given_stands t m.turns origin a given)) (λ why. refusal_stands call flight t why)
     where
       caller_is : (a : AnswerMessage) → CallOrigin call.caller call.number ≡ CallOrigin a.caller a.number → a.caller ≡ call.caller
       caller_is a e = cc
@@ -277,12 +274,12 @@ module _ (w : World) (h : IsSound w) where
       sound_at call.dest (once_drawn w) refl refl (λ s. call_arrive_served flight call q s (next_inputs w))
       (λ s found. call_arrive_served_owes w.services w.packets h call.dest s found from flight call q (next_inputs w) stands refl e)
 
-  reply_sound : (to : List ℕ) (flight : ℕ) (call : SetMessage) (reply : Live) → ReplyStands w.services to reply → Keeps (reply_delivered w to flight call reply)
-  reply_sound to flight call (Answer a) stands =
+  reply_sound : (to : List ℕ) (flight : ℕ) (number : ℕ) (reply : Live) → ReplyStands w.services to reply → Keeps (reply_delivered w to flight number reply)
+  reply_sound to flight number (Answer a) stands =
       sound_at to w refl refl (call_answered_served w.packets flight a) (λ s found. call_answered_served_owes w.services w.packets h to s found flight a stands.0 stands.1)
-  reply_sound to flight call (Refused word n) stands =
-      sound_at to w refl refl (call_failed_served w.packets flight call.number (WasRefused word n))
-      (λ s found. call_failed_served_owes w.services w.packets h to s found flight call.number (WasRefused word n))
+  reply_sound to flight number (Refused word n) stands =
+      sound_at to w refl refl (call_failed_served w.packets flight number (WasRefused word n))
+      (λ s found. call_failed_served_owes w.services w.packets h to s found flight number (WasRefused word n))
 
   post_sound : (post : Post) → PostStands w.services post → Keeps (post_delivered w post)
   post_sound (SetPost call) stands =
@@ -293,15 +290,15 @@ module _ (w : World) (h : IsSound w) where
   delivered_sound : (number : ℕ) (p : Option Packet) → IfSome p (PacketStands w.services) → Keeps (delivered w number p)
   delivered_sound number None stands = λ few. h
   delivered_sound number (Some (Call from flight call)) stands = call_sound number from flight call stands call.desired refl
-  delivered_sound number (Some (CallReply to flight call reply)) stands = reply_sound to flight call reply stands.1
+  delivered_sound number (Some (CallReply to flight call_number reply)) stands = reply_sound to flight call_number reply stands
   delivered_sound number (Some (PostPacket post)) stands = post_sound post stands
   delivered_sound number (Some (PostReplyPacket post reply)) stands =
       sound_at (sender post) w refl refl (posted_served post reply) (λ s found. posted_served_owes w.services w.packets h (sender post) s found post reply stands.1)
 
-  call_lost_sound : (name : List ℕ) (flight : ℕ) (call : SetMessage) → Keeps (call_lost w name flight call)
-  call_lost_sound name flight call =
-      sound_at name (once_lost w) refl refl (call_failed_served w.packets flight call.number (Lost (loss_note w)))
-      (λ s found. call_failed_served_owes w.services w.packets h name s found flight call.number (Lost (loss_note w)))
+  call_lost_sound : (name : List ℕ) (flight : ℕ) (number : ℕ) → Keeps (call_lost w name flight number)
+  call_lost_sound name flight number =
+      sound_at name (once_lost w) refl refl (call_failed_served w.packets flight number (Lost (loss_note w)))
+      (λ s found. call_failed_served_owes w.services w.packets h name s found flight number (Lost (loss_note w)))
 
   post_lost_sound : (post : Post) → Keeps (post_lost w post)
   post_lost_sound post =
@@ -310,8 +307,8 @@ module _ (w : World) (h : IsSound w) where
 
   lost_sound : (number : ℕ) (p : Option Packet) → Keeps (lost w number p)
   lost_sound number None = λ few. h
-  lost_sound number (Some (Call from flight call)) = call_lost_sound from flight call
-  lost_sound number (Some (CallReply to flight call reply)) = call_lost_sound to flight call
+  lost_sound number (Some (Call from flight call)) = call_lost_sound from flight call.number
+  lost_sound number (Some (CallReply to flight call_number reply)) = call_lost_sound to flight call_number
   lost_sound number (Some (PostPacket post)) = post_lost_sound post
   lost_sound number (Some (PostReplyPacket post reply)) = post_lost_sound post
 

@@ -13,7 +13,7 @@ returns-in-Call c =
 pub returns-in-CallReply : goal.returns-in-CallReply
 returns-in-CallReply c =
     by_packet (λ w p. delivered w c.args.number (Some p)) receiver c.args.packets.now.list c.args.service.now c.args.environment.now c.deliver_reply.result c.deliver_reply.new.service c.args.environment.now
-    _ c.args.packet.now c.in-CallReply.is (c.deliver_reply.ensures _ c.in-CallReply.set c.args.environment.now refl)
+    _ c.args.packet.now c.in-CallReply.is (c.deliver_reply.ensures _ c.args.environment.now)
 
 pub returns-in-Post : goal.returns-in-Post
 returns-in-Post c =
