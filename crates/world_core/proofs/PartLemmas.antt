@@ -260,3 +260,53 @@ ends_of_packet w number p closed is =
 pub acts_at : (turn : World → Turn) (name : List ℕ) (packets ready : List Packet) (s : Kept) (e : Environment) (result : Result Served WorldStepRefused) (s' : Kept) (e' : Environment) → ready ≡ packets
     → Acts turn name ready s e result s' e' → Acts turn name packets s e result s' e'
 acts_at turn name packets ready s e result s' e' same acts = subst (λ ps. Acts turn name ps s e result s' e') same acts
+
+-- ---- a packet at one of its ends
+
+-- for want of memory the packets are those that were there
+pub lacks_before : (t : Turn) (services : List Kept) (packets ready : List Packet) (e : Environment) (answer : Answer) → IsErrAnd answer (λ why. why ≡ NoMemory) → ready ≡ packets
+    → Turns t (world_of services packets e) answer (world_of services ready e)
+lacks_before t services packets ready e answer lacks same = lacks_all t _ _ answer lacks (ap (λ ps. world_of services ps e) same)
+
+-- so they are where there is none of this number
+pub none_before : (of : World → Option Packet → Turn) (services : List Kept) (packets ready : List Packet) (e : Environment) (number : ℕ) → None ≡ packet_in number ready → ready ≡ packets
+    → refused (world_of services packets e) (NoPacket number) ≡ of (world_of services packets e) None
+    → Turns (of (world_of services packets e) (packet_in number packets)) (world_of services packets e) (Err (NoPacket number)) (world_of services ready e)
+none_before of services packets ready e number none same is =
+    no_packet (of (world_of services packets e)) (world_of services packets e) _ number ready none same (ap (λ ps. world_of services ps e) same) is
+
+-- the packet has this number, and the service of this name, which is an end of it, is at this place
+pub record IsPacketAt (name : List ℕ) (services : List Kept) (packets : List Packet) (number : ℕ) (p : Packet) (at : ℕ) (s : Kept) : Type 0 where
+  pub found : Some p ≡ packet_in number packets
+  pub there : IsAt name services at s
+
+-- so it is of what is seen of the packets and of the services
+pub packet_at : (name other : List ℕ) (lent services : List Kept) (ready packets : List Packet) (number : ℕ) (p : Packet) (at : ℕ) (s : Kept) → Some p ≡ packet_in number ready → ready ≡ packets
+    → lent ≡ services → other ≡ name → position (has_name other) lent ≡ Some at → s ≡ get_or services at s → IsPacketAt name services packets number p at s
+packet_at name other lent services ready packets number p at s found same is named place itself = record {
+  found = packet_found p packets ready number found same;
+  there = at_place name services at s (lent_place name other lent services at is named place) itself;
+}
+
+module _ (of : World → Option Packet → Turn) (services : List Kept) (packets ready : List Packet) (e : Environment) (name : List ℕ) (number : ℕ) (p : Packet) (at : ℕ) (s : Kept)
+    (end : IsPacketAt name services packets number p at s) (same : ready ≡ packets) where
+  abbrev world : World
+  world = world_of services packets e
+
+  abbrev of_it : World → Turn
+  of_it x = of x (Some p)
+
+  -- the service refused, or wanted memory
+  pub packet_handed : (e' : Environment) (s' : Kept) (why : WorldStepRefused) (answer : Answer) → IsErrAnd answer (λ x. x ≡ why) → Acts of_it name ready s e (Err why) s' e'
+      → Turns (of world (packet_of number world)) world answer (world_of (set services at s') ready e')
+  packet_handed e' s' why answer handed acts =
+      of_packet (of world) world _ number p answer end.found
+      (turns_handed of_it services packets e name at s end.there ready e' s' why answer same handed (acts_at of_it name packets ready s e (Err why) s' e' same acts))
+
+  -- the service did this, and the packet of it is written
+  pub packet_told : (now : List Packet) (e' : Environment) (s' : Kept) (m : Served) (answer : Answer) (other : List ℕ) → now ≡ ready ++ written (Ok m) → answer ≡ told other ready (Ok m) → other ≡ name
+      → Acts of_it name ready s e (Ok m) s' e' → Turns (of world (packet_of number world)) world answer (world_of (set services at s') now e')
+  packet_told now e' s' m answer other put tells named acts =
+      of_packet (of world) world _ number p answer end.found
+      (turns_told of_it services packets e name at s end.there ready now e' s' m answer same put (tells ∙ ap (λ n. told n ready (Ok m)) named)
+      (acts_at of_it name packets ready s e (Ok m) s' e' same acts))
