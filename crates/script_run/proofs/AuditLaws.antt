@@ -20,7 +20,7 @@ use Rattle.service_events.specs.State.{Kept, answers}
 use Rattle.world_agreement.specs.Partners.{HasPartner, IsJoined}
 use Rattle.world_agreement.specs.Quiet.{IsQuiet, AreQuiet}
 use Rattle.world_audit.specs.First.{IsFirstWithout}
-use Rattle.world_audit.specs.Tests.{is_partnered}
+use Rattle.world_audit.specs.Conditions.{is_partnered}
 use Rattle.world_audit.specs.Verdicts.{IsAcknowledged, IsFirstIn, IsFirstOf, IsForged, IsGiven, IsJoinedIn, IsUnsettled, IsVerdict, NoneIn, NoneOf, what_is}
 use Rattle.world_audit.specs.declared.outstanding.OutstandingKind.{OutstandingKind}
 use Rattle.world_audit.specs.declared.outstanding.OutstandingKind.TheVariants.{Flights, Entries, Calls, Answers}

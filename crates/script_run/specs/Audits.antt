@@ -4,7 +4,7 @@ use Rattle.local_repair.specs.Repairs.{stale_id}
 use Rattle.journal_rows.specs.declared.verdict.Verdict.{Verdict}
 use Rattle.journal_rows.specs.declared.verdict.Verdict.TheVariants.{Legal, Forged, Unsettled}
 use Rattle.service_events.specs.State.{Kept, answers, base}
-use Rattle.world_audit.specs.Tests.{is_partnered}
+use Rattle.world_audit.specs.Conditions.{is_partnered}
 pub use Rattle.world_audit.specs.Verdicts.{SaysForged}
 use Rattle.world_audit.specs.Verdicts.{what_is}
 use Rattle.world_audit.specs.declared.outstanding.OutstandingKind.{OutstandingKind}

@@ -17,7 +17,7 @@ not_all P [] place f all = absurd (omega (arith, f.0))
 not_all P (x ∷ xs) place f all = f.2 x (all place x f.0)
 
 -- what holds of the element that was read holds there
-held_at : {X : Type 0} (P : X → Type 0) (xs : List X) (k : ℕ) (x : X) → k < length xs → x ≡ get_or xs k x → P x → HoldsAt P xs k
+pub held_at : {X : Type 0} (P : X → Type 0) (xs : List X) (k : ℕ) (x : X) → k < length xs → x ≡ get_or xs k x → P x → HoldsAt P xs k
 held_at {X} P xs k x l is h d = subst P (get_or_default xs k x d l) (subst P is h)
 
 first_without : {X : Type 0} (P : X → Type 0) (xs : List X) (k : ℕ) (x : X) → k < length xs → AllWithin P xs 0 k → x ≡ get_or xs k x → ¬ (P x) → IsFirstWithout P xs k

@@ -23,7 +23,7 @@ use Rattle.service_events.specs.State.{Kept, me}
 use Rattle.service_entry_laws.proofs.LogLemmas.{call_is, itself}
 use Rattle.service_entry_laws.proofs.SearchLemmas.{text_is}
 use Rattle.world_agreement.specs.Partners.{HasPartner, HasAcked, HasAcknowledged, HasAnswered, HasConfirmed, HasSent, JournalOf, service_of}
-use Rattle.world_audit.specs.Tests.{sends, acknowledges, is_answer, answers, gives, confirms, acknowledges_so, has_row, callee_of, is_partnered}
+use Rattle.world_audit.specs.Conditions.{sends, acknowledges, is_answer, answers, gives, confirms, acknowledges_so, has_row, callee_of, is_partnered}
 
 -- ---- an element that passes
 

@@ -21,7 +21,7 @@ use Rattle.journal_rows.specs.declared.caller.SentRow.{SentRow}
 use Rattle.journal_rows.specs.declared.row.Row.{Row}
 use Rattle.journal_rows.specs.declared.row.Row.TheVariants.{Acked, Answered, Sent, Confirmed}
 use Rattle.world_audit.specs.Sought.{is_sought, key_of}
-use Rattle.world_audit.specs.Tests.{sends, acknowledges, is_answer, answers, gives, confirms, acknowledges_so}
+use Rattle.world_audit.specs.Conditions.{sends, acknowledges, is_answer, answers, gives, confirms, acknowledges_so}
 use Rattle.world_audit.specs.declared.sought.Sought.{Sought}
 use Rattle.world_audit.specs.declared.sought.Sought.TheVariants.{Sent as SoughtSent, Acknowledged, Answered as SoughtAnswered, Confirmed as SoughtConfirmed}
 

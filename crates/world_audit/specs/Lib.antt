@@ -1,4 +1,4 @@
 pub mod First
 pub mod Sought
-pub mod Tests
+pub mod Conditions
 pub mod Verdicts

@@ -2,7 +2,7 @@
 use Rattle.std.specs.Prelude.{ℕ, Bool}
 use Rattle.lang_lists.specs.Keys.{call_key}
 use Rattle.journal_rows.specs.declared.row.Row.{Row}
-use Rattle.world_audit.specs.Tests.{sends, gives, confirms, acknowledges_so}
+use Rattle.world_audit.specs.Conditions.{sends, gives, confirms, acknowledges_so}
 use Rattle.world_audit.specs.declared.sought.Sought.{Sought}
 use Rattle.world_audit.specs.declared.sought.Sought.TheVariants.{Sent, Acknowledged, Answered, Confirmed}
 

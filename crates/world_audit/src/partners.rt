@@ -1,9 +1,10 @@
 // Whether another service did what a row says of it.
 ghost use Rattle.std.specs.Prelude.{◌≡◌, ◌↔◌, IsTrue, option_map};
 ghost use Rattle.journal_rows.specs.Words.{last_sent};
+ghost use Rattle.service_events.specs.Fits.{Fits};
 ghost use Rattle.service_events.specs.State.{me};
 ghost use Rattle.world_agreement.specs.Partners.{service_of, HasPartner};
-ghost use Rattle.world_audit.specs.Tests.{sends, gives, confirms, acknowledges_so, named_has, callee_of, dest_has, is_partnered};
+ghost use Rattle.world_audit.specs.Conditions.{sends, gives, confirms, acknowledges_so, named_has, callee_of, dest_has, is_partnered};
 
 use crate::sought::{Sought, is_in};
 use journal_rows::{Row, SawAckRow, SawAnswerRow, TookRow, WasConfirmedRow};
@@ -20,10 +21,9 @@ fn service_of<'a>(services: &'a [Service], name: &Name) -> Option<&'a Service>
 
 // The service to which a call of this one was sent, as its register says.
 fn callee_of<'a>(services: &'a [Service], service: &Service, number: u64) -> Option<&'a Service>
+    requires { Fits service.now }
     ensures { option_map (λ s. s.now) result ≡ callee_of services.now (last_sent number service.now.journal) }
 {
-    // Asked for what it promises alone: registers fit it.
-    let _journal = service.journal();
     match service.registers().get(number) {
         None => None,
         Some(register) => service_of(services, &register.dest),
@@ -43,6 +43,7 @@ fn was_sent(services: &[Service], service: &Service, took: &TookRow) -> bool
 
 // Whether a callee acknowledged what this service saw.
 fn was_acknowledged(services: &[Service], service: &Service, seen: SawAckRow) -> bool
+    requires { Fits service.now }
     ensures { result ≡ dest_has services.now service.now seen.number (acknowledges_so (me service.now) seen.number seen.version seen.how) }
 {
     let caller = &service.setting().me;
@@ -54,6 +55,7 @@ fn was_acknowledged(services: &[Service], service: &Service, seen: SawAckRow) ->
 
 // Whether a callee gave the answer that this service saw.
 fn was_given(services: &[Service], service: &Service, seen: &SawAnswerRow) -> bool
+    requires { Fits service.now }
     ensures { result ≡ dest_has services.now service.now seen.now.number (gives (me service.now) seen.now.number seen.now.answer_version seen.now.version seen.now.response) }
 {
     let caller = &service.setting().me;
@@ -74,6 +76,7 @@ fn was_confirmed(services: &[Service], noted: &WasConfirmedRow) -> bool
 }
 
 fn is_partnered(services: &[Service], service: &Service, row: &Row) -> bool
+    requires { Fits service.now }
     ensures { result ≡ is_partnered services.now service.now row.now }
 {
     match row {
@@ -85,8 +88,9 @@ fn is_partnered(services: &[Service], service: &Service, row: &Row) -> bool
     }
 }
 
-/// Whether a row of this service has its partner in the journal of the service that it names.
+/// Whether a row of this service, which fits its journal, has its partner in the journal of the service that it names.
 pub fn has_partner(services: &[Service], service: &Service, row: &Row) -> bool
+    requires { Fits service.now }
     ensures { IsTrue result ↔ HasPartner services.now service.now row.now }
 {
     is_partnered(services, service, row)

@@ -3,7 +3,7 @@ ghost use Rattle.std.specs.Prelude.{◌≡◌};
 ghost use Rattle.std.specs.List.{list_any};
 ghost use Rattle.world_audit.specs.Sought.{is_sought, key_of};
 
-use crate::tests::{acknowledges_so, confirms, gives, sends};
+use crate::conditions::{acknowledges_so, confirms, gives, sends};
 use journal_rows::{Row, Rows, SawAckRow, SawAnswerRow, TookRow, WasConfirmedRow};
 use lang_core::Name;
 use lang_lists::call_key;

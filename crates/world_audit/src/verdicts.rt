@@ -1,7 +1,8 @@
 // The audit.
-ghost use Rattle.std.specs.Prelude.{◌≡◌, ◌↔◌, All, MatchOption};
+ghost use Rattle.std.specs.Prelude.{◌≡◌, ◌↔◌, All, MatchOption, None};
 ghost use Rattle.journal_rows.specs.declared.verdict.Verdict.{Verdict};
 ghost use Rattle.journal_rows.specs.declared.verdict.Verdict.TheVariants.{Legal};
+ghost use Rattle.service_events.specs.Fits.{Fits};
 ghost use Rattle.world_agreement.specs.Partners.{HasPartner, IsJoined};
 ghost use Rattle.world_agreement.specs.Quiet.{AreQuiet};
 ghost use Rattle.world_audit.specs.First.{IsFirstWithout};
@@ -23,6 +24,7 @@ pub struct Found {
 
 // The first row of a service without a partner.
 fn first_alone(services: &[Service], service: &Service, rows: &[Row]) -> Option<u64>
+    requires { Fits service.now }
     ensures { MatchOption result (All (HasPartner services.now service.now) rows.now) (IsFirstWithout (HasPartner services.now service.now) rows.now) }
 {
     for (index, row) in rows.iter().enumerate() {
@@ -33,9 +35,10 @@ fn first_alone(services: &[Service], service: &Service, rows: &[Row]) -> Option<
     None
 }
 
-// The first row of all without a partner.
+// The first row of all without a partner. Where there is none, each service fits its journal, which was looked at.
 fn forged(services: &[Service]) -> Option<Found>
-    ensures { MatchOption result (IsJoined services.now) (λ f. IsForged services.now f.at f.number) }
+    ensures fits { result ≡ None → All Fits services.now }
+    ensures first { MatchOption result (IsJoined services.now) (λ f. IsForged services.now f.at f.number) }
 {
     for (at, service) in services.iter().enumerate() {
         if let Some(index) = first_alone(services, service, service.journal().as_slice()) {
@@ -74,7 +77,8 @@ fn unsettled(kind: OutstandingKind, found: Found) -> Verdict
 
 // The first row without a partner, else the first thing outstanding, else Legal.
 fn judged(services: &[Service]) -> Verdict
-    ensures { IsVerdict services.now result }
+    ensures verdict { IsVerdict services.now result }
+    ensures fits { (¬ (SaysForged result)) → All Fits services.now }
 {
     if let Some(found) = forged(services) {
         return Verdict::Forged {
@@ -107,6 +111,9 @@ pub fn audit(services: &[Service]) -> Verdict
     ensures legal { (result ≡ Legal) ↔ (IsJoined services.now × AreQuiet services.now) }
     ensures forged { SaysForged result ↔ (¬ (IsJoined services.now)) }
     ensures unsettled { SaysUnsettled result ↔ (IsJoined services.now × (¬ (AreQuiet services.now))) }
+
+    // Where it isn't Forged, each journal was looked at whole, and each service fits its own.
+    ensures fits { (¬ (SaysForged result)) → All Fits services.now }
 {
     judged(services)
 }

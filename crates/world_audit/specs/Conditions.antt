@@ -1,4 +1,4 @@
--- Partners of rows, as tests.
+-- Whether a row has its partner, as conditions that are tested.
 use Rattle.std.specs.Prelude.{ℕ, Bool, true, false, ◌&&◌, List, Option, Some, None, nat_eq}
 use Rattle.std.specs.List.{list_any}
 use Rattle.lang_base.specs.Equal.{equal}

@@ -1,7 +1,7 @@
 use Rattle.lang_base.proofs.EqualLemmas.{equal_is}
 use Rattle.journal_rows.specs.contracts.caller.SentRow as sent_row
 use Rattle.journal_rows.specs.declared.caller.SentRow.{SentRow}
-use Rattle.world_audit.proofs.tests.sends.Goals as goal
+use Rattle.world_audit.proofs.conditions.sends.Goals as goal
 
 pub returns-in-Sent : goal.returns-in-Sent
 returns-in-Sent c =

@@ -3,7 +3,7 @@ ghost use Rattle.std.specs.Prelude.{◌≡◌, ◌↔◌, IsTrue};
 ghost use Rattle.lang_base.specs.Equal.{equal};
 ghost use Rattle.lang_core.specs.Origins.{is_call};
 ghost use Rattle.lang_core.specs.contracts.request.Response as response;
-ghost use Rattle.world_audit.specs.Tests.{sends, acknowledges, is_answer, answers, gives, confirms, acknowledges_so};
+ghost use Rattle.world_audit.specs.Conditions.{sends, acknowledges, is_answer, answers, gives, confirms, acknowledges_so};
 
 use journal_rows::{AckHow, AnsweredRow, Row, SentRow};
 use lang_core::{Name, Origin, Request, Response, Same};
