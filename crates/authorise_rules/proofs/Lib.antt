@@ -1,0 +1,9 @@
+pub mod Answered
+pub mod FirstMatch
+pub mod FormLemmas
+pub mod LineLemmas
+pub mod Lines
+pub mod Printed
+pub mod Stripped
+pub mod WordLemmas
+pub mod Wrongs

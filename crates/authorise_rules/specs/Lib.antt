@@ -1,0 +1,5 @@
+pub mod Deciding
+pub mod Forms
+pub mod Reading
+pub mod Refusals
+pub mod Spelled
