@@ -1,4 +1,3 @@
-mod ChainLemmas
 mod NamedLemmas
 pub mod SealLemmas
 pub mod SpeltLemmas

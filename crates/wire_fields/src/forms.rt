@@ -1,6 +1,6 @@
 // The forms of header fields.
-ghost use Rattle.std.specs.Prelude.{◌≡◌, ◌==◌};
-ghost use Rattle.std.specs.List.{list_all, position};
+ghost use Rattle.std.specs.Prelude.{◌≡◌};
+ghost use Rattle.std.specs.List.{list_all};
 ghost use Rattle.lang_core.specs.Names.{is_name, is_who};
 ghost use Rattle.lang_tree.specs.Forms.{is_path};
 ghost use Rattle.wire_fields.specs.Forms.{has_form, is_chain, is_notifier, is_seal, is_seal_digit, kind_named, status_of};
@@ -36,19 +36,10 @@ pub fn kind_named(word: &str) -> Option<Kind>
     }
 }
 
-fn comma(bytes: &[u8]) -> Option<usize>
-    ensures { result ≡ position (λ b. b == 44) bytes.now }
-{
-    bytes.iter().position(|byte| *byte == b',')
-}
-
 fn is_chain(bytes: &[u8]) -> bool
     ensures { result ≡ is_chain bytes.now }
 {
-    match comma(bytes) {
-        None => is_name(bytes),
-        Some(end) => is_name(&bytes[..end]) && is_chain(&bytes[end + 1..]),
-    }
+    bytes.split(|byte| *byte == b',').all(|name| is_name(name))
 }
 
 /// The status that a text spells.
