@@ -1,5 +1,5 @@
 -- A clone of a map of fields is equal to it.
-use Rattle.std.proofs.Common.{◌≡◌, ℕ, List}
+use Rattle.std.proofs.Common.{◌≡◌, List}
 use Rattle.std.specs.List.{AllZip}
 use Rattle.std.proofs.lemmas.List.Elements.{same_from_all_zip}
 use Rattle.http_header.specs.FieldValue.{FieldValue}

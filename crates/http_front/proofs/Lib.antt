@@ -4,6 +4,7 @@ mod ReadLemmas
 mod TextLemmas
 mod TakenLemmas
 mod CopyLemmas
+mod FieldLemmas
 mod BodyLemmas
 mod HeadEnds
 mod LineLemmas

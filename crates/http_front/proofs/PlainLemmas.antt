@@ -1,5 +1,5 @@
 -- Values that a line gives back as they are.
-use Rattle.std.proofs.Common.{◌≡◌, ℕ, ◌<◌, ◌≤◌, ◌^◌, true, false, ◌&&◌, List, [], ◌∷◌, ◌++◌, length, reverse, codes, decimal, refl, sym, ap, ◌∙◌, arith, append_assoc}
+use Rattle.std.proofs.Common.{◌≡◌, ℕ, ◌<◌, ◌≤◌, ◌^◌, true, false, List, [], ◌∷◌, ◌++◌, length, reverse, codes, decimal, refl, sym, ap, ◌∙◌, arith, append_assoc}
 use Rattle.std.specs.List.{list_all}
 use Rattle.std.proofs.lemmas.Bool.Decides.{nat_tests}
 use Rattle.std.proofs.lemmas.Fmt.{digits_decimal}
@@ -13,7 +13,7 @@ use Rattle.http_front.specs.Writing.{last_lines}
 use Rattle.http_front.specs.ReadBack.{is_plain}
 use Rattle.http_front.proofs.BodyLemmas.{own}
 use Rattle.std.proofs.lemmas.Bool.{and_from, and_parts}
-use Rattle.http_front.proofs.PassLemmas.{weaker}
+use Rattle.http_front.proofs.PassLemmas.{turned, weaker}
 use Rattle.http_front.proofs.LineLemmas.{is_sound}
 
 -- ---- white space at the ends
@@ -38,20 +38,13 @@ visible_value b is = grind (arith, nat_tests)
 
 -- ---- visible characters
 
-turned : (bytes : List ℕ) → list_all is_visible bytes ≡ true → list_all is_visible (reverse bytes) ≡ true
-turned [] all = refl
-turned (b ∷ bytes) all =
-    let both = and_parts (is_visible b) (list_all is_visible bytes) all in
-    ap (list_all is_visible) (reverse-append (b ∷ []) bytes) ∙ list_all-append is_visible (reverse bytes) (b ∷ [])
-    ∙ and_from (list_all is_visible (reverse bytes)) (is_visible b && true) (turned bytes both.1) (and_from (is_visible b) true both.0 refl)
-
 unskipped : (bytes : List ℕ) → list_all is_visible bytes ≡ true → skip_ows bytes ≡ bytes
 unskipped [] all = refl
 unskipped (b ∷ bytes) all = skips_none b bytes (and_parts (is_visible b) (list_all is_visible bytes) all).0
 
 pub visible_plain : (text : List ℕ) → list_all is_visible text ≡ true → is_plain text ≡ true
 visible_plain text all =
-    plain_by text (weaker is_visible is_value_byte visible_value text all) (unskipped text all) (unskipped (reverse text) (turned text all))
+    plain_by text (weaker is_visible is_value_byte visible_value text all) (unskipped text all) (unskipped (reverse text) (turned is_visible text all))
 
 begins_visible : (front rest : List ℕ) → list_all is_visible front ≡ true → 0 < length front → skip_ows (front ++ rest) ≡ front ++ rest
 begins_visible [] rest all some = absurd (omega (arith, some))
@@ -69,7 +62,7 @@ spaced_plain front back first some second more =
     ap reverse (sym (append_assoc front (32 ∷ []) back)) ∙ reverse-append (front ++ 32 ∷ []) back in
     let ends : 0 < length (reverse back) = omega (arith, more, length-reverse back) in
     plain_by (front ++ 32 ∷ back) values (begins_visible front (32 ∷ back) first some)
-    (ap skip_ows other ∙ begins_visible (reverse back) (reverse (front ++ 32 ∷ [])) (turned back second) ends ∙ sym other)
+    (ap skip_ows other ∙ begins_visible (reverse back) (reverse (front ++ 32 ∷ [])) (turned is_visible back second) ends ∙ sym other)
 
 -- ---- numbers
 

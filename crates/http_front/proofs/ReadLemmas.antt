@@ -1,5 +1,5 @@
 -- A head that was read, and the body behind it.
-use Rattle.std.proofs.Common.{◌≡◌, ℕ, List, ◌++◌, false, cond, Some, Result, Ok, Err, length, take, drop, nat_lt, refl, sym, ap, subst, ◌∙◌, length-append, arith}
+use Rattle.std.proofs.Common.{◌≡◌, ℕ, List, ◌++◌, false, cond, Some, Result, Ok, Err, length, drop, nat_lt, refl, sym, ap, subst, ◌∙◌, length-append, arith}
 use Rattle.std.proofs.lemmas.Bool.Decides.{nat_tests}
 use Rattle.std.specs.Str.{is_utf8}
 use Rattle.std.proofs.Math.Seq.{take-append_seam, drop-append_seam}

@@ -4,7 +4,7 @@ ghost use Rattle.httparse.specs.Grammar.{RequestHead};
 ghost use Rattle.httparse.specs.Spans.{IsRequestOf, IsRequestWithin, IsHeaderWithin, IsWithin, header_bytes, span_bytes};
 ghost use Rattle.http_header.specs.HeaderMap.{Entries};
 ghost use Rattle.http_front.specs.Answers.{UnlessInterrupted};
-ghost use Rattle.http_front.specs.Fields.{map_of};
+ghost use Rattle.http_front.specs.Fields.{FitsMap, map_of};
 ghost use Rattle.http_front.specs.Requests.{IsRequestHeadOf, StartsRequest, start_from};
 
 use crate::fields::map_of;
@@ -76,6 +76,9 @@ fn start_at(
     requires path { IsWithin (length bytes.now) spans.path }
     requires text { IsUtf8 (span_bytes bytes.now spans.path) }
     requires fields { All (IsHeaderWithin (length bytes.now)) fields.now }
+    requires short { length bytes.now ≤ 16384 }
+    requires fit { All FitsMap (map (header_bytes bytes.now) fields.now) }
+    requires few { length fields.now ≤ 64 }
     ensures answer { UnlessInterrupted result (result ≡ start_from (span_bytes bytes.now spans.method)
         (span_bytes bytes.now spans.path) (map_of (map (header_bytes bytes.now) fields.now))) }
     ensures short { IfOk result (λ start. start.length ≤ 65536) }
@@ -88,6 +91,7 @@ fn start_at(
 
 /// What the bytes up to a head's end say of a request.
 pub fn request_start(alloc: Global, bytes: &[u8]) -> Result<RequestStart, FrontRefused>
+    requires { length bytes.now ≤ 16384 }
     ensures answer { UnlessInterrupted result (StartsRequest bytes.now result) }
     ensures short { IfOk result (λ start. start.length ≤ 65536) }
     ensures unread { ¬ (IsErrOf result FrontRefused.ReadFault) }

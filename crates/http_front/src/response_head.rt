@@ -3,7 +3,7 @@ ghost use Rattle.std.specs.Prelude.{◌≡◌, ◌⊎◌, ◌≤◌, length, map
 ghost use Rattle.httparse.specs.Grammar.{ResponseHead};
 ghost use Rattle.httparse.specs.Spans.{IsResponseOf, IsResponseWithin, IsHeaderWithin, header_bytes};
 ghost use Rattle.http_front.specs.Answers.{UnlessInterrupted};
-ghost use Rattle.http_front.specs.Fields.{map_of};
+ghost use Rattle.http_front.specs.Fields.{FitsMap, map_of};
 ghost use Rattle.http_front.specs.Responses.{IsResponseHeadOf, StartsResponse, start_from};
 
 use crate::fields::map_of;
@@ -58,7 +58,10 @@ fn start_at(
     fields: &[HeaderSpan],
     status: u16,
 ) -> Result<ResponseStart, FrontRefused>
-    requires { All (IsHeaderWithin (length bytes.now)) fields.now }
+    requires fields { All (IsHeaderWithin (length bytes.now)) fields.now }
+    requires short { length bytes.now ≤ 16384 }
+    requires fit { All FitsMap (map (header_bytes bytes.now) fields.now) }
+    requires few { length fields.now ≤ 64 }
     ensures answer { UnlessInterrupted result
         (result ≡ start_from status (map_of (map (header_bytes bytes.now) fields.now))) }
     ensures short { IfOk result (λ start. start.length ≤ 65536) }
@@ -70,6 +73,7 @@ fn start_at(
 
 /// What the bytes up to a head's end say of a response.
 pub fn response_start(alloc: Global, bytes: &[u8]) -> Result<ResponseStart, FrontRefused>
+    requires { length bytes.now ≤ 16384 }
     ensures answer { UnlessInterrupted result (StartsResponse bytes.now result) }
     ensures short { IfOk result (λ start. start.length ≤ 65536) }
     ensures unread { ¬ (IsErrOf result FrontRefused.ReadFault) }

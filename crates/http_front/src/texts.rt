@@ -16,7 +16,7 @@ pub fn known_text(alloc: Global, bytes: &[u8]) -> Result<Text, NoMemory>
 {
     match str::from_utf8(bytes) {
         Ok(text) => Text::of(alloc, text),
-        Err(_) => Err(NoMemory),
+        Err(_) => unreachable!(),
     }
 }
 
@@ -48,6 +48,6 @@ pub fn text_of(bytes: Vec<u8>) -> Result<Text, FrontRefused>
     }
     match String::from_utf8(bytes) {
         Ok(text) => Ok(Text::shared(text)?),
-        Err(_) => Err(FrontRefused::NotText),
+        Err(_) => unreachable!(),
     }
 }
