@@ -61,7 +61,8 @@ fn push_outcome(text: &mut String, made: &Option<Made>) -> Result<(), NoMemory>
     Ok(())
 }
 
-fn push_asked(text: &mut String, request: &Request) -> Result<(), NoMemory>
+/// Puts what a request asks last: `METHOD PATH`.
+pub fn push_asked(text: &mut String, request: &Request) -> Result<(), NoMemory>
     ensures { OnOk result (string_bytes text.new ≡ string_bytes text.old ++ asked_text request.now) }
 {
     let method = method_word(request.method);

@@ -7,7 +7,8 @@ mod reading;
 mod rows;
 mod verdicts;
 
-pub use entries::{answer_line, log_text, push_response};
+pub use entries::{answer_line, log_text, push_asked, push_response};
+pub use escapes::{push_body_behind, push_key};
 pub use reading::unescaped;
 pub use rows::rows_text;
 pub use verdicts::verdict_text;

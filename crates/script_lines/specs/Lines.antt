@@ -13,7 +13,7 @@ use Rattle.journal_rows.specs.declared.orders.Command.{Command}
 use Rattle.journal_rows.specs.declared.orders.Command.TheVariants.{Cancel, Restore, Replace, Create}
 use Rattle.report_text.specs.Escapes.{unescaped}
 use Rattle.script_lines.specs.declared.line.Line.{Line}
-use Rattle.script_lines.specs.declared.line.Line.TheVariants.{Blank, Begin, Ask, Deliver, Lose, Step, Post, Abandon, Order, Clock, Seed, Rows, Log, Audit}
+use Rattle.script_lines.specs.declared.line.Line.TheVariants.{Blank, Begin, Ask, Deliver, Lose, Step, Post, Abandon, Order, Clock, Seed, Rows, Log, Dump, Audit}
 use Rattle.script_lines.specs.declared.line.LineFault.{LineFault}
 use Rattle.script_lines.specs.declared.line.LineFault.TheVariants.{Text, Word, Shape}
 
@@ -218,8 +218,9 @@ words_at word rest =
     else (if same_text word (codes "seed") then shaped (seed_at rest)
     else (if same_text word (codes "rows") then shaped (service_at Rows rest)
     else (if same_text word (codes "log") then shaped (service_at Log rest)
+    else (if same_text word (codes "dump") then shaped (at_end rest (Some Dump))
     else (if same_text word (codes "audit") then shaped (at_end rest (Some Audit))
-    else Err Word)))))))))))))))
+    else Err Word))))))))))))))))
 
 -- an empty line or a comment
 abbrev pub is_passed_over : List ℕ → Bool

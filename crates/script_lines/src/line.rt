@@ -91,6 +91,8 @@ pub enum Line {
     Log {
         service: Name,
     },
+    /// `dump`: all services, written down.
+    Dump,
     /// `audit`: the verdict over all services.
     Audit,
 }

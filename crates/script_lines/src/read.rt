@@ -54,11 +54,12 @@ fn read_log(alloc: Global, rest: Option<&str>) -> Result<Option<Line>, NoMemory>
     Ok(Some(Line::Log { service }))
 }
 
-fn read_audit(rest: Option<&str>) -> Option<Line>
-    ensures { result ≡ at_end (option_map (λ x. x.now) rest.entry) (Some Line.Audit) }
+// The line of a word that stands alone.
+fn alone(rest: Option<&str>, line: Line) -> Option<Line>
+    ensures { result ≡ at_end (option_map (λ x. x.now) rest.entry) (Some line) }
 {
     match rest {
-        None => Some(Line::Audit),
+        None => Some(line),
         Some(_) => None,
     }
 }
@@ -197,7 +198,8 @@ fn read_words(
         "seed" => Ok(shaped(read_seed(rest))),
         "rows" => Ok(shaped(read_rows(alloc, rest)?)),
         "log" => Ok(shaped(read_log(alloc, rest)?)),
-        "audit" => Ok(shaped(read_audit(rest))),
+        "dump" => Ok(shaped(alone(rest, Line::Dump))),
+        "audit" => Ok(shaped(alone(rest, Line::Audit))),
         _ => Ok(Err(LineFault::Word)),
     }
 }

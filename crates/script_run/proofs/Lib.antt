@@ -3,3 +3,4 @@ pub mod PlayLaws
 pub mod AuditLaws
 pub mod Following
 pub mod Standing
+pub mod DumpLemmas

@@ -3,3 +3,4 @@ pub mod Audits
 pub mod Plays
 pub mod Stops
 pub mod Deliveries
+pub mod Dumps

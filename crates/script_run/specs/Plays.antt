@@ -13,10 +13,11 @@ use Rattle.world_delivery_laws.specs.Runs.{IsAsking}
 use Rattle.script_lines.specs.Faults.{fault_number}
 use Rattle.script_lines.specs.Lines.{Read, line_at}
 use Rattle.script_lines.specs.declared.line.Line.{Line}
-use Rattle.script_lines.specs.declared.line.Line.TheVariants.{Blank, Begin, Ask, Deliver, Lose, Step, Abandon, Post, Order, Clock, Seed, Rows, Log, Audit}
+use Rattle.script_lines.specs.declared.line.Line.TheVariants.{Blank, Begin, Ask, Deliver, Lose, Step, Abandon, Post, Order, Clock, Seed, Rows, Log, Dump, Audit}
 use Rattle.script_lines.specs.declared.line.LineFault.{LineFault}
 use Rattle.script_lines.specs.declared.line.LineFault.TheVariants.{Service}
 use Rattle.script_run.specs.Audits.{verdict}
+use Rattle.script_run.specs.Dumps.{dump_text}
 use Rattle.script_run.specs.Told.{LineAnswer, events_said}
 
 -- ---- what a line does
@@ -36,6 +37,7 @@ AreEventsOf w (Clock moment) events = events ≡ event.Clock moment ∷ []
 AreEventsOf w (Seed n) events = events ≡ event.Seed n ∷ []
 AreEventsOf w (Rows service) events = events ≡ []
 AreEventsOf w (Log service) events = events ≡ []
+AreEventsOf w Dump events = events ≡ []
 AreEventsOf w Audit events = events ≡ []
 
 -- ---- what a line says
@@ -59,6 +61,7 @@ audit_text services = verdict_text (map me services) (verdict services)
 abbrev pub said_by : World → Line → List Event → LineAnswer
 said_by w (Rows service) events = report_of rows_of_service (service_of service w.services)
 said_by w (Log service) events = report_of log_of_service (service_of service w.services)
+said_by w Dump events = Ok (dump_text w.services)
 said_by w Audit events = Ok (audit_text w.services)
 said_by w line events = events_said w events
 

@@ -4,11 +4,15 @@
 
 mod acting;
 mod asking;
+mod dump_entries;
+mod dump_words;
+mod dumping;
 mod reports;
 mod script;
 mod telling;
 
 pub use acting::act;
+pub use dumping::dump_text;
 pub use reports::judge;
 pub use script::{ScriptRefused, run_script};
 pub use world_core::{Service, World};

@@ -8,8 +8,10 @@ ghost use Rattle.service_events.specs.State.{me, Kept};
 ghost use Rattle.world_agreement.specs.Legal.{AreLegal};
 ghost use Rattle.world_agreement.specs.Partners.{IsJoined, service_of};
 ghost use Rattle.script_run.specs.Audits.{SaysForged, verdict};
+ghost use Rattle.script_run.specs.Dumps.{dump_text};
 ghost use Rattle.script_run.specs.Plays.{audit_text, log_of_service, report_of, rows_of_service};
 
+use crate::dumping::dump_text;
 use journal_rows::Verdict;
 use lang_core::{Copied, Name, Names, NoMemory, Text};
 use report_text::{log_text, rows_text, verdict_text};
@@ -42,6 +44,13 @@ pub fn log(alloc: Global, world: &World, name: &Name) -> Result<Result<Text, Lin
         Some(service) => Ok(Ok(log_text(alloc, &service.setting().me, service.entries())?)),
         None => Ok(Err(LineFault::Service)),
     }
+}
+
+/// All services, written down.
+pub fn dump(alloc: Global, world: &World) -> Result<Result<Text, LineFault>, NoMemory>
+    ensures { IfOk result (λ said. said ≡ Ok (dump_text world.now.services)) }
+{
+    Ok(Ok(dump_text(alloc, world.services())?))
 }
 
 fn names_of(alloc: Global, services: &[Service]) -> Result<Names, NoMemory>

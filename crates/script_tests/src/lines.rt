@@ -131,6 +131,7 @@ fn spelled(rt: &(impl Abort + AllocGlobal), line: &Line) -> String {
         Line::Step { service } => named(rt, "step", service),
         Line::Rows { service } => named(rt, "rows", service),
         Line::Log { service } => named(rt, "log", service),
+        Line::Dump => alone(rt, "dump"),
         Line::Audit => alone(rt, "audit"),
         Line::Clock(moment) => counted(rt, "clock", *moment),
         Line::Seed(number) => counted(rt, "seed", *number),
@@ -173,6 +174,9 @@ rows[notes]|rows notes|
 log[notes]|log notes|
 3|log notes/1|
 3|log |
+dump|dump|
+3|dump notes|
+3|dump |
 audit|audit|
 3|audit now|
 3|audit |

@@ -10,5 +10,8 @@ returns-in-Rows-clause-early c = on_err _ (act_none c.args.world.now c.args.line
 pub returns-in-Log-clause-early : goal.returns-in-Log-clause-early
 returns-in-Log-clause-early c = on_err _ (act_none c.args.world.now c.args.line)
 
+pub returns-in-Dump-clause-early : goal.returns-in-Dump-clause-early
+returns-in-Dump-clause-early c = on_err _ (act_none c.args.world.now c.args.line)
+
 pub returns-in-Audit-clause-early : goal.returns-in-Audit-clause-early
 returns-in-Audit-clause-early c = on_err _ (act_none c.args.world.now c.args.line)

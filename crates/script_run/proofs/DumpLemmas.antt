@@ -1,0 +1,20 @@
+-- What is written of calls: of the pairs of two lists, one after the other, and of the tentative answer.
+use Rattle.std.proofs.Common.{ℕ, ◌≡◌, ◌⊎◌, decimal, inl, inr, List, [], ◌∷◌, ◌++◌, flat_map, refl, sym, ap, ◌∙◌}
+use Rattle.std.proofs.lemmas.List.{append-nil}
+use Rattle.std.specs.List.{zip}
+use Rattle.local_repair.specs.Steps.{tentative}
+use Rattle.report_text.specs.Reports.{response_text}
+
+none_left : {A B : Type 0} (ks : List A) (vs : List B) → (ks ≡ []) ⊎ (vs ≡ []) → zip ks vs ≡ []
+none_left [] vs e = refl
+none_left (k ∷ ks) [] e = refl
+none_left (k ∷ ks) (v ∷ vs) (inl e) = let no : ⊥ = cc in absurd no
+none_left (k ∷ ks) (v ∷ vs) (inr e) = let no : ⊥ = cc in absurd no
+
+-- no pair is left, so all are written
+pub pair_end : {A B : Type 0} (f : (A × B) → List ℕ) (all text : List ℕ) (ks : List A) (vs : List B)
+    → all ≡ text ++ flat_map f (zip ks vs) → (ks ≡ []) ⊎ (vs ≡ []) → text ≡ all
+pair_end f all text ks vs is none = sym (is ∙ ap (λ x. text ++ flat_map f x) (none_left ks vs none) ∙ append-nil text)
+
+pub tentative_text : response_text tentative ≡ decimal 504
+tentative_text = append-nil (decimal 504)

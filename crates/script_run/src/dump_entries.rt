@@ -1,0 +1,133 @@
+// An entry, its calls and its reply.
+ghost use Rattle.std.specs.Prelude.{◌≡◌, ◌++◌, OnOk, string_bytes};
+ghost use Rattle.std.specs.List.{flat_map, zip};
+ghost use Rattle.request_log.specs.Records.{recorded_calls, record_of, record_in};
+ghost use Rattle.std.specs.Option.{option_copied, option_map};
+ghost use Rattle.local_repair.specs.Steps.{answer_or_tentative};
+ghost use Rattle.call_registers.specs.Registers.{consumed};
+ghost use Rattle.script_run.specs.Dumps.{answer_line, call_line, call_lines, entry_line, entry_lines, reply_line, standing_text};
+
+use crate::dump_words::{digit_of, push_inputs, push_origin, push_request};
+use call_registers::Registers;
+use lang_core::{CallMade, NoMemory, Response};
+use report_text::{push_asked, push_body_behind, push_response};
+use request_log::{Entry, Made};
+
+// The status of the tentative answer, which a call consumes that has none.
+const TENTATIVE_STATUS: u16 = 504;
+
+// ` V WANTED STRUCK`
+fn push_standing(text: &mut String, entry: &Entry) -> Result<(), NoMemory>
+    ensures { OnOk result (string_bytes text.new ≡ string_bytes text.old ++ standing_text entry.now) }
+{
+    let version = entry.version;
+    let wanted = digit_of(entry.wanted);
+    let struck = digit_of(entry.struck);
+    write!(text, " {version} {wanted} {struck}")?;
+    Ok(())
+}
+
+fn push_entry_line(text: &mut String, entry: &Entry) -> Result<(), NoMemory>
+    ensures { OnOk result (string_bytes text.new ≡ string_bytes text.old ++ entry_line entry.now) }
+{
+    let id = entry.id;
+    write!(text, "entry {id} ")?;
+    push_origin(text, &entry.origin)?;
+    push_standing(text, entry)?;
+    push_inputs(text, &entry.inputs)?;
+    push_request(text, &entry.request)?;
+    text.push_str("\n")?;
+    Ok(())
+}
+
+fn push_call_line(text: &mut String, number: u64, call: &CallMade) -> Result<(), NoMemory>
+    ensures { OnOk result (string_bytes text.new ≡ string_bytes text.old ++ call_line number call.now) }
+{
+    let dest = call.dest.as_str();
+    write!(text, "call {number} {dest} ")?;
+    push_asked(text, &call.request)?;
+    push_body_behind(text, call.request.body.as_str())?;
+    text.push_str("\n")?;
+    Ok(())
+}
+
+// What a call consumes: the tentative answer where there is none.
+#[tactic(auto, using(crate::proofs::DumpLemmas::tentative_text))]
+fn push_answer_line(text: &mut String, answer: Option<&Response>) -> Result<(), NoMemory>
+    ensures { OnOk result (string_bytes text.new ≡ string_bytes text.old ++ answer_line (answer_or_tentative (option_copied answer.entry))) }
+{
+    match answer {
+        None => {
+            let status = TENTATIVE_STATUS;
+            write!(text, "answer {status}\n")?;
+            Ok(())
+        }
+        Some(response) => {
+            text.push_str("answer ")?;
+            push_response(text, response)?;
+            text.push_str("\n")?;
+            Ok(())
+        }
+    }
+}
+
+fn push_calls(
+    text: &mut String,
+    registers: &Registers,
+    numbers: &[u64],
+    calls: &[CallMade],
+) -> Result<(), NoMemory>
+    ensures { OnOk result (string_bytes text.new ≡ string_bytes text.old
+        ++ flat_map (call_lines (λ n. answer_or_tentative (consumed n registers.now.list))) (zip numbers.now calls.now)) }
+{
+    for (number, call) in numbers.iter().zip(calls) {
+        push_call_line(text, *number, call)?;
+        push_answer_line(text, registers.consumed(*number))?;
+    }
+    Ok(())
+}
+
+fn push_reply_line(text: &mut String, made: &Option<Made>) -> Result<(), NoMemory>
+    ensures { OnOk result (string_bytes text.new ≡ string_bytes text.old ++ reply_line (option_map record_in made.now)) }
+{
+    match made {
+        None => {
+            text.push_str("reply none\n")?;
+            Ok(())
+        }
+        Some(made) => {
+            text.push_str("reply ")?;
+            push_response(text, &made.trace.response)?;
+            text.push_str("\n")?;
+            Ok(())
+        }
+    }
+}
+
+fn calls_of(made: &Option<Made>) -> &[CallMade]
+    ensures { result.now ≡ recorded_calls (option_map record_in made.now) }
+{
+    match made {
+        None => &[],
+        Some(made) => made.trace.calls.as_slice(),
+    }
+}
+
+/// Puts an entry last with its calls, what they consume by these registers, and its reply.
+pub(crate) fn push_entry(
+    text: &mut String,
+    registers: &Registers,
+    entry: &Entry,
+) -> Result<(), NoMemory>
+    ensures { OnOk result (string_bytes text.new ≡ string_bytes text.old
+        ++ entry_lines (λ n. answer_or_tentative (consumed n registers.now.list)) entry.now) }
+{
+    push_entry_line(text, entry)?;
+    push_calls(
+        text,
+        registers,
+        entry.slots.as_slice(),
+        calls_of(&entry.made),
+    )?;
+    push_reply_line(text, &entry.made)
+}
