@@ -13,8 +13,7 @@ use Rattle.world_agreement.specs.Partners.{HasPartner, NamesDiffer, has_name, se
 use Rattle.world_events.specs.Live.{IsLiveWorld}
 use Rattle.world_events.specs.Reach.{ArePeered, CallsPeers, GoesTo, IsReached}
 use Rattle.world_events.specs.Sound.{IsSound}
-use Rattle.world_laws.proofs.LiveWorldLaws.{fresh_live}
-use Rattle.world_laws.proofs.WorldLaws.{fresh_sound}
+use Rattle.script_run.proofs.HandedOn.{fresh_live, fresh_sound}
 use Rattle.world_file.specs.Worlds.{IsAmong, KnowEachOther, name_of}
 use Rattle.world_file.specs.declared.setup.Setup.{Setup}
 use Rattle.aire_top.specs.Fresh.{fresh, fresh_service}

@@ -4,3 +4,4 @@ pub mod AuditLaws
 pub mod Following
 pub mod Standing
 pub mod DumpLemmas
+pub mod HandedOn

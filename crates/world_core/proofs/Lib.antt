@@ -5,3 +5,4 @@ pub mod PartLemmas
 pub mod PacketLemmas
 pub mod OrderLemmas
 pub mod WorldLemmas
+pub mod HandedOn
