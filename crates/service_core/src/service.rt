@@ -1,14 +1,17 @@
 // A service, and its events.
-ghost use Rattle.std.specs.Prelude.{◌≡◌, IfOk, MatchOption, Ok, OnOk, Some, IfSome, IsSome, IsSomeAnd};
+ghost use Rattle.std.specs.Prelude.{◌≡◌, false, IfOk, MatchOption, Ok, OnOk, Some, IfSome, IsSome, IsSomeAnd};
 ghost use Rattle.call_registers.specs.Registers.{IsTimely};
 ghost use Rattle.local_repair.specs.Current.{AllCurrent, rows_after};
 ghost use Rattle.local_repair.specs.Repairs.{IsStaleId};
-ghost use Rattle.service_events.specs.State.{after, answers, fresh, base};
-ghost use Rattle.service_events.specs.Arriving.{abandon_event, arrive_event, call_answered_event, call_failed_event};
+ghost use Rattle.service_events.specs.State.{after, answers, flight_of, fresh, base};
+ghost use Rattle.service_events.specs.Arriving.{abandon_event, arrive_event, call_answered_event, call_failed_event, live_answer_rows, new_flight, told};
 ghost use Rattle.service_events.specs.Ages.{GoesFirst, HasAges};
+ghost use Rattle.service_events.specs.Calls.{noted};
+ghost use Rattle.service_events.specs.Causes.{causes, AddsCauses, TellsAnswered, TellsFailed};
 ghost use Rattle.service_events.specs.Commits.{live_rows, Commits, CommitsFlight};
 ghost use Rattle.service_events.specs.Fits.{Fits};
 ghost use Rattle.service_events.specs.Progress.{Counts, GoesFurther, IsLocalStep};
+ghost use Rattle.service_events.specs.RunsOn.{Begins, GoesOnTo, IsStep};
 ghost use Rattle.service_core.specs.Failures.{IsFailure};
 ghost use Rattle.service_core.specs.Readings.{awaited_by, first_stale, AreReplayed, IsReplayedBefore};
 ghost use Rattle.service_events.specs.Doing.{answer_memory, arrive_memory, call_memory, order_memory, post_memory, take_memory, Does};
@@ -160,6 +163,8 @@ impl Service {
     ) -> Result<Arrived, ArriveRefused>
         ensures does { Does arrive_memory (arrive_event self.old origin request inputs) self.old result self.new }
         ensures commits { Commits origin request inputs self.old result self.new }
+        ensures goes { IfOk result (λ arrived. Begins self.old (new_flight self.old origin request inputs) arrived self.new) }
+        ensures told { OnOk result (AddsCauses (causes self.old) false self.new) }
     {
         arrive(alloc, &mut self.parts, origin, request, inputs)
     }
@@ -175,6 +180,9 @@ impl Service {
     ) -> Result<Arrived, CallRefused>
         ensures does { Does call_memory (call_answered_event self.old flight answer.now) self.old result self.new }
         ensures commits { CommitsFlight flight self.old result self.new }
+        ensures goes { IfOk result (λ arrived. IsSomeAnd (flight_of flight self.old)
+            (λ f. GoesOnTo (noted (live_answer_rows self.old answer.now) self.old) f (after self.new arrived))) }
+        ensures told { TellsAnswered flight answer.now self.old result self.new }
     {
         call_answered(alloc, &mut self.parts, flight, answer)
     }
@@ -191,6 +199,9 @@ impl Service {
         requires { IsFailure why }
         ensures does { Does call_memory (call_failed_event self.old flight number why) self.old result self.new }
         ensures commits { CommitsFlight flight self.old result self.new }
+        ensures goes { IfOk result (λ arrived. IsSomeAnd (flight_of flight self.old)
+            (λ f. GoesOnTo (told number why self.old) f (after self.new arrived))) }
+        ensures told { TellsFailed flight number why self.old result self.new }
     {
         call_failed(alloc, &mut self.parts, flight, number, why)
     }
@@ -200,6 +211,7 @@ impl Service {
     pub fn abandon(&mut self, flight: u64) -> bool
         ensures does { after self.new result ≡ abandon_event self.old flight }
         ensures silent { live_rows self.new.journal ≡ live_rows self.old.journal }
+        ensures told { AddsCauses (causes self.old) false self.new }
     {
         abandon(&mut self.parts, flight)
     }
@@ -209,11 +221,13 @@ impl Service {
     /// later: as many steps as there are entries, with no event between, leave none stale.
     pub fn repair_step(&mut self, alloc: Global) -> Result<Stepped, NoMemory>
         ensures steps { Steps self.old result self.new }
+        ensures again { IfOk result (λ stepped. IsStep self.old stepped self.new) }
         ensures free { AllCurrent (answers self.old) (base self.old) self.old.entries → result ≡ Ok Stepped.Idle }
         ensures local { IfOk result (λ stepped. IsLocalStep self.old stepped self.new) }
         ensures once { IfOk result (λ stepped. Counts self.old stepped self.new) }
         ensures further { OnOk result (IsTimely self.old.registers → GoesFurther self.old self.new) }
         ensures silent { live_rows self.new.journal ≡ live_rows self.old.journal }
+        ensures told { AddsCauses (causes self.old) false self.new }
     {
         repair_step(alloc, &mut self.parts)
     }
@@ -232,6 +246,7 @@ impl Service {
         ensures does { Does order_memory (order_event self.old command token who inputs) self.old result self.new }
         ensures repeated { IfSome (answered_by (ordered token self.old.journal)) (λ answer. result ≡ Ok answer) }
         ensures silent { live_rows self.new.journal ≡ live_rows self.old.journal }
+        ensures told { AddsCauses (causes self.old) false self.new }
     {
         order(alloc, &mut self.parts, command, token, who, inputs)
     }
@@ -247,6 +262,7 @@ impl Service {
     ) -> Result<Taken, TakeRefused>
         ensures does { Does take_memory (take_event self.old set.now inputs) self.old result self.new }
         ensures silent { live_rows self.new.journal ≡ live_rows self.old.journal }
+        ensures told { AddsCauses (causes self.old) false self.new }
     {
         take(alloc, &mut self.parts, set, inputs)
     }
@@ -260,6 +276,7 @@ impl Service {
     ) -> Result<Heard, AnswerRefused>
         ensures does { Does answer_memory (take_answer_event self.old answer.now) self.old result self.new }
         ensures silent { live_rows self.new.journal ≡ live_rows self.old.journal }
+        ensures told { AddsCauses (causes self.old) false self.new }
     {
         take_answer(alloc, &mut self.parts, answer)
     }
@@ -275,6 +292,7 @@ impl Service {
     ) -> Result<Posted, PostRefused>
         ensures does { Does post_memory (posted_event self.old post.now reply) self.old result self.new }
         ensures silent { live_rows self.new.journal ≡ live_rows self.old.journal }
+        ensures told { AddsCauses (causes self.old) false self.new }
     {
         posted(alloc, &mut self.parts, post, reply)
     }
