@@ -1,5 +1,5 @@
 -- Rows that are noted one after another, and what a commit leaves.
-use Rattle.std.proofs.Common.{◌≡◌, ◌∙◌, sym, ap, refl, subst, Bool, true, false, cond, nat_le, ℕ, zero, suc, ◌+◌, ◌-◌, ◌≢◌, List, [], ◌∷◌, ◌++◌, length, IfSome, arith, append_assoc, length-append, add-zero}
+use Rattle.std.proofs.Common.{◌≡◌, ◌∙◌, sym, ap, refl, subst, Bool, true, false, not, cond, nat_le, ℕ, zero, suc, ◌+◌, ◌-◌, ◌≢◌, Option, Some, None, List, [], ◌∷◌, ◌++◌, length, IfSome, arith, append_assoc, length-append, add-zero}
 use Rattle.lang_core.specs.declared.ids.Origin.{Origin}
 use Rattle.lang_core.specs.declared.ids.Origin.TheVariants.{Outside, Call}
 use Rattle.lang_core.specs.declared.trace.CallMade.{CallMade}
@@ -11,17 +11,22 @@ use Rattle.flights.specs.Moves.{next_move}
 use Rattle.flights.specs.declared.flight.Flight.{Flight}
 use Rattle.service_events.specs.State.{Kept, After, next_id}
 use Rattle.service_events.specs.Calls.{after_row, after_rows, noted}
-use Rattle.service_events.specs.Flying.{before_answer, live_answer, committed_entry, committed, answer_index, live_replies, flight_run, completing, completed, moved, changed, changed_unsent, goes_on}
+use Rattle.service_events.specs.Flying.{before_answer, live_answer, committed_entry, committed, answer_index, live_replies, flight_run, live_call, call_or_none, completing, completed, changed, moved, goes_on}
 use Rattle.service_events.specs.declared.answers.Arrived.{Arrived}
 use Rattle.service_parts.specs.Drafts.{with_draft}
-use Rattle.service_requests.specs.Endings.{ends, follows, changed_flight, changed_sent, listed, reply_of, commit_noted, CanEnd, MayEnd}
+use Rattle.service_requests.specs.Endings.{ends, follows, new_call, slot_of, with_call, named_flight, named_service, unsent_service, call_sent, called, listed, reply_of, commit_noted, CanEnd, MayEnd}
 use Rattle.service_parts.specs.declared.draft.Draft.{Draft}
 use Rattle.handler_run.specs.declared.state.Ran.{Ran}
 use Rattle.flights.specs.declared.flight.Move.{Move}
+use Rattle.flights.specs.declared.flight.Move.TheVariants.{Commit, Name, Change}
+use Rattle.flights.specs.Numbers.{flight_in, has_flight, without_flight}
+use Rattle.call_registers.specs.Registers.{next_number}
+use Rattle.local_repair.specs.Alone.{trace_or_dead}
+use Rattle.repair_messages.specs.declared.messages.SetMessage.{SetMessage}
 use Rattle.service_requests.specs.declared.endings.Step.{Step}
 use Rattle.service_requests.specs.declared.endings.Step.TheVariants.{Ends, Goes}
 use Rattle.service_requests.specs.declared.endings.Ending.{Ending}
-use Rattle.service_requests.specs.declared.endings.Ending.TheVariants.{Commits}
+use Rattle.service_requests.specs.declared.endings.Ending.TheVariants.{Commits, Waits}
 
 next_at : (at n : ℕ) → at + suc n ≡ (at + 1) + n
 next_at at n = omega arith
@@ -103,16 +108,99 @@ pub goes_is : (s : Kept) (f : Flight) (ran : Ran) (move : Move) → ran ≡ flig
 unfolding goes_on
 goes_is s f ran move e m = ap (moved s f ran) m ∙ ap (λ (r : Ran). moved s f r (next_move f r)) e
 
+-- ---- a new call
+
+new_moved : (s : Kept) (f : Flight) (ran : Ran) (move : Move)
+    → call_or_none (new_call move ran) (λ (call : CallMade). called s f (slot_of move) call) (committed s f (trace_or_dead ran)) ≡ moved s f ran move
+new_moved s f ran Commit = refl
+new_moved s f ran Name = refl
+new_moved s f ran (Change slot) = refl
+
+new_completing : (s : Kept) (f : Flight) (ran : Ran) (move : Move) (again : Kept → Flight → After Arrived)
+    → call_or_none (new_call move ran) (λ (call : CallMade). again (unsent_service s f (slot_of move) call) (named_flight s f (slot_of move) call)) (committed s f (trace_or_dead ran))
+    ≡ completing s f ran move again
+new_completing s f ran Commit again = refl
+new_completing s f ran Name again = refl
+new_completing s f ran (Change slot) again = refl
+
+-- without a new call the flight is committed
+pub goes_commits : (s : Kept) (f : Flight) (ran : Ran) (move : Move) → ran ≡ flight_run s f → move ≡ next_move f ran → None ≡ new_call move ran
+    → committed s f (trace_or_dead ran) ≡ goes_on s f
+goes_commits s f ran move e m none =
+    ap (λ (o : Option CallMade). call_or_none o (λ (call : CallMade). called s f (slot_of move) call) (committed s f (trace_or_dead ran))) none
+    ∙ new_moved s f ran move ∙ goes_is s f ran move e m
+
+-- with one it calls
+pub goes_called : (s : Kept) (f : Flight) (ran : Ran) (move : Move) (slot : Option ℕ) (call : CallMade) → ran ≡ flight_run s f → move ≡ next_move f ran
+    → slot ≡ slot_of move → Some call ≡ new_call move ran → called s f slot call ≡ goes_on s f
+goes_called s f ran move slot call e m at new =
+    ap (λ (o : Option ℕ). called s f o call) at
+    ∙ ap (λ (o : Option CallMade). call_or_none o (λ (call : CallMade). called s f (slot_of move) call) (committed s f (trace_or_dead ran))) new
+    ∙ new_moved s f ran move ∙ goes_is s f ran move e m
+
+-- the same of one run of a flight that is completed
+
+pub step_commits : (s now : Kept) (f : Flight) (ran : Ran) (move : Move) (e : Ending) → move ≡ next_move f ran → None ≡ new_call move ran
+    → ends now e ≡ committed s f (trace_or_dead ran)
+    → (again : Kept → Flight → After Arrived) → follows now (Ends e) again ≡ completing s f ran (next_move f ran) again
+step_commits s now f ran move e m none is again =
+    is
+    ∙ ap (λ (o : Option CallMade). call_or_none o (λ (call : CallMade). again (unsent_service s f (slot_of move) call) (named_flight s f (slot_of move) call)) (committed s f (trace_or_dead ran))) none
+    ∙ new_completing s f ran move again ∙ ap (λ (m : Move). completing s f ran m again) m
+
+pub step_calls : (s now : Kept) (f next : Flight) (ran : Ran) (move : Move) (slot : Option ℕ) (call : CallMade) → move ≡ next_move f ran
+    → slot ≡ slot_of move → Some call ≡ new_call move ran → now ≡ unsent_service s f slot call → next ≡ named_flight s f slot call
+    → (again : Kept → Flight → After Arrived) → follows now (Goes next) again ≡ completing s f ran (next_move f ran) again
+step_calls s now f next ran move slot call m at new is has again =
+    ap (λ (k : Kept). again k next) is ∙ ap (again (unsent_service s f slot call)) has
+    ∙ ap (λ (o : Option ℕ). again (unsent_service s f o call) (named_flight s f o call)) at
+    ∙ ap (λ (o : Option CallMade). call_or_none o (λ (call : CallMade). again (unsent_service s f (slot_of move) call) (named_flight s f (slot_of move) call)) (committed s f (trace_or_dead ran))) new
+    ∙ new_completing s f ran move again ∙ ap (λ (m : Move). completing s f ran m again) m
+
 -- another call at a slot, where from the fourth change on the flight is completed in at most so many runs
 pub changed_by : ℕ → Kept → Flight → ℕ → CallMade → After Arrived
 changed_by runs s f slot call =
-    cond (nat_le 3 f.changes) (completed runs (changed_unsent s f slot call) (changed_flight s f slot call)) (changed_sent s f slot call)
+    cond (nat_le 3 f.changes) (completed runs (unsent_service s f (Some slot) call) (named_flight s f (Some slot) call)) (call_sent s f (Some slot) call)
 
 pub changed_by_is : (s : Kept) (f : Flight) (slot : ℕ) (call : CallMade) → changed_by 17 s f slot call ≡ changed s f slot call
 unfolding changed_by
 changed_by_is s f slot call = refl
 
-pub changed_completes : (runs : ℕ) (s now : Kept) (f next : Flight) (slot : ℕ) (call : CallMade) → nat_le 3 f.changes ≡ true → now ≡ changed_unsent s f slot call → next ≡ changed_flight s f slot call → completed runs now next ≡ changed_by runs s f slot call
+pub changed_completes : (runs : ℕ) (s now : Kept) (f next : Flight) (slot : ℕ) (call : CallMade) → nat_le 3 f.changes ≡ true → now ≡ unsent_service s f (Some slot) call → next ≡ named_flight s f (Some slot) call → completed runs now next ≡ changed_by runs s f slot call
 unfolding changed_by
 changed_completes runs s now f next slot call h e k =
-    goes_where_true (completed runs) (nat_le 3 f.changes) (changed_unsent s f slot call) now (changed_flight s f slot call) next (changed_sent s f slot call) h e k
+    goes_where_true (completed runs) (nat_le 3 f.changes) (unsent_service s f (Some slot) call) now (named_flight s f (Some slot) call) next (call_sent s f (Some slot) call) h e k
+
+-- what a call that is sent leaves
+pub send_is : (K : Kept) (d d' : Draft) (f next : Flight) (slot : Option ℕ) (number : ℕ) (call : CallMade) (e : Ending) → e ≡ Waits next (live_call K number call)
+    → with_draft d' K ≡ named_service (with_draft d K) f slot call → next ≡ named_flight (with_draft d K) f slot call → number ≡ next_number (with_draft d K).registers
+    → ends (with_draft d' K) e ≡ call_sent (with_draft d K) f slot call
+send_is K d d' f next slot number call e is noted has at =
+    let s : Kept = with_draft d K in
+    ap (ends (with_draft d' K)) is
+    ∙ ap (λ (k : Kept). ends k (Waits next (live_call K number call))) noted
+    ∙ ap (λ (g : Flight). ends (named_service s f slot call) (Waits g (live_call K number call))) has
+    ∙ ap (λ (n : ℕ). ends (named_service s f slot call) (Waits (named_flight s f slot call) (live_call K n call))) at
+
+-- the flight may end as before
+pub still_may_end : (K : Kept) (f : Flight) (slot : Option ℕ) (n : ℕ) (call : CallMade) → MayEnd K f → MayEnd K (with_call slot n call f)
+still_may_end K f None n call h = record { number = h.number; id = h.id; origin = h.origin; few = h.few; replies = h.replies }
+still_may_end K f (Some slot) n call h = record { number = h.number; id = h.id; origin = h.origin; few = h.few; replies = h.replies }
+
+pub next_may_end : (K s : Kept) (f next : Flight) (slot : Option ℕ) (call : CallMade) → next ≡ named_flight s f slot call → MayEnd K f → MayEnd K next
+next_may_end K s f next slot call is h = subst (MayEnd K) (sym is) (still_may_end K f slot (next_number s.registers) call h)
+
+pub can_wait : (K : Kept) (f : Flight) (set : SetMessage) (e : Ending) → e ≡ Waits f set → MayEnd K f → CanEnd K e
+can_wait K f set e is h = subst (CanEnd K) (sym is) h.number
+
+-- ---- a flight that isn't there
+
+kept_missing : (b : Bool) (f : Flight) (found : Option Flight) (fs left : List Flight) → None ≡ cond b (Some f) found → (None ≡ found → fs ≡ left)
+    → f ∷ fs ≡ cond (not b) (f ∷ left) left
+kept_missing true f found fs left h k = cc
+kept_missing false f found fs left h k = ap (λ (gs : List Flight). f ∷ gs) (k h)
+
+-- taking it out changes nothing
+pub without_missing : (id : ℕ) (fs : List Flight) → None ≡ flight_in id fs → fs ≡ without_flight id fs
+without_missing id [] h = refl
+without_missing id (f ∷ fs) h = kept_missing (has_flight id f) f (flight_in id fs) fs (without_flight id fs) h (without_missing id fs)

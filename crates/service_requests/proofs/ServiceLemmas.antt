@@ -1,5 +1,5 @@
 -- What a service's type keeps: a flight of it may end, and what an event leaves is a service again.
-use Rattle.std.proofs.Common.{◌≡◌, ◌∙◌, sym, ap, ℕ, ◌<◌, ◌≤◌, ◌^◌, Bool, List, [], ◌∷◌, length, find, Some, None, Result, Ok, Err, IfOk, OnOk, OnErr, arith}
+use Rattle.std.proofs.Common.{◌≡◌, ◌∙◌, sym, subst, ap, ℕ, ◌<◌, ◌≤◌, ◌^◌, Bool, List, [], ◌∷◌, length, find, Some, None, Result, Ok, Err, IfOk, OnOk, OnErr, arith}
 use Rattle.lang_base.specs.declared.memory.NoMemory.{NoMemory}
 use Rattle.lang_core.specs.declared.ids.Origin.{Origin}
 use Rattle.lang_core.specs.declared.inputs.Inputs.{Inputs}
@@ -9,6 +9,8 @@ use Rattle.flights.specs.declared.flight.Flight.{Flight}
 use Rattle.service_events.specs.State.{Kept, After, after, in_all, next_id, has_flight, flight_of}
 use Rattle.service_events.specs.Arriving.{accepted, new_flight}
 use Rattle.service_events.specs.Fits.{Fits}
+use Rattle.service_events.specs.Flying.{goes_on}
+use Rattle.service_events.specs.declared.answers.Arrived.{Arrived}
 use Rattle.service_entry_laws.proofs.FreshLemmas.{unfound, alone, below_next, untaken_of}
 use Rattle.service_entry_laws.proofs.PartLemmas.{logged}
 use Rattle.service_entry_laws.proofs.ReplyLemmas.{above_all}
@@ -61,6 +63,13 @@ new_may_end s o q i fits runs =
     }
 
 -- ---- what is left
+
+-- what follows after a draft and where a flight goes on, with what is equal to both
+pub follows_same : (s t : Kept) (f g : Flight) (left : After Arrived) → left ≡ goes_on s f → s ≡ t → f ≡ g → left ≡ goes_on t g
+follows_same s t f g left h e k = h ∙ ap (λ (s : Kept). goes_on s f) e ∙ ap (goes_on t) k
+
+pub same_may_end : (s : Kept) (f g : Flight) → f ≡ g → MayEnd s g → MayEnd s f
+same_may_end s f g e h = subst (MayEnd s) (sym e) h
 
 -- where an outcome of an event that keeps what fits was put in place, or was refused for want of memory
 pub event_service : {A E : Type 0} (p p' : Parts) (result : Result A NoMemory) (left : After A) (event : After (Result A E)) → accepted left ≡ event

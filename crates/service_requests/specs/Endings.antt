@@ -1,18 +1,23 @@
 -- How an event of a live request ends.
-use Rattle.std.specs.Prelude.{ℕ, true, false, ◌≡◌, ◌<◌, ◌≤◌, List, [], ◌∷◌, ◌++◌, Option, Some, None, IfSome, find, length}
+use Rattle.std.specs.Prelude.{ℕ, true, false, ◌≡◌, ◌<◌, ◌≤◌, List, [], ◌∷◌, ◌++◌, Option, Some, None, IfSome, find, length, slice_get}
 use Rattle.lang_core.specs.declared.ids.Origin.{Origin}
 use Rattle.lang_core.specs.declared.ids.Origin.TheVariants.{Outside, Call as Called}
 use Rattle.lang_core.specs.declared.trace.CallMade.{CallMade}
 use Rattle.lang_core.specs.declared.trace.Trace.{Trace}
+use Rattle.handler_run.specs.declared.state.Ran.{Ran}
 use Rattle.request_log.specs.Entries.{has_id, find_call, IsNew}
+use Rattle.journal_rows.specs.declared.row.Row.{Row}
 use Rattle.call_registers.specs.Registers.{next_number}
 use Rattle.call_registers.specs.Replies.{IsAboveAll}
 use Rattle.call_registers.specs.declared.reply.Reply.{Reply}
+use Rattle.flights.specs.Moves.{calls_in}
 use Rattle.flights.specs.Numbers.{without_flight, with_flight}
 use Rattle.flights.specs.declared.flight.Flight.{Flight}
+use Rattle.flights.specs.declared.flight.Move.{Move}
+use Rattle.flights.specs.declared.flight.Move.TheVariants.{Commit, Name, Change}
 use Rattle.service_events.specs.State.{Kept, After, after, me, next_id}
 use Rattle.service_events.specs.Calls.{noted, named}
-use Rattle.service_events.specs.Flying.{before_answer, live_answer, answer_to_caller, with_slot, with_change, change_rows, waits}
+use Rattle.service_events.specs.Flying.{before_answer, live_answer, answer_to_caller, with_slot, with_change, change_rows, waits, untold, wanted_of, changed}
 use Rattle.service_events.specs.declared.answers.Arrived.{Arrived}
 use Rattle.service_events.specs.declared.answers.Arrived.TheVariants.{Done, Call}
 use Rattle.service_requests.specs.declared.endings.Ending.{Ending}
@@ -45,25 +50,46 @@ reply_of s index (Called caller number) =
 abbrev pub commit_noted : Kept → Flight → Trace → Kept
 commit_noted s f t = noted (before_answer s f t ++ live_answer s f t ∷ []) s
 
--- ---- a call more, or another call
+-- ---- a new call: one more, or another one at a slot
 
-abbrev pub named_service : Kept → CallMade → Kept
-named_service s call = noted (named (next_number s.registers) call ∷ []) s
+-- the call that a flight names after a run that it goes on with so, if there is one
+abbrev pub new_call : Move → Ran → Option CallMade
+new_call Commit ran = None
+new_call Name ran = wanted_of ran
+new_call (Change slot) ran = slice_get (calls_in ran) slot
 
-abbrev pub named_flight : Kept → Flight → CallMade → Flight
-named_flight s f call = with_slot (next_number s.registers) call f
+-- the slot of another call; none where it is one more
+abbrev pub slot_of : Move → Option ℕ
+slot_of (Change slot) = Some slot
+slot_of move = None
 
-abbrev pub changed_service : Kept → Flight → ℕ → CallMade → Kept
-changed_service s f slot call = noted (change_rows s f slot call) s
+-- one more is named, or the one at its slot is deleted first
+abbrev pub call_rows : Kept → Flight → Option ℕ → CallMade → List Row
+call_rows s f None call = named (next_number s.registers) call ∷ []
+call_rows s f (Some slot) call = change_rows s f slot call
 
-abbrev pub changed_flight : Kept → Flight → ℕ → CallMade → Flight
-changed_flight s f slot call = with_change slot (next_number s.registers) call f
+abbrev pub with_call : Option ℕ → ℕ → CallMade → Flight → Flight
+with_call None number call f = with_slot number call f
+with_call (Some slot) number call f = with_change slot number call f
 
-abbrev pub named_sent : Kept → Flight → CallMade → After Arrived
-named_sent s f call = waits (named_service s call) (named_flight s f call) (next_number s.registers) call
+abbrev pub named_service : Kept → Flight → Option ℕ → CallMade → Kept
+named_service s f slot call = noted (call_rows s f slot call) s
 
-abbrev pub changed_sent : Kept → Flight → ℕ → CallMade → After Arrived
-changed_sent s f slot call = waits (changed_service s f slot call) (changed_flight s f slot call) (next_number s.registers) call
+abbrev pub named_flight : Kept → Flight → Option ℕ → CallMade → Flight
+named_flight s f slot call = with_call slot (next_number s.registers) call f
+
+-- it isn't sent, and consumes the tentative answer
+abbrev pub unsent_service : Kept → Flight → Option ℕ → CallMade → Kept
+unsent_service s f slot call = untold (next_number s.registers) (named_service s f slot call)
+
+-- it is sent, and the flight waits for its answer
+abbrev pub call_sent : Kept → Flight → Option ℕ → CallMade → After Arrived
+call_sent s f slot call = waits (named_service s f slot call) (named_flight s f slot call) (next_number s.registers) call
+
+-- one more is sent; another one is, up to the third change
+abbrev pub called : Kept → Flight → Option ℕ → CallMade → After Arrived
+called s f None call = call_sent s f None call
+called s f (Some slot) call = changed s f slot call
 
 -- ---- how it ends
 

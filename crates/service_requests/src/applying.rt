@@ -119,14 +119,27 @@ fn note_counted(journal: &mut Rows, registers: &mut Registers, draft: Draft)
     let _count = journal.len();
 }
 
-// Takes a flight out, and adds its reply.
+// Takes a flight out, if it is there: one that never waited for a call isn't.
+#[tactic(auto, using(crate::proofs::EndLemmas::without_missing))]
+fn take_out(flights: &mut Flights, flight: u64)
+    ensures { flights.new.list ≡ without_flight flight flights.old.list }
+{
+    match flights.find(flight) {
+        None => {}
+        Some(_) => {
+            let _landed = flights.remove(flight);
+        }
+    }
+}
+
+// Takes a flight out, if it is there, and adds its reply.
 fn land(flights: &mut Flights, replies: &mut Replies, flight: u64, reply: Option<Reply>)
     requires above { IfSome reply (λ p. IsAboveAll p.id replies.old.list) }
     requires ready { IsReadyFor reply replies.old.room }
     ensures flights { flights.new.list ≡ without_flight flight flights.old.list }
     ensures replies { replies.new.list ≡ replies.old.list ++ listed reply }
 {
-    let _landed = flights.remove(flight);
+    take_out(flights, flight);
     add_reply(replies, reply);
 }
 
@@ -247,7 +260,15 @@ pub(crate) fn apply(
             entry,
             reply,
             index,
-        } => commit_answering(alloc, parts, draft, flight, entry, reply, index),
-        Ending::Waits { flight, set } => wait(parts, draft, flight, set),
+        } => commit_answering(
+            alloc,
+            parts,
+            draft,
+            flight,
+            entry.into_inner(),
+            reply,
+            index,
+        ),
+        Ending::Waits { flight, set } => wait(parts, draft, flight.into_inner(), set),
     }
 }

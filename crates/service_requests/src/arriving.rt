@@ -9,10 +9,10 @@ ghost use Rattle.service_events.specs.Doing.{Does, arrive_memory};
 
 use crate::applying::apply;
 use crate::early::before_run;
-use crate::going::start_flight;
+use crate::going::{follow, new_flight};
 use lang_core::{Inputs, NoMemory, Origin, Request};
 use service_events::{ArriveRefused, Arrived};
-use service_parts::Parts;
+use service_parts::{Parts, start};
 use std::alloc::Global;
 
 // A live request that is to run.
@@ -29,7 +29,8 @@ fn enter(
     ensures err { OnErr result (kept parts.new ≡ kept parts.old) }
     ensures service { IsService parts.new }
 {
-    let outcome = start_flight(alloc, parts, origin, request, inputs)?;
+    let flight = new_flight(alloc, parts, origin, request, inputs);
+    let outcome = follow(alloc, parts, start(alloc), flight)?;
     apply(alloc, parts, outcome)
 }
 

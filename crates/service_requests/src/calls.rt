@@ -118,8 +118,9 @@ fn follow_answer(
     ensures follows { IfOk result (λ outcome. leaves (kept parts.now) outcome ≡ goes_on (noted (live_answer_rows (kept parts.now) answer.now) (kept parts.now)) flight.now) }
     ensures can { IfOk result (λ outcome. CanLeave (kept parts.now) outcome) }
 {
+    let own = flight.copied(alloc)?;
     let draft = draft_of_answer(alloc, parts, answer)?;
-    follow(alloc, parts, draft, flight)
+    follow(alloc, parts, draft, own)
 }
 
 // A draft of why a call has no answer.
@@ -142,8 +143,9 @@ fn follow_failure(
     ensures follows { IfOk result (λ outcome. leaves (kept parts.now) outcome ≡ goes_on (told number why (kept parts.now)) flight.now) }
     ensures can { IfOk result (λ outcome. CanLeave (kept parts.now) outcome) }
 {
+    let own = flight.copied(alloc)?;
     let draft = draft_of_failure(alloc, parts, number, why)?;
-    follow(alloc, parts, draft, flight)
+    follow(alloc, parts, draft, own)
 }
 
 fn draft_answered(

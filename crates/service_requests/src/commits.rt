@@ -1,18 +1,22 @@
 // The commit of a flight.
-ghost use Rattle.std.specs.Prelude.{◌≡◌, ◌+◌, [], ◌∷◌, ◌++◌, length, take, drop, IfOk, OnOk};
+ghost use Rattle.std.specs.Prelude.{◌≡◌, ◌+◌, [], ◌∷◌, ◌++◌, Some, true, false, take, drop, IfOk, OnOk};
 ghost use Rattle.service_events.specs.Flying.{live_version, took_rows, surplus_rows, before_answer, live_answer, committed_entry, committed, answer_index};
+ghost use Rattle.service_events.specs.Calls.{noted};
+ghost use Rattle.service_events.specs.State.{next_id};
 ghost use Rattle.service_parts.specs.Drafts.{with_draft};
 ghost use Rattle.service_requests.specs.Endings.{ends, CanEnd, MayEnd, reply_of, commit_noted};
 ghost use Rattle.service_parts.specs.Parts.{kept};
 
 use crate::endings::Ending;
+use crate::noting::one_row;
 use call_registers::Reply;
 use flights::Flight;
 use journal_rows::{AnsweredRow, AskedRow, Row, TookHow, TookRow};
-use lang_core::{Copied, Name, NoMemory, Origin, Request, Seq, Trace};
+use lang_base::both;
+use lang_core::{Boxed, Copied, Name, NoMemory, Origin, Request, Seq, Trace};
 use repair_messages::copied_pair;
 use request_log::{Entry, Made, Numbers};
-use service_parts::{Draft, Parts, drafted, next_index, note, push_deleted};
+use service_parts::{Draft, Parts, drafted, next_id, next_index, note, push_deleted};
 use std::alloc::Global;
 
 fn live_version(origin: &Origin) -> u64
@@ -22,12 +26,6 @@ fn live_version(origin: &Origin) -> u64
         Origin::Outside => 0,
         Origin::Call { .. } => 1,
     }
-}
-
-fn next_id(parts: &Parts) -> u64
-    ensures { result ≡ length parts.now.repairer.entries + 1 }
-{
-    parts.repairer.log().as_slice().len() as u64 + 1
 }
 
 fn took(alloc: Global, caller: &Name, number: u64, request: &Request) -> Result<Row, NoMemory>
@@ -83,6 +81,40 @@ fn from_place<T>(items: &[T], place: u64) -> &[T]
     &items[start..]
 }
 
+// The rows of the flight's calls beyond those that its last run made, with room for one more.
+fn surplus_rows(
+    alloc: Global,
+    parts: &Parts,
+    draft: &Draft,
+    flight: &Flight,
+    trace: &Trace,
+) -> Result<Vec<Row>, NoMemory>
+    ensures { IfOk result (λ rows. rows.items ≡ surplus_rows (with_draft draft.now (kept parts.now)) flight.now trace.now) }
+{
+    let mut rows = Vec::with_capacity(alloc, 1)?;
+    let calls = trace.calls.len();
+    let numbers = from_place(flight.numbers.as_slice(), calls);
+    let surplus = from_place(flight.calls.as_slice(), calls);
+    push_deleted(alloc, &drafted(parts, draft), numbers, surplus, &mut rows)?;
+    Ok(rows)
+}
+
+// Puts the rows of the request last: that it was asked, and that it was taken where it is a call.
+fn push_asked(
+    alloc: Global,
+    parts: &Parts,
+    flight: &Flight,
+    rows: &mut Vec<Row>,
+) -> Result<(), NoMemory>
+    ensures { OnOk result (rows.new.items ≡ rows.old.items
+        ++ (Row.Asked (record { id = next_id (kept parts.now); origin = flight.now.origin; request = flight.now.request; inputs = flight.now.inputs })
+        ∷ took_rows flight.now.origin flight.now.request)) }
+{
+    let row = asked(alloc, next_id(parts), flight)?;
+    rows.push(row)?;
+    push_took(alloc, &flight.origin, &flight.request, rows)
+}
+
 // The rows that stand before the answer.
 fn before_answer(
     alloc: Global,
@@ -93,14 +125,8 @@ fn before_answer(
 ) -> Result<Vec<Row>, NoMemory>
     ensures { IfOk result (λ rows. rows.items ≡ before_answer (with_draft draft.now (kept parts.now)) flight.now trace.now) }
 {
-    let mut rows = Vec::with_capacity(alloc, 1)?;
-    let calls = trace.calls.len();
-    let numbers = from_place(flight.numbers.as_slice(), calls);
-    let surplus = from_place(flight.calls.as_slice(), calls);
-    let registers = drafted(parts, draft);
-    push_deleted(alloc, &registers, numbers, surplus, &mut rows)?;
-    rows.push(asked(alloc, next_id(parts), flight)?)?;
-    push_took(alloc, &flight.origin, &flight.request, &mut rows)?;
+    let mut rows = surplus_rows(alloc, parts, draft, flight, trace)?;
+    push_asked(alloc, parts, flight, &mut rows)?;
     Ok(rows)
 }
 
@@ -136,29 +162,35 @@ fn first_numbers(alloc: Global, numbers: &[u64], count: u64) -> Result<Numbers, 
     Ok(first)
 }
 
+// What the flight did, as the record of its entry.
+fn made_of(alloc: Global, flight: &Flight, trace: Trace) -> Result<Made, NoMemory>
+    ensures { IfOk result (λ made. made ≡ record { alive = true; version = live_version flight.now.origin; request = flight.now.request; trace = trace }) }
+{
+    let request = flight.request.copied(alloc)?;
+    Ok(Made {
+        alive: true,
+        version: live_version(&flight.origin),
+        request,
+        trace,
+    })
+}
+
 // The entry that the flight becomes.
 fn committed_entry(
     alloc: Global,
     parts: &Parts,
-    flight: &Flight,
+    flight: Flight,
     trace: Trace,
-) -> Result<Entry, NoMemory>
-    ensures { IfOk result (λ entry. entry ≡ committed_entry (kept parts.now) flight.now trace) }
+) -> Result<Boxed<Entry>, NoMemory>
+    ensures { IfOk result (λ entry. entry ≡ committed_entry (kept parts.now) flight trace) }
 {
-    let version = live_version(&flight.origin);
-    let slots = first_numbers(alloc, flight.numbers.as_slice(), trace.calls.len())?;
-    let (origin, request) = copied_pair(alloc, &flight.origin, &flight.request)?;
-    let made = Made {
-        alive: true,
-        version,
-        request: flight.request.copied(alloc)?,
-        trace,
-    };
-    Ok(Entry {
+    let slots = first_numbers(alloc, flight.numbers.as_slice(), trace.calls.len());
+    let (slots, made) = both(slots, made_of(alloc, &flight, trace))?;
+    let entry = Entry {
         id: next_id(parts),
-        origin,
-        version,
-        request,
+        version: live_version(&flight.origin),
+        origin: flight.origin,
+        request: flight.request,
         wanted: true,
         struck: false,
         inputs: flight.inputs,
@@ -166,7 +198,8 @@ fn committed_entry(
         slots,
         answer_version: 1,
         runs: 1,
-    })
+    };
+    Ok(Boxed::new(alloc, entry)?)
 }
 
 fn reply_to(
@@ -216,20 +249,36 @@ fn live_reply(
 fn ending_of(
     alloc: Global,
     parts: &Parts,
-    flight: &Flight,
+    flight: Flight,
     trace: Trace,
     index: u64,
 ) -> Result<Ending, NoMemory>
-    ensures { IfOk result (λ ending. ending ≡ Ending.Commits flight.now.id (committed_entry (kept parts.now) flight.now trace) (reply_of (kept parts.now) index flight.now.origin) index) }
+    ensures { IfOk result (λ ending. ending ≡ Ending.Commits flight.id (committed_entry (kept parts.now) flight trace) (reply_of (kept parts.now) index flight.origin) index) }
 {
-    let reply = live_reply(alloc, parts, index, &flight.origin)?;
-    let entry = committed_entry(alloc, parts, flight, trace)?;
+    let id = flight.id;
+    let reply = live_reply(alloc, parts, index, &flight.origin);
+    let (reply, entry) = both(reply, committed_entry(alloc, parts, flight, trace))?;
     Ok(Ending::Commits {
-        flight: flight.id,
+        flight: id,
         entry,
         reply,
         index,
     })
+}
+
+// Drafts the answer of a commit.
+fn note_answer(
+    alloc: Global,
+    parts: &Parts,
+    draft: &mut Draft,
+    flight: &Flight,
+    trace: &Trace,
+) -> Result<(), NoMemory>
+    ensures { OnOk result (with_draft draft.new (kept parts.now) ≡ noted (live_answer (kept parts.now) flight.now trace.now ∷ []) (with_draft draft.old (kept parts.now))) }
+{
+    let row = live_answer(alloc, parts, flight, trace)?;
+    let rows = one_row(alloc, row)?;
+    note(alloc, parts, draft, rows)
 }
 
 // Drafts the rows of a commit, and answers the index of its answer.
@@ -246,10 +295,7 @@ fn note_commit(
     let rows = before_answer(alloc, parts, draft, flight, trace)?;
     note(alloc, parts, draft, rows)?;
     let index = next_index(parts, draft);
-    let answer = live_answer(alloc, parts, flight, trace)?;
-    let mut last = Vec::new(alloc);
-    last.push(answer)?;
-    note(alloc, parts, draft, last)?;
+    note_answer(alloc, parts, draft, flight, trace)?;
     Ok(index)
 }
 
@@ -258,14 +304,13 @@ pub(crate) fn commit(
     alloc: Global,
     parts: &Parts,
     draft: &mut Draft,
-    flight: &Flight,
+    flight: Flight,
     trace: Trace,
 ) -> Result<Ending, NoMemory>
-    requires { MayEnd (kept parts.now) flight.now }
-    ensures ends { IfOk result (λ ending. ends (with_draft draft.new (kept parts.now)) ending ≡ committed (with_draft draft.old (kept parts.now)) flight.now trace) }
+    requires { MayEnd (kept parts.now) flight }
+    ensures ends { IfOk result (λ ending. ends (with_draft draft.new (kept parts.now)) ending ≡ committed (with_draft draft.old (kept parts.now)) flight trace) }
     ensures can { IfOk result (λ ending. CanEnd (kept parts.now) ending) }
 {
-    let index = note_commit(alloc, parts, draft, flight, &trace)?;
-    let ending = ending_of(alloc, parts, flight, trace, index)?;
-    Ok(ending)
+    let index = note_commit(alloc, parts, draft, &flight, &trace)?;
+    ending_of(alloc, parts, flight, trace, index)
 }

@@ -1,26 +1,27 @@
 // What a live request does after a run.
-ghost use Rattle.std.specs.Prelude.{◌≡◌, ◌∷◌, [], ℕ, IfOk, OnOk};
+ghost use Rattle.std.specs.Prelude.{◌≡◌, IfOk, OnOk};
+ghost use Rattle.std.specs.Option.{option_copied};
 ghost use Rattle.local_repair.specs.Alone.{trace_or_dead};
-ghost use Rattle.lang_core.specs.Traces.{dead_trace};
+ghost use Rattle.call_registers.specs.Registers.{next_number};
 ghost use Rattle.flights.specs.declared.flight.Flight.{Flight};
+ghost use Rattle.flights.specs.Moves.{next_move};
 ghost use Rattle.service_events.specs.State.{Kept, After};
 ghost use Rattle.service_events.specs.declared.answers.Arrived.{Arrived};
-ghost use Rattle.service_events.specs.Flying.{live_call, waits, untold, named_unsent, changed_unsent, with_slot, with_change, flight_run, goes_on, moved, changed, committed, completing, completed};
-ghost use Rattle.service_events.specs.Calls.{named, noted};
-ghost use Rattle.flights.specs.Moves.{next_move};
+ghost use Rattle.service_events.specs.Flying.{live_call, wanted_of, goes_on, changed, committed, completing, completed};
 ghost use Rattle.service_parts.specs.Drafts.{with_draft};
-ghost use Rattle.service_requests.specs.Endings.{ends, follows, CanEnd, CanStep, MayEnd, named_service, named_flight, changed_service, changed_flight, named_sent, changed_sent};
-ghost use Rattle.call_registers.specs.Registers.{next_number};
 ghost use Rattle.service_parts.specs.Parts.{kept};
+ghost use Rattle.service_requests.specs.Endings.{ends, follows, CanEnd, CanStep, MayEnd, new_call, slot_of, call_rows, named_service, named_flight, unsent_service, call_sent, called};
 
 use crate::commits::commit;
 use crate::endings::{Ending, Step};
-use crate::flying::{live_call, with_change, with_slot};
+use crate::flying::{live_call, put_call};
+use crate::noting::one_row;
 use crate::runs::run_flight;
 use call_registers::Why;
 use flights::{Flight, Move, advance, call_at};
 use handler_run::Ran;
-use lang_core::{CallMade, NoMemory, Trace};
+use journal_rows::Row;
+use lang_core::{Boxed, CallMade, NoMemory, Trace};
 use request_log::dead_trace;
 use service_parts::{Draft, Parts, change_rows, drafted, named, next_number, note, tell};
 use std::alloc::Global;
@@ -49,146 +50,93 @@ fn wait(
 ) -> Result<Ending, NoMemory>
     ensures { IfOk result (λ ending. ending ≡ Ending.Waits flight (live_call (kept parts.now) number call.now)) }
 {
+    let flight = Boxed::new(alloc, flight)?;
     let set = live_call(alloc, parts, number, call)?;
     Ok(Ending::Waits { flight, set })
 }
 
-// Drafts the row of a new call.
-fn note_named(
+// The rows of a new call: one more, or another one at a slot, whose call is deleted.
+fn call_rows(
     alloc: Global,
     parts: &Parts,
-    draft: &mut Draft,
-    number: u64,
+    draft: &Draft,
+    flight: &Flight,
+    slot: Option<u64>,
     call: &CallMade,
-) -> Result<(), NoMemory>
-    ensures { OnOk result (with_draft draft.new (kept parts.now) ≡ noted (named number call.now ∷ []) (with_draft draft.old (kept parts.now))) }
+) -> Result<Vec<Row>, NoMemory>
+    ensures { IfOk result (λ rows. rows.items ≡ call_rows (with_draft draft.now (kept parts.now)) flight.now slot call.now) }
 {
-    let row = named(alloc, number, call)?;
-    let mut rows = Vec::with_capacity(alloc, 1)?;
-    rows.push(row)?;
-    note(alloc, parts, draft, rows)
+    match slot {
+        None => one_row(alloc, named(alloc, next_number(parts, draft), call)?),
+        Some(slot) => change_rows(alloc, &drafted(parts, draft), flight, slot, call),
+    }
 }
 
-// Drafts the rows of another call at a slot of a flight.
-fn note_changed(
+// Drafts the rows of a new call.
+fn note_call(
     alloc: Global,
     parts: &Parts,
     draft: &mut Draft,
     flight: &Flight,
-    slot: u64,
+    slot: Option<u64>,
     call: &CallMade,
 ) -> Result<(), NoMemory>
-    ensures { OnOk result (with_draft draft.new (kept parts.now) ≡ changed_service (with_draft draft.old (kept parts.now)) flight.now slot call.now) }
+    ensures { OnOk result (with_draft draft.new (kept parts.now) ≡ named_service (with_draft draft.old (kept parts.now)) flight.now slot call.now) }
 {
-    let rows = change_rows(alloc, &drafted(parts, draft), flight, slot, call)?;
+    let rows = call_rows(alloc, parts, draft, flight, slot, call)?;
     note(alloc, parts, draft, rows)
 }
 
-// Drafts the row of a new call of a flight, which is then the flight's last.
+// Drafts the rows of a new call of a flight, which then has it, and answers its number.
 fn name(
     alloc: Global,
     parts: &Parts,
     draft: &mut Draft,
-    flight: &Flight,
+    flight: &mut Flight,
+    slot: Option<u64>,
     call: &CallMade,
-) -> Result<Flight, NoMemory>
-    ensures flight { IfOk result (λ f. f ≡ named_flight (with_draft draft.old (kept parts.now)) flight.now call.now) }
-    ensures draft { OnOk result (with_draft draft.new (kept parts.now) ≡ named_service (with_draft draft.old (kept parts.now)) call.now) }
+) -> Result<u64, NoMemory>
+    ensures number { IfOk result (λ number. number ≡ next_number (with_draft draft.old (kept parts.now)).registers) }
+    ensures flight { OnOk result (flight.new ≡ named_flight (with_draft draft.old (kept parts.now)) flight.old slot call.now) }
+    ensures draft { OnOk result (with_draft draft.new (kept parts.now) ≡ named_service (with_draft draft.old (kept parts.now)) flight.old slot call.now) }
 {
     let number = next_number(parts, draft);
-    note_named(alloc, parts, draft, number, call)?;
-    let next = with_slot(alloc, flight, number, call)?;
-    Ok(next)
+    note_call(alloc, parts, draft, flight, slot, call)?;
+    put_call(alloc, flight, slot, number, call)?;
+    Ok(number)
 }
 
-// Drafts the rows of another call at a slot of a flight, which then has it there.
-fn change(
-    alloc: Global,
-    parts: &Parts,
-    draft: &mut Draft,
-    flight: &Flight,
-    slot: u64,
-    call: &CallMade,
-) -> Result<Flight, NoMemory>
-    ensures flight { IfOk result (λ f. f ≡ changed_flight (with_draft draft.old (kept parts.now)) flight.now slot call.now) }
-    ensures draft { OnOk result (with_draft draft.new (kept parts.now) ≡ changed_service (with_draft draft.old (kept parts.now)) flight.now slot call.now) }
-{
-    let number = next_number(parts, draft);
-    note_changed(alloc, parts, draft, flight, slot, call)?;
-    let next = with_change(alloc, flight, slot, number, call)?;
-    Ok(next)
-}
-
+// The new call isn't sent, and consumes the tentative answer.
 fn name_unsent(
     alloc: Global,
     parts: &Parts,
     draft: &mut Draft,
-    flight: &Flight,
+    flight: &mut Flight,
+    slot: Option<u64>,
     call: &CallMade,
-) -> Result<Flight, NoMemory>
-    ensures flight { IfOk result (λ f. f ≡ named_flight (with_draft draft.old (kept parts.now)) flight.now call.now) }
-    ensures draft { OnOk result (with_draft draft.new (kept parts.now) ≡ named_unsent (with_draft draft.old (kept parts.now)) call.now) }
+) -> Result<(), NoMemory>
+    ensures flight { OnOk result (flight.new ≡ named_flight (with_draft draft.old (kept parts.now)) flight.old slot call.now) }
+    ensures draft { OnOk result (with_draft draft.new (kept parts.now) ≡ unsent_service (with_draft draft.old (kept parts.now)) flight.old slot call.now) }
 {
-    let number = next_number(parts, draft);
-    note_named(alloc, parts, draft, number, call)?;
-    tell(alloc, parts, draft, number, Why::Changes)?;
-    let next = with_slot(alloc, flight, number, call)?;
-    Ok(next)
+    let number = name(alloc, parts, draft, flight, slot, call)?;
+    tell(alloc, parts, draft, number, Why::Changes)
 }
 
-fn change_unsent(
+// The new call is sent, and the flight waits for its answer.
+fn send(
     alloc: Global,
     parts: &Parts,
     draft: &mut Draft,
-    flight: &Flight,
-    slot: u64,
-    call: &CallMade,
-) -> Result<Flight, NoMemory>
-    ensures flight { IfOk result (λ f. f ≡ changed_flight (with_draft draft.old (kept parts.now)) flight.now slot call.now) }
-    ensures draft { OnOk result (with_draft draft.new (kept parts.now) ≡ changed_unsent (with_draft draft.old (kept parts.now)) flight.now slot call.now) }
-{
-    let number = next_number(parts, draft);
-    note_changed(alloc, parts, draft, flight, slot, call)?;
-    tell(alloc, parts, draft, number, Why::Changes)?;
-    let next = with_change(alloc, flight, slot, number, call)?;
-    Ok(next)
-}
-
-// The new call is named and sent.
-fn name_sent(
-    alloc: Global,
-    parts: &Parts,
-    draft: &mut Draft,
-    flight: &Flight,
+    mut flight: Flight,
+    slot: Option<u64>,
     call: &CallMade,
 ) -> Result<Ending, NoMemory>
-    requires { MayEnd (kept parts.now) flight.now }
-    ensures ends { IfOk result (λ ending. ends (with_draft draft.new (kept parts.now)) ending ≡ named_sent (with_draft draft.old (kept parts.now)) flight.now call.now) }
+    requires { MayEnd (kept parts.now) flight }
+    ensures ends { IfOk result (λ ending. ends (with_draft draft.new (kept parts.now)) ending ≡ call_sent (with_draft draft.old (kept parts.now)) flight slot call.now) }
     ensures can { IfOk result (λ ending. CanEnd (kept parts.now) ending) }
 {
-    let number = next_number(parts, draft);
-    let next = name(alloc, parts, draft, flight, call)?;
-    let ending = wait(alloc, parts, next, number, call)?;
-    Ok(ending)
-}
-
-// The other call is named and sent.
-fn change_sent(
-    alloc: Global,
-    parts: &Parts,
-    draft: &mut Draft,
-    flight: &Flight,
-    slot: u64,
-    call: &CallMade,
-) -> Result<Ending, NoMemory>
-    requires { MayEnd (kept parts.now) flight.now }
-    ensures ends { IfOk result (λ ending. ends (with_draft draft.new (kept parts.now)) ending ≡ changed_sent (with_draft draft.old (kept parts.now)) flight.now slot call.now) }
-    ensures can { IfOk result (λ ending. CanEnd (kept parts.now) ending) }
-{
-    let number = next_number(parts, draft);
-    let next = change(alloc, parts, draft, flight, slot, call)?;
-    let ending = wait(alloc, parts, next, number, call)?;
-    Ok(ending)
+    let number = name(alloc, parts, draft, &mut flight, slot, call)?;
+    wait(alloc, parts, flight, number, call)
 }
 
 // What follows where a run was to be committed.
@@ -196,77 +144,70 @@ fn ended(
     alloc: Global,
     parts: &Parts,
     draft: &mut Draft,
-    flight: &Flight,
+    flight: Flight,
     ran: Ran,
 ) -> Result<Ending, NoMemory>
-    requires { MayEnd (kept parts.now) flight.now }
-    ensures ends { IfOk result (λ ending. ends (with_draft draft.new (kept parts.now)) ending ≡ committed (with_draft draft.old (kept parts.now)) flight.now (trace_or_dead ran)) }
+    requires { MayEnd (kept parts.now) flight }
+    ensures ends { IfOk result (λ ending. ends (with_draft draft.new (kept parts.now)) ending ≡ committed (with_draft draft.old (kept parts.now)) flight (trace_or_dead ran)) }
     ensures can { IfOk result (λ ending. CanEnd (kept parts.now) ending) }
 {
     let trace = trace_or_dead(alloc, ran)?;
     commit(alloc, parts, draft, flight, trace)
 }
 
-fn name_step(
-    alloc: Global,
-    parts: &Parts,
-    draft: &mut Draft,
-    flight: &Flight,
-    ran: Ran,
-) -> Result<Step, NoMemory>
-    requires { MayEnd (kept parts.now) flight.now }
-    ensures step { IfOk result (λ step. (again : Kept → Flight → After Arrived) →
-        follows (with_draft draft.new (kept parts.now)) step again
-        ≡ completing (with_draft draft.old (kept parts.now)) flight.now ran Move.Name again) }
-    ensures can { IfOk result (λ step. CanStep (kept parts.now) step) }
+fn wanted_of(ran: &Ran) -> Option<&CallMade>
+    ensures { option_copied result ≡ wanted_of ran.now }
 {
-    if let Ran::Wants { call, .. } = &ran {
-        let next = name_unsent(alloc, parts, draft, flight, call)?;
-        return Ok(Step::Goes(next));
+    match ran {
+        Ran::Done(_) => None,
+        Ran::Wants { call, .. } => Some(call),
     }
-    let ending = ended(alloc, parts, draft, flight, ran)?;
-    Ok(Step::Ends(ending))
 }
 
-fn change_step(
-    alloc: Global,
-    parts: &Parts,
-    draft: &mut Draft,
-    flight: &Flight,
-    ran: Ran,
-    slot: u64,
-) -> Result<Step, NoMemory>
-    requires { MayEnd (kept parts.now) flight.now }
-    ensures step { IfOk result (λ step. (again : Kept → Flight → After Arrived) →
-        follows (with_draft draft.new (kept parts.now)) step again
-        ≡ completing (with_draft draft.old (kept parts.now)) flight.now ran (Move.Change slot) again) }
-    ensures can { IfOk result (λ step. CanStep (kept parts.now) step) }
+// The call that a flight names after a run that it goes on with so, if there is one.
+fn new_call(next: Move, ran: &Ran) -> Option<&CallMade>
+    ensures { option_copied result ≡ new_call next ran.now }
 {
-    if let Some(call) = call_at(&ran, slot) {
-        let next = change_unsent(alloc, parts, draft, flight, slot, call)?;
-        return Ok(Step::Goes(next));
+    match next {
+        Move::Commit => None,
+        Move::Name => wanted_of(ran),
+        Move::Change { slot } => call_at(ran, slot),
     }
-    let ending = ended(alloc, parts, draft, flight, ran)?;
-    Ok(Step::Ends(ending))
 }
 
+fn slot_of(next: Move) -> Option<u64>
+    ensures { result ≡ slot_of next }
+{
+    match next {
+        Move::Change { slot } => Some(slot),
+        Move::Commit | Move::Name => None,
+    }
+}
+
+// What one run of a flight that is completed leads to.
 fn next_step(
     alloc: Global,
     parts: &Parts,
     draft: &mut Draft,
-    flight: &Flight,
+    mut flight: Flight,
     ran: Ran,
 ) -> Result<Step, NoMemory>
-    requires { MayEnd (kept parts.now) flight.now }
+    requires { MayEnd (kept parts.now) flight }
     ensures step { IfOk result (λ step. (again : Kept → Flight → After Arrived) →
         follows (with_draft draft.new (kept parts.now)) step again
-        ≡ completing (with_draft draft.old (kept parts.now)) flight.now ran (next_move flight.now ran) again) }
+        ≡ completing (with_draft draft.old (kept parts.now)) flight ran (next_move flight ran) again) }
     ensures can { IfOk result (λ step. CanStep (kept parts.now) step) }
 {
-    match advance(flight, &ran) {
-        Move::Commit => Ok(Step::Ends(ended(alloc, parts, draft, flight, ran)?)),
-        Move::Name => name_step(alloc, parts, draft, flight, ran),
-        Move::Change { slot } => change_step(alloc, parts, draft, flight, ran, slot),
+    let next = advance(&flight, &ran);
+    match new_call(next, &ran) {
+        None => {
+            let ending = ended(alloc, parts, draft, flight, ran)?;
+            Ok(Step::Ends(ending))
+        }
+        Some(call) => {
+            name_unsent(alloc, parts, draft, &mut flight, slot_of(next), call)?;
+            Ok(Step::Goes(flight))
+        }
     }
 }
 
@@ -284,10 +225,10 @@ fn complete(
 {
     if runs == 0 {
         let trace = dead_trace(alloc)?;
-        return commit(alloc, parts, draft, &flight, trace);
+        return commit(alloc, parts, draft, flight, trace);
     }
     let ran = run_flight(alloc, parts, draft, &flight)?;
-    match next_step(alloc, parts, draft, &flight, ran)? {
+    match next_step(alloc, parts, draft, flight, ran)? {
         Step::Ends(ending) => Ok(ending),
         Step::Goes(next) => complete(alloc, parts, draft, next, runs - 1),
     }
@@ -298,72 +239,56 @@ fn changed(
     alloc: Global,
     parts: &Parts,
     draft: &mut Draft,
-    flight: &Flight,
+    mut flight: Flight,
     slot: u64,
     call: &CallMade,
 ) -> Result<Ending, NoMemory>
-    requires { MayEnd (kept parts.now) flight.now }
-    ensures ends { IfOk result (λ ending. ends (with_draft draft.new (kept parts.now)) ending ≡ changed (with_draft draft.old (kept parts.now)) flight.now slot call.now) }
+    requires { MayEnd (kept parts.now) flight }
+    ensures ends { IfOk result (λ ending. ends (with_draft draft.new (kept parts.now)) ending ≡ changed (with_draft draft.old (kept parts.now)) flight slot call.now) }
     ensures can { IfOk result (λ ending. CanEnd (kept parts.now) ending) }
 {
     if flight.changes < SENT_CHANGES {
-        return change_sent(alloc, parts, draft, flight, slot, call);
+        return send(alloc, parts, draft, flight, Some(slot), call);
     }
-    let next = change_unsent(alloc, parts, draft, flight, slot, call)?;
-    complete(alloc, parts, draft, next, MOST_RUNS)
+    name_unsent(alloc, parts, draft, &mut flight, Some(slot), call)?;
+    complete(alloc, parts, draft, flight, MOST_RUNS)
 }
 
-fn name_move(
+// A new call: one more is sent.
+fn call_on(
     alloc: Global,
     parts: &Parts,
     draft: &mut Draft,
-    flight: &Flight,
-    ran: Ran,
+    flight: Flight,
+    slot: Option<u64>,
+    call: &CallMade,
 ) -> Result<Ending, NoMemory>
-    requires { MayEnd (kept parts.now) flight.now }
-    ensures ends { IfOk result (λ ending. ends (with_draft draft.new (kept parts.now)) ending ≡ moved (with_draft draft.old (kept parts.now)) flight.now ran Move.Name) }
+    requires { MayEnd (kept parts.now) flight }
+    ensures ends { IfOk result (λ ending. ends (with_draft draft.new (kept parts.now)) ending ≡ called (with_draft draft.old (kept parts.now)) flight slot call.now) }
     ensures can { IfOk result (λ ending. CanEnd (kept parts.now) ending) }
 {
-    if let Ran::Wants { call, .. } = &ran {
-        return name_sent(alloc, parts, draft, flight, call);
+    match slot {
+        None => send(alloc, parts, draft, flight, None, call),
+        Some(slot) => changed(alloc, parts, draft, flight, slot, call),
     }
-    ended(alloc, parts, draft, flight, ran)
 }
 
-fn change_move(
-    alloc: Global,
-    parts: &Parts,
-    draft: &mut Draft,
-    flight: &Flight,
-    ran: Ran,
-    slot: u64,
-) -> Result<Ending, NoMemory>
-    requires { MayEnd (kept parts.now) flight.now }
-    ensures ends { IfOk result (λ ending. ends (with_draft draft.new (kept parts.now)) ending ≡ moved (with_draft draft.old (kept parts.now)) flight.now ran (Move.Change slot)) }
-    ensures can { IfOk result (λ ending. CanEnd (kept parts.now) ending) }
-{
-    if let Some(call) = call_at(&ran, slot) {
-        return changed(alloc, parts, draft, flight, slot, call);
-    }
-    ended(alloc, parts, draft, flight, ran)
-}
-
-/// A flight goes on: it runs, and is committed, or waits for a call that is named or changed. Refused, the draft is no use
-/// any more.
+/// A flight goes on: it runs, and is committed, or waits for a new call, or is completed. Refused, the draft is no use any
+/// more.
 pub fn go_on(
     alloc: Global,
     parts: &Parts,
     draft: &mut Draft,
-    flight: &Flight,
+    flight: Flight,
 ) -> Result<Ending, NoMemory>
-    requires { MayEnd (kept parts.now) flight.now }
-    ensures ends { IfOk result (λ ending. ends (with_draft draft.new (kept parts.now)) ending ≡ goes_on (with_draft draft.old (kept parts.now)) flight.now) }
+    requires { MayEnd (kept parts.now) flight }
+    ensures ends { IfOk result (λ ending. ends (with_draft draft.new (kept parts.now)) ending ≡ goes_on (with_draft draft.old (kept parts.now)) flight) }
     ensures can { IfOk result (λ ending. CanEnd (kept parts.now) ending) }
 {
-    let ran = run_flight(alloc, parts, draft, flight)?;
-    match advance(flight, &ran) {
-        Move::Commit => ended(alloc, parts, draft, flight, ran),
-        Move::Name => name_move(alloc, parts, draft, flight, ran),
-        Move::Change { slot } => change_move(alloc, parts, draft, flight, ran, slot),
+    let ran = run_flight(alloc, parts, draft, &flight)?;
+    let next = advance(&flight, &ran);
+    match new_call(next, &ran) {
+        None => ended(alloc, parts, draft, flight, ran),
+        Some(call) => call_on(alloc, parts, draft, flight, slot_of(next), call),
     }
 }

@@ -1,22 +1,24 @@
 // How an event of a live request ends.
 use call_registers::Reply;
 use flights::Flight;
+use lang_core::Boxed;
 use repair_messages::SetMessage;
 use request_log::Entry;
 
-/// How an event of a live request ends, beside the rows that it notes.
+/// How an event of a live request ends, beside the rows that it notes. It goes through several hands before it is put in
+/// place, so what is large stands apart.
 #[derive(Drop)]
 pub enum Ending {
     /// The flight of this number, if there is one, is the last entry of the log. Its answer has this index in the journal.
     Commits {
         flight: u64,
-        entry: Entry,
+        entry: Boxed<Entry>,
         reply: Option<Reply>,
         index: u64,
     },
     /// The flight waits for the answer of this call.
     Waits {
-        flight: Flight,
+        flight: Boxed<Flight>,
         set: SetMessage,
     },
 }

@@ -1,9 +1,11 @@
 // A flight with other calls, and the call for which it waits.
-ghost use Rattle.std.specs.Prelude.{◌≡◌, ◌+◌, slice_set, if◌then◌else◌, IfOk};
+ghost use Rattle.std.specs.Prelude.{◌≡◌, ◌+◌, slice_set, if◌then◌else◌, IfOk, OnOk};
 ghost use Rattle.service_events.specs.Flying.{live_call, with_slot, with_change};
 ghost use Rattle.service_parts.specs.Parts.{kept};
+ghost use Rattle.service_requests.specs.Endings.{with_call};
 
 use flights::Flight;
+use lang_base::both;
 use lang_core::{CallMade, Copied, NoMemory, Seq};
 use repair_messages::{SetMessage, copied_pair};
 use service_parts::Parts;
@@ -32,19 +34,18 @@ fn replaced<T: Copied + Drop>(
     Ok(list)
 }
 
-/// The flight with one call more, of this number.
-pub(crate) fn with_slot(
+// The flight has one call more, of this number. Refused, it is no use any more.
+fn add_call(
     alloc: Global,
-    flight: &Flight,
+    flight: &mut Flight,
     number: u64,
     call: &CallMade,
-) -> Result<Flight, NoMemory>
-    ensures { IfOk result (λ f. f ≡ with_slot number call.now flight.now) }
+) -> Result<(), NoMemory>
+    ensures { OnOk result (flight.new ≡ with_slot number call.now flight.old) }
 {
-    let mut next = flight.copied(alloc)?;
-    next.calls.push(call.copied(alloc)?)?;
-    next.numbers.push(number)?;
-    Ok(next)
+    let call = call.copied(alloc)?;
+    flight.calls.push(call)?;
+    flight.numbers.push(number)
 }
 
 fn one_more(changes: u64) -> Result<u64, NoMemory>
@@ -53,29 +54,40 @@ fn one_more(changes: u64) -> Result<u64, NoMemory>
     changes.checked_add(1).ok_or(NoMemory)
 }
 
-/// The flight with another call at a slot, of this number.
-pub(crate) fn with_change(
+// The flight has another call at a slot, of this number. Refused, it is no use any more.
+fn change_call(
     alloc: Global,
-    flight: &Flight,
+    flight: &mut Flight,
     slot: u64,
     number: u64,
     call: &CallMade,
-) -> Result<Flight, NoMemory>
-    ensures { IfOk result (λ f. f ≡ with_change slot number call.now flight.now) }
+) -> Result<(), NoMemory>
+    ensures { OnOk result (flight.new ≡ with_change slot number call.now flight.old) }
 {
     let changes = one_more(flight.changes)?;
-    let calls = replaced(alloc, flight.calls.as_slice(), slot, call)?;
-    let numbers = replaced(alloc, flight.numbers.as_slice(), slot, &number)?;
-    let (origin, request) = copied_pair(alloc, &flight.origin, &flight.request)?;
-    Ok(Flight {
-        id: flight.id,
-        origin,
-        request,
-        inputs: flight.inputs,
-        calls,
-        numbers,
-        changes,
-    })
+    let calls = replaced(alloc, flight.calls.as_slice(), slot, call);
+    let numbers = replaced(alloc, flight.numbers.as_slice(), slot, &number);
+    let (calls, numbers) = both(calls, numbers)?;
+    flight.calls = calls;
+    flight.numbers = numbers;
+    flight.changes = changes;
+    Ok(())
+}
+
+/// The flight has a new call, of this number: one more, or another one at a slot. Refused, it is no use any more.
+pub(crate) fn put_call(
+    alloc: Global,
+    flight: &mut Flight,
+    slot: Option<u64>,
+    number: u64,
+    call: &CallMade,
+) -> Result<(), NoMemory>
+    ensures { OnOk result (flight.new ≡ with_call slot number call.now flight.old) }
+{
+    match slot {
+        None => add_call(alloc, flight, number, call),
+        Some(slot) => change_call(alloc, flight, slot, number, call),
+    }
 }
 
 /// The message of a live call: its first version, which names no neighbours.

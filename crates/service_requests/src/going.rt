@@ -11,7 +11,7 @@ use crate::completing::go_on;
 use crate::outcome::DraftedEnd;
 use flights::Flight;
 use lang_core::{Inputs, NoMemory, Origin, Request, Seq};
-use service_parts::{Draft, Parts, start};
+use service_parts::{Draft, Parts};
 use std::alloc::Global;
 
 /// What follows where a flight goes on after what is drafted.
@@ -19,17 +19,18 @@ pub(crate) fn follow(
     alloc: Global,
     parts: &Parts,
     mut draft: Draft,
-    flight: &Flight,
+    flight: Flight,
 ) -> Result<DraftedEnd, NoMemory>
-    requires { MayEnd (kept parts.now) flight.now }
-    ensures follows { IfOk result (λ outcome. leaves (kept parts.now) outcome ≡ goes_on (with_draft draft (kept parts.now)) flight.now) }
+    requires { MayEnd (kept parts.now) flight }
+    ensures follows { IfOk result (λ outcome. leaves (kept parts.now) outcome ≡ goes_on (with_draft draft (kept parts.now)) flight) }
     ensures can { IfOk result (λ outcome. CanLeave (kept parts.now) outcome) }
 {
     let ending = go_on(alloc, parts, &mut draft, flight)?;
     Ok(DraftedEnd { draft, ending })
 }
 
-fn new_flight(
+/// The flight of a live request that arrives.
+pub(crate) fn new_flight(
     alloc: Global,
     parts: &Parts,
     origin: Origin,
@@ -47,20 +48,4 @@ fn new_flight(
         numbers: Seq::new(alloc),
         changes: 0,
     }
-}
-
-/// What follows where a live request arrives.
-pub(crate) fn start_flight(
-    alloc: Global,
-    parts: &Parts,
-    origin: Origin,
-    request: Request,
-    inputs: Inputs,
-) -> Result<DraftedEnd, NoMemory>
-    requires { MayEnd (kept parts.now) (new_flight (kept parts.now) origin request inputs) }
-    ensures follows { IfOk result (λ outcome. leaves (kept parts.now) outcome ≡ goes_on (kept parts.now) (new_flight (kept parts.now) origin request inputs)) }
-    ensures can { IfOk result (λ outcome. CanLeave (kept parts.now) outcome) }
-{
-    let flight = new_flight(alloc, parts, origin, request, inputs);
-    follow(alloc, parts, start(alloc), &flight)
 }

@@ -16,6 +16,7 @@ mod early;
 mod endings;
 mod flying;
 mod going;
+mod noting;
 mod outcome;
 mod runs;
 
