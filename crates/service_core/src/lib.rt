@@ -2,6 +2,7 @@
 //! does what the event means, or wants memory and changes nothing.
 #![tactic(auto)]
 
+mod copying;
 mod service;
 mod stale;
 

@@ -22,11 +22,12 @@ ghost use Rattle.service_events.specs.Posts.{next_post, write_post};
 ghost use Rattle.service_posts.specs.Goes.{GoesTo};
 ghost use Rattle.service_repairs.specs.Answers.{answered_by, Steps};
 
+use crate::copying::copied_parts;
 use crate::stale::first_stale;
 use call_registers::{Registers, Replies, Why};
 use flights::Flights;
 use journal_rows::{Command, Rows};
-use lang_core::{Cells, Inputs, Name, NoMemory, Origin, Request, Setting, Text};
+use lang_core::{Cells, Copied, Inputs, Name, NoMemory, Origin, Request, Setting, Text};
 use local_repair::{Repairer, Stepped};
 use repair_messages::{AnswerMessage, Post, PostName, SetMessage};
 use request_log::Log;
@@ -316,5 +317,12 @@ impl Service {
         ensures { IfOk result (λ post. write_post self.now name ≡ Some post) }
     {
         write_post(alloc, &self.parts, name)
+    }
+}
+
+impl Copied for Service {
+    fn copied(&self, alloc: Global) -> Result<Service, NoMemory> {
+        let parts = copied_parts(alloc, &self.parts)?;
+        Ok(Service { parts })
     }
 }
