@@ -2,6 +2,7 @@ pub mod State
 pub mod Calls
 pub mod Flying
 pub mod Arriving
+pub mod Questions
 pub mod Messages
 pub mod Steps
 pub mod Orders
@@ -13,3 +14,4 @@ pub mod Progress
 pub mod RunsOn
 pub mod Causes
 pub mod Ages
+pub mod Allowed

@@ -14,6 +14,8 @@ use Rattle.repair_messages.specs.declared.messages.Confirm.{Confirm}
 use Rattle.repair_messages.specs.declared.messages.SetMessage.{SetMessage}
 use Rattle.repair_messages.specs.declared.posts.Post.{Post}
 use Rattle.repair_messages.specs.declared.posts.Post.TheVariants.{Set, Answer}
+use Rattle.authorise_rules.specs.Deciding.{decision}
+use Rattle.authorise_rules.specs.declared.asked.Decision.{Decision}
 use Rattle.journal_rows.specs.Words.{taken_version, or_before}
 use Rattle.journal_rows.specs.declared.caller.AckHow.TheVariants.{ToPost}
 use Rattle.journal_rows.specs.declared.callee.TookHow.TheVariants.{Message}
@@ -28,6 +30,7 @@ use Rattle.call_registers.specs.declared.register.Register.{Register}
 use Rattle.call_registers.specs.declared.reply.Reply.{Reply}
 use Rattle.service_events.specs.State.{Kept, After, after, me, next_id, or_else, where_needed, is_crowded, is_heavy, is_in_flight}
 use Rattle.service_events.specs.Calls.{noted}
+use Rattle.service_events.specs.Questions.{version_question, answer_question, is_denied, rule_of}
 use Rattle.service_events.specs.declared.answers.Heard.{Heard}
 use Rattle.service_events.specs.declared.answers.PostReply.{PostReply}
 use Rattle.service_events.specs.declared.answers.PostReply.TheVariants.{Acked as WasAcked, Confirmed as WasConfirmedBack, Refused, Lost}
@@ -37,15 +40,11 @@ use Rattle.service_events.specs.declared.answers.Posted.{Posted}
 use Rattle.service_events.specs.declared.answers.Posted.TheVariants.{Acked as PostAcked, Confirmed as PostConfirmed, Held, Left}
 use Rattle.service_events.specs.declared.answers.Taken.{Taken}
 use Rattle.service_events.specs.declared.refusals.AnswerRefused.{AnswerRefused}
-use Rattle.service_events.specs.declared.refusals.AnswerRefused.TheVariants.{Unknown}
+use Rattle.service_events.specs.declared.refusals.AnswerRefused.TheVariants.{Unknown, Denied as DeniedAnswer}
 use Rattle.service_events.specs.declared.refusals.PostRefused.{PostRefused}
 use Rattle.service_events.specs.declared.refusals.PostRefused.TheVariants.{Foreign}
 use Rattle.service_events.specs.declared.refusals.TakeRefused.{TakeRefused}
-use Rattle.service_events.specs.declared.refusals.TakeRefused.TheVariants.{Full, NotYet}
-
--- every question is allowed, by rule 1
-abbrev pub rule : ℕ
-rule = 1
+use Rattle.service_events.specs.declared.refusals.TakeRefused.TheVariants.{Full, NotYet, Denied}
 
 -- ---- a version of a call
 
@@ -64,14 +63,26 @@ makes_entry s set = is_some set.desired && not (is_some (find_call (origin_of se
 abbrev pub is_too_much : Kept → SetMessage → Option ℕ
 is_too_much s set = or_else (is_heavy s) (where_needed (not (is_known s set) && makes_entry s set) (is_crowded s))
 
+-- the request of the call's entry, where it has one
+abbrev pub known_request : Kept → SetMessage → Option Request
+known_request s set = option_map (λ (e : Entry). e.request) (find_call (origin_of set) s.entries)
+
+-- what the service's rules decide of it
+abbrev pub take_decision : Kept → SetMessage → Decision
+take_decision s set = decision s.rules (version_question set.caller set.who (known_request s set) set.desired)
+
+abbrev pub take_rule : Kept → SetMessage → ℕ
+take_rule s set = rule_of (take_decision s set)
+
 abbrev pub ack_of : SetMessage → Ack
 ack_of set = record { caller = set.caller; dest = set.dest; number = set.number; version = set.version }
 
 abbrev pub acked_row : SetMessage → Row
 acked_row set = Acked (record { caller = set.caller; number = set.number; version = set.version })
 
-abbrev pub took_row : SetMessage → Row
-took_row set =
+-- with the rule that allowed it
+abbrev pub took_row : Kept → SetMessage → Row
+took_row s set =
     Took (record {
       caller = set.caller;
       number = set.number;
@@ -79,7 +90,7 @@ took_row set =
       desired = set.desired;
       how = Message;
       who = set.who;
-      rule = rule;
+      rule = take_rule s set;
     })
 
 -- the replies, where that of this entry is changed so
@@ -142,27 +153,36 @@ at_version set e =
 -- the call has an entry, or makes one, or does neither
 abbrev pub taken_by : Kept → SetMessage → Inputs → Option Entry → Option Request → Kept
 taken_by s set i (Some e) desired =
-    noted (took_row set ∷ (acked_row set ∷ []))
+    noted (took_row s set ∷ (acked_row set ∷ []))
     (record s {
       entries = with_entry (at_version set e) s.entries;
       replies = at_entry e.id (λ p. made_due (length s.journal + 1) (with_taken set.version (is_some set.desired) p)) s.replies;
     })
 taken_by s set i None (Some q) =
-    noted (took_row set ∷ (Asked (record { id = next_id s; origin = origin_of set; request = q; inputs = i }) ∷ (acked_row set ∷ [])))
+    noted (took_row s set ∷ (Asked (record { id = next_id s; origin = origin_of set; request = q; inputs = i }) ∷ (acked_row set ∷ [])))
     (record s {
       entries = insert s.entries (created_place s set) (created_entry s set q i);
       replies = s.replies ++ created_reply s set ∷ [];
     })
-taken_by s set i None None = noted (took_row set ∷ (acked_row set ∷ [])) s
+taken_by s set i None None = noted (took_row s set ∷ (acked_row set ∷ [])) s
 
 abbrev pub taken : SetMessage → Option ℕ → Taken
 taken set rule = record { ack = ack_of set; rule = rule }
 
+abbrev pub take_denied : Kept → SetMessage → After (Result Taken TakeRefused)
+take_denied s set = after s (Err (Denied (take_rule s set)))
+
+abbrev pub take_allowed : Kept → SetMessage → Inputs → After (Result Taken TakeRefused)
+take_allowed s set i = after (taken_by s set i (find_call (origin_of set) s.entries) set.desired) (Ok (taken set (Some (take_rule s set))))
+
+-- of one that is new, rules are asked
+abbrev pub take_new : Kept → SetMessage → Inputs → After (Result Taken TakeRefused)
+take_new s set i = if is_denied (take_decision s set) then take_denied s set else take_allowed s set i
+
 abbrev pub take_admitted : Kept → SetMessage → Inputs → Option ℕ → After (Result Taken TakeRefused)
 take_admitted s set i (Some n) = after s (Err (Full n))
 take_admitted s set i None =
-    if is_known s set then after (acked_again s set) (Ok (taken set None))
-    else after (taken_by s set i (find_call (origin_of set) s.entries) set.desired) (Ok (taken set (Some rule)))
+    if is_known s set then after (acked_again s set) (Ok (taken set None)) else take_new s set i
 
 abbrev pub take_event : Kept → SetMessage → Inputs → After (Result Taken TakeRefused)
 take_event s set i =
@@ -176,8 +196,13 @@ confirm_of a = record { caller = a.caller; callee = a.callee; number = a.number;
 abbrev pub confirmed_row : AnswerMessage → Row
 confirmed_row a = Confirmed (record { number = a.number; answer_version = a.answer_version })
 
-abbrev pub seen_row : AnswerMessage → Row
-seen_row a =
+-- what the service's rules decide of an answer to the call of this register
+abbrev pub hear_decision : Kept → AnswerMessage → Register → Decision
+hear_decision s a r = decision s.rules (answer_question r.dest a.who r.desired)
+
+-- with the number of the rule that allowed it
+abbrev pub seen_row : ℕ → AnswerMessage → Row
+seen_row rule a =
     SawAnswer (record {
       number = a.number;
       answer_version = a.answer_version;
@@ -191,12 +216,24 @@ seen_row a =
 abbrev pub heard : AnswerMessage → Option ℕ → Heard
 heard a rule = record { confirm = confirm_of a; rule = rule }
 
+abbrev pub hear_rule : Kept → AnswerMessage → Register → ℕ
+hear_rule s a r = rule_of (hear_decision s a r)
+
+abbrev pub hear_denied : Kept → AnswerMessage → Register → After (Result Heard AnswerRefused)
+hear_denied s a r = after s (Err (DeniedAnswer (hear_rule s a r)))
+
+abbrev pub hear_allowed : Kept → AnswerMessage → Register → After (Result Heard AnswerRefused)
+hear_allowed s a r =
+    after (noted (seen_row (hear_rule s a r) a ∷ (confirmed_row a ∷ [])) s) (Ok (heard a (Some (hear_rule s a r))))
+
+-- of one that is newer than the answer that is held, rules are asked
+abbrev pub hear_new : Kept → AnswerMessage → Register → After (Result Heard AnswerRefused)
+hear_new s a r = if is_denied (hear_decision s a r) then hear_denied s a r else hear_allowed s a r
+
 abbrev pub answer_taken_by : Kept → AnswerMessage → Register → After (Result Heard AnswerRefused)
 answer_taken_by s a r =
     if not (same_text r.dest a.callee) then after s (Err (Unknown a.number))
-    else (if is_newer r.answer a.answer_version
-    then after (noted (seen_row a ∷ (confirmed_row a ∷ [])) s) (Ok (heard a (Some rule)))
-    else after (noted (confirmed_row a ∷ []) s) (Ok (heard a None)))
+    else (if is_newer r.answer a.answer_version then hear_new s a r else after (noted (confirmed_row a ∷ []) s) (Ok (heard a None)))
 
 abbrev pub answer_taken_where : Kept → AnswerMessage → Option Register → After (Result Heard AnswerRefused)
 answer_taken_where s a None = after s (Err (Unknown a.number))

@@ -10,6 +10,8 @@ use Rattle.request_log.specs.declared.entry.Entry.{Entry}
 use Rattle.create_placement.specs.Placement.{place_between, created}
 use Rattle.repair_messages.specs.declared.posts.PostName.{PostName}
 use Rattle.repair_messages.specs.declared.posts.PostName.TheVariants.{Call as OfCall, Reply as OfReply}
+use Rattle.authorise_rules.specs.Deciding.{decision}
+use Rattle.authorise_rules.specs.declared.asked.Decision.{Decision}
 use Rattle.journal_rows.specs.Words.{ordered}
 use Rattle.journal_rows.specs.declared.orders.About.{About}
 use Rattle.journal_rows.specs.declared.orders.About.TheVariants.{Request as AboutRequest, Post as AboutPost}
@@ -25,10 +27,10 @@ use Rattle.call_registers.specs.declared.register.Register.{Register}
 use Rattle.call_registers.specs.declared.reply.Reply.{Reply}
 use Rattle.service_events.specs.State.{Kept, After, after, next_id, or_else, is_crowded, is_heavy}
 use Rattle.service_events.specs.Calls.{noted}
-use Rattle.service_events.specs.Messages.{rule}
+use Rattle.service_events.specs.Questions.{command_question, is_denied, rule_of}
 use Rattle.service_events.specs.declared.answers.Ordered.{Ordered}
 use Rattle.service_events.specs.declared.refusals.OrderRefused.{OrderRefused}
-use Rattle.service_events.specs.declared.refusals.OrderRefused.TheVariants.{NoSuchRequest, Full, NotHeld, NotOutside}
+use Rattle.service_events.specs.declared.refusals.OrderRefused.TheVariants.{NoSuchRequest, Denied, Full, NotHeld, NotOutside}
 
 abbrev pub entry_of : ℕ → Kept → Option Entry
 entry_of id s = find (has_id id) s.entries
@@ -72,8 +74,43 @@ makes_entry command = false
 abbrev pub is_too_much : Kept → Command → Option ℕ
 is_too_much s command = or_else (is_heavy s) (if makes_entry command then is_crowded s else None)
 
-abbrev pub refused : Kept → Command → Option OrderRefused
-refused s command = or_else (misnamed s command) (option_map (λ n. Full n) (is_too_much s command))
+abbrev pub request_of : ℕ → Kept → Option Request
+request_of id s = option_map (λ (e : Entry). e.request) (entry_of id s)
+
+-- the request that a retried call asks, where it asks something
+abbrev pub request_retried : ℕ → Kept → Option Request
+request_retried number s = option_map_or (λ (r : Register). r.desired) (register number s.registers) None
+
+-- the request that rules are asked about: that of the entry or of the post that the command names
+abbrev pub subject : Kept → Command → Option Request
+subject s (Cancel id) = request_of id s
+subject s (Restore id) = request_of id s
+subject s (Replace id method path body) = request_of id s
+subject s (Create before after q) = None
+subject s (Retry (OfCall number)) = request_retried number s
+subject s (Retry (OfReply id)) = request_of id s
+
+-- the request that a command puts there, where it finds this one
+abbrev pub request_put : Command → Option Request → Option Request
+request_put (Replace id method path body) found = option_map (with_call method path body) found
+request_put (Create before after q) found = Some q
+request_put command found = None
+
+-- what the service's rules decide of it
+abbrev pub order_decision : Kept → Command → List ℕ → Decision
+order_decision s command who =
+    decision s.rules (command_question command who (subject s command) (request_put command (subject s command)))
+
+abbrev pub order_rule : Kept → Command → List ℕ → ℕ
+order_rule s command who = rule_of (order_decision s command who)
+
+abbrev pub unless_allowed : Decision → Option OrderRefused
+unless_allowed d = if is_denied d then Some (Denied (rule_of d)) else None
+
+-- rules are asked last
+abbrev pub refused : Kept → Command → List ℕ → Option OrderRefused
+refused s command who =
+    or_else (or_else (misnamed s command) (option_map (λ n. Full n) (is_too_much s command))) (unless_allowed (order_decision s command who))
 
 -- ---- what an accepted order does
 
@@ -84,9 +121,6 @@ about s (Replace id method path body) = AboutRequest id
 about s (Create before after q) = AboutRequest (next_id s)
 about s (Retry name) = AboutPost name
 
-abbrev pub request_of : ℕ → Kept → Option Request
-request_of id s = option_map (λ (e : Entry). e.request) (entry_of id s)
-
 -- the request that the order found
 abbrev pub original : Kept → Command → Option Request
 original s (Cancel id) = request_of id s
@@ -94,12 +128,6 @@ original s (Restore id) = request_of id s
 original s (Replace id method path body) = request_of id s
 original s (Create before after q) = None
 original s (Retry name) = None
-
--- the request that a command puts there, where it finds this one
-abbrev pub request_put : Command → Option Request → Option Request
-request_put (Replace id method path body) found = option_map (with_call method path body) found
-request_put (Create before after q) found = Some q
-request_put command found = None
 
 abbrev pub repaired : Kept → Command → Option Request
 repaired s command = request_put command (original s command)
@@ -114,7 +142,7 @@ order_rows s command token who i =
       token = token;
       command = command;
       who = who;
-      rule = rule;
+      rule = order_rule s command who;
       original = original s command;
       repaired = repaired s command;
       about = about s command;
@@ -136,12 +164,12 @@ carried_out s (Retry name) who i = released_post who name s
 abbrev pub order_by : Kept → Command → List ℕ → List ℕ → Inputs → Option OrderRefused → After (Result Ordered OrderRefused)
 order_by s command token who i (Some why) = after s (Err why)
 order_by s command token who i None =
-    after (noted (order_rows s command token who i) (carried_out s command who i)) (Ok (record { about = about s command; rule = rule }))
+    after (noted (order_rows s command token who i) (carried_out s command who i)) (Ok (record { about = about s command; rule = order_rule s command who }))
 
 -- a token that was accepted gets the answer of then
 abbrev pub order_where : Kept → Command → List ℕ → List ℕ → Inputs → Option OrderedRow → After (Result Ordered OrderRefused)
 order_where s command token who i (Some o) = after s (Ok (record { about = o.about; rule = o.rule }))
-order_where s command token who i None = order_by s command token who i (refused s command)
+order_where s command token who i None = order_by s command token who i (refused s command who)
 
 abbrev pub order_event : Kept → Command → List ℕ → List ℕ → Inputs → After (Result Ordered OrderRefused)
 order_event s command token who i = order_where s command token who i (ordered token s.journal)

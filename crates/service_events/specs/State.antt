@@ -9,6 +9,8 @@ use Rattle.request_log.specs.contracts.entry.Entry as entry
 use Rattle.request_log.specs.declared.entry.Entry.{Entry}
 use Rattle.local_repair.specs.Current.{Consumed, base_rows}
 use Rattle.local_repair.specs.Steps.{answer_or_tentative}
+use Rattle.authorise_rules.specs.contracts.rule.Rule as rule
+use Rattle.authorise_rules.specs.declared.rule.Rule.{Rule}
 use Rattle.journal_rows.specs.Weights.{journal_weight}
 use Rattle.journal_rows.specs.contracts.row.Row as row
 use Rattle.journal_rows.specs.declared.row.Row.{Row}
@@ -22,9 +24,11 @@ pub use Rattle.flights.specs.Numbers.{has_flight, without_flight, put_flight, wi
 use Rattle.flights.specs.Numbers.{flight_in, is_flying}
 use Rattle.flights.specs.declared.flight.Flight.{Flight}
 
--- what it is set to do, its entries in logged order, its flights in the order of their numbers, its journal, its registers and its replies
+-- what it is set to do, the rules by which it allows repairs, its entries in logged order, its flights in the order of their numbers, its
+-- journal, its registers and its replies
 pub record Kept : Type 0 where
   pub setting : Setting
+  pub rules : List Rule
   pub entries : List Entry
   pub flights : List Flight
   pub journal : List Row
@@ -34,25 +38,28 @@ pub record Kept : Type 0 where
 -- by which a proof tells two of them apart
 abbrev pub kept_code : Coded Kept
 kept_code =
-    code_by (Setting × (List Entry × (List Flight × (List Row × (List Register × List Reply)))))
+    code_by (Setting × (List Rule × (List Entry × (List Flight × (List Row × (List Register × List Reply))))))
     (coded× setting.the_row.coded
+    (coded× (coded_list rule.the_row.coded)
     (coded× (coded_list entry.the_row.coded)
     (coded× (coded_list flight.the_row.coded)
-    (coded× (coded_list row.the_row.coded) (coded× (coded_list register.the_row.coded) (coded_list reply.the_row.coded))))))
-    (λ s. (s.setting, (s.entries, (s.flights, (s.journal, (s.registers, s.replies))))))
+    (coded× (coded_list row.the_row.coded) (coded× (coded_list register.the_row.coded) (coded_list reply.the_row.coded)))))))
+    (λ s. (s.setting, (s.rules, (s.entries, (s.flights, (s.journal, (s.registers, s.replies)))))))
     (λ p. record {
       setting = p.0;
-      entries = p.1.0;
-      flights = p.1.1.0;
-      journal = p.1.1.1.0;
-      registers = p.1.1.1.1.0;
-      replies = p.1.1.1.1.1;
+      rules = p.1.0;
+      entries = p.1.1.0;
+      flights = p.1.1.1.0;
+      journal = p.1.1.1.1.0;
+      registers = p.1.1.1.1.1.0;
+      replies = p.1.1.1.1.1.1;
     })
     (λ _. refl)
 
 -- what a service keeps that has answered nothing yet
-abbrev pub fresh : Setting → Kept
-fresh setting = record { setting = setting; entries = []; flights = []; journal = []; registers = []; replies = [] }
+abbrev pub fresh : Setting → List Rule → Kept
+fresh setting rules =
+    record { setting = setting; rules = rules; entries = []; flights = []; journal = []; registers = []; replies = [] }
 
 -- what an event leaves, and what it answers
 pub record After (A : Type 0) : Type 0 where
