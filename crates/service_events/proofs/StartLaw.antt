@@ -1,7 +1,9 @@
--- A service without rows fits its journal.
-use Rattle.std.proofs.Common.{◌≡◌, true, false, ℕ, ◌<◌, [], refl, arith}
+-- A service without rows fits its journal, whatever its rules are, and each repair in it was allowed, as there is none.
+use Rattle.std.proofs.Common.{◌≡◌, true, false, ℕ, ◌<◌, [], List, refl, arith}
 use Rattle.lang_core.specs.declared.setting.Setting.{Setting}
+use Rattle.authorise_rules.specs.declared.rule.Rule.{Rule}
 use Rattle.service_events.specs.State.{fresh}
+use Rattle.service_events.specs.Allowed.{IsAllowed}
 use Rattle.service_events.specs.Fits.{Fits}
 
 below_none : (k : ℕ) → k < 0 → ⊥
@@ -10,8 +12,8 @@ below_none k h = omega (arith, h)
 false_is_not_true : false ≡ true → ⊥
 false_is_not_true h = cc
 
-pub fits_start : (setting : Setting) → Fits (fresh setting)
-fits_start setting =
+pub fits_start : (setting : Setting) (rules : List Rule) → Fits (fresh setting rules)
+fits_start setting rules =
     record {
       sent = record { rows = tt; registers = λ n. refl; count = refl; numbered = tt };
       seen = record { rows = tt; registers = λ n. tt; answered = λ n told. absurd (false_is_not_true told); heard = λ n. omega arith };
@@ -31,3 +33,6 @@ fits_start setting =
       flights = record { numbered = λ k d h. absurd (below_none k h); others = λ i j d h w. absurd (below_none j w); untaken = λ k d h. absurd (below_none k h) };
       orders = tt;
     }
+
+pub allowed_start : (setting : Setting) (rules : List Rule) → IsAllowed (fresh setting rules)
+allowed_start setting rules = tt
