@@ -6,6 +6,7 @@ abbrev pub kept : Parts → Kept
 kept p =
     record {
       setting = p.setting;
+      rules = p.rules;
       entries = p.repairer.entries;
       flights = p.flights.list;
       journal = p.journal.rows;

@@ -19,5 +19,5 @@ pub use entries::{created, insert, next_id, next_in};
 pub use limits::{is_crowded, is_heavy};
 pub use noting::note_rows;
 pub use parts::Parts;
-pub use rows::{RULE, change_rows, deleted, named, push_deleted, replaced};
+pub use rows::{change_rows, deleted, named, push_deleted, replaced};
 pub use view::{DraftedRegisters, RegistersView, drafted};

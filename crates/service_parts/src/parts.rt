@@ -1,15 +1,17 @@
 // What a service keeps, part by part.
+use authorise_rules::Rules;
 use call_registers::{Registers, Replies};
 use flights::Flights;
 use journal_rows::Rows;
 use lang_core::Setting;
 use local_repair::Repairer;
 
-/// What a service keeps: what it is set to do, its log under repair, its flights, its journal, its registers and its
-/// replies.
+/// What a service keeps: what it is set to do, the rules by which it allows repairs, its log under repair, its flights,
+/// its journal, its registers and its replies.
 #[derive(Drop)]
 pub struct Parts {
     pub setting: Setting,
+    pub rules: Rules,
     pub repairer: Repairer,
     pub flights: Flights,
     pub journal: Rows,

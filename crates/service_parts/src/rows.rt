@@ -13,9 +13,6 @@ use lang_core::{CallMade, Copied, Name, NoMemory, Request};
 use repair_messages::copied_pair;
 use std::alloc::Global;
 
-/// The rule that allows everything.
-pub const RULE: u32 = 1;
-
 fn raised(version: u64) -> u64
     ensures { result ≡ raised version }
 {
