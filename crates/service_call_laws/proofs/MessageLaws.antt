@@ -17,8 +17,6 @@ use Rattle.repair_messages.specs.declared.posts.Post.TheVariants.{Set, Answer}
 use Rattle.journal_rows.specs.Words.{sent_step, last_sent, last_seen, seen_version, claimed, comes_from}
 use Rattle.journal_rows.specs.declared.callee.TookRow.{TookRow}
 use Rattle.journal_rows.specs.declared.callee.TookHow.TheVariants.{Message}
-use Rattle.journal_rows.specs.declared.caller.SawHow.TheVariants.{Message as SeenMessage}
-use Rattle.journal_rows.specs.declared.caller.SawAnswerRow.{SawAnswerRow}
 use Rattle.journal_rows.specs.declared.row.Row.{Row}
 use Rattle.journal_rows.specs.declared.row.Row.TheVariants.{Asked, Ordered}
 use Rattle.call_registers.specs.Registers.{register, with_hold, is_newer}
@@ -28,7 +26,8 @@ use Rattle.call_registers.specs.Replies.{reply, at_entry, with_taken, made_due}
 use Rattle.flights.specs.declared.flight.Flight.{Flight}
 use Rattle.service_events.specs.State.{Kept, after, me, next_id, is_in_flight, same_call_origin}
 use Rattle.service_events.specs.Calls.{noted}
-use Rattle.service_events.specs.Messages.{rule, origin_of, is_known, is_too_much, acked_row, took_row, at_reply_of, acked_again, created_entry, created_reply, created_place, at_version, taken_by, take_admitted, take_event, confirmed_row, seen_row, heard, answer_taken_where, take_answer_event, had_call, is_ack_of, replies_to, had, is_now, hold_of, held_back, held_where, saw_ack_row, was_confirmed_row, confirmed_reply, posted, posted_event}
+use Rattle.service_events.specs.Messages.{take_decision, take_rule, take_new, origin_of, is_known, is_too_much, acked_row, took_row, at_reply_of, acked_again, created_entry, created_reply, created_place, at_version, taken_by, take_admitted, take_event, confirmed_row, hear_decision, seen_row, heard, hear_rule, hear_allowed, hear_new, answer_taken_where, take_answer_event, had_call, is_ack_of, replies_to, had, is_now, hold_of, held_back, held_where, saw_ack_row, was_confirmed_row, confirmed_reply, posted, posted_event}
+use Rattle.service_events.specs.Questions.{is_denied}
 use Rattle.service_events.specs.declared.answers.PostReply.{PostReply}
 use Rattle.service_events.specs.declared.answers.PostReply.TheVariants.{Acked as WasAcked, Confirmed as WasConfirmedBack, Refused, Lost}
 use Rattle.service_events.specs.declared.refusals.AnswerRefused.TheVariants.{Unknown}
@@ -65,9 +64,9 @@ goes_took s set rows apart plain unseen unordered leaves =
     goes_plain s rows plain unseen (λ h. kind_follows OrdersOn IsUnordered no_order rows s.journal unordered)
     (λ h. flies_took s.journal rows s.flights (took_all set rows leaves s.flights (any_none (origin_of set) s.flights apart)) h)
 
-took_leaves : (set : SetMessage) (g : Origin) → same_call_origin (origin_of set) g ≡ false → LeavesOrigin g (took_row set)
-took_leaves set g h =
-    leaves_took set.caller set.number g (record { caller = set.caller; number = set.number; version = set.version; desired = set.desired; how = Message; who = set.who; rule = rule }) refl refl h
+took_leaves : (s : Kept) (set : SetMessage) (g : Origin) → same_call_origin (origin_of set) g ≡ false → LeavesOrigin g (took_row s set)
+took_leaves s set g h =
+    leaves_took set.caller set.number g (record { caller = set.caller; number = set.number; version = set.version; desired = set.desired; how = Message; who = set.who; rule = take_rule s set }) refl refl h
 
 taken_goes : (s : Kept) (set : SetMessage) (i : Inputs) (e : Option Entry) (d : Option Request) → IsDistinct s.entries → is_in_flight (origin_of set) s ≡ false
     → find_call (origin_of set) s.entries ≡ e → Goes s (taken_by s set i e d)
@@ -78,17 +77,17 @@ taken_goes s set i (Some e) d distinct apart found =
     goes_then s t (taken_by s set i (Some e) d)
     (goes_entries s es ps (places_with s.registers s.entries e (at_version set e) (map calls_of_flight s.flights)
     (found_stands (has_origin set.caller set.number) s.entries e found) refl refl distinct))
-    (goes_took t set (took_row set ∷ (acked_row set ∷ [])) apart (tt, (tt, tt)) (tt, (tt, tt)) (tt, (tt, tt)) (λ g h. (took_leaves set g h, (tt, tt))))
+    (goes_took t set (took_row s set ∷ (acked_row set ∷ [])) apart (tt, (tt, tt)) (tt, (tt, tt)) (tt, (tt, tt)) (λ g h. (took_leaves s set g h, (tt, tt))))
 taken_goes s set i None (Some q) distinct apart found =
     let es = insert s.entries (created_place s set) (created_entry s set q i) in
     let ps = s.replies ++ created_reply s set ∷ [] in
     let t = record s { entries = es; replies = ps } in
     goes_then s t (taken_by s set i None (Some q))
     (goes_entries s es ps (places_insert s.registers s.entries (created_place s set) (created_entry s set q i) (map calls_of_flight s.flights) refl))
-    (goes_took t set (took_row set ∷ (Asked (record { id = next_id s; origin = origin_of set; request = q; inputs = i }) ∷ (acked_row set ∷ []))) apart
-    (tt, (tt, (tt, tt))) (tt, (tt, (tt, tt))) (tt, (tt, (tt, tt))) (λ g h. (took_leaves set g h, (tt, (tt, tt)))))
+    (goes_took t set (took_row s set ∷ (Asked (record { id = next_id s; origin = origin_of set; request = q; inputs = i }) ∷ (acked_row set ∷ []))) apart
+    (tt, (tt, (tt, tt))) (tt, (tt, (tt, tt))) (tt, (tt, (tt, tt))) (λ g h. (took_leaves s set g h, (tt, (tt, tt)))))
 taken_goes s set i None None distinct apart found =
-    goes_took s set (took_row set ∷ (acked_row set ∷ [])) apart (tt, (tt, tt)) (tt, (tt, tt)) (tt, (tt, tt)) (λ g h. (took_leaves set g h, (tt, tt)))
+    goes_took s set (took_row s set ∷ (acked_row set ∷ [])) apart (tt, (tt, tt)) (tt, (tt, tt)) (tt, (tt, tt)) (λ g h. (took_leaves s set g h, (tt, tt)))
 
 again_goes : (s : Kept) (set : SetMessage) → Goes s (acked_again s set)
 again_goes s set =
@@ -97,12 +96,18 @@ again_goes s set =
     goes_then s t (acked_again s set) (goes_entries s s.entries ps (λ h. h))
     (goes_plain t (acked_row set ∷ []) (tt, tt) (tt, tt) (λ h. (tt, tt)) (λ h. flies_rows s.journal (acked_row set ∷ []) s.flights (tt, tt) h))
 
+new_goes : (s : Kept) (set : SetMessage) (i : Inputs) → IsDistinct s.entries → is_in_flight (origin_of set) s ≡ false → Goes s (take_new s set i).service
+new_goes s set i distinct apart = elim (cases_Bool (is_denied (take_decision s set))) [
+  | inl denied ↦ rw denied (goes_same s)
+  | inr allowed ↦ rw allowed (taken_goes s set i (find_call (origin_of set) s.entries) set.desired distinct apart refl)
+]
+
 admitted_goes : (s : Kept) (set : SetMessage) (i : Inputs) (n : Option ℕ) → IsDistinct s.entries → is_in_flight (origin_of set) s ≡ false
     → Goes s (take_admitted s set i n).service
 admitted_goes s set i (Some n) distinct apart = goes_same s
 admitted_goes s set i None distinct apart = elim (cases_Bool (is_known s set)) [
   | inl is ↦ rw is (again_goes s set)
-  | inr new ↦ rw new (taken_goes s set i (find_call (origin_of set) s.entries) set.desired distinct apart refl)
+  | inr new ↦ rw new (new_goes s set i distinct apart)
 ]
 
 take_by : (s : Kept) (set : SetMessage) (i : Inputs) (b : Bool) → IsDistinct s.entries → is_in_flight (origin_of set) s ≡ b
@@ -115,26 +120,14 @@ take_goes s set i f = take_by s set i (is_in_flight (origin_of set) s) f.asked.d
 
 -- ---- an answer
 
-abbrev heard_row : AnswerMessage → SawAnswerRow
-heard_row a =
-    record {
-      number = a.number;
-      answer_version = a.answer_version;
-      version = a.version;
-      response = a.response;
-      how = SeenMessage;
-      who = a.who;
-      rule = rule;
-    }
-
 heard_new : (s : Kept) (a : AnswerMessage) (r : Register) → register a.number s.registers ≡ Some r → is_newer r.answer a.answer_version ≡ true
-    → Goes s (noted (seen_row a ∷ (confirmed_row a ∷ [])) s)
+    → Goes s (hear_allowed s a r).service
 heard_new s a r found new =
     let n = a.number in
     let v = a.answer_version in
-    goes_heard s (seen_row a ∷ (confirmed_row a ∷ [])) (tt, (tt, tt)) (tt, (tt, tt)) (tt, (tt, tt))
+    goes_heard s (seen_row (hear_rule s a r) a ∷ (confirmed_row a ∷ [])) (tt, (tt, tt)) (tt, (tt, tt)) (tt, (tt, tt))
     (λ f. (let k = known s n r found f in
-    ((k.sent, older_by r.answer v (last_seen n s.journal) k.answer new), (subst IsSome (sym (fold_push (sent_step n) None s.journal (seen_row a))) k.sent, tt))))
+    ((k.sent, older_by r.answer v (last_seen n s.journal) k.answer new), (subst IsSome (sym (fold_push (sent_step n) None s.journal (seen_row (hear_rule s a r) a))) k.sent, tt))))
     (λ f m. elim (cases_Bool (nat_eq n m)) [
       | inl is ↦ (let R : ℕ → Type 0 = λ j. max (claimed j s.journal) v ≤ v in rw is ((λ told. refl), subst R (eqb-true n m is) (above f)))
       | inr differs ↦ rw differs ((λ told. absurd (false_is_not_true told)), f.seen.heard m)
@@ -170,10 +163,13 @@ answer_taken_by_cases : (s : Kept) (a : AnswerMessage) (r : Register) (same new 
     → Goes s
     (if not same then after s (Err (Unknown a.number))
     else (if new
-    then after (noted (seen_row a ∷ (confirmed_row a ∷ [])) s) (Ok (heard a (Some rule)))
+    then hear_new s a r
     else after (noted (confirmed_row a ∷ []) s) (Ok (heard a None)))).service
 answer_taken_by_cases s a r false new found is = goes_same s
-answer_taken_by_cases s a r true true found is = heard_new s a r found is
+answer_taken_by_cases s a r true true found is = elim (cases_Bool (is_denied (hear_decision s a r))) [
+  | inl denied ↦ rw denied (goes_same s)
+  | inr allowed ↦ rw allowed (heard_new s a r found is)
+]
 answer_taken_by_cases s a r true false found is = heard_old s a r found is
 
 answer_taken_where_goes : (s : Kept) (a : AnswerMessage) (o : Option Register) → register a.number s.registers ≡ o → Goes s (answer_taken_where s a o).service

@@ -16,8 +16,7 @@ use Rattle.journal_rows.specs.declared.row.Row.TheVariants.{Ordered as OrderedAs
 use Rattle.call_registers.specs.Registers.{released}
 use Rattle.service_events.specs.State.{Kept, next_id}
 use Rattle.service_events.specs.Calls.{noted}
-use Rattle.service_events.specs.Messages.{rule}
-use Rattle.service_events.specs.Orders.{refused, about, original, repaired, asked_rows, order_rows, released_post, carried_out, order_by, order_where, order_event}
+use Rattle.service_events.specs.Orders.{refused, about, original, repaired, asked_rows, order_rule, order_rows, released_post, carried_out, order_by, order_where, order_event}
 use Rattle.service_events.specs.declared.refusals.OrderRefused.{OrderRefused}
 use Rattle.service_events.specs.Fits.{EachAfter, OrdersOn, calls_of_entry, calls_of_flight}
 use Rattle.service_call_laws.proofs.RowLemmas.{Each, IsPlain, IsUnseen, IsUntaken}
@@ -101,7 +100,7 @@ goes_accepted : (s : Kept) (command : Command) (token who : List ℕ) (i : Input
 goes_accepted s command token who i new =
     let t = carried_out s command who i in
     let rows = order_rows s command token who i in
-    let row : Row = OrderedAs (record { token = token; command = command; who = who; rule = rule; original = original s command; repaired = repaired s command; about = about s command }) in
+    let row : Row = OrderedAs (record { token = token; command = command; who = who; rule = order_rule s command who; original = original s command; repaired = repaired s command; about = about s command }) in
     let P : List Row → Type 0 = λ j. ordered token j ≡ None in
     goes_then s t (noted rows t) (goes_carried_out s command who i)
     (goes_plain t rows (tt, asked_plain s command i) (tt, asked_unseen s command i)
@@ -116,7 +115,7 @@ order_by_goes s command token who i None new = goes_accepted s command token who
 order_where_goes : (s : Kept) (command : Command) (token who : List ℕ) (i : Inputs) (o : Option OrderedRow) → ordered token s.journal ≡ o
     → Goes s (order_where s command token who i o).service
 order_where_goes s command token who i (Some o) is = goes_same s
-order_where_goes s command token who i None is = order_by_goes s command token who i (refused s command) is
+order_where_goes s command token who i None is = order_by_goes s command token who i (refused s command who) is
 
 pub order_goes : (s : Kept) (command : Command) (token who : List ℕ) (i : Inputs) → Goes s (order_event s command token who i).service
 order_goes s command token who i = order_where_goes s command token who i (ordered token s.journal) refl

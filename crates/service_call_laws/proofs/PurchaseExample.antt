@@ -16,6 +16,11 @@ use Rattle.request_log.specs.declared.entry.Entry.{Entry}
 use Rattle.request_log.specs.declared.entry.Made.{Made}
 use Rattle.repair_messages.specs.declared.messages.AnswerMessage.{AnswerMessage}
 use Rattle.repair_messages.specs.declared.messages.SetMessage.{SetMessage}
+use Rattle.authorise_rules.specs.declared.rule.Kinds.TheVariants.{Any as AnyKind}
+use Rattle.authorise_rules.specs.declared.rule.Rule.{Rule}
+use Rattle.authorise_rules.specs.declared.rule.Senders.TheVariants.{Any as AnySender}
+use Rattle.authorise_rules.specs.declared.rule.Users.TheVariants.{Any as AnyUser}
+use Rattle.authorise_rules.specs.declared.rule.Verb.TheVariants.{Allow}
 use Rattle.journal_rows.specs.declared.caller.AckHow.TheVariants.{WithAnswer}
 use Rattle.journal_rows.specs.declared.callee.TookHow.TheVariants.{Live, Message}
 use Rattle.journal_rows.specs.declared.caller.SawHow.TheVariants.{Live as SawLive}
@@ -45,9 +50,13 @@ bank_name = 98 ∷ (97 ∷ (110 ∷ (107 ∷ [])))
 abbrev pub ok : Response
 ok = record { status = 200; body = 111 ∷ (107 ∷ []) }
 
+-- a rule that allows every repair
+abbrev pub allow_any : Rule
+allow_any = record { verb = Allow; kind = AnyKind; from = AnySender; who = AnyUser; prefix = [] }
+
 module _ (setting : Setting) (buy pay : Request) (i : Inputs) (read : List Read) (written : List Write) (token ann : List ℕ) where
   abbrev pub start : Kept
-  start = record { setting = setting; entries = []; flights = []; journal = []; registers = []; replies = [] }
+  start = record { setting = setting; rules = allow_any ∷ []; entries = []; flights = []; journal = []; registers = []; replies = [] }
 
   abbrev pub call : CallMade
   call = record { dest = bank_name; request = pay }
