@@ -21,6 +21,8 @@ pub mod RepairRuns
 pub mod GrowthLemmas
 pub mod OwnLemmas
 pub mod AloftLemmas
+pub mod AskedLemmas
+pub mod KnownLaws
 pub mod LiveRuns
 pub mod LiveEvents
 pub mod RepairEvents

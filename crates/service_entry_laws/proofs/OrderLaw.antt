@@ -30,8 +30,7 @@ use Rattle.call_registers.specs.Replies.{reply, released as released_reply}
 use Rattle.call_registers.specs.declared.reply.Reply.{Reply}
 use Rattle.service_events.specs.Calls.{noted}
 use Rattle.service_events.specs.Fits.{IsOrderAbout, TellsRequests, IsAsNow, HasAnswered, HasReply, IsReply, made_as, asked_as, answer_given, takes_request, request_found}
-use Rattle.service_events.specs.Messages.{rule}
-use Rattle.service_events.specs.Orders.{entry_of, unless_there, unless_outside, unless_replaced, misnamed, is_too_much, refused, about, request_of, order_rows, released_post, carried_out, order_by, order_where, order_event}
+use Rattle.service_events.specs.Orders.{entry_of, unless_there, unless_outside, unless_replaced, misnamed, is_too_much, refused, order_decision, order_rule, unless_allowed, about, request_of, order_rows, released_post, carried_out, order_by, order_where, order_event}
 use Rattle.service_events.specs.State.{Kept, after, next_id, or_else}
 use Rattle.service_events.specs.declared.answers.Ordered.{Ordered}
 use Rattle.service_events.specs.declared.refusals.OrderRefused.{OrderRefused}
@@ -43,7 +42,7 @@ use Rattle.service_entry_laws.proofs.LiveLaws.{LeavesLogged}
 use Rattle.service_entry_laws.proofs.LogLemmas.{IsWith, with_insert, with_changed}
 use Rattle.service_entry_laws.proofs.PartLemmas.{IsLogged, logged_none, logged_one, request_same}
 use Rattle.service_entry_laws.proofs.RowLemmas.{IsAboutEntry}
-use Rattle.service_entry_laws.proofs.SearchLemmas.{found_all, length_insert, if_some, or_none}
+use Rattle.service_entry_laws.proofs.SearchLemmas.{neither, found_all, length_insert, if_some, or_none}
 
 -- ---- an order about an entry, which changes what is asked of it or strikes it
 
@@ -252,7 +251,7 @@ module _ (s : Kept) (h : IsLogged s.journal s.entries s.replies) where
   some_replaced m p b (Some v) e is before same = (let one : v ≡ e = cc in ap (λ (w : Entry). with_call m p b w.request) (sym one))
 
   -- what an order finds is what the journal says that the entry asks by then
-  found_as_told : (id : ℕ) → request_of id s ≡ request_found (AboutRequest id) s.journal
+  pub found_as_told : (id : ℕ) → request_of id s ≡ request_found (AboutRequest id) s.journal
   found_as_told id = by (entry_of id s) (asked id s.journal) refl refl (h.asked.entries id)
     where
       by : (o : Option Entry) (made : Option AskedRow) → find (has_id id) s.entries ≡ o → asked id s.journal ≡ made → option_map made_as o ≡ option_map asked_as made
@@ -273,37 +272,43 @@ module _ (s : Kept) (h : IsLogged s.journal s.entries s.replies) where
   ordered_logged_by (Cancel id) token who i full ok =
       (let at = there_is id (entry_of id s) full ok in
       ordered_one s.journal s.entries s.replies h
-      (record { token = token; command = Cancel id; who = who; rule = rule; original = request_of id s; repaired = None; about = AboutRequest id }) id refl at.0 at.1
+      (record { token = token; command = Cancel id; who = who; rule = order_rule s (Cancel id) who; original = request_of id s; repaired = None; about = AboutRequest id }) id refl at.0 at.1
       (mark true at.0) refl (λ before same. same) refl (is_there id at.0 at.1) (found_as_told id, refl) (changed id (mark true) s.entries)
       (with_changed s.entries id (mark true) at.0 at.1 refl refl h.asked.distinct) (length-map s.entries (λ e. cond (has_id id e) (mark true e) e)))
   ordered_logged_by (Restore id) token who i full ok =
       (let at = there_is id (entry_of id s) full ok in
       ordered_one s.journal s.entries s.replies h
-      (record { token = token; command = Restore id; who = who; rule = rule; original = request_of id s; repaired = None; about = AboutRequest id }) id refl at.0 at.1
+      (record { token = token; command = Restore id; who = who; rule = order_rule s (Restore id) who; original = request_of id s; repaired = None; about = AboutRequest id }) id refl at.0 at.1
       (mark false at.0) refl (λ before same. same) refl (is_there id at.0 at.1) (found_as_told id, refl) (changed id (mark false) s.entries)
       (with_changed s.entries id (mark false) at.0 at.1 refl refl h.asked.distinct) (length-map s.entries (λ e. cond (has_id id e) (mark false e) e)))
   ordered_logged_by (Replace id m p b) token who i full ok =
       (let at = replaced_is id (entry_of id s) full ok in
       ordered_one s.journal s.entries s.replies h
-      (record { token = token; command = Replace id m p b; who = who; rule = rule; original = request_of id s; repaired = option_map (with_call m p b) (request_of id s); about = AboutRequest id }) id refl at.0 at.1
+      (record { token = token; command = Replace id m p b; who = who; rule = order_rule s (Replace id m p b) who; original = request_of id s; repaired = option_map (with_call m p b) (request_of id s); about = AboutRequest id }) id refl at.0 at.1
       (replace m p b at.0) refl (some_replaced m p b (entry_of id s) at.0 at.1) refl (is_outside id at.0 at.1 at.2) (found_as_told id, refl) (changed id (replace m p b) s.entries)
       (with_changed s.entries id (replace m p b) at.0 at.1 refl refl h.asked.distinct) (length-map s.entries (λ e. cond (has_id id e) (replace m p b e) e)))
   ordered_logged_by (Create before after q) token who i full ok =
       ordered_new
-      (record { token = token; command = Create before after q; who = who; rule = rule; original = None; repaired = Some q; about = AboutRequest (next_id s) }) q i (place_between before after s.entries) refl tt
+      (record { token = token; command = Create before after q; who = who; rule = order_rule s (Create before after q) who; original = None; repaired = Some q; about = AboutRequest (next_id s) }) q i (place_between before after s.entries) refl tt
       (sym (ap (option_map (λ (a : AskedRow). request_now (next_id s) a.origin a.request s.journal)) (unmade s.journal s.entries s.replies h)), refl) (λ r. refl) refl
   ordered_logged_by (Retry name) token who i full ok =
       retried (s.journal ++ order_rows s (Retry name) token who i) who name
-      (post_ordered (record { token = token; command = Retry name; who = who; rule = rule; original = None; repaired = None; about = AboutPost name }) name refl (refl, refl))
+      (post_ordered (record { token = token; command = Retry name; who = who; rule = order_rule s (Retry name) who; original = None; repaired = None; about = AboutPost name }) name refl (refl, refl))
 
-  order_by_logged : (command : Command) (token who : List ℕ) (i : Inputs) (o : Option OrderRefused) → refused s command ≡ o → LeavesLogged (order_by s command token who i o)
+  -- what isn't refused is well named, and there isn't too much
+  well_named : (command : Command) (who : List ℕ) → refused s command who ≡ None
+      → or_else (misnamed s command) (option_map (λ n. OrderRefused.Full n) (is_too_much s command)) ≡ None
+  well_named command who none =
+      (neither (or_else (misnamed s command) (option_map (λ n. OrderRefused.Full n) (is_too_much s command))) (unless_allowed (order_decision s command who)) none).0
+
+  order_by_logged : (command : Command) (token who : List ℕ) (i : Inputs) (o : Option OrderRefused) → refused s command who ≡ o → LeavesLogged (order_by s command token who i o)
   order_by_logged command token who i (Some why) is = h
-  order_by_logged command token who i None is = journal_by command token who i (ordered_logged_by command token who i (option_map (λ n. OrderRefused.Full n) (is_too_much s command)) is)
+  order_by_logged command token who i None is = journal_by command token who i (ordered_logged_by command token who i (option_map (λ n. OrderRefused.Full n) (is_too_much s command)) (well_named command who is))
     where
       -- the rows come behind the journal, which nothing else changes
       journal_by : (command : Command) (token who : List ℕ) (i : Inputs)
           → IsLogged (s.journal ++ order_rows s command token who i) (carried_out s command who i).entries (carried_out s command who i).replies
-          → LeavesLogged {A = Result Ordered OrderRefused} (after (noted (order_rows s command token who i) (carried_out s command who i)) (Ok (record { about = about s command; rule = rule })))
+          → LeavesLogged {A = Result Ordered OrderRefused} (after (noted (order_rows s command token who i) (carried_out s command who i)) (Ok (record { about = about s command; rule = order_rule s command who })))
       journal_by command token who i l = subst (λ k. IsLogged (k ++ order_rows s command token who i) (carried_out s command who i).entries (carried_out s command who i).replies) (sym (journal_stays command who i)) l
         where
           journal_stays : (command : Command) (who : List ℕ) (i : Inputs) → (carried_out s command who i).journal ≡ s.journal
@@ -316,7 +321,7 @@ module _ (s : Kept) (h : IsLogged s.journal s.entries s.replies) where
 
   order_where_logged : (command : Command) (token who : List ℕ) (i : Inputs) (o : Option OrderedRow) → LeavesLogged (order_where s command token who i o)
   order_where_logged command token who i (Some o) = h
-  order_where_logged command token who i None = order_by_logged command token who i (refused s command) refl
+  order_where_logged command token who i None = order_by_logged command token who i (refused s command who) refl
 
   pub order_logged : (command : Command) (token who : List ℕ) (i : Inputs) → LeavesLogged (order_event s command token who i)
   order_logged command token who i = order_where_logged command token who i (ordered token s.journal)

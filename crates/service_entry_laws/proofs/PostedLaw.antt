@@ -22,13 +22,14 @@ use Rattle.call_registers.specs.declared.register.Register.{Register}
 use Rattle.call_registers.specs.declared.reply.Reply.{Reply}
 use Rattle.service_events.specs.Calls.{noted}
 use Rattle.service_events.specs.Fits.{IsAsNow, HasAnswered, HasReply, IsReply, made_as, asked_as, answer_given}
-use Rattle.service_events.specs.Messages.{rule, heard, seen_row, confirmed_row, answer_taken_by, answer_taken_where, take_answer_event, is_version, had_answer, is_confirm_of, replies_to, had, is_now, hold_of, held_back, held_where, saw_ack_row, was_confirmed_row, posted, posted_event}
+use Rattle.service_events.specs.Messages.{heard, seen_row, hear_rule, hear_new, confirmed_row, answer_taken_by, answer_taken_where, take_answer_event, is_version, had_answer, is_confirm_of, replies_to, had, is_now, hold_of, held_back, held_where, saw_ack_row, was_confirmed_row, posted, posted_event}
 use Rattle.service_events.specs.State.{Kept, after, me}
 use Rattle.service_events.specs.declared.answers.PostReply.{PostReply}
 use Rattle.service_events.specs.declared.answers.PostReply.TheVariants.{Acked as WasAcked, Confirmed as WasConfirmedBack, Refused, Lost}
 use Rattle.service_events.specs.declared.answers.Posted.TheVariants.{Held, Left}
 use Rattle.service_events.specs.declared.refusals.AnswerRefused.{AnswerRefused}
 use Rattle.service_events.specs.declared.refusals.PostRefused.TheVariants.{Foreign}
+use Rattle.service_entry_laws.proofs.AskedLemmas.{hear_either}
 use Rattle.service_entry_laws.proofs.CallerLaws.{callers_logged}
 use Rattle.service_entry_laws.proofs.EntryLemmas.{asks_same_after, made_from, version_given, still_called, found_itself}
 use Rattle.service_entry_laws.proofs.LiveLaws.{LeavesLogged}
@@ -44,10 +45,10 @@ module _ (s : Kept) (h : IsLogged s.journal s.entries s.replies) (a : AnswerMess
   answer_taken_by_logged : (r : Register) → LeavesLogged (answer_taken_by s a r)
   answer_taken_by_logged r =
       cond_both (not (same_text r.dest a.callee)) (after s (Err (AnswerRefused.Unknown a.number)))
-      (cond (is_newer r.answer a.answer_version) (after (noted (seen_row a ∷ (confirmed_row a ∷ [])) s) (Ok (heard a (Some rule)))) (after (noted (confirmed_row a ∷ []) s) (Ok (heard a None)))) LeavesLogged
+      (cond (is_newer r.answer a.answer_version) (hear_new s a r) (after (noted (confirmed_row a ∷ []) s) (Ok (heard a None)))) LeavesLogged
       (λ _. h)
-      (λ _. cond_both (is_newer r.answer a.answer_version) (after (noted (seen_row a ∷ (confirmed_row a ∷ [])) s) (Ok (heard a (Some rule)))) (after (noted (confirmed_row a ∷ []) s) (Ok (heard a None))) LeavesLogged
-      (λ _. callers_logged s.journal (seen_row a ∷ (confirmed_row a ∷ [])) s.entries s.replies (tt, (tt, tt)) h)
+      (λ _. cond_both (is_newer r.answer a.answer_version) (hear_new s a r) (after (noted (confirmed_row a ∷ []) s) (Ok (heard a None))) LeavesLogged
+      (λ _. hear_either s a r LeavesLogged h (callers_logged s.journal (seen_row (hear_rule s a r) a ∷ (confirmed_row a ∷ [])) s.entries s.replies (tt, (tt, tt)) h))
       (λ _. callers_logged s.journal (confirmed_row a ∷ []) s.entries s.replies (tt, tt) h))
 
   answer_taken_where_logged : (o : Option Register) → LeavesLogged (answer_taken_where s a o)

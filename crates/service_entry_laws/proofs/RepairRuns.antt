@@ -22,7 +22,7 @@ use Rattle.call_registers.specs.declared.register.Hold.{Hold}
 use Rattle.call_registers.specs.declared.register.Register.{Register}
 use Rattle.create_placement.specs.Placement.{place_between, created}
 use Rattle.service_events.specs.Calls.{noted}
-use Rattle.service_events.specs.Messages.{rule, taken, origin_of, is_known, is_too_much, acked_again, created_entry, created_place, at_version, taken_by, take_admitted, take_event, heard, seen_row, confirmed_row, answer_taken_by, answer_taken_where, take_answer_event, replies_to, had, is_now, hold_of, held_back, held_where, posted, posted_event}
+use Rattle.service_events.specs.Messages.{taken, take_new, origin_of, is_known, is_too_much, acked_again, created_entry, created_place, at_version, taken_by, take_admitted, take_event, heard, hear_new, confirmed_row, answer_taken_by, answer_taken_where, take_answer_event, replies_to, had, is_now, hold_of, held_back, held_where, posted, posted_event}
 use Rattle.service_events.specs.Orders.{refused, carried_out, order_by, order_where, order_event}
 use Rattle.service_events.specs.State.{Kept, After, after, answers, next_id, is_in_flight, base}
 use Rattle.service_events.specs.Steps.{new_record, new_numbers, Stale, stale_in, step_by, step_event}
@@ -33,6 +33,7 @@ use Rattle.service_events.specs.declared.refusals.AnswerRefused.{AnswerRefused}
 use Rattle.service_events.specs.declared.refusals.OrderRefused.{OrderRefused}
 use Rattle.service_events.specs.declared.refusals.PostRefused.TheVariants.{Foreign}
 use Rattle.service_events.specs.declared.refusals.TakeRefused.{TakeRefused}
+use Rattle.service_entry_laws.proofs.AskedLemmas.{take_either, hear_either}
 use Rattle.service_entry_laws.proofs.RunLemmas.{HasRun, new_is_run, runs_insert, runs_with, runs_changed}
 use Rattle.service_entry_laws.proofs.SearchLemmas.{found_all}
 
@@ -63,8 +64,9 @@ module _ (s : Kept) (h : AllRuns s.setting s.entries) where
   admitted_runs : (set : SetMessage) (i : Inputs) (full : Option ℕ) → LeavesRuns (take_admitted s set i full)
   admitted_runs set i (Some n) = h
   admitted_runs set i None =
-      cond_both (is_known s set) (after (acked_again s set) (Ok (taken set None))) (after (taken_by s set i (find_call (origin_of set) s.entries) set.desired) (Ok (taken set (Some rule)))) LeavesRuns
-      (λ _. h) (λ _. taken_by_runs set i (find_call (origin_of set) s.entries) set.desired refl)
+      cond_both (is_known s set) (after (acked_again s set) (Ok (taken set None))) (take_new s set i) LeavesRuns
+      (λ _. h)
+      (λ _. take_either s set i LeavesRuns h (taken_by_runs set i (find_call (origin_of set) s.entries) set.desired refl))
 
   pub take_runs : (set : SetMessage) (i : Inputs) → LeavesRuns (take_event s set i)
   take_runs set i =
@@ -76,10 +78,11 @@ module _ (s : Kept) (h : AllRuns s.setting s.entries) where
   answer_taken_by_runs : (a : AnswerMessage) (r : Register) → LeavesRuns (answer_taken_by s a r)
   answer_taken_by_runs a r =
       cond_both (not (same_text r.dest a.callee)) (after s (Err (AnswerRefused.Unknown a.number)))
-      (cond (is_newer r.answer a.answer_version) (after (noted (seen_row a ∷ (confirmed_row a ∷ [])) s) (Ok (heard a (Some rule)))) (after (noted (confirmed_row a ∷ []) s) (Ok (heard a None)))) LeavesRuns
+      (cond (is_newer r.answer a.answer_version) (hear_new s a r) (after (noted (confirmed_row a ∷ []) s) (Ok (heard a None)))) LeavesRuns
       (λ _. h)
-      (λ _. cond_both (is_newer r.answer a.answer_version) (after (noted (seen_row a ∷ (confirmed_row a ∷ [])) s) (Ok (heard a (Some rule)))) (after (noted (confirmed_row a ∷ []) s) (Ok (heard a None))) LeavesRuns
-      (λ _. h) (λ _. h))
+      (λ _. cond_both (is_newer r.answer a.answer_version) (hear_new s a r) (after (noted (confirmed_row a ∷ []) s) (Ok (heard a None))) LeavesRuns
+      (λ _. hear_either s a r LeavesRuns h h)
+      (λ _. h))
 
   answer_taken_where_runs : (a : AnswerMessage) (o : Option Register) → LeavesRuns (answer_taken_where s a o)
   answer_taken_where_runs a None = h
@@ -125,7 +128,7 @@ module _ (s : Kept) (h : AllRuns s.setting s.entries) where
 
   order_where_runs : (command : Command) (token who : List ℕ) (i : Inputs) (o : Option OrderedRow) → LeavesRuns (order_where s command token who i o)
   order_where_runs command token who i (Some o) = h
-  order_where_runs command token who i None = order_by_runs command token who i (refused s command)
+  order_where_runs command token who i None = order_by_runs command token who i (refused s command who)
 
   pub order_runs : (command : Command) (token who : List ℕ) (i : Inputs) → LeavesRuns (order_event s command token who i)
   order_runs command token who i = order_where_runs command token who i (ordered token s.journal)

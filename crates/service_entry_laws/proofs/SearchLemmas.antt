@@ -4,6 +4,7 @@ use Rattle.std.specs.List.{position_or_len}
 use Rattle.std.proofs.lemmas.Bool.{cases_Bool, and_parts, eqb-true}
 use Rattle.std.proofs.lemmas.List.Elements.{All-head, All-tail}
 use Rattle.lang_base.specs.Texts.{same_text}
+use Rattle.service_events.specs.State.{or_else}
 
 pub text_is : (a b : List ℕ) → same_text a b ≡ true → a ≡ b
 text_is [] [] h = refl
@@ -34,6 +35,10 @@ if_some (Some y) x P e p = (let is : y ≡ x = cc in subst P (sym is) p)
 pub or_none : (a b : Bool) → b ≡ false → (a || b) ≡ a
 or_none true b h = refl
 or_none false b h = h
+
+pub neither : {X : Type 0} (a b : Option X) → or_else a b ≡ None → (a ≡ None) × (b ≡ None)
+neither None b h = (refl, h)
+neither (Some x) b h = cc
 
 pub none_first : {X : Type 0} (b : Bool) (x : X) (o : Option X) → cond b (Some x) o ≡ None → (b ≡ false) × (o ≡ None)
 none_first true x o e = cc

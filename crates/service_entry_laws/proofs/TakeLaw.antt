@@ -24,9 +24,10 @@ use Rattle.call_registers.specs.Replies.{reply, at_entry, with_taken, made_due}
 use Rattle.call_registers.specs.declared.reply.Reply.{Reply}
 use Rattle.call_registers.proofs.ReplyLemmas.{rising_push}
 use Rattle.service_events.specs.Fits.{IsAsNow, HasAnswered, HasReply, IsReply, made_as, asked_as, answer_given, takes_request}
-use Rattle.service_events.specs.Messages.{rule, taken, origin_of, is_known, is_too_much, acked_row, took_row, acked_again, at_reply_of, created_entry, created_reply, created_place, at_version, taken_by, take_admitted, take_event}
+use Rattle.service_events.specs.Messages.{taken, take_rule, take_new, origin_of, is_known, is_too_much, acked_row, took_row, acked_again, at_reply_of, created_entry, created_reply, created_place, at_version, taken_by, take_admitted, take_event}
 use Rattle.service_events.specs.State.{Kept, after, next_id, is_in_flight}
 use Rattle.service_events.specs.declared.refusals.TakeRefused.{TakeRefused}
+use Rattle.service_entry_laws.proofs.AskedLemmas.{take_either}
 use Rattle.service_entry_laws.proofs.CallerLaws.{all_same}
 use Rattle.service_entry_laws.proofs.CommitLaw.{took_here}
 use Rattle.service_entry_laws.proofs.EntryLemmas.{asks_same_after, found_by_call, still_called, and_always}
@@ -39,10 +40,10 @@ use Rattle.service_entry_laws.proofs.SearchLemmas.{found_all, length_insert, som
 
 module _ (s : Kept) (h : IsLogged s.journal s.entries s.replies) (set : SetMessage) where
   abbrev two : List Row
-  two = took_row set ∷ (acked_row set ∷ [])
+  two = took_row s set ∷ (acked_row set ∷ [])
 
   abbrev told : TookRow
-  told = record { caller = set.caller; number = set.number; version = set.version; desired = set.desired; how = Message; who = set.who; rule = 1 }
+  told = record { caller = set.caller; number = set.number; version = set.version; desired = set.desired; how = Message; who = set.who; rule = take_rule s set }
 
   -- ---- a version that is known is acknowledged again
 
@@ -117,13 +118,13 @@ module _ (s : Kept) (h : IsLogged s.journal s.entries s.replies) (set : SetMessa
   above : is_known s set ≡ false → taken_version set.caller set.number s.journal < set.version
   above new = leb-false set.version (taken_version set.caller set.number s.journal) new
 
-  took_last : last_taken set.caller set.number (s.journal ++ took_row set ∷ [])
+  took_last : last_taken set.caller set.number (s.journal ++ took_row s set ∷ [])
       ≡ Some told
   took_last = took_here set.caller set.number s.journal
       told refl refl
 
-  within : set.version ≤ taken_version set.caller set.number (s.journal ++ took_row set ∷ [])
-  within = (let is : taken_version set.caller set.number (s.journal ++ took_row set ∷ []) ≡ set.version = ap version_in took_last in omega (arith, is))
+  within : set.version ≤ taken_version set.caller set.number (s.journal ++ took_row s set ∷ [])
+  within = (let is : taken_version set.caller set.number (s.journal ++ took_row s set ∷ []) ≡ set.version = ap version_in took_last in omega (arith, is))
 
   two_may : is_known s set ≡ false → MayCome s.journal two
   two_may new = record { takes = ((above new, tt), (within, tt)); asks = (tt, (tt, tt)); answers = (tt, (tt, tt)); confirms = (tt, (tt, tt)) }
@@ -233,7 +234,7 @@ module _ (s : Kept) (h : IsLogged s.journal s.entries s.replies) (set : SetMessa
     asks = record { id = next_id s; origin = Call set.caller set.number; request = q; inputs = i }
 
     abbrev three : List Row
-    three = took_row set ∷ (Asked (record { id = next_id s; origin = Call set.caller set.number; request = q; inputs = i }) ∷ (acked_row set ∷ []))
+    three = took_row s set ∷ (Asked (record { id = next_id s; origin = Call set.caller set.number; request = q; inputs = i }) ∷ (acked_row set ∷ []))
 
     own : nat_eq (next_id s) (next_id s) ≡ true
     own = eq-eqb (next_id s) (next_id s) refl
@@ -263,15 +264,15 @@ module _ (s : Kept) (h : IsLogged s.journal s.entries s.replies) (set : SetMessa
     three_mark = fold-append (mark_step (next_id s) set.caller set.number) Unsettled s.journal three
         ∙ cond-true (is_call set.caller set.number (Call set.caller set.number)) Unsettled (last_mark (next_id s) set.caller set.number s.journal) (itself set.caller set.number)
 
-    three_within : set.version ≤ taken_version set.caller set.number ((s.journal ++ took_row set ∷ []) ++ Asked (record { id = next_id s; origin = Call set.caller set.number; request = q; inputs = i }) ∷ [])
+    three_within : set.version ≤ taken_version set.caller set.number ((s.journal ++ took_row s set ∷ []) ++ Asked (record { id = next_id s; origin = Call set.caller set.number; request = q; inputs = i }) ∷ [])
     three_within =
-        (let is : taken_version set.caller set.number ((s.journal ++ took_row set ∷ []) ++ Asked (record { id = next_id s; origin = Call set.caller set.number; request = q; inputs = i }) ∷ []) ≡ set.version =
-        ap version_in (fold_push (taken_step set.caller set.number) None (s.journal ++ took_row set ∷ []) (Asked asks) ∙ took_last) in omega (arith, is))
+        (let is : taken_version set.caller set.number ((s.journal ++ took_row s set ∷ []) ++ Asked (record { id = next_id s; origin = Call set.caller set.number; request = q; inputs = i }) ∷ []) ≡ set.version =
+        ap version_in (fold_push (taken_step set.caller set.number) None (s.journal ++ took_row s set ∷ []) (Asked asks) ∙ took_last) in omega (arith, is))
 
     three_may : MayCome s.journal three
     three_may = record {
       takes = ((above new, tt), (tt, (three_within, tt)));
-      asks = (tt, (ap (λ k. k + 1) (h.asked.count ∙ sym (fold_push count_step 0 s.journal (took_row set))), (tt, tt)));
+      asks = (tt, (ap (λ k. k + 1) (h.asked.count ∙ sym (fold_push count_step 0 s.journal (took_row s set))), (tt, tt)));
       answers = (tt, (tt, (tt, tt)));
       confirms = (tt, (tt, (tt, tt)));
     }
@@ -329,9 +330,9 @@ module _ (s : Kept) (h : IsLogged s.journal s.entries s.replies) (set : SetMessa
   admitted_logged : (i : Inputs) (full : Option ℕ) → LeavesLogged (take_admitted s set i full)
   admitted_logged i (Some n) = h
   admitted_logged i None =
-      cond_both (is_known s set) (after (acked_again s set) (Ok (taken set None))) (after (taken_by s set i (find_call (Call set.caller set.number) s.entries) set.desired) (Ok (taken set (Some rule)))) LeavesLogged
+      cond_both (is_known s set) (after (acked_again s set) (Ok (taken set None))) (take_new s set i) LeavesLogged
       (λ known. again_by known (find_call (Call set.caller set.number) s.entries) refl)
-      (λ new. taken_by_logged new i (find_call (Call set.caller set.number) s.entries) set.desired refl refl)
+      (λ new. take_either s set i LeavesLogged h (taken_by_logged new i (find_call (Call set.caller set.number) s.entries) set.desired refl refl))
 
   pub take_logged : (i : Inputs) → LeavesLogged (take_event s set i)
   take_logged i =
