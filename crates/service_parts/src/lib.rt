@@ -1,9 +1,10 @@
-//! What a service with calls keeps, part by part; rows that are drafted beside it, with what they change of the registers; and how
-//! such a draft is put in place.
+//! What a service with calls keeps, part by part; what its rules decide of a repair; rows that are drafted beside it, with what they
+//! change of the registers; and how such a draft is put in place.
 #![tactic(auto)]
 
 mod answers;
 mod applying;
+mod asking;
 mod draft;
 mod entries;
 mod limits;
@@ -14,6 +15,7 @@ mod view;
 
 pub use answers::last_answer;
 pub use applying::{note_draft, push_rows, reserve, reserve_draft};
+pub use asking::{decision_by, path_of};
 pub use draft::{Draft, next_index, next_number, note, start, tell};
 pub use entries::{created, insert, next_id, next_in};
 pub use limits::{is_crowded, is_heavy};
