@@ -19,4 +19,5 @@ pub mod StepLaws
 pub mod StepBoundLaws
 pub mod DoneLaws
 pub mod RoomLemmas
+pub mod AllowedLaws
 pub mod ServiceLaws

@@ -1,9 +1,8 @@
 -- Events of messages and orders keep the ages of calls and replies.
-use Rattle.std.proofs.Common.{◌≡◌, ℕ, ◌+◌, Bool, true, false, ◌&&◌, not, List, [], ◌∷◌, ◌++◌, Option, Some, None, Ok, Err, length, is_some, nat_eq, refl, sym, ap, ◌∙◌, subst, inl, inr, arith, eqb-true, eq-eqb, if◌then◌else◌}
+use Rattle.std.proofs.Common.{◌≡◌, ℕ, ◌+◌, Bool, true, false, ◌&&◌, not, List, [], ◌∷◌, ◌++◌, Option, Some, None, Ok, Err, length, is_some, nat_eq, refl, sym, ap, ◌∙◌, inl, inr, arith, eqb-true, eq-eqb, if◌then◌else◌}
 use Rattle.std.specs.Cmp.Lexicographic.{nat_list_eq_equiv}
-use Rattle.std.proofs.lemmas.Bool.{cases_Bool, cond_both, and_parts, and_from}
+use Rattle.std.proofs.lemmas.Bool.{cond_both, and_parts, and_from}
 use Rattle.lang_base.specs.Texts.{same_text}
-use Rattle.lang_core.specs.declared.ids.Origin.TheVariants.{Call}
 use Rattle.lang_core.specs.declared.inputs.Inputs.{Inputs}
 use Rattle.lang_core.specs.declared.request.Request.{Request}
 use Rattle.request_log.specs.Entries.{has_id, find_call}
@@ -19,7 +18,7 @@ use Rattle.journal_rows.specs.declared.orders.Command.{Command}
 use Rattle.journal_rows.specs.declared.orders.Command.TheVariants.{Cancel, Restore, Replace, Create, Retry}
 use Rattle.journal_rows.specs.declared.orders.OrderedRow.{OrderedRow}
 use Rattle.journal_rows.specs.declared.row.Row.{Row}
-use Rattle.journal_rows.specs.declared.row.Row.TheVariants.{Acked, Asked, WasConfirmed}
+use Rattle.journal_rows.specs.declared.row.Row.TheVariants.{Asked}
 use Rattle.call_registers.specs.Registers.{register, is_newer, with_hold, released}
 use Rattle.call_registers.specs.Replies.{has_entry, reply, at_entry, with_taken, with_confirm, made_due, with_hold as with_reply_hold, released as released_reply}
 use Rattle.call_registers.specs.declared.register.Hold.{Hold}
@@ -28,7 +27,7 @@ use Rattle.call_registers.specs.declared.reply.Reply.{Reply}
 use Rattle.service_events.specs.Ages.{marks_reply}
 use Rattle.service_events.specs.Calls.{noted}
 use Rattle.service_events.specs.Fits.{Fits}
-use Rattle.service_events.specs.Messages.{rule, origin_of, is_known, is_too_much, acked_row, took_row, at_reply_of, acked_again, created_reply, taken_by, taken, take_admitted, take_event, seen_row, confirmed_row, heard, answer_taken_where, take_answer_event, had, had_answer, is_version, is_confirm_of, replies_to, is_now, hold_of, held_back, held_where, saw_ack_row, was_confirmed_row, posted, posted_event}
+use Rattle.service_events.specs.Messages.{take_new, origin_of, is_known, is_too_much, acked_row, took_row, at_reply_of, acked_again, created_reply, taken_by, taken, take_admitted, take_event, seen_row, hear_rule, hear_new, confirmed_row, heard, answer_taken_where, take_answer_event, had, had_answer, is_version, replies_to, is_now, hold_of, held_back, held_where, saw_ack_row, was_confirmed_row, posted, posted_event}
 use Rattle.service_events.specs.Orders.{refused, asked_rows, order_rows, carried_out, order_by, order_where, order_event}
 use Rattle.service_events.specs.State.{Kept, After, after, me, next_id, is_in_flight}
 use Rattle.service_events.specs.declared.answers.PostReply.{PostReply}
@@ -37,15 +36,15 @@ use Rattle.service_events.specs.declared.answers.Posted.TheVariants.{Held, Left}
 use Rattle.service_events.specs.declared.refusals.AnswerRefused.TheVariants.{Unknown}
 use Rattle.service_events.specs.declared.refusals.OrderRefused.{OrderRefused}
 use Rattle.service_events.specs.declared.refusals.PostRefused.TheVariants.{Foreign}
-use Rattle.service_events.specs.declared.refusals.TakeRefused.TheVariants.{Full, NotYet}
+use Rattle.service_events.specs.declared.refusals.TakeRefused.TheVariants.{NotYet}
+use Rattle.service_entry_laws.proofs.AskedLemmas.{take_either, hear_either}
 use Rattle.service_entry_laws.proofs.PostedLaw.{IsOfEntry}
 use Rattle.service_entry_laws.proofs.SearchLemmas.{some_or_none, splits, text_is}
 use Rattle.service_call_laws.proofs.CallLaws.{IsFew}
 use Rattle.service_call_laws.proofs.FlightLemmas.{each_found}
-use Rattle.service_call_laws.proofs.OrderLaws.{same_journal}
 use Rattle.service_call_laws.proofs.RowLemmas.{Each, each_append, each_weaker}
-use Rattle.service_laws.proofs.AgeLaws.{AgesOf, AllMarked, keeps_ages, IsStep, step_noted, step_marked, each_all}
-use Rattle.service_laws.proofs.AgeLemmas.{Ages, ages_stay, ages_noted, ages_then, ages_same, KeepsAge, IsMarked, IsUnmarked, MarksNone, all_unmarked, unmarked, unmarked-append, replies_stay, reply_marked, replies_kept, none_any, each_both, last_here}
+use Rattle.service_laws.proofs.AgeLaws.{AgesOf, AllMarked, keeps_ages, IsStep, step_noted, step_marked}
+use Rattle.service_laws.proofs.AgeLemmas.{Ages, ages_stay, ages_noted, ages_then, ages_same, KeepsAge, IsMarked, IsUnmarked, MarksNone, unmarked, unmarked-append, replies_stay, reply_marked, replies_kept, none_any, last_here}
 use Rattle.service_laws.proofs.FitLaws.{take_fits, take_answer_fits, posted_fits, order_fits}
 use Rattle.service_laws.proofs.OwnedLemmas.{is_to, owned, to_its, to_none, to_others, to_own}
 
@@ -108,29 +107,30 @@ again_aged s f set = (
 taken_aged : (s : Kept) (f : Fits s) (set : SetMessage) (i : Inputs) (e : Option Entry) (d : Option Request) → find_call (origin_of set) s.entries ≡ e
     → Ages s (taken_by s set i e d) × (AllMarked s → AllMarked (taken_by s set i e d))
 taken_aged s f set i (Some e) d is = (
-  ages_noted s (taken_by s set i (Some e) d) (took_row set ∷ (acked_row set ∷ [])) refl refl,
-  acked_own s f set (took_row set ∷ []) (tt, tt) e (λ p. made_due (length s.journal + 1) (with_taken set.version (is_some set.desired) p)) is (λ p. (refl, refl, refl, omega arith)),
+  ages_noted s (taken_by s set i (Some e) d) (took_row s set ∷ (acked_row set ∷ [])) refl refl,
+  acked_own s f set (took_row s set ∷ []) (tt, tt) e (λ p. made_due (length s.journal + 1) (with_taken set.version (is_some set.desired) p)) is (λ p. (refl, refl, refl, omega arith)),
 )
 taken_aged s f set i None (Some q) is =
     let asks = Asked (record { id = next_id s; origin = origin_of set; request = q; inputs = i }) in
-    let rows = took_row set ∷ (asks ∷ []) in
+    let rows = took_row s set ∷ (asks ∷ []) in
     let it = and_from (same_text set.caller set.caller) (nat_eq set.number set.number) (nat_list_eq_equiv.refl set.caller) (eq-eqb set.number set.number refl) in (
-      ages_noted s (taken_by s set i None (Some q)) (took_row set ∷ (asks ∷ (acked_row set ∷ []))) refl refl,
+      ages_noted s (taken_by s set i None (Some q)) (took_row s set ∷ (asks ∷ (acked_row set ∷ []))) refl refl,
       λ h. each_append (IsMarked (s.journal ++ (rows ++ acked_row set ∷ []))) s.replies (created_reply s set ∷ [])
           (acked_none s f set rows (tt, (tt, tt)) is h)
           (last_here (marks_reply (created_reply s set)) s.journal rows (acked_row set) [] (length s.journal + 2) refl it refl, tt),
     )
 taken_aged s f set i None None is = (
-  ages_noted s (taken_by s set i None None) (took_row set ∷ (acked_row set ∷ [])) refl refl,
-  acked_none s f set (took_row set ∷ []) (tt, tt) is,
+  ages_noted s (taken_by s set i None None) (took_row s set ∷ (acked_row set ∷ [])) refl refl,
+  acked_none s f set (took_row s set ∷ []) (tt, tt) is,
 )
 
 admitted_aged : (s : Kept) (f : Fits s) (set : SetMessage) (i : Inputs) (n : Option ℕ) → LeavesAged s (take_admitted s set i n)
 admitted_aged s f set i (Some n) = aged_same s
 admitted_aged s f set i None =
     cond_both (is_known s set) (after (acked_again s set) (Ok (taken set None)))
-    (after (taken_by s set i (find_call (origin_of set) s.entries) set.desired) (Ok (taken set (Some rule)))) (LeavesAged s)
-    (λ _. again_aged s f set) (λ _. taken_aged s f set i (find_call (origin_of set) s.entries) set.desired refl)
+    (take_new s set i) (LeavesAged s)
+    (λ _. again_aged s f set)
+    (λ _. take_either s set i (LeavesAged s) (aged_same s) (taken_aged s f set i (find_call (origin_of set) s.entries) set.desired refl))
 
 take_aged : (s : Kept) (f : Fits s) (set : SetMessage) (i : Inputs) → LeavesAged s (take_event s set i)
 take_aged s f set i =
@@ -151,12 +151,13 @@ heard_aged s a (Some r) = by_test (not (same_text r.dest a.callee)) (is_newer r.
         → LeavesAged s
         (if b then after s (Err (Unknown a.number))
         else (if c
-        then after (noted (seen_row a ∷ (confirmed_row a ∷ [])) s) (Ok (heard a (Some rule)))
+        then hear_new s a r
         else after (noted (confirmed_row a ∷ []) s) (Ok (heard a None))))
     by_test true c = aged_same s
     by_test false true =
-        let rows = seen_row a ∷ (confirmed_row a ∷ []) in
-        aged_step s (noted rows s) (step_noted s (noted rows s) rows (tt, (tt, tt)) refl refl refl refl)
+        let rows = seen_row (hear_rule s a r) a ∷ (confirmed_row a ∷ []) in
+        hear_either s a r (LeavesAged s) (aged_same s)
+        (aged_step s (noted rows s) (step_noted s (noted rows s) rows (tt, (tt, tt)) refl refl refl refl))
     by_test false false =
         let rows = confirmed_row a ∷ [] in
         aged_step s (noted rows s) (step_noted s (noted rows s) rows (tt, tt) refl refl refl refl)
@@ -303,7 +304,7 @@ by_aged s command token who i None =
 
 where_aged : (s : Kept) (command : Command) (token who : List ℕ) (i : Inputs) (o : Option OrderedRow) → LeavesAged s (order_where s command token who i o)
 where_aged s command token who i (Some o) = aged_same s
-where_aged s command token who i None = by_aged s command token who i (refused s command)
+where_aged s command token who i None = by_aged s command token who i (refused s command who)
 
 pub order_ages : (s : Kept) (command : Command) (token who : List ℕ) (i : Inputs) → Fits s → IsFew (order_event s command token who i).service → AgesOf s
     → AgesOf (order_event s command token who i).service

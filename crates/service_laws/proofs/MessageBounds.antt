@@ -1,42 +1,31 @@
 -- Messages leave no more entries and flights than a service may have.
-use Rattle.std.proofs.Common.{◌≡◌, ℕ, ◌+◌, ◌<◌, ◌≤◌, Bool, true, false, ◌&&◌, not, List, [], ◌∷◌, length, Option, Some, None, Result, Ok, Err, is_some, option_map, if◌then◌else◌, refl, arith, length-set}
+use Rattle.std.proofs.Common.{◌≡◌, ℕ, ◌+◌, ◌<◌, ◌≤◌, Bool, true, false, ◌&&◌, not, [], ◌∷◌, length, Option, Some, None, Result, Ok, Err, is_some, if◌then◌else◌, refl, arith, length-set}
 use Rattle.std.specs.List.{position_or_len}
 use Rattle.std.proofs.lemmas.Bool.{cond_both}
-use Rattle.std.proofs.lemmas.List.{length-map}
 use Rattle.lang_base.specs.Texts.{same_text}
 use Rattle.lang_core.specs.declared.inputs.Inputs.{Inputs}
 use Rattle.lang_core.specs.declared.request.Request.{Request}
 use Rattle.request_log.specs.Entries.{has_id, find_call}
 use Rattle.request_log.specs.declared.entry.Entry.{Entry}
-use Rattle.create_placement.specs.Placement.{place_between}
-use Rattle.local_repair.specs.Steps.{remade}
 use Rattle.repair_messages.specs.declared.messages.AnswerMessage.{AnswerMessage}
 use Rattle.repair_messages.specs.declared.messages.SetMessage.{SetMessage}
 use Rattle.repair_messages.specs.declared.posts.Post.{Post}
 use Rattle.repair_messages.specs.declared.posts.Post.TheVariants.{Set, Answer}
-use Rattle.repair_messages.specs.declared.posts.PostName.TheVariants.{Call as OfCall, Reply as OfReply}
-use Rattle.journal_rows.specs.Words.{ordered}
-use Rattle.journal_rows.specs.declared.orders.Command.{Command}
-use Rattle.journal_rows.specs.declared.orders.Command.TheVariants.{Cancel, Restore, Replace, Create, Retry}
-use Rattle.journal_rows.specs.declared.orders.OrderedRow.{OrderedRow}
 use Rattle.call_registers.specs.Registers.{register, is_newer}
 use Rattle.call_registers.specs.declared.register.Hold.{Hold}
 use Rattle.call_registers.specs.declared.register.Register.{Register}
-use Rattle.service_events.specs.State.{Kept, after, in_all, answers, next_id, or_else, where_needed, is_crowded, is_heavy, is_in_flight}
+use Rattle.service_events.specs.State.{Kept, after, in_all, or_else, where_needed, is_crowded, is_heavy, is_in_flight}
 use Rattle.service_events.specs.Calls.{noted}
-use Rattle.service_events.specs.Steps.{Stale, stale_in, step_by, step_event, new_record, new_numbers}
-use Rattle.service_events.specs.Messages.{rule, origin_of, is_known, makes_entry, is_too_much, acked_again, created_entry, created_place, at_version, taken_by, taken, take_admitted, take_event, seen_row, confirmed_row, heard, answer_taken_where, take_answer_event, had, replies_to, is_now, hold_of, held_back, held_where, posted, posted_event}
-use Rattle.service_events.specs.Orders.{refused, misnamed, makes_entry as orders_entry, is_too_much as is_too_much_for, carried_out, order_by, order_where, order_event}
+use Rattle.service_events.specs.Messages.{take_new, origin_of, is_known, makes_entry, is_too_much, acked_again, created_entry, created_place, at_version, taken_by, taken, take_admitted, take_event, hear_new, confirmed_row, heard, answer_taken_where, take_answer_event, had, replies_to, is_now, hold_of, held_back, held_where, posted, posted_event}
 use Rattle.service_events.specs.declared.answers.PostReply.{PostReply}
 use Rattle.service_events.specs.declared.answers.Taken.{Taken}
 use Rattle.service_events.specs.declared.refusals.TakeRefused.{TakeRefused}
 use Rattle.service_events.specs.declared.answers.PostReply.TheVariants.{Acked, Confirmed, Refused, Lost}
 use Rattle.service_events.specs.declared.answers.Posted.TheVariants.{Held, Left}
-use Rattle.service_events.specs.declared.refusals.OrderRefused.{OrderRefused}
-use Rattle.service_events.specs.declared.refusals.OrderRefused.TheVariants.{Full}
 use Rattle.service_events.specs.declared.refusals.AnswerRefused.TheVariants.{Unknown}
 use Rattle.service_events.specs.declared.refusals.PostRefused.TheVariants.{Foreign}
 use Rattle.service_events.specs.declared.refusals.TakeRefused.TheVariants.{NotYet}
+use Rattle.service_entry_laws.proofs.AskedLemmas.{take_either, hear_either}
 use Rattle.service_entry_laws.proofs.SearchLemmas.{length_insert}
 use Rattle.service_laws.proofs.BoundLaws.{IsBounded, uncrowded}
 
@@ -64,11 +53,12 @@ new_bounded s set i None (Some q) place h =
 new_bounded s set i None None place h = h
 
 known_or_new : (s : Kept) (set : SetMessage) (i : Inputs) (known : Bool) → or_else (is_heavy s) (where_needed (not known && makes_entry s set) (is_crowded s)) ≡ None
-    → IsBounded s → IsBounded (if known then after {A = Result Taken TakeRefused} (acked_again s set) (Ok (taken set None)) else after (taken_by s set i (find_call (origin_of set) s.entries) set.desired) (Ok (taken set (Some rule)))).service
+    → IsBounded s → IsBounded (if known then after {A = Result Taken TakeRefused} (acked_again s set) (Ok (taken set None)) else take_new s set i).service
 known_or_new s set i true place h = h
 known_or_new s set i false place h =
-    new_bounded s set i (find_call (origin_of set) s.entries) set.desired
-    (second_none (is_heavy s) (where_needed (makes_entry s set) (is_crowded s)) place) h
+    take_either s set i (λ a. IsBounded a.service) h
+    (new_bounded s set i (find_call (origin_of set) s.entries) set.desired
+    (second_none (is_heavy s) (where_needed (makes_entry s set) (is_crowded s)) place) h)
 
 take_admitted_bounded : (s : Kept) (set : SetMessage) (i : Inputs) (full : Option ℕ) → is_too_much s set ≡ full → IsBounded s → IsBounded (take_admitted s set i full).service
 take_admitted_bounded s set i (Some n) is h = h
@@ -81,18 +71,18 @@ take_bounded s set i h =
 
 -- ---- an answer, and what comes back of a post
 
-heard_bounded : (s : Kept) (a : AnswerMessage) (known new : Bool) → IsBounded s
+heard_bounded : (s : Kept) (a : AnswerMessage) (r : Register) (known new : Bool) → IsBounded s
     → IsBounded (if not known then after s (Err (Unknown a.number))
     else (if new
-    then after (noted (seen_row a ∷ (confirmed_row a ∷ [])) s) (Ok (heard a (Some rule)))
+    then hear_new s a r
     else after (noted (confirmed_row a ∷ []) s) (Ok (heard a None)))).service
-heard_bounded s a false new h = h
-heard_bounded s a true true h = h
-heard_bounded s a true false h = h
+heard_bounded s a r false new h = h
+heard_bounded s a r true true h = hear_either s a r (λ a. IsBounded a.service) h h
+heard_bounded s a r true false h = h
 
 answer_taken_where_bounded : (s : Kept) (a : AnswerMessage) (o : Option Register) → IsBounded s → IsBounded (answer_taken_where s a o).service
 answer_taken_where_bounded s a None h = h
-answer_taken_where_bounded s a (Some r) h = heard_bounded s a (same_text r.dest a.callee) (is_newer r.answer a.answer_version) h
+answer_taken_where_bounded s a (Some r) h = heard_bounded s a r (same_text r.dest a.callee) (is_newer r.answer a.answer_version) h
 
 pub take_answer_bounded : (s : Kept) (a : AnswerMessage) → IsBounded s → IsBounded (take_answer_event s a).service
 take_answer_bounded s a h = answer_taken_where_bounded s a (register a.number s.registers) h

@@ -26,7 +26,7 @@ use Rattle.service_events.specs.Calls.{noted, all_deleted}
 use Rattle.service_events.specs.Arriving.{abandoned, abandon_event}
 use Rattle.service_events.specs.Commits.{live_rows}
 use Rattle.service_events.specs.Steps.{sent_rows, answer_rows, new_record, Stale, stale_in, step_by, step_event}
-use Rattle.service_events.specs.Messages.{rule, origin_of, is_known, is_too_much, acked_row, took_row, acked_again, taken_by, taken, take_admitted, take_event, seen_row, confirmed_row, heard, answer_taken_where, take_answer_event, had, replies_to, is_now, hold_of, held_back, held_where, saw_ack_row, was_confirmed_row, posted, posted_event}
+use Rattle.service_events.specs.Messages.{take_new, origin_of, is_known, is_too_much, acked_row, took_row, acked_again, taken_by, taken, take_admitted, take_event, seen_row, hear_rule, hear_new, confirmed_row, heard, answer_taken_where, take_answer_event, had, replies_to, is_now, hold_of, held_back, held_where, saw_ack_row, was_confirmed_row, posted, posted_event}
 use Rattle.service_events.specs.Orders.{refused, asked_rows, order_rows, carried_out, order_by, order_where, order_event}
 use Rattle.service_events.specs.declared.answers.PostReply.{PostReply}
 use Rattle.service_events.specs.declared.answers.PostReply.TheVariants.{Acked as WasAcked, Confirmed as WasConfirmedBack, Refused, Lost}
@@ -35,6 +35,7 @@ use Rattle.service_events.specs.declared.refusals.AnswerRefused.TheVariants.{Unk
 use Rattle.service_events.specs.declared.refusals.OrderRefused.{OrderRefused}
 use Rattle.service_events.specs.declared.refusals.PostRefused.TheVariants.{Foreign}
 use Rattle.service_events.specs.declared.refusals.TakeRefused.TheVariants.{NotYet}
+use Rattle.service_entry_laws.proofs.AskedLemmas.{take_either, hear_either}
 use Rattle.service_call_laws.proofs.RowLemmas.{Each, each_append, each_weaker, IsSending}
 use Rattle.service_call_laws.proofs.KindLemmas.{sends_deleted, sends_settled}
 use Rattle.service_call_laws.proofs.LiveRows.{IsSilent, live_same, sending_silent}
@@ -74,17 +75,18 @@ step_answers_none s = stepped_none s (stale_in (answers s) (base s) s.entries)
 
 -- a version of a call
 taken_none : (s : Kept) (set : SetMessage) (i : Inputs) (e : Option Entry) (d : Option Request) → live_rows (taken_by s set i e d).journal ≡ live_rows s.journal
-taken_none s set i (Some e) d = live_same s.journal (took_row set ∷ (acked_row set ∷ [])) (tt, (tt, tt))
+taken_none s set i (Some e) d = live_same s.journal (took_row s set ∷ (acked_row set ∷ [])) (tt, (tt, tt))
 taken_none s set i None (Some q) =
-    live_same s.journal (took_row set ∷ (Asked (record { id = next_id s; origin = origin_of set; request = q; inputs = i }) ∷ (acked_row set ∷ []))) (tt, (tt, (tt, tt)))
-taken_none s set i None None = live_same s.journal (took_row set ∷ (acked_row set ∷ [])) (tt, (tt, tt))
+    live_same s.journal (took_row s set ∷ (Asked (record { id = next_id s; origin = origin_of set; request = q; inputs = i }) ∷ (acked_row set ∷ []))) (tt, (tt, (tt, tt)))
+taken_none s set i None None = live_same s.journal (took_row s set ∷ (acked_row set ∷ [])) (tt, (tt, tt))
 
 admitted_none : (s : Kept) (set : SetMessage) (i : Inputs) (n : Option ℕ) → AnswersNone s (take_admitted s set i n)
 admitted_none s set i (Some n) = refl
 admitted_none s set i None =
     cond_both (is_known s set) (after (acked_again s set) (Ok (taken set None)))
-    (after (taken_by s set i (find_call (origin_of set) s.entries) set.desired) (Ok (taken set (Some rule)))) (AnswersNone s)
-    (λ _. live_same s.journal (acked_row set ∷ []) (tt, tt)) (λ _. taken_none s set i (find_call (origin_of set) s.entries) set.desired)
+    (take_new s set i) (AnswersNone s)
+    (λ _. live_same s.journal (acked_row set ∷ []) (tt, tt))
+    (λ _. take_either s set i (AnswersNone s) refl (taken_none s set i (find_call (origin_of set) s.entries) set.desired))
 
 pub take_answers_none : (s : Kept) (set : SetMessage) (i : Inputs) → AnswersNone s (take_event s set i)
 take_answers_none s set i =
@@ -101,10 +103,10 @@ heard_none s a (Some r) =
         → AnswersNone s
         (if b then after s (Err (Unknown a.number))
         else (if c
-        then after (noted (seen_row a ∷ (confirmed_row a ∷ [])) s) (Ok (heard a (Some rule)))
+        then hear_new s a r
         else after (noted (confirmed_row a ∷ []) s) (Ok (heard a None))))
     by_test true c = refl
-    by_test false true = live_same s.journal (seen_row a ∷ (confirmed_row a ∷ [])) (tt, (tt, tt))
+    by_test false true = hear_either s a r (AnswersNone s) refl (live_same s.journal (seen_row (hear_rule s a r) a ∷ (confirmed_row a ∷ [])) (tt, (tt, tt)))
     by_test false false = live_same s.journal (confirmed_row a ∷ []) (tt, tt)
 
 pub take_answer_answers_none : (s : Kept) (a : AnswerMessage) → AnswersNone s (take_answer_event s a)
@@ -147,7 +149,7 @@ by_none s command token who i None =
 
 where_none : (s : Kept) (command : Command) (token who : List ℕ) (i : Inputs) (o : Option OrderedRow) → AnswersNone s (order_where s command token who i o)
 where_none s command token who i (Some o) = refl
-where_none s command token who i None = by_none s command token who i (refused s command)
+where_none s command token who i None = by_none s command token who i (refused s command who)
 
 pub order_answers_none : (s : Kept) (command : Command) (token who : List ℕ) (i : Inputs) → AnswersNone s (order_event s command token who i)
 order_answers_none s command token who i = where_none s command token who i (ordered token s.journal)

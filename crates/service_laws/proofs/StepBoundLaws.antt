@@ -13,11 +13,11 @@ use Rattle.journal_rows.specs.declared.orders.Command.{Command}
 use Rattle.journal_rows.specs.declared.orders.Command.TheVariants.{Cancel, Restore, Replace, Create, Retry}
 use Rattle.journal_rows.specs.declared.orders.OrderedRow.{OrderedRow}
 use Rattle.service_events.specs.State.{Kept, answers, in_all, is_crowded, is_heavy, next_id, or_else, base}
-use Rattle.service_events.specs.Orders.{carried_out, is_too_much, makes_entry, misnamed, order_by, order_event, order_where, refused}
+use Rattle.service_events.specs.Orders.{carried_out, is_too_much, makes_entry, misnamed, order_by, order_decision, order_event, order_where, refused, unless_allowed}
 use Rattle.service_events.specs.Steps.{new_record, new_numbers, Stale, stale_in, step_by, step_event}
 use Rattle.service_events.specs.declared.refusals.OrderRefused.{OrderRefused}
 use Rattle.service_events.specs.declared.refusals.OrderRefused.TheVariants.{Full}
-use Rattle.service_entry_laws.proofs.SearchLemmas.{length_insert}
+use Rattle.service_entry_laws.proofs.SearchLemmas.{neither, length_insert}
 
 -- ---- a step
 
@@ -33,46 +33,48 @@ step_bounded s h = step_by_bounded s (stale_in (answers s) (base s) s.entries) h
 
 -- ---- an order
 
-neither : {X : Type 0} (a b : Option X) → or_else a b ≡ None → (a ≡ None) × (b ≡ None)
-neither None b h = (refl, h)
-neither (Some x) b h = cc
-
 not_full : (o : Option ℕ) → option_map (λ n. Full n) o ≡ None → o ≡ None
 not_full None h = refl
 not_full (Some n) h = cc
 
 -- what isn't refused names what is there, and there isn't too much
-pub accepted_named : (s : Kept) (command : Command) → refused s command ≡ None → misnamed s command ≡ None
-accepted_named s command h = (neither (misnamed s command) (option_map (λ n. Full n) (is_too_much s command)) h).0
+abbrev unless_much : Kept → Command → Option OrderRefused
+unless_much s command = option_map (λ n. Full n) (is_too_much s command)
 
-little_enough : (s : Kept) (command : Command) → refused s command ≡ None → is_too_much s command ≡ None
-little_enough s command h = not_full (is_too_much s command) (neither (misnamed s command) (option_map (λ n. Full n) (is_too_much s command)) h).1
+well_formed : (s : Kept) (command : Command) (who : List ℕ) → refused s command who ≡ None → or_else (misnamed s command) (unless_much s command) ≡ None
+well_formed s command who h = (neither (or_else (misnamed s command) (unless_much s command)) (unless_allowed (order_decision s command who)) h).0
+
+pub accepted_named : (s : Kept) (command : Command) (who : List ℕ) → refused s command who ≡ None → misnamed s command ≡ None
+accepted_named s command who h = (neither (misnamed s command) (unless_much s command) (well_formed s command who h)).0
+
+little_enough : (s : Kept) (command : Command) (who : List ℕ) → refused s command who ≡ None → is_too_much s command ≡ None
+little_enough s command who h = not_full (is_too_much s command) (neither (misnamed s command) (unless_much s command) (well_formed s command who h)).1
 
 below : (s : Kept) (b : Bool) → nat_le 100000 (in_all s) ≡ b → cond b (Some (in_all s)) None ≡ None → in_all s < 100000
 below s true is h = cc
 below s false is h = grind (arith, nat_tests)
 
-has_place : (s : Kept) (command : Command) → makes_entry command ≡ true → refused s command ≡ None → in_all s < 100000
-has_place s command makes h =
-    let none = (neither (is_heavy s) (cond (makes_entry command) (is_crowded s) None) (little_enough s command h)).1 in
+has_place : (s : Kept) (command : Command) (who : List ℕ) → makes_entry command ≡ true → refused s command who ≡ None → in_all s < 100000
+has_place s command who makes h =
+    let none = (neither (is_heavy s) (cond (makes_entry command) (is_crowded s) None) (little_enough s command who h)).1 in
     below s (nat_le 100000 (in_all s)) refl (by_test (makes_entry command) makes none)
   where
     by_test : (b : Bool) → b ≡ true → cond b (is_crowded s) None ≡ None → is_crowded s ≡ None
     by_test true is e = e
     by_test false is e = cc
 
-carried_bounded : (s : Kept) (command : Command) (who : List ℕ) (i : Inputs) → refused s command ≡ None → in_all s ≤ 100000 → in_all (carried_out s command who i) ≤ 100000
+carried_bounded : (s : Kept) (command : Command) (who : List ℕ) (i : Inputs) → refused s command who ≡ None → in_all s ≤ 100000 → in_all (carried_out s command who i) ≤ 100000
 carried_bounded s (Cancel id) who i none h = let same = length-map s.entries (λ e. cond (has_id id e) (mark true e) e) in omega (arith, h, same)
 carried_bounded s (Restore id) who i none h = let same = length-map s.entries (λ e. cond (has_id id e) (mark false e) e) in omega (arith, h, same)
 carried_bounded s (Replace id method path body) who i none h = let same = length-map s.entries (λ e. cond (has_id id e) (replace method path body e) e) in omega (arith, h, same)
 carried_bounded s (Create before after q) who i none h =
     let more = length_insert s.entries (place_between before after s.entries) (created (next_id s) q i) in
-    let few = has_place s (Create before after q) refl none in
+    let few = has_place s (Create before after q) who refl none in
     omega (arith, few, more)
 carried_bounded s (Retry (OfCall number)) who i none h = h
 carried_bounded s (Retry (OfReply id)) who i none h = h
 
-by_bounded : (s : Kept) (command : Command) (token who : List ℕ) (i : Inputs) (why : Option OrderRefused) → refused s command ≡ why → in_all s ≤ 100000
+by_bounded : (s : Kept) (command : Command) (token who : List ℕ) (i : Inputs) (why : Option OrderRefused) → refused s command who ≡ why → in_all s ≤ 100000
     → in_all (order_by s command token who i why).service ≤ 100000
 by_bounded s command token who i (Some why) is h = h
 by_bounded s command token who i None is h = carried_bounded s command who i is h
@@ -80,7 +82,7 @@ by_bounded s command token who i None is h = carried_bounded s command who i is 
 where_bounded : (s : Kept) (command : Command) (token who : List ℕ) (i : Inputs) (o : Option OrderedRow) → in_all s ≤ 100000
     → in_all (order_where s command token who i o).service ≤ 100000
 where_bounded s command token who i (Some o) h = h
-where_bounded s command token who i None h = by_bounded s command token who i (refused s command) refl h
+where_bounded s command token who i None h = by_bounded s command token who i (refused s command who) refl h
 
 pub order_bounded : (s : Kept) (command : Command) (token who : List ℕ) (i : Inputs) → in_all s ≤ 100000 → in_all (order_event s command token who i).service ≤ 100000
 order_bounded s command token who i h = where_bounded s command token who i (ordered token s.journal) h

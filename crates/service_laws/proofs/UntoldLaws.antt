@@ -27,7 +27,7 @@ use Rattle.service_events.specs.State.{Kept, after, answers, next_id, is_in_flig
 use Rattle.service_events.specs.Arriving.{abandoned, abandon_event}
 use Rattle.service_events.specs.Calls.{first_sent, put_sent, after_row, after_rows, noted, all_deleted}
 use Rattle.service_events.specs.Causes.{causes_in, causes, AddsCauses}
-use Rattle.service_events.specs.Messages.{rule, origin_of, is_known, is_too_much, acked_row, took_row, acked_again, taken_by, taken, take_admitted, take_event, seen_row, confirmed_row, heard, answer_taken_where, take_answer_event, had, replies_to, is_now, hold_of, held_back, held_where, saw_ack_row, was_confirmed_row, posted, posted_event}
+use Rattle.service_events.specs.Messages.{take_new, origin_of, is_known, is_too_much, acked_row, took_row, acked_again, taken_by, taken, take_admitted, take_event, seen_row, hear_rule, hear_new, confirmed_row, heard, answer_taken_where, take_answer_event, had, replies_to, is_now, hold_of, held_back, held_where, saw_ack_row, was_confirmed_row, posted, posted_event}
 use Rattle.service_events.specs.Orders.{refused, order_rows, carried_out, order_by, order_where, order_event}
 use Rattle.service_events.specs.Steps.{sent_rows, answer_rows, new_record, Stale, stale_in, step_by, step_event}
 use Rattle.service_events.specs.declared.answers.PostReply.{PostReply}
@@ -37,6 +37,7 @@ use Rattle.service_events.specs.declared.refusals.AnswerRefused.TheVariants.{Unk
 use Rattle.service_events.specs.declared.refusals.OrderRefused.{OrderRefused}
 use Rattle.service_events.specs.declared.refusals.PostRefused.TheVariants.{Foreign}
 use Rattle.service_events.specs.declared.refusals.TakeRefused.TheVariants.{NotYet}
+use Rattle.service_entry_laws.proofs.AskedLemmas.{take_either, hear_either}
 use Rattle.service_laws.proofs.CauseLaws.{same_causes, row_tells, causes_push}
 
 -- ---- rows tell nothing of why
@@ -111,19 +112,19 @@ pub step_untold : (s : Kept) → TellsNone s (step_event s).service
 step_untold s = stepped_untold s (stale_in (answers s) (base s) s.entries)
 
 taken_untold : (s : Kept) (set : SetMessage) (i : Inputs) (e : Option Entry) (d : Option Request) → TellsNone s (taken_by s set i e d)
-taken_untold s set i (Some e) d = tells_none s (taken_by s set i (Some e) d) (rows_add (length s.journal) s.registers (took_row set ∷ (acked_row set ∷ [])))
+taken_untold s set i (Some e) d = tells_none s (taken_by s set i (Some e) d) (rows_add (length s.journal) s.registers (took_row s set ∷ (acked_row set ∷ [])))
 taken_untold s set i None (Some q) =
     tells_none s (taken_by s set i None (Some q))
-    (rows_add (length s.journal) s.registers (took_row set ∷ (Asked (record { id = next_id s; origin = origin_of set; request = q; inputs = i }) ∷ (acked_row set ∷ []))))
-taken_untold s set i None None = tells_none s (taken_by s set i None None) (rows_add (length s.journal) s.registers (took_row set ∷ (acked_row set ∷ [])))
+    (rows_add (length s.journal) s.registers (took_row s set ∷ (Asked (record { id = next_id s; origin = origin_of set; request = q; inputs = i }) ∷ (acked_row set ∷ []))))
+taken_untold s set i None None = tells_none s (taken_by s set i None None) (rows_add (length s.journal) s.registers (took_row s set ∷ (acked_row set ∷ [])))
 
 admitted_untold : (s : Kept) (set : SetMessage) (i : Inputs) (n : Option ℕ) → TellsNone s (take_admitted s set i n).service
 admitted_untold s set i (Some n) = same_tells_none s s refl
 admitted_untold s set i None =
     cond_both (is_known s set) (after (acked_again s set) (Ok (taken set None)))
-    (after (taken_by s set i (find_call (origin_of set) s.entries) set.desired) (Ok (taken set (Some rule)))) (λ a. TellsNone s a.service)
+    (take_new s set i) (λ a. TellsNone s a.service)
     (λ _. tells_none s (acked_again s set) (rows_add (length s.journal) s.registers (acked_row set ∷ [])))
-    (λ _. taken_untold s set i (find_call (origin_of set) s.entries) set.desired)
+    (λ _. take_either s set i (λ a. TellsNone s a.service) (same_tells_none s s refl) (taken_untold s set i (find_call (origin_of set) s.entries) set.desired))
 
 pub take_untold : (s : Kept) (set : SetMessage) (i : Inputs) → TellsNone s (take_event s set i).service
 take_untold s set i =
@@ -141,10 +142,10 @@ heard_untold s a (Some r) = by_test (not (same_text r.dest a.callee)) (is_newer 
         → TellsNone s
         (if b then after s (Err (Unknown a.number))
         else (if c
-        then after (noted (seen_row a ∷ (confirmed_row a ∷ [])) s) (Ok (heard a (Some rule)))
+        then hear_new s a r
         else after (noted (confirmed_row a ∷ []) s) (Ok (heard a None)))).service
     by_test true c = same_tells_none s s refl
-    by_test false true = noted_tells (seen_row a ∷ (confirmed_row a ∷ []))
+    by_test false true = hear_either s a r (λ h. TellsNone s h.service) (same_tells_none s s refl) (noted_tells (seen_row (hear_rule s a r) a ∷ (confirmed_row a ∷ [])))
     by_test false false = noted_tells (confirmed_row a ∷ [])
 
 pub take_answer_untold : (s : Kept) (a : AnswerMessage) → TellsNone s (take_answer_event s a).service
@@ -192,7 +193,7 @@ by_untold s command token who i None =
 
 where_untold : (s : Kept) (command : Command) (token who : List ℕ) (i : Inputs) (o : Option OrderedRow) → TellsNone s (order_where s command token who i o).service
 where_untold s command token who i (Some o) = same_tells_none s s refl
-where_untold s command token who i None = by_untold s command token who i (refused s command)
+where_untold s command token who i None = by_untold s command token who i (refused s command who)
 
 pub order_untold : (s : Kept) (command : Command) (token who : List ℕ) (i : Inputs) → TellsNone s (order_event s command token who i).service
 order_untold s command token who i = where_untold s command token who i (ordered token s.journal)
