@@ -1,5 +1,5 @@
 -- A world stays closed; so each packet has a receiver, and an event is refused exactly where it names what isn't there.
-use Rattle.std.proofs.Common.{◌≡◌, ℕ, zero, suc, slice_get, ◌++◌, Bool, true, false, cond, List, [], ◌∷◌, Option, Some, None, IsSome, IfSome, IsOk, All, Contains, Result, Ok, Err, find, is_some, length, map, option_and_then, option_map, option_to_list, refl, inl, inr, sym, ap, ◌∙◌, subst, arith, ◌<◌, get_or}
+use Rattle.std.proofs.Common.{◌≡◌, ℕ, zero, suc, slice_get, ◌++◌, Bool, true, false, cond, List, [], ◌∷◌, Option, Some, None, IsSome, IfSome, IsOk, All, Result, Ok, Err, find, is_some, length, map, option_and_then, option_map, option_to_list, refl, inl, inr, sym, ap, ◌∙◌, subst, arith, ◌<◌, get_or}
 use Rattle.std.proofs.lemmas.Bool.{cases_Bool, cond_both, cond-false, cond-true}
 use Rattle.std.proofs.lemmas.List.{length-map}
 use Rattle.std.proofs.lemmas.List.Elements.{All-nil, All-cons, All-append, All-contains, All-head, All-tail, All-weaker}
@@ -26,24 +26,24 @@ use Rattle.call_registers.specs.declared.register.Why.TheVariants.{Lost, Refused
 use Rattle.call_registers.specs.declared.reply.Reply.{Reply}
 use Rattle.flights.specs.declared.flight.Flight.{Flight}
 use Rattle.service_events.specs.Arriving.{arrive_event, call_answered_event, call_failed_event}
-use Rattle.service_events.specs.Messages.{acked_again, is_known, is_too_much, origin_of, rule, take_admitted, take_event, taken, taken_by}
+use Rattle.service_events.specs.Messages.{acked_again, is_known, is_too_much, origin_of, take_admitted, take_event, take_new, taken, taken_by}
 use Rattle.service_events.specs.Posts.{answer_post, next_post, reply_post, set_message, where_there, write_post}
 use Rattle.service_events.specs.State.{Kept, After, after, me, or_else, is_in_flight, flight_of, base}
-use Rattle.service_events.specs.Steps.{Stale, stale_in, step_by, step_event}
+use Rattle.service_events.specs.Steps.{Stale, stale_in, step_by}
 use Rattle.service_events.specs.State.{answers}
 use Rattle.service_events.specs.declared.answers.Arrived.{Arrived}
 use Rattle.service_events.specs.declared.answers.Arrived.TheVariants.{Done, Call as Sends, Known}
 use Rattle.service_events.specs.declared.answers.PostReply.{PostReply}
 use Rattle.service_events.specs.declared.answers.PostReply.TheVariants.{Lost as PostIsLost}
-use Rattle.service_events.specs.declared.refusals.ArriveRefused.{ArriveRefused}
 use Rattle.service_events.specs.declared.refusals.TakeRefused.{TakeRefused}
+use Rattle.service_entry_laws.proofs.AskedLemmas.{take_either}
 use Rattle.service_call_laws.proofs.EventLaws.{abandon_grows, order_grows, posted_grows, take_answer_grows}
 use Rattle.service_entry_laws.proofs.SearchLemmas.{found_all}
 use Rattle.world_agreement.specs.Partners.{has_name, service_of, NamesDiffer}
 use Rattle.world_agreement.proofs.ListLemmas.{found_in}
 use Rattle.world_agreement.proofs.NameLemmas.{name_is}
 use Rattle.world_events.specs.Ends.{post_receiver, receiver, beginner, IsThere, HasEnds, AreClosed, IsClosed, PostsTo, PostsWell}
-use Rattle.world_events.specs.Events.{Served, Turn, refused, turned, if_there, turn_at, at_service, sent_or, lives, unsaid, is_call_of, reply_to, reply_among, arrive_served, live_refusal, call_arrive_served, call_answered_served, call_failed_served, sender, take_served, take_answer_served, posted_served, next_post_written, next_post_served, repair_step_served, abandon_served, order_served, call_delivered, reply_delivered, post_delivered, delivered, call_lost, post_lost, lost, next_post_turn, abandon_turn, if_flying, turn, answer_to, after_event}
+use Rattle.world_events.specs.Events.{Served, refused, turned, if_there, turn_at, at_service, sent_or, lives, unsaid, is_call_of, reply_to, reply_among, arrive_served, live_refusal, call_arrive_served, call_answered_served, call_failed_served, sender, take_served, take_answer_served, posted_served, next_post_written, next_post_served, repair_step_served, abandon_served, order_served, call_delivered, reply_delivered, post_delivered, delivered, call_lost, lost, if_flying, turn, answer_to, after_event}
 use Rattle.world_events.specs.Reach.{ArePeered, AnswersBy, missing, where_none}
 use Rattle.world_events.specs.Worlds.{World, loss_note, next_inputs, once_drawn, once_lost, packet_of, with_service}
 use Rattle.world_events.specs.declared.event.Event.{Event}
@@ -131,8 +131,8 @@ admitted_setting : (s : Kept) (set : SetMessage) (i : Inputs) (much : Option ℕ
 admitted_setting s set i (Some n) = refl
 admitted_setting s set i None =
     cond_both (is_known s set) (after (acked_again s set) (Ok (taken set None)))
-    (after (taken_by s set i (find_call (origin_of set) s.entries) set.desired) (Ok (taken set (Some rule)))) (λ a. a.service.setting ≡ s.setting) (λ _. refl)
-    (λ _. taken_setting s set i (find_call (origin_of set) s.entries) set.desired)
+    (take_new s set i) (λ a. a.service.setting ≡ s.setting) (λ _. refl)
+    (λ _. take_either s set i (λ a. a.service.setting ≡ s.setting) refl (taken_setting s set i (find_call (origin_of set) s.entries) set.desired))
 
 take_setting : (s : Kept) (set : SetMessage) (i : Inputs) → (take_event s set i).service.setting ≡ s.setting
 take_setting s set i =

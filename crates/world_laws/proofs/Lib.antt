@@ -13,6 +13,7 @@ pub mod CommitFacts
 pub mod LiveWorldLaws
 pub mod PeerLaws
 pub mod ReachLaws
+pub mod AllowedRuns
 pub mod RefusalLaws
 pub mod PurchaseRun
 pub mod PurchaseTried

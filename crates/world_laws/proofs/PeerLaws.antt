@@ -46,7 +46,7 @@ use Rattle.service_events.specs.Arriving.{accepted, new_flight, admitted, known_
 use Rattle.service_events.specs.Calls.{noted, named, deleted, replaced, all_deleted, slot_rows, settling_rows, next_after}
 use Rattle.service_events.specs.Fits.{Fits, WantsItsCalls, NumberedCalls, calls_of_entry, calls_of_flight, call_to, call_in, wanted_call, sent_by}
 use Rattle.service_events.specs.Flying.{awaited, flight_run, before_answer, live_answer, surplus_rows, took_rows, committed, with_slot, with_change, deletion, change_rows, waits, call_or_none, wanted_of, named_unsent, changed_unsent, completing, completed, changed, moved, goes_on}
-use Rattle.service_events.specs.Messages.{rule, origin_of, is_known, is_too_much, acked_row, took_row, acked_again, taken_by, taken, take_admitted, take_event, confirmed_row, seen_row, heard, answer_taken_by, answer_taken_where, take_answer_event, had, replies_to, is_now, hold_of, held_back, held_where, posted, posted_event}
+use Rattle.service_events.specs.Messages.{hear_new, hear_rule, take_new, origin_of, is_known, is_too_much, acked_row, took_row, acked_again, taken_by, taken, take_admitted, take_event, confirmed_row, seen_row, heard, answer_taken_by, answer_taken_where, take_answer_event, had, replies_to, is_now, hold_of, held_back, held_where, posted, posted_event}
 use Rattle.service_events.specs.Orders.{order_rows, carried_out, order_by, order_where, refused, order_event}
 use Rattle.service_events.specs.State.{Kept, After, after, answers, or_else, is_crowded, is_heavy, is_in_flight, flight_of, base}
 use Rattle.service_events.specs.Steps.{ended_or, rerun, new_trace, new_record, sent_rows, answer_rows, stepped, Stale, stale_in, step_by, step_event}
@@ -61,6 +61,7 @@ use Rattle.service_events.specs.declared.refusals.CallRefused.{CallRefused}
 use Rattle.service_events.specs.declared.refusals.OrderRefused.{OrderRefused}
 use Rattle.service_events.specs.declared.refusals.PostRefused.{PostRefused}
 use Rattle.service_events.specs.declared.refusals.TakeRefused.{TakeRefused}
+use Rattle.service_entry_laws.proofs.AskedLemmas.{take_either, hear_either}
 use Rattle.world_delivery_laws.proofs.ChainLaws.{IsOnward, calls_onward}
 use Rattle.service_call_laws.proofs.RowLemmas.{Each, each_append, each_behind, each_weaker, all_of_each}
 use Rattle.service_entry_laws.proofs.SearchLemmas.{contains_here}
@@ -410,22 +411,22 @@ module _ (s : Kept) (fits : Fits s) (calls : CallsPeers s) where
 
   order_where_reaches : (command : Command) (token who : List ℕ) (i : Inputs) (o : Option OrderedRow) → Stays (order_where s command token who i o)
   order_where_reaches command token who i (Some o) = same
-  order_where_reaches command token who i None = order_by_reaches command token who i (refused s command)
+  order_where_reaches command token who i None = order_by_reaches command token who i (refused s command who)
 
   pub order_reaches : (command : Command) (token who : List ℕ) (i : Inputs) → Reaches s (order_event s command token who i).service
   order_reaches command token who i = order_where_reaches command token who i (ordered token s.journal)
 
   taken_reaches : (set : SetMessage) (i : Inputs) (o : Option Entry) (d : Option Request) → Reaches s (taken_by s set i o d)
-  taken_reaches set i (Some e) d = reaches_by s _ (took_row set ∷ (acked_row set ∷ [])) refl refl (tt, (tt, tt))
-  taken_reaches set i None (Some q) = reaches_by s _ (took_row set ∷ (Asked _ ∷ (acked_row set ∷ []))) refl refl (tt, (tt, (tt, tt)))
-  taken_reaches set i None None = reaches_by s _ (took_row set ∷ (acked_row set ∷ [])) refl refl (tt, (tt, tt))
+  taken_reaches set i (Some e) d = reaches_by s _ (took_row s set ∷ (acked_row set ∷ [])) refl refl (tt, (tt, tt))
+  taken_reaches set i None (Some q) = reaches_by s _ (took_row s set ∷ (Asked _ ∷ (acked_row set ∷ []))) refl refl (tt, (tt, (tt, tt)))
+  taken_reaches set i None None = reaches_by s _ (took_row s set ∷ (acked_row set ∷ [])) refl refl (tt, (tt, tt))
 
   take_admitted_reaches : (set : SetMessage) (i : Inputs) (full : Option ℕ) → Stays (take_admitted s set i full)
   take_admitted_reaches set i (Some n) = same
   take_admitted_reaches set i None =
-      cond_both (is_known s set) (after (acked_again s set) (Ok (taken set None))) (after (taken_by s set i (find_call (origin_of set) s.entries) set.desired) (Ok (taken set (Some rule))))
+      cond_both (is_known s set) (after (acked_again s set) (Ok (taken set None))) (take_new s set i)
       (λ a. Reaches s a.service) (λ _. reaches_by s (acked_again s set) (acked_row set ∷ []) refl refl (tt, tt))
-      (λ _. taken_reaches set i (find_call (origin_of set) s.entries) set.desired)
+      (λ _. take_either s set i (λ a. Reaches s a.service) same (taken_reaches set i (find_call (origin_of set) s.entries) set.desired))
 
   pub take_reaches : (set : SetMessage) (i : Inputs) → Reaches s (take_event s set i).service
   take_reaches set i =
@@ -437,9 +438,9 @@ module _ (s : Kept) (fits : Fits s) (calls : CallsPeers s) where
     where
       by : (goes new : Bool)
           → Stays {A = Result Heard AnswerRefused} (cond (not goes) (after s (Err (AnswerRefused.Unknown a.number)))
-          (cond new (after (noted (seen_row a ∷ (confirmed_row a ∷ [])) s) (Ok (heard a (Some rule)))) (after (noted (confirmed_row a ∷ []) s) (Ok (heard a None)))))
+          (cond new (hear_new s a r) (after (noted (confirmed_row a ∷ []) s) (Ok (heard a None)))))
       by false new = same
-      by true true = reaches_by s _ (seen_row a ∷ (confirmed_row a ∷ [])) refl refl (tt, (tt, tt))
+      by true true = hear_either s a r (λ x. Reaches s x.service) same (reaches_by s _ (seen_row (hear_rule s a r) a ∷ (confirmed_row a ∷ [])) refl refl (tt, (tt, tt)))
       by true false = reaches_by s _ (confirmed_row a ∷ []) refl refl (tt, tt)
 
   answer_taken_where_reaches : (a : AnswerMessage) (o : Option Register) → Stays (answer_taken_where s a o)

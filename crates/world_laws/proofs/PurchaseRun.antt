@@ -21,11 +21,13 @@ use Rattle.repair_messages.specs.declared.messages.AnswerMessage.{AnswerMessage}
 use Rattle.repair_messages.specs.declared.messages.SetMessage.{SetMessage}
 use Rattle.repair_messages.specs.declared.posts.Post.TheVariants.{Set as SetPost}
 use Rattle.repair_messages.specs.declared.posts.PostName.TheVariants.{Call as OfCall}
+use Rattle.authorise_rules.specs.declared.asked.Decision.TheVariants.{Allow, Deny}
 use Rattle.journal_rows.specs.declared.orders.About.TheVariants.{Request as AboutRequest}
 use Rattle.journal_rows.specs.declared.orders.Command.TheVariants.{Cancel}
 use Rattle.flights.specs.Moves.{next_move}
 use Rattle.flights.specs.declared.flight.Flight.{Flight}
 use Rattle.flights.specs.declared.flight.Move.TheVariants.{Commit}
+use Rattle.service_events.specs.Allowed.{IsAllowed}
 use Rattle.service_events.specs.Calls.{noted}
 use Rattle.service_events.specs.Flying.{goes_on, moved}
 use Rattle.service_events.specs.Arriving.{new_flight}
@@ -37,7 +39,7 @@ use Rattle.service_events.specs.declared.answers.Arrived.TheVariants.{Done as Co
 use Rattle.service_events.specs.Steps.{new_trace}
 use Rattle.service_events.specs.declared.answers.Posted.TheVariants.{Acked as WasAcked}
 use Rattle.service_events.specs.declared.answers.PostReply.TheVariants.{Acked}
-use Rattle.service_call_laws.proofs.PurchaseExample.{shop_name, bank_name, ok, start, call, flight, named, answer, answered as answered_shop, bought, cancelled, remade, trace, paid_trace, paid, unwanted, unpaid}
+use Rattle.service_call_laws.proofs.PurchaseExample.{shop_name, bank_name, ok, allow_any, start, call, flight, named, answer, answered as answered_shop, bought, cancelled, remade, trace, paid_trace, paid, unwanted, unpaid}
 use Rattle.world_agreement.proofs.PurchaseTogether.{names_differ, at_shop, at_bank, no_name}
 use Rattle.world_agreement.specs.Partners.{HasPartner}
 use Rattle.world_agreement.proofs.ListLemmas.{all_two, one_pair}
@@ -52,6 +54,7 @@ use Rattle.world_events.specs.declared.happened.What.TheVariants.{Arrive, CallAn
 use Rattle.world_events.specs.declared.packet.Live.TheVariants.{Answer as LiveAnswer}
 use Rattle.world_events.specs.declared.packet.Packet.{Packet}
 use Rattle.world_events.specs.declared.packet.Packet.TheVariants.{Call, CallReply, Post as PostPacket, PostReply as PostReplyPacket}
+use Rattle.world_laws.proofs.AllowedRuns.{AreAllowed}
 use Rattle.world_laws.proofs.WorldLaws.{turn_sound, fresh_sound}
 
 pub false_by : (b : Bool) → (b ≡ true → true ≡ false) → b ≡ false
@@ -206,7 +209,7 @@ module _ (program : List Route) (token : List ℕ) where
   begins_sound =
       fresh_sound (shop_start ∷ (bank_start ∷ []))
       (one_pair (λ s t. me s ≢ me t) shop_start bank_start (names_differ shop_name bank_name refl))
-      (all_two Fits shop_start bank_start (fits_start shop_setting) (fits_start bank_setting))
+      (all_two Fits shop_start bank_start (fits_start shop_setting (allow_any ∷ [])) (fits_start bank_setting (allow_any ∷ [])))
       (all_two (λ s. All (HasPartner (shop_start ∷ (bank_start ∷ [])) s) s.journal) shop_start bank_start (All-nil _) (All-nil _))
       (all_two (λ (s : Kept). s.flights ≡ []) shop_start bank_start refl refl)
 
@@ -306,3 +309,21 @@ module _ (program : List Route) (token : List ℕ) where
       (sound_then remaking (Posts shop_name bank_name) _ posts (few shop_remade bank_paid deleted (word_after 16 1) (omega arith) (omega arith))
       (sound_then cancelling (Step shop_name) _ steps (few shop_remade bank_paid answered (word_after 16 1) (omega arith) (omega arith))
       (sound_then purchased (Order shop_name (Cancel 1) token shop_name) _ cancels (few shop_cancelled bank_paid answered (word_after 16 1) (omega arith) (omega arith)) h)))))
+
+  -- ---- the repairs in both journals were allowed, the order by the shop's rule and the deletion by the bank's
+
+  shop_allowed : IsAllowed shop_acked
+  shop_allowed = (tt, (tt, (refl, (tt, (tt, (refl, (tt, (tt, (tt, tt)))))))))
+
+  bank_allowed : IsAllowed bank_unpaid
+  bank_allowed = (tt, (refl, (tt, (refl, (tt, (tt, tt))))))
+
+  pub undone_allowed : AreAllowed undone.services
+  undone_allowed = all_two IsAllowed shop_acked bank_unpaid shop_allowed bank_allowed
+
+  -- and without rules the same order wasn't
+  not_without_rules : IsAllowed (record shop_acked { rules = [] }) → ⊥
+  not_without_rules h = no_rule h.1.1.1.1.1.0
+    where
+      no_rule : Deny 0 ≡ Allow 1 → ⊥
+      no_rule is = cc

@@ -27,7 +27,7 @@ use Rattle.flights.specs.declared.flight.Flight.{Flight}
 use Rattle.service_events.specs.Arriving.{accepted, admitted, known_by, arrives_or_known, by_version, unless_gone, arrive_event, is_for, live_answer_rows, answered_flight, call_answered_event, told, failed_flight, call_failed_event}
 use Rattle.service_events.specs.Calls.{noted}
 use Rattle.service_events.specs.Flying.{awaited, goes_on}
-use Rattle.service_events.specs.Messages.{rule, origin_of, is_known, is_too_much, acked_again, taken_by, taken, take_admitted, take_event, confirmed_row, seen_row, heard, answer_taken_where, take_answer_event, had, replies_to, is_now, hold_of, held_back, held_where, posted, posted_event}
+use Rattle.service_events.specs.Messages.{hear_new, take_new, origin_of, is_known, is_too_much, acked_again, taken, take_admitted, take_event, confirmed_row, heard, answer_taken_where, take_answer_event, had, replies_to, is_now, hold_of, held_back, held_where, posted, posted_event}
 use Rattle.service_events.specs.Orders.{order_by, order_where, refused as why_refused}
 use Rattle.service_events.specs.Posts.{next_post}
 use Rattle.service_events.specs.State.{Kept, After, after, or_else, is_crowded, is_heavy, is_in_flight, flight_of}
@@ -44,6 +44,7 @@ use Rattle.service_events.specs.declared.refusals.CallRefused.{CallRefused}
 use Rattle.service_events.specs.declared.refusals.OrderRefused.{OrderRefused}
 use Rattle.service_events.specs.declared.refusals.PostRefused.{PostRefused}
 use Rattle.service_events.specs.declared.refusals.TakeRefused.{TakeRefused}
+use Rattle.service_entry_laws.proofs.AskedLemmas.{take_either, hear_either}
 use Rattle.world_agreement.specs.Partners.{has_name, service_of}
 use Rattle.world_agreement.proofs.ListLemmas.{some_is}
 use Rattle.world_events.specs.Worlds.{World, with_service, packet_of, next_inputs, once_drawn, once_lost, loss_note}
@@ -105,8 +106,8 @@ module _ (s : Kept) where
   take_admitted_stays : (set : SetMessage) (i : Inputs) (full : Option ℕ) → StaysIfRefused s (take_admitted s set i full)
   take_admitted_stays set i (Some n) = λ bad. refl
   take_admitted_stays set i None =
-      cond_both (is_known s set) (after (acked_again s set) (Ok (taken set None))) (after (taken_by s set i (find_call (origin_of set) s.entries) set.desired) (Ok (taken set (Some rule)))) (StaysIfRefused s)
-      (λ _ bad. cc) (λ _ bad. cc)
+      cond_both (is_known s set) (after (acked_again s set) (Ok (taken set None))) (take_new s set i) (StaysIfRefused s)
+      (λ _ bad. cc) (λ _. take_either s set i (StaysIfRefused s) (λ bad. refl) (λ bad. cc))
 
   take_stays : (set : SetMessage) (i : Inputs) → StaysIfRefused s (take_event s set i)
   take_stays set i =
@@ -119,10 +120,10 @@ module _ (s : Kept) where
     where
       by : (goes new : Bool)
           → StaysIfRefused {A = Heard} {E = AnswerRefused} s (cond (not goes) (after s (Err (AnswerRefused.Unknown a.number)))
-          (cond new (after (noted (seen_row a ∷ (confirmed_row a ∷ [])) s) (Ok (heard a (Some rule)))) (after (noted (confirmed_row a ∷ []) s) (Ok (heard a None)))))
-      by false new bad = refl
-      by true true bad = cc
-      by true false bad = cc
+          (cond new (hear_new s a r) (after (noted (confirmed_row a ∷ []) s) (Ok (heard a None)))))
+      by false new = λ bad. refl
+      by true true = hear_either s a r (StaysIfRefused s) (λ bad. refl) (λ bad. cc)
+      by true false = λ bad. cc
 
   held_stays : (post : Post) (o : Option Hold) → StaysIfRefused s (held_where s post o)
   held_stays post None = λ bad. refl
@@ -145,7 +146,7 @@ module _ (s : Kept) where
 
   order_stays : (command : Command) (token who : List ℕ) (i : Inputs) (o : Option OrderedRow) → StaysIfRefused s (order_where s command token who i o)
   order_stays command token who i (Some o) = λ bad. refl
-  order_stays command token who i None = order_by_stays command token who i (why_refused s command)
+  order_stays command token who i None = order_by_stays command token who i (why_refused s command who)
 
 -- ---- what is told of it
 

@@ -34,7 +34,7 @@ use Rattle.flights.specs.declared.flight.Flight.{Flight}
 use Rattle.service_events.specs.Arriving.{abandoned, abandon_event}
 use Rattle.service_events.specs.Calls.{noted, all_deleted}
 use Rattle.service_events.specs.Fits.{Fits, sent_by}
-use Rattle.service_events.specs.Messages.{rule, origin_of, is_known, is_too_much, ack_of, acked_row, took_row, acked_again, taken_by, taken, take_admitted, take_event, confirm_of, confirmed_row, seen_row, heard, answer_taken_where, take_answer_event, had_call, had, is_ack_of, replies_to, is_now, hold_of, held_back, held_where, posted, posted_event}
+use Rattle.service_events.specs.Messages.{hear_new, hear_rule, take_new, take_rule, origin_of, is_known, is_too_much, ack_of, acked_row, took_row, acked_again, taken_by, taken, take_admitted, take_event, confirm_of, confirmed_row, seen_row, heard, answer_taken_where, take_answer_event, had_call, had, is_ack_of, replies_to, is_now, hold_of, held_back, held_where, posted, posted_event}
 use Rattle.service_events.specs.Orders.{order_rows, carried_out, order_by, order_where, refused, order_event}
 use Rattle.service_events.specs.Posts.{set_message, answer_post, reply_post, where_there, write_post}
 use Rattle.service_events.specs.State.{Kept, After, after, me, answers, is_in_flight, flight_of, has_flight, next_id, base}
@@ -48,6 +48,7 @@ use Rattle.service_events.specs.declared.refusals.AnswerRefused.{AnswerRefused}
 use Rattle.service_events.specs.declared.refusals.OrderRefused.{OrderRefused}
 use Rattle.service_events.specs.declared.refusals.PostRefused.{PostRefused}
 use Rattle.service_events.specs.declared.refusals.TakeRefused.{TakeRefused}
+use Rattle.service_entry_laws.proofs.AskedLemmas.{take_either, hear_either}
 use Rattle.service_call_laws.proofs.KindLemmas.{sends_deleted, sends_settled}
 use Rattle.service_call_laws.proofs.RowLemmas.{Each, each_append, each_weaker, all_of_each, IsSending}
 use Rattle.service_entry_laws.proofs.EntryLemmas.{found_itself}
@@ -134,7 +135,7 @@ module _ (services : List Kept) (s : Kept) (fits : Fits s) (flights : FlightsSta
 
   order_where_turns : (command : Command) (token who : List ℕ) (i : Inputs) (o : Option OrderedRow) → Turns services s (order_where s command token who i o).service
   order_where_turns command token who i (Some o) = no_turn services s flights
-  order_where_turns command token who i None = order_by_turns command token who i (refused s command)
+  order_where_turns command token who i None = order_by_turns command token who i (refused s command who)
 
   pub order_turns : (command : Command) (token who : List ℕ) (i : Inputs) → Turns services s (order_event s command token who i).service
   order_turns command token who i = order_where_turns command token who i (ordered token s.journal)
@@ -175,7 +176,7 @@ module _ (services : List Kept) (s : Kept) (fits : Fits s) (flights : FlightsSta
       (Contains-append_right s.journal (rows ++ acked_row set ∷ []) (acked_row set) (Contains-push rows (acked_row set)))
 
   module _ (set : SetMessage) (sent : WasSent services set) (dest : set.dest ≡ me s) where
-    took_partner : HasPartner services s (took_row set)
+    took_partner : HasPartner services s (took_row s set)
     took_partner = (let D : List ℕ → Type 0 = λ d. JournalOf services set.caller (HasSent d set.number set.version set.desired) in subst D dest sent)
 
     takes_by : (t : Kept) (rows : List Row) (by : Option ℕ) → t.journal ≡ s.journal ++ (rows ++ acked_row set ∷ []) → t.setting ≡ s.setting → t.flights ≡ s.flights
@@ -183,17 +184,17 @@ module _ (services : List Kept) (s : Kept) (fits : Fits s) (flights : FlightsSta
     takes_by t rows by journal setting same partners =
         record { turns = took_turns t rows set journal setting same partners; says = (refl, acked_last t rows set journal) }
 
-    takes_new : (i : Inputs) (o : Option Entry) (d : Option Request) → Takes set (after (taken_by s set i o d) (Ok (taken set (Some rule))))
+    takes_new : (i : Inputs) (o : Option Entry) (d : Option Request) → Takes set (after (taken_by s set i o d) (Ok (taken set (Some (take_rule s set)))))
     takes_new i (Some e) d =
-        takes_by (taken_by s set i (Some e) d) (took_row set ∷ []) (Some rule) refl refl refl
-        (All-cons (HasPartner services s) (took_row set) [] took_partner (All-nil (HasPartner services s)))
+        takes_by (taken_by s set i (Some e) d) (took_row s set ∷ []) (Some (take_rule s set)) refl refl refl
+        (All-cons (HasPartner services s) (took_row s set) [] took_partner (All-nil (HasPartner services s)))
     takes_new i None (Some q) =
         let asks : Row = Asked (record { id = next_id s; origin = origin_of set; request = q; inputs = i }) in
-        takes_by (taken_by s set i None (Some q)) (took_row set ∷ (asks ∷ [])) (Some rule) refl refl refl
-        (All-cons (HasPartner services s) (took_row set) (asks ∷ []) took_partner (All-cons (HasPartner services s) asks [] tt (All-nil (HasPartner services s))))
+        takes_by (taken_by s set i None (Some q)) (took_row s set ∷ (asks ∷ [])) (Some (take_rule s set)) refl refl refl
+        (All-cons (HasPartner services s) (took_row s set) (asks ∷ []) took_partner (All-cons (HasPartner services s) asks [] tt (All-nil (HasPartner services s))))
     takes_new i None None =
-        takes_by (taken_by s set i None None) (took_row set ∷ []) (Some rule) refl refl refl
-        (All-cons (HasPartner services s) (took_row set) [] took_partner (All-nil (HasPartner services s)))
+        takes_by (taken_by s set i None None) (took_row s set ∷ []) (Some (take_rule s set)) refl refl refl
+        (All-cons (HasPartner services s) (took_row s set) [] took_partner (All-nil (HasPartner services s)))
 
     takes_not : (why : TakeRefused) → Takes set (after s (Err why))
     takes_not why = record { turns = no_turn services s flights; says = tt }
@@ -201,9 +202,9 @@ module _ (services : List Kept) (s : Kept) (fits : Fits s) (flights : FlightsSta
     admitted_takes : (i : Inputs) (full : Option ℕ) → Takes set (take_admitted s set i full)
     admitted_takes i (Some n) = takes_not (TakeRefused.Full n)
     admitted_takes i None =
-        cond_both (is_known s set) (after (acked_again s set) (Ok (taken set None))) (after (taken_by s set i (find_call (origin_of set) s.entries) set.desired) (Ok (taken set (Some rule)))) (Takes set)
+        cond_both (is_known s set) (after (acked_again s set) (Ok (taken set None))) (take_new s set i) (Takes set)
         (λ _. takes_by (acked_again s set) [] None refl refl refl (All-nil (HasPartner services s)))
-        (λ _. takes_new i (find_call (origin_of set) s.entries) set.desired)
+        (λ _. take_either s set i (Takes set) (takes_not (TakeRefused.Denied (take_rule s set))) (takes_new i (find_call (origin_of set) s.entries) set.desired))
 
     pub take_takes : (i : Inputs) → Takes set (take_event s set i)
     take_takes i =
@@ -235,14 +236,16 @@ module _ (services : List Kept) (s : Kept) (fits : Fits s) (flights : FlightsSta
     }
 
     heard_new : (r : Register) → IsHeard services s a r → (b : Bool)
-        → KeepsOver a (cond b (after (noted (seen_row a ∷ (confirmed_row a ∷ [])) s) (Ok (heard a (Some rule)))) (after (noted (confirmed_row a ∷ []) s) (Ok (heard a None))))
+        → KeepsOver a (cond b (hear_new s a r) (after (noted (confirmed_row a ∷ []) s) (Ok (heard a None))))
     heard_new r h true =
-        hears_by (seen_row a ∷ []) (Some rule) (All-cons (HasPartner services s) (seen_row a) [] (heard_said services s fits a r h) (All-nil (HasPartner services s)))
+        let row = seen_row (hear_rule s a r) a in
+        hear_either s a r (KeepsOver a) (hears_not (AnswerRefused.Denied (hear_rule s a r)))
+        (hears_by (row ∷ []) (Some (hear_rule s a r)) (All-cons (HasPartner services s) row [] (heard_said services s fits a r h) (All-nil (HasPartner services s))))
     heard_new r h false = hears_by [] None (All-nil (HasPartner services s))
 
     heard_if : (r : Register) → register a.number s.registers ≡ Some r → (b : Bool) → same_text r.dest a.callee ≡ b
         → KeepsOver a (cond (not b) (after s (Err (AnswerRefused.Unknown a.number)))
-        (cond (is_newer r.answer a.answer_version) (after (noted (seen_row a ∷ (confirmed_row a ∷ [])) s) (Ok (heard a (Some rule)))) (after (noted (confirmed_row a ∷ []) s) (Ok (heard a None)))))
+        (cond (is_newer r.answer a.answer_version) (hear_new s a r) (after (noted (confirmed_row a ∷ []) s) (Ok (heard a None)))))
     heard_if r found true is =
         heard_new r (record { there = found; dest = text_is r.dest a.callee is; caller = caller; answered = answered }) (is_newer r.answer a.answer_version)
     heard_if r found false is = hears_not (AnswerRefused.Unknown a.number)

@@ -76,7 +76,7 @@ module _ (program : List Route) (token : List ℕ) where
   acked = noted (saw_ack_row ack ∷ []) tried
 
   abbrev heard : Kept
-  heard = noted (seen_row (paid_answer program token) ∷ (confirmed_row (paid_answer program token) ∷ [])) acked
+  heard = noted (seen_row 1 (paid_answer program token) ∷ (confirmed_row (paid_answer program token) ∷ [])) acked
 
   abbrev made : Made
   made = record { alive = true; version = 0; request = buy; trace = bought_trace program token }
