@@ -70,9 +70,9 @@ is_word_of_rules text = same_text text (codes "console") || same_text text (code
 abbrev pub is_service_name : List ℕ → Bool
 is_service_name text = is_name text && not (is_word_of_rules text)
 
--- the rules that allow all
-abbrev pub allows_all : List ℕ → Bool
-allows_all text = same_text text (codes "allow any any any /") || same_text text (codes "allow any any any /\n")
+-- a text of rules: at most 65,536 bytes
+abbrev pub is_rules_text : List ℕ → Bool
+is_rules_text text = is_between 0 65536 (length text)
 
 abbrev pub is_secret : List ℕ → Bool
 is_secret text = is_between 1 256 (length text)
@@ -85,7 +85,7 @@ abbrev pub name_in : Data → Read (List ℕ)
 name_in service = and_then (text_in field.Name service) (passing is_service_name field.Name)
 
 abbrev pub rules_in : Data → Read (List ℕ)
-rules_in service = and_then (text_in field.Rules service) (passing allows_all field.Rules)
+rules_in service = and_then (text_in field.Rules service) (passing is_rules_text field.Rules)
 
 abbrev pub secret_in : Field → Data → Read (List ℕ)
 secret_in field service = and_then (text_in field service) (passing is_secret field)
@@ -110,6 +110,7 @@ weight_in service = weight_of (get (field_word field.Weight) service)
 pub record Fields : Type 0 where
   pub name : List ℕ
   pub program : List ℕ
+  pub rules : List ℕ
   pub secret : List ℕ
   pub console : List ℕ
   pub door : List ℕ
@@ -126,7 +127,7 @@ rest_in service name =
     and_then (door_in service) (λ door.
     and_then (workers_in service) (λ workers.
     and_then (weight_in service) (λ weight.
-    Ok (record { name = name; program = program; secret = secret; console = console; door = door; workers = workers; weight = weight }))))))))
+    Ok (record { name = name; program = program; rules = rules; secret = secret; console = console; door = door; workers = workers; weight = weight }))))))))
 
 -- all fields in their order; the first that is missing or bad is the fault
 abbrev pub fields_in : Data → Read Fields

@@ -3,6 +3,8 @@ use Rattle.std.specs.Prelude.{ℕ, List, ◌++◌, codes, decimal}
 use Rattle.handler_lang.specs.Numbers.{refusal_number as program_number}
 use Rattle.handler_lang.specs.declared.refused.ProgramRefused.{ProgramRefused}
 use Rattle.handler_lang.specs.declared.refused.ProgramRefused.TheVariants as program
+use Rattle.authorise_rules.specs.Reading.{refusal_number as rules_number}
+use Rattle.authorise_rules.specs.Refusals.{line_refused}
 use Rattle.world_file.specs.Fields.{field_word}
 use Rattle.world_file.specs.declared.refused.WorldRefused.{WorldRefused}
 use Rattle.world_file.specs.declared.refused.WorldRefused.TheVariants as refusal
@@ -15,6 +17,7 @@ refusal_number (refusal.BadField field) = 3
 refusal_number (refusal.Twice name) = 4
 refusal_number refusal.TooMany = 5
 refusal_number (refusal.Program name refused) = 6
+refusal_number (refusal.Rules name refused) = 7
 
 -- the byte of a program's text at which it is refused
 abbrev pub refused_at : ProgramRefused → ℕ
@@ -36,3 +39,5 @@ refusal_text (refusal.Twice name) = codes "4 " ++ name
 refusal_text refusal.TooMany = codes "5"
 refusal_text (refusal.Program name refused) =
     codes "6 " ++ (name ++ (codes " " ++ (decimal (program_number refused) ++ (codes " " ++ decimal (refused_at refused)))))
+refusal_text (refusal.Rules name refused) =
+    codes "7 " ++ (name ++ (codes " " ++ (decimal (rules_number refused) ++ (codes " " ++ decimal (line_refused refused)))))

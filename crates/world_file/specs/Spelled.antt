@@ -12,7 +12,7 @@ use Rattle.world_file.specs.declared.members.Member.{Member as Held}
 use Rattle.world_file.specs.declared.standard.Standard.{Standard}
 
 abbrev pub fields_of : Spelled → Fields
-fields_of s = record { name = s.name; program = s.program.now; secret = s.secret.now; console = s.console.now; door = s.door.now; workers = s.workers; weight = s.weight }
+fields_of s = record { name = s.name; program = s.program.now; rules = s.rules.now; secret = s.secret.now; console = s.console.now; door = s.door.now; workers = s.workers; weight = s.weight }
 
 -- what was read, without its references
 abbrev pub seen : Result Spelled FieldFault → Read Fields
@@ -25,7 +25,7 @@ read_in service = fields_in (view service)
 
 -- a service that was read, without its references
 abbrev pub member_seen : Held → Member
-member_seen m = record { fields = fields_of m.spelled; program = m.program }
+member_seen m = record { fields = fields_of m.spelled; program = m.program; rules = m.rules }
 
 -- services that were read, without their references
 abbrev pub members_seen : List Held → List Member

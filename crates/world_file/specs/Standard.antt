@@ -6,11 +6,12 @@ use Rattle.world_file.specs.Fields.{Fields, Read}
 use Rattle.world_file.specs.Programs.{askbot_text, bank_text, dpaste_text, notes_text, oauth_text, shop_text}
 use Rattle.world_file.specs.Worlds.{Outcome, joined, members_behind}
 
--- what a world file would say of a service with this program at this door
+-- what a world file would say of a service with this program at this door, which allows every repair
 abbrev pub standard : List ℕ → List ℕ → List ℕ → Fields
 standard name program door = record {
   name = name;
   program = program;
+  rules = codes "allow any any any /";
   secret = codes "s";
   console = codes "c";
   door = door;

@@ -7,6 +7,9 @@ use Rattle.lang_tree.specs.declared.program.Route.{Route}
 use Rattle.lang_base.specs.Memory.{Unless}
 use Rattle.handler_lang.specs.Reading.{read_of}
 use Rattle.handler_lang.specs.declared.refused.ProgramRefused.{ProgramRefused}
+use Rattle.authorise_rules.specs.Reading.{read_of as rules_of}
+use Rattle.authorise_rules.specs.declared.refused.RulesRefused.{RulesRefused}
+use Rattle.authorise_rules.specs.declared.rule.Rule.{Rule}
 use Rattle.serde_json.specs.Data.{Data, Items, no_items, item}
 use Rattle.serde_json.specs.Find.{get, as_array}
 use Rattle.serde_json.specs.Read.{read}
@@ -17,7 +20,7 @@ use Rattle.world_file.specs.declared.field.FieldFault.{FieldFault}
 use Rattle.world_file.specs.declared.field.FieldFault.TheVariants as fault
 use Rattle.world_file.specs.declared.setup.Setup.{Setup}
 use Rattle.world_file.specs.declared.refused.WorldRefused.{WorldRefused}
-use Rattle.world_file.specs.declared.refused.WorldRefused.TheVariants.{NoMemory, NotJson, Missing, BadField, Twice, TooMany, Program}
+use Rattle.world_file.specs.declared.refused.WorldRefused.TheVariants.{NoMemory, NotJson, Missing, BadField, Twice, TooMany, Program, Rules}
 
 -- what was read, or the refusal
 abbrev pub Outcome : Type 0 → Type 0
@@ -29,10 +32,11 @@ refusal_of (fault.Bad field) = BadField field
 
 -- ---- the services, one after another
 
--- a service of a world: what its fields say, and the routes of its program
+-- a service of a world: what its fields say, the routes of its program, and its rules
 pub record Member : Type 0 where
   pub fields : Fields
   pub program : List Route
+  pub rules : List Rule
 
 abbrev pub member_name : Member → List ℕ
 member_name m = m.fields.name
@@ -41,12 +45,17 @@ member_name m = m.fields.name
 abbrev pub is_taken : List Member → List ℕ → Bool
 is_taken earlier name = list_any (λ m. same_text (member_name m) name) earlier
 
--- the service, where its program is one
+-- the service, where its rules are such
+abbrev pub with_rules : Fields → List Route → Result (List Rule) RulesRefused → Outcome Member
+with_rules fields routes (Ok rules) = Ok (record { fields = fields; program = routes; rules = rules })
+with_rules fields routes (Err refused) = Err (Rules fields.name refused)
+
+-- the service, where its program is one, and then its rules are
 abbrev pub with_program : Fields → Result (List Route) ProgramRefused → Outcome Member
-with_program fields (Ok routes) = Ok (record { fields = fields; program = routes })
+with_program fields (Ok routes) = with_rules fields routes (rules_of fields.rules)
 with_program fields (Err refused) = Err (Program fields.name refused)
 
--- all fields are tested first, then the name among those of earlier services, then the program
+-- all fields are tested first, then the name among those of earlier services, then the program, then the rules
 abbrev pub member_of : List Member → Read Fields → Outcome Member
 member_of earlier (Ok fields) =
     if is_taken earlier fields.name then Err (Twice fields.name) else with_program fields (read_of fields.program)
@@ -74,6 +83,7 @@ setup_of names m = record {
     weight = m.fields.weight;
     alone = not_among_others (member_name m) names;
   };
+  rules = m.rules;
   secret = m.fields.secret;
   console = m.fields.console;
   door = m.fields.door;

@@ -1,7 +1,7 @@
 // The fields of one service, read from its JSON value.
 ghost use Rattle.std.specs.Prelude.{◌≡◌, IfOk, IfErr, Ok, Err};
 ghost use Rattle.serde_json.specs.View.{view};
-ghost use Rattle.world_file.specs.Fields.{allows_all, door_in, fields_in, is_between, is_door, is_secret, is_word_of_rules, name_in, number_between, rest_in, rules_in, secret_in, text_in, wanted, weight_in, workers_in};
+ghost use Rattle.world_file.specs.Fields.{door_in, fields_in, is_between, is_door, is_rules_text, is_secret, is_word_of_rules, name_in, number_between, rest_in, rules_in, secret_in, text_in, wanted, weight_in, workers_in};
 ghost use Rattle.world_file.specs.Spelled.{seen};
 
 use crate::field::{Field, FieldFault};
@@ -18,6 +18,9 @@ pub const LEAST_WEIGHT: u64 = 1000;
 /// The most workers of a service.
 pub const MOST_WORKERS: u64 = 8;
 
+/// The most bytes of a text of rules.
+pub const LONGEST_RULES: u64 = 65536;
+
 /// The most bytes of a secret.
 pub const LONGEST_SECRET: u64 = 256;
 
@@ -29,6 +32,7 @@ pub const LONGEST_DOOR: u64 = 64;
 pub struct Spelled<'v> {
     pub name: Name,
     pub program: &'v str,
+    pub rules: &'v str,
     pub secret: &'v str,
     pub console: &'v str,
     pub door: &'v str,
@@ -80,10 +84,10 @@ fn is_word_of_rules(text: &str) -> bool
     text == "console" || text == "any"
 }
 
-fn allows_all(text: &str) -> bool
-    ensures { result ≡ allows_all text.now }
+fn is_rules_text(text: &str) -> bool
+    ensures { result ≡ is_rules_text text.now }
 {
-    text == "allow any any any /" || text == "allow any any any /\n"
+    is_between(0, LONGEST_RULES, text.len() as u64)
 }
 
 fn is_secret(text: &str) -> bool
@@ -119,7 +123,7 @@ fn rules_in(service: &Value) -> Result<&str, FieldFault>
     ensures fault { IfErr result (λ fault. rules_in (view service.now) ≡ Err fault) }
 {
     let rules = text_in(service, Field::Rules)?;
-    if allows_all(rules) {
+    if is_rules_text(rules) {
         Ok(rules)
     } else {
         Err(FieldFault::Bad(Field::Rules))
@@ -172,10 +176,10 @@ fn rest_in(service: &Value, name: Name) -> Result<Spelled<'_>, FieldFault>
     ensures { seen result ≡ rest_in (view service.now) name }
 {
     let program = text_in(service, Field::Program)?;
-    rules_in(service)?;
     Ok(Spelled {
         name,
         program,
+        rules: rules_in(service)?,
         secret: secret_in(service, Field::Secret)?,
         console: secret_in(service, Field::Console)?,
         door: door_in(service)?,

@@ -1,25 +1,42 @@
 // The services of a world, read one after another.
 ghost use Rattle.std.specs.Prelude.{◌≡◌, [], ◌∷◌, ◌++◌, Ok, IfOk, IfErr, OnOk, map};
+ghost use Rattle.authorise_rules.specs.Reading.{read_of as rules_of};
 ghost use Rattle.handler_lang.specs.Reading.{read_of};
 ghost use Rattle.world_file.specs.Spelled.{fields_of, member_seen, members_seen, read_in, seen};
-ghost use Rattle.world_file.specs.Worlds.{Refuses, is_taken, member_of, members_behind, with_program};
+ghost use Rattle.world_file.specs.Worlds.{Refuses, is_taken, member_of, members_behind, with_program, with_rules};
 
 use crate::field::FieldFault;
 use crate::fields::{Spelled, fields_in};
 use crate::refused::WorldRefused;
+use authorise_rules::{Rules, RulesRefused, read_rules};
 use handler_lang::{ProgramRefused, read_program};
 use lang_core::{Name, NoMemory, Program};
 use serde_json::Value;
 use std::alloc::Global;
 
-/// A service that was read: what its fields say, and its program.
+/// A service that was read: what its fields say, its program, and its rules.
 #[derive(Drop)]
 pub struct Member<'v> {
     pub spelled: Spelled<'v>,
     pub program: Program,
+    pub rules: Rules,
 }
 
-// The service with these fields, or why its program is none.
+// The service with these fields and this program, or why its rules are none.
+fn with_rules(alloc: Global, spelled: Spelled<'_>, program: Program) -> Result<Member<'_>, WorldRefused>
+    ensures member { IfOk result (λ member.
+        with_rules (fields_of spelled.entry) program (rules_of spelled.entry.rules.now) ≡ Ok (member_seen member)) }
+    ensures refused { IfErr result (λ why.
+        Refuses why (with_rules (fields_of spelled.entry) program (rules_of spelled.entry.rules.now))) }
+{
+    match read_rules(alloc, spelled.rules) {
+        Ok(rules) => Ok(Member { spelled, program, rules }),
+        Err(RulesRefused::NoMemory) => Err(WorldRefused::NoMemory),
+        Err(refused) => Err(WorldRefused::Rules(spelled.name, refused)),
+    }
+}
+
+// The service with these fields, or why its program or its rules are none.
 fn with_program(alloc: Global, spelled: Spelled<'_>) -> Result<Member<'_>, WorldRefused>
     ensures member { IfOk result (λ member.
         with_program (fields_of spelled.entry) (read_of spelled.entry.program.now) ≡ Ok (member_seen member)) }
@@ -27,7 +44,7 @@ fn with_program(alloc: Global, spelled: Spelled<'_>) -> Result<Member<'_>, World
         Refuses why (with_program (fields_of spelled.entry) (read_of spelled.entry.program.now))) }
 {
     match read_program(alloc, spelled.program) {
-        Ok(program) => Ok(Member { spelled, program }),
+        Ok(program) => with_rules(alloc, spelled, program),
         Err(ProgramRefused::NoMemory) => Err(WorldRefused::NoMemory),
         Err(refused) => Err(WorldRefused::Program(spelled.name, refused)),
     }

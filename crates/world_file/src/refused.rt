@@ -1,14 +1,16 @@
 // Why a file is refused as a world.
 ghost use Rattle.std.specs.Prelude.{◌≡◌};
+ghost use Rattle.authorise_rules.specs.Refusals.{line_refused};
 ghost use Rattle.world_file.specs.Numbers.{refused_at, refusal_number};
 
 use crate::field::{Field, FieldFault};
+use authorise_rules::RulesRefused;
 use handler_lang::ProgramRefused;
 use lang_core::{Name, NoMemory};
 use std::fmt;
 
 /// Why the bytes of a file are refused as a world. Tests come in this order: JSON, the list of services, how many they are,
-/// and then for each service in turn its fields, its name among the earlier ones, and its program. The first is the refusal.
+/// and then for each service in turn its fields, its name among the earlier ones, its program, and its rules. The first is the refusal.
 #[derive(Drop)]
 pub enum WorldRefused {
     /// Memory ran out. Nothing is known of the file.
@@ -25,10 +27,12 @@ pub enum WorldRefused {
     TooMany,
     /// The program of the service of this name is refused.
     Program(Name, ProgramRefused),
+    /// The rules of the service of this name are refused.
+    Rules(Name, RulesRefused),
 }
 
 impl WorldRefused {
-    /// The refusal's number, from 1 to 6; 0 for want of memory.
+    /// The refusal's number, from 1 to 7; 0 for want of memory.
     pub fn number(&self) -> u64
         ensures { result ≡ refusal_number self.now }
     {
@@ -40,6 +44,7 @@ impl WorldRefused {
             WorldRefused::Twice(_) => 4,
             WorldRefused::TooMany => 5,
             WorldRefused::Program(_, _) => 6,
+            WorldRefused::Rules(_, _) => 7,
         }
     }
 }
@@ -59,8 +64,21 @@ fn refused_at(refused: ProgramRefused) -> u64
     }
 }
 
-/// The refusal's number, and what it is about: a field, or a service's name, or that name, the number of its program's
-/// refusal and the byte of the text where that stands.
+// The line of a text of rules at which it is refused.
+fn line_refused(refused: RulesRefused) -> u64
+    ensures { result ≡ line_refused refused }
+{
+    match refused {
+        RulesRefused::NoMemory => 0,
+        RulesRefused::BadVerb(line)
+        | RulesRefused::BadKind(line)
+        | RulesRefused::BadField(line)
+        | RulesRefused::TooMany(line) => line,
+    }
+}
+
+/// The refusal's number, and what it is about: a field, or a service's name, or that name, the number of its program's or
+/// its rules' refusal, and the byte or the line of the text where that stands.
 impl fmt::Display for WorldRefused {
     ghost use Rattle.std.specs.Prelude.{Some};
     ghost use Rattle.world_file.specs.Numbers.{refusal_text};
@@ -89,6 +107,12 @@ impl fmt::Display for WorldRefused {
                 let number = refused.number();
                 let place = refused_at(*refused);
                 write!(f, "6 {name} {number} {place}")
+            }
+            WorldRefused::Rules(name, refused) => {
+                let name = name.as_str();
+                let number = refused.number();
+                let line = line_refused(*refused);
+                write!(f, "7 {name} {number} {line}")
             }
         }
     }

@@ -1,13 +1,16 @@
 // How a service is set up.
+use authorise_rules::Rules;
 use lang_base::both;
 use lang_core::{Copied, NoMemory, Setting, Text};
 use std::alloc::Global;
 
-/// How a service of a world is set up: its setting, and how it is reached.
+/// How a service of a world is set up: its setting, its rules, and how it is reached.
 #[derive(Drop)]
 pub struct Setup {
     /// Its name, the names of the others, its program, and how heavy its journal may grow.
     pub setting: Setting,
+    /// By which it allows repairs.
+    pub rules: Rules,
     /// The secret that seals its messages, of 1 to 256 bytes.
     pub secret: Text,
     /// The secret that seals console requests, of 1 to 256 bytes.
@@ -22,9 +25,11 @@ impl Copied for Setup {
     fn copied(&self, alloc: Global) -> Result<Setup, NoMemory> {
         let secrets = both(self.secret.copied(alloc), self.console.copied(alloc));
         let reached = both(secrets, self.door.copied(alloc));
-        let (setting, (secrets, door)) = both(self.setting.copied(alloc), reached)?;
+        let set = both(self.setting.copied(alloc), self.rules.copied(alloc));
+        let ((setting, rules), (secrets, door)) = both(set, reached)?;
         Ok(Setup {
             setting,
+            rules,
             secret: secrets.0,
             console: secrets.1,
             door,

@@ -33,6 +33,7 @@ fn spelled_of(alloc: Global, service: &Standard) -> Result<Spelled<'static>, NoM
     Ok(Spelled {
         name,
         program: service.program,
+        rules: "allow any any any /",
         secret: "s",
         console: "c",
         door: service.door,

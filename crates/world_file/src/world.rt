@@ -65,7 +65,11 @@ fn setting_of(
 fn set_up(alloc: Global, member: Member<'_>, names: &[Name]) -> Result<Setup, NoMemory>
     ensures { IfOk result (λ setup. setup ≡ setup_of names.now (member_seen member.entry)) }
 {
-    let Member { spelled, program } = member;
+    let Member {
+        spelled,
+        program,
+        rules,
+    } = member;
     let secret = Text::of(alloc, spelled.secret)?;
     let console = Text::of(alloc, spelled.console)?;
     let door = Text::of(alloc, spelled.door)?;
@@ -73,6 +77,7 @@ fn set_up(alloc: Global, member: Member<'_>, names: &[Name]) -> Result<Setup, No
     let setting = setting_of(alloc, spelled.name, program, spelled.weight, names)?;
     Ok(Setup {
         setting,
+        rules,
         secret,
         console,
         door,
