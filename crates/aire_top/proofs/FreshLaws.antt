@@ -74,7 +74,7 @@ pub setups_sound : (setups : List Setup) → KnowEachOther setups → IsSound (f
 setups_sound setups know =
     let services = map fresh_service setups in
     fresh_sound services (names_differ setups know)
-    (each_fresh Fits (λ setup. fits_start setup.setting) setups)
+    (each_fresh Fits (λ setup. fits_start setup.setting setup.rules) setups)
     (each_fresh (λ (s : Kept). All (HasPartner services s) s.journal) (λ setup. All-nil (HasPartner services (fresh_service setup))) setups)
     (each_fresh (λ (s : Kept). s.flights ≡ []) (λ setup. refl) setups)
 

@@ -6,7 +6,7 @@ use Rattle.world_file.specs.declared.setup.Setup.{Setup}
 
 -- it answered nothing yet
 abbrev pub fresh_service : Setup → Kept
-fresh_service setup = new_service setup.setting
+fresh_service setup = new_service setup.setting setup.rules
 
 -- the world that begins with them
 abbrev pub fresh : List Setup → World

@@ -16,6 +16,7 @@ use crate::ending::{
 use crate::loading::{LONGEST_SCRIPT, NoWorld, load_script, load_world};
 use crate::words::named;
 use io_edge::{Files, ReadRefused, Sink, Source};
+use lang_base::both;
 use lang_core::{Copied, NoMemory};
 use script_run::{ScriptRefused, Service, World, run_script};
 use std::alloc::Global;
@@ -61,8 +62,8 @@ fn services_of(alloc: Global, setups: &[Setup]) -> Result<Vec<Service>, NoMemory
 {
     let mut services = Vec::new(alloc);
     for setup in setups {
-        let setting = setup.setting.copied(alloc)?;
-        services.push(Service::new(alloc, setting))?;
+        let (setting, rules) = both(setup.setting.copied(alloc), setup.rules.copied(alloc))?;
+        services.push(Service::new(alloc, setting, rules))?;
     }
     Ok(services)
 }
