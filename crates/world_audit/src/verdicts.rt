@@ -2,6 +2,7 @@
 ghost use Rattle.std.specs.Prelude.{◌≡◌, ◌↔◌, All, MatchOption, None};
 ghost use Rattle.journal_rows.specs.declared.verdict.Verdict.{Verdict};
 ghost use Rattle.journal_rows.specs.declared.verdict.Verdict.TheVariants.{Legal};
+ghost use Rattle.service_events.specs.Allowed.{IsAllowed};
 ghost use Rattle.service_events.specs.Fits.{Fits};
 ghost use Rattle.world_agreement.specs.Partners.{HasPartner, IsJoined};
 ghost use Rattle.world_agreement.specs.Quiet.{AreQuiet};
@@ -35,9 +36,11 @@ fn first_alone(services: &[Service], service: &Service, rows: &[Row]) -> Option<
     None
 }
 
-// The first row of all without a partner. Where there is none, each service fits its journal, which was looked at.
+// The first row of all without a partner. Where there is none, each service fits its journal, which was looked at, and allowed
+// each repair in it.
 fn forged(services: &[Service]) -> Option<Found>
     ensures fits { result ≡ None → All Fits services.now }
+    ensures allowed { result ≡ None → All IsAllowed services.now }
     ensures first { MatchOption result (IsJoined services.now) (λ f. IsForged services.now f.at f.number) }
 {
     for (at, service) in services.iter().enumerate() {
@@ -79,6 +82,7 @@ fn unsettled(kind: OutstandingKind, found: Found) -> Verdict
 fn judged(services: &[Service]) -> Verdict
     ensures verdict { IsVerdict services.now result }
     ensures fits { (¬ (SaysForged result)) → All Fits services.now }
+    ensures allowed { (¬ (SaysForged result)) → All IsAllowed services.now }
 {
     if let Some(found) = forged(services) {
         return Verdict::Forged {
@@ -112,8 +116,9 @@ pub fn audit(services: &[Service]) -> Verdict
     ensures forged { SaysForged result ↔ (¬ (IsJoined services.now)) }
     ensures unsettled { SaysUnsettled result ↔ (IsJoined services.now × (¬ (AreQuiet services.now))) }
 
-    // Where it isn't Forged, each journal was looked at whole, and each service fits its own.
+    // Where it isn't Forged, each journal was looked at whole: each service fits its own, and its rules allowed each repair in it.
     ensures fits { (¬ (SaysForged result)) → All Fits services.now }
+    ensures allowed { (¬ (SaysForged result)) → All IsAllowed services.now }
 {
     judged(services)
 }

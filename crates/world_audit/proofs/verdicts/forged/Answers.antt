@@ -1,4 +1,5 @@
 use Rattle.std.proofs.lemmas.List.Elements.{AllWithin-more}
+use Rattle.service_events.specs.Allowed.{IsAllowed}
 use Rattle.service_events.specs.Fits.{Fits}
 use Rattle.world_audit.specs.Verdicts.{IsJoinedIn}
 use Rattle.world_audit.proofs.FirstLemmas.{found_forged, held_at}
@@ -12,6 +13,7 @@ loop-at-preserved c =
     record {
       joined = AllWithin-more (IsJoinedIn services) services 0 c.loop-at.at c.loop-at.invariant.joined (held_at (IsJoinedIn services) services c.loop-at.at s c.loop-at-test.true c.index-services-at.is joined);
       fits = AllWithin-more Fits services 0 c.loop-at.at c.loop-at.invariant.fits (held_at Fits services c.loop-at.at s c.loop-at-test.true c.index-services-at.is c.journal.ensures.fits);
+      allowed = AllWithin-more IsAllowed services 0 c.loop-at.at c.loop-at.invariant.allowed (held_at IsAllowed services c.loop-at.at s c.loop-at-test.true c.index-services-at.is c.journal.ensures.allowed);
     }
 
 pub returns-in-Some-clause-first : goal.returns-in-Some-clause-first
