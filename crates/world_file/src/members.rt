@@ -23,14 +23,22 @@ pub struct Member<'v> {
 }
 
 // The service with these fields and this program, or why its rules are none.
-fn with_rules(alloc: Global, spelled: Spelled<'_>, program: Program) -> Result<Member<'_>, WorldRefused>
+fn with_rules(
+    alloc: Global,
+    spelled: Spelled<'_>,
+    program: Program,
+) -> Result<Member<'_>, WorldRefused>
     ensures member { IfOk result (λ member.
         with_rules (fields_of spelled.entry) program (rules_of spelled.entry.rules.now) ≡ Ok (member_seen member)) }
     ensures refused { IfErr result (λ why.
         Refuses why (with_rules (fields_of spelled.entry) program (rules_of spelled.entry.rules.now))) }
 {
     match read_rules(alloc, spelled.rules) {
-        Ok(rules) => Ok(Member { spelled, program, rules }),
+        Ok(rules) => Ok(Member {
+            spelled,
+            program,
+            rules,
+        }),
         Err(RulesRefused::NoMemory) => Err(WorldRefused::NoMemory),
         Err(refused) => Err(WorldRefused::Rules(spelled.name, refused)),
     }
