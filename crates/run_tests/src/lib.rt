@@ -1,5 +1,5 @@
 //! Tests of whole runs over memory: of one service, of services that call one another, and of which requests a repair
-//! runs again.
+//! runs again; of rules, what they deny, and how services settle.
 #![tactic(auto)]
 
 #[cfg(test)]
@@ -12,6 +12,8 @@ mod memory;
 mod readers;
 #[cfg(test)]
 mod refusals;
+#[cfg(test)]
+mod ruled;
 #[cfg(test)]
 mod settling;
 #[cfg(test)]

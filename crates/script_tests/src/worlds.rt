@@ -56,10 +56,15 @@ program absent => 2 program
 program [] => 3 program
 rules absent => 2 rules
 rules {} => 3 rules
-rules "" => 3 rules
+rules "" => read
 rules "allow any any any /\n" => read
-rules "allow any any any /\n\n" => 3 rules
-rules "allow any any any /x" => 3 rules
+rules "allow any any any /\n\n" => read
+rules "allow any any any /x" => read
+rules "\n# nobody\ndeny any any any /" => read
+rules "permit any any any /" => 7 a 1 1
+rules "allow any any any /\nallow update any any /" => 7 a 2 2
+rules "\n# one\nallow any any any / " => 7 a 3 3
+rules "allow any any is: /\r\n" => 7 a 3 1
 secret absent => 2 secret
 secret true => 3 secret
 secret "" => 3 secret
@@ -121,7 +126,10 @@ const FILES: &str = r#"{ => 1
 {"services":[7]} => 2 name
 {"services":[{"name":"a"}]} => 2 program
 {"services":[{"name":"A","program":7}]} => 3 name
-{"services":[{"name":"a","program":"no","rules":""}]} => 3 rules
+{"services":[{"name":"a","program":"no","rules":7}]} => 3 rules
+{"services":[{"name":"a","program":"no","rules":"no"}]} => 2 secret
+{"services":[{"name":"a","program":"route","rules":"no","secret":"s","console":"c","door":"d","workers":4}]} => 6 a 1 5
+{"services":[{"name":"a","program":"","rules":"no","secret":"s","console":"c","door":"d","workers":4},{}]} => 7 a 1 1
 {"services":[{"program":"no","name":"a","weight":0}]} => 2 rules"#;
 
 fn check_file(rt: &(impl Abort + AllocGlobal), row: &str) {
@@ -179,6 +187,10 @@ fn texts_have_limits(rt: HostRuntime) {
     is_filled(&rt, "door", "d", 65, "3 door");
     is_filled(&rt, "program", " ", 65536, "read");
     is_filled(&rt, "program", " ", 65537, "6 a 6 65536");
+    is_filled(&rt, "rules", "#", 65536, "read");
+    is_filled(&rt, "rules", "#", 65537, "3 rules");
+    is_filled(&rt, "rules", "deny any any any /\\n", 256, "read");
+    is_filled(&rt, "rules", "deny any any any /\\n", 257, "7 a 4 257");
 }
 
 // Lists nest 127 deep at most.
