@@ -1,9 +1,10 @@
 -- Where a place stands in a list in order, told by one comparison.
-use Rattle.std.proofs.Common.{◌≡◌, ℕ, zero, suc, ◌+◌, ◌<◌, ◌≤◌, true, false, ◌&&◌, List, [], ◌∷◌, length, get_or, Some, None, refl, sym, ap, ◌∙◌, arith}
+use Rattle.std.proofs.Common.{◌≡◌, ℕ, zero, suc, ◌<◌, ◌≤◌, true, false, List, [], ◌∷◌, length, get_or, Some, None, refl, sym, ap, ◌∙◌, arith}
 use Rattle.std.specs.declared.cmp.Ordering.{Ordering}
 use Rattle.std.specs.declared.cmp.Ordering.TheVariants.{Less, Equal, Greater}
-use Rattle.std.specs.Ordering.{ordering_reverse, is_eq}
+use Rattle.std.specs.Ordering.{ordering_reverse, is_eq, is_gt}
 use Rattle.std.specs.List.{find}
+use Rattle.std.specs.List.Sorted.{IsPartitionedBy, IsPartitionPoint}
 use Rattle.lang_core.specs.Places.{Place, place_order, same_place, IsBelowAll, IsOrdered, by_order, rank, is_taken}
 use Rattle.std.proofs.lemmas.List.{get_or_default}
 use Rattle.lang_core.proofs.PlaceLemmas.{total, below_before}
@@ -21,57 +22,68 @@ module _ {X : Type 0} (place : X → Place) (p : Place) where
       let back : place_order (place x) p ≡ Less = total.antisymm (place x) p ∙ ap ordering_reverse h in
       total.antisymm p (place y) ∙ ap ordering_reverse (total.trans (place y) (place x) p lt back)
 
-  same_later : (y x : X) → place_order (place y) (place x) ≡ Less → place_order p (place x) ≡ Equal → place_order p (place y) ≡ Greater
-  same_later y x lt h = total.congr p (place x) (place y) h ∙ total.antisymm (place x) (place y) ∙ ap ordering_reverse lt
+  -- the tests that the search by halves asks: what is below stands in front
+  is_above : (o : Ordering) → is_gt o ≡ true → o ≡ Greater
+  is_above Less is = cc
+  is_above Equal is = cc
+  is_above Greater is = refl
 
-  pub rank_above : (xs : List X) (i : ℕ) (x : X) → IsOrdered place xs → i < length xs → x ≡ get_or xs i x → place_order p (place x) ≡ Greater → i + 1 ≤ rank place p xs
-  rank_above [] i x o lt is h = absurd (omega arith)
-  rank_above (y ∷ ys) zero x o lt is h =
-      let e : place_order p (place y) ≡ Greater = ap (λ z. place_order p (place z)) (sym is) ∙ h in
-      rw e (omega arith)
-  rank_above (y ∷ ys) (suc i) x o lt is h =
-      let e : place_order p (place y) ≡ Greater = above_earlier y x (below_each (place y) ys i x o.0 (omega arith) is) h in
-      let more = rank_above ys i x o.1 (omega arith) is h in
-      rw e (omega arith)
+  pub parted : (xs : List X) → IsOrdered place xs → IsPartitionedBy (λ x. is_gt (place_order p (place x))) xs
+  parted [] o i j d le lt h = absurd (omega (arith, lt))
+  parted (y ∷ ys) o zero zero d le lt h = h
+  parted (y ∷ ys) o zero (suc j) d le lt h =
+      let x = get_or ys j d in
+      let less = below_each (place y) ys j x o.0 (omega (arith, lt)) (get_or_default ys j d x (omega (arith, lt))) in
+      ap is_gt (above_earlier y x less (is_above (place_order p (place x)) h))
+  parted (y ∷ ys) o (suc i) zero d le lt h = absurd (omega (arith, le))
+  parted (y ∷ ys) o (suc i) (suc j) d le lt h = parted ys o.1 i j d (omega (arith, le)) (omega (arith, lt)) h
 
-  by_least : (o : Ordering) (n i : ℕ) → n ≤ i → by_order o 0 0 (suc n) ≤ suc i
-  by_least Less n i le = omega arith
-  by_least Equal n i le = omega arith
-  by_least Greater n i le = omega arith
+  rank_by : (y : X) (ys : List X) (n : ℕ) (o : Ordering) → place_order p (place y) ≡ o
+      → IsPartitionPoint (λ x. is_gt (place_order p (place x)) ≡ true) (λ x. is_gt (place_order p (place x)) ≡ false) (y ∷ ys) n → n ≤ suc (length ys)
+      → ((m : ℕ) → n ≡ suc m → m ≡ rank place p ys) → n ≡ by_order o 0 0 (suc (rank place p ys))
+  rank_by y ys zero Less e point le more = refl
+  rank_by y ys zero Equal e point le more = refl
+  rank_by y ys zero Greater e point le more = let here = point.1 zero y (omega arith) (omega arith) in let is = ap is_gt e in cc
+  rank_by y ys (suc n) Less e point le more = let here = point.0 zero y (omega arith) (omega arith) in let is = ap is_gt e in cc
+  rank_by y ys (suc n) Equal e point le more = let here = point.0 zero y (omega arith) (omega arith) in let is = ap is_gt e in cc
+  rank_by y ys (suc n) Greater e point le more = ap suc (more n refl)
 
-  pub rank_within : (xs : List X) → rank place p xs ≤ length xs
-  rank_within [] = omega arith
-  rank_within (y ∷ ys) = by_least (place_order p (place y)) (rank place p ys) (length ys) (rank_within ys)
+  -- the rank is where these are parted
+  pub rank_parted : (xs : List X) (n : ℕ) → n ≤ length xs
+      → IsPartitionPoint (λ x. is_gt (place_order p (place x)) ≡ true) (λ x. is_gt (place_order p (place x)) ≡ false) xs n → n ≡ rank place p xs
+  rank_parted [] n le point = omega (arith, le)
+  rank_parted (y ∷ ys) zero le point = rank_by y ys zero (place_order p (place y)) refl point le (λ m e. cc)
+  rank_parted (y ∷ ys) (suc n) le point =
+      rank_by y ys (suc n) (place_order p (place y)) refl point le (λ m e.
+      let is : n ≡ rank place p ys = rank_parted ys n (omega (arith, le)) (λ k d from to. point.0 (suc k) d (omega arith) (omega (arith, to)), λ k d from to. point.1 (suc k) d (omega (arith, from)) (omega (arith, to))) in
+      omega (arith, is, e))
 
-  pub rank_below : (xs : List X) (i : ℕ) (x : X) → i < length xs → x ≡ get_or xs i x → place_order p (place x) ≡ Less → rank place p xs ≤ i
-  rank_below [] i x lt is h = absurd (omega arith)
-  rank_below (y ∷ ys) zero x lt is h =
-      let e : place_order p (place y) ≡ Less = ap (λ z. place_order p (place z)) (sym is) ∙ h in
-      rw e (omega arith)
-  rank_below (y ∷ ys) (suc i) x lt is h = by_least (place_order p (place y)) (rank place p ys) i (rank_below ys i x (omega arith) is h)
+  nowhere_by : (y : X) (ys : List X) (o : Ordering) → by_order o 0 0 (suc (rank place p ys)) ≡ suc (length ys) → (rank place p ys ≡ length ys → is_taken place p ys ≡ false)
+      → by_order o false true (is_taken place p ys) ≡ false
+  nowhere_by y ys Less e more = refl
+  nowhere_by y ys Equal e more = cc
+  nowhere_by y ys Greater e more = more (omega (arith, e))
 
-  pub rank_here : (xs : List X) (i : ℕ) (x : X) → IsOrdered place xs → i < length xs → x ≡ get_or xs i x → place_order p (place x) ≡ Equal → (i ≡ rank place p xs) × (true ≡ is_taken place p xs)
-  rank_here [] i x o lt is h = absurd (omega arith)
-  rank_here (y ∷ ys) zero x o lt is h =
-      let e : place_order p (place y) ≡ Equal = ap (λ z. place_order p (place z)) (sym is) ∙ h in
-      (rw e refl, rw e refl)
-  rank_here (y ∷ ys) (suc i) x o lt is h =
-      let e : place_order p (place y) ≡ Greater = same_later y x (below_each (place y) ys i x o.0 (omega arith) is) h in
-      let more = rank_here ys i x o.1 (omega arith) is h in
-      (rw e (ap suc more.0), rw e more.1)
+  -- nothing stands at a place above all
+  pub taken_nowhere : (xs : List X) → rank place p xs ≡ length xs → is_taken place p xs ≡ false
+  taken_nowhere [] e = refl
+  taken_nowhere (y ∷ ys) e = nowhere_by y ys (place_order p (place y)) e (taken_nowhere ys)
 
-  -- nothing stands at the place where the one at its rank is above it
-  not_by : (y : X) (ys : List X) (o : Ordering) → place_order p (place y) ≡ o
-      → (by_order o 0 0 (suc (rank place p ys)) < suc (length ys) → place_order p (place (get_or (y ∷ ys) (by_order o 0 0 (suc (rank place p ys))) y)) ≡ Less)
-      → (((d : X) → rank place p ys < length ys → place_order p (place (get_or ys (rank place p ys) d)) ≡ Less) → false ≡ is_taken place p ys)
-      → false ≡ by_order o false true (is_taken place p ys)
-  not_by y ys Less e h more = refl
-  not_by y ys Equal e h more = let never = sym e ∙ h (omega arith) in cc
-  not_by y ys Greater e h more = more (λ d lt. ap (λ z. place_order p (place z)) (get_or_default ys (rank place p ys) d y lt) ∙ h (omega arith))
+  there_by : (y : X) (ys : List X) (x : X) (o : Ordering) → place_order p (place y) ≡ o → by_order o 0 0 (suc (rank place p ys)) < suc (length ys)
+      → x ≡ get_or (y ∷ ys) (by_order o 0 0 (suc (rank place p ys))) x
+      → (rank place p ys < length ys → x ≡ get_or ys (rank place p ys) x → is_eq (place_order p (place x)) ≡ is_taken place p ys)
+      → is_eq (place_order p (place x)) ≡ by_order o false true (is_taken place p ys)
+  there_by y ys x Less e lt is more = ap (λ z. is_eq (place_order p (place z))) is ∙ ap is_eq e
+  there_by y ys x Equal e lt is more = ap (λ z. is_eq (place_order p (place z))) is ∙ ap is_eq e
+  there_by y ys x Greater e lt is more = more (omega (arith, lt)) is
 
-  pub not_taken : (xs : List X) → ((d : X) → rank place p xs < length xs → place_order p (place (get_or xs (rank place p xs) d)) ≡ Less) → false ≡ is_taken place p xs
-  not_taken [] h = refl
-  not_taken (y ∷ ys) h = not_by y ys (place_order p (place y)) refl (λ lt. h y lt) (λ g. not_taken ys g)
+  at_rank : (xs : List X) (x : X) → rank place p xs < length xs → x ≡ get_or xs (rank place p xs) x → is_eq (place_order p (place x)) ≡ is_taken place p xs
+  at_rank [] x lt is = absurd (omega (arith, lt))
+  at_rank (y ∷ ys) x lt is = there_by y ys x (place_order p (place y)) refl lt is (at_rank ys x)
+
+  -- whether something stands at the place is told by what stands at its rank
+  pub taken_there : (xs : List X) (at : ℕ) (x : X) → at ≡ rank place p xs → at < length xs → x ≡ get_or xs at x → (o : Ordering) → o ≡ place_order p (place x) → is_eq o ≡ is_taken place p xs
+  taken_there xs at x rank_is lt is o same = ap is_eq same ∙ at_rank xs x (omega (arith, rank_is, lt)) (is ∙ ap (λ i. get_or xs i x) rank_is)
 
   same_by : (y : X) (o : Ordering) → place_order p (place y) ≡ o → same_place (place y) p ≡ is_eq (ordering_reverse o)
   same_by y o e = same-order (place y) p ∙ ap is_eq (total.antisymm (place y) p ∙ ap ordering_reverse e)
