@@ -4,7 +4,7 @@ use Rattle.std.specs.List.{find}
 use Rattle.std.specs.Option.{option_map_or}
 use Rattle.std.proofs.lemmas.Bool.{cases_Bool}
 use Rattle.std.proofs.lemmas.List.{set_split}
-use Rattle.lang_core.specs.Places.{Place, place_of, same_place, IsOrdered, set_in, rank, is_taken, past}
+use Rattle.lang_core.specs.Places.{Place, place_of, same_place, IsOrdered, IsRank, set_in, rank, is_taken, past}
 use Rattle.lang_core.proofs.PlaceLemmas.{set_edits, ordered-set}
 use Rattle.lang_core.proofs.ReadLemmas.{find-set_in, place_is, place_same}
 use Rattle.versioned_rows.specs.Rows.{row_place, held, labels_in, spare_of, spare_in, has_row, KeepsRows}
@@ -52,11 +52,51 @@ edits_nothing rows t k labels same u v = elim (cases_Bool (same_place (place_of 
 at_key : (rows : List KeyLabels) (t k u v : List ℕ) → same_place (place_of t k) (place_of u v) ≡ true → spare_in rows u v ≡ spare_in rows t k
 at_key rows t k u v e = ap (λ (q : Place). spare_in rows q.table q.key) (sym (place_is (place_of t k) (place_of u v) e))
 
+-- a row stands at the rank of its key
+pub record StandsAt (rows : List KeyLabels) (t k : List ℕ) (at : ℕ) (row : KeyLabels) : Type 0 where
+  pub ordered : IsOrdered row_place rows
+  pub rank_is : at ≡ rank row_place (place_of t k) rows
+  pub taken : is_taken row_place (place_of t k) rows ≡ true
+  pub is : row ≡ get_or rows at row
+  pub within : at < length rows
+
+-- the row that a search of these found
+pub found_row : {rows seen : List KeyLabels} {t k : List ℕ} {at : ℕ} {there : Bool} {row : KeyLabels} → seen ≡ rows → at ≡ rank row_place (place_of t k) seen
+    → there ≡ is_taken row_place (place_of t k) seen → IsRank at there (length seen) → there ≡ true → IsOrdered row_place rows → row ≡ get_or rows at row → StandsAt rows t k at row
+found_row {rows} {seen} {t} {k} {at} {there} {row} same rank_is taken_is inside here o is = record {
+  ordered = o;
+  rank_is = rank_is ∙ ap (rank row_place (place_of t k)) same;
+  taken = ap (is_taken row_place (place_of t k)) (sym same) ∙ sym taken_is ∙ here;
+  is = is;
+  within = let long = ap length same in let lt = inside.there here in omega (arith, long, lt);
+}
+
+-- a key with a place for a label has a row
+pub spare_stands : (rows : List KeyLabels) (t k : List ℕ) → IsOrdered row_place rows → 0 < spare_in rows t k → is_taken row_place (place_of t k) rows ≡ true
+spare_stands rows t k o spare = elim (cases_Bool (is_taken row_place (place_of t k) rows)) [
+  | inl e ↦ e
+  | inr free ↦ (let none : spare_in rows t k ≡ 0 = ap (λ o. option_map_or spare_of o 0) (find_none row_place (place_of t k) rows o free) in absurd (omega arith))
+]
+
+-- the same, where a place for a label tells that the row is there
+pub spare_found : {rows seen : List KeyLabels} (t k : List ℕ) {there : Bool} → seen ≡ rows → there ≡ is_taken row_place (place_of t k) seen → IsOrdered row_place rows → 0 < spare_in rows t k → there ≡ true
+spare_found {rows} t k same taken_is o spare = taken_is ∙ ap (is_taken row_place (place_of t k)) same ∙ spare_stands rows t k o spare
+
+pub spare_row : {rows seen : List KeyLabels} {t k : List ℕ} {at : ℕ} {there : Bool} {row : KeyLabels} → seen ≡ rows → at ≡ rank row_place (place_of t k) seen
+    → there ≡ is_taken row_place (place_of t k) seen → IsRank at there (length seen) → IsOrdered row_place rows → 0 < spare_in rows t k → row ≡ get_or rows at row → StandsAt rows t k at row
+spare_row {t = t} {k = k} same rank_is taken_is inside o spare is = found_row same rank_is taken_is inside (spare_found t k same taken_is o spare) o is
+
+pub spare_within : {rows seen : List KeyLabels} (t k : List ℕ) {at : ℕ} {there : Bool} → seen ≡ rows → there ≡ is_taken row_place (place_of t k) seen → IsRank at there (length seen)
+    → IsOrdered row_place rows → 0 < spare_in rows t k → at < length rows
+spare_within t k same taken_is inside o spare =
+    let long = ap length same in
+    let lt = inside.there (spare_found t k same taken_is o spare) in
+    omega (arith, long, lt)
+
 -- the row of a key, edited where it stands
-module _ (rows : List KeyLabels) (t k : List ℕ) (at : ℕ) (row : KeyLabels) (o : IsOrdered row_place rows) (rank_is : at ≡ rank row_place (place_of t k) rows)
-    (taken : is_taken row_place (place_of t k) rows ≡ true) (is : row ≡ get_or rows at row) (lt : at < length rows) where
+module _ {rows : List KeyLabels} {t k : List ℕ} {at : ℕ} {row : KeyLabels} (s : StandsAt rows t k at row) where
   row_found : find (λ r. same_place (row_place r) (place_of t k)) rows ≡ Some row
-  row_found = find_some row_place (place_of t k) rows row taken (is ∙ ap (λ i. get_or rows i row) rank_is)
+  row_found = find_some row_place (place_of t k) rows row s.taken (s.is ∙ ap (λ i. get_or rows i row) s.rank_is)
 
   row_at : row_place row ≡ place_of t k
   row_at = place_is (row_place row) (place_of t k) (found_passes (λ r. same_place (row_place r) (place_of t k)) rows row row_found)
@@ -76,14 +116,14 @@ module _ (rows : List KeyLabels) (t k : List ℕ) (at : ℕ) (row : KeyLabels) (
 
     is_set : set rows at new ≡ set_in row_place new rows
     is_set =
-        set_split rows at new lt
+        set_split rows at new s.within
         ∙ sym (set_edits row_place new rows
         ∙ ap (λ q. take (rank row_place q rows) rows ++ new ∷ drop (past (is_taken row_place q rows) (rank row_place q rows)) rows) new_at
-        ∙ ap (λ b. take (rank row_place (place_of t k) rows) rows ++ new ∷ drop (past b (rank row_place (place_of t k) rows)) rows) taken
-        ∙ ap (λ n. take n rows ++ new ∷ drop (suc n) rows) (sym rank_is))
+        ∙ ap (λ b. take (rank row_place (place_of t k) rows) rows ++ new ∷ drop (past b (rank row_place (place_of t k) rows)) rows) s.taken
+        ∙ ap (λ n. take n rows ++ new ∷ drop (suc n) rows) (sym s.rank_is))
 
     pub set_ordered : IsOrdered row_place (set rows at new)
-    set_ordered = rw is_set (ordered-set row_place new rows o)
+    set_ordered = rw is_set (ordered-set row_place new rows s.ordered)
 
     now_held : {X : Type 0} (f : KeyLabels → X) (none : X) (u v : List ℕ) → held f none (set rows at new) u v ≡ cond (same_place (place_of t k) (place_of u v)) (f new) (held f none rows u v)
     now_held f none u v = ap (λ l. held f none l u v) is_set ∙ held_set f none rows new u v
@@ -123,30 +163,38 @@ module _ (rows : List KeyLabels) (t k : List ℕ) (at : ℕ) (row : KeyLabels) (
         let e = set_spare t k ∙ ap (λ b. cond b (spare_of new) (spare_in rows t k)) (place_same (place_of t k) (place_of t k) refl) in
         omega arith
 
--- a new row without labels
-module _ (rows : List KeyLabels) (t k : List ℕ) (at : ℕ) (new : KeyLabels) (o : IsOrdered row_place rows) (rank_is : at ≡ rank row_place (place_of t k) rows)
-    (free : is_taken row_place (place_of t k) rows ≡ false) (table : new.table ≡ t) (key : new.key ≡ k) (empty : new.labels.items ≡ []) where
+-- a row without labels goes in at the rank of its key, at which none stands
+pub record GoesAt (rows : List KeyLabels) (t k : List ℕ) (at : ℕ) (new : KeyLabels) : Type 0 where
+  pub ordered : IsOrdered row_place rows
+  pub rank_is : at ≡ rank row_place (place_of t k) rows
+  pub free : is_taken row_place (place_of t k) rows ≡ false
+  pub table : new.table ≡ t
+  pub key : new.key ≡ k
+  pub empty : new.labels.items ≡ []
+
+-- a new row
+module _ {rows : List KeyLabels} {t k : List ℕ} {at : ℕ} {new : KeyLabels} (s : GoesAt rows t k at new) where
   new_place : row_place new ≡ place_of t k
-  new_place = λ i. record { table = table i; key = key i }
+  new_place = λ i. record { table = s.table i; key = s.key i }
 
   new_set : take at rows ++ new ∷ drop at rows ≡ set_in row_place new rows
   new_set = sym (set_edits row_place new rows
       ∙ ap (λ q. take (rank row_place q rows) rows ++ new ∷ drop (past (is_taken row_place q rows) (rank row_place q rows)) rows) new_place
-      ∙ ap (λ b. take (rank row_place (place_of t k) rows) rows ++ new ∷ drop (past b (rank row_place (place_of t k) rows)) rows) free
-      ∙ ap (λ n. take n rows ++ new ∷ drop n rows) (sym rank_is))
+      ∙ ap (λ b. take (rank row_place (place_of t k) rows) rows ++ new ∷ drop (past b (rank row_place (place_of t k) rows)) rows) s.free
+      ∙ ap (λ n. take n rows ++ new ∷ drop n rows) (sym s.rank_is))
 
   none_held : {X : Type 0} (f : KeyLabels → X) (none : X) → held f none rows t k ≡ none
-  none_held f none = ap (λ o. option_map_or f o none) (find_none row_place (place_of t k) rows o free)
+  none_held f none = ap (λ o. option_map_or f o none) (find_none row_place (place_of t k) rows s.ordered s.free)
 
   new_held : {X : Type 0} (f : KeyLabels → X) (none : X) (u v : List ℕ) → held f none (take at rows ++ new ∷ drop at rows) u v ≡ cond (same_place (place_of t k) (place_of u v)) (f new) (held f none rows u v)
   new_held f none u v = ap (λ l. held f none l u v) new_set ∙ held_set f none rows new u v
       ∙ ap (λ p. cond (same_place p (place_of u v)) (f new) (held f none rows u v)) new_place
 
   pub new_ordered : IsOrdered row_place (take at rows ++ new ∷ drop at rows)
-  new_ordered = rw new_set (ordered-set row_place new rows o)
+  new_ordered = rw new_set (ordered-set row_place new rows s.ordered)
 
   pub new_labels : (u v : List ℕ) → labels_in (take at rows ++ new ∷ drop at rows) u v ≡ labels_in rows u v
-  new_labels u v = new_held (λ (r : KeyLabels). r.labels.items) [] u v ∙ sym (edits_nothing rows t k new.labels.items (none_held (λ (r : KeyLabels). r.labels.items) [] ∙ sym empty) u v)
+  new_labels u v = new_held (λ (r : KeyLabels). r.labels.items) [] u v ∙ sym (edits_nothing rows t k new.labels.items (none_held (λ (r : KeyLabels). r.labels.items) [] ∙ sym s.empty) u v)
 
   pub new_kept : (u v : List ℕ) → spare_in rows u v ≤ spare_in (take at rows ++ new ∷ drop at rows) u v
   new_kept u v =
@@ -165,13 +213,6 @@ module _ (rows : List KeyLabels) (t k : List ℕ) (at : ℕ) (new : KeyLabels) (
   new_made n le =
       let e = new_held spare_of 0 t k ∙ ap (λ b. cond b (spare_of new) (spare_in rows t k)) (place_same (place_of t k) (place_of t k) refl) in
       omega arith
-
--- a key with a place for a label has a row
-pub spare_stands : (rows : List KeyLabels) (t k : List ℕ) → IsOrdered row_place rows → 0 < spare_in rows t k → is_taken row_place (place_of t k) rows ≡ true
-spare_stands rows t k o spare = elim (cases_Bool (is_taken row_place (place_of t k) rows)) [
-  | inl e ↦ e
-  | inr free ↦ (let none : spare_in rows t k ≡ 0 = ap (λ o. option_map_or spare_of o 0) (find_none row_place (place_of t k) rows o free) in absurd (omega arith))
-]
 
 pub ok_is : {A B X : Type 0} (r : Result A B) (x y z : X) → IsOk r → z ≡ cond (is_ok r) x y → z ≡ x
 ok_is (Ok a) x y z ok e = e

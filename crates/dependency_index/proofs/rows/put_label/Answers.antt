@@ -1,102 +1,49 @@
-use Rattle.std.proofs.Common.{◌≡◌, ◌<◌, ◌≤◌, true, length, get_or, vec_len, vec_capacity, List, ℕ, sym, ap, ◌∙◌, refl, subst, arith}
-use Rattle.lang_core.specs.Places.{place_of, rank, is_taken}
-use Rattle.versioned_rows.specs.Rows.{row_place, labels_in}
+use Rattle.std.proofs.Common.{◌≡◌, ◌≤◌, length, vec_len, vec_capacity, List, ℕ, sym, ap, ◌∙◌, refl, subst, arith}
+use Rattle.versioned_rows.specs.Rows.{labels_in}
 use Rattle.versioned_rows.specs.declared.rows.KeyLabels.{KeyLabels}
-use Rattle.versioned_rows.proofs.EditLemmas.{labels_here, spare_here, set_ordered, set_labels}
+use Rattle.versioned_rows.proofs.EditLemmas.{StandsAt, labels_here, spare_here, set_ordered, set_labels}
 use Rattle.dependency_index.specs.Numbers.{Rises, with_number}
-use Rattle.dependency_index.proofs.PutLemmas.{row_there, places_kept}
+use Rattle.dependency_index.proofs.PutLemmas.{fits_found, fits_row, places_kept}
 use Rattle.dependency_index.proofs.rows.put_label.Goals as goal
 
 pub index_mut-requires : goal.index_mut-requires
 index_mut-requires c =
-    let rows = c.args.rows.now.items in
-    let t = c.args.table.now in
-    let k = c.args.key.now in
-    let at = c.seek-at.result.0 in
-    let taken : is_taken row_place (place_of t k) rows ≡ true = row_there rows t k c.args.label c.requires.ordered c.requires.fits in
-    let seen : c.seek-at.result.1 ≡ true = (rw c.deref.ensures.value at c.seek-at.ensures.taken) ∙ taken in
-    let lt : at < length rows = (rw c.deref.ensures.value at c.seek-at.ensures.within).there seen in
+    let long = ap length c.deref.ensures.value in
+    let lt = c.seek-at.ensures.within.there (fits_found c.args.table.now c.args.key.now c.args.label c.deref.ensures.value c.seek-at.ensures.taken c.requires.ordered c.requires.fits) in
     omega arith
 
 pub put_reserved-requires-clause-rising : goal.put_reserved-requires-clause-rising
 put_reserved-requires-clause-rising c =
-    let rows = c.args.rows.now.items in
-    let t = c.args.table.now in
-    let k = c.args.key.now in
-    let at = c.seek-at.result.0 in
-    let rank_is : at ≡ rank row_place (place_of t k) rows = rw c.deref.ensures.value at c.seek-at.ensures.rank in
-    let taken : is_taken row_place (place_of t k) rows ≡ true = row_there rows t k c.args.label c.requires.ordered c.requires.fits in
-    let seen : c.seek-at.result.1 ≡ true = (rw c.deref.ensures.value at c.seek-at.ensures.taken) ∙ taken in
-    let lt : at < length rows = (rw c.deref.ensures.value at c.seek-at.ensures.within).there seen in
-    let row = c.index_mut.result.now in
-    let is : row ≡ get_or rows at row = c.index_mut.ensures.value in
+    let row = fits_row c.args.label c.deref.ensures.value c.seek-at.ensures.rank c.seek-at.ensures.taken c.seek-at.ensures.within c.requires.ordered c.requires.fits c.index_mut.ensures.value in
     let P : List ℕ → Type 0 = λ l. Rises l in
-    subst P (labels_here rows t k at row c.requires.ordered rank_is taken is lt) c.requires.rising
+    subst P (labels_here row) c.requires.rising
 
 pub put_reserved-requires-clause-fits : goal.put_reserved-requires-clause-fits
 put_reserved-requires-clause-fits c =
-    let rows = c.args.rows.now.items in
-    let t = c.args.table.now in
-    let k = c.args.key.now in
-    let at = c.seek-at.result.0 in
-    let rank_is : at ≡ rank row_place (place_of t k) rows = rw c.deref.ensures.value at c.seek-at.ensures.rank in
-    let taken : is_taken row_place (place_of t k) rows ≡ true = row_there rows t k c.args.label c.requires.ordered c.requires.fits in
-    let seen : c.seek-at.result.1 ≡ true = (rw c.deref.ensures.value at c.seek-at.ensures.taken) ∙ taken in
-    let lt : at < length rows = (rw c.deref.ensures.value at c.seek-at.ensures.within).there seen in
-    let row = c.index_mut.result.now in
-    let is : row ≡ get_or rows at row = c.index_mut.ensures.value in
-    let labels = labels_here rows t k at row c.requires.ordered rank_is taken is lt in
-    let spare = spare_here rows t k at row c.requires.ordered rank_is taken is lt in
+    let row = fits_row c.args.label c.deref.ensures.value c.seek-at.ensures.rank c.seek-at.ensures.taken c.seek-at.ensures.within c.requires.ordered c.requires.fits c.index_mut.ensures.value in
+    let labels = labels_here row in
+    let spare = spare_here row in
     let long = ap (λ l. length (with_number c.args.label l)) labels in
     let short = ap length labels in
     let fits = c.requires.fits in
-    let held : vec_len row.labels ≤ vec_capacity row.labels = omega arith in
+    let held : vec_len c.index_mut.result.now.labels ≤ vec_capacity c.index_mut.result.now.labels = omega arith in
     omega arith
 
+-- the row of the key, and what it is once the label stands in it
+stands : (c : goal.After-rows-1) → StandsAt c.args.rows.now.items c.args.table.now c.args.key.now c.seek-at.result.0 c.index_mut.result.now
+stands c = fits_row c.args.label c.deref.ensures.value c.seek-at.ensures.rank c.seek-at.ensures.taken c.seek-at.ensures.within c.requires.ordered c.requires.fits c.index_mut.ensures.value
+
+abbrev new_row : goal.After-rows-1 → KeyLabels
+new_row c = record { table = c.index_mut.result.now.table; key = c.index_mut.result.now.key; labels = c.put_reserved.new.numbers }
+
 pub returns-clause-ordered : goal.returns-clause-ordered
-returns-clause-ordered c =
-    let rows = c.args.rows.now.items in
-    let t = c.args.table.now in
-    let k = c.args.key.now in
-    let at = c.seek-at.result.0 in
-    let rank_is : at ≡ rank row_place (place_of t k) rows = rw c.deref.ensures.value at c.seek-at.ensures.rank in
-    let taken : is_taken row_place (place_of t k) rows ≡ true = row_there rows t k c.args.label c.requires.ordered c.requires.fits in
-    let seen : c.seek-at.result.1 ≡ true = (rw c.deref.ensures.value at c.seek-at.ensures.taken) ∙ taken in
-    let lt : at < length rows = (rw c.deref.ensures.value at c.seek-at.ensures.within).there seen in
-    let row = c.index_mut.result.now in
-    let is : row ≡ get_or rows at row = c.index_mut.ensures.value in
-    let new : KeyLabels = record { table = row.table; key = row.key; labels = c.put_reserved.new.numbers } in
-    set_ordered rows t k at row c.requires.ordered rank_is taken is lt new refl
+returns-clause-ordered c = set_ordered (stands c) (new_row c) refl
 
 pub returns-clause-edited : goal.returns-clause-edited
 returns-clause-edited c =
-    let rows = c.args.rows.now.items in
-    let t = c.args.table.now in
-    let k = c.args.key.now in
-    let at = c.seek-at.result.0 in
-    let rank_is : at ≡ rank row_place (place_of t k) rows = rw c.deref.ensures.value at c.seek-at.ensures.rank in
-    let taken : is_taken row_place (place_of t k) rows ≡ true = row_there rows t k c.args.label c.requires.ordered c.requires.fits in
-    let seen : c.seek-at.result.1 ≡ true = (rw c.deref.ensures.value at c.seek-at.ensures.taken) ∙ taken in
-    let lt : at < length rows = (rw c.deref.ensures.value at c.seek-at.ensures.within).there seen in
-    let row = c.index_mut.result.now in
-    let is : row ≡ get_or rows at row = c.index_mut.ensures.value in
-    let new : KeyLabels = record { table = row.table; key = row.key; labels = c.put_reserved.new.numbers } in
-    let all : c.put_reserved.new.numbers.items ≡ with_number c.args.label (labels_in rows t k) =
-    c.put_reserved.ensures.items ∙ ap (with_number c.args.label) (sym (labels_here rows t k at row c.requires.ordered rank_is taken is lt)) in
-    λ u v. rw (← all) (set_labels rows t k at row c.requires.ordered rank_is taken is lt new refl u v)
+    let all : c.put_reserved.new.numbers.items ≡ with_number c.args.label (labels_in c.args.rows.now.items c.args.table.now c.args.key.now) =
+    c.put_reserved.ensures.items ∙ ap (with_number c.args.label) (sym (labels_here (stands c))) in
+    λ u v. rw (← all) (set_labels (stands c) (new_row c) refl u v)
 
 pub returns-clause-places : goal.returns-clause-places
-returns-clause-places c =
-    let rows = c.args.rows.now.items in
-    let t = c.args.table.now in
-    let k = c.args.key.now in
-    let at = c.seek-at.result.0 in
-    let rank_is : at ≡ rank row_place (place_of t k) rows = rw c.deref.ensures.value at c.seek-at.ensures.rank in
-    let taken : is_taken row_place (place_of t k) rows ≡ true = row_there rows t k c.args.label c.requires.ordered c.requires.fits in
-    let seen : c.seek-at.result.1 ≡ true = (rw c.deref.ensures.value at c.seek-at.ensures.taken) ∙ taken in
-    let lt : at < length rows = (rw c.deref.ensures.value at c.seek-at.ensures.within).there seen in
-    let row = c.index_mut.result.now in
-    let is : row ≡ get_or rows at row = c.index_mut.ensures.value in
-    let new : KeyLabels = record { table = row.table; key = row.key; labels = c.put_reserved.new.numbers } in
-    let grown = c.put_reserved.ensures.capacity in
-    places_kept rows t k at row c.requires.ordered rank_is taken is lt new refl (omega arith)
+returns-clause-places c = let grown = c.put_reserved.ensures.capacity in places_kept (stands c) (new_row c) refl (omega arith)

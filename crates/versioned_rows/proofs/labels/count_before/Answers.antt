@@ -1,6 +1,5 @@
-use Rattle.std.proofs.Common.{◌≡◌, ◌<◌, ◌≤◌, ℕ, Bool, true, false, List, length, sym, rules, arith}
+use Rattle.std.proofs.Common.{ℕ, sym, rules, arith}
 use Rattle.std.specs.List.{Contains}
-use Rattle.std.specs.List.Sorted.{IsPartitionPoint}
 use Rattle.place_order.specs.Rising.{is_before}
 use Rattle.versioned_rows.proofs.RisingLemmas.{filter_front, known, earlier}
 use Rattle.versioned_rows.proofs.labels.count_before.Goals as goal

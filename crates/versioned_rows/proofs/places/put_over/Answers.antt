@@ -1,8 +1,7 @@
-use Rattle.std.proofs.Common.{◌≡◌, ◌∙◌, ℕ, List, sym, subst}
+use Rattle.std.proofs.Common.{ℕ, List, sym, subst}
 use Rattle.place_order.specs.Rising.{IsRising}
-use Rattle.versioned_rows.specs.Places.{label_of, is_other, is_written, without, with_place}
+use Rattle.versioned_rows.specs.Places.{label_of, is_other, is_written, without}
 use Rattle.versioned_rows.specs.Versions.{IsIndexed}
-use Rattle.versioned_rows.specs.declared.places.PlaceWrites.{PlaceWrites}
 use Rattle.versioned_rows.proofs.GetLemmas.{all_pass}
 use Rattle.versioned_rows.proofs.IndexLemmas.{take_indexed, put_indexed}
 use Rattle.versioned_rows.proofs.InsteadLemmas.{instead, instead_rising}

@@ -1,157 +1,61 @@
-use Rattle.std.proofs.Common.{◌≡◌, ◌<◌, true, false, length, get_or, sym, ◌∙◌, refl, arith}
+use Rattle.std.proofs.Common.{sym, ap, ◌∙◌, refl, arith}
 use Rattle.std.proofs.lemmas.Result.{on_ok_weaker}
 use Rattle.lang_core.specs.Places.{place_of, rank, is_taken}
 use Rattle.versioned_rows.specs.Rows.{row_place}
 use Rattle.versioned_rows.specs.declared.rows.KeyLabels.{KeyLabels}
-use Rattle.versioned_rows.proofs.EditLemmas.{set_ordered, set_same, set_kept, set_rows, set_there, set_made, new_ordered, new_labels, new_kept, new_rows, new_there, new_made}
+use Rattle.versioned_rows.proofs.EditLemmas.{StandsAt, GoesAt, found_row, set_ordered, set_same, set_kept, set_rows, set_there, set_made, new_ordered, new_labels, new_kept, new_rows, new_there, new_made}
 use Rattle.versioned_rows.proofs.rows.make_row.Goals as goal
 
+-- the row of the key, and what it is with more places
+stands : (c : goal.After-rows-1) → StandsAt c.args.rows.now.items c.args.table.now c.args.key.now c.seek-at.result.0 c.index_mut.result.now
+stands c = found_row c.deref.ensures.value c.seek-at.ensures.rank c.seek-at.ensures.taken c.seek-at.ensures.within c.if-taken.true c.requires c.index_mut.ensures.value
+
+abbrev new_row : goal.After-rows-1 → KeyLabels
+new_row c = record { table = c.index_mut.result.now.table; key = c.index_mut.result.now.key; labels = c.make_spare.new.labels }
+
 pub returns-then-taken-clause-ordered : goal.returns-then-taken-clause-ordered
-returns-then-taken-clause-ordered c =
-    let rows = c.args.rows.now.items in
-    let t = c.args.table.now in
-    let k = c.args.key.now in
-    let at = c.seek-at.result.0 in
-    let rank_is : at ≡ rank row_place (place_of t k) rows = rw c.deref.ensures.value at c.seek-at.ensures.rank in
-    let taken : is_taken row_place (place_of t k) rows ≡ true = sym (rw c.deref.ensures.value at c.seek-at.ensures.taken) ∙ c.if-taken.true in
-    let row = c.index_mut.result.now in
-    let lt : at < length rows = omega arith in
-    let is : row ≡ get_or rows at row = c.index_mut.ensures.value in
-    let new : KeyLabels = record { table = row.table; key = row.key; labels = c.make_spare.new.labels } in
-    set_ordered rows t k at row c.requires rank_is taken is lt new refl
+returns-then-taken-clause-ordered c = set_ordered (stands c) (new_row c) refl
 
 pub returns-then-taken-clause-each : goal.returns-then-taken-clause-each
-returns-then-taken-clause-each c =
-    let rows = c.args.rows.now.items in
-    let t = c.args.table.now in
-    let k = c.args.key.now in
-    let at = c.seek-at.result.0 in
-    let rank_is : at ≡ rank row_place (place_of t k) rows = rw c.deref.ensures.value at c.seek-at.ensures.rank in
-    let taken : is_taken row_place (place_of t k) rows ≡ true = sym (rw c.deref.ensures.value at c.seek-at.ensures.taken) ∙ c.if-taken.true in
-    let row = c.index_mut.result.now in
-    let lt : at < length rows = omega arith in
-    let is : row ≡ get_or rows at row = c.index_mut.ensures.value in
-    let new : KeyLabels = record { table = row.table; key = row.key; labels = c.make_spare.new.labels } in
-    set_same rows t k at row c.requires rank_is taken is lt new refl c.make_spare.ensures.labels
+returns-then-taken-clause-each c = set_same (stands c) (new_row c) refl c.make_spare.ensures.labels
 
 pub returns-then-taken-clause-kept : goal.returns-then-taken-clause-kept
-returns-then-taken-clause-kept c =
-    let rows = c.args.rows.now.items in
-    let t = c.args.table.now in
-    let k = c.args.key.now in
-    let at = c.seek-at.result.0 in
-    let rank_is : at ≡ rank row_place (place_of t k) rows = rw c.deref.ensures.value at c.seek-at.ensures.rank in
-    let taken : is_taken row_place (place_of t k) rows ≡ true = sym (rw c.deref.ensures.value at c.seek-at.ensures.taken) ∙ c.if-taken.true in
-    let row = c.index_mut.result.now in
-    let lt : at < length rows = omega arith in
-    let is : row ≡ get_or rows at row = c.index_mut.ensures.value in
-    let new : KeyLabels = record { table = row.table; key = row.key; labels = c.make_spare.new.labels } in
-    set_kept rows t k at row c.requires rank_is taken is lt new refl (omega arith)
+returns-then-taken-clause-kept c = set_kept (stands c) (new_row c) refl (omega arith)
 
 pub returns-then-taken-clause-rows : goal.returns-then-taken-clause-rows
-returns-then-taken-clause-rows c =
-    let rows = c.args.rows.now.items in
-    let t = c.args.table.now in
-    let k = c.args.key.now in
-    let at = c.seek-at.result.0 in
-    let rank_is : at ≡ rank row_place (place_of t k) rows = rw c.deref.ensures.value at c.seek-at.ensures.rank in
-    let taken : is_taken row_place (place_of t k) rows ≡ true = sym (rw c.deref.ensures.value at c.seek-at.ensures.taken) ∙ c.if-taken.true in
-    let row = c.index_mut.result.now in
-    let lt : at < length rows = omega arith in
-    let is : row ≡ get_or rows at row = c.index_mut.ensures.value in
-    let new : KeyLabels = record { table = row.table; key = row.key; labels = c.make_spare.new.labels } in
-    set_rows rows t k at row c.requires rank_is taken is lt new refl
+returns-then-taken-clause-rows c = set_rows (stands c) (new_row c) refl
 
 pub returns-then-taken-clause-row : goal.returns-then-taken-clause-row
-returns-then-taken-clause-row c =
-    let rows = c.args.rows.now.items in
-    let t = c.args.table.now in
-    let k = c.args.key.now in
-    let at = c.seek-at.result.0 in
-    let rank_is : at ≡ rank row_place (place_of t k) rows = rw c.deref.ensures.value at c.seek-at.ensures.rank in
-    let taken : is_taken row_place (place_of t k) rows ≡ true = sym (rw c.deref.ensures.value at c.seek-at.ensures.taken) ∙ c.if-taken.true in
-    let row = c.index_mut.result.now in
-    let lt : at < length rows = omega arith in
-    let is : row ≡ get_or rows at row = c.index_mut.ensures.value in
-    let new : KeyLabels = record { table = row.table; key = row.key; labels = c.make_spare.new.labels } in
-    on_ok_weaker c.make_spare.result (λ _. set_there rows t k at row c.requires rank_is taken is lt new refl) c.make_spare.ensures.spare
+returns-then-taken-clause-row c = on_ok_weaker c.make_spare.result (λ _. set_there (stands c) (new_row c) refl) c.make_spare.ensures.spare
 
 pub returns-then-taken-clause-spare : goal.returns-then-taken-clause-spare
-returns-then-taken-clause-spare c =
-    let rows = c.args.rows.now.items in
-    let t = c.args.table.now in
-    let k = c.args.key.now in
-    let at = c.seek-at.result.0 in
-    let rank_is : at ≡ rank row_place (place_of t k) rows = rw c.deref.ensures.value at c.seek-at.ensures.rank in
-    let taken : is_taken row_place (place_of t k) rows ≡ true = sym (rw c.deref.ensures.value at c.seek-at.ensures.taken) ∙ c.if-taken.true in
-    let row = c.index_mut.result.now in
-    let lt : at < length rows = omega arith in
-    let is : row ≡ get_or rows at row = c.index_mut.ensures.value in
-    let new : KeyLabels = record { table = row.table; key = row.key; labels = c.make_spare.new.labels } in
-    on_ok_weaker c.make_spare.result (λ fits. set_made rows t k at row c.requires rank_is taken is lt new refl c.args.spare (omega arith)) c.make_spare.ensures.spare
+returns-then-taken-clause-spare c = on_ok_weaker c.make_spare.result (λ fits. set_made (stands c) (new_row c) refl c.args.spare (omega arith)) c.make_spare.ensures.spare
+
+-- where there is none, a row goes in
+goes : (c : goal.In_ok-insert) → GoesAt c.args.rows.now.items c.args.table.now c.args.key.now c.seek-at.result.0 c.in_ok-row.row
+goes c = record {
+  ordered = c.requires;
+  rank_is = c.seek-at.ensures.rank ∙ ap (rank row_place (place_of c.args.table.now c.args.key.now)) c.deref.ensures.value;
+  free = ap (is_taken row_place (place_of c.args.table.now c.args.key.now)) (sym c.deref.ensures.value) ∙ sym c.seek-at.ensures.taken ∙ c.if-taken.false;
+  table = c.in_ok-row.ensures.table;
+  key = c.in_ok-row.ensures.key;
+  empty = c.in_ok-row.ensures.labels;
+}
 
 pub returns-clause-ordered : goal.returns-clause-ordered
-returns-clause-ordered c =
-    let rows = c.args.rows.now.items in
-    let t = c.args.table.now in
-    let k = c.args.key.now in
-    let at = c.seek-at.result.0 in
-    let rank_is : at ≡ rank row_place (place_of t k) rows = rw c.deref.ensures.value at c.seek-at.ensures.rank in
-    let taken : is_taken row_place (place_of t k) rows ≡ false = sym (rw c.deref.ensures.value at c.seek-at.ensures.taken) ∙ c.if-taken.false in
-    let row = c.in_ok-row.row in
-    rw c.in_ok-insert.ensures.items (new_ordered rows t k at row c.requires rank_is taken c.in_ok-row.ensures.table c.in_ok-row.ensures.key c.in_ok-row.ensures.labels)
+returns-clause-ordered c = rw c.in_ok-insert.ensures.items (new_ordered (goes c))
 
 pub returns-clause-each : goal.returns-clause-each
-returns-clause-each c =
-    let rows = c.args.rows.now.items in
-    let t = c.args.table.now in
-    let k = c.args.key.now in
-    let at = c.seek-at.result.0 in
-    let rank_is : at ≡ rank row_place (place_of t k) rows = rw c.deref.ensures.value at c.seek-at.ensures.rank in
-    let taken : is_taken row_place (place_of t k) rows ≡ false = sym (rw c.deref.ensures.value at c.seek-at.ensures.taken) ∙ c.if-taken.false in
-    let row = c.in_ok-row.row in
-    rw c.in_ok-insert.ensures.items (new_labels rows t k at row c.requires rank_is taken c.in_ok-row.ensures.table c.in_ok-row.ensures.key c.in_ok-row.ensures.labels)
+returns-clause-each c = rw c.in_ok-insert.ensures.items (new_labels (goes c))
 
 pub returns-clause-kept : goal.returns-clause-kept
-returns-clause-kept c =
-    let rows = c.args.rows.now.items in
-    let t = c.args.table.now in
-    let k = c.args.key.now in
-    let at = c.seek-at.result.0 in
-    let rank_is : at ≡ rank row_place (place_of t k) rows = rw c.deref.ensures.value at c.seek-at.ensures.rank in
-    let taken : is_taken row_place (place_of t k) rows ≡ false = sym (rw c.deref.ensures.value at c.seek-at.ensures.taken) ∙ c.if-taken.false in
-    let row = c.in_ok-row.row in
-    rw c.in_ok-insert.ensures.items (new_kept rows t k at row c.requires rank_is taken c.in_ok-row.ensures.table c.in_ok-row.ensures.key c.in_ok-row.ensures.labels)
+returns-clause-kept c = rw c.in_ok-insert.ensures.items (new_kept (goes c))
 
 pub returns-clause-spare : goal.returns-clause-spare
-returns-clause-spare c =
-    let rows = c.args.rows.now.items in
-    let t = c.args.table.now in
-    let k = c.args.key.now in
-    let at = c.seek-at.result.0 in
-    let rank_is : at ≡ rank row_place (place_of t k) rows = rw c.deref.ensures.value at c.seek-at.ensures.rank in
-    let taken : is_taken row_place (place_of t k) rows ≡ false = sym (rw c.deref.ensures.value at c.seek-at.ensures.taken) ∙ c.if-taken.false in
-    let row = c.in_ok-row.row in
-    rw c.in_ok-insert.ensures.items (new_made rows t k at row c.requires rank_is taken c.in_ok-row.ensures.table c.in_ok-row.ensures.key c.in_ok-row.ensures.labels c.args.spare c.in_ok-row.ensures.spare)
+returns-clause-spare c = rw c.in_ok-insert.ensures.items (new_made (goes c) c.args.spare c.in_ok-row.ensures.spare)
 
 pub returns-clause-rows : goal.returns-clause-rows
-returns-clause-rows c =
-    let rows = c.args.rows.now.items in
-    let t = c.args.table.now in
-    let k = c.args.key.now in
-    let at = c.seek-at.result.0 in
-    let rank_is : at ≡ rank row_place (place_of t k) rows = rw c.deref.ensures.value at c.seek-at.ensures.rank in
-    let taken : is_taken row_place (place_of t k) rows ≡ false = sym (rw c.deref.ensures.value at c.seek-at.ensures.taken) ∙ c.if-taken.false in
-    let row = c.in_ok-row.row in
-    rw c.in_ok-insert.ensures.items (new_rows rows t k at row c.requires rank_is taken c.in_ok-row.ensures.table c.in_ok-row.ensures.key c.in_ok-row.ensures.labels)
+returns-clause-rows c = rw c.in_ok-insert.ensures.items (new_rows (goes c))
 
 pub returns-clause-row : goal.returns-clause-row
-returns-clause-row c =
-    let rows = c.args.rows.now.items in
-    let t = c.args.table.now in
-    let k = c.args.key.now in
-    let at = c.seek-at.result.0 in
-    let rank_is : at ≡ rank row_place (place_of t k) rows = rw c.deref.ensures.value at c.seek-at.ensures.rank in
-    let taken : is_taken row_place (place_of t k) rows ≡ false = sym (rw c.deref.ensures.value at c.seek-at.ensures.taken) ∙ c.if-taken.false in
-    let row = c.in_ok-row.row in
-    rw c.in_ok-insert.ensures.items (new_there rows t k at row c.requires rank_is taken c.in_ok-row.ensures.table c.in_ok-row.ensures.key c.in_ok-row.ensures.labels)
+returns-clause-row c = rw c.in_ok-insert.ensures.items (new_there (goes c))
