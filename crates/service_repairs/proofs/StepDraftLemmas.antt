@@ -3,6 +3,7 @@ use Rattle.std.proofs.Common.{◌≡◌, ◌∙◌, sym, ap, refl, subst, ℕ, B
 use Rattle.lang_base.specs.declared.memory.NoMemory.{NoMemory}
 use Rattle.lang_core.specs.declared.cells.Cell.{Cell}
 use Rattle.lang_core.specs.declared.setting.Setting.{Setting}
+use Rattle.authorise_rules.specs.declared.rule.Rule.{Rule}
 use Rattle.request_log.specs.declared.entry.Entry.{Entry}
 use Rattle.request_log.specs.declared.entry.Made.{Made}
 use Rattle.local_repair.specs.Current.{rows_after, AllCurrent}
@@ -105,16 +106,18 @@ module _ (s : Service) (f : Fits s) (b' : KeptBook) (last later : ℕ) (es' : Li
   step_is (Ran id answered) h same = ran_is id answered h
 
 -- the same, where the step ran over a book that was taken out of the service, and was put back into it
-pub repaired : (s : Service) → Fits s → (b b' : KeptBook) (last later : ℕ) (setting : Setting) (es es' : List Entry) (now : Service) (result : Result Stepped NoMemory)
-    → b ≡ book_of s → setting ≡ s.setting → es ≡ s.entries → IfOk result (λ stepped. StepsTo setting (change_in b b' last later) [] es stepped es')
+pub repaired : (s : Service) → Fits s → (b b' : KeptBook) (last later : ℕ) (setting : Setting) (rules : List Rule) (es es' : List Entry) (now : Service) (result : Result Stepped NoMemory)
+    → b ≡ book_of s → setting ≡ s.setting → rules ≡ s.rules → es ≡ s.entries → IfOk result (λ stepped. StepsTo setting (change_in b b' last later) [] es stepped es')
     → (result ≡ Ok Idle → b' ≡ b)
-    → now ≡ record { setting = setting; entries = es'; flights = b'.flights; journal = b'.journal; registers = b'.registers; replies = b'.replies }
+    → now ≡ record { setting = setting; rules = rules; entries = es'; flights = b'.flights; journal = b'.journal; registers = b'.registers; replies = b'.replies }
     → IfOk result (λ stepped. after now stepped ≡ step_event s)
-repaired s f b b' last later setting es es' now (Err e) book set entries steps idle is = tt
-repaired s f b b' last later setting es es' now (Ok stepped) book set entries steps idle is =
+repaired s f b b' last later setting rules es es' now (Err e) book set ruled entries steps idle is = tt
+repaired s f b b' last later setting rules es es' now (Ok stepped) book set ruled entries steps idle is =
     let P : KeptBook → Type 0 = λ k. StepsTo setting (change_in k b' last later) [] es stepped es' in
     let T : Setting → Type 0 = λ t. StepsTo t (change_in (book_of s) b' last later) [] es stepped es' in
     let Q : List Entry → Type 0 = λ xs. StepsTo s.setting (change_in (book_of s) b' last later) (base s) xs stepped es' in
-    let there = is ∙ ap (λ (t : Setting). let k : Service = record { setting = t; entries = es'; flights = b'.flights; journal = b'.journal; registers = b'.registers; replies = b'.replies } in k) set in
+    let there = is
+    ∙ ap (λ (t : Setting). let k : Service = record { setting = t; rules = rules; entries = es'; flights = b'.flights; journal = b'.journal; registers = b'.registers; replies = b'.replies } in k) set
+    ∙ ap (λ (l : List Rule). record (with_book s es' b') { rules = l }) ruled in
     ap (λ k. after k stepped) there
     ∙ step_is s f b' last later es' stepped (subst Q entries (subst T set (subst P book steps))) (λ e. idle (ap (λ x. Ok x) e) ∙ book)

@@ -2,6 +2,7 @@
 //! memory and changes nothing, and leaves what always holds of a service. All of it is drafted before anything changes.
 #![tactic(auto)]
 
+mod admitting;
 mod book;
 mod order_drafts;
 mod ordering;

@@ -4,8 +4,7 @@ ghost use Rattle.request_log.specs.Entries.{has_id, IsNew, with_call};
 ghost use Rattle.create_placement.specs.Placement.{created, place_between};
 ghost use Rattle.service_events.specs.State.{next_id};
 ghost use Rattle.service_events.specs.Calls.{noted};
-ghost use Rattle.service_events.specs.Messages.{rule};
-ghost use Rattle.service_events.specs.Orders.{about, asked_rows, carried_out, order_rows, original, released_post, repaired, request_of, unless_held, hold_on};
+ghost use Rattle.service_events.specs.Orders.{about, asked_rows, carried_out, order_rows, order_rule, original, released_post, repaired, request_of, unless_held, hold_on};
 ghost use Rattle.service_parts.specs.Parts.{kept};
 ghost use Rattle.service_parts.specs.Rooms.{aloft};
 ghost use Rattle.service_parts.specs.Drafts.{TellNoCall};
@@ -17,7 +16,7 @@ use lang_core::{Copied, Inputs, Method, NoMemory, Origin, Request, Seq, Text};
 use local_repair::Repairer;
 use repair_messages::{PostName, copied_pair};
 use request_log::{Entry, Log};
-use service_parts::{Parts, RULE, created, insert, next_id, next_in, push_rows, reserve};
+use service_parts::{Parts, created, insert, next_id, next_in, push_rows, reserve};
 use std::alloc::Global;
 
 /// What an order is about.
@@ -138,13 +137,14 @@ fn requests(
     Ok((original, repaired))
 }
 
-// The row of an order.
+// The row of an order that this rule allowed.
 fn ordered(
     alloc: Global,
     parts: &Parts,
     command: &Command,
     token: Text,
     who: &Text,
+    rule: u32,
 ) -> Result<Row, NoMemory>
     ensures { IfOk result (λ row. row ≡ Row.Ordered (record {
       token = token;
@@ -163,7 +163,7 @@ fn ordered(
         token,
         command,
         who,
-        rule: RULE,
+        rule,
         original,
         repaired,
         about,
@@ -204,7 +204,7 @@ fn push_asked(
     }
 }
 
-// The rows of an order.
+// The rows of an order that this rule allowed.
 fn order_rows(
     alloc: Global,
     parts: &Parts,
@@ -212,10 +212,12 @@ fn order_rows(
     token: Text,
     who: &Text,
     inputs: Inputs,
+    rule: u32,
 ) -> Result<Vec<Row>, NoMemory>
+    requires { rule ≡ order_rule (kept parts.now) command.now who.now }
     ensures { IfOk result (λ rows. rows.items ≡ order_rows (kept parts.now) command.now token who.now inputs) }
 {
-    let row = ordered(alloc, parts, command, token, who)?;
+    let row = ordered(alloc, parts, command, token, who, rule)?;
     let mut rows = Vec::new(alloc);
     rows.push(row)?;
     push_asked(alloc, parts, command, inputs, &mut rows)?;
@@ -322,7 +324,7 @@ fn put_order(
     Ok(())
 }
 
-/// Carries out an order that isn't refused, and notes it. Refused for want of memory, nothing changes.
+/// Carries out an order that this rule allowed, and notes it. Refused for want of memory, nothing changes.
 pub fn accept(
     alloc: Global,
     parts: &mut Parts,
@@ -330,13 +332,15 @@ pub fn accept(
     token: Text,
     who: Text,
     inputs: Inputs,
+    rule: u32,
 ) -> Result<(), NoMemory>
     requires may { MayOrder (kept parts.old) command }
+    requires rule { rule ≡ order_rule (kept parts.old) command who }
     requires room { aloft parts.old.flights.list ≤ parts.old.journal.spare }
     ensures ok { OnOk result (kept parts.new ≡ noted (order_rows (kept parts.old) command token who inputs) (carried_out (kept parts.old) command who inputs)) }
     ensures err { OnErr result (kept parts.new ≡ kept parts.old) }
     ensures room { aloft parts.new.flights.list ≤ parts.new.journal.spare }
 {
-    let rows = order_rows(alloc, parts, &command, token, &who, inputs)?;
+    let rows = order_rows(alloc, parts, &command, token, &who, inputs, rule)?;
     put_order(alloc, parts, rows, command, who, inputs)
 }

@@ -22,6 +22,7 @@ fn take_book(alloc: Global, parts: &mut Parts) -> Book
     requires { aloft parts.old.flights.list ≤ parts.old.journal.spare }
     ensures book { result ≡ book_of (kept parts.old) }
     ensures setting { parts.new.setting ≡ parts.old.setting }
+    ensures rules { parts.new.rules ≡ parts.old.rules }
     ensures entries { parts.new.repairer ≡ parts.old.repairer }
 {
     let journal = std::mem::replace(&mut parts.journal, Rows::new(alloc));

@@ -44,8 +44,8 @@ pub returns-clause-ok : goal.returns-clause-ok
 returns-clause-ok c =
     repaired (kept c.args.parts.now) c.requires.fits c.take_book-book.result c.step-stepped.new.slots
     (length c.take_book-book.result.registers) (length c.step-stepped.new.slots.registers)
-    c.take_book-book.new.parts.setting c.take_book-book.new.parts.repairer.entries c.step-stepped.new.self.entries (kept c.put_book.new.parts) c.step-stepped.result
-    c.take_book-book.ensures.book c.take_book-book.ensures.setting (ap (λ (r : KeptRepairer). r.entries) c.take_book-book.ensures.entries)
+    c.take_book-book.new.parts.setting c.take_book-book.new.parts.rules c.take_book-book.new.parts.repairer.entries c.step-stepped.new.self.entries (kept c.put_book.new.parts) c.step-stepped.result
+    c.take_book-book.ensures.book c.take_book-book.ensures.setting c.take_book-book.ensures.rules (ap (λ (r : KeptRepairer). r.entries) c.take_book-book.ensures.entries)
     c.step-stepped.ensures.steps (λ idle. (c.step-stepped.ensures.idle idle).1) c.put_book.ensures.kept
 
 pub returns-clause-free : goal.returns-clause-free
