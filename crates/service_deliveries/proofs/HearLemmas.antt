@@ -2,39 +2,49 @@
 use Rattle.std.proofs.Common.{◌≡◌, ◌∙◌, sym, ap, refl, ℕ, Bool, true, false, not, if◌then◌else◌, cond, Option, Some, None, Result, Ok, Err}
 use Rattle.lang_base.specs.Texts.{same_text}
 use Rattle.repair_messages.specs.declared.messages.AnswerMessage.{AnswerMessage}
+use Rattle.authorise_rules.specs.declared.asked.Decision.{Decision}
+use Rattle.authorise_rules.specs.declared.asked.Decision.TheVariants.{Allow, Deny}
 use Rattle.call_registers.specs.Registers.{register, is_newer}
 use Rattle.call_registers.specs.declared.register.Register.{Register}
 use Rattle.service_events.specs.State.{Kept, After, after}
 use Rattle.service_events.specs.Calls.{noted}
-use Rattle.service_events.specs.Messages.{heard, answer_taken_where, take_answer_event}
+use Rattle.service_events.specs.Questions.{is_denied, rule_of}
+use Rattle.service_events.specs.Messages.{heard, hear_decision, answer_taken_where, take_answer_event}
 use Rattle.service_events.specs.declared.answers.Heard.{Heard}
 use Rattle.service_events.specs.declared.refusals.AnswerRefused.{AnswerRefused}
-use Rattle.service_events.specs.declared.refusals.AnswerRefused.TheVariants.{Unknown}
-use Rattle.service_deliveries.specs.Hearing.{answer_is_new, message_rows, rule_if}
+use Rattle.service_events.specs.declared.refusals.AnswerRefused.TheVariants.{Unknown, Denied}
+use Rattle.service_deliveries.specs.Hearing.{admission, allowance, message_rows}
 
--- what the event leaves, by whether the answer is new
-abbrev left : Kept → AnswerMessage → Option Bool → After (Result Heard AnswerRefused)
-left s a None = after s (Err (Unknown a.number))
-left s a (Some new) = after (noted (message_rows a new) s) (Ok (heard a (rule_if new)))
+-- what the event leaves, by the rule by which the answer is taken or why it isn't
+abbrev pub left : Kept → AnswerMessage → Result (Option ℕ) AnswerRefused → After (Result Heard AnswerRefused)
+left s a (Err why) = after s (Err why)
+left s a (Ok rule) = after (noted (message_rows a rule) s) (Ok (heard a rule))
 
-ordered : (s : Kept) (a : AnswerMessage) (known new : Bool) → left s a (cond known (Some new) None) ≡ (if not known then after s (Err (Unknown a.number)) else (if new then after (noted (message_rows a true) s) (Ok (heard a (rule_if true))) else after (noted (message_rows a false) s) (Ok (heard a (rule_if false)))))
-ordered s a false new = refl
-ordered s a true true = refl
-ordered s a true false = refl
+allowed : (s : Kept) (a : AnswerMessage) (d : Decision)
+    → left s a (allowance d) ≡ (if is_denied d then after s (Err (Denied (rule_of d))) else after (noted (message_rows a (Some (rule_of d))) s) (Ok (heard a (Some (rule_of d)))))
+allowed s a (Allow rule) = refl
+allowed s a (Deny rule) = refl
 
-where_is : (s : Kept) (a : AnswerMessage) (o : Option Register) → left s a (answer_is_new a o) ≡ answer_taken_where s a o
+ordered : (s : Kept) (a : AnswerMessage) (d : Decision) (known new : Bool)
+    → left s a (cond known (cond new (allowance d) (Ok None)) (Err (Unknown a.number)))
+    ≡ (if not known then after s (Err (Unknown a.number)) else (if new then (if is_denied d then after s (Err (Denied (rule_of d))) else after (noted (message_rows a (Some (rule_of d))) s) (Ok (heard a (Some (rule_of d))))) else after (noted (message_rows a None) s) (Ok (heard a None))))
+ordered s a d false new = refl
+ordered s a d true true = allowed s a d
+ordered s a d true false = refl
+
+where_is : (s : Kept) (a : AnswerMessage) (o : Option Register) → left s a (admission s a o) ≡ answer_taken_where s a o
 where_is s a None = refl
-where_is s a (Some r) = ordered s a (same_text r.dest a.callee) (is_newer r.answer a.answer_version)
+where_is s a (Some r) = ordered s a (hear_decision s a r) (same_text r.dest a.callee) (is_newer r.answer a.answer_version)
 
-event_is : (s : Kept) (a : AnswerMessage) (o : Option Bool) → o ≡ answer_is_new a (register a.number s.registers) → left s a o ≡ take_answer_event s a
-event_is s a o is = ap (left s a) is ∙ where_is s a (register a.number s.registers)
+event_is : (s : Kept) (a : AnswerMessage) (admitted : Result (Option ℕ) AnswerRefused) → admitted ≡ admission s a (register a.number s.registers) → left s a admitted ≡ take_answer_event s a
+event_is s a admitted is = ap (left s a) is ∙ where_is s a (register a.number s.registers)
 
--- no call to that service has its number
-pub unknown_answer : (s : Kept) (a : AnswerMessage) → None ≡ answer_is_new a (register a.number s.registers) → after s (Err (Unknown a.number)) ≡ take_answer_event s a
-unknown_answer s a is = event_is s a None is
+-- it is refused, and nothing changes
+pub answer_refused_is : (s : Kept) (a : AnswerMessage) (why : AnswerRefused) → Err why ≡ admission s a (register a.number s.registers) → after s (Err why) ≡ take_answer_event s a
+answer_refused_is s a why is = event_is s a (Err why) is
 
 -- it is noted, and confirmed
-pub answer_taken_is : (s s' : Kept) (a : AnswerMessage) (new : Bool) (h : Heard) → Some new ≡ answer_is_new a (register a.number s.registers) → s' ≡ noted (message_rows a new) s → h ≡ heard a (rule_if new)
+pub answer_taken_is : (s s' : Kept) (a : AnswerMessage) (rule : Option ℕ) (h : Heard) → Ok rule ≡ admission s a (register a.number s.registers) → s' ≡ noted (message_rows a rule) s → h ≡ heard a rule
     → after s' (Ok h) ≡ take_answer_event s a
-answer_taken_is s s' a new h is left_is answer_is =
-    ap (λ k. after k (Ok h)) left_is ∙ ap (λ k. after (noted (message_rows a new) s) (Ok k)) answer_is ∙ event_is s a (Some new) is
+answer_taken_is s s' a rule h is left_is answer_is =
+    ap (λ k. after k (Ok h)) left_is ∙ ap (λ k. after (noted (message_rows a rule) s) (Ok k)) answer_is ∙ event_is s a (Ok rule) is

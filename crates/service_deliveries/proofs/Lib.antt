@@ -1,4 +1,5 @@
 pub mod TakeLemmas
 mod ReplyLemmas
+mod RefusalLemmas
 mod HearLemmas
 mod PostLemmas

@@ -1,5 +1,5 @@
--- What taking a version leaves and answers, and why it is refused.
-use Rattle.std.proofs.Common.{◌≡◌, ◌∙◌, sym, ap, refl, subst, ℕ, ◌<◌, ◌≤◌, ◌^◌, Bool, true, false, cond, List, find, length, Option, Some, None, Result, Ok, Err, IfOk, OnOk, OnErr, option_map}
+-- Why a version isn't taken, or by which rule, and what taking it leaves and answers.
+use Rattle.std.proofs.Common.{◌≡◌, ◌∙◌, sym, ap, refl, subst, ℕ, ◌<◌, ◌≤◌, ◌^◌, Bool, true, false, cond, List, find, length, Option, Some, None, Result, Ok, Err, IfOk, OnOk, OnErr}
 use Rattle.lang_base.specs.declared.memory.NoMemory.{NoMemory}
 use Rattle.lang_core.specs.declared.inputs.Inputs.{Inputs}
 use Rattle.lang_core.specs.declared.request.Request.{Request}
@@ -7,16 +7,19 @@ use Rattle.request_log.specs.Entries.{has_id, find_call, IsNew}
 use Rattle.request_log.specs.declared.entry.Entry.{Entry}
 use Rattle.local_repair.specs.Repairs.{Amends, IsAmended}
 use Rattle.repair_messages.specs.declared.messages.SetMessage.{SetMessage}
+use Rattle.authorise_rules.specs.declared.asked.Decision.{Decision}
+use Rattle.authorise_rules.specs.declared.asked.Decision.TheVariants.{Allow, Deny}
 use Rattle.journal_rows.specs.declared.row.Row.{Row}
 use Rattle.call_registers.specs.Replies.{IsAboveAll}
 use Rattle.call_registers.specs.declared.reply.Reply.{Reply}
 use Rattle.service_events.specs.State.{Kept, After, after, is_in_flight, next_id}
 use Rattle.service_events.specs.Calls.{noted}
 use Rattle.service_events.specs.Fits.{Fits}
-use Rattle.service_events.specs.Messages.{acked_again, at_version, created_entry, created_reply, is_known, is_too_much, origin_of, rule, take_admitted, take_event, taken, taken_by}
+use Rattle.service_events.specs.Questions.{is_denied, rule_of}
+use Rattle.service_events.specs.Messages.{acked_again, at_version, created_entry, created_reply, is_known, is_too_much, origin_of, take_admitted, take_allowed, take_decision, take_event, take_rule, taken}
 use Rattle.service_events.specs.declared.answers.Taken.{Taken}
 use Rattle.service_events.specs.declared.refusals.TakeRefused.{TakeRefused}
-use Rattle.service_events.specs.declared.refusals.TakeRefused.TheVariants.{Full, NotYet}
+use Rattle.service_events.specs.declared.refusals.TakeRefused.TheVariants.{Full, NotYet, Denied}
 use Rattle.service_entry_laws.proofs.EntryLemmas.{found_by_call}
 use Rattle.service_entry_laws.proofs.FreshLemmas.{unfound, below_next}
 use Rattle.service_entry_laws.proofs.PartLemmas.{logged}
@@ -25,53 +28,80 @@ use Rattle.service_entry_laws.proofs.SearchLemmas.{some_and}
 use Rattle.service_laws.proofs.FitLaws.{take_fits}
 use Rattle.service_laws.proofs.MessageAges.{take_ages}
 use Rattle.service_laws.proofs.MessageBounds.{take_bounded}
+use Rattle.service_laws.proofs.AllowedLaws.{take_stays_allowed}
 use Rattle.service_parts.specs.Parts.{kept}
 use Rattle.service_parts.specs.Services.{HasRoom, IsService}
 use Rattle.service_parts.specs.declared.parts.Parts.{Parts}
 use Rattle.service_parts.specs.Drafts.{TellNoCall}
 use Rattle.service_laws.proofs.ServiceLaws.{next_service, same_service}
-use Rattle.service_deliveries.specs.TakeChanges.{changed_by, left_by, refused, CanChange, CanCreate, Leaves}
+use Rattle.service_deliveries.specs.TakeChanges.{admission, allowance, changed_by, left_by, unless_much, CanChange, CanCreate, Leaves}
 use Rattle.service_deliveries.specs.declared.take_changes.Taking.{Taking}
 
+-- ---- taken, or not
+
 module _ (s : Kept) (set : SetMessage) (i : Inputs) where
-  -- ---- refused, or not
+  -- what the event leaves, by the rule by which the version is taken or why it isn't
+  abbrev taken_as : Result (Option ℕ) TakeRefused → After (Result Taken TakeRefused)
+  taken_as (Err why) = after s (Err why)
+  taken_as (Ok None) = after (acked_again s set) (Ok (taken set None))
+  taken_as (Ok (Some rule)) = take_allowed s set i
 
-  refused_by : (flies : Bool) (much : Option ℕ) (why : TakeRefused) → Some why ≡ cond flies (Some (NotYet set.number)) (option_map (λ n. Full n) much)
-      → after s (Err why) ≡ cond flies (after s (Err (NotYet set.number))) (take_admitted s set i much)
-  refused_by true much why is = (let same : why ≡ NotYet set.number = cc in ap (λ w. after s (Err w)) same)
-  refused_by false (Some n) why is = (let same : why ≡ Full n = cc in ap (λ w. after s (Err w)) same)
-  refused_by false None why is = cc
+  allowed : (d : Decision) → taken_as (allowance d) ≡ cond (is_denied d) (after s (Err (Denied (rule_of d)))) (take_allowed s set i)
+  allowed (Allow rule) = refl
+  allowed (Deny rule) = refl
 
-  admitted_by : (flies : Bool) (much : Option ℕ) → cond flies (Some (NotYet set.number)) (option_map (λ n. Full n) much) ≡ None
-      → take_admitted s set i None ≡ cond flies (after s (Err (NotYet set.number))) (take_admitted s set i much)
-  admitted_by true much none = cc
-  admitted_by false (Some n) none = cc
-  admitted_by false None none = refl
+  admitted_by : (known : Bool) (d : Decision) → taken_as (cond known (Ok None) (allowance d))
+      ≡ cond known (after (acked_again s set) (Ok (taken set None))) (cond (is_denied d) (after s (Err (Denied (rule_of d)))) (take_allowed s set i))
+  admitted_by true d = refl
+  admitted_by false d = allowed d
 
-  -- refused so, it changes nothing
-  pub refused_is : (why : TakeRefused) → Some why ≡ refused s set → after s (Err why) ≡ take_event s set i
-  refused_is why is = refused_by (is_in_flight (origin_of set) s) (is_too_much s set) why is
+  much_by : (much : Option ℕ) → taken_as (unless_much s set much) ≡ take_admitted s set i much
+  much_by (Some n) = refl
+  much_by None = admitted_by (is_known s set) (take_decision s set)
 
-  module _ (none : refused s set ≡ None) where
-    admitted_is : take_admitted s set i None ≡ take_event s set i
-    admitted_is = admitted_by (is_in_flight (origin_of set) s) (is_too_much s set) none
+  landed_by : (flies : Bool) → flies ≡ false → take_admitted s set i (is_too_much s set) ≡ cond flies (after s (Err (NotYet set.number))) (take_admitted s set i (is_too_much s set))
+  landed_by true landed = cc
+  landed_by false landed = refl
 
-    by_version : (known : Bool) (a b : After (Result Taken TakeRefused)) → cond known a b ≡ take_event s set i → (known ≡ true → a ≡ take_event s set i) × (known ≡ false → b ≡ take_event s set i)
-    by_version true a b is = (λ _. is, λ no. cc)
-    by_version false a b is = (λ yes. cc, λ _. is)
+  flying_by : (flies : Bool) → flies ≡ true → after s (Err (NotYet set.number)) ≡ cond flies (after s (Err (NotYet set.number))) (take_admitted s set i (is_too_much s set))
+  flying_by true flies = refl
+  flying_by false flies = cc
 
-    versions : (is_known s set ≡ true → after (acked_again s set) (Ok (taken set None)) ≡ take_event s set i)
-        × (is_known s set ≡ false → after (taken_by s set i (find_call (origin_of set) s.entries) set.desired) (Ok (taken set (Some rule))) ≡ take_event s set i)
-    versions = by_version (is_known s set) (after (acked_again s set) (Ok (taken set None)))
-        (after (taken_by s set i (find_call (origin_of set) s.entries) set.desired) (Ok (taken set (Some rule)))) admitted_is
+  -- where its call is in flight, it is refused
+  pub flying_is : is_in_flight (origin_of set) s ≡ true → after s (Err (NotYet set.number)) ≡ take_event s set i
+  flying_is flies = flying_by (is_in_flight (origin_of set) s) flies
+
+  module _ (landed : is_in_flight (origin_of set) s ≡ false) where
+    event_is : (r : Result (Option ℕ) TakeRefused) → admission s set ≡ r → taken_as r ≡ take_event s set i
+    event_is r is = ap taken_as (sym is) ∙ much_by (is_too_much s set) ∙ landed_by (is_in_flight (origin_of set) s) landed
+
+    -- refused so, it changes nothing
+    pub refused_is : (why : TakeRefused) → admission s set ≡ Err why → after s (Err why) ≡ take_event s set i
+    refused_is why is = event_is (Err why) is
 
     -- a version that is known
-    pub again_is : is_known s set ≡ true → after (acked_again s set) (Ok (taken set None)) ≡ take_event s set i
-    again_is = versions.0
+    pub again_is : admission s set ≡ Ok None → after (acked_again s set) (Ok (taken set None)) ≡ take_event s set i
+    again_is is = event_is (Ok None) is
 
-    -- any other
-    pub newer_is : is_known s set ≡ false → after (taken_by s set i (find_call (origin_of set) s.entries) set.desired) (Ok (taken set (Some rule))) ≡ take_event s set i
-    newer_is = versions.1
+    -- one that is allowed
+    pub newer_is : (rule : ℕ) → admission s set ≡ Ok (Some rule) → take_allowed s set i ≡ take_event s set i
+    newer_is rule is = event_is (Ok (Some rule)) is
+
+-- the rule that allowed it is that of the decision
+allowed_rule : (rule : ℕ) (d : Decision) → allowance d ≡ Ok (Some rule) → rule ≡ rule_of d
+allowed_rule rule (Allow n) is = cc
+allowed_rule rule (Deny n) is = cc
+
+admitted_rule : (rule : ℕ) (known : Bool) (d : Decision) → cond known (Ok None) (allowance d) ≡ Ok (Some rule) → rule ≡ rule_of d
+admitted_rule rule true d is = cc
+admitted_rule rule false d is = allowed_rule rule d is
+
+much_rule : (s : Kept) (set : SetMessage) (rule : ℕ) (much : Option ℕ) → unless_much s set much ≡ Ok (Some rule) → rule ≡ take_rule s set
+much_rule s set rule (Some n) is = cc
+much_rule s set rule None is = admitted_rule rule (is_known s set) (take_decision s set) is
+
+pub rule_is : (s : Kept) (set : SetMessage) (rule : ℕ) → admission s set ≡ Ok (Some rule) → rule ≡ take_rule s set
+rule_is s set rule is = much_rule s set rule (is_too_much s set) is
 
 -- ---- what is drafted
 
@@ -122,5 +152,6 @@ pub take_service : (p p' : Parts) (set : SetMessage) (i : Inputs) (result : Resu
     → OnOk result (length p'.journal.rows < 2 ^ 64) → HasRoom p' → IsService p'
 take_service p p' set i (Ok answer) h is err few room =
     next_service p' (take_event (kept p) set i).service (ap (λ (a : After (Result Taken TakeRefused)). a.service) is)
-    (λ counts. take_fits (kept p) set i h.fits counts) (λ counts. take_ages (kept p) set i h.fits counts h.ages) (take_bounded (kept p) set i h.few) few room
+    (λ counts. take_fits (kept p) set i h.fits counts) (λ counts. take_ages (kept p) set i h.fits counts h.ages) (take_stays_allowed (kept p) set i h.fits h.allowed)
+    (take_bounded (kept p) set i h.few) few room
 take_service p p' set i (Err why) h is err few room = same_service p p' err room h

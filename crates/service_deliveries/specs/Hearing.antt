@@ -1,22 +1,39 @@
--- What is made of an answer that comes by a message.
-use Rattle.std.specs.Prelude.{ℕ, Bool, true, false, List, [], ◌∷◌, ◌++◌, Option, Some, None, if◌then◌else◌}
+-- Why an answer that comes by a message isn't taken, or which rule allows it, and what is made of it.
+use Rattle.std.specs.Prelude.{ℕ, List, [], ◌∷◌, ◌++◌, Option, Some, None, Result, Ok, Err, if◌then◌else◌}
 use Rattle.lang_base.specs.Texts.{same_text}
 use Rattle.repair_messages.specs.declared.messages.AnswerMessage.{AnswerMessage}
+use Rattle.authorise_rules.specs.declared.asked.Decision.{Decision}
+use Rattle.authorise_rules.specs.declared.asked.Decision.TheVariants.{Allow, Deny}
 use Rattle.journal_rows.specs.declared.row.Row.{Row}
 use Rattle.call_registers.specs.Registers.{is_newer}
 use Rattle.call_registers.specs.declared.register.Register.{Register}
-use Rattle.service_events.specs.Messages.{rule, seen_row, confirmed_row}
+use Rattle.service_events.specs.State.{Kept}
+use Rattle.service_events.specs.Messages.{confirmed_row, hear_decision, seen_row}
+use Rattle.service_events.specs.declared.refusals.AnswerRefused.{AnswerRefused}
+use Rattle.service_events.specs.declared.refusals.AnswerRefused.TheVariants.{Unknown, Denied}
 
--- whether it is new to its register; None where no call to that service has its number
-abbrev pub answer_is_new : AnswerMessage → Option Register → Option Bool
-answer_is_new a None = None
-answer_is_new a (Some r) = if same_text r.dest a.callee then Some (is_newer r.answer a.answer_version) else None
+-- the rule that allows it, or the one that denies it
+abbrev pub allowance : Decision → Result (Option ℕ) AnswerRefused
+allowance (Allow rule) = Ok (Some rule)
+allowance (Deny rule) = Err (Denied rule)
 
--- one that is new is noted as seen, and each is noted as confirmed
-abbrev pub message_rows : AnswerMessage → Bool → List Row
-message_rows a new = (if new then seen_row a ∷ [] else []) ++ confirmed_row a ∷ []
+-- by which rule it is taken, and by none where it isn't newer than the answer that is held
+abbrev pub admitted : Kept → AnswerMessage → Register → Result (Option ℕ) AnswerRefused
+admitted s a r =
+    if same_text r.dest a.callee
+    then (if is_newer r.answer a.answer_version then allowance (hear_decision s a r) else Ok None)
+    else Err (Unknown a.number)
 
--- the rule that allowed it, where it is new
-abbrev pub rule_if : Bool → Option ℕ
-rule_if true = Some rule
-rule_if false = None
+-- the same, where there may be a call of its number
+abbrev pub admission : Kept → AnswerMessage → Option Register → Result (Option ℕ) AnswerRefused
+admission s a None = Err (Unknown a.number)
+admission s a (Some r) = admitted s a r
+
+-- one that a rule allowed is noted as seen
+abbrev pub seen_rows : AnswerMessage → Option ℕ → List Row
+seen_rows a None = []
+seen_rows a (Some rule) = seen_row rule a ∷ []
+
+-- and each is noted as confirmed
+abbrev pub message_rows : AnswerMessage → Option ℕ → List Row
+message_rows a rule = seen_rows a rule ++ confirmed_row a ∷ []

@@ -1,26 +1,40 @@
--- What taking a version of a call is to leave and to answer, and why it is refused.
-use Rattle.std.specs.Prelude.{ℕ, ◌≡◌, ◌≤◌, [], ◌∷◌, ◌++◌, Option, Some, Result, Ok, if◌then◌else◌, insert, length, option_map}
+-- Why a version of a call isn't taken, or which rule allows it; what taking it is to leave and to answer.
+use Rattle.std.specs.Prelude.{ℕ, ◌≡◌, ◌≤◌, [], ◌∷◌, ◌++◌, Option, Some, None, Result, Ok, Err, if◌then◌else◌, insert, length}
 use Rattle.request_log.specs.Entries.{with_entry, IsNew}
 use Rattle.request_log.specs.declared.entry.Entry.{Entry}
 use Rattle.local_repair.specs.Repairs.{IsAmended}
 use Rattle.repair_messages.specs.declared.messages.SetMessage.{SetMessage}
+use Rattle.authorise_rules.specs.declared.asked.Decision.{Decision}
+use Rattle.authorise_rules.specs.declared.asked.Decision.TheVariants.{Allow, Deny}
 use Rattle.call_registers.specs.Replies.{at_entry, made_due, with_taken, IsAboveAll}
 use Rattle.call_registers.specs.declared.reply.Reply.{Reply}
-use Rattle.service_events.specs.State.{Kept, After, after, is_in_flight}
+use Rattle.service_events.specs.State.{Kept, After, after}
 use Rattle.service_events.specs.Calls.{noted}
-use Rattle.service_events.specs.Messages.{is_too_much, origin_of}
+use Rattle.service_events.specs.Messages.{is_known, is_too_much, take_decision}
 use Rattle.service_events.specs.declared.answers.Taken.{Taken}
 use Rattle.service_events.specs.declared.refusals.TakeRefused.{TakeRefused}
-use Rattle.service_events.specs.declared.refusals.TakeRefused.TheVariants.{Full, NotYet}
+use Rattle.service_events.specs.declared.refusals.TakeRefused.TheVariants.{Full, Denied}
 use Rattle.service_parts.specs.Drafts.{TellNoCall}
 use Rattle.service_deliveries.specs.declared.take_changes.TakeChange.{TakeChange}
 use Rattle.service_deliveries.specs.declared.take_changes.TakeChange.TheVariants.{Nothing, Due, Amend, Create}
 use Rattle.service_deliveries.specs.declared.take_changes.Taking.{Taking}
 
--- why it isn't taken, but for want of memory
-abbrev pub refused : Kept → SetMessage → Option TakeRefused
-refused s set =
-    if is_in_flight (origin_of set) s then Some (NotYet set.number) else option_map (λ much. Full much) (is_too_much s set)
+-- the rule that allows it, or the one that denies it
+abbrev pub allowance : Decision → Result (Option ℕ) TakeRefused
+allowance (Allow rule) = Ok (Some rule)
+allowance (Deny rule) = Err (Denied rule)
+
+-- by which rule it is taken, and one that is known by none
+abbrev pub admitted : Kept → SetMessage → Result (Option ℕ) TakeRefused
+admitted s set = if is_known s set then Ok None else allowance (take_decision s set)
+
+abbrev pub unless_much : Kept → SetMessage → Option ℕ → Result (Option ℕ) TakeRefused
+unless_much s set (Some much) = Err (Full much)
+unless_much s set None = admitted s set
+
+-- where its call isn't in flight: by which rule it is taken, or why it isn't
+abbrev pub admission : Kept → SetMessage → Result (Option ℕ) TakeRefused
+admission s set = unless_much s set (is_too_much s set)
 
 abbrev pub changed_by : Kept → TakeChange → Kept
 changed_by s Nothing = s

@@ -1,38 +1,89 @@
 // An answer that comes by a message.
-ghost use Rattle.std.specs.Prelude.{◌≡◌, [], ◌∷◌, ◌++◌, if◌then◌else◌, IfOk, OnOk, OnErr};
+ghost use Rattle.std.specs.Prelude.{◌≡◌, ◌∷◌, [], ◌++◌, IfOk, OnOk, OnErr};
 ghost use Rattle.call_registers.specs.Registers.{register};
 ghost use Rattle.service_events.specs.Calls.{noted};
 ghost use Rattle.service_events.specs.Doing.{Does, answer_memory};
-ghost use Rattle.service_events.specs.Messages.{confirmed_row, heard, seen_row, take_answer_event};
+ghost use Rattle.service_events.specs.Messages.{confirmed_row, hear_decision, heard, seen_row, take_answer_event};
 ghost use Rattle.service_parts.specs.Parts.{kept};
 ghost use Rattle.service_parts.specs.Services.{HasRoom, IsService};
-ghost use Rattle.service_deliveries.specs.Hearing.{answer_is_new, message_rows, rule_if};
+ghost use Rattle.service_deliveries.specs.Hearing.{admission, admitted, allowance, message_rows, seen_rows};
 
 use crate::noting::note_at_once;
-use call_registers::is_newer;
+use authorise_rules::{Asked, Decision, decide};
+use call_registers::{Register, is_newer};
 use journal_rows::{ConfirmedRow, Row, SawAnswerRow, SawHow};
 use lang_core::{NoMemory, Same};
-use repair_messages::{AnswerMessage, Confirm, copied_pair};
+use repair_messages::{AnswerMessage, Confirm, Kind, copied_pair};
 use service_events::{AnswerRefused, Heard};
-use service_parts::{Parts, RULE};
+use service_parts::{Parts, path_of};
 use std::alloc::Global;
 
-// Whether the answer is new; None where no call to that service has its number.
-fn answer_is_new(parts: &Parts, answer: &AnswerMessage) -> Option<bool>
-    ensures { result ≡ answer_is_new answer.now (register answer.now.number parts.now.registers.list) }
+// ---- why it isn't taken, or which rule allows it
+
+// What the service's rules decide of an answer to the call of this register.
+fn decision<'a>(parts: &Parts, answer: &'a AnswerMessage, register: &'a Register) -> Decision
+    ensures { result ≡ hear_decision (kept parts.now) answer.now register.now }
 {
-    let register = parts.registers.get(answer.number)?;
-    if register.dest.is(&answer.callee) {
-        Some(is_newer(&register.answer, answer.answer_version))
+    let callee = &register.dest;
+    let who = &answer.who;
+    let original = Some(callee.text());
+    let old_path = path_of(register.desired.as_ref());
+    let asked = Asked {
+        kind: Kind::ReplaceResponse,
+        from: Some(callee),
+        who,
+        original,
+        old_path,
+        new_path: None,
+    };
+    decide(&parts.rules, &asked)
+}
+
+// The rule that allows it, or the one that denies it.
+fn allowance(
+    parts: &Parts,
+    answer: &AnswerMessage,
+    register: &Register,
+) -> Result<Option<u32>, AnswerRefused>
+    ensures { result ≡ allowance (hear_decision (kept parts.now) answer.now register.now) }
+{
+    match decision(parts, answer, register) {
+        Decision::Allow(rule) => Ok(Some(rule)),
+        Decision::Deny(rule) => Err(AnswerRefused::Denied(rule)),
+    }
+}
+
+fn admitted(
+    parts: &Parts,
+    answer: &AnswerMessage,
+    register: &Register,
+) -> Result<Option<u32>, AnswerRefused>
+    ensures { result ≡ admitted (kept parts.now) answer.now register.now }
+{
+    if !register.dest.is(&answer.callee) {
+        Err(AnswerRefused::Unknown(answer.number))
+    } else if is_newer(&register.answer, answer.answer_version) {
+        allowance(parts, answer, register)
     } else {
-        None
+        Ok(None)
+    }
+}
+
+// The rule by which an answer is taken, or why it isn't taken. Rules are asked last, and of one that isn't newer than the
+// answer that is held they aren't asked.
+fn admission(parts: &Parts, answer: &AnswerMessage) -> Result<Option<u32>, AnswerRefused>
+    ensures { result ≡ admission (kept parts.now) answer.now (register answer.now.number parts.now.registers.list) }
+{
+    match parts.registers.get(answer.number) {
+        None => Err(AnswerRefused::Unknown(answer.number)),
+        Some(register) => admitted(parts, answer, register),
     }
 }
 
 // ---- its rows
 
-fn seen(alloc: Global, answer: &AnswerMessage) -> Result<Row, NoMemory>
-    ensures { IfOk result (λ row. row ≡ seen_row answer.now) }
+fn seen(alloc: Global, answer: &AnswerMessage, rule: u32) -> Result<Row, NoMemory>
+    ensures { IfOk result (λ row. row ≡ seen_row rule answer.now) }
 {
     let (response, who) = copied_pair(alloc, &answer.response, &answer.who)?;
     Ok(Row::SawAnswer(SawAnswerRow {
@@ -42,29 +93,36 @@ fn seen(alloc: Global, answer: &AnswerMessage) -> Result<Row, NoMemory>
         response,
         how: SawHow::Message,
         who,
-        rule: RULE,
+        rule,
     }))
 }
 
 fn push_seen(
     alloc: Global,
     answer: &AnswerMessage,
-    new: bool,
+    rule: Option<u32>,
     rows: &mut Vec<Row>,
 ) -> Result<(), NoMemory>
-    ensures { OnOk result (rows.new.items ≡ rows.old.items ++ (if new then seen_row answer.now ∷ [] else [])) }
+    ensures { OnOk result (rows.new.items ≡ rows.old.items ++ seen_rows answer.now rule) }
 {
-    if new {
-        rows.push(seen(alloc, answer)?)?;
+    match rule {
+        None => Ok(()),
+        Some(rule) => {
+            rows.push(seen(alloc, answer, rule)?)?;
+            Ok(())
+        }
     }
-    Ok(())
 }
 
-fn message_rows(alloc: Global, answer: &AnswerMessage, new: bool) -> Result<Vec<Row>, NoMemory>
-    ensures { IfOk result (λ rows. rows.items ≡ message_rows answer.now new) }
+fn message_rows(
+    alloc: Global,
+    answer: &AnswerMessage,
+    rule: Option<u32>,
+) -> Result<Vec<Row>, NoMemory>
+    ensures { IfOk result (λ rows. rows.items ≡ message_rows answer.now rule) }
 {
     let mut rows = Vec::new(alloc);
-    push_seen(alloc, answer, new, &mut rows)?;
+    push_seen(alloc, answer, rule, &mut rows)?;
     rows.push(Row::Confirmed(ConfirmedRow {
         number: answer.number,
         answer_version: answer.answer_version,
@@ -76,27 +134,21 @@ fn note_answer(
     alloc: Global,
     parts: &mut Parts,
     answer: &AnswerMessage,
-    new: bool,
+    rule: Option<u32>,
 ) -> Result<(), NoMemory>
     requires { HasRoom parts.old }
-    ensures ok { OnOk result (kept parts.new ≡ noted (message_rows answer.now new) (kept parts.old)) }
+    ensures ok { OnOk result (kept parts.new ≡ noted (message_rows answer.now rule) (kept parts.old)) }
     ensures err { OnErr result (kept parts.new ≡ kept parts.old) }
     ensures room { HasRoom parts.new }
 {
-    let rows = message_rows(alloc, answer, new)?;
+    let rows = message_rows(alloc, answer, rule)?;
     note_at_once(alloc, parts, rows)
 }
 
 // ---- what is answered
 
-fn rule_if(new: bool) -> Option<u32>
-    ensures { result ≡ rule_if new }
-{
-    if new { Some(RULE) } else { None }
-}
-
-fn heard(alloc: Global, answer: &AnswerMessage, new: bool) -> Result<Heard, NoMemory>
-    ensures { IfOk result (λ h. h ≡ heard answer.now (rule_if new)) }
+fn heard(alloc: Global, answer: &AnswerMessage, rule: Option<u32>) -> Result<Heard, NoMemory>
+    ensures { IfOk result (λ h. h ≡ heard answer.now rule) }
 {
     let (caller, callee) = copied_pair(alloc, &answer.caller, &answer.callee)?;
     let confirm = Confirm {
@@ -105,10 +157,7 @@ fn heard(alloc: Global, answer: &AnswerMessage, new: bool) -> Result<Heard, NoMe
         number: answer.number,
         answer_version: answer.answer_version,
     };
-    Ok(Heard {
-        confirm,
-        rule: rule_if(new),
-    })
+    Ok(Heard { confirm, rule })
 }
 
 fn confirm_answer(
@@ -120,17 +169,19 @@ fn confirm_answer(
     ensures does { Does answer_memory (take_answer_event (kept parts.old) answer.now) (kept parts.old) result (kept parts.new) }
     ensures room { HasRoom parts.new }
 {
-    match answer_is_new(parts, answer) {
-        None => Err(AnswerRefused::Unknown(answer.number)),
-        Some(new) => {
-            let heard = heard(alloc, answer, new)?;
-            note_answer(alloc, parts, answer, new)?;
+    match admission(parts, answer) {
+        Err(why) => Err(why),
+        Ok(rule) => {
+            let heard = heard(alloc, answer, rule)?;
+            note_answer(alloc, parts, answer, rule)?;
             Ok(heard)
         }
     }
 }
 
-/// An answer to one of the service's calls came by a message. It is refused where no call to that service has its number.
+/// An answer to one of the service's calls came by a message. It is refused where no call to that service has its number. One
+/// that isn't newer than the answer that is held is confirmed again. Of any other the service's rules are asked: it is refused
+/// where they deny it, with the number of the rule; else it is kept, and confirmed.
 pub fn take_answer(
     alloc: Global,
     parts: &mut Parts,

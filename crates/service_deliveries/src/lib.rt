@@ -3,12 +3,12 @@
 //! holds of a service. What taking a version leaves is drafted before anything changes.
 #![tactic(auto)]
 
+mod admitting;
 mod hearing;
 mod making;
 mod noting;
 mod posting;
 mod posts;
-mod refusing;
 mod take_applying;
 mod take_changes;
 mod take_drafts;

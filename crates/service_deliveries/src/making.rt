@@ -1,9 +1,9 @@
 // The rows, the entries and the replies of a version that is taken.
 ghost use Rattle.std.specs.Prelude.{◌≡◌, ◌+◌, ◌≤◌, ◌∷◌, ◌++◌, [], length, IfOk, OnOk};
 ghost use Rattle.journal_rows.specs.Words.{or_before};
-ghost use Rattle.service_events.specs.Messages.{acked_row, at_version, created_entry, created_place, created_reply, neighbour, origin_of, taken, took_row};
+ghost use Rattle.service_events.specs.Messages.{acked_row, at_version, created_entry, created_place, created_reply, neighbour, origin_of, taken};
 ghost use Rattle.service_parts.specs.Parts.{kept};
-ghost use Rattle.service_deliveries.specs.Rows.{asked_row, created_rows, taken_rows};
+ghost use Rattle.service_deliveries.specs.Rows.{asked_row, created_rows, taken_rows, took_by};
 
 use call_registers::Reply;
 use create_placement::place;
@@ -13,7 +13,7 @@ use lang_core::{Copied, Inputs, Name, NoMemory, Origin, Request};
 use repair_messages::{Ack, SetMessage, copied_pair};
 use request_log::Entry;
 use service_events::Taken;
-use service_parts::{Parts, RULE, created, next_id};
+use service_parts::{Parts, created, next_id};
 use std::alloc::Global;
 
 /// What is answered, where this rule allowed it.
@@ -57,8 +57,13 @@ pub(crate) fn origin_of(alloc: Global, set: &SetMessage) -> Result<Origin, NoMem
 
 // ---- rows
 
-fn push_took(alloc: Global, set: &SetMessage, rows: &mut Vec<Row>) -> Result<(), NoMemory>
-    ensures { OnOk result (rows.new.items ≡ rows.old.items ++ took_row set.now ∷ []) }
+fn push_took(
+    alloc: Global,
+    set: &SetMessage,
+    rule: u32,
+    rows: &mut Vec<Row>,
+) -> Result<(), NoMemory>
+    ensures { OnOk result (rows.new.items ≡ rows.old.items ++ took_by rule set.now ∷ []) }
 {
     let (caller, who) = copied_pair(alloc, &set.caller, &set.who)?;
     let desired = Copied::copied(&set.desired, alloc)?;
@@ -69,7 +74,7 @@ fn push_took(alloc: Global, set: &SetMessage, rows: &mut Vec<Row>) -> Result<(),
         desired,
         how: TookHow::Message,
         who,
-        rule: RULE,
+        rule,
     }))?;
     Ok(())
 }
@@ -114,28 +119,29 @@ pub(crate) fn known_rows(alloc: Global, set: &SetMessage) -> Result<Vec<Row>, No
     Ok(rows)
 }
 
-/// The rows of a version of a call that has an entry, or of the deletion of one that has none.
-pub(crate) fn taken_rows(alloc: Global, set: &SetMessage) -> Result<Vec<Row>, NoMemory>
-    ensures { IfOk result (λ rows. rows.items ≡ taken_rows set.now) }
+/// The rows of a version of a call that has an entry, or of the deletion of one that has none, where this rule allowed it.
+pub(crate) fn taken_rows(alloc: Global, set: &SetMessage, rule: u32) -> Result<Vec<Row>, NoMemory>
+    ensures { IfOk result (λ rows. rows.items ≡ taken_rows rule set.now) }
 {
     let mut rows = Vec::new(alloc);
-    push_took(alloc, set, &mut rows)?;
+    push_took(alloc, set, rule, &mut rows)?;
     push_acked(alloc, set, &mut rows)?;
     Ok(rows)
 }
 
-/// The rows of a version that makes an entry.
+/// The rows of a version that makes an entry, where this rule allowed it.
 pub(crate) fn created_rows(
     alloc: Global,
     parts: &Parts,
     set: &SetMessage,
     request: &Request,
     inputs: Inputs,
+    rule: u32,
 ) -> Result<Vec<Row>, NoMemory>
-    ensures { IfOk result (λ rows. rows.items ≡ created_rows (kept parts.now) set.now request.now inputs) }
+    ensures { IfOk result (λ rows. rows.items ≡ created_rows rule (kept parts.now) set.now request.now inputs) }
 {
     let mut rows = Vec::new(alloc);
-    push_took(alloc, set, &mut rows)?;
+    push_took(alloc, set, rule, &mut rows)?;
     push_asked(alloc, parts, set, request, inputs, &mut rows)?;
     push_acked(alloc, set, &mut rows)?;
     Ok(rows)

@@ -1,26 +1,25 @@
 // What taking a version is to answer and to leave, drafted.
-ghost use Rattle.std.specs.Prelude.{◌≡◌, None, Some, Ok, IfOk, length};
+ghost use Rattle.std.specs.Prelude.{◌≡◌, false, None, Some, Ok, IfOk, length};
 ghost use Rattle.lang_core.specs.declared.inputs.Inputs.{Inputs};
 ghost use Rattle.request_log.specs.Entries.{find_call};
 ghost use Rattle.local_repair.specs.Repairs.{IsAmended};
 ghost use Rattle.call_registers.specs.Replies.{made_due};
-ghost use Rattle.service_events.specs.State.{after};
+ghost use Rattle.service_events.specs.State.{after, is_in_flight};
 ghost use Rattle.service_events.specs.Fits.{Fits};
-ghost use Rattle.service_events.specs.Messages.{acked_again, at_reply_of, at_version, created_entry, created_place, created_reply, origin_of, rule, take_event, taken, taken_by};
+ghost use Rattle.service_events.specs.Messages.{acked_again, at_reply_of, at_version, created_entry, created_place, created_reply, origin_of, take_event, take_rule, taken, taken_by};
 ghost use Rattle.service_parts.specs.Parts.{kept};
-ghost use Rattle.service_deliveries.specs.TakeChanges.{changed_by, refused, CanChange, Leaves};
+ghost use Rattle.service_deliveries.specs.TakeChanges.{admission, changed_by, CanChange, Leaves};
 
 use crate::making::{
     at_version, created_entry, created_place, created_reply, created_rows, index, known_rows,
     taken, taken_rows,
 };
-use crate::refusing::is_known;
 use crate::take_changes::{TakeChange, Taking};
 use journal_rows::Row;
 use lang_core::{Inputs, NoMemory, Request};
 use repair_messages::SetMessage;
 use request_log::Entry;
-use service_parts::{Parts, RULE};
+use service_parts::Parts;
 use std::alloc::Global;
 
 fn taking(
@@ -68,17 +67,24 @@ fn again(alloc: Global, parts: &Parts, set: &SetMessage) -> Result<Taking, NoMem
 // ---- a version above the one that was taken
 
 // Its call has this entry.
-fn amended(alloc: Global, parts: &Parts, set: &SetMessage, old: &Entry) -> Result<Taking, NoMemory>
-    requires { IsAmended (at_version set.now old.now) parts.now.repairer.entries }
-    ensures { (i : Inputs) → IfOk result (λ t. Leaves (kept parts.now) t (after (taken_by (kept parts.now) set.now i (Some old.now) set.now.desired) (Ok (taken set.now (Some rule))))) }
+fn amended(
+    alloc: Global,
+    parts: &Parts,
+    set: &SetMessage,
+    old: &Entry,
+    rule: u32,
+) -> Result<Taking, NoMemory>
+    requires can { IsAmended (at_version set.now old.now) parts.now.repairer.entries }
+    requires rule { rule ≡ take_rule (kept parts.now) set.now }
+    ensures { (i : Inputs) → IfOk result (λ t. Leaves (kept parts.now) t (after (taken_by (kept parts.now) set.now i (Some old.now) set.now.desired) (Ok (taken set.now (Some (take_rule (kept parts.now) set.now)))))) }
 {
-    let rows = taken_rows(alloc, set)?;
+    let rows = taken_rows(alloc, set, rule)?;
     let entry = at_version(alloc, set, old)?;
     let since = index(parts, 1);
     taking(
         alloc,
         set,
-        Some(RULE),
+        Some(rule),
         rows,
         TakeChange::Amend { entry, since },
     )
@@ -110,22 +116,25 @@ fn made(
     set: &SetMessage,
     request: &Request,
     inputs: Inputs,
+    rule: u32,
 ) -> Result<Taking, NoMemory>
     requires fits { Fits (kept parts.now) }
     requires none { find_call (origin_of set.now) parts.now.repairer.entries ≡ None }
-    ensures { IfOk result (λ t. Leaves (kept parts.now) t (after (taken_by (kept parts.now) set.now inputs None (Some request.now)) (Ok (taken set.now (Some rule))))) }
+    requires rule { rule ≡ take_rule (kept parts.now) set.now }
+    ensures { IfOk result (λ t. Leaves (kept parts.now) t (after (taken_by (kept parts.now) set.now inputs None (Some request.now)) (Ok (taken set.now (Some (take_rule (kept parts.now) set.now)))))) }
 {
-    let rows = created_rows(alloc, parts, set, request, inputs)?;
+    let rows = created_rows(alloc, parts, set, request, inputs, rule)?;
     let change = create(alloc, parts, set, request, inputs)?;
-    taking(alloc, set, Some(RULE), rows, change)
+    taking(alloc, set, Some(rule), rows, change)
 }
 
 // Its call has no entry, and is to have no effect.
-fn unmet(alloc: Global, parts: &Parts, set: &SetMessage) -> Result<Taking, NoMemory>
-    ensures { (i : Inputs) → IfOk result (λ t. Leaves (kept parts.now) t (after (taken_by (kept parts.now) set.now i None None) (Ok (taken set.now (Some rule))))) }
+fn unmet(alloc: Global, parts: &Parts, set: &SetMessage, rule: u32) -> Result<Taking, NoMemory>
+    requires { rule ≡ take_rule (kept parts.now) set.now }
+    ensures { (i : Inputs) → IfOk result (λ t. Leaves (kept parts.now) t (after (taken_by (kept parts.now) set.now i None None) (Ok (taken set.now (Some (take_rule (kept parts.now) set.now)))))) }
 {
-    let rows = taken_rows(alloc, set)?;
-    taking(alloc, set, Some(RULE), rows, TakeChange::Nothing)
+    let rows = taken_rows(alloc, set, rule)?;
+    taking(alloc, set, Some(rule), rows, TakeChange::Nothing)
 }
 
 // Its call has no entry.
@@ -134,41 +143,52 @@ fn unknown(
     parts: &Parts,
     set: &SetMessage,
     inputs: Inputs,
+    rule: u32,
 ) -> Result<Taking, NoMemory>
     requires fits { Fits (kept parts.now) }
     requires none { find_call (origin_of set.now) parts.now.repairer.entries ≡ None }
-    ensures { IfOk result (λ t. Leaves (kept parts.now) t (after (taken_by (kept parts.now) set.now inputs None set.now.desired) (Ok (taken set.now (Some rule))))) }
+    requires rule { rule ≡ take_rule (kept parts.now) set.now }
+    ensures { IfOk result (λ t. Leaves (kept parts.now) t (after (taken_by (kept parts.now) set.now inputs None set.now.desired) (Ok (taken set.now (Some (take_rule (kept parts.now) set.now)))))) }
 {
     match &set.desired {
-        Some(request) => made(alloc, parts, set, request, inputs),
-        None => unmet(alloc, parts, set),
+        Some(request) => made(alloc, parts, set, request, inputs, rule),
+        None => unmet(alloc, parts, set, rule),
     }
 }
 
-fn newer(alloc: Global, parts: &Parts, set: &SetMessage, inputs: Inputs) -> Result<Taking, NoMemory>
-    requires { Fits (kept parts.now) }
-    ensures { IfOk result (λ t. Leaves (kept parts.now) t (after (taken_by (kept parts.now) set.now inputs (find_call (origin_of set.now) parts.now.repairer.entries) set.now.desired) (Ok (taken set.now (Some rule))))) }
+// This rule allowed it.
+fn newer(
+    alloc: Global,
+    parts: &Parts,
+    set: &SetMessage,
+    inputs: Inputs,
+    rule: u32,
+) -> Result<Taking, NoMemory>
+    requires fits { Fits (kept parts.now) }
+    requires rule { rule ≡ take_rule (kept parts.now) set.now }
+    ensures { IfOk result (λ t. Leaves (kept parts.now) t (after (taken_by (kept parts.now) set.now inputs (find_call (origin_of set.now) parts.now.repairer.entries) set.now.desired) (Ok (taken set.now (Some (take_rule (kept parts.now) set.now)))))) }
 {
     match parts.repairer.log().find_origin(&set.caller, set.number) {
-        Some(entry) => amended(alloc, parts, set, entry),
-        None => unknown(alloc, parts, set, inputs),
+        Some(entry) => amended(alloc, parts, set, entry, rule),
+        None => unknown(alloc, parts, set, inputs, rule),
     }
 }
 
-/// What taking a version that isn't refused is to answer and to leave.
+/// What taking a version is to answer and to leave, which is known, or which this rule allowed.
 pub fn draft(
     alloc: Global,
     parts: &Parts,
     set: &SetMessage,
     inputs: Inputs,
+    rule: Option<u32>,
 ) -> Result<Taking, NoMemory>
     requires fits { Fits (kept parts.now) }
-    requires none { refused (kept parts.now) set.now ≡ None }
+    requires landed { is_in_flight (origin_of set.now) (kept parts.now) ≡ false }
+    requires admitted { admission (kept parts.now) set.now ≡ Ok rule }
     ensures { IfOk result (λ t. Leaves (kept parts.now) t (take_event (kept parts.now) set.now inputs)) }
 {
-    if is_known(parts, set) {
-        again(alloc, parts, set)
-    } else {
-        newer(alloc, parts, set, inputs)
+    match rule {
+        None => again(alloc, parts, set),
+        Some(rule) => newer(alloc, parts, set, inputs, rule),
     }
 }

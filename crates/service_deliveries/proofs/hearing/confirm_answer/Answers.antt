@@ -1,10 +1,15 @@
+use Rattle.service_events.specs.Doing.{answer_memory}
+use Rattle.service_events.specs.Messages.{take_answer_event}
 use Rattle.service_parts.specs.Parts.{kept}
-use Rattle.service_deliveries.proofs.HearLemmas.{unknown_answer, answer_taken_is}
+use Rattle.service_deliveries.proofs.HearLemmas.{answer_refused_is, answer_taken_is}
+use Rattle.service_deliveries.proofs.RefusalLemmas.{refusal_does}
 use Rattle.service_deliveries.proofs.hearing.confirm_answer.Goals as goal
 
-pub returns-in-None-clause-does : goal.returns-in-None-clause-does
-returns-in-None-clause-does c = unknown_answer (kept c.args.parts.now) c.args.answer.now c.in-None.ensures
+pub returns-in-Err-clause-does : goal.returns-in-Err-clause-does
+returns-in-Err-clause-does c =
+    let s = kept c.args.parts.now in
+    refusal_does answer_memory (take_answer_event s c.args.answer.now) s c.in-Err.why (answer_refused_is s c.args.answer.now c.in-Err.why c.in-Err.ensures)
 
-pub returns-in_ok-note_answer-in-Some-clause-does : goal.returns-in_ok-note_answer-in-Some-clause-does
-returns-in_ok-note_answer-in-Some-clause-does c =
-    answer_taken_is (kept c.args.parts.now) (kept c.note_answer.new.parts) c.args.answer.now c.in-Some.new c.in_ok-heard-in-Some.heard c.in-Some.ensures c.in_ok-note_answer-in-Some.ensures.ok c.in_ok-heard-in-Some.ensures
+pub returns-in_ok-note_answer-in-Ok-clause-does : goal.returns-in_ok-note_answer-in-Ok-clause-does
+returns-in_ok-note_answer-in-Ok-clause-does c =
+    answer_taken_is (kept c.args.parts.now) (kept c.note_answer.new.parts) c.args.answer.now c.in-Ok.rule c.in_ok-heard-in-Ok.heard c.in-Ok.ensures c.in_ok-note_answer-in-Ok.ensures.ok c.in_ok-heard-in-Ok.ensures

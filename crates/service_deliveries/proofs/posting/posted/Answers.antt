@@ -4,6 +4,7 @@ use Rattle.service_events.specs.Messages.{posted_event}
 use Rattle.service_laws.proofs.FitLaws.{posted_fits}
 use Rattle.service_laws.proofs.MessageAges.{posted_ages}
 use Rattle.service_laws.proofs.MessageBounds.{posted_bounded}
+use Rattle.service_laws.proofs.AllowedLaws.{posted_stays_allowed}
 use Rattle.service_parts.specs.Parts.{kept}
 use Rattle.service_laws.proofs.ServiceLaws.{done_service}
 use Rattle.service_deliveries.proofs.posting.posted.Goals as goal
@@ -12,4 +13,5 @@ pub returns-clause-service : goal.returns-clause-service
 returns-clause-service c =
     let s = kept c.args.parts.now in
     done_service c.args.parts.now c.meet-posted.new.parts post_memory (posted_event s c.args.post.now c.args.reply) c.meet-posted.result c.meet-posted.ensures.does
-    (posted_fits s c.args.post.now c.args.reply c.requires.fits) (λ few. posted_ages s c.args.post.now c.args.reply c.requires.fits few c.requires.ages) (posted_bounded s c.args.post.now c.args.reply c.requires.few) (omega arith) c.meet-posted.ensures.room c.requires
+    (posted_fits s c.args.post.now c.args.reply c.requires.fits) (λ few. posted_ages s c.args.post.now c.args.reply c.requires.fits few c.requires.ages) (posted_stays_allowed s c.args.post.now c.args.reply c.requires.allowed)
+    (posted_bounded s c.args.post.now c.args.reply c.requires.few) (omega arith) c.meet-posted.ensures.room c.requires

@@ -66,11 +66,7 @@ fn too_much(parts: &Parts, set: &SetMessage) -> Option<u64>
 }
 
 /// Whether its call is in flight.
-pub(crate) fn is_in_flight(
-    alloc: Global,
-    parts: &Parts,
-    set: &SetMessage,
-) -> Result<bool, NoMemory>
+pub(crate) fn is_in_flight(alloc: Global, parts: &Parts, set: &SetMessage) -> Result<bool, NoMemory>
     ensures { IfOk result (λ flies. flies ≡ is_in_flight (origin_of set.now) (kept parts.now)) }
 {
     let origin = origin_of(alloc, set)?;
@@ -83,11 +79,7 @@ pub(crate) fn is_in_flight(
 fn known_request<'a>(parts: &'a Parts, set: &SetMessage) -> Option<&'a Request>
     ensures { option_copied result ≡ known_request (kept parts.now) set.now }
 {
-    match parts
-        .repairer
-        .log()
-        .find_origin(&set.caller, set.number)
-    {
+    match parts.repairer.log().find_origin(&set.caller, set.number) {
         None => None,
         Some(entry) => Some(&entry.request),
     }
@@ -110,12 +102,12 @@ fn decision(parts: &Parts, set: &SetMessage) -> Decision
     )
 }
 
-// The rule that allows it, or which denies it.
-fn allowance(parts: &Parts, set: &SetMessage) -> Result<u32, TakeRefused>
+// The rule that allows it, or the one that denies it.
+fn allowance(parts: &Parts, set: &SetMessage) -> Result<Option<u32>, TakeRefused>
     ensures { result ≡ allowance (take_decision (kept parts.now) set.now) }
 {
     match decision(parts, set) {
-        Decision::Allow(rule) => Ok(rule),
+        Decision::Allow(rule) => Ok(Some(rule)),
         Decision::Deny(rule) => Err(TakeRefused::Denied(rule)),
     }
 }
@@ -132,8 +124,7 @@ pub(crate) fn admission(parts: &Parts, set: &SetMessage) -> Result<Option<u32>, 
             if is_known(parts, set) {
                 Ok(None)
             } else {
-                let rule = allowance(parts, set)?;
-                Ok(Some(rule))
+                allowance(parts, set)
             }
         }
     }
