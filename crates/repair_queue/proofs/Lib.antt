@@ -1,3 +1,4 @@
 pub mod FoldLemmas
 mod FirstLemmas
+mod HeldLemmas
 mod QueueLemmas
