@@ -1,2 +1,3 @@
 pub mod Escapes
+pub mod Notices
 pub mod Reports

@@ -1,14 +1,16 @@
-//! Rows, logs, answers and verdicts as texts, and bodies read from such texts.
+//! Rows, logs, answers, notices and verdicts as texts, and bodies read from such texts.
 #![tactic(auto)]
 
 mod entries;
 mod escapes;
+mod notices;
 mod reading;
 mod rows;
 mod verdicts;
 
 pub use entries::{answer_line, log_text, push_asked, push_response};
 pub use escapes::{push_body_behind, push_key};
+pub use notices::{notices_text, push_post_name};
 pub use reading::unescaped;
 pub use rows::rows_text;
 pub use verdicts::verdict_text;

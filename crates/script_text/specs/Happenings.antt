@@ -8,12 +8,12 @@ use Rattle.repair_messages.specs.declared.kinds.Kind.TheVariants.{ReplaceRespons
 use Rattle.repair_messages.specs.declared.posts.Post.{Post}
 use Rattle.repair_messages.specs.declared.posts.Post.TheVariants.{Set, Answer}
 use Rattle.repair_messages.specs.declared.posts.PostName.{PostName}
-use Rattle.repair_messages.specs.declared.posts.PostName.TheVariants as post
 use Rattle.journal_rows.specs.declared.orders.About.{About}
 use Rattle.journal_rows.specs.declared.orders.About.TheVariants as about
 use Rattle.journal_rows.specs.declared.row.Row.{Row}
 use Rattle.journal_rows.specs.declared.row.Row.TheVariants as row
 use Rattle.request_names.specs.Ids.{id_text}
+use Rattle.report_text.specs.Notices.{post_name_text}
 use Rattle.report_text.specs.Reports.{response_text}
 use Rattle.service_events.specs.State.{Kept}
 use Rattle.service_events.specs.declared.answers.Ordered.{Ordered}
@@ -158,11 +158,6 @@ next_line service to p None packet = service ++ (codes " none " ++ (to ++ codes 
 abbrev pub step_line : List ℕ → Stepped → List ℕ
 step_line service Idle = service ++ codes " idle\n"
 step_line service (Ran id answered) = service ++ (codes " ran " ++ (id_text service id ++ codes "\n"))
-
--- `call:N` or `reply:N`
-abbrev pub post_name_text : PostName → List ℕ
-post_name_text (post.Call n) = codes "call:" ++ decimal n
-post_name_text (post.Reply n) = codes "reply:" ++ decimal n
 
 abbrev pub about_text : List ℕ → About → List ℕ
 about_text service (about.Request id) = id_text service id

@@ -1,12 +1,12 @@
 // Steps, orders and abandonments in a line.
 ghost use Rattle.std.specs.Prelude.{◌≡◌, ◌++◌, None, OnOk, string_bytes, true};
-ghost use Rattle.script_text.specs.Happenings.{abandoned_line, about_text, ordered_line, post_name_text, step_line};
+ghost use Rattle.script_text.specs.Happenings.{abandoned_line, about_text, ordered_line, step_line};
 
 use crate::refusals::{order_refusal, push_refused};
 use journal_rows::About;
 use lang_core::{Name, NoMemory};
 use local_repair::Stepped;
-use repair_messages::PostName;
+use report_text::push_post_name;
 use request_names::push_id;
 use service_events::{OrderRefused, Ordered};
 
@@ -36,16 +36,6 @@ pub fn push_stepped(text: &mut String, service: &Name, stepped: Stepped) -> Resu
         Stepped::Idle => push_idle(text, service),
         Stepped::Ran { id, answered: _ } => push_ran(text, service, id),
     }
-}
-
-fn push_post_name(text: &mut String, name: PostName) -> Result<(), NoMemory>
-    ensures { OnOk result (string_bytes text.new ≡ string_bytes text.old ++ post_name_text name) }
-{
-    match name {
-        PostName::Call(number) => write!(text, "call:{number}")?,
-        PostName::Reply(number) => write!(text, "reply:{number}")?,
-    }
-    Ok(())
 }
 
 fn push_about(text: &mut String, service: &Name, about: About) -> Result<(), NoMemory>

@@ -1,0 +1,33 @@
+-- What is held as a text.
+use Rattle.std.specs.Prelude.{ℕ, ◌++◌, List, codes, decimal}
+use Rattle.std.specs.List.{flat_map}
+use Rattle.repair_messages.specs.declared.posts.PostName.{PostName}
+use Rattle.repair_messages.specs.declared.posts.PostName.TheVariants.{Call, Reply}
+use Rattle.call_registers.specs.declared.register.Hold.{Hold}
+use Rattle.call_registers.specs.declared.register.Hold.TheVariants.{Rule, Unknown}
+use Rattle.repair_queue.specs.declared.held.Notice.{Notice}
+use Rattle.report_text.specs.Reports.{or_none}
+
+-- `call:N` or `reply:N`
+abbrev pub post_name_text : PostName → List ℕ
+post_name_text (Call n) = codes "call:" ++ decimal n
+post_name_text (Reply n) = codes "reply:" ++ decimal n
+
+-- ` vV` of a call's version, ` aA` of an answer's
+abbrev pub version_behind : PostName → ℕ → List ℕ
+version_behind (Call n) version = codes " v" ++ decimal version
+version_behind (Reply n) version = codes " a" ++ decimal version
+
+-- `rule R` or `unknown`
+abbrev pub hold_text : Hold → List ℕ
+hold_text (Rule r) = codes "rule " ++ decimal r
+hold_text Unknown = codes "unknown"
+
+-- `call:N vV rule R`
+abbrev pub notice_line : Notice → List ℕ
+notice_line n =
+    post_name_text n.name ++ (version_behind n.name n.version ++ (codes " " ++ (hold_text n.hold ++ codes "\n")))
+
+-- a line for each notice
+abbrev pub notices_text : List Notice → List ℕ
+notices_text notices = or_none (flat_map notice_line notices)

@@ -1,0 +1,64 @@
+// What is held as a text.
+ghost use Rattle.std.specs.Prelude.{◌≡◌, ◌++◌, IfOk, OnOk, string_bytes};
+ghost use Rattle.report_text.specs.Notices.{hold_text, notice_line, notices_text, post_name_text, version_behind};
+
+use crate::rows::or_none;
+use call_registers::Hold;
+use lang_core::{NoMemory, Text};
+use repair_messages::PostName;
+use repair_queue::{Notice, Notices};
+use std::alloc::Global;
+
+/// Puts which post last: `call:N` or `reply:N`.
+pub fn push_post_name(text: &mut String, name: PostName) -> Result<(), NoMemory>
+    ensures { OnOk result (string_bytes text.new ≡ string_bytes text.old ++ post_name_text name) }
+{
+    match name {
+        PostName::Call(number) => write!(text, "call:{number}")?,
+        PostName::Reply(number) => write!(text, "reply:{number}")?,
+    }
+    Ok(())
+}
+
+fn push_version(text: &mut String, name: PostName, version: u64) -> Result<(), NoMemory>
+    ensures { OnOk result (string_bytes text.new ≡ string_bytes text.old ++ version_behind name version) }
+{
+    match name {
+        PostName::Call(_) => write!(text, " v{version}")?,
+        PostName::Reply(_) => write!(text, " a{version}")?,
+    }
+    Ok(())
+}
+
+fn push_hold(text: &mut String, hold: Hold) -> Result<(), NoMemory>
+    ensures { OnOk result (string_bytes text.new ≡ string_bytes text.old ++ hold_text hold) }
+{
+    match hold {
+        Hold::Rule(rule) => write!(text, "rule {rule}")?,
+        Hold::Unknown => text.push_str("unknown")?,
+    }
+    Ok(())
+}
+
+fn push_notice(text: &mut String, notice: &Notice) -> Result<(), NoMemory>
+    ensures { OnOk result (string_bytes text.new ≡ string_bytes text.old ++ notice_line notice.now) }
+{
+    push_post_name(text, notice.name)?;
+    push_version(text, notice.name, notice.version)?;
+    text.push_str(" ")?;
+    push_hold(text, notice.hold)?;
+    text.push_str("\n")?;
+    Ok(())
+}
+
+/// What is held, a line for each post: `call:N vV rule R` or `reply:N aA rule R`, with `unknown` in place of `rule R` where
+/// the receiver doesn't know what it speaks of; `none` alone where nothing is held.
+pub fn notices_text(alloc: Global, notices: &Notices) -> Result<Text, NoMemory>
+    ensures { IfOk result (λ text. text ≡ notices_text notices.now) }
+{
+    let mut lines = String::new(alloc);
+    for notice in notices.as_slice() {
+        push_notice(&mut lines, notice)?;
+    }
+    or_none(lines)
+}
