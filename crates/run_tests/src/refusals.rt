@@ -27,6 +27,8 @@ replace nobody/1 t1 ann POST /buy/x 5 => 4
 create nobody t1 ann - - ann POST /buy/x 5 => 4
 rows nobody => 4
 log nobody => 4
+notices nobody => 4
+retry nobody t1 ann call:1 => 4
 step Shop => 3
 abandon shop 1 => 3
 deliver 1 => 3
@@ -34,6 +36,7 @@ deliver p01 => 3
 begin shop ann POST /aire/x => 3
 clock 9223372036854775808 => 3
 audit shop => 3
+retry shop t1 ann call => 3
 undo shop/1 => 2"#;
 
 fn check_line(rt: &(impl Abort + AllocGlobal), row: &str) {
@@ -65,6 +68,21 @@ fn nothing_happens(rt: HostRuntime) {
     let words: &[&str] = &["run", "@shops", "-"];
     let (status, out) = ran(rt.alloc(), words, &[IDLE], 0, 0).expect(&rt, "memory");
     assert_eq!(rt; out.bytes(), IDLE_TOLD.as_bytes());
+    assert_eq!(rt; status, 0);
+}
+
+// A purchase whose call was acknowledged and whose answer came: nothing is held, neither it nor what isn't there.
+const UNHELD: &str = "ask shop ann POST /buy/x 5\nnotices shop\nnotices bank\nretry shop t1 ann call:1\nretry bank t2 ann reply:1\n\
+    retry shop t3 ann call:0\nretry shop t4 ann reply:1\nnotices shop\naudit\n";
+
+const UNHELD_TOLD: &str = "shop/1 = 200 ok 5\nnone\nnone\nshop refused notheld\nbank refused notheld\n\
+    shop refused notheld\nshop refused notheld\nnone\nlegal\n";
+
+#[test]
+fn nothing_is_held(rt: HostRuntime) {
+    let words: &[&str] = &["run", "@shops", "-"];
+    let (status, out) = ran(rt.alloc(), words, &[UNHELD], 0, 0).expect(&rt, "memory");
+    assert_eq!(rt; out.bytes(), UNHELD_TOLD.as_bytes());
     assert_eq!(rt; status, 0);
 }
 

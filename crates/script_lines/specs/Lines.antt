@@ -9,11 +9,13 @@ use Rattle.lang_tree.specs.declared.method.Method.{Method}
 use Rattle.lang_core.specs.Names.{is_name, is_who}
 use Rattle.lang_core.specs.declared.request.Request.{Request}
 use Rattle.request_names.specs.Numbers.{number_of}
+use Rattle.repair_messages.specs.declared.posts.PostName.{PostName}
+use Rattle.repair_messages.specs.declared.posts.PostName.TheVariants.{Call, Reply}
 use Rattle.journal_rows.specs.declared.orders.Command.{Command}
-use Rattle.journal_rows.specs.declared.orders.Command.TheVariants.{Cancel, Restore, Replace, Create}
+use Rattle.journal_rows.specs.declared.orders.Command.TheVariants.{Cancel, Restore, Replace, Create, Retry}
 use Rattle.report_text.specs.Escapes.{unescaped}
 use Rattle.script_lines.specs.declared.line.Line.{Line}
-use Rattle.script_lines.specs.declared.line.Line.TheVariants.{Blank, Begin, Ask, Deliver, Lose, Step, Post, Abandon, Order, Clock, Seed, Rows, Log, Dump, Audit}
+use Rattle.script_lines.specs.declared.line.Line.TheVariants.{Blank, Begin, Ask, Deliver, Lose, Step, Post, Abandon, Order, Clock, Seed, Rows, Log, Notices, Dump, Audit}
 use Rattle.script_lines.specs.declared.line.LineFault.{LineFault}
 use Rattle.script_lines.specs.declared.line.LineFault.TheVariants.{Text, Word, Shape}
 
@@ -86,6 +88,18 @@ abbrev pub neighbour : List ℕ → Option (Option ℕ)
 neighbour word =
     if same_text word (codes "-") then Some None else with_part (number_of word) (λ n. Some (Some n))
 
+-- a post of a kind: `call` or `reply`
+abbrev pub post_of_kind : List ℕ → ℕ → Option PostName
+post_of_kind kind n =
+    if same_text kind (codes "call") then Some (Call n) else (if same_text kind (codes "reply") then Some (Reply n) else None)
+
+-- a kind of post and a number, with a colon between
+abbrev pub post_name_at : List ℕ × Option (List ℕ) → Option PostName
+post_name_at parts = with_part parts.1 (λ digits. with_part (number_of digits) (λ n. post_of_kind parts.0 n))
+
+abbrev pub post_name : List ℕ → Option PostName
+post_name word = post_name_at (cut_at 58 word)
+
 -- a path that a script may ask: not one of the program's own
 unfoldable pub is_asked_path : List ℕ → Bool
 is_asked_path path = is_path path && not (starts_with nat_eq path (codes "/aire/"))
@@ -152,6 +166,11 @@ created_of rest = with_part (created_parts rest) (λ c. with_part (asked c.3) (�
 unfoldable pub create_at : Option (List ℕ) → Option Line
 create_at rest = with_part (order_parts rest) (λ o. with_part (created_of o.3) (λ command. order_with o.0 command o.1 o.2))
 
+-- `S TOKEN WHO NAME`
+unfoldable pub retry_at : Option (List ℕ) → Option Line
+retry_at rest = with_part (order_parts rest) (λ o. with_word o.3 (λ name rest. at_end rest
+    (with_part (post_name name) (λ post. order_with o.0 (Retry post) o.1 o.2))))
+
 -- `S` alone
 unfoldable pub service_at : (List ℕ → Line) → Option (List ℕ) → Option Line
 service_at line rest = with_word rest (λ service rest. at_end rest (where_good (is_name service) (Some (line service))))
@@ -214,13 +233,15 @@ words_at word rest =
     else (if same_text word (codes "restore") then shaped (entry_order_at Restore rest)
     else (if same_text word (codes "replace") then shaped (replace_at rest)
     else (if same_text word (codes "create") then shaped (create_at rest)
+    else (if same_text word (codes "retry") then shaped (retry_at rest)
     else (if same_text word (codes "clock") then shaped (clock_at rest)
     else (if same_text word (codes "seed") then shaped (seed_at rest)
     else (if same_text word (codes "rows") then shaped (service_at Rows rest)
     else (if same_text word (codes "log") then shaped (service_at Log rest)
+    else (if same_text word (codes "notices") then shaped (service_at Notices rest)
     else (if same_text word (codes "dump") then shaped (at_end rest (Some Dump))
     else (if same_text word (codes "audit") then shaped (at_end rest (Some Audit))
-    else Err Word))))))))))))))))
+    else Err Word))))))))))))))))))
 
 -- an empty line or a comment
 abbrev pub is_passed_over : List ℕ → Bool

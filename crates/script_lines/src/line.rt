@@ -71,8 +71,8 @@ pub enum Line {
         service: Name,
         dest: Name,
     },
-    /// `cancel S/N TOKEN WHO`, `restore S/N TOKEN WHO`, `replace S/N TOKEN WHO METHOD PATH BODY` or
-    /// `create S TOKEN WHO BEFORE AFTER WHO2 METHOD PATH BODY`: an order of the user `who`.
+    /// `cancel S/N TOKEN WHO`, `restore S/N TOKEN WHO`, `replace S/N TOKEN WHO METHOD PATH BODY`,
+    /// `create S TOKEN WHO BEFORE AFTER WHO2 METHOD PATH BODY` or `retry S TOKEN WHO NAME`: an order of the user `who`.
     Order {
         service: Name,
         command: Command,
@@ -89,6 +89,10 @@ pub enum Line {
     },
     /// `log S`: the log.
     Log {
+        service: Name,
+    },
+    /// `notices S`: the posts that are held.
+    Notices {
         service: Name,
     },
     /// `dump`: all services, written down.

@@ -2,11 +2,11 @@
 ghost use Rattle.std.specs.Prelude.{◌≡◌, IfOk};
 ghost use Rattle.std.specs.Option.{option_map};
 ghost use Rattle.journal_rows.specs.declared.orders.Command.TheVariants.{Cancel as Strike, Restore};
-ghost use Rattle.script_lines.specs.Lines.{create_at, created_of, created_parts, name_part, order_of, order_parts, order_with, replace_at, entry_order_at, who_part};
+ghost use Rattle.script_lines.specs.Lines.{create_at, created_of, created_parts, name_part, order_of, order_parts, order_with, replace_at, retry_at, entry_order_at, who_part};
 
 use crate::asking::{read_asked, request_of};
 use crate::line::Line;
-use crate::parts::{cut_word, name_part, neighbour_part, numbered_part, who_part};
+use crate::parts::{cut_word, name_part, neighbour_part, numbered_part, post_name_part, who_part};
 use journal_rows::Command;
 use lang_core::{Name, NoMemory, Text};
 use std::alloc::Global;
@@ -178,4 +178,21 @@ pub fn read_create(alloc: Global, rest: Option<&str>) -> Result<Option<Line>, No
         return Ok(None);
     };
     order_with(alloc, service, command, token, who)
+}
+
+/// `retry S TOKEN WHO NAME`, behind its first word.
+#[tactic(auto, unfolding(crate::specs::Lines::retry_at))]
+pub fn read_retry(alloc: Global, rest: Option<&str>) -> Result<Option<Line>, NoMemory>
+    ensures { IfOk result (λ r. r ≡ retry_at (option_map (λ x. x.now) rest.entry)) }
+{
+    let Some((service, token, who, Some(rest))) = cut_order(rest) else {
+        return Ok(None);
+    };
+    let (word, None) = cut_word(rest) else {
+        return Ok(None);
+    };
+    let Some(post) = post_name_part(word) else {
+        return Ok(None);
+    };
+    order_with(alloc, service, Command::Retry(post), token, who)
 }

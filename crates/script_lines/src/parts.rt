@@ -1,9 +1,10 @@
 // The parts of a line.
 ghost use Rattle.std.specs.Prelude.{◌≡◌, IfOk, Some, None, if◌then◌else◌};
 ghost use Rattle.std.specs.Option.{option_map};
-ghost use Rattle.script_lines.specs.Lines.{body_of, cut_at, flight, is_asked_path, name_part, neighbour, numbered, packet, rest_or_empty, who_part};
+ghost use Rattle.script_lines.specs.Lines.{body_of, cut_at, flight, is_asked_path, name_part, neighbour, numbered, packet, post_name, post_of_kind, rest_or_empty, who_part};
 
 use lang_core::{LONGEST_TEXT, Name, NoMemory, Text, is_path, is_who};
+use repair_messages::PostName;
 use report_text::unescaped;
 use request_names::read_number;
 use std::alloc::Global;
@@ -23,6 +24,16 @@ fn cut_slash(text: &str) -> (&str, Option<&str>)
     ensures { (result.0.now, option_map (λ x. x.now) result.1) ≡ cut_at 47 text.now }
 {
     match text.split_once('/') {
+        Some((word, rest)) => (word, Some(rest)),
+        None => (text, None),
+    }
+}
+
+/// What stands before the first colon, and what stands behind it, if there is one.
+fn cut_colon(text: &str) -> (&str, Option<&str>)
+    ensures { (result.0.now, option_map (λ x. x.now) result.1) ≡ cut_at 58 text.now }
+{
+    match text.split_once(':') {
         Some((word, rest)) => (word, Some(rest)),
         None => (text, None),
     }
@@ -104,4 +115,23 @@ pub fn neighbour_part(word: &str) -> Option<Option<u64>>
     }
     let number = read_number(word)?;
     Some(Some(number))
+}
+
+fn post_of_kind(kind: &str, number: u64) -> Option<PostName>
+    ensures { result ≡ post_of_kind kind.now number }
+{
+    match kind {
+        "call" => Some(PostName::Call(number)),
+        "reply" => Some(PostName::Reply(number)),
+        _ => None,
+    }
+}
+
+/// Which post of a service, if the word names one.
+pub fn post_name_part(word: &str) -> Option<PostName>
+    ensures { result ≡ post_name word.now }
+{
+    let (kind, digits) = cut_colon(word);
+    let number = read_number(digits?)?;
+    post_of_kind(kind, number)
 }

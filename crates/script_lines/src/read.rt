@@ -5,7 +5,7 @@ ghost use Rattle.script_lines.specs.Lines.{abandon_at, at_end, clock_at, deliver
 
 use crate::asking::{read_ask, read_begin};
 use crate::line::{Line, LineFault};
-use crate::orders::{read_cancel, read_create, read_replace, read_restore};
+use crate::orders::{read_cancel, read_create, read_replace, read_restore, read_retry};
 use crate::parts::{cut_word, flight_part, name_part, packet_part};
 use lang_core::{LAST_MOMENT, Name, NoMemory};
 use request_names::read_number;
@@ -52,6 +52,15 @@ fn read_log(alloc: Global, rest: Option<&str>) -> Result<Option<Line>, NoMemory>
         return Ok(None);
     };
     Ok(Some(Line::Log { service }))
+}
+
+fn read_notices(alloc: Global, rest: Option<&str>) -> Result<Option<Line>, NoMemory>
+    ensures { IfOk result (λ r. r ≡ service_at Line.Notices (option_map (λ x. x.now) rest.entry)) }
+{
+    let Some(service) = read_service(alloc, rest)? else {
+        return Ok(None);
+    };
+    Ok(Some(Line::Notices { service }))
 }
 
 // The line of a word that stands alone.
@@ -194,10 +203,12 @@ fn read_words(
         "restore" => Ok(shaped(read_restore(alloc, rest)?)),
         "replace" => Ok(shaped(read_replace(alloc, rest)?)),
         "create" => Ok(shaped(read_create(alloc, rest)?)),
+        "retry" => Ok(shaped(read_retry(alloc, rest)?)),
         "clock" => Ok(shaped(read_clock(rest))),
         "seed" => Ok(shaped(read_seed(rest))),
         "rows" => Ok(shaped(read_rows(alloc, rest)?)),
         "log" => Ok(shaped(read_log(alloc, rest)?)),
+        "notices" => Ok(shaped(read_notices(alloc, rest)?)),
         "dump" => Ok(shaped(alone(rest, Line::Dump))),
         "audit" => Ok(shaped(alone(rest, Line::Audit))),
         _ => Ok(Err(LineFault::Word)),

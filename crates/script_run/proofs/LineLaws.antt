@@ -12,7 +12,7 @@ use Rattle.world_delivery_laws.proofs.RunLaws.{asking_live, has_asking, one_aski
 use Rattle.world_delivery_laws.proofs.StillLaws.{event_still, asking_still}
 use Rattle.script_lines.specs.Lines.{Read}
 use Rattle.script_lines.specs.declared.line.Line.{Line}
-use Rattle.script_lines.specs.declared.line.Line.TheVariants.{Blank, Begin, Ask, Deliver, Lose, Step, Abandon, Post, Order, Clock, Seed, Rows, Log, Dump, Audit}
+use Rattle.script_lines.specs.declared.line.Line.TheVariants.{Blank, Begin, Ask, Deliver, Lose, Step, Abandon, Post, Order, Clock, Seed, Rows, Log, Notices, Dump, Audit}
 use Rattle.script_lines.specs.declared.line.LineFault.{LineFault}
 use Rattle.script_run.specs.Told.{last_line, said_of, events_said}
 use Rattle.script_run.specs.Plays.{AreEventsFor, AreEventsOf, IsLiveLine, said_by, said_for}
@@ -34,6 +34,7 @@ has_events w (Clock moment) = (event.Clock moment ∷ [], refl)
 has_events w (Seed n) = (event.Seed n ∷ [], refl)
 has_events w (Rows service) = ([], refl)
 has_events w (Log service) = ([], refl)
+has_events w (Notices service) = ([], refl)
 has_events w Dump = ([], refl)
 has_events w Audit = ([], refl)
 
@@ -56,6 +57,7 @@ one_list w (Clock moment) xs ys a b = a ∙ sym b
 one_list w (Seed n) xs ys a b = a ∙ sym b
 one_list w (Rows service) xs ys a b = a ∙ sym b
 one_list w (Log service) xs ys a b = a ∙ sym b
+one_list w (Notices service) xs ys a b = a ∙ sym b
 one_list w Dump xs ys a b = a ∙ sym b
 one_list w Audit xs ys a b = a ∙ sym b
 
@@ -100,6 +102,7 @@ line_still w (Clock moment) events fault are e = one_still w (event.Clock moment
 line_still w (Seed n) events fault are e = one_still w (event.Seed n) events fault are e
 line_still w (Rows service) events fault are e = none_still w events are
 line_still w (Log service) events fault are e = none_still w events are
+line_still w (Notices service) events fault are e = none_still w events are
 line_still w Dump events fault are e = none_still w events are
 line_still w Audit events fault are e = none_still w events are
 
@@ -127,6 +130,7 @@ line_live w (Clock moment) events live are = same_live events _ are (tt, tt)
 line_live w (Seed n) events live are = same_live events _ are (tt, tt)
 line_live w (Rows service) events live are = same_live events _ are tt
 line_live w (Log service) events live are = same_live events _ are tt
+line_live w (Notices service) events live are = same_live events _ are tt
 line_live w Dump events live are = same_live events _ are tt
 line_live w Audit events live are = same_live events _ are tt
 

@@ -2,6 +2,8 @@
 use Rattle.std.specs.Prelude.{ℕ, ◌≡◌, ◌+◌, Bool, true, false, List, [], ◌∷◌, ◌++◌, Option, Some, None, Ok, Err, ◌==◌, length, map, nat_lt, take, drop}
 use Rattle.std.specs.List.{slice_split}
 use Rattle.local_repair.specs.Current.{rows_after}
+use Rattle.repair_queue.specs.Held.{notices}
+use Rattle.report_text.specs.Notices.{notices_text}
 use Rattle.report_text.specs.Reports.{log_text, rows_text, verdict_text}
 use Rattle.service_events.specs.State.{Kept, me, base}
 use Rattle.world_agreement.specs.Partners.{service_of}
@@ -13,7 +15,7 @@ use Rattle.world_delivery_laws.specs.Runs.{IsAsking}
 use Rattle.script_lines.specs.Faults.{fault_number}
 use Rattle.script_lines.specs.Lines.{Read, line_at}
 use Rattle.script_lines.specs.declared.line.Line.{Line}
-use Rattle.script_lines.specs.declared.line.Line.TheVariants.{Blank, Begin, Ask, Deliver, Lose, Step, Abandon, Post, Order, Clock, Seed, Rows, Log, Dump, Audit}
+use Rattle.script_lines.specs.declared.line.Line.TheVariants.{Blank, Begin, Ask, Deliver, Lose, Step, Abandon, Post, Order, Clock, Seed, Rows, Log, Notices, Dump, Audit}
 use Rattle.script_lines.specs.declared.line.LineFault.{LineFault}
 use Rattle.script_lines.specs.declared.line.LineFault.TheVariants.{Service}
 use Rattle.script_run.specs.Audits.{verdict}
@@ -37,6 +39,7 @@ AreEventsOf w (Clock moment) events = events ≡ event.Clock moment ∷ []
 AreEventsOf w (Seed n) events = events ≡ event.Seed n ∷ []
 AreEventsOf w (Rows service) events = events ≡ []
 AreEventsOf w (Log service) events = events ≡ []
+AreEventsOf w (Notices service) events = events ≡ []
 AreEventsOf w Dump events = events ≡ []
 AreEventsOf w Audit events = events ≡ []
 
@@ -47,6 +50,9 @@ rows_of_service s = rows_text (rows_after (base s) s.entries)
 
 abbrev pub log_of_service : Kept → List ℕ
 log_of_service s = log_text (me s) s.entries
+
+abbrev pub notices_of_service : Kept → List ℕ
+notices_of_service s = notices_text (notices s.registers s.replies)
 
 -- what a report says of a service, if it is there
 abbrev pub report_of : (Kept → List ℕ) → Option Kept → LineAnswer
@@ -61,6 +67,7 @@ audit_text services = verdict_text (map me services) (verdict services)
 abbrev pub said_by : World → Line → List Event → LineAnswer
 said_by w (Rows service) events = report_of rows_of_service (service_of service w.services)
 said_by w (Log service) events = report_of log_of_service (service_of service w.services)
+said_by w (Notices service) events = report_of notices_of_service (service_of service w.services)
 said_by w Dump events = Ok (dump_text w.services)
 said_by w Audit events = Ok (audit_text w.services)
 said_by w line events = events_said w events

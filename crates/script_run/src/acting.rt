@@ -5,7 +5,7 @@ ghost use Rattle.script_run.specs.Plays.{AreEventsOf, said_by};
 ghost use Rattle.script_run.specs.Stops.{Does, DoesFirst};
 
 use crate::asking::ask;
-use crate::reports::{dump, log, rows, verdict_over};
+use crate::reports::{dump, log, notices, rows, verdict_over};
 use crate::telling::happen;
 use journal_rows::Command;
 use lang_core::{Copied, Name, NoMemory, Text};
@@ -109,6 +109,7 @@ pub fn act(
         Line::Seed(n) => happen(alloc, world, Detail::Nothing, Event::Seed(n)),
         Line::Rows { service } => rows(alloc, world, &service),
         Line::Log { service } => log(alloc, world, &service),
+        Line::Notices { service } => notices(alloc, world, &service),
         Line::Dump => dump(alloc, world),
         Line::Audit => verdict_over(alloc, world),
     }

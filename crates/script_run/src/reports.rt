@@ -9,12 +9,13 @@ ghost use Rattle.world_agreement.specs.Legal.{AreLegal};
 ghost use Rattle.world_agreement.specs.Partners.{IsJoined, service_of};
 ghost use Rattle.script_run.specs.Audits.{SaysForged, verdict};
 ghost use Rattle.script_run.specs.Dumps.{dump_text};
-ghost use Rattle.script_run.specs.Plays.{audit_text, log_of_service, report_of, rows_of_service};
+ghost use Rattle.script_run.specs.Plays.{audit_text, log_of_service, notices_of_service, report_of, rows_of_service};
 
 use crate::dumping::dump_text;
 use journal_rows::Verdict;
 use lang_core::{Copied, Name, Names, NoMemory, Text};
-use report_text::{log_text, rows_text, verdict_text};
+use repair_queue::notices as held;
+use report_text::{log_text, notices_text, rows_text, verdict_text};
 use script_lines::LineFault;
 use std::alloc::Global;
 use world_audit::audit;
@@ -42,6 +43,26 @@ pub fn log(alloc: Global, world: &World, name: &Name) -> Result<Result<Text, Lin
 {
     match world.service(name) {
         Some(service) => Ok(Ok(log_text(alloc, &service.setting().me, service.entries())?)),
+        None => Ok(Err(LineFault::Service)),
+    }
+}
+
+fn notices_of(alloc: Global, service: &Service) -> Result<Text, NoMemory>
+    ensures { IfOk result (λ text. text ≡ notices_of_service service.now) }
+{
+    notices_text(alloc, &held(alloc, service.registers(), service.replies())?)
+}
+
+/// What the service of this name has held, if it is there.
+pub fn notices(
+    alloc: Global,
+    world: &World,
+    name: &Name,
+) -> Result<Result<Text, LineFault>, NoMemory>
+    ensures { IfOk result (λ said. said ≡ report_of notices_of_service (service_of name.now world.now.services)) }
+{
+    match world.service(name) {
+        Some(service) => Ok(Ok(notices_of(alloc, service)?)),
         None => Ok(Err(LineFault::Service)),
     }
 }

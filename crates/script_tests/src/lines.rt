@@ -2,6 +2,7 @@
 use crate::given::{holds, same};
 use journal_rows::Command;
 use lang_core::{Method, Name, Request, Text};
+use repair_messages::PostName;
 use script_lines::{Line, read_line};
 use std::process::Abort;
 
@@ -53,6 +54,13 @@ fn creation(
     format!(in rt.alloc(); "{before}{after}{request}").expect(rt, "memory")
 }
 
+fn post_name(rt: &(impl Abort + AllocGlobal), post: PostName) -> String {
+    match post {
+        PostName::Call(number) => counted(rt, "call", number),
+        PostName::Reply(number) => counted(rt, "reply", number),
+    }
+}
+
 fn order(
     rt: &(impl Abort + AllocGlobal),
     service: &str,
@@ -88,7 +96,11 @@ fn order(
                 rt, "memory",
             )
         }
-        Command::Retry(_) => alone(rt, "retry"),
+        Command::Retry(post) => {
+            let post = post_name(rt, *post);
+            let post = post.as_str();
+            format!(in rt.alloc(); "retry[{service}][{post}][{token}][{who}]").expect(rt, "memory")
+        }
     }
 }
 
@@ -131,6 +143,7 @@ fn spelled(rt: &(impl Abort + AllocGlobal), line: &Line) -> String {
         Line::Step { service } => named(rt, "step", service),
         Line::Rows { service } => named(rt, "rows", service),
         Line::Log { service } => named(rt, "log", service),
+        Line::Notices { service } => named(rt, "notices", service),
         Line::Dump => alone(rt, "dump"),
         Line::Audit => alone(rt, "audit"),
         Line::Clock(moment) => counted(rt, "clock", *moment),
@@ -174,6 +187,13 @@ rows[notes]|rows notes|
 log[notes]|log notes|
 3|log notes/1|
 3|log |
+notices[shop]|notices shop|
+3|notices|
+3|notices |
+3|notices Shop|
+3|notices shop |
+3|notices shop call:1|
+2|notice shop|
 dump|dump|
 3|dump notes|
 3|dump |
@@ -302,6 +322,31 @@ create[notes][t][ann][-][18446744073709551615][bob][GET][/x][]0|create notes t a
 3|create notes t ann - 18446744073709551616 bob GET /x|
 3|create notes t ann - -  GET /x|
 3|create notes t ann - - bob|
+retry[shop][call[7]][t][ann]|retry shop t ann call:7|
+retry[shop][call[0]][t][ann]|retry shop t ann call:0|
+retry[shop][reply[18446744073709551615]][t][ann]|retry shop t ann reply:18446744073709551615|
+3|retry shop t ann reply:18446744073709551616|
+3|retry shop t ann call:07|
+3|retry shop t ann call:+7|
+3|retry shop t ann call:|
+3|retry shop t ann call|
+3|retry shop t ann :7|
+3|retry shop t ann 7|
+3|retry shop t ann Call:7|
+3|retry shop t ann calls:7|
+3|retry shop t ann call/7|
+3|retry shop t ann call:7:7|
+3|retry shop t ann call: 7|
+3|retry shop t ann call:7 |
+3|retry shop t ann call:7 reply:7|
+3|retry shop t ann |
+3|retry shop t ann|
+3|retry shop t|
+3|retry|
+3|retry shop/7 t ann call:7|
+3|retry Shop t ann call:7|
+3|retry shop t  call:7|
+3|retry shop  ann call:7|
 clock[0]|clock 0|
 clock[9223372036854775807]|clock 9223372036854775807|
 3|clock 9223372036854775808|
@@ -376,4 +421,8 @@ fn parts_have_limits(rt: HostRuntime) {
     ends_at(&rt, "cancel ", 32, "/7 t ann");
     ends_at(&rt, "cancel notes/7 ", 64, " ann");
     ends_at(&rt, "cancel notes/7 t ", 64, "");
+    ends_at(&rt, "notices ", 32, "");
+    ends_at(&rt, "retry ", 32, " t ann call:7");
+    ends_at(&rt, "retry shop ", 64, " ann call:7");
+    ends_at(&rt, "retry shop t ", 64, " reply:7");
 }

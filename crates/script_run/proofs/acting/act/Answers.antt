@@ -10,6 +10,9 @@ returns-in-Rows-clause-early c = on_err _ (act_none c.args.world.now c.args.line
 pub returns-in-Log-clause-early : goal.returns-in-Log-clause-early
 returns-in-Log-clause-early c = on_err _ (act_none c.args.world.now c.args.line)
 
+pub returns-in-Notices-clause-early : goal.returns-in-Notices-clause-early
+returns-in-Notices-clause-early c = on_err _ (act_none c.args.world.now c.args.line)
+
 pub returns-in-Dump-clause-early : goal.returns-in-Dump-clause-early
 returns-in-Dump-clause-early c = on_err _ (act_none c.args.world.now c.args.line)
 
