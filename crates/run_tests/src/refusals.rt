@@ -72,10 +72,12 @@ fn nothing_happens(rt: HostRuntime) {
 }
 
 // A purchase whose call was acknowledged and whose answer came: nothing is held, neither it nor what isn't there.
-const UNHELD: &str = "ask shop ann POST /buy/x 5\nnotices shop\nnotices bank\nretry shop t1 ann call:1\nretry bank t2 ann reply:1\n\
+const UNHELD: &str =
+    "ask shop ann POST /buy/x 5\nnotices shop\nnotices bank\nretry shop t1 ann call:1\nretry bank t2 ann reply:1\n\
     retry shop t3 ann call:0\nretry shop t4 ann reply:1\nnotices shop\naudit\n";
 
-const UNHELD_TOLD: &str = "shop/1 = 200 ok 5\nnone\nnone\nshop refused notheld\nbank refused notheld\n\
+const UNHELD_TOLD: &str =
+    "shop/1 = 200 ok 5\nnone\nnone\nshop refused notheld\nbank refused notheld\n\
     shop refused notheld\nshop refused notheld\nnone\nlegal\n";
 
 #[test]
