@@ -1,6 +1,7 @@
 // How a run ends.
-ghost use Rattle.std.specs.Prelude.{◌≡◌, ◌≤◌, IfSome, Some, codes};
+ghost use Rattle.std.specs.Prelude.{◌≡◌, ◌≤◌, All, IfSome, Some, codes};
 ghost use Rattle.journal_rows.specs.declared.verdict.Verdict.TheVariants.{Legal};
+ghost use Rattle.service_events.specs.Allowed.{IsAllowed};
 ghost use Rattle.world_events.specs.Sound.{IsSound};
 ghost use Rattle.script_run.specs.Audits.{SaysForged};
 ghost use Rattle.world_agreement.specs.Legal.{AreLegal};
@@ -29,6 +30,7 @@ fn without(alloc: Global, status: u8) -> Ended
     ensures answer { answer result.status result.services.items result.verdict ≡ nothing status }
     ensures legal { result.verdict ≡ Some Legal → AreLegal result.services.items }
     ensures joined { IfSome result.verdict (λ v. ¬ (SaysForged v)) }
+    ensures allowed { IfSome result.verdict (λ v. All IsAllowed result.services.items) }
 {
     Ended {
         status,
@@ -42,6 +44,7 @@ pub fn lacking<K: Sink>(alloc: Global, out: &mut K) -> Ended
     ensures ends { LacksMemory (K.writes out.old) (K.writes out.new) (answer result.status result.services.items result.verdict) }
     ensures legal { result.verdict ≡ Some Legal → AreLegal result.services.items }
     ensures joined { IfSome result.verdict (λ v. ¬ (SaysForged v)) }
+    ensures allowed { IfSome result.verdict (λ v. All IsAllowed result.services.items) }
     ensures counted { (K.writes out.old).faults ≤ (K.writes out.new).faults }
 {
     let status = lacking_status(out);
@@ -54,6 +57,7 @@ pub fn standing(status: u8, world: World) -> Ended
     ensures answer { answer result.status result.services.items result.verdict ≡ standing status world }
     ensures legal { result.verdict ≡ Some Legal → AreLegal result.services.items }
     ensures joined { IfSome result.verdict (λ v. ¬ (SaysForged v)) }
+    ensures allowed { IfSome result.verdict (λ v. All IsAllowed result.services.items) }
 {
     let verdict = Some(judge(&world));
     Ended {
@@ -69,6 +73,7 @@ pub fn refusal<K: Sink>(alloc: Global, world: World, out: &mut K, line: u64, num
     ensures ends { Closes (K.writes out.old) (K.writes out.new) (standing 3 world) (refused_line line number) (answer result.status result.services.items result.verdict) }
     ensures legal { result.verdict ≡ Some Legal → AreLegal result.services.items }
     ensures joined { IfSome result.verdict (λ v. ¬ (SaysForged v)) }
+    ensures allowed { IfSome result.verdict (λ v. All IsAllowed result.services.items) }
     ensures counted { (K.writes out.old).faults ≤ (K.writes out.new).faults }
 {
     match format!(in alloc; "script refused line {line} number {number}\n") {
@@ -85,6 +90,7 @@ pub fn unread<K: Sink>(alloc: Global, out: &mut K) -> Ended
     ensures ends { Closes (K.writes out.old) (K.writes out.new) (nothing 4) unread_line (answer result.status result.services.items result.verdict) }
     ensures legal { result.verdict ≡ Some Legal → AreLegal result.services.items }
     ensures joined { IfSome result.verdict (λ v. ¬ (SaysForged v)) }
+    ensures allowed { IfSome result.verdict (λ v. All IsAllowed result.services.items) }
 {
     write_last(out, "read fault\n");
     without(alloc, 4)
@@ -95,6 +101,7 @@ pub fn misused<K: Sink>(alloc: Global, out: &mut K, place: u64) -> Ended
     ensures ends { Closes (K.writes out.old) (K.writes out.new) (nothing 2) (usage_line place) (answer result.status result.services.items result.verdict) }
     ensures legal { result.verdict ≡ Some Legal → AreLegal result.services.items }
     ensures joined { IfSome result.verdict (λ v. ¬ (SaysForged v)) }
+    ensures allowed { IfSome result.verdict (λ v. All IsAllowed result.services.items) }
 {
     match format!(in alloc; "usage: word {place}\n") {
         Ok(text) => {
@@ -110,6 +117,7 @@ pub fn world_too_long<K: Sink>(alloc: Global, out: &mut K) -> Ended
     ensures ends { Closes (K.writes out.old) (K.writes out.new) (nothing 3) (world_line (codes "8")) (answer result.status result.services.items result.verdict) }
     ensures legal { result.verdict ≡ Some Legal → AreLegal result.services.items }
     ensures joined { IfSome result.verdict (λ v. ¬ (SaysForged v)) }
+    ensures allowed { IfSome result.verdict (λ v. All IsAllowed result.services.items) }
 {
     write_last(out, "world refused 8\n");
     without(alloc, 3)
@@ -120,6 +128,7 @@ pub fn world_refused<K: Sink>(alloc: Global, out: &mut K, why: &WorldRefused) ->
     ensures ends { Closes (K.writes out.old) (K.writes out.new) (nothing 3) (world_line (refusal_text why.now)) (answer result.status result.services.items result.verdict) }
     ensures legal { result.verdict ≡ Some Legal → AreLegal result.services.items }
     ensures joined { IfSome result.verdict (λ v. ¬ (SaysForged v)) }
+    ensures allowed { IfSome result.verdict (λ v. All IsAllowed result.services.items) }
 {
     match format!(in alloc; "world refused {why}\n") {
         Ok(text) => {

@@ -1,7 +1,8 @@
 // The top call.
-ghost use Rattle.std.specs.Prelude.{◌≡◌, ◌⊎◌, ◌≤◌, IfOk, IfSome, Some, map, string_bytes, length};
+ghost use Rattle.std.specs.Prelude.{◌≡◌, ◌⊎◌, ◌≤◌, IfOk, All, IfSome, Some, map, string_bytes, length};
 ghost use Rattle.journal_rows.specs.declared.verdict.Verdict.TheVariants.{Legal};
 ghost use Rattle.world_events.specs.Live.{IsLiveWorld};
+ghost use Rattle.service_events.specs.Allowed.{IsAllowed};
 ghost use Rattle.world_events.specs.Sound.{IsSound};
 ghost use Rattle.script_run.specs.Audits.{SaysForged};
 ghost use Rattle.world_agreement.specs.Legal.{AreLegal};
@@ -27,6 +28,7 @@ fn worldless<K: Sink>(alloc: Global, why: NoWorld, out: &mut K) -> Ended
     ensures ends { ClosesWorldless why (K.writes out.old) (K.writes out.new) (answer result.status result.services.items result.verdict) }
     ensures legal { result.verdict ≡ Some Legal → AreLegal result.services.items }
     ensures joined { IfSome result.verdict (λ v. ¬ (SaysForged v)) }
+    ensures allowed { IfSome result.verdict (λ v. All IsAllowed result.services.items) }
 {
     match why {
         NoWorld::NoMemory => lacking(alloc, out),
@@ -44,6 +46,7 @@ fn play<K: Sink>(alloc: Global, world: World, script: &[u8], out: &mut K) -> End
     ensures ends { ScriptEnds world script.now (K.writes out.old) (K.writes out.new) (answer result.status result.services.items result.verdict) }
     ensures legal { result.verdict ≡ Some Legal → AreLegal result.services.items }
     ensures joined { IfSome result.verdict (λ v. ¬ (SaysForged v)) }
+    ensures allowed { IfSome result.verdict (λ v. All IsAllowed result.services.items) }
 {
     let mut world = world;
     match run_script(alloc, &mut world, script, out) {
@@ -96,6 +99,7 @@ fn run_in<F: Files, S: Source, K: Sink>(
         (answer result.status result.services.items result.verdict) }
     ensures legal { result.verdict ≡ Some Legal → AreLegal result.services.items }
     ensures joined { IfSome result.verdict (λ v. ¬ (SaysForged v)) }
+    ensures allowed { IfSome result.verdict (λ v. All IsAllowed result.services.items) }
 {
     let Ok(world) = started(alloc, &setups) else {
         return lacking(alloc, out);
@@ -123,6 +127,7 @@ fn run<F: Files, S: Source, K: Sink>(
         (answer result.status result.services.items result.verdict) }
     ensures legal { result.verdict ≡ Some Legal → AreLegal result.services.items }
     ensures joined { IfSome result.verdict (λ v. ¬ (SaysForged v)) }
+    ensures allowed { IfSome result.verdict (λ v. All IsAllowed result.services.items) }
 {
     match load_world(alloc, world, files) {
         Ok(setups) => run_in(alloc, setups, script, files, input, out),
@@ -161,6 +166,9 @@ pub fn aire<F: Files, S: Source, K: Sink>(
 
     // It is never Forged: what each service says of another is what that one says of itself.
     ensures joined { IfSome result.verdict (λ v. ¬ (SaysForged v)) }
+
+    // Where there is a verdict, Legal or not, each repair that a service applied was allowed by its rules, as things stood before it.
+    ensures allowed { IfSome result.verdict (λ v. All IsAllowed result.services.items) }
 {
     match named(words) {
         Ok((world, script)) => run(alloc, world, script, files, input, out),

@@ -4,6 +4,7 @@ ghost use Rattle.call_registers.specs.Registers.{IsTimely};
 ghost use Rattle.journal_rows.specs.declared.verdict.Verdict.TheVariants.{Legal};
 ghost use Rattle.report_text.specs.Reports.{IsVerdictOver};
 ghost use Rattle.service_events.specs.Fits.{Fits};
+ghost use Rattle.service_events.specs.Allowed.{IsAllowed};
 ghost use Rattle.service_events.specs.State.{me, Kept};
 ghost use Rattle.world_agreement.specs.Legal.{AreLegal};
 ghost use Rattle.world_agreement.specs.Partners.{IsJoined, service_of};
@@ -95,12 +96,13 @@ fn each_fits(services: &[Service])
 
 /// The audit's verdict over a world, which is the one that is defined, and speaks of one of its services. Where it is Legal,
 /// the services' histories are one legal execution; where what each says of another is what that one says of itself, it isn't
-/// Forged.
+/// Forged, and each repair that a service applied was allowed by its rules.
 pub fn judge(world: &World) -> Verdict
     ensures same { result ≡ verdict world.now.services }
     ensures over { IsVerdictOver (length world.now.services) result }
     ensures legal { result ≡ Legal → AreLegal world.now.services }
     ensures joined { IsJoined world.now.services → ¬ (SaysForged result) }
+    ensures allowed { IsJoined world.now.services → All IsAllowed world.now.services }
 
     // Services that are joined are timely: none holds an answer to a later version of a call than its register's.
     ensures timely { IsJoined world.now.services → All (λ (s : Kept). IsTimely s.registers) world.now.services }

@@ -1,5 +1,6 @@
-use Rattle.std.proofs.Common.{List, subst, sym}
+use Rattle.std.proofs.Common.{All, List, subst, sym}
 use Rattle.journal_rows.specs.declared.verdict.Verdict.TheVariants.{Legal}
+use Rattle.service_events.specs.Allowed.{IsAllowed}
 use Rattle.service_events.specs.State.{Kept}
 use Rattle.world_agreement.specs.Legal.{AreLegal}
 use Rattle.aire_top.proofs.Runs.{verdict_told}
@@ -12,3 +13,8 @@ returns-clause-legal c = λ e.
 
 pub returns-clause-joined : goal.returns-clause-joined
 returns-clause-joined c = c.judge.ensures.joined c.requires.joined
+
+pub returns-clause-allowed : goal.returns-clause-allowed
+returns-clause-allowed c =
+    let P : List Kept → Type 0 = λ services. All IsAllowed services in
+    subst P (sym c.into_services.ensures) (c.judge.ensures.allowed c.requires.joined)

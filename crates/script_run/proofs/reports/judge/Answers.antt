@@ -19,3 +19,7 @@ returns-clause-joined c = λ joined says. c.audit.ensures.forged.0 says (rw c.se
 
 pub returns-clause-timely : goal.returns-clause-timely
 returns-clause-timely c = joined_timely c.args.world.now.services (rw c.services-services.ensures.services at c.each_fits.ensures) c.services-services.ensures.differ
+
+pub returns-clause-allowed : goal.returns-clause-allowed
+returns-clause-allowed c = λ joined.
+    rw c.services-services.ensures.services at (c.audit.ensures.allowed (λ says. c.audit.ensures.forged.0 says (rw c.services-services.ensures.services joined)))
