@@ -13,6 +13,7 @@ use Rattle.service_events.specs.Calls.{after_row, after_rows, all_deleted, delet
 use Rattle.service_events.specs.Arriving.{abandoned, abandon_event}
 use Rattle.service_entry_laws.proofs.SearchLemmas.{splits}
 use Rattle.service_laws.proofs.AgeLaws.{abandon_ages}
+use Rattle.service_laws.proofs.AllowedLaws.{abandon_stays_allowed}
 use Rattle.service_laws.proofs.BoundLaws.{abandon_bounded}
 use Rattle.service_laws.proofs.FitLaws.{abandon_fits}
 use Rattle.service_parts.specs.Parts.{kept}
@@ -85,4 +86,5 @@ flight_abandoned s s' id f flights found gone is =
 pub abandon_service : (p p' : Parts) (id : ℕ) (there : Bool) → IsService p → after (kept p') there ≡ abandon_event (kept p) id → length p'.journal.rows < 2 ^ 64
     → HasRoom p' → IsService p'
 abandon_service p p' id there h is few room =
-    next_service p' (abandon_event (kept p) id).service (ap (λ (a : After Bool). a.service) is) (abandon_fits (kept p) id h.fits) (λ few. abandon_ages (kept p) id h.fits few h.ages) (abandon_bounded (kept p) id h.few) few room
+    next_service p' (abandon_event (kept p) id).service (ap (λ (a : After Bool). a.service) is) (abandon_fits (kept p) id h.fits) (λ few. abandon_ages (kept p) id h.fits few h.ages)
+    (abandon_stays_allowed (kept p) id h.allowed) (abandon_bounded (kept p) id h.few) few room

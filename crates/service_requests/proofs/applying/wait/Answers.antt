@@ -16,6 +16,7 @@ returns-clause-ok c =
     on_ok c.put.result (c.put.new.self.list ≡ with_flight flight before) (c.put.ensures.ready c.in_ok-reserve_flight.ensures.flight) c.put.ensures.ok in
     let moved : Kept → Kept = λ k. record {
       setting = k.setting;
+      rules = k.rules;
       entries = k.entries;
       flights = with_flight flight k.flights;
       journal = k.journal ++ draft.rows.items;

@@ -4,6 +4,7 @@ use Rattle.service_events.specs.State.{Kept}
 use Rattle.service_events.specs.Arriving.{accepted, arrive_event, new_flight}
 use Rattle.service_events.specs.declared.refusals.ArriveRefused.{ArriveRefused}
 use Rattle.service_laws.proofs.AgeLaws.{arrive_ages}
+use Rattle.service_laws.proofs.AllowedLaws.{arrive_stays_allowed}
 use Rattle.service_laws.proofs.BoundLaws.{arrive_bounded}
 use Rattle.service_laws.proofs.FitLaws.{arrive_fits}
 use Rattle.service_parts.specs.Drafts.{with_draft}
@@ -37,5 +38,6 @@ returns-clause-service c =
     (ap (accepted {E = ArriveRefused}) left ∙ arrive_runs s c.args.request c.args.inputs c.args.origin c.requires.runs)
     c.apply.ensures.ok c.apply.ensures.err
     (arrive_fits s c.args.origin c.args.request c.args.inputs c.requires.service.fits)
-    (λ few. arrive_ages s c.args.origin c.args.request c.args.inputs c.requires.service.fits few c.requires.service.ages) (arrive_bounded s c.args.origin c.args.request c.args.inputs c.requires.service.few)
+    (λ few. arrive_ages s c.args.origin c.args.request c.args.inputs c.requires.service.fits few c.requires.service.ages) (arrive_stays_allowed s c.args.origin c.args.request c.args.inputs c.requires.service.allowed)
+    (arrive_bounded s c.args.origin c.args.request c.args.inputs c.requires.service.few)
     c.apply.ensures.few c.apply.ensures.room c.requires.service

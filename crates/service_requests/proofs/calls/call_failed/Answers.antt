@@ -2,6 +2,7 @@ use Rattle.std.proofs.Common.{Ok}
 use Rattle.service_events.specs.State.{Kept}
 use Rattle.service_events.specs.Arriving.{call_failed_event}
 use Rattle.service_laws.proofs.AgeLaws.{call_failed_ages}
+use Rattle.service_laws.proofs.AllowedLaws.{call_failed_stays_allowed}
 use Rattle.service_laws.proofs.BoundLaws.{call_failed_bounded}
 use Rattle.service_laws.proofs.FitLaws.{call_failed_fits}
 use Rattle.service_parts.specs.Parts.{kept}
@@ -15,5 +16,6 @@ returns-clause-service c =
     event_service c.args.parts.now c.apply.new.parts (Ok c.in_ok-arrived.arrived) (leaves s c.in_ok-outcome.outcome)
     (call_failed_event s c.args.id c.args.number c.args.why) c.in_ok-outcome.ensures.0 c.in_ok-arrived.ensures.ok tt
     (call_failed_fits s c.args.id c.args.number c.args.why c.requires.fits)
-    (λ few. call_failed_ages s c.args.id c.args.number c.args.why c.requires.fits few c.requires.ages) (call_failed_bounded s c.args.id c.args.number c.args.why c.requires.few)
+    (λ few. call_failed_ages s c.args.id c.args.number c.args.why c.requires.fits few c.requires.ages) (call_failed_stays_allowed s c.args.id c.args.number c.args.why c.requires.allowed)
+    (call_failed_bounded s c.args.id c.args.number c.args.why c.requires.few)
     c.in_ok-arrived.ensures.few c.apply.ensures.room c.requires
