@@ -1,6 +1,7 @@
 -- Equal parts of a service, with room to abandon its flights, are a service too.
 use Rattle.std.proofs.Common.{◌≡◌, Result, Ok, Err, IfOk, ◌<◌, ◌≤◌, ◌^◌, length, sym, subst}
 use Rattle.service_events.specs.Ages.{HasAges}
+use Rattle.service_events.specs.Allowed.{IsAllowed}
 use Rattle.service_events.specs.Fits.{Fits}
 use Rattle.service_events.specs.State.{Kept, in_all}
 use Rattle.service_parts.specs.Parts.{kept}
@@ -11,6 +12,7 @@ use Rattle.lang_base.specs.declared.memory.NoMemory.{NoMemory}
 pub copy_is : (p q : Parts) → kept q ≡ kept p → HasRoom q → IsService p → IsService q
 copy_is p q same room is = record {
   fits = subst Fits (sym same) is.fits;
+  allowed = subst IsAllowed (sym same) is.allowed;
   counted = subst (λ (s : Kept). length s.journal < 2 ^ 64) (sym same) is.counted;
   ages = subst (λ (s : Kept). HasAges s.journal s.registers s.replies) (sym same) is.ages;
   few = subst (λ (s : Kept). in_all s ≤ 100000) (sym same) is.few;

@@ -3,8 +3,9 @@ use Rattle.std.proofs.Common.{◌≡◌, ◌≤◌, List, [], length, sym, ap, s
 use Rattle.std.proofs.lemmas.List.Elements.{All-nil}
 use Rattle.flights.specs.declared.flight.Flight.{Flight}
 use Rattle.service_events.specs.State.{fresh}
+use Rattle.service_events.specs.Allowed.{IsAllowed}
 use Rattle.service_events.specs.Fits.{Fits}
-use Rattle.service_events.proofs.StartLaw.{fits_start}
+use Rattle.service_events.proofs.StartLaw.{fits_start, allowed_start}
 use Rattle.service_laws.proofs.AgeLaws.{AgesOf}
 use Rattle.service_laws.proofs.AgeLemmas.{IsAged, IsMarked}
 use Rattle.service_parts.specs.Parts.{kept}
@@ -15,13 +16,14 @@ use Rattle.service_parts.specs.declared.parts.Parts.{Parts}
 -- parts without entries, flights, rows, registers and replies are a service
 pub new_service : (p : Parts) → p.repairer.entries ≡ [] → p.flights.list ≡ [] → p.journal.rows ≡ [] → p.registers.list ≡ [] → p.replies.list ≡ [] → IsService p
 new_service p entries flights journal registers replies =
-    let same : kept p ≡ fresh p.setting = cc in
+    let same : kept p ≡ fresh p.setting p.rules = cc in
     let entered : length p.repairer.entries ≡ 0 = ap length entries in
     let flying : length p.flights.list ≡ 0 = ap length flights in
     let counted : length p.journal.rows ≡ 0 = ap length journal in
     let least : 0 ≤ p.journal.spare = omega arith in
     record {
-      fits = subst Fits (sym same) (fits_start p.setting);
+      fits = subst Fits (sym same) (fits_start p.setting p.rules);
+      allowed = subst IsAllowed (sym same) (allowed_start p.setting p.rules);
       counted = omega (arith, counted);
       ages = subst AgesOf (sym same) (record { calls = All-nil (IsAged []); replies = All-nil (IsMarked []) });
       few = omega (arith, entered, flying);

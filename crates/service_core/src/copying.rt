@@ -29,13 +29,14 @@ fn equal_parts(alloc: Global, parts: &Parts) -> Result<Parts, NoMemory>
     let log = both(parts.repairer.copied(alloc), parts.flights.copied(alloc));
     let calls = both(parts.registers.copied(alloc), parts.replies.copied(alloc));
     let journal = copied_journal(alloc, &parts.journal, parts.flights.as_slice());
-    let written = both(parts.setting.copied(alloc), journal);
-    let (log, (calls, written)) = both(log, both(calls, written))?;
+    let given = both(parts.setting.copied(alloc), parts.rules.copied(alloc));
+    let (log, (calls, (given, journal))) = both(log, both(calls, both(given, journal)))?;
     Ok(Parts {
-        setting: written.0,
+        setting: given.0,
+        rules: given.1,
         repairer: log.0,
         flights: log.1,
-        journal: written.1,
+        journal,
         registers: calls.0,
         replies: calls.1,
     })

@@ -6,6 +6,7 @@ ghost use Rattle.local_repair.specs.Repairs.{IsStaleId};
 ghost use Rattle.service_events.specs.State.{after, answers, flight_of, fresh, base};
 ghost use Rattle.service_events.specs.Arriving.{abandon_event, arrive_event, call_answered_event, call_failed_event, live_answer_rows, new_flight, told};
 ghost use Rattle.service_events.specs.Ages.{GoesFirst, HasAges};
+ghost use Rattle.service_events.specs.Allowed.{IsAllowed};
 ghost use Rattle.service_events.specs.Calls.{noted};
 ghost use Rattle.service_events.specs.Causes.{causes, AddsCauses, TellsAnswered, TellsFailed};
 ghost use Rattle.service_events.specs.Commits.{live_rows, Commits, CommitsFlight};
@@ -24,6 +25,7 @@ ghost use Rattle.service_repairs.specs.Answers.{answered_by, Steps};
 
 use crate::copying::copied_parts;
 use crate::stale::first_stale;
+use authorise_rules::Rules;
 use call_registers::{Registers, Replies, Why};
 use flights::Flights;
 use journal_rows::{Command, Rows};
@@ -43,9 +45,9 @@ use service_requests::{abandon, arrive, call_answered, call_failed};
 use std::alloc::Global;
 use std::marker::Model;
 
-/// A service whose requests call other services: its setting, its log under repair, its flights, its journal, its
-/// registers and its replies. Its type keeps that all of them fit the journal, that there are at most 100,000 entries and
-/// flights, and that there is room to abandon each flight.
+/// A service whose requests call other services: its setting, the rules by which it allows repairs, its log under repair, its
+/// flights, its journal, its registers and its replies. Its type keeps that all of them fit the journal, that each repair in
+/// the journal was allowed, that there are at most 100,000 entries and flights, and that there is room to abandon each flight.
 #[derive(Drop)]
 pub struct Service {
     parts: Parts,
@@ -66,12 +68,13 @@ impl Model for Service {
 }
 
 impl Service {
-    /// A service that has answered nothing yet.
-    pub fn new(alloc: Global, setting: Setting) -> Service
-        ensures { result ≡ fresh setting }
+    /// A service that has answered nothing yet, which allows repairs by these rules.
+    pub fn new(alloc: Global, setting: Setting, rules: Rules) -> Service
+        ensures { result ≡ fresh setting rules }
     {
         let parts = Parts {
             setting,
+            rules,
             repairer: Repairer::new(alloc),
             flights: Flights::new(alloc),
             journal: Rows::new(alloc),
@@ -88,6 +91,13 @@ impl Service {
         &self.parts.setting
     }
 
+    /// The rules by which it allows repairs.
+    pub fn rules(&self) -> &Rules
+        ensures { result.now ≡ self.now.rules }
+    {
+        &self.parts.rules
+    }
+
     /// Its log.
     pub fn entries(&self) -> &Log
         ensures { result.now.entries ≡ self.now.entries }
@@ -95,10 +105,12 @@ impl Service {
         self.parts.repairer.log()
     }
 
-    /// Its journal, which all that it keeps fits, and which tells since when each call and reply waits.
+    /// Its journal, which all that it keeps fits, and which tells since when each call and reply waits. Each repair in it was
+    /// allowed: it carries the number of the rule that allowed it, as things stood before it.
     pub fn journal(&self) -> &Rows
         ensures rows { result.now.rows ≡ self.now.journal }
         ensures fits { Fits self.now }
+        ensures allowed { IsAllowed self.now }
         ensures ages { HasAges self.now.journal self.now.registers self.now.replies }
     {
         &self.parts.journal
@@ -235,7 +247,7 @@ impl Service {
 
     /// Carries out an order of an operator. An order whose token was accepted before is answered as then, without memory, and
     /// changes nothing. It is refused where it names what isn't there, replaces a request of another service, retries a post
-    /// that isn't held, or where there is too much.
+    /// that isn't held, or where there is too much; and last, with the number of the rule, where the service's rules deny it.
     pub fn order(
         &mut self,
         alloc: Global,
@@ -253,8 +265,9 @@ impl Service {
     }
 
     /// A version of another service's call came by a message. It is refused where that call is in flight, and where there is
-    /// too much. One that isn't above the version that was taken is acknowledged again; any other is taken, and where its
-    /// call has no entry and asks something, one is made, which never ran.
+    /// too much. One that isn't above the version that was taken is acknowledged again. Any other is refused with the number
+    /// of the rule where the service's rules deny it; else it is taken, and where its call has no entry and asks something, one
+    /// is made, which never ran.
     pub fn take(
         &mut self,
         alloc: Global,
@@ -268,8 +281,9 @@ impl Service {
         take(alloc, &mut self.parts, set, inputs)
     }
 
-    /// An answer to one of its calls came by a message. It is confirmed, and kept where it is newer than the answer that is
-    /// held. It is refused where no call to that service has its number.
+    /// An answer to one of its calls came by a message. It is refused where no call to that service has its number. One that
+    /// isn't newer than the answer that is held is confirmed again. Any other is refused with the number of the rule where the
+    /// service's rules deny it; else it is kept, and confirmed.
     pub fn take_answer(
         &mut self,
         alloc: Global,
