@@ -1,0 +1,7 @@
+mod ComeToEnd
+mod CountLemmas
+mod EventLemmas
+mod ExchangeLaws
+mod Parts
+mod PostLemmas
+mod Telling
