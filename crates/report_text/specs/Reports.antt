@@ -1,4 +1,4 @@
--- Rows, logs, answers and verdicts as texts.
+-- Rows, logs and verdicts as texts.
 use Rattle.std.specs.Prelude.{ℕ, ◌<◌, ◌++◌, Bool, true, false, List, [], ◌∷◌, Option, Some, None, if◌then◌else◌, nat_eq, codes, decimal, slice_index_or}
 use Rattle.std.specs.List.{flat_map}
 use Rattle.lang_tree.specs.Methods.{method_word}
@@ -85,10 +85,6 @@ entry_line me e =
 -- a line for each entry
 abbrev pub log_text : List ℕ → List Entry → List ℕ
 log_text me entries = or_none (flat_map (entry_line me) entries)
-
--- `S/N = STATUS BODY`
-abbrev pub answer_line : List ℕ → ℕ → Response → List ℕ
-answer_line me id r = id_text me id ++ (codes " = " ++ (response_text r ++ codes "\n"))
 
 abbrev pub outstanding_text : List ℕ → Outstanding → List ℕ
 outstanding_text service (Flight n) = codes "flight " ++ id_text service n

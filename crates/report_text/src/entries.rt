@@ -1,6 +1,6 @@
-// Entries of a log and answers as texts.
+// Entries of a log as texts.
 ghost use Rattle.std.specs.Prelude.{◌≡◌, ◌++◌, IfOk, OnOk, codes, string_bytes};
-ghost use Rattle.report_text.specs.Reports.{alive_text, answer_line, asked_text, entry_line, log_text, made_text, origin_text, response_text, state_text};
+ghost use Rattle.report_text.specs.Reports.{alive_text, asked_text, entry_line, log_text, made_text, origin_text, response_text, state_text};
 
 use crate::escapes::push_body_behind;
 use crate::rows::or_none;
@@ -103,16 +103,4 @@ pub fn log_text(alloc: Global, me: &Name, log: &Log) -> Result<Text, NoMemory>
         push_entry(&mut lines, me, entry)?;
     }
     or_none(lines)
-}
-
-/// The answer to the request of this number: the line `S/N = STATUS BODY`.
-pub fn answer_line(alloc: Global, me: &Name, id: u64, response: &Response) -> Result<Text, NoMemory>
-    ensures { IfOk result (λ text. text ≡ answer_line me.now id response.now) }
-{
-    let mut line = String::new(alloc);
-    push_id(&mut line, me, id)?;
-    line.push_str(" = ")?;
-    push_response(&mut line, response)?;
-    line.push_str("\n")?;
-    Text::shared(line)
 }

@@ -8,7 +8,7 @@ mod reading;
 mod rows;
 mod verdicts;
 
-pub use entries::{answer_line, log_text, push_asked, push_response};
+pub use entries::{log_text, push_asked, push_response};
 pub use escapes::{push_body_behind, push_key};
 pub use notices::{notices_text, push_post_name};
 pub use reading::unescaped;
