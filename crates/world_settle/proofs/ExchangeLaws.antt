@@ -22,7 +22,7 @@ use Rattle.service_entry_laws.proofs.SearchLemmas.{text_is, get_mid}
 use Rattle.world_agreement.specs.Partners.{has_name, service_of, NamesDiffer}
 use Rattle.world_agreement.proofs.ListLemmas.{found_in}
 use Rattle.world_agreement.proofs.NameLemmas.{differ_first, differ_later, name_is}
-use Rattle.world_events.specs.Events.{Turn, after_event, after_events, at_service, delivered, if_there, next_post_served, next_post_turn, next_post_written, post_delivered, posted_served, refused, sender, set_reply, answer_reply, take_answer_served, take_served, turn, turned}
+use Rattle.world_events.specs.Events.{Turn, after_event, after_events, at_service, delivered, if_there, next_post_served, next_post_turn, next_post_written, post_delivered, posted_served, refused, set_reply, answer_reply, take_answer_served, take_served, turn, turned}
 use Rattle.world_events.specs.Worlds.{World, next_inputs, next_packet, once_drawn, packet_in, packet_of, with_service}
 use Rattle.world_events.specs.declared.event.Event.{Event}
 use Rattle.world_events.specs.declared.event.Event.TheVariants.{Deliver, Post as Posts}
@@ -39,11 +39,11 @@ use Rattle.world_settle.proofs.PostLemmas.{Sends, next_sends}
 -- ---- services by their names
 
 -- the services, with this one in place of the first of this name
-abbrev put : List ℕ → Kept → List Kept → List Kept
+abbrev pub put : List ℕ → Kept → List Kept → List Kept
 put name t [] = []
 put name t (x ∷ xs) = cond (has_name name x) (t ∷ xs) (x ∷ put name t xs)
 
-with_is_put : (name : List ℕ) (t : Kept) (xs : List Kept) → with_service name t xs ≡ put name t xs
+pub with_is_put : (name : List ℕ) (t : Kept) (xs : List Kept) → with_service name t xs ≡ put name t xs
 with_is_put name t [] = refl
 with_is_put name t (x ∷ xs) = elim (cases_Bool (has_name name x)) [
   | inl is ↦ rw is refl
@@ -61,7 +61,7 @@ put_same name s (x ∷ xs) e = elim (cases_Bool (has_name name x)) [
 ]
 
 -- one of the same name is found there
-put_found : (name : List ℕ) (s t : Kept) → me t ≡ me s → (xs : List Kept) → service_of name xs ≡ Some s → service_of name (put name t xs) ≡ Some t
+pub put_found : (name : List ℕ) (s t : Kept) → me t ≡ me s → (xs : List Kept) → service_of name xs ≡ Some s → service_of name (put name t xs) ≡ Some t
 put_found name s t same [] e = cc
 put_found name s t same (x ∷ xs) e = elim (cases_Bool (has_name name x)) [
   | inl is ↦ (let it : x ≡ s = same_Some x s (sym (cond-true (has_name name x) (Some x) (service_of name xs) is) ∙ e) in

@@ -5,3 +5,4 @@ mod ExchangeLaws
 mod Parts
 mod PostLemmas
 mod Telling
+mod RestLaws

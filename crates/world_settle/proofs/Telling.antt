@@ -202,6 +202,7 @@ exchanges start mid now from to t u v told done apart fits c d =
       tally = behind_tally start mid now e t u v told c d.events d.tally;
       is = behind_done start mid now e t u v told c done d.events d.is
           ∙ goes_on_is start from to apart fits (e ∷ d.events) are (behind_differ start mid now e t u v told c d.events d.differ);
+      done = behind_done start mid now e t u v told c done d.events d.is;
     }
 
 pub exchange_within : (start mid now : World) (from to : List ℕ) (t u : Tally) (told : Came) → Comes start (Posts from to) t u told mid

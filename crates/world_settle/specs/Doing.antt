@@ -1,7 +1,9 @@
 -- What is done of some events in a world, all of them or some first ones, and what is counted of them.
-use Rattle.std.specs.Prelude.{ℕ, ◌≡◌, Bool, ◌||◌, List, [], ◌∷◌, ◌++◌, Option, if◌then◌else◌}
+use Rattle.std.specs.Prelude.{ℕ, ◌≡◌, Bool, ◌||◌, List, [], ◌∷◌, ◌++◌, Option, IfSome, if◌then◌else◌}
+use Rattle.local_repair.specs.Current.{AllCurrent}
 use Rattle.call_registers.specs.Changes.{raised}
-use Rattle.world_agreement.specs.Partners.{NamesDiffer}
+use Rattle.service_events.specs.State.{answers, base}
+use Rattle.world_agreement.specs.Partners.{NamesDiffer, service_of}
 use Rattle.world_events.specs.Events.{Answer, after_event, after_events, answer_to}
 use Rattle.world_events.specs.Sound.{AllFew, AreFew, IsSound}
 use Rattle.world_events.specs.Worlds.{World}
@@ -59,6 +61,12 @@ pub record IsSettled (w : World) (n : ℕ) : Type 0 where
   pub are : IsSettling w n events counts
   pub alone : (others : List Event) (theirs : Settled) → IsSettling w n others theirs → (others ≡ events) × (theirs ≡ counts)
 
+-- ---- steps
+
+-- the service of this name, if it is there, has no stale entry
+abbrev pub IsAtRest : List ℕ → World → Type 0
+IsAtRest name w = IfSome (service_of name w.services) (λ s. AllCurrent (answers s) (base s) s.entries)
+
 -- ---- what is counted on the way
 
 -- what is told of an event
@@ -111,13 +119,14 @@ pub record Delivers (start : World) (times : ℕ) (packet : Option ℕ) (before 
   pub is : told ≡ any_came is_done start events
   pub differ : AllDiffer start events
 
--- one exchange happened and was counted; and whether another one follows
+-- One exchange happened and was counted; and whether another one follows, which is where the sender is done with the post.
 pub record Exchanges (start : World) (from to : List ℕ) (before after : Tally) (told : Bool) (now : World) : Type 0 where
   pub events : List Event
   pub are : IsExchange from to start events
   pub happened : HaveHappened start events now
   pub tally : after ≡ added before start events
   pub is : told ≡ goes_on from to start events
+  pub done : told ≡ any_came is_done start events
 
 -- a round was done, and its runs and posts were counted; and whether it had work
 pub record DoesRound (start : World) (before after : Tally) (told : Bool) (now : World) : Type 0 where

@@ -1,7 +1,8 @@
 // A service steps until it is idle.
 ghost use Rattle.std.specs.Prelude.{◌≡◌, IfOk, OnErr, OnOk};
+ghost use Rattle.world_events.specs.Sound.{IsSound};
 ghost use Rattle.world_events.specs.declared.event.Event.{Event};
-ghost use Rattle.world_settle.specs.Doing.{Comes, Does, DoesFirst};
+ghost use Rattle.world_settle.specs.Doing.{Comes, Does, DoesFirst, IsAtRest};
 ghost use Rattle.world_settle.specs.Settles.{entries_of, IsStepping};
 
 use crate::came::Came;
@@ -38,6 +39,9 @@ pub(crate) fn step_until_idle(
     tally: &mut Tally,
 ) -> Result<(), NoMemory>
     ensures does { OnOk result (Does world.old (IsStepping name.now (entries_of name.now world.old)) tally.old tally.new world.new) }
+
+    // In services that agree on what went between them it is idle then.
+    ensures rests { OnOk result (IsSound world.old → IsAtRest name.now world.new) }
     ensures early { OnErr result (DoesFirst world.old (IsStepping name.now (entries_of name.now world.old)) world.new) }
 {
     let mut left = entries_of(world, name);
