@@ -9,9 +9,9 @@ use Rattle.journal_rows.specs.declared.verdict.Verdict.{Verdict}
 use Rattle.world_events.specs.Live.{IsLiveWorld}
 use Rattle.world_events.specs.Sound.{IsSound}
 use Rattle.world_events.specs.Worlds.{World}
-use Rattle.script_run.specs.Plays.{IsPlayed, IsRunOf, Played, RunsIfLong, lines_of, refused_at}
+use Rattle.script_run.specs.Plays.{IsRunOf, Played, is_long, refused_at}
 use Rattle.script_run.specs.Stops.{DoesAll, StopsEarly, StopsInLine}
-use Rattle.script_run.proofs.PlayLaws.{early_front, one_play}
+use Rattle.script_run.proofs.PlayLaws.{early_front, long_run, one_run}
 use Rattle.world_file.specs.Numbers.{refusal_text}
 use Rattle.world_file.specs.declared.setup.Setup.{Setup}
 use Rattle.aire_top.specs.Causes.{what_of}
@@ -64,28 +64,12 @@ ends_now a = record { front = []; of_line = ([], refl); wrote = λ all told. tol
 
 -- ---- a script in a world
 
-long_script : (start : World) (script : List ℕ) → 16777216 < length script → IsRunOf start script (refused_at 0 7 start)
-long_script start script long =
-    let e : nat_lt 16777216 (length script) ≡ true = search (tests, rules) in
-    let R : Bool → Type 0 = λ b. RunsIfLong b start script (refused_at 0 7 start) in
-    subst R (sym e) refl
-
-short_script : (start : World) (script : List ℕ) (p : Played) → length script ≤ 16777216 → IsPlayed start script p → IsRunOf start script p
-short_script start script p short played =
-    let e : nat_lt 16777216 (length script) ≡ false = search (tests, rules) in
-    let R : Bool → Type 0 = λ b. RunsIfLong b start script p in
-    subst R (sym e) played
-
-one_run_of : (long : Bool) (start : World) (script : List ℕ) (p q : Played) → RunsIfLong long start script p → RunsIfLong long start script q → p ≡ q
-one_run_of true start script p q a b = a ∙ sym b
-one_run_of false start script p q a b = one_play 1 start (lines_of script) p q a b
-
 -- memory is wanting when some of what the script prints is written
-lacks_behind : (start : World) (script : List ℕ) (p : Played) (a b c : Writes) (ans : Answer) → length script ≤ 16777216 → IsPlayed start script p → WroteFront a b p.out → a.faults ≤ b.faults → LacksMemory b c ans
+lacks_behind : (start : World) (script : List ℕ) (p : Played) (a b c : Writes) (ans : Answer) → IsRunOf start script p → WroteFront a b (p.said).text → a.faults ≤ b.faults → LacksMemory b c ans
     → LacksInScript start script a c ans
-lacks_behind start script p a b c ans short played f h lacks = record {
+lacks_behind start script p a b c ans run f h lacks = record {
   p = p;
-  run = short_script start script p short played;
+  run = run;
   answered = lacks.answered;
   front = f.0;
   of_script = f.1;
@@ -93,12 +77,12 @@ lacks_behind start script p a b c ans short played f h lacks = record {
 }
 
 -- all lines are done
-pub all_done : (start : World) (script : List ℕ) (world : World) (a b : Writes) (ans : Answer) → length script ≤ 16777216 → IsSound start → IsLiveWorld start → DoesAll start script None world a b
+pub all_done : (start : World) (script : List ℕ) (world : World) (a b : Writes) (ans : Answer) → IsSound start → IsLiveWorld start → DoesAll start script None world a b
     → ans ≡ standing 0 world → ScriptEnds start script a b ans
-all_done start script world a b ans short sound live does good =
+all_done start script world a b ans sound live does good =
     inl (record {
       p = does.p;
-      run = short_script start script does.p short does.played;
+      run = does.run;
       not_refused = does.ends;
       answered = good ∙ ap (standing 0) does.same_world;
       wrote = does.wrote;
@@ -106,12 +90,12 @@ all_done start script world a b ans short sound live does good =
     })
 
 -- a line is refused
-pub at_line : (start : World) (script : List ℕ) (line number : ℕ) (world : World) (a b c : Writes) (ans : Answer) → length script ≤ 16777216 → IsSound start → IsLiveWorld start → DoesAll start script (Some (line, number)) world a b
+pub at_line : (start : World) (script : List ℕ) (line number : ℕ) (world : World) (a b c : Writes) (ans : Answer) → IsSound start → IsLiveWorld start → DoesAll start script (Some (line, number)) world a b
     → a.faults ≤ b.faults → Closes b c (standing 3 world) (refused_line line number) ans → ScriptEnds start script a c ans
-at_line start script line number world a b c ans short sound live does h (inl good) =
+at_line start script line number world a b c ans sound live does h (inl good) =
     inr (inl (record {
       p = does.p;
-      run = short_script start script does.p short does.played;
+      run = does.run;
       line = line;
       number = number;
       at_line = does.ends;
@@ -119,8 +103,8 @@ at_line start script line number world a b c ans short sound live does h (inl go
       ends = ends_behind a b c _ _ does.wrote h good.1;
       told = does.told sound live;
     }))
-at_line start script line number world a b c ans short sound live does h (inr lacks) =
-    inr (inr (inr (lacks_behind start script does.p a b c ans short does.played (front_whole a b _ does.wrote) h lacks)))
+at_line start script line number world a b c ans sound live does h (inr lacks) =
+    inr (inr (inr (lacks_behind start script does.p a b c ans does.run (front_whole a b _ does.wrote) h lacks)))
 
 -- a write failed in a line
 pub cut_short : (start : World) (script : List ℕ) (world : World) (a b : Writes) (ans : Answer) → IsSound start → IsLiveWorld start → StopsInLine start script world a b → WriteFails a b
@@ -129,10 +113,10 @@ cut_short start script world a b ans sound live stops fails good =
     inr (inr (inl (record { world = world; answered = good; in_line = stops; fault = fails; told = stops.told sound live })))
 
 -- memory was wanting
-pub lacked : (start : World) (script : List ℕ) (world : World) (a b c : Writes) (ans : Answer) → length script ≤ 16777216 → StopsEarly start script world a b → a.faults ≤ b.faults → LacksMemory b c ans → ScriptEnds start script a c ans
-lacked start script world a b c ans short early h lacks =
+pub lacked : (start : World) (script : List ℕ) (world : World) (a b c : Writes) (ans : Answer) → StopsEarly start script world a b → a.faults ≤ b.faults → LacksMemory b c ans → ScriptEnds start script a c ans
+lacked start script world a b c ans early h lacks =
     let f = early_front start script world a b early in
-    inr (inr (inr (lacks_behind start script f.0 a b c ans short f.1 f.2 h lacks)))
+    inr (inr (inr (lacks_behind start script f.0 a b c ans f.1 f.2 h lacks)))
 
 -- ---- a script that a word names
 
@@ -144,6 +128,9 @@ in_script setups word before now world bytes script ans got start same ends =
     let B : List ℕ → Type 0 = λ b. ScriptEnds (fresh setups) b before.writes now.writes ans in
     inl (record { script = script; got = got; ended = subst B same (subst W start ends) })
 
+is_longer : (script : List ℕ) → 16777216 < length script → is_long script ≡ true
+is_longer script long = search (tests, rules)
+
 -- a script that is too long
 pub too_long : (setups : List Setup) (word : List ℕ) (before now : Outside) (world : World) (ans : Answer) → world ≡ fresh setups
     → ((script : List ℕ) × IsGot word before.loads now.loads before.reads now.reads script × (16777216 < length script)) → Closes before.writes now.writes (standing 3 world) (refused_line 0 7) ans
@@ -154,7 +141,7 @@ too_long setups word before now world ans is got (inl good) =
       got = got.1;
       ended = inr (inl (record {
         p = refused_at 0 7 (fresh setups);
-        run = long_script (fresh setups) got.0 got.2;
+        run = long_run (fresh setups) got.0 (is_longer got.0 got.2);
         line = 0;
         number = 7;
         at_line = refl;
@@ -267,7 +254,7 @@ stands_refused a what x y is other e = let same : x ≡ y = cc in cc
 script_well : (start : World) (script : List ℕ) (before now : Writes) (ans : Answer) (p : Played) → IsRunOf start script p → p.refused ≡ None → ¬ (WriteFails before now) → ScriptEnds start script before now ans → (ans.status ≡ 0) ⊎ (ans.status ≡ 6)
 script_well start script before now ans p run lines writes (inl done) = inl (ap (λ (x : Answer). x.status) done.answered)
 script_well start script before now ans p run lines writes (inr (inl at)) =
-    let same = one_run_of (nat_lt 16777216 (length script)) start script p at.p run at.run in
+    let same = one_run start script p at.p run at.run in
     absurd (some_none _ _ (sym (ap (λ (x : Played). x.refused) same) ∙ lines) at.at_line)
 script_well start script before now ans p run lines writes (inr (inr (inl cut))) = absurd (writes cut.fault)
 script_well start script before now ans p run lines writes (inr (inr (inr lacks))) = inr (ap (λ (x : Answer). x.status) lacks.answered)

@@ -71,7 +71,7 @@ pub record AllDone (start : World) (script : List ℕ) (before now : Writes) (a 
   pub run : IsRunOf start script p
   pub not_refused : p.refused ≡ None
   pub answered : a ≡ standing 0 p.world
-  pub wrote : Wrote before now p.out
+  pub wrote : Wrote before now (p.said).text
   pub told : AreTold start script p.events
 
 -- 3: a line is refused; those before it are done, all that they print is written, and then the refusal
@@ -82,7 +82,7 @@ pub record LineRefused (start : World) (script : List ℕ) (before now : Writes)
   pub number : ℕ
   pub at_line : p.refused ≡ Some (line, number)
   pub answered : a ≡ standing 3 p.world
-  pub ends : EndsWith before now p.out (refused_line line number)
+  pub ends : EndsWith before now (p.said).text (refused_line line number)
   pub told : AreTold start script p.events
 
 -- 5: a write failed in a line; those before it are done and written, and nothing is done behind it
@@ -99,7 +99,7 @@ pub record LacksInScript (start : World) (script : List ℕ) (before now : Write
   pub run : IsRunOf start script p
   pub answered : a ≡ nothing 6
   pub front : List ℕ
-  pub of_script : IsFront front p.out
+  pub of_script : IsFront front (p.said).text
   pub ends : EndsWith before now front lacking_line
 
 -- a script ends in one of these four ways

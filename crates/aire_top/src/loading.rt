@@ -12,11 +12,9 @@ ghost use Rattle.world_file.specs.Worlds.{KnowEachOther, world_of};
 use crate::words::is_input;
 use io_edge::{Files, LoadRefused, ReadRefused, Source, read_all};
 use lang_core::Bytes;
+use script_run::LONGEST_SCRIPT;
 use std::alloc::Global;
 use world_file::{Setup, WorldRefused, built_in, read_world};
-
-/// The most bytes of a script.
-pub const LONGEST_SCRIPT: u64 = 16777216;
 
 /// The most bytes of a world file.
 pub const LONGEST_WORLD: u64 = 4194304;
@@ -88,7 +86,6 @@ pub fn load_world<F: Files>(alloc: Global, word: &str, files: &mut F) -> Result<
 // The script of a file.
 fn load_named<F: Files>(alloc: Global, path: &str, files: &mut F) -> Result<Bytes, ReadRefused>
     ensures file { IfOk result (λ script. IsFile (F.loads files.old) path.now script) }
-    ensures within { IfOk result (λ script. length script ≤ LONGEST_SCRIPT) }
     ensures too_long { IsErrOf result ReadRefused.TooLong → IsLonger (F.loads files.old) path.now LONGEST_SCRIPT }
     ensures asked { ¬ (IsErrOf result ReadRefused.NoMemory) → AskedFor (F.loads files.old) (F.loads files.new) path.now }
     ensures failed { IsErrOf result ReadRefused.Fault → LoadFails (F.loads files.old) (F.loads files.new) }
@@ -105,7 +102,6 @@ fn load_named<F: Files>(alloc: Global, path: &str, files: &mut F) -> Result<Byte
 fn read_input<S: Source>(alloc: Global, input: &mut S) -> Result<Bytes, ReadRefused>
     ensures all { IfOk result (λ script. ForSome (S.reads input.old).left (λ all. script ≡ all)) }
     ensures end { OnOk result (IsAtEnd (S.reads input.new)) }
-    ensures within { IfOk result (λ script. length script ≤ LONGEST_SCRIPT) }
     ensures too_long { IsErrOf result ReadRefused.TooLong
         → ForSome (S.reads input.old).left (λ all. LONGEST_SCRIPT < length all) }
     ensures fault { IsErrOf result ReadRefused.Fault → ReadFails (S.reads input.old) (S.reads input.new) }
@@ -122,7 +118,6 @@ pub fn load_script<F: Files, S: Source>(
     input: &mut S,
 ) -> Result<Bytes, ReadRefused>
     ensures got { IfOk result (λ script. IsGot word.now (F.loads files.old) (F.loads files.new) (S.reads input.old) (S.reads input.new) script) }
-    ensures within { IfOk result (λ script. length script ≤ LONGEST_SCRIPT) }
     ensures too_long { IsErrOf result ReadRefused.TooLong → (script : List ℕ)
         × IsGot word.now (F.loads files.old) (F.loads files.new) (S.reads input.old) (S.reads input.new) script
         × (LONGEST_SCRIPT < length script) }

@@ -1,5 +1,5 @@
 // The top call.
-ghost use Rattle.std.specs.Prelude.{◌≡◌, ◌⊎◌, ◌≤◌, IfOk, All, IfSome, Some, map, string_bytes, length};
+ghost use Rattle.std.specs.Prelude.{◌≡◌, ◌⊎◌, ◌≤◌, IfOk, All, IfSome, Some, map, string_bytes};
 ghost use Rattle.journal_rows.specs.declared.verdict.Verdict.TheVariants.{Legal};
 ghost use Rattle.world_events.specs.Live.{IsLiveWorld};
 ghost use Rattle.service_events.specs.Allowed.{IsAllowed};
@@ -14,7 +14,7 @@ ghost use Rattle.aire_top.specs.Top.{fitting, fresh, fresh_service, words_of};
 use crate::ending::{
     Ended, lacking, misused, refusal, standing, unread, world_refused, world_too_long,
 };
-use crate::loading::{LONGEST_SCRIPT, NoWorld, load_script, load_world};
+use crate::loading::{NoWorld, load_script, load_world};
 use crate::words::named;
 use io_edge::{Files, ReadRefused, Sink, Source};
 use lang_base::both;
@@ -38,9 +38,8 @@ fn worldless<K: Sink>(alloc: Global, why: NoWorld, out: &mut K) -> Ended
     }
 }
 
-// Runs a script, which isn't too long, in a world.
+// Runs a script in a world.
 fn play<K: Sink>(alloc: Global, world: World, script: &[u8], out: &mut K) -> Ended
-    requires short { length script.now ≤ LONGEST_SCRIPT }
     requires sound { IsSound world }
     requires live { IsLiveWorld world }
     ensures ends { ScriptEnds world script.now (K.writes out.old) (K.writes out.new) (answer result.status result.services.items result.verdict) }
@@ -50,7 +49,7 @@ fn play<K: Sink>(alloc: Global, world: World, script: &[u8], out: &mut K) -> End
 {
     let mut world = world;
     match run_script(alloc, &mut world, script, out) {
-        Ok(()) => standing(0, world),
+        Ok(_) => standing(0, world),
         Err(ScriptRefused::WriteFault) => standing(5, world),
         Err(ScriptRefused::Refused(line, fault)) => {
             refusal(alloc, world, out, line, fault.number())

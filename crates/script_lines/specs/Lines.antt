@@ -14,8 +14,9 @@ use Rattle.repair_messages.specs.declared.posts.PostName.TheVariants.{Call, Repl
 use Rattle.journal_rows.specs.declared.orders.Command.{Command}
 use Rattle.journal_rows.specs.declared.orders.Command.TheVariants.{Cancel, Restore, Replace, Create, Retry}
 use Rattle.report_text.specs.Escapes.{unescaped}
+use Rattle.world_events.specs.declared.event.Event.TheVariants as event
 use Rattle.script_lines.specs.declared.line.Line.{Line}
-use Rattle.script_lines.specs.declared.line.Line.TheVariants.{Blank, Begin, Ask, Deliver, Lose, Step, Post, Abandon, Order, Clock, Seed, Rows, Log, Notices, Dump, Audit}
+use Rattle.script_lines.specs.declared.line.Line.TheVariants.{Blank, Event, Ask, Rows, Log, Notices, Dump, Audit}
 use Rattle.script_lines.specs.declared.line.LineFault.{LineFault}
 use Rattle.script_lines.specs.declared.line.LineFault.TheVariants.{Text, Word, Shape}
 
@@ -134,7 +135,7 @@ order_parts rest =
 -- an order whose service, token and user are each there
 abbrev pub order_of : Option (List ℕ) → Command → Option (List ℕ) → Option (List ℕ) → Option Line
 order_of service command token who =
-    with_part service (λ service. with_part token (λ token. with_part who (λ who. Some (Order service command token who))))
+    with_part service (λ service. with_part token (λ token. with_part who (λ who. Some (Event (event.Order service command token who)))))
 
 -- an order whose service is a name, and whose token and user may be such
 abbrev pub order_with : List ℕ → Command → List ℕ → List ℕ → Option Line
@@ -181,21 +182,21 @@ two_words rest = with_word rest (λ first rest. with_word rest (λ second rest. 
 
 -- `S D` alone
 unfoldable pub post_at : Option (List ℕ) → Option Line
-post_at rest = with_part (two_words rest) (λ words. where_good (is_name words.0 && is_name words.1) (Some (Post words.0 words.1)))
+post_at rest = with_part (two_words rest) (λ words. where_good (is_name words.0 && is_name words.1) (Some (Event (event.Post words.0 words.1))))
 
 -- `S fN` alone
 unfoldable pub abandon_at : Option (List ℕ) → Option Line
-abandon_at rest = with_part (two_words rest) (λ words. where_good (is_name words.0) (with_part (flight words.1) (λ n. Some (Abandon words.0 n))))
+abandon_at rest = with_part (two_words rest) (λ words. where_good (is_name words.0) (with_part (flight words.1) (λ n. Some (Event (event.Abandon words.0 n)))))
 
 -- `pK` alone
 unfoldable pub packet_at : Option (List ℕ) → Option ℕ
 packet_at rest = with_word rest (λ word rest. at_end rest (packet word))
 
 abbrev pub deliver_at : Option (List ℕ) → Option Line
-deliver_at rest = with_part (packet_at rest) (λ n. Some (Deliver n))
+deliver_at rest = with_part (packet_at rest) (λ n. Some (Event (event.Deliver n)))
 
 abbrev pub lose_at : Option (List ℕ) → Option Line
-lose_at rest = with_part (packet_at rest) (λ n. Some (Lose n))
+lose_at rest = with_part (packet_at rest) (λ n. Some (Event (event.Lose n)))
 
 -- `N` alone
 unfoldable pub number_at : Option (List ℕ) → Option ℕ
@@ -203,10 +204,10 @@ number_at rest = with_word rest (λ word rest. at_end rest (number_of word))
 
 -- no clock tells a later moment
 abbrev pub clock_at : Option (List ℕ) → Option Line
-clock_at rest = with_part (number_at rest) (λ n. where_good (nat_le n 9223372036854775807) (Some (Clock n)))
+clock_at rest = with_part (number_at rest) (λ n. where_good (nat_le n 9223372036854775807) (Some (Event (event.Clock n))))
 
 abbrev pub seed_at : Option (List ℕ) → Option Line
-seed_at rest = with_part (number_at rest) (λ n. Some (Seed n))
+seed_at rest = with_part (number_at rest) (λ n. Some (Event (event.Seed n)))
 
 -- ---- a whole line
 
@@ -222,11 +223,11 @@ shaped (Some line) = Ok line
 -- what stands behind the first word
 unfoldable pub words_at : List ℕ → Option (List ℕ) → Read
 words_at word rest =
-    if same_text word (codes "begin") then shaped (asking_at Begin rest)
+    if same_text word (codes "begin") then shaped (asking_at (λ service request. Event (event.Begin service request)) rest)
     else (if same_text word (codes "ask") then shaped (asking_at Ask rest)
     else (if same_text word (codes "deliver") then shaped (deliver_at rest)
     else (if same_text word (codes "lose") then shaped (lose_at rest)
-    else (if same_text word (codes "step") then shaped (service_at Step rest)
+    else (if same_text word (codes "step") then shaped (service_at (λ service. Event (event.Step service)) rest)
     else (if same_text word (codes "abandon") then shaped (abandon_at rest)
     else (if same_text word (codes "post") then shaped (post_at rest)
     else (if same_text word (codes "cancel") then shaped (entry_order_at Cancel rest)

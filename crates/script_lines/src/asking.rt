@@ -2,6 +2,7 @@
 ghost use Rattle.std.specs.Prelude.{◌≡◌, List, ℕ, IfOk};
 ghost use Rattle.std.specs.Option.{option_map};
 ghost use Rattle.lang_core.specs.declared.request.Request.{Request};
+ghost use Rattle.world_events.specs.declared.event.Event.{Event};
 ghost use Rattle.script_lines.specs.Lines.{asked, asking_at, request_of};
 ghost use Rattle.script_lines.specs.declared.line.Line.{Line};
 
@@ -9,6 +10,7 @@ use crate::line::Line;
 use crate::parts::{body_part, cut_word, name_part, path_part, who_part};
 use lang_core::{Method, Name, NoMemory, Request, Seq, Text, method_named};
 use std::alloc::Global;
+use world_events::Event;
 
 /// `METHOD PATH BODY`
 #[tactic(auto, unfolding(crate::specs::Lines::asked))]
@@ -81,12 +83,12 @@ fn read_asking(alloc: Global, rest: Option<&str>) -> Result<Option<(Name, Reques
 
 /// `begin S WHO METHOD PATH BODY`, behind its first word.
 pub fn read_begin(alloc: Global, rest: Option<&str>) -> Result<Option<Line>, NoMemory>
-    ensures { IfOk result (λ r. r ≡ asking_at Line.Begin (option_map (λ x. x.now) rest.entry)) }
+    ensures { IfOk result (λ r. r ≡ asking_at (λ service request. Line.Event (Event.Begin service request)) (option_map (λ x. x.now) rest.entry)) }
 {
     let Some((service, request)) = read_asking(alloc, rest)? else {
         return Ok(None);
     };
-    Ok(Some(Line::Begin { service, request }))
+    Ok(Some(Line::Event(Event::Begin { service, request })))
 }
 
 /// `ask S WHO METHOD PATH BODY`, behind its first word.

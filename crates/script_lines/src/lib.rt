@@ -9,3 +9,4 @@ mod read;
 
 pub use line::{Line, LineFault};
 pub use read::read_line;
+pub use world_events::Event;

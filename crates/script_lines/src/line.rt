@@ -2,10 +2,10 @@
 ghost use Rattle.script_lines.specs.Faults.{fault_number};
 ghost use Rattle.std.specs.Prelude.{◌≡◌};
 
-use journal_rows::Command;
-use lang_core::{Name, Request, Text};
+use lang_core::{Name, Request};
+use world_events::Event;
 
-/// Why a line is refused. Tests come in this order.
+/// Why a line is refused, or the whole script. Tests of a line come in this order.
 #[derive(Clone, Copy, PartialEq, Eq)]
 pub enum LineFault {
     /// The line isn't UTF-8.
@@ -20,10 +20,12 @@ pub enum LineFault {
     Packet,
     /// It names a flight that the service doesn't have.
     Flight,
+    /// The script is too long; this is told as line 0, before any line.
+    TooLong,
 }
 
 impl LineFault {
-    /// The number by which it is reported: 1 Text, 2 Word, 3 Shape, 4 Service, 5 Packet, 6 Flight.
+    /// The number by which it is reported: 1 Text, 2 Word, 3 Shape, 4 Service, 5 Packet, 6 Flight, 7 TooLong.
     pub fn number(self) -> u64
         ensures { result ≡ fault_number self }
     {
@@ -34,6 +36,7 @@ impl LineFault {
             LineFault::Service => 4,
             LineFault::Packet => 5,
             LineFault::Flight => 6,
+            LineFault::TooLong => 7,
         }
     }
 }
@@ -43,58 +46,19 @@ impl LineFault {
 pub enum Line {
     /// An empty line or a comment.
     Blank,
-    /// `begin S WHO METHOD PATH BODY`: a request from outside arrives.
-    Begin {
-        service: Name,
-        request: Request,
-    },
-    /// `ask S WHO METHOD PATH BODY`: the same, and its calls are delivered until it is committed.
-    Ask {
-        service: Name,
-        request: Request,
-    },
-    /// `deliver pK`: the packet of this number is delivered.
-    Deliver(u64),
-    /// `lose pK`: the exchange of the packet of this number fails.
-    Lose(u64),
-    /// `step S`: a repair step.
-    Step {
-        service: Name,
-    },
-    /// `abandon S fN`: the flight of this number is given up.
-    Abandon {
-        service: Name,
-        flight: u64,
-    },
-    /// `post S D`: the next post for `dest` is written.
-    Post {
-        service: Name,
-        dest: Name,
-    },
-    /// `cancel S/N TOKEN WHO`, `restore S/N TOKEN WHO`, `replace S/N TOKEN WHO METHOD PATH BODY`,
-    /// `create S TOKEN WHO BEFORE AFTER WHO2 METHOD PATH BODY` or `retry S TOKEN WHO NAME`: an order of the user `who`.
-    Order {
-        service: Name,
-        command: Command,
-        token: Text,
-        who: Text,
-    },
-    /// `clock N`: the moment, at most 9,223,372,036,854,775,807.
-    Clock(u64),
-    /// `seed N`: the number that random words go on from.
-    Seed(u64),
+    /// One event: `begin S WHO METHOD PATH BODY`, `deliver pK`, `lose pK`, `step S`, `abandon S fN`, `post S D`, `clock N`,
+    /// `seed N`, or an order of the user WHO: `cancel S/N TOKEN WHO`, `restore S/N TOKEN WHO`,
+    /// `replace S/N TOKEN WHO METHOD PATH BODY`, `create S TOKEN WHO BEFORE AFTER WHO2 METHOD PATH BODY` or
+    /// `retry S TOKEN WHO NAME`.
+    Event(Event),
+    /// `ask S WHO METHOD PATH BODY`: a request from outside arrives, and its calls are delivered until it is committed.
+    Ask { service: Name, request: Request },
     /// `rows S`: the rows.
-    Rows {
-        service: Name,
-    },
+    Rows { service: Name },
     /// `log S`: the log.
-    Log {
-        service: Name,
-    },
+    Log { service: Name },
     /// `notices S`: the posts that are held.
-    Notices {
-        service: Name,
-    },
+    Notices { service: Name },
     /// `dump`: all services, written down.
     Dump,
     /// `audit`: the verdict over all services.

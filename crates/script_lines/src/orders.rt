@@ -10,6 +10,7 @@ use crate::parts::{cut_word, name_part, neighbour_part, numbered_part, post_name
 use journal_rows::Command;
 use lang_core::{Name, NoMemory, Text};
 use std::alloc::Global;
+use world_events::Event;
 
 // What an order is about, its token and its user, and what stands behind.
 #[tactic(auto, unfolding(crate::specs::Lines::order_parts))]
@@ -24,7 +25,11 @@ fn cut_order(rest: Option<&str>) -> Option<(&str, &str, &str, Option<&str>)>
 }
 
 // A token and a user, each if the word may be one.
-fn users_of(alloc: Global, token: &str, who: &str) -> Result<(Option<Text>, Option<Text>), NoMemory>
+fn token_and_user(
+    alloc: Global,
+    token: &str,
+    who: &str,
+) -> Result<(Option<Text>, Option<Text>), NoMemory>
     ensures { IfOk result (λ parts. parts ≡ (who_part token.now, who_part who.now)) }
 {
     let token = who_part(alloc, token)?;
@@ -42,12 +47,12 @@ fn order_of(
     ensures { result ≡ order_of service command token who }
 {
     match (service, token, who) {
-        (Some(service), Some(token), Some(who)) => Some(Line::Order {
+        (Some(service), Some(token), Some(who)) => Some(Line::Event(Event::Order {
             service,
             command,
             token,
             who,
-        }),
+        })),
         _ => None,
     }
 }
@@ -62,7 +67,7 @@ fn names_of(
     ensures { IfOk result (λ parts. parts ≡ (name_part service.now, who_part token.now, who_part who.now)) }
 {
     let service = name_part(alloc, service)?;
-    let (token, who) = users_of(alloc, token, who)?;
+    let (token, who) = token_and_user(alloc, token, who)?;
     Ok((service, token, who))
 }
 

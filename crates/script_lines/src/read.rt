@@ -1,6 +1,7 @@
 // What a line of a script says.
 ghost use Rattle.std.specs.Prelude.{◌≡◌, ℕ, List, IfOk, Some};
 ghost use Rattle.std.specs.Option.{option_map};
+ghost use Rattle.world_events.specs.declared.event.Event.{Event};
 ghost use Rattle.script_lines.specs.Lines.{abandon_at, at_end, clock_at, deliver_at, is_passed_over, line_at, lose_at, number_at, packet_at, post_at, seed_at, service_at, shaped, two_words, words_at};
 
 use crate::asking::{read_ask, read_begin};
@@ -10,6 +11,7 @@ use crate::parts::{cut_word, flight_part, name_part, packet_part};
 use lang_core::{LAST_MOMENT, Name, NoMemory};
 use request_names::read_number;
 use std::alloc::Global;
+use world_events::Event;
 
 // `S` alone
 #[tactic(auto, unfolding(crate::specs::Lines::service_at))]
@@ -28,12 +30,12 @@ fn read_service(alloc: Global, rest: Option<&str>) -> Result<Option<Name>, NoMem
 }
 
 fn read_step(alloc: Global, rest: Option<&str>) -> Result<Option<Line>, NoMemory>
-    ensures { IfOk result (λ r. r ≡ service_at Line.Step (option_map (λ x. x.now) rest.entry)) }
+    ensures { IfOk result (λ r. r ≡ service_at (λ service. Line.Event (Event.Step service)) (option_map (λ x. x.now) rest.entry)) }
 {
     let Some(service) = read_service(alloc, rest)? else {
         return Ok(None);
     };
-    Ok(Some(Line::Step { service }))
+    Ok(Some(Line::Event(Event::Step { service })))
 }
 
 fn read_rows(alloc: Global, rest: Option<&str>) -> Result<Option<Line>, NoMemory>
@@ -90,16 +92,16 @@ fn two_words(rest: Option<&str>) -> Option<(&str, &str)>
 fn read_post(alloc: Global, rest: Option<&str>) -> Result<Option<Line>, NoMemory>
     ensures { IfOk result (λ r. r ≡ post_at (option_map (λ x. x.now) rest.entry)) }
 {
-    let Some((service, dest)) = two_words(rest) else {
+    let Some((from, to)) = two_words(rest) else {
         return Ok(None);
     };
-    let Some(service) = name_part(alloc, service)? else {
+    let Some(from) = name_part(alloc, from)? else {
         return Ok(None);
     };
-    let Some(dest) = name_part(alloc, dest)? else {
+    let Some(to) = name_part(alloc, to)? else {
         return Ok(None);
     };
-    Ok(Some(Line::Post { service, dest }))
+    Ok(Some(Line::Event(Event::Post { from, to })))
 }
 
 // `S fN` alone
@@ -116,7 +118,7 @@ fn read_abandon(alloc: Global, rest: Option<&str>) -> Result<Option<Line>, NoMem
     let Some(service) = name_part(alloc, service)? else {
         return Ok(None);
     };
-    Ok(Some(Line::Abandon { service, flight }))
+    Ok(Some(Line::Event(Event::Abandon { service, flight })))
 }
 
 // `pK` alone
@@ -135,14 +137,14 @@ fn read_deliver(rest: Option<&str>) -> Option<Line>
     ensures { result ≡ deliver_at (option_map (λ x. x.now) rest.entry) }
 {
     let number = packet_alone(rest)?;
-    Some(Line::Deliver(number))
+    Some(Line::Event(Event::Deliver(number)))
 }
 
 fn read_lose(rest: Option<&str>) -> Option<Line>
     ensures { result ≡ lose_at (option_map (λ x. x.now) rest.entry) }
 {
     let number = packet_alone(rest)?;
-    Some(Line::Lose(number))
+    Some(Line::Event(Event::Lose(number)))
 }
 
 // `N` alone
@@ -164,14 +166,14 @@ fn read_clock(rest: Option<&str>) -> Option<Line>
     if moment > LAST_MOMENT {
         return None;
     }
-    Some(Line::Clock(moment))
+    Some(Line::Event(Event::Clock(moment)))
 }
 
 fn read_seed(rest: Option<&str>) -> Option<Line>
     ensures { result ≡ seed_at (option_map (λ x. x.now) rest.entry) }
 {
     let number = number_alone(rest)?;
-    Some(Line::Seed(number))
+    Some(Line::Event(Event::Seed(number)))
 }
 
 fn shaped(line: Option<Line>) -> Result<Line, LineFault>

@@ -14,14 +14,16 @@ use Rattle.world_delivery_laws.proofs.WorldWeights.{world_weight}
 use Rattle.world_delivery_laws.proofs.DeliveryLaws.{begin_writes_live}
 use Rattle.world_delivery_laws.specs.Runs.{IsAsking, IsRun, written}
 use Rattle.world_delivery_laws.proofs.RunLaws.{hand_falls, hand_hands, has_asking, has_run}
-use Rattle.script_text.specs.Cues.{detail_of}
+use Rattle.script_text.specs.Details.{detail_of}
 use Rattle.script_text.specs.declared.detail.Detail.{Detail}
 use Rattle.script_text.specs.declared.detail.Detail.TheVariants.{Nothing, Packet}
 use Rattle.script_lines.specs.Lines.{Read}
 use Rattle.script_lines.specs.declared.line.Line.{Line}
 use Rattle.script_lines.specs.declared.line.LineFault.{LineFault}
-use Rattle.script_run.specs.Told.{LineAnswer, events_said, fault_of, happened_or, last_at, last_line, last_of, line_of, said_of}
-use Rattle.script_run.specs.Plays.{AreEventsFor, AreEventsOf, said_by, said_for}
+use Rattle.script_run.specs.Counting.{printed}
+use Rattle.script_run.specs.Told.{LineAnswer, event_counts, events_said, fault_of, happened_or, is_cancel, last_at, last_line, last_of, line_of, said_of, saying}
+use Rattle.script_run.specs.Plays.{AreEventsFor, AreEventsOf, Says, SaysFor}
+use Rattle.script_run.specs.declared.counts.Said.{Said}
 use Rattle.script_run.specs.Stops.{AreDone, Does, DoesFirst}
 use Rattle.script_run.proofs.LineLaws.{events_for}
 use Rattle.script_run.proofs.PlayLaws.{done_then}
@@ -48,8 +50,8 @@ pub done_one : (w now : World) (e : Event) → now ≡ after_event w e → AreFe
 done_one w now e same few = record { world = same; few = (subst AreFew same few, tt) }
 
 -- a line of no events
-pub does_nothing : (w : World) (says : List Event → LineAnswer) (said : LineAnswer) → said ≡ says [] → Does w (λ events. events ≡ []) says said w
-does_nothing w says said is = record { events = []; are = refl; done = done_nothing w; told = is }
+pub does_nothing : (w : World) (Says : List Event → LineAnswer → Type 0) (said : LineAnswer) → Says [] said → Does w (λ events. events ≡ []) Says said w
+does_nothing w Says said is = record { events = []; are = refl; done = done_nothing w; told = is }
 
 -- nothing is done yet
 pub does_none : (w now : World) (Are : List Event → Type 0) (events : List Event) → Are events → now ≡ w → DoesFirst w Are now
@@ -68,16 +70,16 @@ pub act_none : (w : World) (line : Line) → DoesFirst w (AreEventsOf w line) w
 act_none w line = let h = events_for w (Ok line) in does_none w w (AreEventsOf w line) h.0 h.1 refl
 
 -- what can't be read does nothing
-pub unread_does : (w : World) (r : Read) (fault : LineFault) → Err fault ≡ r → Does w (AreEventsFor w r) (said_for w r) (Err fault) w
+pub unread_does : (w : World) (r : Read) (fault : LineFault) → Err fault ≡ r → Does w (AreEventsFor w r) (SaysFor w r) (Err fault) w
 unread_does w r fault is =
-    let D : Read → Type 0 = λ x. Does w (AreEventsFor w x) (said_for w x) (Err fault) w in
-    subst D is (does_nothing w (said_for w (Err fault)) (Err fault) refl)
+    let D : Read → Type 0 = λ x. Does w (AreEventsFor w x) (SaysFor w x) (Err fault) w in
+    subst D is (does_nothing w (SaysFor w (Err fault)) (Err fault) refl)
 
 -- what can is done
 pub read_acts : {E : Type 0} (w now : World) (r : Read) (line : Line) (result : Result LineAnswer E) → Ok line ≡ r
-    → IfOk result (λ said. Does w (AreEventsOf w line) (said_by w line) said now) → IfOk result (λ said. Does w (AreEventsFor w r) (said_for w r) said now)
+    → IfOk result (λ said. Does w (AreEventsOf w line) (Says w line) said now) → IfOk result (λ said. Does w (AreEventsFor w r) (SaysFor w r) said now)
 read_acts w now r line result is acts =
-    let D : Read → Type 0 = λ x. IfOk result (λ said. Does w (AreEventsFor w x) (said_for w x) said now) in
+    let D : Read → Type 0 = λ x. IfOk result (λ said. Does w (AreEventsFor w x) (SaysFor w x) said now) in
     subst D is acts
 
 pub read_first : {E : Type 0} (w now : World) (r : Read) (line : Line) (result : Result LineAnswer E) → Ok line ≡ r
@@ -96,9 +98,13 @@ does_all_first w now Are events are done =
     take_length [] = refl
     take_length (x ∷ xs) = ap (λ es. x ∷ es) (take_length xs)
 
+-- what a line of one event says, where this happened and is printed so
+abbrev pub one_said : Event → Happened → List ℕ → Said
+one_said e h text = record { text = text; counts = event_counts (is_cancel e) h.what }
+
 -- what is said of one event that happened
 pub does_one : (w now : World) (e : Event) (h : Happened) (text : List ℕ) → Ok h ≡ happened_or (answer_to w e) → now ≡ after_event w e → AreFew now
-    → text ≡ line_of now (Some (detail_of e, h)) → Does w (λ events. events ≡ e ∷ []) (events_said w) (Ok text) now
+    → text ≡ line_of now (Some (detail_of e, h)) → Does w (λ events. events ≡ e ∷ []) (saying (events_said w)) (Ok (one_said e h text)) now
 does_one w now e h text heard same few told =
     let is = heard_ok (answer_to w e) h heard in
     let line : text ≡ last_line w (e ∷ []) =
@@ -107,19 +113,19 @@ does_one w now e h text heard same few told =
       events = e ∷ [];
       are = refl;
       done = done_one w now e same few;
-      told = ap Ok line ∙ sym (ap (λ a. said_of a (last_line w (e ∷ []))) is);
+      told = ap (λ x. Ok (one_said e h x)) line ∙ sym (ap (λ a. said_of e a (last_line w (e ∷ []))) is);
     }
 
 -- and of one that didn't
 pub does_not : (w now : World) (e : Event) (fault : LineFault) → Err fault ≡ happened_or (answer_to w e) → now ≡ after_event w e → AreFew now
-    → Does w (λ events. events ≡ e ∷ []) (events_said w) (Err fault) now
+    → Does w (λ events. events ≡ e ∷ []) (saying (events_said w)) (Err fault) now
 does_not w now e fault heard same few =
     let r = heard_err (answer_to w e) fault heard in
     record {
       events = e ∷ [];
       are = refl;
       done = done_one w now e same few;
-      told = ap Err (sym r.2) ∙ sym (ap (λ a. said_of a (last_line w (e ∷ []))) r.1);
+      told = ap Err (sym r.2) ∙ sym (ap (λ a. said_of e a (last_line w (e ∷ []))) r.1);
     }
 
 -- ---- deliveries, as far as they went
@@ -233,7 +239,7 @@ done_behind w end e events few d = record { world = d.world; few = (few, d.few) 
 -- what is said of all of them
 pub asked_does : (w next end : World) (name : List ℕ) (q : Request) (begun : Happened) (last : Detail × Happened) (text : List ℕ) → answer_to w (Begin name q) ≡ Ok begun
     → next ≡ after_event w (Begin name q) → AreFew next → Delivers next begun.packet (Some (Nothing, begun)) (Some last) end → text ≡ line_of end (Some last)
-    → Does w (IsAsking w name q) (events_said w) (Ok text) end
+    → Does w (IsAsking w name q) (saying (events_said w)) (Ok (printed text)) end
 asked_does w next end name q begun last text is same few d told =
     let e = Begin name q in
     let b = behind_request w next end name q begun (Some last) is same d in
@@ -243,7 +249,7 @@ asked_does w next end name q begun last text is same few d told =
       events = e ∷ b.events;
       are = (refl, b.are);
       done = done_behind w end e b.events (subst AreFew same few) b.done;
-      told = ap Ok line ∙ sym (ap (λ a. said_of a (last_line w (e ∷ b.events))) is);
+      told = ap (λ x. Ok (printed x)) line ∙ sym (ap (λ a. said_of e a (last_line w (e ∷ b.events))) is);
     }
 
 -- all of them happened, and nothing is said
@@ -271,7 +277,7 @@ asked_first w next now name q begun is same few d =
 
 -- it didn't arrive, so nothing follows
 pub unasked_does : (w now : World) (name : List ℕ) (q : Request) (fault : LineFault) → Err fault ≡ happened_or (answer_to w (Begin name q)) → now ≡ after_event w (Begin name q)
-    → AreFew now → Does w (IsAsking w name q) (events_said w) (Err fault) now
+    → AreFew now → Does w (IsAsking w name q) (saying (events_said w)) (Err fault) now
 unasked_does w now name q fault heard same few =
     let e = Begin name q in
     let r = heard_err (answer_to w e) fault heard in
@@ -280,7 +286,7 @@ unasked_does w now name q fault heard same few =
       events = e ∷ [];
       are = (refl, subst A (sym r.1) tt);
       done = done_one w now e same few;
-      told = ap Err (sym r.2) ∙ sym (ap (λ a. said_of a (last_line w (e ∷ []))) r.1);
+      told = ap Err (sym r.2) ∙ sym (ap (λ a. said_of e a (last_line w (e ∷ []))) r.1);
     }
 
 -- nothing of it happened yet

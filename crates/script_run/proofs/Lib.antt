@@ -1,3 +1,4 @@
+pub mod CountLaws
 pub mod LineLaws
 pub mod PlayLaws
 pub mod AuditLaws

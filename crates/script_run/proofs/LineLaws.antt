@@ -12,26 +12,18 @@ use Rattle.world_delivery_laws.proofs.RunLaws.{asking_live, has_asking, one_aski
 use Rattle.world_delivery_laws.proofs.StillLaws.{event_still, asking_still}
 use Rattle.script_lines.specs.Lines.{Read}
 use Rattle.script_lines.specs.declared.line.Line.{Line}
-use Rattle.script_lines.specs.declared.line.Line.TheVariants.{Blank, Begin, Ask, Deliver, Lose, Step, Abandon, Post, Order, Clock, Seed, Rows, Log, Notices, Dump, Audit}
+use Rattle.script_lines.specs.declared.line.Line.TheVariants.{Blank, Event as One, Ask, Rows, Log, Notices, Dump, Audit}
 use Rattle.script_lines.specs.declared.line.LineFault.{LineFault}
-use Rattle.script_run.specs.Told.{last_line, said_of, events_said}
-use Rattle.script_run.specs.Plays.{AreEventsFor, AreEventsOf, IsLiveLine, said_by, said_for}
+use Rattle.script_run.specs.Told.{LineAnswer, last_line, said_of, events_said}
+use Rattle.script_run.specs.Plays.{AreEventsFor, AreEventsOf, IsLiveLine, Says, SaysFor}
 
 -- ---- the events of a line
 
 -- there is such a list
 has_events : (w : World) (line : Line) → (events : List Event) × AreEventsOf w line events
 has_events w Blank = ([], refl)
-has_events w (Begin service q) = (event.Begin service q ∷ [], refl)
+has_events w (One e) = (e ∷ [], refl)
 has_events w (Ask service q) = has_asking w service q
-has_events w (Deliver number) = (event.Deliver number ∷ [], refl)
-has_events w (Lose number) = (event.Lose number ∷ [], refl)
-has_events w (Step service) = (event.Step service ∷ [], refl)
-has_events w (Abandon service flight) = (event.Abandon service flight ∷ [], refl)
-has_events w (Post service dest) = (event.Post service dest ∷ [], refl)
-has_events w (Order service command token who) = (event.Order service command token who ∷ [], refl)
-has_events w (Clock moment) = (event.Clock moment ∷ [], refl)
-has_events w (Seed n) = (event.Seed n ∷ [], refl)
 has_events w (Rows service) = ([], refl)
 has_events w (Log service) = ([], refl)
 has_events w (Notices service) = ([], refl)
@@ -45,16 +37,8 @@ events_for w (Err fault) = ([], refl)
 -- and no other
 one_list : (w : World) (line : Line) (xs ys : List Event) → AreEventsOf w line xs → AreEventsOf w line ys → xs ≡ ys
 one_list w Blank xs ys a b = a ∙ sym b
-one_list w (Begin service q) xs ys a b = a ∙ sym b
+one_list w (One e) xs ys a b = a ∙ sym b
 one_list w (Ask service q) xs ys a b = one_asking w service q xs ys a b
-one_list w (Deliver number) xs ys a b = a ∙ sym b
-one_list w (Lose number) xs ys a b = a ∙ sym b
-one_list w (Step service) xs ys a b = a ∙ sym b
-one_list w (Abandon service flight) xs ys a b = a ∙ sym b
-one_list w (Post service dest) xs ys a b = a ∙ sym b
-one_list w (Order service command token who) xs ys a b = a ∙ sym b
-one_list w (Clock moment) xs ys a b = a ∙ sym b
-one_list w (Seed n) xs ys a b = a ∙ sym b
 one_list w (Rows service) xs ys a b = a ∙ sym b
 one_list w (Log service) xs ys a b = a ∙ sym b
 one_list w (Notices service) xs ys a b = a ∙ sym b
@@ -65,41 +49,65 @@ pub one_for : (w : World) (r : Read) (xs ys : List Event) → AreEventsFor w r x
 one_for w (Ok line) xs ys a b = one_list w line xs ys a b
 one_for w (Err fault) xs ys a b = a ∙ sym b
 
+-- ---- what a line says
+
+-- there is something that it says
+has_said : (w : World) (line : Line) (events : List Event) → AreEventsOf w line events → (said : LineAnswer) × Says w line events said
+has_said w Blank events are = (_, refl)
+has_said w (One e) events are = (_, refl)
+has_said w (Ask service q) events are = (_, refl)
+has_said w (Rows service) events are = (_, refl)
+has_said w (Log service) events are = (_, refl)
+has_said w (Notices service) events are = (_, refl)
+has_said w Dump events are = (_, refl)
+has_said w Audit events are = (_, refl)
+
+pub said_for : (w : World) (r : Read) (events : List Event) → AreEventsFor w r events → (said : LineAnswer) × SaysFor w r events said
+said_for w (Ok line) events are = has_said w line events are
+said_for w (Err fault) events are = (Err fault, refl)
+
+-- and nothing else
+one_said : (w : World) (line : Line) (events : List Event) (a b : LineAnswer) → Says w line events a → Says w line events b → a ≡ b
+one_said w Blank events a b x y = x ∙ sym y
+one_said w (One e) events a b x y = x ∙ sym y
+one_said w (Ask service q) events a b x y = x ∙ sym y
+one_said w (Rows service) events a b x y = x ∙ sym y
+one_said w (Log service) events a b x y = x ∙ sym y
+one_said w (Notices service) events a b x y = x ∙ sym y
+one_said w Dump events a b x y = x ∙ sym y
+one_said w Audit events a b x y = x ∙ sym y
+
+pub one_answer : (w : World) (r : Read) (events : List Event) (a b : LineAnswer) → SaysFor w r events a → SaysFor w r events b → a ≡ b
+one_answer w (Ok line) events a b x y = one_said w line events a b x y
+one_answer w (Err fault) events a b x y = x ∙ sym y
+
 -- ---- a line that is refused
 
 -- its first event is refused
-refusal : (a : Answer) (text : List ℕ) (fault : LineFault) → said_of a text ≡ Err fault → (why : WorldStepRefused) × (a ≡ Err why)
-refusal (Ok h) text fault e = let no : ⊥ = cc in absurd no
-refusal (Err why) text fault e = (why, refl)
+refusal : (e : Event) (a : Answer) (text : List ℕ) (fault : LineFault) → Err fault ≡ said_of e a text → (why : WorldStepRefused) × (a ≡ Err why)
+refusal e (Ok h) text fault is = let no : ⊥ = cc in absurd no
+refusal e (Err why) text fault is = (why, refl)
 
-one_still : (w : World) (e : Event) (events : List Event) (fault : LineFault) → events ≡ e ∷ [] → events_said w events ≡ Err fault → after_events w events ≡ w
+one_still : (w : World) (e : Event) (events : List Event) (fault : LineFault) → events ≡ e ∷ [] → Err fault ≡ events_said w events → after_events w events ≡ w
 one_still w e events fault is says =
-    let S : List Event → Type 0 = λ es. events_said w es ≡ Err fault in
-    let r = refusal (answer_to w e) (last_line w (e ∷ [])) fault (subst S is says) in
+    let S : List Event → Type 0 = λ es. Err fault ≡ events_said w es in
+    let r = refusal e (answer_to w e) (last_line w (e ∷ [])) fault (subst S is says) in
     ap (after_events w) is ∙ event_still w e r.0 r.1
 
 none_still : (w : World) (events : List Event) → events ≡ [] → after_events w events ≡ w
 none_still w events is = ap (after_events w) is
 
-ask_still : (w : World) (service : List ℕ) (q : Request) (events : List Event) (fault : LineFault) → IsAsking w service q events → events_said w events ≡ Err fault → after_events w events ≡ w
+ask_still : (w : World) (service : List ℕ) (q : Request) (events : List Event) (fault : LineFault) → IsAsking w service q events → Err fault ≡ events_said w events → after_events w events ≡ w
 ask_still w service q [] fault asks says = absurd asks
 ask_still w service q (e ∷ events) fault asks says =
-    let A : Event → Type 0 = λ x. said_of (answer_to w x) (last_line w (x ∷ events)) ≡ Err fault in
-    let r = refusal (answer_to w (event.Begin service q)) (last_line w (event.Begin service q ∷ events)) fault (subst A asks.0 says) in
+    let A : Event → Type 0 = λ x. Err fault ≡ said_of x (answer_to w x) (last_line w (x ∷ events)) in
+    let r = refusal (event.Begin service q) (answer_to w (event.Begin service q)) (last_line w (event.Begin service q ∷ events)) fault (subst A asks.0 says) in
     asking_still w service q (e ∷ events) r.0 asks r.1
 
-line_still : (w : World) (line : Line) (events : List Event) (fault : LineFault) → AreEventsOf w line events → said_by w line events ≡ Err fault → after_events w events ≡ w
+line_still : (w : World) (line : Line) (events : List Event) (fault : LineFault) → AreEventsOf w line events → Says w line events (Err fault) → after_events w events ≡ w
 line_still w Blank events fault are e = none_still w events are
-line_still w (Begin service q) events fault are e = one_still w (event.Begin service q) events fault are e
+line_still w (One one) events fault are e = one_still w one events fault are e
 line_still w (Ask service q) events fault are e = ask_still w service q events fault are e
-line_still w (Deliver number) events fault are e = one_still w (event.Deliver number) events fault are e
-line_still w (Lose number) events fault are e = one_still w (event.Lose number) events fault are e
-line_still w (Step service) events fault are e = one_still w (event.Step service) events fault are e
-line_still w (Abandon service flight) events fault are e = one_still w (event.Abandon service flight) events fault are e
-line_still w (Post service dest) events fault are e = one_still w (event.Post service dest) events fault are e
-line_still w (Order service command token who) events fault are e = one_still w (event.Order service command token who) events fault are e
-line_still w (Clock moment) events fault are e = one_still w (event.Clock moment) events fault are e
-line_still w (Seed n) events fault are e = one_still w (event.Seed n) events fault are e
 line_still w (Rows service) events fault are e = none_still w events are
 line_still w (Log service) events fault are e = none_still w events are
 line_still w (Notices service) events fault are e = none_still w events are
@@ -107,7 +115,7 @@ line_still w Dump events fault are e = none_still w events are
 line_still w Audit events fault are e = none_still w events are
 
 -- whatever was read as a line, it does nothing
-pub refused_still : (w : World) (r : Read) (events : List Event) (fault : LineFault) → AreEventsFor w r events → said_for w r events ≡ Err fault → after_events w events ≡ w
+pub refused_still : (w : World) (r : Read) (events : List Event) (fault : LineFault) → AreEventsFor w r events → SaysFor w r events (Err fault) → after_events w events ≡ w
 refused_still w (Ok line) events fault are e = line_still w line events fault are e
 refused_still w (Err other) events fault are e = none_still w events are
 
@@ -118,16 +126,8 @@ same_live events others is live = subst AllLiveEvents (sym is) live
 
 line_live : (w : World) (line : Line) (events : List Event) → IsLiveLine (Ok line) → AreEventsOf w line events → AllLiveEvents events
 line_live w Blank events live are = same_live events _ are tt
-line_live w (Begin service q) events live are = same_live events _ are (tt, tt)
+line_live w (One e) events live are = same_live events _ are (live, tt)
 line_live w (Ask service q) events live are = asking_live w service q events are
-line_live w (Deliver number) events live are = same_live events _ are (tt, tt)
-line_live w (Lose number) events live are = same_live events _ are (tt, tt)
-line_live w (Step service) events live are = absurd live
-line_live w (Abandon service flight) events live are = same_live events _ are (tt, tt)
-line_live w (Post service dest) events live are = absurd live
-line_live w (Order service command token who) events live are = absurd live
-line_live w (Clock moment) events live are = same_live events _ are (tt, tt)
-line_live w (Seed n) events live are = same_live events _ are (tt, tt)
 line_live w (Rows service) events live are = same_live events _ are tt
 line_live w (Log service) events live are = same_live events _ are tt
 line_live w (Notices service) events live are = same_live events _ are tt

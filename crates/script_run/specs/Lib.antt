@@ -1,5 +1,6 @@
 pub mod Told
 pub mod Audits
+pub mod Counting
 pub mod Plays
 pub mod Stops
 pub mod Deliveries

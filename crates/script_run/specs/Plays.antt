@@ -1,4 +1,4 @@
--- What a script does, and what it writes.
+-- What a script does, and what it says.
 use Rattle.std.specs.Prelude.{ℕ, ◌≡◌, ◌+◌, Bool, true, false, List, [], ◌∷◌, ◌++◌, Option, Some, None, Ok, Err, ◌==◌, length, map, nat_lt, take, drop}
 use Rattle.std.specs.List.{slice_split}
 use Rattle.local_repair.specs.Current.{rows_after}
@@ -8,35 +8,29 @@ use Rattle.report_text.specs.Reports.{log_text, rows_text, verdict_text}
 use Rattle.service_events.specs.State.{Kept, me, base}
 use Rattle.world_agreement.specs.Partners.{service_of}
 use Rattle.world_events.specs.Events.{after_events}
+use Rattle.world_events.specs.Live.{IsLiveEvent}
 use Rattle.world_events.specs.Worlds.{World}
 use Rattle.world_events.specs.declared.event.Event.{Event}
-use Rattle.world_events.specs.declared.event.Event.TheVariants as event
 use Rattle.world_delivery_laws.specs.Runs.{IsAsking}
 use Rattle.script_lines.specs.Faults.{fault_number}
 use Rattle.script_lines.specs.Lines.{Read, line_at}
 use Rattle.script_lines.specs.declared.line.Line.{Line}
-use Rattle.script_lines.specs.declared.line.Line.TheVariants.{Blank, Begin, Ask, Deliver, Lose, Step, Abandon, Post, Order, Clock, Seed, Rows, Log, Notices, Dump, Audit}
+use Rattle.script_lines.specs.declared.line.Line.TheVariants.{Blank, Event as One, Ask, Rows, Log, Notices, Dump, Audit}
 use Rattle.script_lines.specs.declared.line.LineFault.{LineFault}
-use Rattle.script_lines.specs.declared.line.LineFault.TheVariants.{Service}
+use Rattle.script_lines.specs.declared.line.LineFault.TheVariants.{Service, TooLong}
 use Rattle.script_run.specs.Audits.{verdict}
+use Rattle.script_run.specs.Counting.{nothing_said, printed, said_then}
 use Rattle.script_run.specs.Dumps.{dump_text}
 use Rattle.script_run.specs.Told.{LineAnswer, events_said}
+use Rattle.script_run.specs.declared.counts.Said.{Said}
 
 -- ---- what a line does
 
 -- these are the events that a line comes to, in the world that it begins in
 abbrev pub AreEventsOf : World → Line → List Event → Type 0
 AreEventsOf w Blank events = events ≡ []
-AreEventsOf w (Begin service request) events = events ≡ event.Begin service request ∷ []
+AreEventsOf w (One e) events = events ≡ e ∷ []
 AreEventsOf w (Ask service request) events = IsAsking w service request events
-AreEventsOf w (Deliver number) events = events ≡ event.Deliver number ∷ []
-AreEventsOf w (Lose number) events = events ≡ event.Lose number ∷ []
-AreEventsOf w (Step service) events = events ≡ event.Step service ∷ []
-AreEventsOf w (Abandon service flight) events = events ≡ event.Abandon service flight ∷ []
-AreEventsOf w (Post service dest) events = events ≡ event.Post service dest ∷ []
-AreEventsOf w (Order service command token who) events = events ≡ event.Order service command token who ∷ []
-AreEventsOf w (Clock moment) events = events ≡ event.Clock moment ∷ []
-AreEventsOf w (Seed n) events = events ≡ event.Seed n ∷ []
 AreEventsOf w (Rows service) events = events ≡ []
 AreEventsOf w (Log service) events = events ≡ []
 AreEventsOf w (Notices service) events = events ≡ []
@@ -57,27 +51,27 @@ notices_of_service s = notices_text (notices s.registers s.replies)
 -- what a report says of a service, if it is there
 abbrev pub report_of : (Kept → List ℕ) → Option Kept → LineAnswer
 report_of report None = Err Service
-report_of report (Some s) = Ok (report s)
+report_of report (Some s) = Ok (printed (report s))
 
 -- the verdict over all services
 abbrev pub audit_text : List Kept → List ℕ
 audit_text services = verdict_text (map me services) (verdict services)
 
--- what a line prints of its events, or which of the things that it names isn't there: a service, a packet or a flight
-abbrev pub said_by : World → Line → List Event → LineAnswer
-said_by w (Rows service) events = report_of rows_of_service (service_of service w.services)
-said_by w (Log service) events = report_of log_of_service (service_of service w.services)
-said_by w (Notices service) events = report_of notices_of_service (service_of service w.services)
-said_by w Dump events = Ok (dump_text w.services)
-said_by w Audit events = Ok (audit_text w.services)
-said_by w line events = events_said w events
+-- what a line says of its events, or which of the things that it names isn't there: a service, a packet or a flight
+abbrev pub Says : World → Line → List Event → LineAnswer → Type 0
+Says w (Rows service) events said = said ≡ report_of rows_of_service (service_of service w.services)
+Says w (Log service) events said = said ≡ report_of log_of_service (service_of service w.services)
+Says w (Notices service) events said = said ≡ report_of notices_of_service (service_of service w.services)
+Says w Dump events said = said ≡ Ok (printed (dump_text w.services))
+Says w Audit events said = said ≡ Ok (printed (audit_text w.services))
+Says w other events said = said ≡ events_said w events
 
 -- ---- the same of what was read as a line
 
 -- text, first word and shape of a line are tested before anything that it names
-abbrev pub said_for : World → Read → List Event → LineAnswer
-said_for w (Ok line) events = said_by w line events
-said_for w (Err fault) events = Err fault
+abbrev pub SaysFor : World → Read → List Event → LineAnswer → Type 0
+SaysFor w (Ok line) events said = Says w line events said
+SaysFor w (Err fault) events said = said ≡ Err fault
 
 -- what can't be read has no events
 abbrev pub AreEventsFor : World → Read → List Event → Type 0
@@ -86,29 +80,29 @@ AreEventsFor w (Err fault) events = events ≡ []
 
 -- ---- a script
 
--- what a script comes to: the events of its lines, one behind another, the world then, what was written, and the line and
+-- what a script comes to: the events of its lines, one behind another, the world then, what its lines said, and the line and
 -- number of a refusal
 pub record Played : Type 0 where
   pub events : List Event
   pub world : World
-  pub out : List ℕ
+  pub said : Said
   pub refused : Option (ℕ × ℕ)
 
 -- no line is left
 abbrev pub ended : World → Played
-ended w = record { events = []; world = w; out = []; refused = None }
+ended w = record { events = []; world = w; said = nothing_said; refused = None }
 
 -- a line is refused, and does nothing
 abbrev pub refused_at : ℕ → ℕ → World → Played
-refused_at line number w = record { events = []; world = w; out = []; refused = Some (line, number) }
+refused_at line number w = record { events = []; world = w; said = nothing_said; refused = Some (line, number) }
 
--- what was done and written before, and then this
-abbrev pub printed_after : List Event → List ℕ → Played → Played
-printed_after events out p = record { events = events ++ p.events; world = p.world; out = out ++ p.out; refused = p.refused }
+-- what was done and said before, and then this
+abbrev pub played_after : List Event → Said → Played → Played
+played_after events said p = record { events = events ++ p.events; world = p.world; said = said_then said p.said; refused = p.refused }
 
 -- by what the n-th line says: one that is good is done and printed, and the rest follows; one that isn't ends the script
 abbrev pub GoesOn : ℕ → World → List Event → LineAnswer → (World → Played → Type 0) → Played → Type 0
-GoesOn n w events (Ok text) Rest p = (rest : Played) × Rest (after_events w events) rest × (p ≡ printed_after events text rest)
+GoesOn n w events (Ok said) Rest p = (rest : Played) × Rest (after_events w events) rest × (p ≡ played_after events said rest)
 GoesOn n w events (Err fault) Rest p = p ≡ refused_at n (fault_number fault) w
 
 -- what lines from the n-th on come to
@@ -116,23 +110,38 @@ abbrev pub Plays : ℕ → World → List (List ℕ) → Played → Type 0
 Plays n w [] p = p ≡ ended w
 Plays n w (line ∷ lines) p =
     (events : List Event) × AreEventsFor w (line_at line) events
-    × GoesOn n w events (said_for w (line_at line) events) (λ next rest. Plays (n + 1) next lines rest) p
+    × (said : LineAnswer) × SaysFor w (line_at line) events said
+    × GoesOn n w events said (λ next rest. Plays (n + 1) next lines rest) p
+
+-- nothing behind a last line feed is no line
+abbrev pub unless_empty : List ℕ → List (List ℕ)
+unless_empty [] = []
+unless_empty (b ∷ bytes) = (b ∷ bytes) ∷ []
+
+abbrev pub with_last : List (List ℕ) → List (List ℕ)
+with_last [] = []
+with_last (line ∷ []) = unless_empty line
+with_last (line ∷ next ∷ lines) = line ∷ with_last (next ∷ lines)
 
 -- lines end with a line feed, which the last may lack
 abbrev pub lines_of : List ℕ → List (List ℕ)
-lines_of script = slice_split (λ b. b == 10) script
+lines_of script = with_last (slice_split (λ b. b == 10) script)
 
 -- lines are counted from 1
 abbrev pub IsPlayed : World → List ℕ → Played → Type 0
 IsPlayed w script p = Plays 1 w (lines_of script) p
 
 abbrev pub RunsIfLong : Bool → World → List ℕ → Played → Type 0
-RunsIfLong true w script p = p ≡ refused_at 0 7 w
+RunsIfLong true w script p = p ≡ refused_at 0 (fault_number TooLong) w
 RunsIfLong false w script p = IsPlayed w script p
 
--- a script of more than 16,777,216 bytes is refused as line 0, before any line
+-- of more than 16,777,216 bytes
+abbrev pub is_long : List ℕ → Bool
+is_long script = nat_lt 16777216 (length script)
+
+-- a script that is too long is refused as line 0, before any line
 abbrev pub IsRunOf : World → List ℕ → Played → Type 0
-IsRunOf w script p = RunsIfLong (nat_lt 16777216 (length script)) w script p
+IsRunOf w script p = RunsIfLong (is_long script) w script p
 
 -- ---- where a run of a script stops
 
@@ -140,29 +149,17 @@ IsRunOf w script p = RunsIfLong (nat_lt 16777216 (length script)) w script p
 abbrev pub FirstPlay : ℕ → World → List ℕ → Played → Type 0
 FirstPlay n w script p = Plays 1 w (take n (lines_of script)) p
 
--- the lines behind a line
-abbrev pub lines_left : Option (List ℕ) → List (List ℕ)
-lines_left None = []
-lines_left (Some rest) = lines_of rest
-
 -- these are the events of the first of some lines
 abbrev pub AreEventsIn : World → List (List ℕ) → List Event → Type 0
 AreEventsIn w [] events = events ≡ []
 AreEventsIn w (line ∷ lines) events = AreEventsFor w (line_at line) events
 
--- a bound on how many lines those behind are
-abbrev pub bytes_left : Option (List ℕ) → ℕ
-bytes_left None = 0
-bytes_left (Some rest) = length rest + 1
-
 -- ---- scripts of live requests
 
 -- a line of live requests alone, or a report: no step, no order, no post. What can't be read does nothing
 abbrev pub IsLiveLine : Read → Type 0
-IsLiveLine (Ok (Step service)) = ⊥
-IsLiveLine (Ok (Order service command token who)) = ⊥
-IsLiveLine (Ok (Post service dest)) = ⊥
-IsLiveLine (Ok line) = Unit {0}
+IsLiveLine (Ok (One e)) = IsLiveEvent e
+IsLiveLine (Ok other) = Unit {0}
 IsLiveLine (Err fault) = Unit {0}
 
 abbrev pub AreLiveLines : List (List ℕ) → Type 0

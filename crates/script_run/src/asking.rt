@@ -2,12 +2,13 @@
 ghost use Rattle.std.specs.Prelude.{IfOk, OnErr, Some};
 ghost use Rattle.world_delivery_laws.specs.InHand.{IsInHand};
 ghost use Rattle.world_delivery_laws.specs.Runs.{IsAsking, IsRun};
-ghost use Rattle.script_run.specs.Told.{events_said};
+ghost use Rattle.script_run.specs.Told.{events_said, saying};
 ghost use Rattle.script_run.specs.Stops.{Does, DoesFirst};
 ghost use Rattle.script_run.specs.Deliveries.{Delivers};
 
+use crate::counts::Said;
 use crate::telling::{step, tell};
-use lang_core::{Name, NoMemory, Request, Text};
+use lang_core::{Name, NoMemory, Request};
 use script_lines::LineFault;
 use script_text::Detail;
 use std::alloc::Global;
@@ -53,14 +54,15 @@ pub fn ask(
     world: &mut World,
     service: Name,
     request: Request,
-) -> Result<Result<Text, LineFault>, NoMemory>
-    ensures does { IfOk result (λ said. Does world.old (IsAsking world.old service request) (events_said world.old) said world.new) }
+) -> Result<Result<Said, LineFault>, NoMemory>
+    ensures does { IfOk result (λ said. Does world.old (IsAsking world.old service request) (saying (events_said world.old)) said world.new) }
     ensures early { OnErr result (DoesFirst world.old (IsAsking world.old service request) world.new) }
 {
     match step(alloc, world, Event::Begin { service, request })? {
         Ok(begun) => {
             let last = follow(alloc, world, begun)?;
-            Ok(Ok(tell(alloc, world, &last.detail, &last.happened)?))
+            let text = tell(alloc, world, &last.detail, &last.happened)?;
+            Ok(Ok(Said::printed(text)))
         }
         Err(fault) => Ok(Err(fault)),
     }

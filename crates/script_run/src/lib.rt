@@ -4,6 +4,7 @@
 
 mod acting;
 mod asking;
+mod counts;
 mod dump_entries;
 mod dump_words;
 mod dumping;
@@ -12,7 +13,8 @@ mod script;
 mod telling;
 
 pub use acting::act;
+pub use counts::{Counts, Said};
 pub use dumping::dump_text;
 pub use reports::judge;
-pub use script::{ScriptRefused, run_script};
+pub use script::{LONGEST_SCRIPT, ScriptRefused, run_script};
 pub use world_core::{Service, World};

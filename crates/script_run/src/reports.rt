@@ -9,9 +9,11 @@ ghost use Rattle.service_events.specs.State.{me, Kept};
 ghost use Rattle.world_agreement.specs.Legal.{AreLegal};
 ghost use Rattle.world_agreement.specs.Partners.{IsJoined, service_of};
 ghost use Rattle.script_run.specs.Audits.{SaysForged, verdict};
+ghost use Rattle.script_run.specs.Counting.{printed};
 ghost use Rattle.script_run.specs.Dumps.{dump_text};
 ghost use Rattle.script_run.specs.Plays.{audit_text, log_of_service, notices_of_service, report_of, rows_of_service};
 
+use crate::counts::Said;
 use crate::dumping::dump_text;
 use journal_rows::Verdict;
 use lang_core::{Copied, Name, Names, NoMemory, Text};
@@ -29,21 +31,25 @@ fn rows_of(alloc: Global, service: &Service) -> Result<Text, NoMemory>
 }
 
 /// The rows of the service of this name, if it is there.
-pub fn rows(alloc: Global, world: &World, name: &Name) -> Result<Result<Text, LineFault>, NoMemory>
+pub fn rows(alloc: Global, world: &World, name: &Name) -> Result<Result<Said, LineFault>, NoMemory>
     ensures { IfOk result (λ said. said ≡ report_of rows_of_service (service_of name.now world.now.services)) }
 {
     match world.service(name) {
-        Some(service) => Ok(Ok(rows_of(alloc, service)?)),
+        Some(service) => Ok(Ok(Said::printed(rows_of(alloc, service)?))),
         None => Ok(Err(LineFault::Service)),
     }
 }
 
 /// The log of the service of this name, if it is there.
-pub fn log(alloc: Global, world: &World, name: &Name) -> Result<Result<Text, LineFault>, NoMemory>
+pub fn log(alloc: Global, world: &World, name: &Name) -> Result<Result<Said, LineFault>, NoMemory>
     ensures { IfOk result (λ said. said ≡ report_of log_of_service (service_of name.now world.now.services)) }
 {
     match world.service(name) {
-        Some(service) => Ok(Ok(log_text(alloc, &service.setting().me, service.entries())?)),
+        Some(service) => Ok(Ok(Said::printed(log_text(
+            alloc,
+            &service.setting().me,
+            service.entries(),
+        )?))),
         None => Ok(Err(LineFault::Service)),
     }
 }
@@ -59,20 +65,20 @@ pub fn notices(
     alloc: Global,
     world: &World,
     name: &Name,
-) -> Result<Result<Text, LineFault>, NoMemory>
+) -> Result<Result<Said, LineFault>, NoMemory>
     ensures { IfOk result (λ said. said ≡ report_of notices_of_service (service_of name.now world.now.services)) }
 {
     match world.service(name) {
-        Some(service) => Ok(Ok(notices_of(alloc, service)?)),
+        Some(service) => Ok(Ok(Said::printed(notices_of(alloc, service)?))),
         None => Ok(Err(LineFault::Service)),
     }
 }
 
 /// All services, written down.
-pub fn dump(alloc: Global, world: &World) -> Result<Result<Text, LineFault>, NoMemory>
-    ensures { IfOk result (λ said. said ≡ Ok (dump_text world.now.services)) }
+pub fn dump(alloc: Global, world: &World) -> Result<Result<Said, LineFault>, NoMemory>
+    ensures { IfOk result (λ said. said ≡ Ok (printed (dump_text world.now.services))) }
 {
-    Ok(Ok(dump_text(alloc, world.services())?))
+    Ok(Ok(Said::printed(dump_text(alloc, world.services())?)))
 }
 
 fn names_of(alloc: Global, services: &[Service]) -> Result<Names, NoMemory>
@@ -113,9 +119,9 @@ pub fn judge(world: &World) -> Verdict
 }
 
 /// The verdict over all services of a world.
-pub fn verdict_over(alloc: Global, world: &World) -> Result<Result<Text, LineFault>, NoMemory>
-    ensures { IfOk result (λ said. said ≡ Ok (audit_text world.now.services)) }
+pub fn verdict_over(alloc: Global, world: &World) -> Result<Result<Said, LineFault>, NoMemory>
+    ensures { IfOk result (λ said. said ≡ Ok (printed (audit_text world.now.services))) }
 {
     let names = names_of(alloc, world.services())?;
-    Ok(Ok(verdict_text(alloc, &names, &judge(world))?))
+    Ok(Ok(Said::printed(verdict_text(alloc, &names, &judge(world))?)))
 }

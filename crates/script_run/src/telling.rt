@@ -1,19 +1,19 @@
 // Events, and the lines that are printed of them.
 ghost use Rattle.std.specs.Prelude.{◌≡◌, ◌<◌, ◌^◌, ◌∷◌, [], All, IfOk, OnOk, OnErr, Some, length};
-ghost use Rattle.script_text.specs.Cues.{detail_of};
 ghost use Rattle.script_text.specs.Happenings.{journal_of};
 ghost use Rattle.world_events.specs.Events.{after_event, answer_to};
 ghost use Rattle.world_events.specs.Sound.{AreFew};
 ghost use Rattle.service_events.specs.State.{Kept};
-ghost use Rattle.script_run.specs.Told.{events_said, fault_of, happened_or, line_of};
+ghost use Rattle.script_run.specs.Told.{event_counts, events_said, fault_of, happened_or, is_accepted, is_cancel, line_of, saying};
 ghost use Rattle.script_run.specs.Stops.{Does, DoesFirst};
 
-use journal_rows::Row;
+use crate::counts::{Counts, Said};
+use journal_rows::{Command, Row};
 use lang_core::{Name, NoMemory, Text};
 use script_lines::LineFault;
 use script_text::{Detail, happened_line};
 use std::alloc::Global;
-use world_core::{Event, Happened, Service, World, WorldStepRefused, world_step};
+use world_core::{Event, Happened, Service, What, World, WorldStepRefused, world_step};
 
 // What an event names that isn't there.
 fn fault_of(why: WorldStepRefused) -> LineFault
@@ -80,19 +80,57 @@ pub fn tell(
     happened_line(alloc, world.packets(), rows, detail, happened)
 }
 
-/// A line of one event, which is told this. For want of memory it happened or it didn't, and nothing is said.
+// An order to cancel an entry.
+fn is_cancel(event: &Event) -> bool
+    ensures { result ≡ is_cancel event.now }
+{
+    match event {
+        Event::Order {
+            command: Command::Cancel(_),
+            ..
+        } => true,
+        _ => false,
+    }
+}
+
+// An order was accepted.
+fn is_accepted(what: What) -> bool
+    ensures { result ≡ is_accepted what }
+{
+    match what {
+        What::Order(Ok(_)) => true,
+        _ => false,
+    }
+}
+
+// What a line counts that orders to cancel, or doesn't.
+fn event_counts(cancels: bool, what: What) -> Counts
+    ensures { result ≡ event_counts cancels what }
+{
+    let mut counts = Counts::of_line();
+    if cancels && is_accepted(what) {
+        counts.cancelled = 1;
+    }
+    counts
+}
+
+/// A line of one event. For want of memory it happened or it didn't, and nothing is said.
 pub fn happen(
     alloc: Global,
     world: &mut World,
-    detail: Detail,
     event: Event,
-) -> Result<Result<Text, LineFault>, NoMemory>
-    requires { detail ≡ detail_of event }
-    ensures does { IfOk result (λ said. Does world.old (λ events. events ≡ event ∷ []) (events_said world.old) said world.new) }
+) -> Result<Result<Said, LineFault>, NoMemory>
+    ensures does { IfOk result (λ said. Does world.old (λ events. events ≡ event ∷ []) (saying (events_said world.old)) said world.new) }
     ensures early { OnErr result (DoesFirst world.old (λ events. events ≡ event ∷ []) world.new) }
 {
+    let detail = Detail::of(alloc, &event)?;
+    let cancels = is_cancel(&event);
     match step(alloc, world, event)? {
-        Ok(happened) => Ok(Ok(tell(alloc, world, &detail, &happened)?)),
+        Ok(happened) => {
+            let counts = event_counts(cancels, happened.what);
+            let text = tell(alloc, world, &detail, &happened)?;
+            Ok(Ok(Said { text, counts }))
+        }
         Err(fault) => Ok(Err(fault)),
     }
 }

@@ -3,7 +3,7 @@ use crate::given::{holds, same};
 use journal_rows::Command;
 use lang_core::{Method, Name, Request, Text};
 use repair_messages::PostName;
-use script_lines::{Line, read_line};
+use script_lines::{Event, Line, read_line};
 use std::process::Abort;
 
 fn method_word(method: Method) -> &'static str {
@@ -121,33 +121,40 @@ fn alone(rt: &(impl Abort + AllocGlobal), word: &str) -> String {
     String::from_str(rt.alloc(), word).expect(rt, "memory")
 }
 
-// The word, and each part in brackets.
-fn spelled(rt: &(impl Abort + AllocGlobal), line: &Line) -> String {
-    match line {
-        Line::Blank => alone(rt, "blank"),
-        Line::Begin { service, request } => asking(rt, "begin", service, request),
-        Line::Ask { service, request } => asking(rt, "ask", service, request),
-        Line::Deliver(number) => counted(rt, "deliver", *number),
-        Line::Lose(number) => counted(rt, "lose", *number),
-        Line::Post { service, dest } => both(rt, "post", service.as_str(), dest.as_str()),
-        Line::Abandon { service, flight } => {
+// The word of an event, and each part in brackets.
+fn event_spelled(rt: &(impl Abort + AllocGlobal), event: &Event) -> String {
+    match event {
+        Event::Begin { service, request } => asking(rt, "begin", service, request),
+        Event::Deliver(number) => counted(rt, "deliver", *number),
+        Event::Lose(number) => counted(rt, "lose", *number),
+        Event::Post { from, to } => both(rt, "post", from.as_str(), to.as_str()),
+        Event::Abandon { service, flight } => {
             let flight = format!(in rt.alloc(); "{flight}").expect(rt, "memory");
             both(rt, "abandon", service.as_str(), flight.as_str())
         }
-        Line::Order {
+        Event::Order {
             service,
             command,
             token,
             who,
         } => order(rt, service.as_str(), command, token.as_str(), who.as_str()),
-        Line::Step { service } => named(rt, "step", service),
+        Event::Step { service } => named(rt, "step", service),
+        Event::Clock(moment) => counted(rt, "clock", *moment),
+        Event::Seed(number) => counted(rt, "seed", *number),
+    }
+}
+
+// The same of a line.
+fn spelled(rt: &(impl Abort + AllocGlobal), line: &Line) -> String {
+    match line {
+        Line::Blank => alone(rt, "blank"),
+        Line::Event(event) => event_spelled(rt, event),
+        Line::Ask { service, request } => asking(rt, "ask", service, request),
         Line::Rows { service } => named(rt, "rows", service),
         Line::Log { service } => named(rt, "log", service),
         Line::Notices { service } => named(rt, "notices", service),
         Line::Dump => alone(rt, "dump"),
         Line::Audit => alone(rt, "audit"),
-        Line::Clock(moment) => counted(rt, "clock", *moment),
-        Line::Seed(number) => counted(rt, "seed", *number),
     }
 }
 

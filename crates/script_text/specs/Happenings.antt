@@ -36,7 +36,7 @@ use Rattle.world_events.specs.declared.happened.What.{What}
 use Rattle.world_events.specs.declared.happened.What.TheVariants as what
 use Rattle.world_events.specs.declared.packet.Packet.{Packet}
 use Rattle.world_events.specs.declared.packet.Packet.TheVariants as packet
-use Rattle.script_text.specs.Cues.{detail_of, flight_in, packet_told, to_in, token_in}
+use Rattle.script_text.specs.Details.{detail_of, flight_told, packet_told, receiver_told, token_told}
 use Rattle.script_text.specs.Refusals.{Refusal, answer_refusal, arrive_refusal, lacking, order_refusal, post_refusal, take_refusal}
 use Rattle.script_text.specs.declared.detail.Detail.{Detail}
 
@@ -147,10 +147,15 @@ abbrev pub posted_line : List ℕ → Option Post → Result Posted PostRefused 
 posted_line service p (Ok to) packet = of_post p (settled_line service to packet)
 posted_line service p (Err why) packet = refused_line service (post_refusal why) packet
 
--- of a post that is written, and `S none D` where none is outstanding
-abbrev pub next_line : List ℕ → List ℕ → Option Post → Option PostName → Option ℕ → List ℕ
+-- `S none D`
+abbrev pub none_line : List ℕ → Option (List ℕ) → List ℕ
+none_line service None = []
+none_line service (Some to) = service ++ (codes " none " ++ (to ++ codes "\n"))
+
+-- of a post that is written, or that none is outstanding
+abbrev pub next_line : List ℕ → Option (List ℕ) → Option Post → Option PostName → Option ℕ → List ℕ
 next_line service to p (Some name) packet = of_post p (written_line service packet)
-next_line service to p None packet = service ++ (codes " none " ++ (to ++ codes "\n"))
+next_line service to p None packet = none_line service to
 
 -- ---- the other happenings
 
@@ -164,14 +169,16 @@ about_text service (about.Request id) = id_text service id
 about_text service (about.Post name) = post_name_text name
 
 -- `S ordered TOKEN S/N rule R`
-abbrev pub ordered_line : List ℕ → List ℕ → Result Ordered OrderRefused → Option ℕ → List ℕ
-ordered_line service token (Ok o) packet =
+abbrev pub ordered_line : List ℕ → Option (List ℕ) → Result Ordered OrderRefused → Option ℕ → List ℕ
+ordered_line service None (Ok o) packet = []
+ordered_line service (Some token) (Ok o) packet =
     service ++ (codes " ordered " ++ (token ++ (codes " " ++ (about_text service o.about ++ (codes " rule " ++ (decimal o.rule ++ codes "\n"))))))
 ordered_line service token (Err why) packet = refused_line service (order_refusal why) packet
 
 -- `S abandoned fN`
-abbrev pub abandoned_line : List ℕ → ℕ → Bool → List ℕ
-abandoned_line service flight true = service ++ (codes " abandoned f" ++ (decimal flight ++ codes "\n"))
+abbrev pub abandoned_line : List ℕ → Option ℕ → Bool → List ℕ
+abandoned_line service None true = []
+abandoned_line service (Some flight) true = service ++ (codes " abandoned f" ++ (decimal flight ++ codes "\n"))
 abandoned_line service flight false = []
 
 -- ---- whatever happens
@@ -195,10 +202,10 @@ what_line service packets rows detail (what.CallFailed r) packet = flown_line se
 what_line service packets rows detail (what.Take r) packet = taken_line service (post_in packets (packet_told detail)) r packet
 what_line service packets rows detail (what.TakeAnswer r) packet = answer_taken_line service (post_in packets (packet_told detail)) r packet
 what_line service packets rows detail (what.Posted r) packet = posted_line service (post_in packets (packet_told detail)) r packet
-what_line service packets rows detail (what.NextPost name) packet = next_line service (to_in detail) (post_in packets packet) name packet
+what_line service packets rows detail (what.NextPost name) packet = next_line service (receiver_told detail) (post_in packets packet) name packet
 what_line service packets rows detail (what.RepairStep stepped) packet = step_line service stepped
-what_line service packets rows detail (what.Abandon was_there) packet = abandoned_line service (flight_in detail) was_there
-what_line service packets rows detail (what.Order r) packet = ordered_line service (token_in detail) r packet
+what_line service packets rows detail (what.Abandon was_there) packet = abandoned_line service (flight_told detail) was_there
+what_line service packets rows detail (what.Order r) packet = ordered_line service (token_told detail) r packet
 what_line service packets rows detail what.Set packet = []
 
 -- at which service it was, if at one

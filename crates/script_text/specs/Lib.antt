@@ -1,3 +1,3 @@
-pub mod Cues
+pub mod Details
 pub mod Happenings
 pub mod Refusals

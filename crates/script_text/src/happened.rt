@@ -88,7 +88,7 @@ fn push_what(
             push_next(
                 text,
                 service,
-                detail.to(),
+                detail.receiver(),
                 post_in(packets, packet),
                 name,
                 packet,

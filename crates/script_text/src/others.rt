@@ -1,10 +1,11 @@
 // Steps, orders and abandonments in a line.
-ghost use Rattle.std.specs.Prelude.{◌≡◌, ◌++◌, None, OnOk, string_bytes, true};
+ghost use Rattle.std.specs.Prelude.{◌≡◌, ◌++◌, None, OnOk, Some, string_bytes, true};
+ghost use Rattle.std.specs.Option.{option_map};
 ghost use Rattle.script_text.specs.Happenings.{abandoned_line, about_text, ordered_line, step_line};
 
 use crate::refusals::{order_refusal, push_refused};
 use journal_rows::About;
-use lang_core::{Name, NoMemory};
+use lang_core::{Name, NoMemory, Text};
 use local_repair::Stepped;
 use report_text::push_post_name;
 use request_names::push_id;
@@ -50,13 +51,14 @@ fn push_about(text: &mut String, service: &Name, about: About) -> Result<(), NoM
 fn push_accepted(
     text: &mut String,
     service: &Name,
-    token: &str,
+    token: &Text,
     ordered: Ordered,
 ) -> Result<(), NoMemory>
     ensures { OnOk result (string_bytes text.new ≡ string_bytes text.old
-        ++ ordered_line service.now token.now (Ok ordered) None) }
+        ++ ordered_line service.now (Some token.now) (Ok ordered) None) }
 {
     let name = service.as_str();
+    let token = token.as_str();
     let rule = ordered.rule;
     write!(text, "{name} ordered {token} ")?;
     push_about(text, service, ordered.about)?;
@@ -68,16 +70,17 @@ fn push_accepted(
 pub fn push_ordered(
     text: &mut String,
     service: &Name,
-    token: &str,
+    token: Option<&Text>,
     ordered: Result<Ordered, OrderRefused>,
     packet: Option<u64>,
 ) -> Result<(), NoMemory>
     ensures { OnOk result (string_bytes text.new ≡ string_bytes text.old
-        ++ ordered_line service.now token.now ordered packet) }
+        ++ ordered_line service.now (option_map (λ token. token.now) token.entry) ordered packet) }
 {
-    match ordered {
-        Ok(ordered) => push_accepted(text, service, token, ordered),
-        Err(why) => push_refused(text, service, order_refusal(why), packet),
+    match (ordered, token) {
+        (Ok(ordered), Some(token)) => push_accepted(text, service, token, ordered),
+        (Ok(_), None) => Ok(()),
+        (Err(why), _) => push_refused(text, service, order_refusal(why), packet),
     }
 }
 
@@ -85,13 +88,13 @@ pub fn push_ordered(
 pub fn push_abandoned(
     text: &mut String,
     service: &Name,
-    flight: u64,
+    flight: Option<u64>,
     was_there: bool,
 ) -> Result<(), NoMemory>
     ensures { OnOk result (string_bytes text.new ≡ string_bytes text.old
         ++ abandoned_line service.now flight was_there) }
 {
-    if was_there {
+    if let (Some(flight), true) = (flight, was_there) {
         let service = service.as_str();
         write!(text, "{service} abandoned f{flight}\n")?;
     }

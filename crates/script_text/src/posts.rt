@@ -1,7 +1,7 @@
 // Posts in a line.
 ghost use Rattle.std.specs.Prelude.{◌≡◌, ◌++◌, [], OnOk, string_bytes};
 ghost use Rattle.std.specs.Option.{option_map};
-ghost use Rattle.script_text.specs.Happenings.{call_text, answer_taken_line, next_line, post_kind, posted_line, ruled_line, settled_line, settled_text, taken_line, version_behind, version_text, written_line};
+ghost use Rattle.script_text.specs.Happenings.{call_text, answer_taken_line, next_line, none_line, post_kind, posted_line, ruled_line, settled_line, settled_text, taken_line, version_behind, version_text, written_line};
 
 use crate::refusals::{
     answer_refusal, post_refusal, push_arrow, push_ending, push_refused, take_refusal,
@@ -212,25 +212,33 @@ pub fn push_posted(
     }
 }
 
+fn push_none(text: &mut String, service: &Name, to: Option<&Name>) -> Result<(), NoMemory>
+    ensures { OnOk result (string_bytes text.new ≡ string_bytes text.old
+        ++ none_line service.now (option_map (λ name. name.now) to.entry)) }
+{
+    if let Some(to) = to {
+        let service = service.as_str();
+        let to = to.as_str();
+        write!(text, "{service} none {to}\n")?;
+    }
+    Ok(())
+}
+
 /// Puts the line of a post last that was written, or that none is outstanding.
 pub fn push_next(
     text: &mut String,
     service: &Name,
-    to: &str,
+    to: Option<&Name>,
     post: Option<&Post>,
     name: Option<PostName>,
     packet: Option<u64>,
 ) -> Result<(), NoMemory>
     ensures { OnOk result (string_bytes text.new ≡ string_bytes text.old
-        ++ next_line service.now to.now (option_map (λ p. p.now) post.entry) name packet) }
+        ++ next_line service.now (option_map (λ name. name.now) to.entry) (option_map (λ p. p.now) post.entry) name packet) }
 {
     match (name, post) {
         (Some(_), Some(post)) => push_written(text, service, packet, post),
         (Some(_), None) => Ok(()),
-        (None, _) => {
-            let service = service.as_str();
-            write!(text, "{service} none {to}\n")?;
-            Ok(())
-        }
+        (None, _) => push_none(text, service, to),
     }
 }

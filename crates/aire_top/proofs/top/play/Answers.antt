@@ -5,7 +5,7 @@ use Rattle.aire_top.proofs.top.play.Goals as goal
 pub returns-in-Ok-clause-ends : goal.returns-in-Ok-clause-ends
 returns-in-Ok-clause-ends g c =
     all_done c.args.world c.args.script.now c.run_script.new.world (g.K.Sink.writes c.args.out.now) (g.K.Sink.writes c.run_script.new.out) _
-    c.requires.short c.requires.sound c.requires.live c.in-Ok.ensures.ok c.standing.ensures.answer
+    c.requires.sound c.requires.live c.in-Ok.ensures.ok c.standing.ensures.answer
 
 pub returns-in-Err-WriteFault-clause-ends : goal.returns-in-Err-WriteFault-clause-ends
 returns-in-Err-WriteFault-clause-ends g c =
@@ -17,12 +17,12 @@ pub returns-in-Err-Refused-clause-ends : goal.returns-in-Err-Refused-clause-ends
 returns-in-Err-Refused-clause-ends g c =
     let r = c.in-Err-Refused.ensures.refused c.in-Err-Refused.line c.in-Err-Refused.fault (ap Err c.in-Err-Refused.field-0-is) in
     at_line c.args.world c.args.script.now c.in-Err-Refused.line c.number.result c.run_script.new.world (g.K.Sink.writes c.args.out.now) (g.K.Sink.writes c.run_script.new.out) (g.K.Sink.writes c.refusal.new.out) _
-    c.requires.short c.requires.sound c.requires.live (rw c.number.ensures r) c.run_script.ensures.counted c.refusal.ensures.ends
+    c.requires.sound c.requires.live (rw c.number.ensures r) c.run_script.ensures.counted c.refusal.ensures.ends
 
 pub returns-in-Err-NoMemory-clause-ends : goal.returns-in-Err-NoMemory-clause-ends
 returns-in-Err-NoMemory-clause-ends g c =
     lacked c.args.world c.args.script.now c.run_script.new.world (g.K.Sink.writes c.args.out.now) (g.K.Sink.writes c.run_script.new.out) (g.K.Sink.writes c.lacking.new.out) _
-    c.requires.short (c.in-Err-NoMemory.ensures.early (ap Err c.in-Err-NoMemory.field-0-is)) c.run_script.ensures.counted c.lacking.ensures.ends
+    (c.in-Err-NoMemory.ensures.early (ap Err c.in-Err-NoMemory.field-0-is)) c.run_script.ensures.counted c.lacking.ensures.ends
 
 pub standing-requires : goal.standing-requires
 standing-requires g c = c.run_script.ensures.sound c.requires.sound

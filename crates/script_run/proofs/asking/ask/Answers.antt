@@ -17,15 +17,16 @@ returns-in_err-last-in-Ok-clause-early c =
     let is = heard_ok (answer_to c.args.world.now (Begin c.args.service c.args.request)) c.in-Ok.begun (sym c.in-Ok.is ∙ c.in_ok-begun.ensures.heard) in
     on_err _ (asked_first c.args.world.now c.step.new.world c.follow.new.world c.args.service c.args.request c.in-Ok.begun is c.in_ok-begun.ensures.after c.in_ok-begun.ensures.few c.in_err-last-in-Ok.ensures.early)
 
-pub returns-in_err-tell-in-Ok-clause-early : goal.returns-in_err-tell-in-Ok-clause-early
-returns-in_err-tell-in-Ok-clause-early c =
+pub returns-in_err-text-in-Ok-clause-early : goal.returns-in_err-text-in-Ok-clause-early
+returns-in_err-text-in-Ok-clause-early c =
     let is = heard_ok (answer_to c.args.world.now (Begin c.args.service c.args.request)) c.in-Ok.begun (sym c.in-Ok.is ∙ c.in_ok-begun.ensures.heard) in
     on_err _ (asked_all c.args.world.now c.step.new.world c.follow.new.world c.args.service c.args.request c.in-Ok.begun _ is c.in_ok-begun.ensures.after c.in_ok-begun.ensures.few c.in_ok-last-in-Ok.ensures.run)
 
-pub returns-in_ok-tell-in-Ok-clause-does : goal.returns-in_ok-tell-in-Ok-clause-does
-returns-in_ok-tell-in-Ok-clause-does c =
+pub returns-in_ok-text-in-Ok-clause-does : goal.returns-in_ok-text-in-Ok-clause-does
+returns-in_ok-text-in-Ok-clause-does c =
     let is = heard_ok (answer_to c.args.world.now (Begin c.args.service c.args.request)) c.in-Ok.begun (sym c.in-Ok.is ∙ c.in_ok-begun.ensures.heard) in
-    asked_does c.args.world.now c.step.new.world c.follow.new.world c.args.service c.args.request c.in-Ok.begun _ _ is c.in_ok-begun.ensures.after c.in_ok-begun.ensures.few c.in_ok-last-in-Ok.ensures.run c.in_ok-tell-in-Ok.ensures
+    rw c.printed.ensures
+    (asked_does c.args.world.now c.step.new.world c.follow.new.world c.args.service c.args.request c.in-Ok.begun _ _ is c.in_ok-begun.ensures.after c.in_ok-begun.ensures.few c.in_ok-last-in-Ok.ensures.run c.in_ok-text-in-Ok.ensures)
 
 pub returns-in-Err-clause-does : goal.returns-in-Err-clause-does
 returns-in-Err-clause-does c =

@@ -1,5 +1,5 @@
 -- What an event was told beside its service, as far as its line prints it.
-use Rattle.std.specs.Prelude.{ℕ, List, [], Option, Some, None}
+use Rattle.std.specs.Prelude.{ℕ, List, Option, Some, None}
 use Rattle.world_events.specs.declared.event.Event.{Event}
 use Rattle.world_events.specs.declared.event.Event.TheVariants as event
 use Rattle.script_text.specs.declared.detail.Detail.{Detail}
@@ -16,7 +16,7 @@ detail_of (event.Order service command token who) = Token token
 detail_of (event.Clock moment) = Nothing
 detail_of (event.Seed n) = Nothing
 
--- ---- what it was told; nothing where it was told something else
+-- ---- what it was told; None where it was told something else
 
 abbrev pub packet_told : Detail → Option ℕ
 packet_told Nothing = None
@@ -25,23 +25,23 @@ packet_told (To to) = None
 packet_told (Flight n) = None
 packet_told (Token token) = None
 
-abbrev pub to_in : Detail → List ℕ
-to_in Nothing = []
-to_in (Packet n) = []
-to_in (To to) = to
-to_in (Flight n) = []
-to_in (Token token) = []
+abbrev pub receiver_told : Detail → Option (List ℕ)
+receiver_told Nothing = None
+receiver_told (Packet n) = None
+receiver_told (To to) = Some to
+receiver_told (Flight n) = None
+receiver_told (Token token) = None
 
-abbrev pub flight_in : Detail → ℕ
-flight_in Nothing = 0
-flight_in (Packet n) = 0
-flight_in (To to) = 0
-flight_in (Flight n) = n
-flight_in (Token token) = 0
+abbrev pub flight_told : Detail → Option ℕ
+flight_told Nothing = None
+flight_told (Packet n) = None
+flight_told (To to) = None
+flight_told (Flight n) = Some n
+flight_told (Token token) = None
 
-abbrev pub token_in : Detail → List ℕ
-token_in Nothing = []
-token_in (Packet n) = []
-token_in (To to) = []
-token_in (Flight n) = []
-token_in (Token token) = token
+abbrev pub token_told : Detail → Option (List ℕ)
+token_told Nothing = None
+token_told (Packet n) = None
+token_told (To to) = None
+token_told (Flight n) = None
+token_told (Token token) = Some token
