@@ -6,7 +6,7 @@ use Rattle.world_events.specs.Worlds.{World}
 use Rattle.world_events.specs.declared.event.Event.{Event}
 use Rattle.world_events.specs.declared.event.Event.TheVariants.{Deliver, Post as Posts, Step}
 use Rattle.world_delivery_laws.specs.Runs.{written}
-use Rattle.world_settle.specs.Doing.{IsSettled}
+use Rattle.world_settle.specs.Doing.{AreOfSettling, IsSettled}
 use Rattle.world_settle.specs.Settles.{AreExchanges, AreRounds, EachInOrder, Follows, IsDelivered, IsExchange, IsPosting, IsRound, IsSettling, IsShare, IsStepping, Then, any_came, came, counted, entries_of, goes_on, has_work, how_many, is_done, is_post, is_run, names_of, others, outstanding_for, rounds_with_work}
 use Rattle.world_settle.specs.declared.settled.Settled.{Settled}
 
@@ -220,3 +220,10 @@ settled w n =
       are = is;
       alone = λ others theirs are. settling_one w n others (flat_map (λ round. round) list.0) theirs (counts_of w list.0) are is;
     }
+
+-- as what a line of a script comes to
+pub of_settling_has : (n : ℕ) (w : World) → Has (AreOfSettling n) w
+of_settling_has n w = (let s = settled w n in (s.events, (s.counts, s.are)))
+
+pub of_settling_one : (n : ℕ) (w : World) → One (AreOfSettling n) w
+of_settling_one n w xs ys a b = (settling_one w n xs ys a.0 b.0 a.1 b.1).0

@@ -1,5 +1,5 @@
 -- Events that happen part by part, and what is counted of them.
-use Rattle.std.proofs.Common.{◌≡◌, ℕ, Bool, ◌||◌, List, [], ◌∷◌, ◌++◌, Result, Ok, Err, OnOk, OnErr, if◌then◌else◌, append_assoc, refl, ap, sym, ◌∙◌, subst}
+use Rattle.std.proofs.Common.{◌≡◌, ℕ, Bool, ◌||◌, List, [], ◌∷◌, ◌++◌, Result, Ok, Err, OnOk, OnErr, if◌then◌else◌, append_assoc, length, take, refl, ap, sym, ◌∙◌, subst}
 use Rattle.call_registers.specs.Changes.{raised}
 use Rattle.world_events.specs.Events.{after_event, after_events, answer_to}
 use Rattle.world_events.specs.Sound.{AllFew, AreFew}
@@ -44,6 +44,11 @@ happened_then start mid now xs ys a b =
       world = b.world ∙ ap (λ w. after_events w ys) a.world ∙ sym (after_append start xs ys);
       few = few_append start xs ys a.few (subst F a.world b.few);
     }
+
+-- the first of some events and others are these
+pub take_done : (done rest : List Event) → take (length done) (done ++ rest) ≡ done
+take_done [] rest = refl
+take_done (e ∷ done) rest = ap (λ es. e ∷ es) (take_done done rest)
 
 -- ---- counts
 

@@ -1,8 +1,8 @@
-mod ComeToEnd
+pub mod ComeToEnd
 mod CountLemmas
-mod EventLemmas
+pub mod EventLemmas
 mod ExchangeLaws
 mod Parts
 mod PostLemmas
+pub mod RestLaws
 mod Telling
-mod RestLaws
