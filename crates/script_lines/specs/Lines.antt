@@ -16,7 +16,7 @@ use Rattle.journal_rows.specs.declared.orders.Command.TheVariants.{Cancel, Resto
 use Rattle.report_text.specs.Escapes.{unescaped}
 use Rattle.world_events.specs.declared.event.Event.TheVariants as event
 use Rattle.script_lines.specs.declared.line.Line.{Line}
-use Rattle.script_lines.specs.declared.line.Line.TheVariants.{Blank, Event, Ask, Rows, Log, Notices, Dump, Audit}
+use Rattle.script_lines.specs.declared.line.Line.TheVariants.{Blank, Event, Ask, Settle, Rows, Log, Notices, Dump, Audit}
 use Rattle.script_lines.specs.declared.line.LineFault.{LineFault}
 use Rattle.script_lines.specs.declared.line.LineFault.TheVariants.{Text, Word, Shape}
 
@@ -209,6 +209,10 @@ clock_at rest = with_part (number_at rest) (λ n. where_good (nat_le n 922337203
 abbrev pub seed_at : Option (List ℕ) → Option Line
 seed_at rest = with_part (number_at rest) (λ n. Some (Event (event.Seed n)))
 
+-- from 1 to 1,000 rounds
+abbrev pub settle_at : Option (List ℕ) → Option Line
+settle_at rest = with_part (number_at rest) (λ n. where_good (nat_lt 0 n && nat_le n 1000) (Some (Settle n)))
+
 -- ---- a whole line
 
 -- what a line says, or the number of its fault
@@ -237,12 +241,13 @@ words_at word rest =
     else (if same_text word (codes "retry") then shaped (retry_at rest)
     else (if same_text word (codes "clock") then shaped (clock_at rest)
     else (if same_text word (codes "seed") then shaped (seed_at rest)
+    else (if same_text word (codes "settle") then shaped (settle_at rest)
     else (if same_text word (codes "rows") then shaped (service_at Rows rest)
     else (if same_text word (codes "log") then shaped (service_at Log rest)
     else (if same_text word (codes "notices") then shaped (service_at Notices rest)
     else (if same_text word (codes "dump") then shaped (at_end rest (Some Dump))
     else (if same_text word (codes "audit") then shaped (at_end rest (Some Audit))
-    else Err Word))))))))))))))))))
+    else Err Word)))))))))))))))))))
 
 -- an empty line or a comment
 abbrev pub is_passed_over : List ℕ → Bool

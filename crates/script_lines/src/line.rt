@@ -53,6 +53,8 @@ pub enum Line {
     Event(Event),
     /// `ask S WHO METHOD PATH BODY`: a request from outside arrives, and its calls are delivered until it is committed.
     Ask { service: Name, request: Request },
+    /// `settle N`: at most so many rounds of repair at all services, from 1 to 1,000.
+    Settle(u64),
     /// `rows S`: the rows.
     Rows { service: Name },
     /// `log S`: the log.

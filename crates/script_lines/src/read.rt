@@ -2,7 +2,7 @@
 ghost use Rattle.std.specs.Prelude.{◌≡◌, ℕ, List, IfOk, Some};
 ghost use Rattle.std.specs.Option.{option_map};
 ghost use Rattle.world_events.specs.declared.event.Event.{Event};
-ghost use Rattle.script_lines.specs.Lines.{abandon_at, at_end, clock_at, deliver_at, is_passed_over, line_at, lose_at, number_at, packet_at, post_at, seed_at, service_at, shaped, two_words, words_at};
+ghost use Rattle.script_lines.specs.Lines.{abandon_at, at_end, clock_at, deliver_at, is_passed_over, line_at, lose_at, number_at, packet_at, post_at, seed_at, service_at, settle_at, shaped, two_words, words_at};
 
 use crate::asking::{read_ask, read_begin};
 use crate::line::{Line, LineFault};
@@ -12,6 +12,9 @@ use lang_core::{LAST_MOMENT, Name, NoMemory};
 use request_names::read_number;
 use std::alloc::Global;
 use world_events::Event;
+
+// The most rounds that one line may ask for.
+const MOST_ROUNDS: u64 = 1000;
 
 // `S` alone
 #[tactic(auto, unfolding(crate::specs::Lines::service_at))]
@@ -176,6 +179,16 @@ fn read_seed(rest: Option<&str>) -> Option<Line>
     Some(Line::Event(Event::Seed(number)))
 }
 
+fn read_settle(rest: Option<&str>) -> Option<Line>
+    ensures { result ≡ settle_at (option_map (λ x. x.now) rest.entry) }
+{
+    let rounds = number_alone(rest)?;
+    if rounds == 0 || rounds > MOST_ROUNDS {
+        return None;
+    }
+    Some(Line::Settle(rounds))
+}
+
 fn shaped(line: Option<Line>) -> Result<Line, LineFault>
     ensures { result ≡ shaped line }
 {
@@ -208,6 +221,7 @@ fn read_words(
         "retry" => Ok(shaped(read_retry(alloc, rest)?)),
         "clock" => Ok(shaped(read_clock(rest))),
         "seed" => Ok(shaped(read_seed(rest))),
+        "settle" => Ok(shaped(read_settle(rest))),
         "rows" => Ok(shaped(read_rows(alloc, rest)?)),
         "log" => Ok(shaped(read_log(alloc, rest)?)),
         "notices" => Ok(shaped(read_notices(alloc, rest)?)),

@@ -200,6 +200,10 @@ followed start first before now last f = record {
   told = sym (f.told []);
 }
 
+pub take_done : (done more : List Event) → take (length done) (done ++ more) ≡ done
+take_done [] more = refl
+take_done (e ∷ done) more = ap (λ es. e ∷ es) (take_done done more)
+
 -- and where memory is wanting, some first of them are done
 pub followed_first : (start : World) (first : Option ℕ) (before : Last) (now : World) (next : Option ℕ) (last : Last) → Follows start first before now next last
     → DoesFirst start (IsRun start first) now
@@ -212,10 +216,6 @@ followed_first start first before now next last f =
       count = length f.done;
       done = subst D (sym (take_done f.done rest.0)) f.happened;
     }
-  where
-    take_done : (done more : List Event) → take (length done) (done ++ more) ≡ done
-    take_done [] more = refl
-    take_done (e ∷ done) more = ap (λ es. e ∷ es) (take_done done more)
 
 -- ---- the request, and what follows
 

@@ -3,6 +3,7 @@ pub mod LineLaws
 pub mod PlayLaws
 pub mod AuditLaws
 pub mod Following
+pub mod SettlingLaws
 pub mod Standing
 pub mod DumpLemmas
 pub mod HandedOn

@@ -10,11 +10,15 @@ use Rattle.world_events.specs.declared.event.WorldStepRefused.{WorldStepRefused}
 use Rattle.world_delivery_laws.specs.Runs.{IsAsking}
 use Rattle.world_delivery_laws.proofs.RunLaws.{asking_live, has_asking, one_asking}
 use Rattle.world_delivery_laws.proofs.StillLaws.{event_still, asking_still}
+use Rattle.world_settle.specs.declared.settled.Settled.{Settled}
+use Rattle.world_settle.proofs.ComeToEnd.{settled}
 use Rattle.script_lines.specs.Lines.{Read}
 use Rattle.script_lines.specs.declared.line.Line.{Line}
-use Rattle.script_lines.specs.declared.line.Line.TheVariants.{Blank, Event as One, Ask, Rows, Log, Notices, Dump, Audit}
+use Rattle.script_lines.specs.declared.line.Line.TheVariants.{Blank, Event as One, Ask, Settle, Rows, Log, Notices, Dump, Audit}
 use Rattle.script_lines.specs.declared.line.LineFault.{LineFault}
+use Rattle.script_run.specs.Settling.{settled_said}
 use Rattle.script_run.specs.Told.{LineAnswer, last_line, said_of, events_said}
+use Rattle.script_run.specs.declared.counts.Said.{Said}
 use Rattle.script_run.specs.Plays.{AreEventsFor, AreEventsOf, IsLiveLine, Says, SaysFor}
 
 -- ---- the events of a line
@@ -24,6 +28,7 @@ has_events : (w : World) (line : Line) → (events : List Event) × AreEventsOf 
 has_events w Blank = ([], refl)
 has_events w (One e) = (e ∷ [], refl)
 has_events w (Ask service q) = has_asking w service q
+has_events w (Settle n) = let s = settled w n in (s.events, (s.counts, s.are))
 has_events w (Rows service) = ([], refl)
 has_events w (Log service) = ([], refl)
 has_events w (Notices service) = ([], refl)
@@ -39,6 +44,7 @@ one_list : (w : World) (line : Line) (xs ys : List Event) → AreEventsOf w line
 one_list w Blank xs ys a b = a ∙ sym b
 one_list w (One e) xs ys a b = a ∙ sym b
 one_list w (Ask service q) xs ys a b = one_asking w service q xs ys a b
+one_list w (Settle n) xs ys a b = let s = settled w n in (s.alone xs a.0 a.1).0 ∙ sym (s.alone ys b.0 b.1).0
 one_list w (Rows service) xs ys a b = a ∙ sym b
 one_list w (Log service) xs ys a b = a ∙ sym b
 one_list w (Notices service) xs ys a b = a ∙ sym b
@@ -56,6 +62,7 @@ has_said : (w : World) (line : Line) (events : List Event) → AreEventsOf w lin
 has_said w Blank events are = (_, refl)
 has_said w (One e) events are = (_, refl)
 has_said w (Ask service q) events are = (_, refl)
+has_said w (Settle n) events are = (Ok (settled_said are.0), (are.0, are.1, refl))
 has_said w (Rows service) events are = (_, refl)
 has_said w (Log service) events are = (_, refl)
 has_said w (Notices service) events are = (_, refl)
@@ -71,6 +78,11 @@ one_said : (w : World) (line : Line) (events : List Event) (a b : LineAnswer) �
 one_said w Blank events a b x y = x ∙ sym y
 one_said w (One e) events a b x y = x ∙ sym y
 one_said w (Ask service q) events a b x y = x ∙ sym y
+one_said w (Settle n) events a b x y =
+    let s = settled w n in
+    let same : x.0 ≡ y.0 = (s.alone events x.0 x.1).1 ∙ sym (s.alone events y.0 y.1).1 in
+    let S : Settled → LineAnswer = λ counts. Ok (settled_said counts) in
+    x.2 ∙ ap S same ∙ sym y.2
 one_said w (Rows service) events a b x y = x ∙ sym y
 one_said w (Log service) events a b x y = x ∙ sym y
 one_said w (Notices service) events a b x y = x ∙ sym y
@@ -104,10 +116,14 @@ ask_still w service q (e ∷ events) fault asks says =
     let r = refusal (event.Begin service q) (answer_to w (event.Begin service q)) (last_line w (event.Begin service q ∷ events)) fault (subst A asks.0 says) in
     asking_still w service q (e ∷ events) r.0 asks r.1
 
+ok_is_no_fault : (fault : LineFault) (said : Said) → ◌≡◌ {A = LineAnswer} (Err fault) (Ok said) → ⊥
+ok_is_no_fault fault said is = cc
+
 line_still : (w : World) (line : Line) (events : List Event) (fault : LineFault) → AreEventsOf w line events → Says w line events (Err fault) → after_events w events ≡ w
 line_still w Blank events fault are e = none_still w events are
 line_still w (One one) events fault are e = one_still w one events fault are e
 line_still w (Ask service q) events fault are e = ask_still w service q events fault are e
+line_still w (Settle n) events fault are e = let no : ⊥ = ok_is_no_fault fault (settled_said e.0) e.2 in absurd no
 line_still w (Rows service) events fault are e = none_still w events are
 line_still w (Log service) events fault are e = none_still w events are
 line_still w (Notices service) events fault are e = none_still w events are
@@ -128,6 +144,7 @@ line_live : (w : World) (line : Line) (events : List Event) → IsLiveLine (Ok l
 line_live w Blank events live are = same_live events _ are tt
 line_live w (One e) events live are = same_live events _ are (live, tt)
 line_live w (Ask service q) events live are = asking_live w service q events are
+line_live w (Settle n) events live are = absurd live
 line_live w (Rows service) events live are = same_live events _ are tt
 line_live w (Log service) events live are = same_live events _ are tt
 line_live w (Notices service) events live are = same_live events _ are tt

@@ -2,6 +2,7 @@ pub mod Told
 pub mod Audits
 pub mod Counting
 pub mod Plays
+pub mod Settling
 pub mod Stops
 pub mod Deliveries
 pub mod Dumps

@@ -12,15 +12,17 @@ use Rattle.world_events.specs.Live.{IsLiveEvent}
 use Rattle.world_events.specs.Worlds.{World}
 use Rattle.world_events.specs.declared.event.Event.{Event}
 use Rattle.world_delivery_laws.specs.Runs.{IsAsking}
+use Rattle.world_settle.specs.Doing.{AreOfSettling}
 use Rattle.script_lines.specs.Faults.{fault_number}
 use Rattle.script_lines.specs.Lines.{Read, line_at}
 use Rattle.script_lines.specs.declared.line.Line.{Line}
-use Rattle.script_lines.specs.declared.line.Line.TheVariants.{Blank, Event as One, Ask, Rows, Log, Notices, Dump, Audit}
+use Rattle.script_lines.specs.declared.line.Line.TheVariants.{Blank, Event as One, Ask, Settle, Rows, Log, Notices, Dump, Audit}
 use Rattle.script_lines.specs.declared.line.LineFault.{LineFault}
 use Rattle.script_lines.specs.declared.line.LineFault.TheVariants.{Service, TooLong}
 use Rattle.script_run.specs.Audits.{verdict}
 use Rattle.script_run.specs.Counting.{nothing_said, printed, said_then}
 use Rattle.script_run.specs.Dumps.{dump_text}
+use Rattle.script_run.specs.Settling.{SaysSettled}
 use Rattle.script_run.specs.Told.{LineAnswer, events_said}
 use Rattle.script_run.specs.declared.counts.Said.{Said}
 
@@ -31,6 +33,7 @@ abbrev pub AreEventsOf : World → Line → List Event → Type 0
 AreEventsOf w Blank events = events ≡ []
 AreEventsOf w (One e) events = events ≡ e ∷ []
 AreEventsOf w (Ask service request) events = IsAsking w service request events
+AreEventsOf w (Settle n) events = AreOfSettling n w events
 AreEventsOf w (Rows service) events = events ≡ []
 AreEventsOf w (Log service) events = events ≡ []
 AreEventsOf w (Notices service) events = events ≡ []
@@ -59,6 +62,7 @@ audit_text services = verdict_text (map me services) (verdict services)
 
 -- what a line says of its events, or which of the things that it names isn't there: a service, a packet or a flight
 abbrev pub Says : World → Line → List Event → LineAnswer → Type 0
+Says w (Settle n) events said = SaysSettled n w events said
 Says w (Rows service) events said = said ≡ report_of rows_of_service (service_of service w.services)
 Says w (Log service) events said = said ≡ report_of log_of_service (service_of service w.services)
 Says w (Notices service) events said = said ≡ report_of notices_of_service (service_of service w.services)
@@ -156,9 +160,10 @@ AreEventsIn w (line ∷ lines) events = AreEventsFor w (line_at line) events
 
 -- ---- scripts of live requests
 
--- a line of live requests alone, or a report: no step, no order, no post. What can't be read does nothing
+-- a line of live requests alone, or a report: no step, no order, no post, no settling. What can't be read does nothing
 abbrev pub IsLiveLine : Read → Type 0
 IsLiveLine (Ok (One e)) = IsLiveEvent e
+IsLiveLine (Ok (Settle n)) = ⊥
 IsLiveLine (Ok other) = Unit {0}
 IsLiveLine (Err fault) = Unit {0}
 

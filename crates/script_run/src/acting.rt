@@ -7,6 +7,7 @@ ghost use Rattle.script_run.specs.Stops.{Does, DoesFirst};
 use crate::asking::ask;
 use crate::counts::Said;
 use crate::reports::{dump, log, notices, rows, verdict_over};
+use crate::settling::settle_all;
 use crate::telling::happen;
 use lang_core::{NoMemory, Text};
 use script_lines::{Line, LineFault};
@@ -35,6 +36,7 @@ pub fn act(
         Line::Blank => silent(alloc),
         Line::Event(event) => happen(alloc, world, event),
         Line::Ask { service, request } => ask(alloc, world, service, request),
+        Line::Settle(rounds) => settle_all(alloc, world, rounds),
         Line::Rows { service } => rows(alloc, world, &service),
         Line::Log { service } => log(alloc, world, &service),
         Line::Notices { service } => notices(alloc, world, &service),

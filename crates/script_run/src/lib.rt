@@ -10,6 +10,7 @@ mod dump_words;
 mod dumping;
 mod reports;
 mod script;
+mod settling;
 mod telling;
 
 pub use acting::act;

@@ -150,6 +150,7 @@ fn spelled(rt: &(impl Abort + AllocGlobal), line: &Line) -> String {
         Line::Blank => alone(rt, "blank"),
         Line::Event(event) => event_spelled(rt, event),
         Line::Ask { service, request } => asking(rt, "ask", service, request),
+        Line::Settle(rounds) => counted(rt, "settle", *rounds),
         Line::Rows { service } => named(rt, "rows", service),
         Line::Log { service } => named(rt, "log", service),
         Line::Notices { service } => named(rt, "notices", service),
@@ -354,6 +355,16 @@ retry[shop][reply[18446744073709551615]][t][ann]|retry shop t ann reply:18446744
 3|retry Shop t ann call:7|
 3|retry shop t  call:7|
 3|retry shop  ann call:7|
+settle[1]|settle 1|
+settle[1000]|settle 1000|
+3|settle 1001|
+3|settle 0|
+3|settle 01|
+3|settle -1|
+3|settle|
+3|settle |
+3|settle 5 |
+3|settle shop|
 clock[0]|clock 0|
 clock[9223372036854775807]|clock 9223372036854775807|
 3|clock 9223372036854775808|
