@@ -1,2 +1,2 @@
 -- Laws of worlds as they begin, for the crate above.
-pub use Rattle.world_core.proofs.HandedOn.{fresh_live, fresh_sound}
+pub use Rattle.world_settle.proofs.HandedOn.{fresh_live, fresh_sound}

@@ -8,7 +8,7 @@ use Rattle.world_events.specs.Live.{AllLiveEvents}
 use Rattle.world_events.specs.Sound.{AllFew, IsSound}
 use Rattle.world_events.specs.Worlds.{World}
 use Rattle.world_events.specs.declared.event.Event.{Event}
-use Rattle.world_core.proofs.HandedOn.{events_sound, live_events}
+use Rattle.world_settle.proofs.HandedOn.{events_sound, live_events}
 use Rattle.script_lines.specs.Faults.{fault_number}
 use Rattle.script_lines.specs.Lines.{line_at}
 use Rattle.script_lines.specs.declared.line.LineFault.{LineFault}

@@ -12,7 +12,7 @@ use crate::telling::happen;
 use lang_core::{NoMemory, Text};
 use script_lines::{Line, LineFault};
 use std::alloc::Global;
-use world_core::World;
+use world_settle::World;
 
 // A line that prints nothing.
 fn silent(alloc: Global) -> Result<Result<Said, LineFault>, NoMemory>

@@ -12,7 +12,7 @@ use lang_core::{Name, NoMemory, Request};
 use script_lines::LineFault;
 use script_text::Detail;
 use std::alloc::Global;
-use world_core::{Event, Happened, World};
+use world_settle::{Event, Happened, World};
 
 /// What happened last, and what its event was told.
 #[derive(Drop)]

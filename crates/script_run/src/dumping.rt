@@ -10,7 +10,7 @@ use handler_lang::print_program;
 use lang_core::{Cell, Cells, NoMemory, Text};
 use report_text::{push_body_behind, push_key};
 use std::alloc::Global;
-use world_core::Service;
+use world_settle::Service;
 
 fn push_head(alloc: Global, text: &mut String, service: &Service) -> Result<(), NoMemory>
     ensures { OnOk result (string_bytes text.new ≡ string_bytes text.old ++ head_lines service.now) }

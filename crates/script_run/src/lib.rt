@@ -18,4 +18,4 @@ pub use counts::{Counts, Said};
 pub use dumping::dump_text;
 pub use reports::judge;
 pub use script::{LONGEST_SCRIPT, ScriptRefused, run_script};
-pub use world_core::{Service, World};
+pub use world_settle::{Service, World};

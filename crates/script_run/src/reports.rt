@@ -22,7 +22,7 @@ use report_text::{log_text, notices_text, rows_text, verdict_text};
 use script_lines::LineFault;
 use std::alloc::Global;
 use world_audit::audit;
-use world_core::{Service, World};
+use world_settle::{Service, World};
 
 fn rows_of(alloc: Global, service: &Service) -> Result<Text, NoMemory>
     ensures { IfOk result (λ text. text ≡ rows_of_service service.now) }

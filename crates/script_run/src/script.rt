@@ -14,7 +14,7 @@ use io_edge::{Failed, Sink, write_all};
 use lang_core::NoMemory as LacksMemory;
 use script_lines::{LineFault, read_line};
 use std::alloc::Global;
-use world_core::World;
+use world_settle::World;
 
 /// The most bytes of a script.
 pub const LONGEST_SCRIPT: u64 = 16777216;

@@ -8,8 +8,7 @@ use crate::counts::{Counts, Said};
 use lang_core::{NoMemory, Text};
 use script_lines::LineFault;
 use std::alloc::Global;
-use world_core::World;
-use world_settle::{Settled, settle};
+use world_settle::{Settled, World, settle};
 
 fn settled_text(alloc: Global, settled: Settled) -> Result<Text, NoMemory>
     ensures { IfOk result (λ text. text ≡ settled_text settled) }

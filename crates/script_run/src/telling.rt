@@ -13,7 +13,7 @@ use lang_core::{Name, NoMemory, Text};
 use script_lines::LineFault;
 use script_text::{Detail, happened_line};
 use std::alloc::Global;
-use world_core::{Event, Happened, Service, What, World, WorldStepRefused, world_step};
+use world_settle::{Event, Happened, Service, What, World, WorldStepRefused, world_step};
 
 // What an event names that isn't there.
 fn fault_of(why: WorldStepRefused) -> LineFault

@@ -15,3 +15,4 @@ mod tally;
 
 pub use rounds::settle;
 pub use settled::Settled;
+pub use world_core::{Event, Happened, Service, What, World, WorldStepRefused, world_step};
