@@ -7,7 +7,7 @@ ghost use Rattle.world_events.specs.Sound.{IsSound};
 ghost use Rattle.script_run.specs.Audits.{SaysForged};
 ghost use Rattle.world_agreement.specs.Legal.{AreLegal};
 ghost use Rattle.world_file.specs.Worlds.{KnowEachOther};
-ghost use Rattle.aire_top.specs.Closings.{ClosesWorldless, RunsIn};
+ghost use Rattle.aire_top.specs.Closings.{ClosesWorldless};
 ghost use Rattle.aire_top.specs.Endings.{IsGoodRun, RunEnds, ScriptEnds, answer, outside};
 ghost use Rattle.aire_top.specs.Top.{fitting, fresh, fresh_service, words_of};
 
@@ -82,35 +82,6 @@ fn started(alloc: Global, setups: &[Setup]) -> Result<World, NoMemory>
     Ok(World::new(alloc, services))
 }
 
-// Runs the script that a word names in a new world of these services.
-fn run_in<F: Files, S: Source, K: Sink>(
-    alloc: Global,
-    setups: Vec<Setup>,
-    script: &str,
-    files: &mut F,
-    input: &mut S,
-    out: &mut K,
-) -> Ended
-    requires { KnowEachOther setups.items }
-    ensures ends { RunsIn setups.items script.now
-        (outside (F.loads files.old) (S.reads input.old) (K.writes out.old))
-        (outside (F.loads files.new) (S.reads input.new) (K.writes out.new))
-        (answer result.status result.services.items result.verdict) }
-    ensures legal { result.verdict ≡ Some Legal → AreLegal result.services.items }
-    ensures joined { IfSome result.verdict (λ v. ¬ (SaysForged v)) }
-    ensures allowed { IfSome result.verdict (λ v. All IsAllowed result.services.items) }
-{
-    let Ok(world) = started(alloc, &setups) else {
-        return lacking(alloc, out);
-    };
-    match load_script(alloc, script, files, input) {
-        Ok(script) => play(alloc, world, script.as_slice(), out),
-        Err(ReadRefused::NoMemory) => lacking(alloc, out),
-        Err(ReadRefused::Fault) => unread(alloc, out),
-        Err(ReadRefused::TooLong) => refusal(alloc, world, out, 0, 7),
-    }
-}
-
 // Runs a script in a new world, each named by a word.
 fn run<F: Files, S: Source, K: Sink>(
     alloc: Global,
@@ -128,9 +99,18 @@ fn run<F: Files, S: Source, K: Sink>(
     ensures joined { IfSome result.verdict (λ v. ¬ (SaysForged v)) }
     ensures allowed { IfSome result.verdict (λ v. All IsAllowed result.services.items) }
 {
-    match load_world(alloc, world, files) {
-        Ok(setups) => run_in(alloc, setups, script, files, input, out),
-        Err(why) => worldless(alloc, why, out),
+    let setups = match load_world(alloc, world, files) {
+        Ok(setups) => setups,
+        Err(why) => return worldless(alloc, why, out),
+    };
+    let Ok(world) = started(alloc, &setups) else {
+        return lacking(alloc, out);
+    };
+    match load_script(alloc, script, files, input) {
+        Ok(script) => play(alloc, world, script.as_slice(), out),
+        Err(ReadRefused::NoMemory) => lacking(alloc, out),
+        Err(ReadRefused::Fault) => unread(alloc, out),
+        Err(ReadRefused::TooLong) => refusal(alloc, world, out, 0, 7),
     }
 }
 
