@@ -1,6 +1,7 @@
 // Services that ask their rules, what they deny and hold, and how services settle: worked examples, by the bytes that their
 // scripts print.
 use crate::memory::{ran, ran_in};
+use std::process::Abort;
 
 // The bank takes deletions from an administrator alone.
 const STRICT: &str =
