@@ -1,4 +1,5 @@
 pub mod ChangeLemmas
 pub mod OverlayLemmas
+pub mod QueueLemmas
 pub mod ReplyLemmas
 pub mod WaitingLemmas

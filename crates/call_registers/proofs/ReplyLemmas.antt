@@ -1,11 +1,17 @@
 -- Replies are changed by their place, and stay in order.
-use Rattle.std.proofs.Common.{◌≡◌, ◌∙◌, sym, ap, refl, ℕ, zero, suc, ◌+◌, ◌<◌, Bool, true, false, List, [], ◌∷◌, ◌++◌, set, get_or, find, nat_eq, arith, subst}
+use Rattle.std.proofs.Common.{◌≡◌, ◌∙◌, sym, ap, refl, ℕ, zero, suc, ◌+◌, ◌<◌, Bool, true, false, List, [], ◌∷◌, ◌++◌, Some, length, set, get_or, find, nat_eq, arith, subst}
+use Rattle.std.proofs.lemmas.Option.{cond_some}
+use Rattle.lang_lists.specs.Keys.{text_key}
+use Rattle.lang_lists.specs.Ages.{of_code, IsRising as KeysRise}
+use Rattle.lang_lists.specs.declared.age_keys.AgeKey.{AgeKey}
+use Rattle.call_registers.specs.Queues.{IsQueue}
+use Rattle.call_registers.proofs.QueueLemmas.{are_oldest_first}
 use Rattle.std.proofs.lemmas.Bool.Decides.{nat_tests}
 use Rattle.lang_lists.specs.Numbers.{RisesFrom, IsRising as NumbersRise, IsAt, IsMissing}
 use Rattle.lang_lists.proofs.NumberLemmas.{found_nowhere, none_there}
 use Rattle.call_registers.proofs.ChangeLemmas.{pass, fail}
 use Rattle.call_registers.specs.Changes.{change}
-use Rattle.call_registers.specs.Replies.{has_entry, IsThere, IsAboveAll, IsBelowAll, IsRising, at_entry, changed}
+use Rattle.call_registers.specs.Replies.{age_key, due_key, has_entry, reply, AreDue, IsThere, IsAboveAll, IsBelowAll, IsRising, at_entry, changed}
 use Rattle.call_registers.specs.declared.reply.ReplyChange.{ReplyChange}
 use Rattle.call_registers.specs.declared.reply.ReplyChange.TheVariants.{Take, Answer, Confirm, Due, Hold, Release}
 use Rattle.call_registers.specs.declared.reply.Reply.{Reply}
@@ -74,6 +80,36 @@ below_push id (x ∷ ps) p h w = (h.0, below_push id ps p h.1 w)
 pub rising_push : (ps : List Reply) (p : Reply) → IsRising ps → IsAboveAll p.id ps → IsRising (ps ++ p ∷ [])
 rising_push [] p h w = (tt, tt)
 rising_push (x ∷ ps) p h w = (below_push x.id ps p h.0 w.0, rising_push ps p h.1 w.1)
+
+-- ---- those that are due
+
+below_at : (id i : ℕ) (ps : List Reply) (d : Reply) → IsBelowAll id ps → i < length ps → id < (get_or ps i d).id
+below_at id i [] d h lt = absurd (omega (arith, lt))
+below_at id zero (p ∷ ps) d h lt = h.0
+below_at id (suc i) (p ∷ ps) d h lt = below_at id i ps d h.1 (omega (arith, lt))
+
+pub rises_at : (i j : ℕ) (ps : List Reply) (d : Reply) → IsRising ps → i < j → j < length ps → (get_or ps i d).id < (get_or ps j d).id
+rises_at i j [] d h less lt = absurd (omega (arith, lt))
+rises_at i zero (p ∷ ps) d h less lt = absurd (omega (arith, less))
+rises_at zero (suc j) (p ∷ ps) d h less lt = below_at p.id j ps d h.0 (omega (arith, lt))
+rises_at (suc i) (suc j) (p ∷ ps) d h less lt = rises_at i j ps d h.1 (omega (arith, less)) (omega (arith, lt))
+
+-- the reply at a place is the one of its entry
+pub found_itself : (ps : List Reply) (i : ℕ) (d : Reply) → IsRising ps → i < length ps → reply (get_or ps i d).id ps ≡ Some (get_or ps i d)
+found_itself [] i d h lt = absurd (omega (arith, lt))
+found_itself (p ∷ ps) zero d h lt = let same = itself p.id p.id refl in rw same refl
+found_itself (p ∷ ps) (suc i) d h lt =
+    let less : i < length ps = omega (arith, lt) in
+    let other = another (get_or ps i d).id p.id (below_at p.id i ps d h.0 less) in
+    rw other (found_itself ps i d h.1 less)
+
+due_named : (p : Reply) (k : AgeKey) → due_key p ≡ Some k → k.number ≡ p.id
+due_named p k e = ap (λ (x : AgeKey). x.number) (sym (cond_some p.due (age_key p) k e).1)
+
+pub are_due : (replies : List Reply) (keys : List AgeKey) → IsRising replies → IsQueue due_key replies keys → (caller : List ℕ) (code : ℕ) (found : List AgeKey) → code ≡ text_key caller
+    → found ≡ of_code code keys → KeysRise found → AreDue caller replies found
+are_due replies keys rises queued caller code found same is rising =
+    are_oldest_first due_key (λ p. p.id) has_entry replies keys due_named (λ i d lt. found_itself replies i d rises lt) queued (text_key caller) code found same is rising
 
 -- no change of a reply changes its entry
 pub entry_stays : (change : ReplyChange) (p : Reply) → (changed change p).id ≡ p.id

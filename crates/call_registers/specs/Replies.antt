@@ -1,6 +1,10 @@
 -- Replies: which entry has one, and what each change makes of them.
-use Rattle.std.specs.Prelude.{ℕ, ◌≤◌, ◌<◌, Bool, ◌&&◌, not, List, [], ◌∷◌, Option, Some, None, IsSome, nat_eq, find}
+use Rattle.std.specs.Prelude.{ℕ, ◌≤◌, ◌<◌, Bool, ◌&&◌, not, List, [], ◌∷◌, Option, Some, None, IsSome, if◌then◌else◌, nat_eq, find}
+use Rattle.std.specs.Option.{option_and_then}
+use Rattle.lang_lists.specs.Keys.{text_key}
+use Rattle.lang_lists.specs.declared.age_keys.AgeKey.{AgeKey}
 use Rattle.call_registers.specs.Changes.{change}
+use Rattle.call_registers.specs.Queues.{AreOldestFirst, IsQueue}
 use Rattle.call_registers.specs.contracts.replies.RepliesCall as call
 use Rattle.call_registers.specs.declared.register.Hold.{Hold}
 use Rattle.call_registers.specs.declared.replies.RepliesCall.{RepliesCall}
@@ -78,9 +82,27 @@ changed (Due since) p = made_due since p
 changed (HoldBack hold) p = with_hold hold p
 changed (Release who) p = released who p
 
--- what replies keep: their order, and places for the calls for which room was made
-pub record IsKept (replies : List Reply) (taken places : ℕ) : Type 0 where
+-- ---- those that are due, by whom they go to and since when
+
+abbrev pub age_key : Reply → AgeKey
+age_key p = record { code = text_key p.caller; since = p.since; number = p.id }
+
+-- the key of a reply that is due
+abbrev pub due_key : Reply → Option AgeKey
+due_key p = if p.due then Some (age_key p) else None
+
+-- that of the reply of an entry
+abbrev pub key_of : List Reply → ℕ → Option AgeKey
+key_of replies id = option_and_then due_key (reply id replies)
+
+-- these are the keys of the due replies to services whose names have the key of this name, the oldest first
+abbrev pub AreDue : List ℕ → List Reply → List AgeKey → Type 0
+AreDue caller replies keys = AreOldestFirst (text_key caller) (key_of replies) keys
+
+-- what replies keep: their order, the keys of those that are due, and places for the calls for which room was made
+pub record IsKept (replies : List Reply) (keys : List AgeKey) (taken places : ℕ) : Type 0 where
   pub rising : IsRising replies
+  pub queued : IsQueue due_key replies keys
   pub room : taken ≤ places
 
 -- ---- room

@@ -1,16 +1,17 @@
 // The replies of a service.
-ghost use Rattle.std.specs.Prelude.{◌≡◌, ◌↔◌, ◌+◌, ◌<◌, ◌≤◌, [], ◌∷◌, ◌++◌, length, slice_get, position, IfOk, IsOk, OnOk, OnErr, IsTrue, vec_len, vec_capacity};
+ghost use Rattle.std.specs.Prelude.{◌≡◌, ◌↔◌, ◌+◌, ◌<◌, ◌≤◌, [], ◌∷◌, ◌++◌, length, min, slice_get, position, IfOk, IsOk, OnOk, OnErr, IsTrue, vec_len, vec_capacity};
 ghost use Rattle.std.specs.Option.{option_copied};
 ghost use Rattle.lang_base.specs.Equal.{equal};
 ghost use Rattle.lang_lists.specs.Room.{is_made, spend};
-ghost use Rattle.call_registers.specs.Replies.{reply, IsThere, IsAboveAll, IsRising, at_entry, with_taken, with_answer, with_confirm, made_due, with_hold, released, changed, call_code, add_call};
+ghost use Rattle.call_registers.specs.Queues.{IsQueue};
+ghost use Rattle.call_registers.specs.Replies.{reply, due_key, AreDue, IsThere, IsAboveAll, IsRising, at_entry, with_taken, with_answer, with_confirm, made_due, with_hold, released, changed, call_code, add_call};
 ghost use Rattle.call_registers.specs.declared.reply.ReplyChange.{ReplyChange};
 
 use crate::register::Hold;
 use crate::reply::{Reply, ReplyChange, apply};
 use lang_base::copied_items;
-use lang_core::{NoMemory, Text};
-use lang_lists::{find_number, search_number, take_room};
+use lang_core::{Name, NoMemory, Text};
+use lang_lists::{AgeKey, AgeQueue, find_number, search_number, take_room, text_key};
 use std::alloc::Global;
 use std::marker::Model;
 
@@ -20,36 +21,90 @@ pub struct RepliesCall {
     pub id: u64,
 }
 
-/// The replies of a service, in the order of their entries' numbers.
+/// The replies of a service, in the order of their entries' numbers. Of those that are due it keeps the order by receiver and
+/// age; a change of one takes no memory.
 #[derive(Drop)]
 pub struct Replies {
     list: Vec<Reply>,
+    // It has a place for each reply, and for each for which room was made.
+    due: AgeQueue,
     room: Vec<RepliesCall>,
 }
 
 impl Model for Replies {
-    ghost use Rattle.std.specs.Prelude.{◌+◌, vec_len, vec_capacity};
+    ghost use Rattle.std.specs.Prelude.{◌+◌, min, vec_len, vec_capacity};
     ghost use Rattle.call_registers.specs.Replies.{KeptReplies, IsKept};
 
     ghost Value = { KeptReplies };
 
     ghost view = { λ r. record { list = r.list.items; room = r.room.items } };
 
-    ghost invariant = { λ r. IsKept r.list.items (vec_len r.list + vec_len r.room) (vec_capacity r.list) };
+    ghost invariant = { λ r. IsKept r.list.items r.due.keys (vec_len r.list + vec_len r.room) (min (vec_capacity r.list) r.due.places) };
 }
 
-fn change_in(list: &mut Vec<Reply>, id: u64, change: ReplyChange)
+// The key of a reply that is due.
+fn due_key(reply: &Reply) -> Option<AgeKey>
+    ensures { result ≡ due_key reply.now }
+{
+    if reply.due {
+        Some(AgeKey {
+            code: text_key(reply.caller.text()),
+            since: reply.since,
+            number: reply.id,
+        })
+    } else {
+        None
+    }
+}
+
+// Changes the reply so; its key before and after.
+fn change_key(reply: &mut Reply, change: ReplyChange) -> (Option<AgeKey>, Option<AgeKey>)
+    ensures reply { reply.new ≡ changed change reply.old }
+    ensures before { result.0 ≡ due_key reply.old }
+    ensures after { result.1 ≡ due_key reply.new }
+{
+    let before = due_key(reply);
+    apply(reply, change);
+    (before, due_key(reply))
+}
+
+fn change_in(list: &mut Vec<Reply>, due: &mut AgeQueue, id: u64, change: ReplyChange)
     requires rising { IsRising list.old.items }
+    requires queued { IsQueue due_key list.old.items due.old.keys }
+    requires places { length list.old.items ≤ due.old.places }
     requires there { IsThere id list.old.items }
     ensures items { list.new.items ≡ at_entry id (changed change) list.old.items }
     ensures rising { IsRising list.new.items }
+    ensures queued { IsQueue due_key list.new.items due.new.keys }
     ensures len { vec_len list.new ≡ vec_len list.old }
     ensures capacity { vec_capacity list.new ≡ vec_capacity list.old }
+    ensures places { due.old.places ≤ due.new.places }
 {
     match search_number(list, id) {
-        Ok(place) => apply(&mut list[place], change),
+        Ok(place) => {
+            let (before, after) = change_key(&mut list[place], change);
+            due.exchange(before, after);
+        }
         Err(_) => {}
     }
+}
+
+fn push_in(list: &mut Vec<Reply>, due: &mut AgeQueue, reply: Reply)
+    requires rising { IsRising list.old.items }
+    requires above { IsAboveAll reply.id list.old.items }
+    requires queued { IsQueue due_key list.old.items due.old.keys }
+    requires room { vec_len list.old < vec_capacity list.old }
+    requires place { length list.old.items < due.old.places }
+    ensures items { list.new.items ≡ list.old.items ++ reply ∷ [] }
+    ensures rising { IsRising list.new.items }
+    ensures queued { IsQueue due_key list.new.items due.new.keys }
+    ensures len { vec_len list.new ≡ vec_len list.old + 1 }
+    ensures capacity { vec_capacity list.new ≡ vec_capacity list.old }
+    ensures places { due.old.places ≤ due.new.places }
+{
+    let key = due_key(&reply);
+    list.push_reserved(reply);
+    due.exchange(None, key);
 }
 
 fn passes_add(call: &RepliesCall, id: u64) -> bool
@@ -76,33 +131,46 @@ fn has_add(room: &[RepliesCall], id: u64) -> bool
     add_place(room, id).is_some()
 }
 
-fn ready_add(list: &mut Vec<Reply>, room: &mut Vec<RepliesCall>, id: u64) -> Result<(), NoMemory>
-    requires { vec_len list.old + vec_len room.old ≤ vec_capacity list.old }
+fn ready_add(
+    list: &mut Vec<Reply>,
+    due: &mut AgeQueue,
+    room: &mut Vec<RepliesCall>,
+    id: u64,
+) -> Result<(), NoMemory>
+    requires { vec_len list.old + vec_len room.old ≤ min (vec_capacity list.old) due.old.places }
     ensures list { list.new.items ≡ list.old.items }
+    ensures due { due.new.keys ≡ due.old.keys }
     ensures ok { OnOk result (room.new.items ≡ room.old.items ++ add_call id ∷ []) }
     ensures err { OnErr result (room.new.items ≡ room.old.items) }
-    ensures fits { vec_len list.new + vec_len room.new ≤ vec_capacity list.new }
+    ensures fits { vec_len list.new + vec_len room.new ≤ min (vec_capacity list.new) due.new.places }
 {
     list.reserve(room.len() + 1)?;
+    due.make_places(list.capacity())?;
     room.push(RepliesCall { id })?;
     Ok(())
 }
 
 // Sees to it that there is room for a reply. Where none was made, all other room goes.
-fn make_add(list: &mut Vec<Reply>, room: &mut Vec<RepliesCall>, id: u64) -> Result<(), NoMemory>
-    requires { vec_len list.old + vec_len room.old ≤ vec_capacity list.old }
+fn make_add(
+    list: &mut Vec<Reply>,
+    due: &mut AgeQueue,
+    room: &mut Vec<RepliesCall>,
+    id: u64,
+) -> Result<(), NoMemory>
+    requires { vec_len list.old + vec_len room.old ≤ min (vec_capacity list.old) due.old.places }
     ensures list { list.new.items ≡ list.old.items }
+    ensures due { due.new.keys ≡ due.old.keys }
     ensures made { OnOk result (IsTrue (is_made call_code (add_call id) room.new.items)) }
     ensures left { OnOk result (spend call_code (add_call id) room.new.items ≡ spend call_code (add_call id) room.old.items) }
     ensures err { OnErr result (room.new.items ≡ spend call_code (add_call id) room.old.items) }
     ensures ready { IsTrue (is_made call_code (add_call id) room.old.items) → IsOk result }
-    ensures fits { vec_len list.new + vec_len room.new ≤ vec_capacity list.new }
+    ensures fits { vec_len list.new + vec_len room.new ≤ min (vec_capacity list.new) due.new.places }
 {
     if has_add(room, id) {
         return Ok(());
     }
     room.clear();
-    ready_add(list, room, id)
+    ready_add(list, due, room, id)
 }
 
 fn take_add(room: &mut Vec<RepliesCall>, id: u64)
@@ -122,6 +190,7 @@ impl Replies {
     {
         Replies {
             list: Vec::new(alloc),
+            due: AgeQueue::new(alloc),
             room: Vec::new(alloc),
         }
     }
@@ -155,12 +224,21 @@ impl Replies {
         find_number(&self.list, id)
     }
 
+    /// The keys of the replies to this service that are due, the oldest first, found by halves. Those to another service are
+    /// among them where the names of both have one key.
+    pub fn due_to(&self, caller: &Name) -> &[AgeKey]
+        ensures due { AreDue caller.now self.now.list result.now }
+        ensures rising { IsRising self.now.list }
+    {
+        self.due.of_code(text_key(caller.text()))
+    }
+
     fn change(&mut self, id: u64, change: ReplyChange)
         requires { IsThere id self.old.list }
         ensures list { self.new.list ≡ at_entry id (changed change) self.old.list }
         ensures room { self.new.room ≡ self.old.room }
     {
-        change_in(&mut self.list, id, change);
+        change_in(&mut self.list, &mut self.due, id, change);
     }
 
     /// Notes which version of the call of an entry with a reply was taken, and whether the caller wants it; what isn't
@@ -240,7 +318,7 @@ impl Replies {
         ensures ok { OnOk result (self.new.room ≡ self.old.room ++ add_call reply.now.id ∷ []) }
         ensures err { OnErr result (self.new.room ≡ self.old.room) }
     {
-        ready_add(&mut self.list, &mut self.room, reply.id)
+        ready_add(&mut self.list, &mut self.due, &mut self.room, reply.id)
     }
 
     /// Puts a reply last, whose entry's number is above all in the list. Refused, it is dropped and the replies stay.
@@ -251,9 +329,9 @@ impl Replies {
         ensures room { self.new.room ≡ spend call_code (add_call reply.id) self.old.room }
         ensures ready { IsTrue (is_made call_code (add_call reply.id) self.old.room) → IsOk result }
     {
-        make_add(&mut self.list, &mut self.room, reply.id)?;
+        make_add(&mut self.list, &mut self.due, &mut self.room, reply.id)?;
         take_add(&mut self.room, reply.id);
-        self.list.push_reserved(reply);
+        push_in(&mut self.list, &mut self.due, reply);
         Ok(())
     }
 
@@ -261,9 +339,11 @@ impl Replies {
     pub fn copied(&self, alloc: Global) -> Result<Replies, NoMemory>
         ensures { IfOk result (λ copy. copy.list ≡ self.now.list) }
     {
+        let due = self.due.copied(alloc, self.list.len())?;
         let list = copied_items(alloc, &self.list)?;
         Ok(Replies {
             list,
+            due,
             room: Vec::new(alloc),
         })
     }

@@ -1,4 +1,4 @@
--- The first key whose call is outstanding is that of the oldest such call.
+-- The first key whose post is outstanding is that of the oldest such post.
 use Rattle.std.proofs.Common.{◌≡◌, ◌∙◌, refl, sym, ap, subst, ℕ, zero, suc, ◌<◌, ◌≤◌, Bool, true, false, ◌&&◌, List, [], ◌∷◌, Option, Some, None, cond, find, fold, length, get_or, nat_eq, nat_lt, not, is_none, option_map, inl, inr, arith}
 use Rattle.std.specs.List.{list_any, Contains}
 use Rattle.std.specs.Option.{option_and_then, option_map_or}
@@ -12,59 +12,64 @@ use Rattle.lang_base.specs.Texts.{same_text}
 use Rattle.lang_lists.specs.Ages.{is_before}
 use Rattle.lang_lists.specs.declared.age_keys.AgeKey.{AgeKey}
 use Rattle.lang_lists.proofs.AgeLemmas.{not_itself}
-use Rattle.call_registers.specs.Registers.{register, IsNumbered}
+use Rattle.call_registers.specs.Queues.{AreOldestFirst}
+use Rattle.call_registers.specs.Registers.{has_number, IsNumbered}
+use Rattle.call_registers.specs.Replies.{age_key as reply_key, due_key, has_entry, AreDue, IsRising}
 use Rattle.call_registers.specs.Waiting.{age_key, waiting_key, AreWaiting}
 use Rattle.call_registers.specs.declared.register.Register.{Register}
-use Rattle.call_registers.proofs.WaitingLemmas.{found_itself, numbered_at, stands_at, StandsAt}
-use Rattle.service_events.specs.Posts.{Aged, aged_call, is_unacknowledged, older}
-use Rattle.repair_queue.specs.Queue.{aged_key, goes_out, with_call}
+use Rattle.call_registers.specs.declared.reply.Reply.{Reply}
+use Rattle.call_registers.proofs.QueueLemmas.{stands_at, StandsAt}
+use Rattle.call_registers.proofs.ReplyLemmas.{found_itself as reply_itself, rises_at}
+use Rattle.call_registers.proofs.WaitingLemmas.{found_itself, numbered_at}
+use Rattle.service_events.specs.Posts.{Aged, is_owed, is_unacknowledged, older}
+use Rattle.repair_queue.specs.Queue.{answers_out, call_of, goes_out, reply_of, with_call, with_reply}
 
--- ---- a walk in which one call is the oldest
+-- ---- a walk in which one post is the oldest
 
 -- what was seen so far is later
 abbrev IsLater : ℕ → Option Aged → Type 0
 IsLater since None = Unit {0}
 IsLater since (Some post) = since < post.since
 
-module _ (p : Register → Bool) where
-  abbrev step : Option Aged → Register → Option Aged
-  step o r = cond (p r) (older o (aged_call r)) o
+takes : (o : Option Aged) (post : Aged) → IsLater post.since o → older o post ≡ Some post
+takes None post h = refl
+takes (Some first) post h = let is : nat_lt post.since first.since ≡ true = lt-ltb post.since first.since h in rw is refl
 
-  stays : (post : Aged) (rs : List Register) (d : Register) → ((j : ℕ) → j < length rs → p (get_or rs j d) ≡ true → post.since ≤ (get_or rs j d).since)
-      → fold step (Some post) rs ≡ Some post
-  stays post [] d h = refl
-  stays post (x ∷ xs) d h = elim (cases_Bool (p x)) [
-    | inl is ↦ (let no : nat_lt x.since post.since ≡ false = le-ltb x.since post.since (h 0 (omega arith) is) in
-        rw (is, no) (stays post xs d (λ j lt. h (suc j) (omega arith))))
-    | inr other ↦ rw other (stays post xs d (λ j lt. h (suc j) (omega arith)))
+later_by : (b : Bool) (since : ℕ) (first post : Aged) → since < first.since → since < post.since → IsLater since (cond b (Some post) (Some first))
+later_by true since first post h g = g
+later_by false since first post h g = h
+
+later : (since : ℕ) (o : Option Aged) (post : Aged) → IsLater since o → since < post.since → IsLater since (older o post)
+later since None post h g = g
+later since (Some first) post h g = later_by (nat_lt post.since first.since) since first post h g
+
+module _ {X : Type 0} (p : X → Bool) (post : X → Aged) where
+  abbrev step : Option Aged → X → Option Aged
+  step o x = cond (p x) (older o (post x)) o
+
+  stays : (first : Aged) (xs : List X) (d : X) → ((j : ℕ) → j < length xs → p (get_or xs j d) ≡ true → first.since ≤ (post (get_or xs j d)).since)
+      → fold step (Some first) xs ≡ Some first
+  stays first [] d h = refl
+  stays first (x ∷ xs) d h = elim (cases_Bool (p x)) [
+    | inl is ↦ (let no : nat_lt (post x).since first.since ≡ false = le-ltb (post x).since first.since (h 0 (omega arith) is) in
+        rw (is, no) (stays first xs d (λ j lt. h (suc j) (omega arith))))
+    | inr other ↦ rw other (stays first xs d (λ j lt. h (suc j) (omega arith)))
   ]
 
-  takes : (o : Option Aged) (post : Aged) → IsLater post.since o → older o post ≡ Some post
-  takes None post h = refl
-  takes (Some first) post h = let is : nat_lt post.since first.since ≡ true = lt-ltb post.since first.since h in rw is refl
-
-  later_by : (b : Bool) (since : ℕ) (first post : Aged) → since < first.since → since < post.since → IsLater since (cond b (Some post) (Some first))
-  later_by true since first post h g = g
-  later_by false since first post h g = h
-
-  later : (since : ℕ) (o : Option Aged) (post : Aged) → IsLater since o → since < post.since → IsLater since (older o post)
-  later since None post h g = g
-  later since (Some first) post h g = later_by (nat_lt post.since first.since) since first post h g
-
-  oldest_at : (rs : List Register) (i : ℕ) (d : Register) (o : Option Aged) → i < length rs → p (get_or rs i d) ≡ true
-      → ((j : ℕ) → j < i → p (get_or rs j d) ≡ true → (get_or rs i d).since < (get_or rs j d).since)
-      → ((j : ℕ) → i < j → j < length rs → p (get_or rs j d) ≡ true → (get_or rs i d).since ≤ (get_or rs j d).since)
-      → IsLater (get_or rs i d).since o → fold step o rs ≡ Some (aged_call (get_or rs i d))
+  oldest_at : (xs : List X) (i : ℕ) (d : X) (o : Option Aged) → i < length xs → p (get_or xs i d) ≡ true
+      → ((j : ℕ) → j < i → p (get_or xs j d) ≡ true → (post (get_or xs i d)).since < (post (get_or xs j d)).since)
+      → ((j : ℕ) → i < j → j < length xs → p (get_or xs j d) ≡ true → (post (get_or xs i d)).since ≤ (post (get_or xs j d)).since)
+      → IsLater (post (get_or xs i d)).since o → fold step o xs ≡ Some (post (get_or xs i d))
   oldest_at [] i d o lt passes before behind h = absurd (omega (arith, lt))
   oldest_at (x ∷ xs) zero d o lt passes before behind h =
-      rw passes (ap (λ o. fold step o xs) (takes o (aged_call x) h) ∙ stays (aged_call x) xs d (λ j less. behind (suc j) (omega arith) (omega arith)))
+      rw passes (ap (λ o. fold step o xs) (takes o (post x) h) ∙ stays (post x) xs d (λ j less. behind (suc j) (omega arith) (omega arith)))
   oldest_at (x ∷ xs) (suc i) d o lt passes before behind h = elim (cases_Bool (p x)) [
-    | inl is ↦ rw is (oldest_at xs i d (older o (aged_call x)) (omega arith) passes (λ j less. before (suc j) (omega arith)) (λ j more less. behind (suc j) (omega arith) (omega arith))
-        (later (get_or xs i d).since o (aged_call x) h (before 0 (omega arith) is)))
+    | inl is ↦ rw is (oldest_at xs i d (older o (post x)) (omega arith) passes (λ j less. before (suc j) (omega arith)) (λ j more less. behind (suc j) (omega arith) (omega arith))
+        (later (post (get_or xs i d)).since o (post x) h (before 0 (omega arith) is)))
     | inr other ↦ rw other (oldest_at xs i d o (omega arith) passes (λ j less. before (suc j) (omega arith)) (λ j more less. behind (suc j) (omega arith) (omega arith)) h)
   ]
 
-  none_passes : (rs : List Register) → ((j : ℕ) (d : Register) → j < length rs → p (get_or rs j d) ≡ false) → fold step None rs ≡ None
+  none_passes : (xs : List X) → ((j : ℕ) (d : X) → j < length xs → p (get_or xs j d) ≡ false) → fold step None xs ≡ None
   none_passes [] h = refl
   none_passes (x ∷ xs) h = let here = h 0 x (omega arith) in rw here (none_passes xs (λ j d lt. h (suc j) d (omega arith)))
 
@@ -103,7 +108,7 @@ find_none : {X : Type 0} (q : X → Bool) (xs : List X) (x : X) → find q xs �
 find_none q [] x found (i, lt, is) = absurd (omega (arith, lt))
 find_none q (y ∷ ys) x found there = none_by q (q y) y x ys refl found there (find_none q ys x)
 
--- ---- calls and their keys
+-- ---- what waits, and its keys
 
 -- of one receiver, a key that doesn't come before another is as old or younger
 no_older : (a b : AgeKey) → a.code ≡ b.code → is_before a b ≡ false → b.since ≤ a.since
@@ -112,43 +117,31 @@ no_older a b e h = grind (arith, nat_tests)
 younger : (a b : AgeKey) → a.code ≡ b.code → is_before a b ≡ false → a.number < b.number → b.since < a.since
 younger a b e h lt = grind (arith, nat_tests)
 
-first_two : (a b c d : Bool) → (a && b && c && d) ≡ true → (a ≡ true) × (b ≡ true)
-first_two true true c d h = (refl, refl)
-first_two true false c d h = cc
-first_two false b c d h = cc
-
 not_both : (b : Bool) → b ≡ true → b ≡ false → ⊥
 not_both b e f = cc
 
-module _ (awaited dest : List ℕ) (registers : List Register) (keys : List AgeKey) (numbered : IsNumbered registers) (waiting : AreWaiting dest registers keys) where
-  abbrev p : Register → Bool
-  p r = is_unacknowledged awaited dest r
-
+-- what of a list is outstanding has its key among these; items are found by the numbers of their keys, which rise
+module _ {X : Type 0} (p : X → Bool) (key : X → Option AgeKey) (age : X → AgeKey) (post : AgeKey → Aged) (is_of : ℕ → X → Bool) (code : ℕ) (xs : List X) (keys : List AgeKey)
+    (aged : (k : AgeKey) → (post k).since ≡ k.since) (keyed : (x : X) (k : AgeKey) → key x ≡ Some k → k ≡ age x) (tested : (x : X) → p x ≡ true → (key x ≡ Some (age x)) × ((age x).code ≡ code))
+    (itself : (i : ℕ) (d : X) → i < length xs → find (is_of (age (get_or xs i d)).number) xs ≡ Some (get_or xs i d))
+    (rises : (i j : ℕ) (d : X) → i < j → j < length xs → (age (get_or xs i d)).number < (age (get_or xs j d)).number)
+    (waiting : AreOldestFirst code (λ n. option_and_then key (find (is_of n) xs)) keys) where
   abbrev q : AgeKey → Bool
-  q k = goes_out awaited dest registers k.number
+  q k = option_map_or p (find (is_of k.number) xs) false
 
-  tested : (r : Register) → p r ≡ true → (same_text r.dest dest ≡ true) × (nat_lt r.acked r.version ≡ true)
-  tested r h = first_two (same_text r.dest dest) (nat_lt r.acked r.version) (is_none r.held) (not (list_any (nat_eq r.number) awaited)) h
+  -- the key of what is outstanding is there, and passes
+  key_there : (x : X) → find (is_of (age x).number) xs ≡ Some x → p x ≡ true → Contains keys (age x)
+  key_there x found h = waiting.all (age x) (tested x h).1 (ap (option_and_then key) found ∙ (tested x h).0)
 
-  goes_to : (r : Register) → p r ≡ true → r.dest ≡ dest
-  goes_to r h = text_is r.dest dest (sym (tested r h).0)
+  key_passes : (x : X) → find (is_of (age x).number) xs ≡ Some x → p x ≡ true → q (age x) ≡ true
+  key_passes x found h = ap (λ o. option_map_or p o false) found ∙ h
 
-  waits : (r : Register) → p r ≡ true → waiting_key r ≡ Some (age_key r)
-  waits r h = let is = (tested r h).1 in rw is refl
-
-  -- the key of an outstanding call is there, and passes
-  key_there : (r : Register) → register r.number registers ≡ Some r → p r ≡ true → Contains keys (age_key r)
-  key_there r found h = waiting.all (age_key r) (ap text_key (goes_to r h)) (ap (option_and_then waiting_key) found ∙ waits r h)
-
-  key_passes : (r : Register) → register r.number registers ≡ Some r → p r ≡ true → q (age_key r) ≡ true
-  key_passes r found h = ap (λ o. option_map_or p o false) found ∙ h
-
-  none_out : find q keys ≡ None → (j : ℕ) (d : Register) → j < length registers → p (get_or registers j d) ≡ false
+  none_out : find q keys ≡ None → (j : ℕ) (d : X) → j < length xs → p (get_or xs j d) ≡ false
   none_out none j d lt =
-      let r = get_or registers j d in
-      let found = found_itself registers j d numbered lt in
-      elim (cases_Bool (p r)) [
-        | inl is ↦ absurd (not_both (q (age_key r)) (key_passes r found is) (find_none q keys (age_key r) none (key_there r found is)))
+      let x = get_or xs j d in
+      let found = itself j d lt in
+      elim (cases_Bool (p x)) [
+        | inl is ↦ absurd (not_both (q (age x)) (key_passes x found is) (find_none q keys (age x) none (key_there x found is)))
         | inr other ↦ other
       ]
 
@@ -163,46 +156,87 @@ module _ (awaited dest : List ℕ) (registers : List Register) (keys : List AgeK
             subst (λ x. is_before x k ≡ false) (sym (get_or_default keys i other k lt) ∙ is) (subst (λ x. is_before (get_or keys i k) x ≡ false) first.is e))
       ]
 
-  module _ (k : AgeKey) (first : IsFirst q keys k) (r : Register) (found : register k.number registers ≡ Some r) (waiting_r : waiting_key r ≡ Some k) where
-    is : k ≡ age_key r
-    is = sym (cond_some (nat_lt r.acked r.version) (age_key r) k waiting_r).1
+  module _ (k : AgeKey) (first : IsFirst q keys k) (x : X) (found : find (is_of k.number) xs ≡ Some x) (waits : key x ≡ Some k) where
+    is : k ≡ age x
+    is = keyed x k waits
 
-    stands : StandsAt registers r
-    stands = stands_at registers k.number r numbered found
-
-    out : p r ≡ true
+    out : p x ≡ true
     out = sym (ap (λ o. option_map_or p o false) found) ∙ first.passes
 
-    same_code : (x : Register) → p x ≡ true → (age_key x).code ≡ (age_key r).code
-    same_code x h = ap text_key (goes_to x h) ∙ sym (ap text_key (goes_to r out))
+    same_code : (y : X) → p y ≡ true → (age y).code ≡ (age x).code
+    same_code y h = (tested y h).1 ∙ sym (tested x out).1
 
-    behind_it : (x : Register) → register x.number registers ≡ Some x → p x ≡ true → is_before (age_key x) (age_key r) ≡ false
-    behind_it x here h = subst (λ z. is_before (age_key x) z ≡ false) is (not_before k (age_key x) first (key_there x here h) (key_passes x here h))
+    behind_it : (y : X) → find (is_of (age y).number) xs ≡ Some y → p y ≡ true → is_before (age y) (age x) ≡ false
+    behind_it y here h = subst (λ z. is_before (age y) z ≡ false) is (not_before k (age y) first (key_there y here h) (key_passes y here h))
 
-    oldest_is_it : Some (aged_key k) ≡ fold (step p) None registers
+    stands : StandsAt xs x
+    stands = stands_at (is_of k.number) xs x found
+
+    oldest_is_it : Some (post k) ≡ fold (step p (λ y. post (age y))) None xs
     oldest_is_it =
         let at = stands.place in
-        ap (λ z. Some (aged_key z)) is
-        ∙ ap (λ z. Some (aged_call z)) (sym stands.is)
-        ∙ sym (oldest_at p registers at r None stands.within (ap p stands.is ∙ out)
-        (λ j less h. (let x = get_or registers j r in
+        let e : get_or xs at x ≡ x = stands.is in
+        ap (λ z. Some (post z)) is
+        ∙ ap (λ z. Some (post (age z))) (sym e)
+        ∙ sym (oldest_at p (λ y. post (age y)) xs at x None stands.within (ap p e ∙ out)
+        (λ j less h. (let y = get_or xs j x in
         let within = stands.within in
-        let here = found_itself registers j r numbered (omega arith) in
-        let n = numbered_at registers j r numbered (omega arith) in
-        let m = stands.number in
-        let lt = younger (age_key x) (age_key r) (same_code x h) (behind_it x here h) (omega arith) in
-        let e = ap (λ (z : Register). z.since) stands.is in
+        let here = itself j x (omega arith) in
+        let n = rises j at x less within in
+        let number : (age y).number < (age x).number = subst (λ z. (age y).number < (age z).number) e n in
+        let lt = younger (age y) (age x) (same_code y h) (behind_it y here h) number in
+        let one = aged (age y) in
+        let two = aged (age (get_or xs at x)) in
+        let three = ap (λ z. (age z).since) e in
         omega arith))
-        (λ j more less h. (let x = get_or registers j r in
-        let here = found_itself registers j r numbered less in
-        let le = no_older (age_key x) (age_key r) (same_code x h) (behind_it x here h) in
-        let e = ap (λ (z : Register). z.since) stands.is in
+        (λ j more less h. (let y = get_or xs j x in
+        let here = itself j x less in
+        let le = no_older (age y) (age x) (same_code y h) (behind_it y here h) in
+        let one = aged (age y) in
+        let two = aged (age (get_or xs at x)) in
+        let three = ap (λ z. (age z).since) e in
         omega arith))
         tt)
 
-  pub first_is : (found : Option AgeKey) → found ≡ find q keys → option_map aged_key found ≡ fold (with_call awaited dest) None registers
-  first_is None e = sym (none_passes p registers (none_out (sym e)))
-  first_is (Some k) e =
+  first_out : (found : Option AgeKey) → found ≡ find q keys → option_map post found ≡ fold (step p (λ y. post (age y))) None xs
+  first_out None e = sym (none_passes p (λ y. post (age y)) xs (none_out (sym e)))
+  first_out (Some k) e =
       let first = find_first q keys k (sym e) in
       let at = waiting.only k (first.place, first.within, first.is) in
-      option_and_then_some waiting_key (register k.number registers) k at.1 (λ r found waits. oldest_is_it k first r found waits)
+      option_and_then_some key (find (is_of k.number) xs) k at.1 (λ x found waits. oldest_is_it k first x found waits)
+
+-- ---- calls
+
+first_two : (a b c d : Bool) → (a && b && c && d) ≡ true → (a ≡ true) × (b ≡ true)
+first_two true true c d h = (refl, refl)
+first_two true false c d h = cc
+first_two false b c d h = cc
+
+waits_if : (b : Bool) (k : AgeKey) → b ≡ true → cond b (Some k) None ≡ Some k
+waits_if true k h = refl
+waits_if false k h = cc
+
+module _ (awaited dest : List ℕ) (registers : List Register) (keys : List AgeKey) (numbered : IsNumbered registers) (waiting : AreWaiting dest registers keys) where
+  call_tested : (r : Register) → is_unacknowledged awaited dest r ≡ true → (waiting_key r ≡ Some (age_key r)) × ((age_key r).code ≡ text_key dest)
+  call_tested r h =
+      let both = first_two (same_text r.dest dest) (nat_lt r.acked r.version) (is_none r.held) (not (list_any (nat_eq r.number) awaited)) h in
+      (waits_if (nat_lt r.acked r.version) (age_key r) both.1, ap text_key (text_is r.dest dest (sym both.0)))
+
+  pub first_call_is : (found : Option AgeKey) → found ≡ find (λ (k : AgeKey). goes_out awaited dest registers k.number) keys → option_map call_of found ≡ fold (with_call awaited dest) None registers
+  first_call_is =
+      first_out (is_unacknowledged awaited dest) waiting_key age_key call_of has_number (text_key dest) registers keys (λ k. refl)
+      (λ r k e. sym (cond_some (nat_lt r.acked r.version) (age_key r) k e).1) call_tested (λ i d lt. found_itself registers i d numbered lt)
+      (λ i j d less lt. (let a = numbered_at registers i d numbered (omega arith) in let b = numbered_at registers j d numbered lt in omega arith)) waiting
+
+-- ---- replies
+
+module _ (dest : List ℕ) (replies : List Reply) (keys : List AgeKey) (rising : IsRising replies) (due : AreDue dest replies keys) where
+  reply_tested : (p : Reply) → is_owed dest p ≡ true → (due_key p ≡ Some (reply_key p)) × ((reply_key p).code ≡ text_key dest)
+  reply_tested p h =
+      let both = first_two (same_text p.caller dest) p.due (nat_lt 0 p.answer_version) (is_none p.held) h in
+      (waits_if p.due (reply_key p) both.1, ap text_key (text_is p.caller dest (sym both.0)))
+
+  pub first_reply_is : (found : Option AgeKey) → found ≡ find (λ (k : AgeKey). answers_out dest replies k.number) keys → option_map reply_of found ≡ fold (with_reply dest) None replies
+  first_reply_is =
+      first_out (is_owed dest) due_key reply_key reply_of has_entry (text_key dest) replies keys (λ k. refl)
+      (λ p k e. sym (cond_some p.due (reply_key p) k e).1) reply_tested (λ i d lt. reply_itself replies i d rising lt) (λ i j d less lt. rises_at i j replies d rising less lt) due

@@ -1,6 +1,5 @@
 -- The oldest post that is outstanding: what a walk finds, and what stands beside it.
 use Rattle.std.proofs.Common.{◌≡◌, ◌∙◌, ◌↔◌, ◌⊎◌, refl, sym, ap, ℕ, ◌≤◌, Bool, true, false, List, [], ◌∷◌, ◌++◌, Option, Some, None, IfSome, All, Contains, cond, filter, fold, map, nat_lt, option_map, inl, inr, arith}
-use Rattle.std.proofs.lemmas.Bool.{cases_Bool}
 use Rattle.std.proofs.lemmas.List.Elements.{All-nil, All-cons, All-head, All-tail, Contains-append_cases, Contains-append_left, Contains-append_right}
 use Rattle.std.proofs.lemmas.List.Sums.{fold-append}
 use Rattle.std.proofs.lemmas.List.Folds.{fold-map}
@@ -9,7 +8,7 @@ use Rattle.repair_messages.specs.declared.posts.PostName.{PostName}
 use Rattle.call_registers.specs.declared.register.Register.{Register}
 use Rattle.call_registers.specs.declared.reply.Reply.{Reply}
 use Rattle.service_events.specs.Posts.{Aged, aged_call, aged_reply, is_owed, is_unacknowledged, older, oldest, outstanding}
-use Rattle.repair_queue.specs.Queue.{IsOldest, first_name, with_call, with_reply}
+use Rattle.repair_queue.specs.Queue.{IsOldest, first_name, older_of, with_call, with_reply}
 use Rattle.repair_queue.proofs.FoldLemmas.{fold_filter}
 
 -- ---- a walk
@@ -25,14 +24,51 @@ replies_walk : (dest : List ℕ) (o : Option Aged) (replies : List Reply)
 replies_walk dest o replies =
     fold_filter (is_owed dest) (λ o p. older o (aged_reply p)) o replies ∙ sym (fold-map older aged_reply o (filter (is_owed dest) replies))
 
--- first over the registers, then over the replies
-pub walk_is : (registers : List Register) (replies : List Reply) (awaited dest : List ℕ)
-    → fold (with_reply dest) (fold (with_call awaited dest) None registers) replies ≡ oldest (outstanding registers replies awaited dest)
+older_first : (p f q : Aged) → older (cond (nat_lt p.since f.since) (Some p) (Some f)) q ≡ older_of (Some f) (cond (nat_lt q.since p.since) (Some q) (Some p))
+older_first p f q = by (nat_lt p.since f.since) (nat_lt q.since p.since) (nat_lt q.since f.since) refl refl refl
+  where
+    by : (pf qp qf : Bool) → nat_lt p.since f.since ≡ pf → nat_lt q.since p.since ≡ qp → nat_lt q.since f.since ≡ qf
+        → older (cond pf (Some p) (Some f)) q ≡ older_of (Some f) (cond qp (Some q) (Some p))
+    by true true true a b c = rw (b, c) refl
+    by true true false a b c =
+        let one = ltb-true p.since f.since a in
+        let two = ltb-true q.since p.since b in
+        let three = ltb-false q.since f.since c in
+        absurd (omega (arith, one, two, three))
+    by true false qf a b c = rw (b, a) refl
+    by false true qf a b c = refl
+    by false false true a b c =
+        let one = ltb-false p.since f.since a in
+        let two = ltb-false q.since p.since b in
+        let three = ltb-true q.since f.since c in
+        absurd (omega (arith, one, two, three))
+    by false false false a b c = rw (c, a) refl
+
+-- of three the oldest is found in either order
+in_order : (o m : Option Aged) (p : Aged) → older_of (older o p) m ≡ older_of o (older_of (Some p) m)
+in_order None None p = refl
+in_order (Some f) None p = refl
+in_order None (Some q) p = by (nat_lt q.since p.since)
+  where
+    by : (b : Bool) → cond b (Some q) (Some p) ≡ older_of None (cond b (Some q) (Some p))
+    by true = refl
+    by false = refl
+in_order (Some f) (Some q) p = older_first p f q
+
+apart : (o : Option Aged) (posts : List Aged) → fold older o posts ≡ older_of o (oldest posts)
+apart o [] = refl
+apart o (p ∷ ps) = apart (older o p) ps ∙ in_order o (oldest ps) p ∙ ap (older_of o) (sym (apart (Some p) ps))
+
+-- over the registers, and over the replies
+walk_is : (registers : List Register) (replies : List Reply) (awaited dest : List ℕ)
+    → older_of (fold (with_call awaited dest) None registers) (fold (with_reply dest) None replies) ≡ oldest (outstanding registers replies awaited dest)
 walk_is registers replies awaited dest =
     let calls = map aged_call (filter (is_unacknowledged awaited dest) registers) in
-    replies_walk dest (fold (with_call awaited dest) None registers) replies
-    ∙ ap (λ o. fold older o (map aged_reply (filter (is_owed dest) replies))) (calls_walk awaited dest None registers)
-    ∙ sym (fold-append older None calls (map aged_reply (filter (is_owed dest) replies)))
+    let owed = map aged_reply (filter (is_owed dest) replies) in
+    ap (older_of (fold (with_call awaited dest) None registers)) (replies_walk dest None replies)
+    ∙ ap (λ o. older_of o (oldest owed)) (calls_walk awaited dest None registers)
+    ∙ sym (apart (oldest calls) owed)
+    ∙ sym (fold-append older None calls owed)
 
 -- ---- what stands beside it
 
@@ -96,13 +132,13 @@ oldest_is (p ∷ ps) (Some name) e =
 
 -- ---- the code's way there
 
-pub next_is : (registers : List Register) (ps replies : List Reply) (awaited dest : List ℕ) (call first : Option Aged) (name : Option PostName) → ps ≡ replies
-    → call ≡ fold (with_call awaited dest) None registers → first ≡ fold (with_reply dest) call ps → name ≡ option_map (λ (p : Aged). p.name) first
+pub next_is : (registers : List Register) (replies : List Reply) (awaited dest : List ℕ) (call reply first : Option Aged) (name : Option PostName)
+    → call ≡ fold (with_call awaited dest) None registers → reply ≡ fold (with_reply dest) None replies → first ≡ older_of call reply → name ≡ option_map (λ (p : Aged). p.name) first
     → name ≡ first_name (outstanding registers replies awaited dest)
-next_is registers ps replies awaited dest call first name same_ps of_calls of_replies of_first =
+next_is registers replies awaited dest call reply first name of_calls of_replies of_both of_first =
     of_first
     ∙ ap (option_map (λ (p : Aged). p.name))
-    (of_replies
-    ∙ ap (λ o. fold (with_reply dest) o ps) of_calls
-    ∙ ap (λ qs. fold (with_reply dest) (fold (with_call awaited dest) None registers) qs) same_ps
+    (of_both
+    ∙ ap (λ o. older_of o reply) of_calls
+    ∙ ap (older_of (fold (with_call awaited dest) None registers)) of_replies
     ∙ walk_is registers replies awaited dest)

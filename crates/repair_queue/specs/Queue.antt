@@ -1,10 +1,11 @@
--- The oldest post, by what stands beside it, and by a walk over registers and replies; which keys of calls are outstanding.
-use Rattle.std.specs.Prelude.{ℕ, ◌≡◌, ◌≤◌, Bool, false, List, Option, All, Contains, if◌then◌else◌, option_map}
+-- The oldest post, by what stands beside it, and by a walk over registers and replies; which keys are those of outstanding posts.
+use Rattle.std.specs.Prelude.{ℕ, ◌≡◌, ◌≤◌, Bool, false, List, Option, Some, None, All, Contains, if◌then◌else◌, option_map}
 use Rattle.std.specs.Option.{option_map_or}
 use Rattle.lang_lists.specs.declared.age_keys.AgeKey.{AgeKey}
 use Rattle.repair_messages.specs.declared.posts.PostName.{PostName}
-use Rattle.repair_messages.specs.declared.posts.PostName.TheVariants.{Call}
+use Rattle.repair_messages.specs.declared.posts.PostName.TheVariants.{Call, Reply as OfReply}
 use Rattle.call_registers.specs.Registers.{register}
+use Rattle.call_registers.specs.Replies.{reply}
 use Rattle.call_registers.specs.declared.register.Register.{Register}
 use Rattle.call_registers.specs.declared.reply.Reply.{Reply}
 use Rattle.service_events.specs.Posts.{Aged, aged_call, aged_reply, is_owed, is_unacknowledged, older, oldest}
@@ -28,12 +29,25 @@ with_call awaited dest first r = if is_unacknowledged awaited dest r then older 
 abbrev pub with_reply : List ℕ → Option Aged → Reply → Option Aged
 with_reply dest first p = if is_owed dest p then older first (aged_reply p) else first
 
+-- the older of two, and the first where they are as old
+abbrev pub older_of : Option Aged → Option Aged → Option Aged
+older_of first None = first
+older_of first (Some post) = older first post
+
 -- ---- by keys
 
 -- the call of a number is outstanding
 abbrev pub goes_out : List ℕ → List ℕ → List Register → ℕ → Bool
 goes_out awaited dest registers number = option_map_or (is_unacknowledged awaited dest) (register number registers) false
 
+-- the reply of an entry is outstanding
+abbrev pub answers_out : List ℕ → List Reply → ℕ → Bool
+answers_out dest replies id = option_map_or (is_owed dest) (reply id replies) false
+
 -- the post of the call of a key
-abbrev pub aged_key : AgeKey → Aged
-aged_key k = record { name = Call k.number; since = k.since }
+abbrev pub call_of : AgeKey → Aged
+call_of k = record { name = Call k.number; since = k.since }
+
+-- that of the reply of a key
+abbrev pub reply_of : AgeKey → Aged
+reply_of k = record { name = OfReply k.number; since = k.since }

@@ -4,10 +4,10 @@ ghost use Rattle.std.specs.Option.{option_copied};
 ghost use Rattle.service_events.specs.Flying.{awaited};
 ghost use Rattle.service_events.specs.Posts.{Aged as OldPost, older, outstanding};
 ghost use Rattle.lang_lists.specs.declared.age_keys.AgeKey.{AgeKey as Key};
-ghost use Rattle.repair_queue.specs.Queue.{IsOldest, first_name, goes_out, with_call, with_reply};
+ghost use Rattle.repair_queue.specs.Queue.{IsOldest, answers_out, first_name, goes_out, older_of, with_call, with_reply};
 
-use crate::outstanding::{Aged, aged_key, aged_reply, is_owed, is_unacknowledged};
-use call_registers::{Registers, Replies, Reply};
+use crate::outstanding::{Aged, call_of, is_owed, is_unacknowledged, reply_of};
+use call_registers::{Registers, Replies};
 use flights::Flight;
 use lang_core::Name;
 use lang_lists::AgeKey;
@@ -28,13 +28,13 @@ fn older(first: Option<Aged>, post: Aged) -> Option<Aged>
     }
 }
 
-fn with_reply(first: Option<Aged>, reply: &Reply, dest: &Name) -> Option<Aged>
-    ensures { result ≡ with_reply dest.now first reply.now }
+// The older of both, and the first where they are as old.
+fn older_of(first: Option<Aged>, post: Option<Aged>) -> Option<Aged>
+    ensures { result ≡ older_of first post }
 {
-    if is_owed(reply, dest) {
-        older(first, aged_reply(reply))
-    } else {
-        first
+    match post {
+        None => first,
+        Some(post) => older(first, post),
     }
 }
 
@@ -48,8 +48,18 @@ fn goes_out(registers: &Registers, flights: &[Flight], dest: &Name, number: u64)
     }
 }
 
+// Whether the reply of an entry is outstanding.
+fn answers_out(replies: &Replies, dest: &Name, id: u64) -> bool
+    ensures { result ≡ answers_out dest.now replies.now.list id }
+{
+    match replies.get(id) {
+        None => false,
+        Some(reply) => is_owed(reply, dest),
+    }
+}
+
 // The first of these keys whose call is outstanding.
-fn first_key<'a>(
+fn first_call<'a>(
     keys: &'a [AgeKey],
     registers: &Registers,
     flights: &[Flight],
@@ -64,19 +74,27 @@ fn first_key<'a>(
 fn oldest_call(registers: &Registers, flights: &[Flight], dest: &Name) -> Option<Aged>
     ensures { result ≡ fold (with_call (map awaited flights.now) dest.now) None registers.now.list }
 {
-    match first_key(registers.waiting(dest), registers, flights, dest) {
+    match first_call(registers.waiting(dest), registers, flights, dest) {
         None => None,
-        Some(key) => Some(aged_key(key)),
+        Some(key) => Some(call_of(key)),
     }
 }
 
-// The older of this and the oldest post of these replies.
-fn older_reply(first: Option<Aged>, replies: &[Reply], dest: &Name) -> Option<Aged>
-    ensures { result ≡ fold (with_reply dest.now) first replies.now }
+// The first of these keys whose reply is outstanding.
+fn first_reply<'a>(keys: &'a [AgeKey], replies: &Replies, dest: &Name) -> Option<&'a AgeKey>
+    ensures { option_copied result ≡ find (λ (k : Key). answers_out dest.now replies.now.list k.number) keys.now }
 {
-    replies
-        .iter()
-        .fold(first, |first, reply| with_reply(first, reply, dest))
+    keys.iter()
+        .find(|key| answers_out(replies, dest, key.number))
+}
+
+fn oldest_reply(replies: &Replies, dest: &Name) -> Option<Aged>
+    ensures { result ≡ fold (with_reply dest.now) None replies.now.list }
+{
+    match first_reply(replies.due_to(dest), replies, dest) {
+        None => None,
+        Some(key) => Some(reply_of(key)),
+    }
 }
 
 fn name_of(first: Option<Aged>) -> Option<PostName>
@@ -102,5 +120,6 @@ pub fn next(
     ensures oldest { IfSome result (λ name. IsOldest name (outstanding registers.now.list replies.now.list (map awaited flights.now) dest.now)) }
 {
     let call = oldest_call(registers, flights, dest);
-    name_of(older_reply(call, replies.as_slice(), dest))
+    let reply = oldest_reply(replies, dest);
+    name_of(older_of(call, reply))
 }

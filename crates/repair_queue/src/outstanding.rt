@@ -3,8 +3,8 @@ ghost use Rattle.std.specs.Prelude.{◌≡◌, map, nat_eq};
 ghost use Rattle.std.specs.List.{list_any};
 ghost use Rattle.flights.specs.declared.flight.Flight.{Flight as FlightValue};
 ghost use Rattle.service_events.specs.Flying.{awaited};
-ghost use Rattle.service_events.specs.Posts.{aged_reply, is_owed, is_unacknowledged};
-ghost use Rattle.repair_queue.specs.Queue.{aged_key};
+ghost use Rattle.service_events.specs.Posts.{is_owed, is_unacknowledged};
+ghost use Rattle.repair_queue.specs.Queue.{call_of, reply_of};
 
 use call_registers::{Register, Reply};
 use flights::Flight;
@@ -59,8 +59,8 @@ pub(crate) fn is_owed(reply: &Reply, dest: &Name) -> bool
 }
 
 /// The post of the call of a key.
-pub(crate) fn aged_key(key: &AgeKey) -> Aged
-    ensures { result ≡ aged_key key.now }
+pub(crate) fn call_of(key: &AgeKey) -> Aged
+    ensures { result ≡ call_of key.now }
 {
     Aged {
         name: PostName::Call(key.number),
@@ -68,12 +68,12 @@ pub(crate) fn aged_key(key: &AgeKey) -> Aged
     }
 }
 
-/// The post of a reply.
-pub(crate) fn aged_reply(reply: &Reply) -> Aged
-    ensures { result ≡ aged_reply reply.now }
+/// The post of the reply of a key.
+pub(crate) fn reply_of(key: &AgeKey) -> Aged
+    ensures { result ≡ reply_of key.now }
 {
     Aged {
-        name: PostName::Reply(reply.id),
-        since: reply.since,
+        name: PostName::Reply(key.number),
+        since: key.since,
     }
 }

@@ -32,6 +32,11 @@ fn reply(rt: &(impl Abort + AllocGlobal), id: u64) -> Reply {
 fn due(rt: &(impl Abort + AllocGlobal), replies: &Replies, want: bool) {
     let reply = replies.get(1).expect(rt, "a reply");
     holds(rt, "due", reply.due == want);
+    holds(
+        rt,
+        "to its caller",
+        replies.due_to(&reply.caller).is_empty() != want,
+    );
 }
 
 fn acknowledged(rt: &(impl Abort + AllocGlobal), replies: &mut Replies) {
