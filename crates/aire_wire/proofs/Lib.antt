@@ -1,5 +1,6 @@
 pub mod BytesBack
 pub mod FieldsRead
+mod GoodHeads
 pub mod PlainMessages
 pub mod ReadAnswers
 pub mod ReadCalls

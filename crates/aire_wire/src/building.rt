@@ -1,6 +1,7 @@
 // Messages from the parts of a request.
-ghost use Rattle.std.specs.Prelude.{◌≡◌, IfOk};
-ghost use Rattle.aire_wire.specs.Incoming.{answer_message, call_message, call_request, console_request, desired_in, outside_request, set_message, set_request, set_with};
+ghost use Rattle.std.specs.Prelude.{◌≡◌, false, IfOk};
+ghost use Rattle.aire_wire.specs.Incoming.{answer_message, call_message, call_request, console_request, desired_in, is_deletion, outside_request, set_message, set_request, set_with};
+ghost use Rattle.wire_fields.specs.Fits.{AreNamed, IsChained};
 ghost use Rattle.wire_fields.specs.Rows.{text_at};
 
 use crate::refusals::is_deletion;
@@ -20,6 +21,7 @@ struct Sides {
 }
 
 fn sides_of(alloc: Global, head: &HeaderMap) -> Result<Sides, NoMemory>
+    requires { AreNamed head.now }
     ensures from { IfOk result (λ sides. sides.from ≡ text_at head.now AireHeader.From) }
     ensures dest { IfOk result (λ sides. sides.dest ≡ text_at head.now AireHeader.Dest) }
 {
@@ -89,6 +91,7 @@ pub fn outside_request(alloc: Global, request: &WireRequest) -> Result<Request, 
 }
 
 fn call_request(alloc: Global, request: &WireRequest) -> Result<Request, NoMemory>
+    requires { IsChained request.now.head }
     ensures { IfOk result (λ made. made ≡ call_request request.now) }
 {
     let chain = names_in(alloc, text_at(&request.head, AireHeader::Chain))?;
@@ -104,6 +107,7 @@ fn call_request(alloc: Global, request: &WireRequest) -> Result<Request, NoMemor
 }
 
 fn set_request(alloc: Global, request: &WireRequest) -> Result<Request, NoMemory>
+    requires { IsChained request.now.head }
     ensures { IfOk result (λ made. made ≡ set_request request.now) }
 {
     let head = &request.head;
@@ -119,6 +123,7 @@ fn desired_in(
     deletion: bool,
     request: &WireRequest,
 ) -> Result<Option<Request>, NoMemory>
+    requires { deletion ≡ false → IsChained request.now.head }
     ensures { IfOk result (λ desired. desired ≡ desired_in deletion request.now) }
 {
     if deletion {
@@ -138,6 +143,7 @@ fn set_with(
     before: Option<u64>,
     after: Option<u64>,
 ) -> Result<SetMessage, NoMemory>
+    requires { AreNamed request.now.head }
     ensures { IfOk result (λ message. message ≡ set_with request.now desired version before after) }
 {
     let sides = sides_of(alloc, &request.head)?;
@@ -156,6 +162,8 @@ fn set_with(
 
 /// The live call that a request is.
 pub fn call_message(alloc: Global, request: &WireRequest) -> Result<SetMessage, NoMemory>
+    requires named { AreNamed request.now.head }
+    requires chained { IsChained request.now.head }
     ensures { IfOk result (λ message. message ≡ call_message request.now) }
 {
     let desired = call_request(alloc, request)?;
@@ -164,6 +172,8 @@ pub fn call_message(alloc: Global, request: &WireRequest) -> Result<SetMessage, 
 
 /// The set message that a request is.
 pub fn set_message(alloc: Global, request: &WireRequest) -> Result<SetMessage, NoMemory>
+    requires named { AreNamed request.now.head }
+    requires chained { is_deletion request.now.head ≡ false → IsChained request.now.head }
     ensures { IfOk result (λ message. message ≡ set_message request.now) }
 {
     let head = &request.head;
@@ -182,6 +192,7 @@ pub fn set_message(alloc: Global, request: &WireRequest) -> Result<SetMessage, N
 
 /// The response message that a request is.
 pub fn answer_message(alloc: Global, request: &WireRequest) -> Result<AnswerMessage, NoMemory>
+    requires { AreNamed request.now.head }
     ensures { IfOk result (λ message. message ≡ answer_message request.now) }
 {
     let head = &request.head;

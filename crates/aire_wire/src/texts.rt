@@ -1,9 +1,10 @@
 // Parts of the texts of header fields.
-ghost use Rattle.std.specs.Prelude.{◌≡◌, ◌==◌, map, IfOk};
+ghost use Rattle.std.specs.Prelude.{◌≡◌, ◌==◌, map, All, IfOk, IsTrue};
 ghost use Rattle.std.specs.List.{slice_split};
 ghost use Rattle.request_names.specs.Numbers.{number_of};
 ghost use Rattle.wire_fields.specs.Fits.{or_zero};
-ghost use Rattle.wire_fields.specs.Forms.{status_of};
+ghost use Rattle.lang_core.specs.Names.{is_name};
+ghost use Rattle.wire_fields.specs.Forms.{is_chain, status_of};
 ghost use Rattle.wire_fields.specs.Rows.{text_at};
 ghost use Rattle.aire_wire.specs.Incoming.{ends_with_name, is_behind_comma, names_in, or_get, who_or_anyone};
 ghost use Rattle.lang_tree.specs.Methods.{method_named};
@@ -71,6 +72,7 @@ fn pieces_of(alloc: Global, chain: &str) -> Result<Vec<&str>, AllocError>
 }
 
 fn names_of(alloc: Global, pieces: &[&str]) -> Result<Names, NoMemory>
+    requires { All (λ piece. IsTrue (is_name piece.now)) pieces.now }
     ensures { IfOk result (λ names. names ≡ map (λ x. x.now) pieces.now) }
 {
     let mut names = Seq::new(alloc);
@@ -82,6 +84,7 @@ fn names_of(alloc: Global, pieces: &[&str]) -> Result<Names, NoMemory>
 
 /// The names of a chain.
 pub fn names_in(alloc: Global, chain: &str) -> Result<Names, NoMemory>
+    requires { IsTrue (is_chain chain.now) }
     ensures { IfOk result (λ names. names ≡ names_in chain.now) }
 {
     let pieces = pieces_of(alloc, chain)?;

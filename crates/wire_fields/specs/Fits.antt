@@ -1,13 +1,15 @@
 -- What the texts of a message's fields say, and whether they fit the message.
-use Rattle.std.specs.Prelude.{ℕ, Bool, true, false, List, [], Option, Some, None, Result, if◌then◌else◌}
+use Rattle.std.specs.Prelude.{ℕ, Bool, true, false, List, [], Option, Some, None, Result, IsTrue, if◌then◌else◌}
 use Rattle.lang_base.specs.Memory.{lacks}
 use Rattle.lang_base.specs.Texts.{same_text}
+use Rattle.lang_core.specs.Names.{is_name}
 use Rattle.http_header.specs.FieldValue.{FieldValue}
 use Rattle.http_header.specs.HeaderMap.{Entries}
 use Rattle.http_front.specs.declared.header.AireHeader.{AireHeader}
 use Rattle.http_front.specs.declared.header.AireHeader.TheVariants as headers
 use Rattle.request_names.specs.Numbers.{number_of}
 use Rattle.request_names.specs.Ids.{id_of}
+use Rattle.wire_fields.specs.Forms.{is_chain}
 use Rattle.wire_fields.specs.Rows.{text_at}
 use Rattle.wire_fields.specs.declared.refused.WireRefused.{WireRefused}
 use Rattle.wire_fields.specs.declared.refused.WireRefused.TheVariants.{NoMemory, BadHeader}
@@ -44,6 +46,16 @@ or_zero (Some n) = n
 -- the number in a field
 abbrev pub version_at : Entries FieldValue → AireHeader → ℕ
 version_at head header = or_zero (number_of (text_at head header))
+
+-- ---- names
+
+-- both services have names
+abbrev pub AreNamed : Entries FieldValue → Type 0
+AreNamed head = IsTrue (is_name (text_at head headers.From)) × IsTrue (is_name (text_at head headers.Dest))
+
+-- the chain is one
+abbrev pub IsChained : Entries FieldValue → Type 0
+IsChained head = IsTrue (is_chain (text_at head headers.Chain))
 
 -- ---- how fields fit
 

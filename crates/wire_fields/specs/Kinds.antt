@@ -1,5 +1,5 @@
 -- Which kind of message a request is.
-use Rattle.std.specs.Prelude.{ℕ, List, Option, Some, None, codes, drop, nat_eq, if◌then◌else◌}
+use Rattle.std.specs.Prelude.{ℕ, List, Option, Some, None, codes, drop, nat_eq, option_map, if◌then◌else◌}
 use Rattle.std.specs.List.{starts_with}
 use Rattle.lang_base.specs.Texts.{same_text}
 use Rattle.lang_tree.specs.declared.method.Method.{Method}
@@ -25,12 +25,8 @@ console_word word =
     else (if same_text word (codes "stop") then Some Stop
     else None)))))))))
 
-abbrev pub console_kind : Option ConsoleWord → Option RequestKind
-console_kind None = None
-console_kind (Some word) = Some (Console word)
-
 abbrev pub console_path : List ℕ → Option RequestKind
-console_path path = if starts_with nat_eq path (codes "/aire/console/") then console_kind (console_word (drop 14 path)) else None
+console_path path = if starts_with nat_eq path (codes "/aire/console/") then option_map Console (console_word (drop 14 path)) else None
 
 -- of a POST to a path below `/aire/`
 abbrev pub posted_kind : List ℕ → Option RequestKind

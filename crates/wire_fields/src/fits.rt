@@ -1,5 +1,6 @@
 // What the texts of a message's fields say, and whether they fit the message.
-ghost use Rattle.std.specs.Prelude.{◌≡◌, IfOk};
+ghost use Rattle.std.specs.Prelude.{◌≡◌, IfOk, IsTrue};
+ghost use Rattle.lang_core.specs.Names.{is_name};
 ghost use Rattle.wire_fields.specs.Fits.{bad_unless, dest_refusal, number_in, service_in, side_refusal, version_at};
 ghost use Rattle.wire_fields.specs.Rows.{first_of};
 
@@ -41,13 +42,14 @@ pub fn version_at(head: &HeaderMap, header: AireHeader) -> u64
     }
 }
 
-/// The name with this text. Each text that comes here has the form of a name, so memory is all that can lack.
+/// The name with this text.
 pub fn name_of(alloc: Global, text: &str) -> Result<Name, NoMemory>
+    requires { IsTrue (is_name text.now) }
     ensures { IfOk result (λ name. name ≡ text.now) }
 {
     match Name::new(Text::of(alloc, text)?) {
         Ok(name) => Ok(name),
-        Err(_) => Err(NoMemory),
+        Err(_) => unreachable!(),
     }
 }
 

@@ -1,15 +1,28 @@
 // Heads, made field by field.
 ghost use Rattle.std.specs.Prelude.{◌≡◌, decimal, OnOk};
+ghost use Rattle.http_front.specs.Table.{spelling};
+ghost use Rattle.http_header.specs.HeaderMap.{append};
+ghost use Rattle.http_header.specs.Token.{lowercase};
 ghost use Rattle.request_names.specs.Ids.{id_text};
 ghost use Rattle.wire_fields.specs.Heads.{with_field};
 
 use http_front::AireHeader;
-use http_header::{HeaderMap, HeaderName, HeaderValue};
+use http_header::{HeaderMap, HeaderValue};
 use lang_core::{Name, NoMemory};
 use std::alloc::Global;
 
-/// Adds a field with this text. A text of its header's form has no control byte, and a head has room for far more fields
-/// than the table has, so memory is all that can lack; a text that no field can hold is answered so too.
+// A head has room for 24,576 names, far more than the table has; a full one is answered as memory that lacks.
+fn put_value(head: &mut HeaderMap, header: AireHeader, value: HeaderValue) -> Result<(), NoMemory>
+    ensures { OnOk result (head.new ≡ append head.old (lowercase (spelling header)) value) }
+{
+    match head.append(header.spelling(), value) {
+        Ok(_) => Ok(()),
+        Err(_) => Err(NoMemory),
+    }
+}
+
+/// Adds a field with this text. A text of its header's form has no control byte, so that memory is all that can lack; a
+/// text that no field can hold is answered so too.
 pub fn put_field(
     alloc: Global,
     head: &mut HeaderMap,
@@ -18,14 +31,8 @@ pub fn put_field(
 ) -> Result<(), NoMemory>
     ensures { OnOk result (head.new ≡ with_field head.old (header, text.now)) }
 {
-    let (Ok(name), Ok(value)) = (
-        HeaderName::from_bytes(alloc, header.spelling().as_bytes()),
-        HeaderValue::from_bytes(alloc, text),
-    ) else {
-        return Err(NoMemory);
-    };
-    match head.append(name, value) {
-        Ok(_) => Ok(()),
+    match HeaderValue::from_bytes(alloc, text) {
+        Ok(value) => put_value(head, header, value),
         Err(_) => Err(NoMemory),
     }
 }

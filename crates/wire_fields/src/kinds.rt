@@ -1,7 +1,7 @@
 // Which kind of message a request is.
 ghost use Rattle.std.specs.Prelude.{◌≡◌, codes};
 ghost use Rattle.http_header.specs.HeaderMap.{get};
-ghost use Rattle.wire_fields.specs.Kinds.{console_kind, console_path, handled_kind, own_kind, posted_kind, request_kind};
+ghost use Rattle.wire_fields.specs.Kinds.{console_path, handled_kind, own_kind, posted_kind, request_kind};
 
 use crate::console::{ConsoleWord, console_word};
 use http_front::WireRequest;
@@ -23,20 +23,11 @@ pub enum RequestKind {
     Console(ConsoleWord),
 }
 
-fn console_kind(word: Option<ConsoleWord>) -> Option<RequestKind>
-    ensures { result ≡ console_kind word }
-{
-    match word {
-        None => None,
-        Some(word) => Some(RequestKind::Console(word)),
-    }
-}
-
 fn console_path(path: &[u8]) -> Option<RequestKind>
     ensures { result ≡ console_path path.now }
 {
     if path.starts_with(b"/aire/console/") {
-        console_kind(console_word(&path[14..]))
+        console_word(&path[14..]).map(RequestKind::Console)
     } else {
         None
     }

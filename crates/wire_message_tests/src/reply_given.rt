@@ -2,7 +2,6 @@
 // `openssl dgst -sha256 -hmac s` prints for the sealed bytes.
 use lang_core::{Name, NoMemory, Text};
 use std::alloc::Global;
-use wire_fields::name_of;
 
 /// The two services, and the secret of both.
 #[derive(Drop)]
@@ -10,6 +9,13 @@ pub struct Services {
     pub bank: Name,
     pub shop: Name,
     pub secret: Text,
+}
+
+pub fn name_of(alloc: Global, characters: &str) -> Result<Name, NoMemory> {
+    match Name::new(Text::of(alloc, characters)?) {
+        Ok(name) => Ok(name),
+        Err(_) => Err(NoMemory),
+    }
 }
 
 pub fn bank_and_shop(alloc: Global) -> Result<Services, NoMemory> {

@@ -3,14 +3,13 @@ ghost use Rattle.std.specs.Prelude.{◌≡◌, Some, None, IfOk};
 ghost use Rattle.wire_replies.specs.Writing.{IsFor};
 
 use crate::reply_given::{
-    ACK, CONFIRM, DENIED, FULL, LIVE, NOT_FOUND, NOT_HELD, Services, bank_and_shop,
+    ACK, CONFIRM, DENIED, FULL, LIVE, NOT_FOUND, NOT_HELD, Services, bank_and_shop, name_of,
 };
 use http_front::{WireResponse, write_response};
 use io_edge::MemorySink;
 use lang_core::{Copied, NoMemory, RequestId, Response, Text};
 use repair_messages::{Ack, AnswerMessage, Confirm, copied_pair};
 use std::alloc::Global;
-use wire_fields::name_of;
 use wire_replies::{Outgoing, write_reply};
 
 fn holds(answer: Result<bool, NoMemory>) -> bool {

@@ -1,3 +1,4 @@
+mod GoodHeads
 mod Accepted
 mod KnownKinds
 mod RoundTrip

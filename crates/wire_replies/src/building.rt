@@ -1,5 +1,6 @@
 // Replies from the parts of a response.
 ghost use Rattle.std.specs.Prelude.{◌≡◌, IfOk};
+ghost use Rattle.wire_fields.specs.Fits.{AreNamed};
 ghost use Rattle.wire_fields.specs.Rows.{text_at};
 ghost use Rattle.wire_replies.specs.Reading.{ack_in, confirm_in, live_answer, refusal_or_none, reply_in, request_id_in, response_in};
 ghost use Rattle.wire_fields.specs.Words.{refusal_of};
@@ -22,6 +23,7 @@ struct Sides {
 }
 
 fn sides_of(alloc: Global, head: &HeaderMap) -> Result<Sides, NoMemory>
+    requires { AreNamed head.now }
     ensures from { IfOk result (λ sides. sides.from ≡ text_at head.now AireHeader.From) }
     ensures dest { IfOk result (λ sides. sides.dest ≡ text_at head.now AireHeader.Dest) }
 {
@@ -41,6 +43,7 @@ fn response_in(alloc: Global, response: &WireResponse) -> Result<Response, NoMem
 }
 
 fn request_id_in(alloc: Global, response: &WireResponse) -> Result<RequestId, NoMemory>
+    requires { AreNamed response.now.head }
     ensures { IfOk result (λ id. id ≡ request_id_in response.now) }
 {
     let service = name_of(alloc, text_at(&response.head, AireHeader::From))?;
@@ -67,6 +70,7 @@ fn said_in(alloc: Global, response: &WireResponse) -> Result<Said, NoMemory>
 }
 
 fn live_answer(alloc: Global, response: &WireResponse) -> Result<AnswerMessage, NoMemory>
+    requires { AreNamed response.now.head }
     ensures { IfOk result (λ answer. answer ≡ live_answer response.now) }
 {
     let head = &response.head;
@@ -89,6 +93,7 @@ fn with_answer(
     answer: AnswerMessage,
     response: &WireResponse,
 ) -> Result<Outgoing, NoMemory>
+    requires { AreNamed response.now.head }
     ensures { IfOk result (λ reply. reply
         ≡ replies.Answered (request_id_in response.now) (Some answer) (response_in response.now)) }
 {
@@ -102,6 +107,7 @@ fn with_answer(
 }
 
 fn live_reply(alloc: Global, response: &WireResponse) -> Result<Outgoing, NoMemory>
+    requires { AreNamed response.now.head }
     ensures { IfOk result (λ reply. reply
         ≡ replies.Answered (request_id_in response.now) (Some (live_answer response.now)) (response_in response.now)) }
 {
@@ -112,6 +118,7 @@ fn live_reply(alloc: Global, response: &WireResponse) -> Result<Outgoing, NoMemo
 }
 
 fn ack_in(alloc: Global, head: &HeaderMap) -> Result<Outgoing, NoMemory>
+    requires { AreNamed head.now }
     ensures { IfOk result (λ reply. reply ≡ replies.Ack (ack_in head.now)) }
 {
     let sides = sides_of(alloc, head)?;
@@ -124,6 +131,7 @@ fn ack_in(alloc: Global, head: &HeaderMap) -> Result<Outgoing, NoMemory>
 }
 
 fn confirm_in(alloc: Global, head: &HeaderMap) -> Result<Outgoing, NoMemory>
+    requires { AreNamed head.now }
     ensures { IfOk result (λ reply. reply ≡ replies.Confirm (confirm_in head.now)) }
 {
     let sides = sides_of(alloc, head)?;
@@ -157,6 +165,7 @@ pub fn reply_in(
     kind: ReplyKind,
     response: &WireResponse,
 ) -> Result<Outgoing, NoMemory>
+    requires { AreNamed response.now.head }
     ensures { IfOk result (λ reply. reply ≡ reply_in kind response.now) }
 {
     let head = &response.head;
