@@ -22,7 +22,7 @@ use lang_core::{NoMemory, Reads, Seq, Text};
 use place_order::Order;
 use std::alloc::Global;
 use std::marker::Model;
-use versioned_rows::{KeyLabels, labels_at, labels_in};
+use versioned_rows::{KeyRow, labels_at, labels_in};
 
 /// Labels, as a list.
 pub type Labels = Seq<u64>;
@@ -151,7 +151,7 @@ fn put_all(found: &mut Vec<u64>, labels: &[u64]) -> Result<(), NoMemory>
 // The labels in the rows of all prefixes of a key.
 fn labels_under(
     alloc: Global,
-    rows: &[KeyLabels],
+    rows: &[KeyRow],
     table: &Text,
     key: &[u8],
 ) -> Result<Vec<u64>, NoMemory>

@@ -3,23 +3,23 @@ ghost use Rattle.std.specs.Prelude.{ℕ, List, ◌≡◌, ◌+◌, ◌≤◌, tr
 ghost use Rattle.std.specs.List.{list_any};
 ghost use Rattle.lang_core.specs.Places.{IsOrdered};
 ghost use Rattle.versioned_rows.specs.Places.{is_other};
-ghost use Rattle.versioned_rows.specs.Rows.{row_place, labels_in, spare_in, IsEdited};
+ghost use Rattle.versioned_rows.specs.Rows.{row_place, labels_in, spare_of, spare_in, IsEdited};
 ghost use Rattle.dependency_index.specs.Numbers.{Rises, with_number};
 ghost use Rattle.dependency_index.specs.Reads.{is_at};
 ghost use Rattle.dependency_index.specs.Rows.{AreOrdered, labels_by, spare_by, places_by};
 ghost use Rattle.dependency_index.specs.declared.reads.ReadKind.{ReadKind};
 
-use crate::numbers::put_reserved;
+use crate::numbers::seek_number;
 use crate::reads::{ReadAt, ReadKind};
 use lang_core::{NoMemory, Text};
 use std::alloc::Global;
-use versioned_rows::{KeyLabels, copied_rows, drop_label, make_row, seek};
+use versioned_rows::{KeyRow, copied_rows, drop_label, make_row, seek};
 
 /// For each key and each prefix that was ever read, the labels that read it now, in the order of their numbers.
 #[derive(Drop)]
 pub struct ReadRows {
-    pub keys: Vec<KeyLabels>,
-    pub scans: Vec<KeyLabels>,
+    pub keys: Vec<KeyRow>,
+    pub scans: Vec<KeyRow>,
 }
 
 /// Rows with the same labels.
@@ -33,8 +33,23 @@ pub(crate) fn copied_reads(alloc: Global, rows: &ReadRows) -> Result<ReadRows, N
     Ok(ReadRows { keys, scans })
 }
 
+// Puts a label into a row, if it isn't there yet, where there is room for it.
+fn put_in(row: &mut KeyRow, label: u64)
+    requires rising { Rises row.old.labels.items }
+    requires fits { length (with_number label row.old.labels.items) ≤ length row.old.labels.items + spare_of row.old }
+    ensures place { row_place row.new ≡ row_place row.old }
+    ensures labels { row.new.labels.items ≡ with_number label row.old.labels.items }
+    ensures places { length row.old.labels.items + spare_of row.old ≤ length row.new.labels.items + spare_of row.new }
+{
+    let (at, taken) = seek_number(row.labels(), label);
+    if taken {
+        return;
+    }
+    row.insert(at, label);
+}
+
 // Puts a label into the row of a key, if it isn't there yet.
-fn put_label(rows: &mut Vec<KeyLabels>, table: &Text, key: &Text, label: u64)
+fn put_label(rows: &mut Vec<KeyRow>, table: &Text, key: &Text, label: u64)
     requires ordered { IsOrdered row_place rows.old.items }
     requires rising { Rises (labels_in rows.old.items table.now key.now) }
     requires fits { length (with_number label (labels_in rows.old.items table.now key.now))
@@ -45,7 +60,7 @@ fn put_label(rows: &mut Vec<KeyLabels>, table: &Text, key: &Text, label: u64)
         ≤ length (labels_in rows.new.items t k) + spare_in rows.new.items t k }
 {
     let (at, _) = seek(rows, table, key);
-    put_reserved(&mut rows[at].labels, label);
+    put_in(&mut rows[at], label);
 }
 
 fn put_read(rows: &mut ReadRows, read: &ReadAt, label: u64)

@@ -6,6 +6,7 @@ use Rattle.std.proofs.lemmas.List.{map-append}
 use Rattle.std.proofs.lemmas.List.Elements.{filter-append}
 use Rattle.lang_core.specs.Places.{IsOrdered}
 use Rattle.lang_core.specs.Rows.{write_place}
+use Rattle.place_order.specs.Labels.{place_in}
 use Rattle.place_order.specs.Rising.{IsBeforeAll, IsRising, is_before}
 use Rattle.versioned_rows.specs.Places.{label_of, is_written, writers, is_other, without, with_writer, with_place}
 use Rattle.versioned_rows.specs.Rows.{labels_in, row_place}
@@ -28,43 +29,54 @@ pub all_others : (label : ℕ) (xs : List ℕ) → AllByRecursion (λ y. nat_eq 
 all_others label [] all = refl
 all_others label (x ∷ xs) all = let here = all.0 in rw here (ap (λ l. x ∷ l) (all_others label xs all.1))
 
-places_others : (label : ℕ) (ps : List PlaceWrites) → AllByRecursion (λ y. nat_eq y label ≡ false) (map label_of ps) → without label ps ≡ ps
-places_others label [] all = refl
-places_others label (p ∷ ps) all = let here = all.0 in rw here (ap (λ l. p ∷ l) (places_others label ps all.1))
+others_stay : {X : Type 0} (f : X → ℕ) (label : ℕ) (ps : List X) → AllByRecursion (λ y. nat_eq y label ≡ false) (map f ps) → filter (λ p. is_other label (f p)) ps ≡ ps
+others_stay f label [] all = refl
+others_stay f label (p ∷ ps) all = let here = all.0 in rw here (ap (λ l. p ∷ l) (others_stay f label ps all.1))
 
 apart_from : (a b : ℕ) (xs : List ℕ) → a ≡ b → AllByRecursion (λ y. nat_eq y a ≡ false) xs → AllByRecursion (λ y. nat_eq y b ≡ false) xs
 apart_from a b xs e all = let P : ℕ → Type 0 = λ n. AllByRecursion (λ y. nat_eq y n ≡ false) xs in subst P e all
 
-removed_by : (label : ℕ) (p : PlaceWrites) (ps : List PlaceWrites) (b : Bool) → nat_eq (label_of p) label ≡ b → IsApart (map label_of (p ∷ ps))
-    → (b ≡ false → remove ps (position_or_len (λ q. nat_eq (label_of q) label) ps) ≡ without label ps)
-    → remove (p ∷ ps) (cond (not b) (1 + position_or_len (λ q. nat_eq (label_of q) label) ps) 0) ≡ cond (not b) (p ∷ without label ps) (without label ps)
-removed_by label p ps true e apart more = sym (places_others label ps (apart_from p.label label (map label_of ps) (eqb-true p.label label e) apart.0))
-removed_by label p ps false e apart more =
-    let n : 1 + position_or_len (λ q. nat_eq (label_of q) label) ps ≡ suc (position_or_len (λ q. nat_eq (label_of q) label) ps) = omega arith in
-    rw n (ap (λ l. p ∷ l) (more refl))
+module _ {X : Type 0} (f : X → ℕ) (label : ℕ) where
+  removed_by : (p : X) (ps : List X) (b : Bool) → nat_eq (f p) label ≡ b → IsApart (map f (p ∷ ps))
+      → (b ≡ false → remove ps (position_or_len (λ q. nat_eq (f q) label) ps) ≡ filter (λ q. is_other label (f q)) ps)
+      → remove (p ∷ ps) (cond (not b) (1 + position_or_len (λ q. nat_eq (f q) label) ps) 0) ≡ cond (not b) (p ∷ filter (λ q. is_other label (f q)) ps) (filter (λ q. is_other label (f q)) ps)
+  removed_by p ps true e apart more = sym (others_stay f label ps (apart_from (f p) label (map f ps) (eqb-true (f p) label e) apart.0))
+  removed_by p ps false e apart more =
+      let n : 1 + position_or_len (λ q. nat_eq (f q) label) ps ≡ suc (position_or_len (λ q. nat_eq (f q) label) ps) = omega arith in
+      rw n (ap (λ l. p ∷ l) (more refl))
 
-pub removed : (label : ℕ) (ps : List PlaceWrites) → IsApart (map label_of ps) → remove ps (position_or_len (λ q. nat_eq (label_of q) label) ps) ≡ without label ps
-removed label [] apart = refl
-removed label (p ∷ ps) apart = removed_by label p ps (nat_eq (label_of p) label) refl apart (λ _. removed label ps apart.1)
+  -- of what has labels that differ, the one of a label is taken out where it stands
+  pub removed : (ps : List X) → IsApart (map f ps) → remove ps (position_or_len (λ q. nat_eq (f q) label) ps) ≡ filter (λ q. is_other label (f q)) ps
+  removed [] apart = refl
+  removed (p ∷ ps) apart = removed_by p ps (nat_eq (f p) label) refl apart (λ _. removed ps apart.1)
 
-named_by : (label : ℕ) (p : PlaceWrites) (ps : List PlaceWrites) (b : Bool) → nat_eq (label_of p) label ≡ b
-    → suc (length ps) ≤ cond (not b) (1 + position_or_len (λ q. nat_eq (label_of q) label) ps) 0
-    → (length ps ≤ position_or_len (λ q. nat_eq (label_of q) label) ps → AllByRecursion (λ y. nat_eq y label ≡ false) (map label_of ps))
-    → AllByRecursion (λ y. nat_eq y label ≡ false) (map label_of (p ∷ ps))
-named_by label p ps true e le more = absurd (omega arith)
-named_by label p ps false e le more = (e, more (omega arith))
+  named_by : (p : X) (ps : List X) (b : Bool) → nat_eq (f p) label ≡ b
+      → suc (length ps) ≤ cond (not b) (1 + position_or_len (λ q. nat_eq (f q) label) ps) 0
+      → (length ps ≤ position_or_len (λ q. nat_eq (f q) label) ps → AllByRecursion (λ y. nat_eq y label ≡ false) (map f ps))
+      → AllByRecursion (λ y. nat_eq y label ≡ false) (map f (p ∷ ps))
+  named_by p ps true e le more = absurd (omega arith)
+  named_by p ps false e le more = (e, more (omega arith))
 
-none_named : (label : ℕ) (ps : List PlaceWrites) → length ps ≤ position_or_len (λ q. nat_eq (label_of q) label) ps → AllByRecursion (λ y. nat_eq y label ≡ false) (map label_of ps)
-none_named label [] le = tt
-none_named label (p ∷ ps) le = named_by label p ps (nat_eq (label_of p) label) refl le (none_named label ps)
+  none_named : (ps : List X) → length ps ≤ position_or_len (λ q. nat_eq (f q) label) ps → AllByRecursion (λ y. nat_eq y label ≡ false) (map f ps)
+  none_named [] le = tt
+  none_named (p ∷ ps) le = named_by p ps (nat_eq (f p) label) refl le (none_named ps)
 
-pub not_there : (label : ℕ) (ps : List PlaceWrites) → position (λ q. nat_eq (label_of q) label) ps ≡ None → IsApart (map label_of ps) → ps ≡ without label ps
-not_there label ps h apart = sym (places_others label ps (none_by (nat_lt (position_or_len (λ q. nat_eq (label_of q) label) ps) (length ps)) refl h))
-  where
-    none_by : (b : Bool) → nat_lt (position_or_len (λ q. nat_eq (label_of q) label) ps) (length ps) ≡ b → cond b (Some (position_or_len (λ q. nat_eq (label_of q) label) ps)) None ≡ None
-        → AllByRecursion (λ y. nat_eq y label ≡ false) (map label_of ps)
-    none_by true e h = cc
-    none_by false e h = none_named label ps (ltb-false (position_or_len (λ q. nat_eq (label_of q) label) ps) (length ps) e)
+  none_by : (ps : List X) (b : Bool) → nat_lt (position_or_len (λ q. nat_eq (f q) label) ps) (length ps) ≡ b → cond b (Some (position_or_len (λ q. nat_eq (f q) label) ps)) None ≡ None
+      → AllByRecursion (λ y. nat_eq y label ≡ false) (map f ps)
+  none_by ps true e h = cc
+  none_by ps false e h = none_named ps (ltb-false (position_or_len (λ q. nat_eq (f q) label) ps) (length ps) e)
+
+  pub not_there : (ps : List X) → position (λ q. nat_eq (f q) label) ps ≡ None → ps ≡ filter (λ q. is_other label (f q)) ps
+  not_there ps h = sym (others_stay f label ps (none_by ps (nat_lt (position_or_len (λ q. nat_eq (f q) label) ps) (length ps)) refl h))
+
+later_apart : (order : List ℕ) (x : ℕ) (ys : List ℕ) → IsBeforeAll order x ys → AllByRecursion (λ y. nat_eq y x ≡ false) ys
+later_apart order x [] all = tt
+later_apart order x (y ∷ ys) all = (ne_eqb y x (λ e. let same = ap (place_in order) e in let lt = all.0 in omega arith), later_apart order x ys all.1)
+
+-- labels that rise differ
+pub rising_apart : (order xs : List ℕ) → IsRising order xs → IsApart xs
+rising_apart order [] r = tt
+rising_apart order (x ∷ xs) r = (later_apart order x xs r.1, rising_apart order xs r.2)
 
 at_by : (label : ℕ) (x p : PlaceWrites) (ps : List PlaceWrites) (b : Bool) → nat_eq (label_of p) label ≡ b
     → cond (not b) (1 + position_or_len (λ q. nat_eq (label_of q) label) ps) 0 < suc (length ps)

@@ -3,6 +3,7 @@ pub mod CellLemmas
 pub mod CopyLemmas
 pub mod EditLemmas
 pub mod GetLemmas
+pub mod HeldLemmas
 pub mod IndexLemmas
 pub mod InsteadLemmas
 pub mod PrefixLemmas

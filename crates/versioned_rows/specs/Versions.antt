@@ -67,6 +67,10 @@ abbrev pub IsApart : List ℕ → Type 0
 IsApart [] = Unit {0}
 IsApart (x ∷ xs) = AllByRecursion (λ y. nat_eq y x ≡ false) xs × IsApart xs
 
+-- a row has the labels of the places that write its key
+abbrev pub NamesWriters : List PlaceWrites → KeyLabels → Type 0
+NamesWriters places r = r.labels.items ≡ writers r.table r.key places
+
 -- the rows name at each key the places that write it
 pub record IsIndexed (places : List PlaceWrites) (rows : List KeyLabels) : Type 0 where
   pub apart : IsApart (map label_of places)

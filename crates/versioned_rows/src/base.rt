@@ -12,7 +12,7 @@ ghost use Rattle.versioned_rows.specs.declared.rows.KeyLabels.{KeyLabels};
 
 use crate::places::PlaceWrites;
 use crate::room::VersionsCall;
-use crate::rows::{KeyLabels, make_rows};
+use crate::rows::{KeyRow, make_rows};
 use crate::seeking::seek;
 use lang_core::{Cell, Cells, Copied, NoMemory, Same, Text};
 use lang_lists::take_room;
@@ -76,7 +76,7 @@ fn spend_base(room: &mut Vec<VersionsCall>, cells: &Cells) -> Option<Cells>
 }
 
 // A copy of these rows, and a row of labels for each of their keys.
-fn new_base(alloc: Global, rows: &mut Vec<KeyLabels>, cells: &Cells) -> Result<Cells, NoMemory>
+fn new_base(alloc: Global, rows: &mut Vec<KeyRow>, cells: &Cells) -> Result<Cells, NoMemory>
     requires { IsOrdered row_place rows.old.items }
     ensures ordered { IsOrdered row_place rows.new.items }
     ensures each { (t k : List ℕ) → labels_in rows.new.items t k ≡ labels_in rows.old.items t k }
@@ -93,7 +93,7 @@ fn new_base(alloc: Global, rows: &mut Vec<KeyLabels>, cells: &Cells) -> Result<C
 pub(crate) fn ready_base(
     alloc: Global,
     places: &mut Vec<PlaceWrites>,
-    rows: &mut Vec<KeyLabels>,
+    rows: &mut Vec<KeyRow>,
     room: &mut Vec<VersionsCall>,
     cells: &Cells,
 ) -> Result<(), NoMemory>
@@ -119,7 +119,7 @@ pub(crate) fn ready_base(
 /// A copy of these rows, and a row of labels for each of their keys: those of the room that was made for them, or new ones.
 pub(crate) fn take_base(
     alloc: Global,
-    rows: &mut Vec<KeyLabels>,
+    rows: &mut Vec<KeyRow>,
     room: &mut Vec<VersionsCall>,
     cells: &Cells,
 ) -> Result<Cells, NoMemory>

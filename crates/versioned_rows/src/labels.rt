@@ -1,5 +1,5 @@
 // How many of a list stand before a label, found by halves.
-ghost use Rattle.std.specs.Prelude.{ℕ, ◌≡◌, ◌<◌, ◌≤◌, length, filter, map, take, true, false, slice_index_or};
+ghost use Rattle.std.specs.Prelude.{ℕ, ◌≡◌, ◌<◌, ◌≤◌, length, filter, map, nat_eq, position, take, true, false, slice_index_or};
 ghost use Rattle.std.specs.List.{Contains};
 ghost use Rattle.std.specs.Option.{ForSome};
 ghost use Rattle.place_order.specs.Rising.{IsRising, is_before};
@@ -51,4 +51,21 @@ pub(crate) fn count_before<T: Labelled>(order: &Order, items: &[T], end: Option<
             requires end { ForSome end (Contains order.now.labels) }
         { is_before(order, item.label(), end) },
     )
+}
+
+/// Where the one of a label stands, if it is there, found by halves.
+pub(crate) fn position_in<T: Labelled>(order: &Order, items: &[T], label: u64) -> Option<usize>
+    requires rising { IsRising order.now.labels (map T.label items.now) }
+    requires label { Contains order.now.labels label }
+    ensures { result ≡ position (λ x. nat_eq (T.label x) label) items.now }
+{
+    let at = count_before(order, items, Some(label));
+    if at == items.len() {
+        return None;
+    }
+    if items[at].label() == label {
+        Some(at)
+    } else {
+        None
+    }
 }

@@ -10,7 +10,7 @@ ghost use Rattle.versioned_rows.specs.Rows.{spare_in, KeepsRows};
 ghost use Rattle.versioned_rows.specs.Versions.{IsIndexed};
 
 use crate::labels::{Labelled, count_before};
-use crate::rows::{KeyLabels, drop_labels, put_labels};
+use crate::rows::{KeyRow, drop_labels, drop_labels_in, put_labels};
 use lang_core::{Copied, NoMemory, Same, Text, Write, Writes};
 use place_order::Order;
 use std::alloc::Global;
@@ -79,24 +79,10 @@ pub(crate) fn position_of(places: &[PlaceWrites], label: u64) -> Option<usize>
     places.iter().position(|place| place.label == label)
 }
 
-/// The same, found by halves in the order.
-pub(crate) fn position_in(order: &Order, places: &[PlaceWrites], label: u64) -> Option<usize>
-    requires rising { IsRising order.now.labels (map label_of places.now) }
-    requires label { Contains order.now.labels label }
-    ensures { result ≡ position (λ p. nat_eq (label_of p) label) places.now }
-{
-    let at = count_before(order, places, Some(label));
-    if at == places.len() {
-        return None;
-    }
-    let place = &places[at];
-    if place.label == label { Some(at) } else { None }
-}
-
 /// Takes the place of a label out, which stands there, if it does.
 pub(crate) fn take_out(
     places: &mut Vec<PlaceWrites>,
-    rows: &mut Vec<KeyLabels>,
+    rows: &mut Vec<KeyRow>,
     label: u64,
     stands: Option<usize>,
 )
@@ -119,12 +105,7 @@ pub(crate) fn take_out(
 }
 
 // Puts in the place of a label that isn't there, where there is room for it.
-fn put_in(
-    order: &Order,
-    places: &mut Vec<PlaceWrites>,
-    rows: &mut Vec<KeyLabels>,
-    place: PlaceWrites,
-)
+fn put_in(order: &Order, places: &mut Vec<PlaceWrites>, rows: &mut Vec<KeyRow>, place: PlaceWrites)
     requires indexed { IsIndexed places.old.items rows.old.items }
     requires rising { IsRising order.now.labels (map label_of places.old.items) }
     requires label { Contains order.now.labels place.label }
@@ -184,7 +165,7 @@ fn stands_alike(places: &[PlaceWrites], stands: Option<usize>, writes: &Writes) 
 fn put_over(
     order: &Order,
     places: &mut Vec<PlaceWrites>,
-    rows: &mut Vec<KeyLabels>,
+    rows: &mut Vec<KeyRow>,
     place: PlaceWrites,
     at: usize,
 )
@@ -204,7 +185,7 @@ fn put_over(
     ensures len { vec_len places.new ≡ vec_len places.old }
     ensures capacity { vec_capacity places.old ≤ vec_capacity places.new }
 {
-    drop_labels(rows, places[at].writes.as_slice(), place.label);
+    drop_labels_in(order, rows, places[at].writes.as_slice(), place.label);
     put_labels(order, rows, place.writes.as_slice(), place.label);
     places[at] = place;
 }
@@ -213,7 +194,7 @@ fn put_over(
 fn put_anew(
     order: &Order,
     places: &mut Vec<PlaceWrites>,
-    rows: &mut Vec<KeyLabels>,
+    rows: &mut Vec<KeyRow>,
     place: PlaceWrites,
     stands: Option<usize>,
 )
@@ -245,7 +226,7 @@ fn put_anew(
 pub(crate) fn put_instead(
     order: &Order,
     places: &mut Vec<PlaceWrites>,
-    rows: &mut Vec<KeyLabels>,
+    rows: &mut Vec<KeyRow>,
     place: PlaceWrites,
     stands: Option<usize>,
 )

@@ -10,7 +10,7 @@ ghost use Rattle.versioned_rows.specs.Versions.{asked, call_code, write_call, Is
 ghost use Rattle.versioned_rows.specs.declared.rows.KeyLabels.{KeyLabels};
 
 use crate::places::PlaceWrites;
-use crate::rows::{KeyLabels, make_rows};
+use crate::rows::{KeyRow, make_rows};
 use lang_core::{Cells, Copied, NoMemory, Same, Writes};
 use lang_lists::take_room;
 use std::alloc::Global;
@@ -77,7 +77,7 @@ fn spend_room(room: &mut Vec<VersionsCall>, writes: &Writes) -> Option<Writes>
 fn new_writes(
     alloc: Global,
     places: &mut Vec<PlaceWrites>,
-    rows: &mut Vec<KeyLabels>,
+    rows: &mut Vec<KeyRow>,
     writes: &Writes,
     more: usize,
 ) -> Result<Writes, NoMemory>
@@ -102,7 +102,7 @@ fn new_writes(
 pub(crate) fn ready_writes(
     alloc: Global,
     places: &mut Vec<PlaceWrites>,
-    rows: &mut Vec<KeyLabels>,
+    rows: &mut Vec<KeyRow>,
     room: &mut Vec<VersionsCall>,
     writes: &Writes,
 ) -> Result<(), NoMemory>
@@ -128,7 +128,7 @@ pub(crate) fn ready_writes(
 pub(crate) fn take_writes(
     alloc: Global,
     places: &mut Vec<PlaceWrites>,
-    rows: &mut Vec<KeyLabels>,
+    rows: &mut Vec<KeyRow>,
     room: &mut Vec<VersionsCall>,
     writes: &Writes,
 ) -> Result<Writes, NoMemory>

@@ -1,5 +1,5 @@
 // For each key that was ever written, the labels of the places that write it.
-ghost use Rattle.std.specs.Prelude.{ℕ, List, ◌≡◌, ◌+◌, ◌<◌, ◌≤◌, [], true, filter, length, IfOk, OnOk, vec_len, vec_capacity, if◌then◌else◌};
+ghost use Rattle.std.specs.Prelude.{ℕ, List, ◌≡◌, ◌+◌, ◌<◌, ◌≤◌, [], true, filter, insert, length, IfOk, OnOk, if◌then◌else◌};
 ghost use Rattle.std.specs.List.{Contains};
 ghost use Rattle.lang_core.specs.Places.{IsOrdered, place_of, same_place};
 ghost use Rattle.lang_core.specs.Rows.{write_place};
@@ -7,11 +7,13 @@ ghost use Rattle.place_order.specs.Rising.{IsRising};
 ghost use Rattle.versioned_rows.specs.Places.{is_among, is_written, is_other, with_writer};
 ghost use Rattle.versioned_rows.specs.Rows.{row_place, labels_in, spare_of, spare_in, has_row, IsCopy, IsEdited, KeepsRows};
 
-use crate::labels::count_before;
+use crate::labels::{count_before, position_in};
 use crate::seeking::{seek, seek_bytes};
+use lang_base::both;
 use lang_core::{Copied, NoMemory, Placed, Text, Write};
 use place_order::Order;
 use std::alloc::Global;
+use std::marker::Model;
 
 /// The labels that stand at a key, as those of the places that write it. It may have none.
 #[derive(Drop)]
@@ -21,36 +23,116 @@ pub struct KeyLabels {
     pub labels: Vec<u64>,
 }
 
-impl Placed for KeyLabels {
+/// The labels at a key behind a pointer, seen as these: a list of rows moves eight bytes for each later one when a key is new.
+#[derive(Drop)]
+pub struct KeyRow {
+    inner: Box<KeyLabels>,
+}
+
+impl Model for KeyRow {
+    ghost use Rattle.versioned_rows.specs.declared.rows.KeyLabels.{KeyLabels};
+
+    ghost Value = { KeyLabels };
+
+    ghost view = { λ row. row.inner.value };
+}
+
+impl Placed for KeyRow {
     ghost place = { λ r. place_of r.table r.key };
 
     fn table(&self) -> &Text {
-        &self.table
+        &self.inner.table
     }
 
     fn key(&self) -> &Text {
-        &self.key
+        &self.inner.key
+    }
+}
+
+impl KeyRow {
+    /// The labels.
+    pub fn labels(&self) -> &[u64]
+        ensures { result.now ≡ self.now.labels.items }
+    {
+        &self.inner.labels
+    }
+
+    /// Puts a label in at a place of the labels, where there is room for it.
+    pub fn insert(&mut self, at: usize, label: u64)
+        requires within { at ≤ length self.old.labels.items }
+        requires room { 0 < spare_of self.old }
+        ensures place { row_place self.new ≡ row_place self.old }
+        ensures labels { self.new.labels.items ≡ insert self.old.labels.items at label }
+        ensures spare { spare_of self.old ≤ spare_of self.new + 1 }
+    {
+        let _ = self.inner.labels.insert(at, label);
+    }
+
+    // Takes a label out, if it is there.
+    fn drop_label(&mut self, label: u64)
+        ensures place { row_place self.new ≡ row_place self.old }
+        ensures labels { self.new.labels.items ≡ filter (is_other label) self.old.labels.items }
+        ensures spare { spare_of self.old ≤ spare_of self.new }
+    {
+        self.inner.labels.retain(|other| *other != label);
+    }
+
+    // Takes a label out, found by halves in the order in which they rise.
+    fn drop_in(&mut self, order: &Order, label: u64)
+        requires rising { IsRising order.now.labels self.old.labels.items }
+        requires label { Contains order.now.labels label }
+        ensures place { row_place self.new ≡ row_place self.old }
+        ensures labels { self.new.labels.items ≡ filter (is_other label) self.old.labels.items }
+        ensures spare { spare_of self.old ≤ spare_of self.new }
+    {
+        match position_in(order, self.labels(), label) {
+            None => {}
+            Some(at) => {
+                let _ = self.inner.labels.remove(at);
+            }
+        }
+    }
+
+    // Makes places for so many labels more.
+    fn reserve(&mut self, spare: usize) -> Result<(), NoMemory>
+        ensures place { row_place self.new ≡ row_place self.old }
+        ensures labels { self.new.labels.items ≡ self.old.labels.items }
+        ensures kept { spare_of self.old ≤ spare_of self.new }
+        ensures spare { OnOk result (spare ≤ spare_of self.new) }
+    {
+        self.inner.labels.reserve(spare)?;
+        Ok(())
     }
 }
 
 /// The labels in the row of a key with these bytes.
-pub fn labels_at<'a>(rows: &'a [KeyLabels], table: &Text, key: &[u8]) -> &'a [u64]
+pub fn labels_at<'a>(rows: &'a [KeyRow], table: &Text, key: &[u8]) -> &'a [u64]
     requires { IsOrdered row_place rows.now }
     ensures { result.now ≡ labels_in rows.now table.now key.now }
 {
     let (at, taken) = seek_bytes(rows, table, key);
-    if taken { &rows[at].labels } else { &[] }
+    if taken { rows[at].labels() } else { &[] }
 }
 
 /// The labels in the row of a key.
-pub fn labels_in<'a>(rows: &'a [KeyLabels], table: &Text, key: &Text) -> &'a [u64]
+pub fn labels_in<'a>(rows: &'a [KeyRow], table: &Text, key: &Text) -> &'a [u64]
     requires { IsOrdered row_place rows.now }
     ensures { result.now ≡ labels_in rows.now table.now key.now }
 {
     labels_at(rows, table, key.as_bytes())
 }
 
-fn empty_row(alloc: Global, table: &Text, key: &Text, spare: usize) -> Result<KeyLabels, NoMemory>
+fn row_of(alloc: Global, table: &Text, key: &Text, labels: Vec<u64>) -> Result<KeyRow, NoMemory>
+    ensures table { IfOk result (λ row. row.table ≡ table.now) }
+    ensures key { IfOk result (λ row. row.key ≡ key.now) }
+    ensures labels { IfOk result (λ row. row.labels ≡ labels) }
+{
+    let (table, key) = both(table.copied(alloc), key.copied(alloc))?;
+    let inner = Box::new(alloc, KeyLabels { table, key, labels })?;
+    Ok(KeyRow { inner })
+}
+
+fn empty_row(alloc: Global, table: &Text, key: &Text, spare: usize) -> Result<KeyRow, NoMemory>
     ensures table { IfOk result (λ row. row.table ≡ table.now) }
     ensures key { IfOk result (λ row. row.key ≡ key.now) }
     ensures labels { IfOk result (λ row. row.labels.items ≡ []) }
@@ -58,25 +140,13 @@ fn empty_row(alloc: Global, table: &Text, key: &Text, spare: usize) -> Result<Ke
 {
     let mut labels = Vec::new(alloc);
     labels.reserve(spare)?;
-    let table = table.copied(alloc)?;
-    let key = key.copied(alloc)?;
-    Ok(KeyLabels { table, key, labels })
-}
-
-fn make_spare(labels: &mut Vec<u64>, spare: usize) -> Result<(), NoMemory>
-    ensures labels { labels.new.items ≡ labels.old.items }
-    ensures len { vec_len labels.new ≡ vec_len labels.old }
-    ensures capacity { vec_capacity labels.old ≤ vec_capacity labels.new }
-    ensures spare { OnOk result (vec_len labels.new + spare ≤ vec_capacity labels.new) }
-{
-    labels.reserve(spare)?;
-    Ok(())
+    row_of(alloc, table, key, labels)
 }
 
 /// Sees to it that a key has a row with places for so many labels more. No label changes.
 pub fn make_row(
     alloc: Global,
-    rows: &mut Vec<KeyLabels>,
+    rows: &mut Vec<KeyRow>,
     table: &Text,
     key: &Text,
     spare: usize,
@@ -91,24 +161,22 @@ pub fn make_row(
 {
     let (at, taken) = seek(rows, table, key);
     if taken {
-        return make_spare(&mut rows[at].labels, spare);
+        return rows[at].reserve(spare);
     }
     let row = empty_row(alloc, table, key, spare)?;
     rows.insert(at, row)?;
     Ok(())
 }
 
-fn copied_row(alloc: Global, row: &KeyLabels) -> Result<KeyLabels, NoMemory>
+fn copied_row(alloc: Global, row: &KeyRow) -> Result<KeyRow, NoMemory>
     ensures { IfOk result (IsCopy row.now) }
 {
-    let labels = Vec::from_slice(alloc, &row.labels)?;
-    let table = row.table.copied(alloc)?;
-    let key = row.key.copied(alloc)?;
-    Ok(KeyLabels { table, key, labels })
+    let labels = Vec::from_slice(alloc, row.labels())?;
+    row_of(alloc, row.table(), row.key(), labels)
 }
 
 /// Rows with the same labels.
-pub fn copied_rows(alloc: Global, rows: &[KeyLabels]) -> Result<Vec<KeyLabels>, NoMemory>
+pub fn copied_rows(alloc: Global, rows: &[KeyRow]) -> Result<Vec<KeyRow>, NoMemory>
     requires { IsOrdered row_place rows.now }
     ensures ordered { IfOk result (λ copies. IsOrdered row_place copies.items) }
     ensures each { IfOk result (λ copies. (t k : List ℕ) → labels_in copies.items t k ≡ labels_in rows.now t k) }
@@ -122,13 +190,7 @@ pub fn copied_rows(alloc: Global, rows: &[KeyLabels]) -> Result<Vec<KeyLabels>, 
 }
 
 /// Puts a label into the row of a key, which has a place for it.
-pub(crate) fn put_label(
-    order: &Order,
-    rows: &mut Vec<KeyLabels>,
-    table: &Text,
-    key: &Text,
-    label: u64,
-)
+pub(crate) fn put_label(order: &Order, rows: &mut Vec<KeyRow>, table: &Text, key: &Text, label: u64)
     requires ordered { IsOrdered row_place rows.old.items }
     requires spare { 0 < spare_in rows.old.items table.now key.now }
     requires rising { IsRising order.now.labels (labels_in rows.old.items table.now key.now) }
@@ -140,12 +202,12 @@ pub(crate) fn put_label(
     ensures rows { KeepsRows rows.old.items rows.new.items }
 {
     let (at, _) = seek(rows, table, key);
-    let n = count_before(order, &rows[at].labels, Some(label));
-    let _ = rows[at].labels.insert(n, label);
+    let n = count_before(order, rows[at].labels(), Some(label));
+    rows[at].insert(n, label);
 }
 
 /// Takes a label out of the row of a key, if it is there.
-pub fn drop_label(rows: &mut Vec<KeyLabels>, table: &Text, key: &Text, label: u64)
+pub fn drop_label(rows: &mut Vec<KeyRow>, table: &Text, key: &Text, label: u64)
     requires { IsOrdered row_place rows.old.items }
     ensures ordered { IsOrdered row_place rows.new.items }
     ensures edited { IsEdited table.now key.now (filter (is_other label) (labels_in rows.old.items table.now key.now)) rows.old.items rows.new.items }
@@ -154,14 +216,30 @@ pub fn drop_label(rows: &mut Vec<KeyLabels>, table: &Text, key: &Text, label: u6
 {
     let (at, taken) = seek(rows, table, key);
     if taken {
-        rows[at].labels.retain(|other| *other != label);
+        rows[at].drop_label(label);
+    }
+}
+
+// The same, where the labels of the row rise in an order, in which it is found by halves.
+fn drop_label_in(order: &Order, rows: &mut Vec<KeyRow>, table: &Text, key: &Text, label: u64)
+    requires ordered { IsOrdered row_place rows.old.items }
+    requires rising { IsRising order.now.labels (labels_in rows.old.items table.now key.now) }
+    requires label { Contains order.now.labels label }
+    ensures ordered { IsOrdered row_place rows.new.items }
+    ensures edited { IsEdited table.now key.now (filter (is_other label) (labels_in rows.old.items table.now key.now)) rows.old.items rows.new.items }
+    ensures spare { (t k : List ℕ) → spare_in rows.old.items t k ≤ spare_in rows.new.items t k }
+    ensures rows { KeepsRows rows.old.items rows.new.items }
+{
+    let (at, taken) = seek(rows, table, key);
+    if taken {
+        rows[at].drop_in(order, label);
     }
 }
 
 /// Sees to it that the key of each of these has a row with places for so many labels more. No label changes.
 pub(crate) fn make_rows<T: Placed>(
     alloc: Global,
-    rows: &mut Vec<KeyLabels>,
+    rows: &mut Vec<KeyRow>,
     items: &[T],
     spare: usize,
 ) -> Result<(), NoMemory>
@@ -180,7 +258,7 @@ pub(crate) fn make_rows<T: Placed>(
 }
 
 /// Puts a label into the row of each key that these write, which has a place for it.
-pub(crate) fn put_labels(order: &Order, rows: &mut Vec<KeyLabels>, writes: &[Write], label: u64)
+pub(crate) fn put_labels(order: &Order, rows: &mut Vec<KeyRow>, writes: &[Write], label: u64)
     requires ordered { IsOrdered row_place rows.old.items }
     requires writes { IsOrdered write_place writes.now }
     requires spare { (t k : List ℕ) → is_written t k writes.now ≡ true → 0 < spare_in rows.old.items t k }
@@ -199,7 +277,7 @@ pub(crate) fn put_labels(order: &Order, rows: &mut Vec<KeyLabels>, writes: &[Wri
 }
 
 /// Takes a label out of the row of each key that these write.
-pub(crate) fn drop_labels(rows: &mut Vec<KeyLabels>, writes: &[Write], label: u64)
+pub(crate) fn drop_labels(rows: &mut Vec<KeyRow>, writes: &[Write], label: u64)
     requires ordered { IsOrdered row_place rows.old.items }
     requires writes { IsOrdered write_place writes.now }
     ensures ordered { IsOrdered row_place rows.new.items }
@@ -210,5 +288,22 @@ pub(crate) fn drop_labels(rows: &mut Vec<KeyLabels>, writes: &[Write], label: u6
 {
     for write in writes {
         drop_label(rows, &write.table, &write.key, label);
+    }
+}
+
+/// The same, where the labels of each row rise in an order, in which it is found by halves.
+pub(crate) fn drop_labels_in(order: &Order, rows: &mut Vec<KeyRow>, writes: &[Write], label: u64)
+    requires ordered { IsOrdered row_place rows.old.items }
+    requires writes { IsOrdered write_place writes.now }
+    requires rising { (t k : List ℕ) → IsRising order.now.labels (labels_in rows.old.items t k) }
+    requires label { Contains order.now.labels label }
+    ensures ordered { IsOrdered row_place rows.new.items }
+    ensures each { (t k : List ℕ) → labels_in rows.new.items t k
+        ≡ (if is_written t k writes.now then filter (is_other label) (labels_in rows.old.items t k) else labels_in rows.old.items t k) }
+    ensures spare { (t k : List ℕ) → spare_in rows.old.items t k ≤ spare_in rows.new.items t k }
+    ensures rows { KeepsRows rows.old.items rows.new.items }
+{
+    for write in writes {
+        drop_label_in(order, rows, &write.table, &write.key, label);
     }
 }

@@ -1,6 +1,6 @@
 // Versions: what each place wrote, and for each key the places that write it.
 ghost use Rattle.std.specs.Prelude.{ℕ, List, ◌≡◌, ◌↔◌, ◌+◌, ◌<◌, ◌≤◌, slice_index_or, ◌++◌, false, ◌∷◌, [], length, map, IfOk, IsTrue, IsOk, OnOk, OnErr};
-ghost use Rattle.std.specs.List.{Contains};
+ghost use Rattle.std.specs.List.{All, Contains};
 ghost use Rattle.std.specs.Option.{option_copied, ForSome};
 ghost use Rattle.lang_core.specs.Places.{IsOrdered};
 ghost use Rattle.lang_core.specs.Rows.{get, scan, kept_from, is_over};
@@ -9,20 +9,18 @@ ghost use Rattle.versioned_rows.specs.Rows.{row_place};
 ghost use Rattle.versioned_rows.specs.Scans.{is_under, while, cell_at, row_cells};
 ghost use Rattle.lang_lists.specs.Room.{is_made, spend};
 ghost use Rattle.place_order.specs.Rising.{IsRising};
-ghost use Rattle.versioned_rows.specs.Places.{label_of, without, with_place};
-ghost use Rattle.versioned_rows.specs.Versions.{call_code, write_call, base_call, rows_before_label, IsBased, IsIndexed, IsCovered};
+ghost use Rattle.versioned_rows.specs.Places.{label_of, without, with_place, writers};
+ghost use Rattle.versioned_rows.specs.Versions.{call_code, write_call, base_call, rows_before_label, NamesWriters};
 
 use crate::base::{ready_base, take_base, text_in};
-use crate::labels::count_before;
-use crate::places::{
-    PlaceWrites, find_place, position_in, position_of, put_instead, take_out, text_at,
-};
+use crate::labels::{count_before, position_in};
+use crate::places::{PlaceWrites, find_place, position_of, put_instead, take_out, text_at};
 use crate::room::{VersionsCall, ready_writes, take_writes};
-use crate::rows::{KeyLabels, copied_rows, labels_in};
+use crate::rows::{KeyRow, copied_rows, labels_in};
 use crate::seeking::seek;
 use lang_base::copied_items;
 use lang_core::{
-    Cell, Cells, Copied, MOST_SCAN_BYTES, MOST_SCAN_CELLS, NoMemory, Same, Text, Writes,
+    Cell, Cells, Copied, MOST_SCAN_BYTES, MOST_SCAN_CELLS, NoMemory, Placed, Same, Text, Writes,
 };
 use place_order::Order;
 use std::alloc::Global;
@@ -37,7 +35,7 @@ pub struct Versions {
     base: Cells,
     places: Vec<PlaceWrites>,
     // By table and key, those of base rows among them. A row stays when its last label goes.
-    rows: Vec<KeyLabels>,
+    rows: Vec<KeyRow>,
     room: Vec<VersionsCall>,
 }
 
@@ -55,29 +53,30 @@ impl Model for Versions {
         × IsCovered v.room.items v.rows.items };
 }
 
-fn cell_of(alloc: Global, table: &Text, key: &Text, text: &Text) -> Result<Cell, NoMemory>
-    ensures { IfOk result (λ cell. cell ≡ record { table = table.now; key = key.now; text = text.now }) }
+// The cell of this text at the key of a row.
+fn cell_of(alloc: Global, row: &KeyRow, text: &Text) -> Result<Cell, NoMemory>
+    ensures { IfOk result (λ cell. cell ≡ record { table = row.now.table; key = row.now.key; text = text.now }) }
 {
-    let table = table.copied(alloc)?;
-    let key = key.copied(alloc)?;
+    let table = row.table().copied(alloc)?;
+    let key = row.key().copied(alloc)?;
     let text = text.copied(alloc)?;
     Ok(Cell { table, key, text })
 }
 
-fn is_under(row: &KeyLabels, table: &Text, prefix: &Text) -> bool
+fn is_under(row: &KeyRow, table: &Text, prefix: &Text) -> bool
     ensures { result ≡ is_under table.now prefix.now row.now }
 {
-    row.table.is(table) && row.key.begins_with(prefix)
+    row.table().is(table) && row.key().begins_with(prefix)
 }
 
-fn is_cell(cell: &Cell, row: &KeyLabels, text: &Text) -> bool
+fn is_cell(cell: &Cell, row: &KeyRow, text: &Text) -> bool
     ensures { IsTrue result ↔ (cell.now ≡ record { table = row.now.table; key = row.now.key; text = text.now }) }
 {
-    cell.table.is(&row.table) && cell.key.is(&row.key) && cell.text.is(text)
+    cell.table.is(row.table()) && cell.key.is(row.key()) && cell.text.is(text)
 }
 
 // Whether the cell at a place is the one with the key of a row and this text.
-fn is_next(cells: &[Cell], at: usize, row: &KeyLabels, text: &Text) -> bool
+fn is_next(cells: &[Cell], at: usize, row: &KeyRow, text: &Text) -> bool
     requires { at ≤ length cells.now }
     ensures { IsTrue result ↔ ((at < length cells.now) × ((d : Cell) → slice_index_or cells.now at d ≡ record { table = row.now.table; key = row.now.key; text = text.now })) }
 {
@@ -85,6 +84,12 @@ fn is_next(cells: &[Cell], at: usize, row: &KeyLabels, text: &Text) -> bool
         return false;
     }
     is_cell(&cells[at], row, text)
+}
+
+fn key_len(row: &KeyRow) -> u64
+    ensures { result ≡ length row.now.key }
+{
+    row.key().len()
 }
 
 // Whether so many cells are too many, or too large with a key and a text of these lengths.
@@ -150,6 +155,23 @@ impl Versions {
         ensures { option_copied result ≡ get (rows_before_label order.now.labels label self.now) table.now key.now }
     {
         let labels = labels_in(&self.rows, table, key);
+        self.last_text(order, label, labels, table, key)
+    }
+
+    // The text that the last of these labels before one wrote to a key, which are those of all places that write it.
+    fn last_text(
+        &self,
+        order: &Order,
+        label: Option<u64>,
+        labels: &[u64],
+        table: &Text,
+        key: &Text,
+    ) -> Option<&Text>
+        requires rising { IsRising order.now.labels (map label_of self.now.versions) }
+        requires label { ForSome label (Contains order.now.labels) }
+        requires labels { labels.now ≡ writers table.now key.now self.now.versions }
+        ensures { option_copied result ≡ get (rows_before_label order.now.labels label self.now) table.now key.now }
+    {
         let n = count_before(order, labels, label);
         if n == 0 {
             return text_in(self.base.as_slice(), table, key);
@@ -160,20 +182,31 @@ impl Versions {
         }
     }
 
+    // The text at the key of a row, which isn't looked for.
+    fn text_of_row(&self, order: &Order, label: Option<u64>, row: &KeyRow) -> Option<&Text>
+        requires rising { IsRising order.now.labels (map label_of self.now.versions) }
+        requires label { ForSome label (Contains order.now.labels) }
+        requires held { NamesWriters self.now.versions row.now }
+        ensures { option_copied result ≡ get (rows_before_label order.now.labels label self.now) row.now.table row.now.key }
+    {
+        self.last_text(order, label, row.labels(), row.table(), row.key())
+    }
+
     fn cell_before(
         &self,
         alloc: Global,
         order: &Order,
         label: Option<u64>,
-        row: &KeyLabels,
+        row: &KeyRow,
     ) -> Result<Option<Cell>, NoMemory>
         requires rising { IsRising order.now.labels (map label_of self.now.versions) }
         requires label { ForSome label (Contains order.now.labels) }
+        requires held { NamesWriters self.now.versions row.now }
         ensures { IfOk result (λ cell. cell ≡ cell_at (rows_before_label order.now.labels label self.now) row.now) }
     {
-        match self.get_before(order, label, &row.table, &row.key) {
+        match self.text_of_row(order, label, row) {
             None => Ok(None),
-            Some(text) => Ok(Some(cell_of(alloc, &row.table, &row.key, text)?)),
+            Some(text) => Ok(Some(cell_of(alloc, row, text)?)),
         }
     }
 
@@ -185,11 +218,12 @@ impl Versions {
         label: Option<u64>,
         table: &Text,
         prefix: &Text,
-        rows: &[KeyLabels],
+        rows: &[KeyRow],
     ) -> Result<Cells, NoMemory>
         requires rising { IsRising order.now.labels (map label_of self.now.versions) }
         requires label { ForSome label (Contains order.now.labels) }
         requires rows { IsOrdered row_place rows.now }
+        requires held { All (NamesWriters self.now.versions) rows.now }
         ensures { IfOk result (λ found. found ≡ kept_from 0 0 (row_cells (rows_before_label order.now.labels label self.now)
             (while (is_under table.now prefix.now) rows.now))) }
     {
@@ -241,11 +275,12 @@ impl Versions {
         label: Option<u64>,
         table: &Text,
         prefix: &Text,
-        rows: &[KeyLabels],
+        rows: &[KeyRow],
         found: &[Cell],
     ) -> bool
         requires rising { IsRising order.now.labels (map label_of self.now.versions) }
         requires label { ForSome label (Contains order.now.labels) }
+        requires held { All (NamesWriters self.now.versions) rows.now }
         ensures { IsTrue result ↔ (found.now ≡ kept_from 0 0 (row_cells (rows_before_label order.now.labels label self.now)
             (while (is_under table.now prefix.now) rows.now))) }
     {
@@ -255,17 +290,17 @@ impl Versions {
             if !is_under(row, table, prefix) {
                 return n == found.len();
             }
-            match self.get_before(order, label, &row.table, &row.key) {
+            match self.text_of_row(order, label, row) {
                 None => {}
                 Some(text) => {
                     if !is_next(found, n, row, text) {
                         return false;
                     }
                     n += 1;
-                    if is_too_much(n as u64, bytes, row.key.len(), text.len()) {
+                    if is_too_much(n as u64, bytes, key_len(row), text.len()) {
                         return n == found.len();
                     }
-                    bytes += row.key.len() + text.len();
+                    bytes += key_len(row) + text.len();
                 }
             }
         }

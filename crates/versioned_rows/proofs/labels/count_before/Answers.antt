@@ -1,4 +1,4 @@
-use Rattle.std.proofs.Common.{ℕ, sym, rules, arith}
+use Rattle.std.proofs.Common.{sym, rules, arith}
 use Rattle.std.specs.List.{Contains}
 use Rattle.place_order.specs.Rising.{is_before}
 use Rattle.versioned_rows.proofs.RisingLemmas.{filter_front, known, earlier}

@@ -10,9 +10,9 @@ pub put_in-requires-clause-others : goal.put_in-requires-clause-others
 put_in-requires-clause-others c =
     let ps = c.args.places.now.items in
     let P : List PlaceWrites → Type 0 = λ l. AllByRecursion (λ p. is_other c.args.place.label (label_of p) ≡ true) l in
-    subst P (sym (not_there c.args.place.label ps (sym c.requires.stands ∙ c.in-None.is) c.requires.indexed.apart)) (all_pass (λ p. is_other c.args.place.label (label_of p)) ps)
+    subst P (sym (not_there label_of c.args.place.label ps (sym c.requires.stands ∙ c.in-None.is))) (all_pass (λ p. is_other c.args.place.label (label_of p)) ps)
 
 pub returns-in-None-clause-places : goal.returns-in-None-clause-places
 returns-in-None-clause-places c =
     let ps = c.args.places.now.items in
-    c.put_in.ensures.places ∙ ap (with_place c.args.order.now.labels c.args.place) (not_there c.args.place.label ps (sym c.requires.stands ∙ c.in-None.is) c.requires.indexed.apart)
+    c.put_in.ensures.places ∙ ap (with_place c.args.order.now.labels c.args.place) (not_there label_of c.args.place.label ps (sym c.requires.stands ∙ c.in-None.is))

@@ -1,6 +1,5 @@
-use Rattle.std.proofs.Common.{◌≡◌, false, [], filter, sym, ap, ◌∙◌, refl, arith, rules}
+use Rattle.std.proofs.Common.{◌≡◌, false, [], filter, sym, ap, ◌∙◌}
 use Rattle.std.specs.Option.{option_map_or}
-use Rattle.std.proofs.lemmas.Fn.{filter_same}
 use Rattle.lang_core.specs.Places.{place_of, is_taken}
 use Rattle.versioned_rows.specs.Rows.{row_place, labels_in}
 use Rattle.versioned_rows.specs.Places.{is_other}
@@ -9,29 +8,24 @@ use Rattle.versioned_rows.proofs.EditLemmas.{StandsAt, found_row, labels_here, s
 use Rattle.versioned_rows.proofs.SeekLemmas.{find_none}
 use Rattle.versioned_rows.proofs.rows.drop_label.Goals as goal
 
--- the row of the key, and what it is without the label
+-- the row of the key
 stands : (c : goal.After-rows-1) → StandsAt c.args.rows.now.items c.args.table.now c.args.key.now c.seek-at.result.0 c.index_mut.result.now
 stands c = found_row c.deref.ensures.value c.seek-at.ensures.rank c.seek-at.ensures.taken c.seek-at.ensures.within c.if-taken.true c.requires c.index_mut.ensures.value
 
-abbrev new_row : goal.After-rows-1 → KeyLabels
-new_row c = record { table = c.index_mut.result.now.table; key = c.index_mut.result.now.key; labels = c.retain.new.self }
-
 pub returns-then-taken-clause-ordered : goal.returns-then-taken-clause-ordered
-returns-then-taken-clause-ordered c = set_ordered (stands c) (new_row c) refl
+returns-then-taken-clause-ordered c = set_ordered (stands c) c.drop_label.new.self c.drop_label.ensures.place
 
 pub returns-then-taken-clause-spare : goal.returns-then-taken-clause-spare
-returns-then-taken-clause-spare c = set_kept (stands c) (new_row c) refl (omega arith)
+returns-then-taken-clause-spare c = set_kept (stands c) c.drop_label.new.self c.drop_label.ensures.place c.drop_label.ensures.spare
 
 pub returns-then-taken-clause-rows : goal.returns-then-taken-clause-rows
-returns-then-taken-clause-rows c = set_rows (stands c) (new_row c) refl
+returns-then-taken-clause-rows c = set_rows (stands c) c.drop_label.new.self c.drop_label.ensures.place
 
 pub returns-then-taken-clause-edited : goal.returns-then-taken-clause-edited
 returns-then-taken-clause-edited c =
-    let row = c.index_mut.result.now in
-    let kept : c.retain.new.self.items ≡ filter (is_other c.args.label) row.labels.items = filter_same _ (is_other c.args.label) _ (λ x b f' k. search rules) _ _ c.retain.ensures.filtered in
-    let all : c.retain.new.self.items ≡ filter (is_other c.args.label) (labels_in c.args.rows.now.items c.args.table.now c.args.key.now) =
-    kept ∙ ap (filter (is_other c.args.label)) (sym (labels_here (stands c))) in
-    λ u v. rw (← all) (set_labels (stands c) (new_row c) refl u v)
+    let all : c.drop_label.new.self.labels.items ≡ filter (is_other c.args.label) (labels_in c.args.rows.now.items c.args.table.now c.args.key.now) =
+    c.drop_label.ensures.labels ∙ ap (filter (is_other c.args.label)) (sym (labels_here (stands c))) in
+    λ u v. rw (← all) (set_labels (stands c) c.drop_label.new.self c.drop_label.ensures.place u v)
 
 pub returns-else-taken-clause-edited : goal.returns-else-taken-clause-edited
 returns-else-taken-clause-edited c =

@@ -1,35 +1,31 @@
-use Rattle.std.proofs.Common.{sym, ap, ◌∙◌, refl, arith}
+use Rattle.std.proofs.Common.{sym, ap, ◌∙◌}
 use Rattle.std.proofs.lemmas.Result.{on_ok_weaker}
 use Rattle.lang_core.specs.Places.{place_of, rank, is_taken}
 use Rattle.versioned_rows.specs.Rows.{row_place}
-use Rattle.versioned_rows.specs.declared.rows.KeyLabels.{KeyLabels}
 use Rattle.versioned_rows.proofs.EditLemmas.{StandsAt, GoesAt, found_row, set_ordered, set_same, set_kept, set_rows, set_there, set_made, new_ordered, new_labels, new_kept, new_rows, new_there, new_made}
 use Rattle.versioned_rows.proofs.rows.make_row.Goals as goal
 
--- the row of the key, and what it is with more places
+-- the row of the key
 stands : (c : goal.After-rows-1) → StandsAt c.args.rows.now.items c.args.table.now c.args.key.now c.seek-at.result.0 c.index_mut.result.now
 stands c = found_row c.deref.ensures.value c.seek-at.ensures.rank c.seek-at.ensures.taken c.seek-at.ensures.within c.if-taken.true c.requires c.index_mut.ensures.value
 
-abbrev new_row : goal.After-rows-1 → KeyLabels
-new_row c = record { table = c.index_mut.result.now.table; key = c.index_mut.result.now.key; labels = c.make_spare.new.labels }
-
 pub returns-then-taken-clause-ordered : goal.returns-then-taken-clause-ordered
-returns-then-taken-clause-ordered c = set_ordered (stands c) (new_row c) refl
+returns-then-taken-clause-ordered c = set_ordered (stands c) c.reserve.new.self c.reserve.ensures.place
 
 pub returns-then-taken-clause-each : goal.returns-then-taken-clause-each
-returns-then-taken-clause-each c = set_same (stands c) (new_row c) refl c.make_spare.ensures.labels
+returns-then-taken-clause-each c = set_same (stands c) c.reserve.new.self c.reserve.ensures.place c.reserve.ensures.labels
 
 pub returns-then-taken-clause-kept : goal.returns-then-taken-clause-kept
-returns-then-taken-clause-kept c = set_kept (stands c) (new_row c) refl (omega arith)
+returns-then-taken-clause-kept c = set_kept (stands c) c.reserve.new.self c.reserve.ensures.place c.reserve.ensures.kept
 
 pub returns-then-taken-clause-rows : goal.returns-then-taken-clause-rows
-returns-then-taken-clause-rows c = set_rows (stands c) (new_row c) refl
+returns-then-taken-clause-rows c = set_rows (stands c) c.reserve.new.self c.reserve.ensures.place
 
 pub returns-then-taken-clause-row : goal.returns-then-taken-clause-row
-returns-then-taken-clause-row c = on_ok_weaker c.make_spare.result (λ _. set_there (stands c) (new_row c) refl) c.make_spare.ensures.spare
+returns-then-taken-clause-row c = on_ok_weaker c.reserve.result (λ _. set_there (stands c) c.reserve.new.self c.reserve.ensures.place) c.reserve.ensures.spare
 
 pub returns-then-taken-clause-spare : goal.returns-then-taken-clause-spare
-returns-then-taken-clause-spare c = on_ok_weaker c.make_spare.result (λ fits. set_made (stands c) (new_row c) refl c.args.spare (omega arith)) c.make_spare.ensures.spare
+returns-then-taken-clause-spare c = on_ok_weaker c.reserve.result (λ fits. set_made (stands c) c.reserve.new.self c.reserve.ensures.place c.args.spare fits) c.reserve.ensures.spare
 
 -- where there is none, a row goes in
 goes : (c : goal.In_ok-insert) → GoesAt c.args.rows.now.items c.args.table.now c.args.key.now c.seek-at.result.0 c.in_ok-row.row

@@ -1,14 +1,22 @@
-use Rattle.std.proofs.Common.{◌≡◌, ◌<◌, ◌+◌, ◌++◌, ◌∷◌, [], true, false, Some, length, take, drop, sym, ap, ◌∙◌, arith}
+use Rattle.std.proofs.Common.{◌≡◌, ◌<◌, ◌+◌, ◌++◌, ◌∷◌, [], true, false, Some, length, take, drop, sym, ap, ◌∙◌, subst, arith}
 use Rattle.std.specs.Option.{option_map, option_copied}
 use Rattle.std.proofs.lemmas.List.{length-take-le}
+use Rattle.std.proofs.lemmas.List.Elements.{All-get_or}
 use Rattle.lang_core.specs.Rows.{is_over, cell_size, kept_from}
 use Rattle.lang_core.specs.declared.cells.Cell.{Cell}
-use Rattle.versioned_rows.specs.Versions.{rows_before_label}
+use Rattle.versioned_rows.specs.Versions.{rows_before_label, NamesWriters}
+use Rattle.versioned_rows.specs.declared.rows.KeyLabels.{KeyLabels}
 use Rattle.versioned_rows.specs.Scans.{is_under, while, cell_at, row_cells}
 use Rattle.versioned_rows.proofs.AgreeLemmas.{take_next, whole}
 use Rattle.versioned_rows.proofs.CellLemmas.{last_cell, next_cell, no_cell}
 use Rattle.versioned_rows.proofs.versions.Versions.agrees.Goals as goal
 use Rattle.versioned_rows.proofs.versions.Versions.agrees.Goals.{in-None, in-Some+else-not-is_next+else-is_too_much}
+
+pub text_of_row-requires-clause-held : goal.text_of_row-requires-clause-held
+text_of_row-requires-clause-held c =
+    let P : KeyLabels → Type 0 = NamesWriters c.args.self.now.versions in
+    let lt : c.loop-row.row-index < length c.args.rows.now = omega arith in
+    subst P (sym c.row-item.is) (All-get_or P c.args.rows.now c.loop-row.row-index c.row-item.result lt c.requires.held)
 
 pub returns-then-is_too_much : goal.returns-then-is_too_much
 returns-then-is_too_much c =
@@ -24,11 +32,11 @@ returns-then-is_too_much c =
     let lt : i < length rows = omega arith in
     let under : is_under t prefix r ≡ true = grind (arith, c.is_under.ensures, c.if-not-is_under.false) in
     let made : Cell = record { table = r.table; key = r.key; text = c.in-Some.text.now } in
-    let cell : cell_at cells r ≡ Some made = ap (option_map (λ x. record { table = r.table; key = r.key; text = x })) (sym c.get_before.ensures ∙ ap option_copied c.in-Some.is) in
+    let cell : cell_at cells r ≡ Some made = ap (option_map (λ x. record { table = r.table; key = r.key; text = x })) (sym c.text_of_row.ensures ∙ ap option_copied c.in-Some.is) in
     let next = c.is_next.ensures.0 c.if-not-is_next.false in
     let front : take (n + 1) found ≡ take n found ++ made ∷ [] = take_next found n made next.0 (next.1 made) in
     let count : length (take n found) ≡ n = length-take-le n found c.loop-row.invariant.within in
-    let size : c.len.result + c.len-in-Some.result ≡ cell_size made = ap (λ m. m + c.len-in-Some.result) c.len.ensures ∙ ap (λ m. length made.key + m) c.len-in-Some.ensures in
+    let size : c.key_len.result + c.len.result ≡ cell_size made = ap (λ m. m + c.len.result) c.key_len.ensures ∙ ap (λ m. length made.key + m) c.len.ensures in
     let over : is_over (length (take n found) + 1) (bytes + cell_size made) ≡ true =
     ap (λ m. is_over (m + 1) (bytes + cell_size made)) count ∙ sym (c.is_too_much.ensures.over ∙ ap (λ m. is_over (n + 1) (bytes + m)) size) ∙ c.if-is_too_much.true in
     whole found _ (n + 1) (let a = next.0 in omega arith) (front ∙ last_cell t prefix cells rows i r lt c.row-item.is under (take n found) _ bytes c.loop-row.invariant.rest made cell over)
@@ -47,15 +55,15 @@ loop-row-preserved c =
     let lt : i < length rows = omega arith in
     let under : is_under t prefix r ≡ true = grind (arith, c.is_under.ensures, c.if-not-is_under.false) in
     let later = row_cells cells (while (is_under t prefix) (drop (i + 1) rows)) in
-    elim c.match-get_before.branch [
+    elim c.match-text_of_row.branch [
       | in-Some+else-not-is_next+else-is_too_much w ↦ (
           let made : Cell = record { table = r.table; key = r.key; text = w.in-Some.text.now } in
-          let cell : cell_at cells r ≡ Some made = ap (option_map (λ x. record { table = r.table; key = r.key; text = x })) (sym c.get_before.ensures ∙ ap option_copied w.in-Some.is) in
+          let cell : cell_at cells r ≡ Some made = ap (option_map (λ x. record { table = r.table; key = r.key; text = x })) (sym c.text_of_row.ensures ∙ ap option_copied w.in-Some.is) in
           let next = w.is_next.ensures.0 w.if-not-is_next.false in
           let front : take (n + 1) found ≡ take n found ++ made ∷ [] = take_next found n made next.0 (next.1 made) in
           let count : length (take n found) ≡ n = length-take-le n found c.loop-row.invariant.within in
-          let size : w.len.result + w.len-in-Some.result ≡ cell_size made = ap (λ m. m + w.len-in-Some.result) w.len.ensures ∙ ap (λ m. length made.key + m) w.len-in-Some.ensures in
-          let again : w.len-in-Some-2.result + w.len-in-Some-3.result ≡ cell_size made = ap (λ m. m + w.len-in-Some-3.result) w.len-in-Some-2.ensures ∙ ap (λ m. length made.key + m) w.len-in-Some-3.ensures in
+          let size : w.key_len.result + w.len.result ≡ cell_size made = ap (λ m. m + w.len.result) w.key_len.ensures ∙ ap (λ m. length made.key + m) w.len.ensures in
+          let again : w.key_len-in-Some.result + w.len-in-Some.result ≡ cell_size made = ap (λ m. m + w.len-in-Some.result) w.key_len-in-Some.ensures ∙ ap (λ m. length made.key + m) w.len-in-Some.ensures in
           let over : is_over (length (take n found) + 1) (bytes + cell_size made) ≡ false =
           ap (λ m. is_over (m + 1) (bytes + cell_size made)) count ∙ sym (w.is_too_much.ensures.over ∙ ap (λ m. is_over (n + 1) (bytes + m)) size) ∙ w.if-is_too_much.false in
           let few = w.is_too_much.ensures.few w.if-is_too_much.false in
@@ -65,17 +73,17 @@ loop-row-preserved c =
           record {
             few = omega arith;
             within = omega arith;
-            rest = ap (λ m. take m found ++ kept_from (length (take m found)) c.match-get_before.bytes later) w.n-is
-                ∙ ap (λ k. k ++ kept_from (length k) c.match-get_before.bytes later) front
+            rest = ap (λ m. take m found ++ kept_from (length (take m found)) c.match-text_of_row.bytes later) w.n-is
+                ∙ ap (λ k. k ++ kept_from (length k) c.match-text_of_row.bytes later) front
                 ∙ ap (λ b. (take n found ++ made ∷ []) ++ kept_from (length (take n found ++ made ∷ [])) b later) (w.bytes-is ∙ ap (λ m. bytes + m) again)
                 ∙ next_cell t prefix cells rows i r lt c.row-item.is under (take n found) _ bytes c.loop-row.invariant.rest made cell over;
           })
       | in-None w ↦ (let now = w.bytes-is in let n_is = w.n-is in let few = c.loop-row.invariant.few in let in_it = c.loop-row.invariant.within in record {
         few = omega arith;
         within = omega arith;
-        rest = ap (λ m. take m found ++ kept_from (length (take m found)) c.match-get_before.bytes later) w.n-is
+        rest = ap (λ m. take m found ++ kept_from (length (take m found)) c.match-text_of_row.bytes later) w.n-is
             ∙ ap (λ b. take n found ++ kept_from (length (take n found)) b later) w.bytes-is
             ∙ no_cell t prefix cells rows i r lt c.row-item.is under (take n found) _ bytes c.loop-row.invariant.rest
-            (ap (option_map (λ x. record { table = r.table; key = r.key; text = x })) (sym c.get_before.ensures ∙ ap option_copied w.in-None.is));
+            (ap (option_map (λ x. record { table = r.table; key = r.key; text = x })) (sym c.text_of_row.ensures ∙ ap option_copied w.in-None.is));
       })
     ]

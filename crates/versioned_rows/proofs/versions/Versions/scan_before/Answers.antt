@@ -8,7 +8,12 @@ use Rattle.versioned_rows.specs.Rows.{row_place}
 use Rattle.versioned_rows.specs.Versions.{rows_before_label}
 use Rattle.versioned_rows.specs.Scans.{is_under, while, row_cells}
 use Rattle.versioned_rows.proofs.CellLemmas.{scan_is, slice_from, slice_ordered}
+use Rattle.versioned_rows.proofs.HeldLemmas.{slice_named}
 use Rattle.versioned_rows.proofs.versions.Versions.scan_before.Goals as goal
+
+pub scanned-requires-clause-held : goal.scanned-requires-clause-held
+scanned-requires-clause-held c =
+    rw c.deref-2.ensures.value (slice_named c.self.inside.places.items c.args.self.now.versions c.self.inside.rows.items c.seek-from.result.0 (ap (λ v. v.versions) c.self.view_is) c.self.invariant.0)
 
 pub scanned-requires-clause-rows : goal.scanned-requires-clause-rows
 scanned-requires-clause-rows c =

@@ -7,7 +7,12 @@ use Rattle.versioned_rows.specs.Rows.{row_place}
 use Rattle.versioned_rows.specs.Versions.{rows_before_label}
 use Rattle.versioned_rows.specs.Scans.{is_under, while, row_cells}
 use Rattle.versioned_rows.proofs.CellLemmas.{scan_is, slice_from}
+use Rattle.versioned_rows.proofs.HeldLemmas.{slice_named}
 use Rattle.versioned_rows.proofs.versions.Versions.scan_is.Goals as goal
+
+pub agrees-requires-clause-held : goal.agrees-requires-clause-held
+agrees-requires-clause-held c =
+    rw c.deref-2.ensures.value (slice_named c.self.inside.places.items c.args.self.now.versions c.self.inside.rows.items c.seek-from.result.0 (ap (λ v. v.versions) c.self.view_is) c.self.invariant.0)
 
 pub returns : goal.returns
 returns c =

@@ -1,11 +1,19 @@
-use Rattle.std.proofs.Common.{◌≡◌, ◌<◌, ◌+◌, ◌++◌, ◌∷◌, [], true, false, Some, length, drop, sym, ap, ◌∙◌, arith, length-append}
+use Rattle.std.proofs.Common.{◌≡◌, ◌<◌, ◌+◌, ◌++◌, ◌∷◌, [], true, false, Some, length, drop, sym, ap, ◌∙◌, subst, arith, length-append}
+use Rattle.std.proofs.lemmas.List.Elements.{All-get_or}
 use Rattle.lang_core.specs.Rows.{is_over, cell_size, kept_from}
 use Rattle.lang_core.specs.declared.cells.Cell.{Cell}
-use Rattle.versioned_rows.specs.Versions.{rows_before_label}
+use Rattle.versioned_rows.specs.Versions.{rows_before_label, NamesWriters}
+use Rattle.versioned_rows.specs.declared.rows.KeyLabels.{KeyLabels}
 use Rattle.versioned_rows.specs.Scans.{is_under, while, cell_at, row_cells}
 use Rattle.versioned_rows.proofs.CellLemmas.{next_ordered, last_cell, next_cell, no_cell, kept_ordered}
 use Rattle.versioned_rows.proofs.versions.Versions.scanned.Goals as goal
 use Rattle.versioned_rows.proofs.versions.Versions.scanned.Goals.{in-Some+in_ok-push-in-Some+else-is_too_much, in-None}
+
+pub cell_before-requires-clause-held : goal.cell_before-requires-clause-held
+cell_before-requires-clause-held c =
+    let P : KeyLabels → Type 0 = NamesWriters c.args.self.now.versions in
+    let lt : c.loop-row.row-index < length c.args.rows.now = omega arith in
+    subst P (sym c.row-item.is) (All-get_or P c.args.rows.now c.loop-row.row-index c.row-item.result lt c.requires.held)
 
 pub push-requires : goal.push-requires
 push-requires c =
