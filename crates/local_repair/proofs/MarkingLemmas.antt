@@ -1,5 +1,5 @@
 -- Marks that were looked at one by one.
-use Rattle.std.proofs.Common.{◌≡◌, ℕ, zero, suc, ◌<◌, Bool, true, false, ◌||◌, List, [], ◌∷◌, nat_eq, length, get_or, sym, ap, ◌∙◌, subst, inl, inr, arith, eqb-true}
+use Rattle.std.proofs.Common.{◌≡◌, ℕ, zero, suc, ◌<◌, true, false, ◌||◌, List, [], ◌∷◌, nat_eq, length, get_or, sym, ap, ◌∙◌, subst, inl, inr, arith, eqb-true}
 use Rattle.std.specs.List.{AllByRecursion}
 use Rattle.std.proofs.lemmas.Bool.{cases_Bool}
 use Rattle.dependency_index.specs.Numbers.{Rises}

@@ -1,5 +1,5 @@
 -- The first stale entry is the first of the marked ones, or one before it whose record consumed something else.
-use Rattle.std.proofs.Common.{◌≡◌, ℕ, zero, suc, ◌+◌, ◌<◌, ◌≤◌, Bool, true, false, List, [], ◌∷◌, Option, Some, None, IsTrue, IsSomeAnd, MatchOption, All, length, get_or, take, map, refl, sym, ap, ◌∙◌, subst, inl, inr, arith}
+use Rattle.std.proofs.Common.{◌≡◌, ℕ, zero, suc, ◌+◌, ◌<◌, ◌≤◌, Bool, true, false, List, [], ◌∷◌, Option, Some, None, IsSomeAnd, MatchOption, length, get_or, take, map, refl, sym, ap, ◌∙◌, subst, inl, inr, arith}
 use Rattle.std.specs.List.{HoldsAt}
 use Rattle.std.proofs.lemmas.Bool.{cases_Bool}
 use Rattle.std.proofs.lemmas.List.{get_or_default, take_all}
@@ -11,7 +11,7 @@ use Rattle.request_log.specs.declared.entry.Entry.{Entry}
 use Rattle.request_log.specs.declared.entry.Made.{Made}
 use Rattle.log_index.specs.Marks.{KeptMarks, is_marked}
 use Rattle.local_repair.specs.Current.{Consumed, AllCurrent, IsCurrent, IsCurrentRecord, IsFirstStale, rows_after}
-use Rattle.local_repair.specs.Held.{AreCurrent, IsAnswered, IsCurrentAt, IsFirstChanged, IsFirstMarked, IsHeld, IsHeldRecord, IsKept}
+use Rattle.local_repair.specs.Held.{AreCurrent, IsAnswered, IsCurrentAt, IsFirstChanged, IsFirstMarked, IsHeldRecord, IsKept}
 use Rattle.local_repair.proofs.CurrentLemmas.{AllCurrent-more}
 use Rattle.local_repair.proofs.StepLemmas.{entry_at}
 

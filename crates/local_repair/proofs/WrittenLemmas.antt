@@ -1,18 +1,14 @@
 -- The rows that what entries wrote makes, and what changes of a log leave of it.
-use Rattle.std.proofs.Common.{◌≡◌, ℕ, ◌≤◌, Bool, true, false, cond, List, [], ◌∷◌, Option, Some, None, IsSomeAnd, find, take, set, length, get_or, refl, sym, ap, ◌∙◌}
-use Rattle.std.specs.List.{insert, position_or_len}
+use Rattle.std.proofs.Common.{◌≡◌, ℕ, ◌≤◌, List, [], take, set, length, ap, ◌∙◌}
+use Rattle.std.specs.List.{insert}
 use Rattle.std.proofs.lemmas.List.{take-map, take_all, map-set}
-use Rattle.std.proofs.lemmas.List.Folds.{fold-map, find_at}
-use Rattle.std.proofs.lemmas.Option.{get_or_from_slice_get}
-use Rattle.std.proofs.Math.Seq.{map-set_same}
+use Rattle.std.proofs.lemmas.List.Folds.{fold-map}
 use Rattle.lang_core.specs.Rows.{apply}
 use Rattle.lang_core.specs.declared.writes.Write.{Write}
-use Rattle.request_log.specs.Entries.{changed, has_id, with_entry}
 use Rattle.request_log.specs.declared.entry.Entry.{Entry}
 use Rattle.log_index.specs.Rows.{KeptWrites, rows_made, rows_before}
 use Rattle.log_index.proofs.EditLemmas.{map_insert}
 use Rattle.local_repair.specs.Current.{writes_of, rows_after}
-use Rattle.local_repair.specs.Repairs.{Amends, IsAmended}
 use Rattle.local_repair.specs.Written.{all_written}
 
 abbrev wrote : Entry → List Write

@@ -1,5 +1,5 @@
 -- The last row of a kind as rows come, and the ages of calls and replies.
-use Rattle.std.proofs.Common.{◌≡◌, ℕ, zero, suc, ◌+◌, ◌^◌, ◌<◌, Bool, true, false, ◌||◌, cond, List, [], ◌∷◌, ◌++◌, Option, Some, None, IsSome, MatchOption, find, length, map, nat_eq, option_map, refl, sym, ap, ◌∙◌, subst, inl, inr, arith, append_assoc, append-nil, length-append, eqb-true, eq-eqb, ne_eqb}
+use Rattle.std.proofs.Common.{◌≡◌, ℕ, ◌+◌, ◌^◌, ◌<◌, Bool, true, false, ◌||◌, cond, List, [], ◌∷◌, ◌++◌, Option, Some, None, IsSome, MatchOption, length, map, nat_eq, option_map, refl, sym, ap, ◌∙◌, subst, inl, inr, arith, append_assoc, append-nil, length-append, eqb-true, eq-eqb, ne_eqb}
 use Rattle.std.specs.List.{list_any}
 use Rattle.std.specs.Option.{option_map_or}
 use Rattle.std.proofs.lemmas.Bool.{cases_Bool, cond-true, cond-false}
@@ -11,7 +11,7 @@ use Rattle.journal_rows.specs.declared.caller.SentRow.{SentRow}
 use Rattle.journal_rows.specs.declared.row.Row.{Row}
 use Rattle.journal_rows.specs.declared.row.Row.TheVariants.{Acked, Answered, WasConfirmed, Sent, SawAck, SawAnswer}
 use Rattle.call_registers.specs.Changes.{change}
-use Rattle.call_registers.specs.Registers.{register, has_number, at_number, next_number, first_register, sent_anew, with_ack, with_answer, is_newer, CountFrom}
+use Rattle.call_registers.specs.Registers.{register, at_number, next_number, first_register, sent_anew, with_ack, with_answer, is_newer, CountFrom}
 use Rattle.call_registers.specs.Replies.{has_entry, at_entry, IsBelowAll, IsRising}
 use Rattle.call_registers.specs.declared.register.Answer.{Answer}
 use Rattle.call_registers.specs.declared.register.Register.{Register}

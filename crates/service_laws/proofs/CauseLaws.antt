@@ -1,5 +1,5 @@
 -- Which calls are told why they consume the tentative answer, and what, in events of live requests.
-use Rattle.std.proofs.Common.{◌≡◌, ℕ, suc, ◌+◌, ◌≤◌, Bool, true, false, ◌&&◌, List, [], ◌∷◌, ◌++◌, Option, Some, None, IsSomeAnd, Result, Ok, Err, IfOk, OnOk, is_some, length, nat_le, replicate, slice_get, drop, refl, sym, ap, ◌∙◌, subst, inl, inr, arith, eq-eqb, eqb-true, append-nil, append_assoc, if◌then◌else◌}
+use Rattle.std.proofs.Common.{◌≡◌, ℕ, suc, ◌+◌, Bool, true, false, ◌&&◌, List, [], ◌∷◌, ◌++◌, Option, Some, None, IsSomeAnd, Result, Ok, Err, IfOk, OnOk, is_some, length, nat_le, replicate, slice_get, drop, refl, sym, ap, ◌∙◌, subst, inl, inr, arith, eq-eqb, eqb-true, append-nil, append_assoc, if◌then◌else◌}
 use Rattle.std.proofs.lemmas.Bool.{cases_Bool, cond_both}
 use Rattle.std.proofs.lemmas.List.{length-map}
 use Rattle.lang_core.specs.declared.ids.Origin.{Origin}

@@ -6,7 +6,7 @@ use Rattle.journal_rows.specs.declared.caller.AckHow.TheVariants.{WithAnswer}
 use Rattle.journal_rows.specs.declared.callee.AskedRow.{AskedRow}
 use Rattle.journal_rows.specs.declared.row.Row.TheVariants.{Asked, Answered, Sent, SawAck, SawAnswer}
 use Rattle.journal_rows.specs.declared.row.Row.{Row}
-use Rattle.std.proofs.Common.{◌≡◌, ℕ, zero, suc, ◌+◌, ◌<◌, ◌≤◌, Bool, true, false, List, [], ◌∷◌, ◌++◌, Option, Some, None, Result, Err, IsSomeAnd, MatchOption, map, length, slice_get, find, fold, nat_eq, nat_le, nat_lt, refl, sym, ap, ◌∙◌, subst, inl, inr, arith, eq-eqb, length-append, if◌then◌else◌, drop, append_assoc}
+use Rattle.std.proofs.Common.{◌≡◌, ℕ, zero, suc, ◌+◌, ◌<◌, ◌≤◌, Bool, true, false, List, [], ◌∷◌, ◌++◌, Option, Some, None, Result, Err, IsSomeAnd, MatchOption, length, slice_get, find, fold, nat_eq, nat_le, nat_lt, refl, sym, ap, ◌∙◌, subst, inl, inr, arith, eq-eqb, length-append, if◌then◌else◌, drop, append_assoc}
 use Rattle.std.proofs.lemmas.Bool.{and_parts, cases_Bool}
 use Rattle.std.proofs.lemmas.List.{length-map}
 use Rattle.std.proofs.lemmas.List.Sums.{fold-append}
@@ -35,7 +35,7 @@ use Rattle.service_events.specs.Arriving.{accepted, new_flight, admitted, known_
 use Rattle.service_events.specs.declared.refusals.ArriveRefused.TheVariants.{NotYet}
 use Rattle.service_events.specs.declared.refusals.CallRefused.TheVariants.{NoFlight}
 use Rattle.service_events.specs.Calls.{noted, named}
-use Rattle.service_events.specs.Commits.{live_rows, live_answer_of, IsCommitted, AreSame, IsInFlight, Leaves, Commits, CommitsFlight}
+use Rattle.service_events.specs.Commits.{live_rows, live_answer_of, IsInFlight, Leaves, Commits, CommitsFlight}
 use Rattle.service_events.specs.Fits.{Fits}
 use Rattle.service_events.specs.Flying.{flight_run, awaited, before_answer, live_answer, committed_entry, committed, with_slot, with_change, change_rows, waits, call_or_none, named_unsent, changed_unsent, completing, completed, changed, moved, goes_on, surplus_rows, took_rows, answer_index}
 use Rattle.service_events.specs.declared.answers.Arrived.{Arrived}

@@ -1,15 +1,13 @@
 -- Each reply is that of one entry, to the call that the entry comes from.
-use Rattle.std.proofs.Common.{◌≡◌, ℕ, Bool, true, false, ◌&&◌, List, [], ◌∷◌, Option, Some, None, IsSome, IsSomeAnd, find, nat_eq, refl, sym, ap, ◌∙◌, subst, inl, inr, arith, eqb-true, eq-eqb, ne_eqb}
+use Rattle.std.proofs.Common.{◌≡◌, ℕ, Bool, true, false, ◌&&◌, List, [], ◌∷◌, Option, Some, None, IsSome, IsSomeAnd, nat_eq, refl, sym, ap, ◌∙◌, subst, arith, eqb-true, eq-eqb, ne_eqb}
 use Rattle.std.specs.Cmp.Lexicographic.{nat_list_eq_equiv}
-use Rattle.std.proofs.lemmas.Bool.{cases_Bool, and_parts, and_from, false_from_ne_true}
+use Rattle.std.proofs.lemmas.Bool.{and_parts, and_from, false_from_ne_true}
 use Rattle.lang_base.specs.Texts.{same_text}
 use Rattle.lang_core.specs.Origins.{is_call}
-use Rattle.lang_core.specs.declared.ids.Origin.{Origin}
-use Rattle.lang_core.specs.declared.ids.Origin.TheVariants.{Outside, Call}
+use Rattle.lang_core.specs.declared.ids.Origin.TheVariants.{Call}
 use Rattle.request_log.specs.Entries.{has_id, has_origin, find_call}
 use Rattle.request_log.specs.declared.entry.Entry.{Entry}
-use Rattle.journal_rows.specs.declared.row.Row.{Row}
-use Rattle.call_registers.specs.Replies.{has_entry, reply, IsBelowAll, IsRising}
+use Rattle.call_registers.specs.Replies.{reply, IsBelowAll, IsRising}
 use Rattle.call_registers.specs.declared.reply.Reply.{Reply}
 use Rattle.service_events.specs.Fits.{Fits, HasReply, IsReply}
 use Rattle.service_events.specs.State.{Kept}

@@ -1,12 +1,11 @@
 -- What is outstanding waits since the row that its age tells.
-use Rattle.std.proofs.Common.{◌≡◌, ℕ, Bool, true, false, List, [], ◌∷◌, Option, Some, All, filter, map, sym, subst, inl, inr}
+use Rattle.std.proofs.Common.{◌≡◌, ℕ, Bool, false, List, [], ◌∷◌, Option, Some, All, filter, map, sym, subst, inl, inr}
 use Rattle.std.specs.Option.{option_map_or}
 use Rattle.std.proofs.lemmas.Bool.{cases_Bool}
 use Rattle.std.proofs.lemmas.List.Elements.{All-append}
 use Rattle.call_registers.specs.Replies.{reply}
-use Rattle.call_registers.specs.declared.register.Register.{Register}
 use Rattle.call_registers.specs.declared.reply.Reply.{Reply}
-use Rattle.service_events.specs.Ages.{IsLastAt, HasAges, WaitsSince, marks_reply}
+use Rattle.service_events.specs.Ages.{IsLastAt, WaitsSince, marks_reply}
 use Rattle.service_events.specs.Fits.{Fits}
 use Rattle.service_events.specs.Flying.{awaited}
 use Rattle.service_events.specs.Posts.{Aged, aged_call, aged_reply, is_unacknowledged, is_owed, outstanding}

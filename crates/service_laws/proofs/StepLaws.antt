@@ -5,14 +5,12 @@ use Rattle.std.proofs.Math.ListN.{length-set}
 use Rattle.std.proofs.Math.Seq.{take-length}
 use Rattle.std.proofs.lemmas.Bool.{cases_lt}
 use Rattle.lang_core.specs.declared.cells.Cell.{Cell}
-use Rattle.lang_core.specs.declared.trace.Trace.{Trace}
 use Rattle.request_log.specs.declared.entry.Entry.{Entry}
 use Rattle.request_log.specs.declared.entry.Made.{Made}
 use Rattle.local_repair.specs.Current.{AllCurrent, rows_after}
-use Rattle.local_repair.specs.Registers.{SlotsChange}
 use Rattle.local_repair.specs.Repairs.{stale_id}
 use Rattle.local_repair.specs.Settling.{IsAgain, noted as noted_run}
-use Rattle.local_repair.specs.Steps.{calls_of_made, is_new_answer, raised, RanFirst, StepsTo}
+use Rattle.local_repair.specs.Steps.{is_new_answer, raised, RanFirst, StepsTo}
 use Rattle.local_repair.specs.declared.remaking.Rerun.{Rerun}
 use Rattle.local_repair.specs.declared.stepped.Stepped.{Stepped}
 use Rattle.local_repair.specs.declared.stepped.Stepped.TheVariants.{Idle, Ran as RanAgain}

@@ -1,4 +1,4 @@
-use Rattle.std.proofs.Common.{◌≡◌, ◌<◌, ◌∙◌, ℕ, List, length, sym, ap, subst, MatchOption, arith}
+use Rattle.std.proofs.Common.{◌∙◌, ℕ, List, length, ap, subst, MatchOption}
 use Rattle.std.proofs.lemmas.List.{length-map}
 use Rattle.log_index.specs.Marks.{AreMarks}
 use Rattle.local_repair.specs.Held.{looked, AreCurrent, IsFirstMarked}

@@ -1,4 +1,4 @@
-use Rattle.std.proofs.Common.{ap, ◌∙◌, sym, insert, length}
+use Rattle.std.proofs.Common.{ap, ◌∙◌, insert, length}
 use Rattle.std.proofs.lemmas.List.Edits.{insert_end}
 use Rattle.std.proofs.lemmas.Result.{on_ok_weaker}
 use Rattle.local_repair.specs.Repairs.{KeptRepairer}
