@@ -4,7 +4,7 @@ use Rattle.std.specs.List.{AllByRecursion, filter}
 use Rattle.std.proofs.lemmas.Bool.{cases_order, cases_lt, lt-ltb, le-ltb, ne_eqb}
 use Rattle.std.proofs.lemmas.List.Folds.{list_any-append}
 use Rattle.std.proofs.lemmas.List.Elements.{All-append, All-cons, All-drop, All-filter, All-map, All-weaker, recursion_from_All}
-use Rattle.std.proofs.lemmas.List.{take-append-drop, take_all, drop_all, length-map}
+use Rattle.std.proofs.lemmas.List.{take-append-drop, take_all, drop_all, drop-append-le, drop-drop, drop-take, length-map, length-take-le}
 use Rattle.lang_core.specs.Places.{past, IsRank}
 use Rattle.dependency_index.specs.Numbers.{Rises, with_number}
 use Rattle.dependency_index.proofs.NumberLemmas.{rises_put, member_kept}
@@ -89,6 +89,15 @@ rises_drop (suc n) (x ∷ xs) r = rises_drop n xs r.1
 
 pub drop_are : (count n : ℕ) (marks : List ℕ) → AreMarks count marks → AreMarks count (drop n marks)
 drop_are count n marks are = record { rising = rises_drop n marks are.rising; within = All-drop (λ q. q < count) n marks are.within }
+
+-- one more, among those behind a front
+pub put_behind_front : (front at n : ℕ) (xs : List ℕ) → front + at ≤ length xs
+    → drop front (take (front + at) xs ++ n ∷ drop (front + at) xs) ≡ take at (drop front xs) ++ n ∷ drop at (drop front xs)
+put_behind_front front at n xs le =
+    let long = length-take-le (front + at) xs le in
+    drop-append-le front (take (front + at) xs) (n ∷ drop (front + at) xs) (omega arith)
+    ∙ ap (λ l. l ++ n ∷ drop (front + at) xs) (drop-take front at xs)
+    ∙ ap (λ l. take at (drop front xs) ++ n ∷ l) (sym (drop-drop at front xs))
 
 -- ---- after an insertion
 

@@ -26,6 +26,11 @@ pub record KeptMarks : Type 0 where
   pub notes : List IndexCall
   pub spots : ℕ
 
+-- marks, and for how many there are places
+pub record Marked : Type 0 where
+  pub items : List ℕ
+  pub spots : ℕ
+
 -- the place is one of these marks
 abbrev pub is_marked : ℕ → List ℕ → Bool
 is_marked place marks = list_any (nat_eq place) marks

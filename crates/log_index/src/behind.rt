@@ -1,5 +1,5 @@
 // Marks behind a place.
-ghost use Rattle.std.specs.Prelude.{ℕ, ◌≡◌, ◌<◌, ◌≤◌, ◌||◌, ◌∷◌, [], length, IsTrue, OnOk, OnErr, vec_capacity};
+ghost use Rattle.std.specs.Prelude.{ℕ, ◌≡◌, ◌<◌, ◌≤◌, ◌||◌, ◌∷◌, [], length, IsTrue, OnOk, OnErr};
 ghost use Rattle.std.specs.List.{All, Contains};
 ghost use Rattle.lang_base.specs.Equal.{equal};
 ghost use Rattle.dependency_index.specs.Numbers.{with_numbers};
@@ -7,34 +7,35 @@ ghost use Rattle.lang_core.specs.declared.writes.Write.{Write};
 ghost use Rattle.lang_core.specs.contracts.writes.Write as write;
 ghost use Rattle.log_index.specs.Marks.{is_among, is_marked, lacking, places_behind, reads_by, sees_behind, AreMarks, IsNoted};
 
+use crate::numbers::Marks;
 use crate::places::Places;
-use dependency_index::{Index, put_reserved};
+use dependency_index::Index;
 use lang_core::{NoMemory, Same, Write};
 use std::alloc::Global;
 
 // Marks where a label stands, if that is behind a place.
-fn put_one(places: &Places, marks: &mut Vec<u64>, place: usize, label: u64)
+fn put_one(places: &Places, marks: &mut Marks, place: usize, label: u64)
     requires there { Contains places.now.labels label }
     requires marks { AreMarks (length places.now.labels) marks.old.items }
-    requires room { length places.now.labels ≤ vec_capacity marks.old }
+    requires room { length places.now.labels ≤ marks.old.spots }
     ensures items { marks.new.items ≡ with_numbers (places_behind places.now.labels place (label ∷ [])) marks.old.items }
     ensures marks { AreMarks (length places.now.labels) marks.new.items }
-    ensures capacity { vec_capacity marks.old ≤ vec_capacity marks.new }
+    ensures spots { marks.old.spots ≤ marks.new.spots }
 {
     let at = places.place_of(label);
     if place < at {
-        put_reserved(marks, at as u64);
+        marks.put(at as u64);
     }
 }
 
 // Marks where these labels stand, those behind a place.
-fn put_behind(places: &Places, marks: &mut Vec<u64>, place: usize, found: &[u64])
+fn put_behind(places: &Places, marks: &mut Marks, place: usize, found: &[u64])
     requires there { All (Contains places.now.labels) found.now }
     requires marks { AreMarks (length places.now.labels) marks.old.items }
-    requires room { length places.now.labels ≤ vec_capacity marks.old }
+    requires room { length places.now.labels ≤ marks.old.spots }
     ensures items { marks.new.items ≡ with_numbers (places_behind places.now.labels place found.now) marks.old.items }
     ensures marks { AreMarks (length places.now.labels) marks.new.items }
-    ensures capacity { vec_capacity marks.old ≤ vec_capacity marks.new }
+    ensures spots { marks.old.spots ≤ marks.new.spots }
 {
     for label in found {
         put_one(places, marks, place, *label);
@@ -46,18 +47,18 @@ fn mark_write(
     alloc: Global,
     places: &Places,
     index: &Index,
-    marks: &mut Vec<u64>,
+    marks: &mut Marks,
     place: usize,
     write: &Write,
 ) -> Result<(), NoMemory>
     requires within { place < length places.now.labels }
     requires noted { IsNoted places.now.labels index.now.reads marks.old.items }
-    requires room { length places.now.labels ≤ vec_capacity marks.old }
+    requires room { length places.now.labels ≤ marks.old.spots }
     ensures ok { OnOk result ((q : ℕ) → is_marked q marks.new.items
         ≡ (is_marked q marks.old.items || sees_behind place (write.now ∷ []) (reads_by index.now.reads places.now.labels) q)) }
     ensures err { OnErr result (marks.new.items ≡ marks.old.items) }
     ensures noted { IsNoted places.now.labels index.now.reads marks.new.items }
-    ensures capacity { vec_capacity marks.old ≤ vec_capacity marks.new }
+    ensures spots { marks.old.spots ≤ marks.new.spots }
 {
     let order = places.order();
     let from = places.label_at(place);
@@ -85,19 +86,19 @@ fn mark_change(
     alloc: Global,
     places: &Places,
     index: &Index,
-    marks: &mut Vec<u64>,
+    marks: &mut Marks,
     place: usize,
     write: &Write,
     others: &[Write],
 ) -> Result<(), NoMemory>
     requires within { place < length places.now.labels }
     requires noted { IsNoted places.now.labels index.now.reads marks.old.items }
-    requires room { length places.now.labels ≤ vec_capacity marks.old }
+    requires room { length places.now.labels ≤ marks.old.spots }
     ensures ok { OnOk result ((q : ℕ) → is_marked q marks.new.items
         ≡ (is_marked q marks.old.items || sees_behind place (lacking others.now (write.now ∷ [])) (reads_by index.now.reads places.now.labels) q)) }
     ensures err { OnErr result (marks.new.items ≡ marks.old.items) }
     ensures noted { IsNoted places.now.labels index.now.reads marks.new.items }
-    ensures capacity { vec_capacity marks.old ≤ vec_capacity marks.new }
+    ensures spots { marks.old.spots ≤ marks.new.spots }
 {
     if is_among(write, others) {
         return Ok(());
@@ -111,19 +112,19 @@ pub(crate) fn mark_writes(
     alloc: Global,
     places: &Places,
     index: &Index,
-    marks: &mut Vec<u64>,
+    marks: &mut Marks,
     place: usize,
     writes: &[Write],
     others: &[Write],
 ) -> Result<(), NoMemory>
     requires within { place < length places.now.labels }
     requires noted { IsNoted places.now.labels index.now.reads marks.old.items }
-    requires room { length places.now.labels ≤ vec_capacity marks.old }
+    requires room { length places.now.labels ≤ marks.old.spots }
     ensures ok { OnOk result ((q : ℕ) → is_marked q marks.new.items
         ≡ (is_marked q marks.old.items || sees_behind place (lacking others.now writes.now) (reads_by index.now.reads places.now.labels) q)) }
     ensures err { OnErr result ((q : ℕ) → IsTrue (is_marked q marks.old.items) → IsTrue (is_marked q marks.new.items)) }
     ensures noted { IsNoted places.now.labels index.now.reads marks.new.items }
-    ensures capacity { vec_capacity marks.old ≤ vec_capacity marks.new }
+    ensures spots { marks.old.spots ≤ marks.new.spots }
 {
     for write in writes {
         mark_change(alloc, places, index, marks, place, write, others)?;

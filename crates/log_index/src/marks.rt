@@ -1,12 +1,12 @@
 // Where the reads of entries looked, and which entries are marked.
-ghost use Rattle.std.specs.Prelude.{ℕ, ◌≡◌, ◌+◌, ◌<◌, ◌≤◌, ◌&&◌, ◌||◌, not, nat_eq, nat_lt, [], length, map, insert, slice_set, IsTrue, IfOk, OnOk, OnErr, vec_capacity};
+ghost use Rattle.std.specs.Prelude.{ℕ, ◌≡◌, ◌+◌, ◌<◌, ◌≤◌, ◌&&◌, ◌||◌, not, nat_eq, nat_lt, [], length, map, insert, slice_set, IsTrue, IfOk, OnOk, OnErr};
 ghost use Rattle.dependency_index.specs.Reads.{read_at};
 ghost use Rattle.log_index.specs.Marks.{changes, is_marked, lacking, sees_behind, AreMarks, IsReadyToInsert, IsReadyToSet};
 
 use crate::behind::mark_writes;
-use crate::numbers::{drop_below, insert_mark};
+use crate::numbers::Marks;
 use crate::places::Places;
-use dependency_index::{Index, put_reserved};
+use dependency_index::Index;
 use lang_base::both;
 use lang_core::{NoMemory, Reads, Writes};
 use std::alloc::Global;
@@ -21,12 +21,12 @@ pub struct EntryMarks {
     places: Places,
     // The reads, by the labels of the places.
     index: Index,
-    // The places that are marked, rising.
-    marks: Vec<u64>,
+    // The places that are marked.
+    marks: Marks,
 }
 
 impl Model for EntryMarks {
-    ghost use Rattle.std.specs.Prelude.{◌≤◌, length, vec_capacity};
+    ghost use Rattle.std.specs.Prelude.{◌≤◌, length};
     ghost use Rattle.log_index.specs.Marks.{KeptMarks, IsNoted, reads_by};
 
     ghost Value = { KeptMarks };
@@ -36,22 +36,11 @@ impl Model for EntryMarks {
       marks = m.marks.items;
       places = m.places;
       notes = m.index.room;
-      spots = vec_capacity m.marks;
+      spots = m.marks.spots;
     } };
 
     ghost invariant = { λ m. IsNoted m.places.labels m.index.reads m.marks.items
-        × (length m.places.labels ≤ vec_capacity m.marks) };
-}
-
-// The same marks, and a place for the mark of each of so many entries.
-fn copied_marks(alloc: Global, marks: &[u64], count: usize) -> Result<Vec<u64>, NoMemory>
-    requires { length marks.now ≤ count }
-    ensures marks { IfOk result (λ copy. copy.items ≡ marks.now) }
-    ensures spots { IfOk result (λ copy. count ≤ vec_capacity copy) }
-{
-    let mut copy = Vec::from_slice(alloc, marks)?;
-    copy.reserve(count - marks.len())?;
-    Ok(copy)
+        × (length m.places.labels ≤ m.marks.spots) };
 }
 
 impl EntryMarks {
@@ -63,7 +52,7 @@ impl EntryMarks {
         EntryMarks {
             places: Places::new(alloc),
             index: Index::new(alloc),
-            marks: Vec::new(alloc),
+            marks: Marks::new(alloc),
         }
     }
 
@@ -72,7 +61,7 @@ impl EntryMarks {
         ensures reads { IfOk result (λ copy. copy.reads ≡ self.now.reads) }
         ensures marks { IfOk result (λ copy. copy.marks ≡ self.now.marks) }
     {
-        let marks = copied_marks(alloc, &self.marks, self.places.len());
+        let marks = self.marks.copied(alloc, self.places.len());
         let reads = both(self.places.copied(alloc), self.index.copied(alloc));
         let (marks, (places, index)) = both(marks, reads)?;
         Ok(EntryMarks {
@@ -87,7 +76,7 @@ impl EntryMarks {
         ensures is { result.now ≡ self.now.marks }
         ensures marks { AreMarks (length self.now.reads) result.now }
     {
-        &self.marks
+        self.marks.as_slice()
     }
 
     /// Makes room for an `insert` of an entry with these reads at a place.
@@ -101,8 +90,7 @@ impl EntryMarks {
         ensures marks { self.new.marks ≡ self.old.marks }
         ensures ok { OnOk result (IsReadyToInsert place reads.now self.new) }
     {
-        self.marks
-            .reserve(self.places.len() - self.marks.len() + 1)?;
+        self.marks.reserve(self.places.len())?;
         self.places.ready_insert(place)?;
         self.index.ready_note_reads(alloc, reads)
     }
@@ -120,7 +108,7 @@ impl EntryMarks {
         let count = self.places.len();
         let label = self.places.insert(place);
         self.index.note_reads(alloc, label, reads).unwrap();
-        insert_mark(&mut self.marks, place as u64, marked, count);
+        self.marks.insert(place as u64, marked, count);
     }
 
     /// Makes room for a `set` of these reads, at whichever place.
@@ -149,7 +137,7 @@ impl EntryMarks {
         ensures reads { self.new.reads ≡ self.old.reads }
         ensures marks { (q : ℕ) → is_marked q self.new.marks ≡ (nat_eq q place || is_marked q self.old.marks) }
     {
-        put_reserved(&mut self.marks, place as u64);
+        self.marks.put(place as u64);
     }
 
     /// Takes the marks of all entries before a place away.
@@ -157,7 +145,7 @@ impl EntryMarks {
         ensures reads { self.new.reads ≡ self.old.reads }
         ensures marks { (q : ℕ) → is_marked q self.new.marks ≡ (not (nat_lt q place) && is_marked q self.old.marks) }
     {
-        drop_below(&mut self.marks, place as u64);
+        self.marks.drop_below(place as u64);
     }
 
     /// Marks the entries behind a place that read the key of one of these writes, or scan under a prefix of it. Refused,

@@ -19,7 +19,7 @@ loop-write-preserved c =
     let lt : i < length ws = omega arith in
     let next : take (i + 1) ws ≡ take i ws ++ w ∷ [] = take_next ws i w lt (sym c.write-item.is) in
     let others = c.args.others.now in
-    let more = c.in_ok-mark_change.ensures.capacity in
+    let more = c.in_ok-mark_change.ensures.spots in
     let room = c.loop-write.invariant.room in
     record {
       marked = sees_more c.args.marks.now.items c.loop-write.marks.items c.mark_change.new.marks.items (reads_by c.args.index.now.reads c.args.places.now.labels) c.args.place

@@ -12,7 +12,7 @@ loop-label-preserved c =
     let labels = c.args.places.now.labels in
     let marks = c.loop-label.marks.items in
     let next : drop i found ≡ get_or found i 0 ∷ drop (i + 1) found = rw add-one (drop-cons found i 0 lt) in
-    let more = c.put_one.ensures.capacity in
+    let more = c.put_one.ensures.spots in
     let room = c.loop-label.invariant.room in
     record {
       rest = ap (with_numbers (places_behind labels c.args.place (drop (i + 1) found))) c.put_one.ensures.items

@@ -26,7 +26,7 @@ invariant_of-self c =
     let whole : List ℕ = insert labels c.args.place label in
     let A : List ℕ → Type 0 = λ l. IsApart l in
     let K : List ℕ → Type 0 = λ l. All (Contains l) (map label_of c.note_reads.new.self.reads) in
-    let M : ℕ → Type 0 = λ n. AreMarks n c.insert_mark.new.marks.items in
+    let M : ℕ → Type 0 = λ n. AreMarks n c.insert.new.self.items in
     let e = sym c.insert-label.ensures.labels in
     let count = c.len-count.ensures in
     let seen = ap length (ap (λ (k : KeptMarks). k.reads) c.self.view_is) in
@@ -36,12 +36,12 @@ invariant_of-self c =
     let n : length c.insert-label.new.self.labels ≡ length labels + 1 = ap length c.insert-label.ensures.labels ∙ length-insert labels c.args.place label inside in
     let spot = c.requires.ready.spot in
     let cap = ap (λ (k : KeptMarks). k.spots) c.self.view_is in
-    let more = c.insert_mark.ensures.capacity in (
+    let more = c.insert.ensures.spots in (
       record {
         apart = subst A e (apart_insert labels c.args.place label c.insert-label.ensures.is_new noted.apart);
         known = subst K e (known whole (All-weaker (Contains labels) (Contains whole) (λ x there. still_there labels c.args.place label x there) (map label_of old) noted.known)
             (put_there labels c.args.place label));
-        are = subst M (omega arith) c.insert_mark.ensures.marks;
+        are = subst M (omega arith) c.insert.ensures.marks;
       },
       omega arith,
     )

@@ -7,16 +7,18 @@ use Rattle.log_index.proofs.MarkLemmas.{few}
 use Rattle.log_index.proofs.NotedLemmas.{many}
 use Rattle.log_index.proofs.marks.EntryMarks.ready_insert.Goals as goal
 
-pub overflow_sub-len : goal.overflow_sub-len
-overflow_sub-len c =
+pub reserve-requires-clause-few : goal.reserve-requires-clause-few
+reserve-requires-clause-few c =
     let h = few (length c.self.inside.places.labels) c.self.inside.marks.items c.self.invariant.0.are in
-    let ok = c.self.inside.marks.ok in
+    let count = c.len.ensures in
     omega arith
+
+pub reserve-requires-clause-within : goal.reserve-requires-clause-within
+reserve-requires-clause-within c = let spots = c.self.invariant.1 in let count = c.len.ensures in omega arith
 
 pub returns-clause-ok : goal.returns-clause-ok
 returns-clause-ok c =
-    let h = few (length c.self.inside.places.labels) c.self.inside.marks.items c.self.invariant.0.are in
-    let ok = c.self.inside.marks.ok in
+    let long = c.len.ensures in
     let room = c.in_ok-reserve.ensures.ok in
     let labels = ap length c.in_ok-ready_insert.ensures.labels in
     let count = many c.ready_note_reads.new.self.reads c.ready_insert.new.self.labels in
