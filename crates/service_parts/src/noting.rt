@@ -1,10 +1,11 @@
 // Rows as changes of registers.
-ghost use Rattle.std.specs.Prelude.{◌≡◌, ◌+◌, OnOk, IfOk, is_some};
+ghost use Rattle.std.specs.Prelude.{◌≡◌, OnOk, is_some};
 ghost use Rattle.service_events.specs.Calls.{put_sent, after_row, after_rows};
 ghost use Rattle.call_registers.specs.Registers.{register, with_ack, with_answer, at_number, sent_anew};
 ghost use Rattle.call_registers.specs.Overlays.{overlaid};
 ghost use Rattle.service_events.specs.Calls.{seen_answer};
 
+use crate::numbers::next_of;
 use call_registers::{Answer, RegisterChange, RegisterChanges, Registers};
 use journal_rows::{Row, SawAnswerRow, SentRow};
 use lang_core::{Copied, NoMemory};
@@ -92,13 +93,6 @@ fn note_row(
         Row::SawAnswer(seen) => note_answer(alloc, standing, changes, seen),
         _ => Ok(()),
     }
-}
-
-// One more; what has no number of 64 bits has no memory either.
-fn next_of(at: u64) -> Result<u64, NoMemory>
-    ensures { IfOk result (λ next. next ≡ at + 1) }
-{
-    at.checked_add(1).ok_or(NoMemory)
 }
 
 /// Changes registers as these rows do, the first of which has this index in the journal. Refused, the changes are no use

@@ -1,6 +1,5 @@
 // Rows that tell of calls.
 ghost use Rattle.std.specs.Prelude.{◌≡◌, ◌+◌, ◌≤◌, [], ◌∷◌, ◌++◌, drop, slice_get, IfOk, OnOk};
-ghost use Rattle.call_registers.specs.Changes.{raised};
 ghost use Rattle.service_events.specs.Calls.{replaced, deleted, named, all_deleted};
 ghost use Rattle.std.specs.Option.{option_copied};
 ghost use Rattle.call_registers.specs.Registers.{next_number};
@@ -12,12 +11,6 @@ use journal_rows::{Row, SentRow};
 use lang_core::{CallMade, Copied, Name, NoMemory, Request};
 use repair_messages::copied_pair;
 use std::alloc::Global;
-
-fn raised(version: u64) -> u64
-    ensures { result ≡ raised version }
-{
-    version.saturating_add(1)
-}
 
 /// The row of a call that asks another request.
 pub fn replaced<R: RegistersView>(
@@ -33,7 +26,7 @@ pub fn replaced<R: RegistersView>(
     Ok(Row::Sent(SentRow {
         number,
         dest,
-        version: raised(registers.version_of(number)),
+        version: registers.version_of(number).saturating_add(1),
         desired: Some(request),
     }))
 }
@@ -50,7 +43,7 @@ pub fn deleted<R: RegistersView>(
     Ok(Row::Sent(SentRow {
         number,
         dest: call.dest.copied(alloc)?,
-        version: raised(registers.version_of(number)),
+        version: registers.version_of(number).saturating_add(1),
         desired: None,
     }))
 }

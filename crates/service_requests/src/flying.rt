@@ -1,5 +1,5 @@
 // A flight with other calls, and the call for which it waits.
-ghost use Rattle.std.specs.Prelude.{◌≡◌, ◌+◌, slice_set, if◌then◌else◌, IfOk, OnOk};
+ghost use Rattle.std.specs.Prelude.{◌≡◌, slice_set, if◌then◌else◌, IfOk, OnOk};
 ghost use Rattle.service_events.specs.Flying.{live_call, with_slot, with_change};
 ghost use Rattle.service_parts.specs.Parts.{kept};
 ghost use Rattle.service_requests.specs.Endings.{with_call};
@@ -8,7 +8,7 @@ use flights::Flight;
 use lang_base::both;
 use lang_core::{CallMade, Copied, NoMemory, Seq};
 use repair_messages::{SetMessage, copied_pair};
-use service_parts::Parts;
+use service_parts::{Parts, next_of};
 use std::alloc::Global;
 
 fn either<'a, T>(first: bool, left: &'a T, right: &'a T) -> &'a T
@@ -48,12 +48,6 @@ fn add_call(
     flight.numbers.push(number)
 }
 
-fn one_more(changes: u64) -> Result<u64, NoMemory>
-    ensures { IfOk result (λ next. next ≡ changes + 1) }
-{
-    changes.checked_add(1).ok_or(NoMemory)
-}
-
 // The flight has another call at a slot, of this number. Refused, it is no use any more.
 fn change_call(
     alloc: Global,
@@ -64,7 +58,7 @@ fn change_call(
 ) -> Result<(), NoMemory>
     ensures { OnOk result (flight.new ≡ with_change slot number call.now flight.old) }
 {
-    let changes = one_more(flight.changes)?;
+    let changes = next_of(flight.changes)?;
     let calls = replaced(alloc, flight.calls.as_slice(), slot, call);
     let numbers = replaced(alloc, flight.numbers.as_slice(), slot, &number);
     let (calls, numbers) = both(calls, numbers)?;
