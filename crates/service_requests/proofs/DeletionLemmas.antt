@@ -1,6 +1,5 @@
 -- The rows of deleted calls, one after another, and the flight that is gone.
-use Rattle.std.proofs.Common.{◌≡◌, ◌∙◌, sym, ap, refl, subst, ℕ, zero, suc, ◌+◌, ◌<◌, ◌≤◌, ◌^◌, Bool, true, false, List, [], ◌∷◌, ◌++◌, length, drop, remove, slice_index_or, get_or, Option, Some, None, All, inl, inr, add-one, drop-cons, append_assoc, eqb-true, arith}
-use Rattle.std.proofs.lemmas.Bool.{cases_Bool}
+use Rattle.std.proofs.Common.{◌≡◌, ◌∙◌, sym, ap, refl, ℕ, zero, suc, ◌+◌, ◌<◌, ◌≤◌, ◌^◌, Bool, true, false, List, [], ◌∷◌, ◌++◌, length, drop, remove, slice_index_or, Some, None, All, append_assoc, eqb-true, arith}
 use Rattle.std.proofs.lemmas.List.Elements.{All-cons, All-nil}
 use Rattle.lang_core.specs.declared.trace.CallMade.{CallMade}
 use Rattle.journal_rows.specs.declared.row.Row.{Row}
@@ -9,7 +8,7 @@ use Rattle.flights.specs.Numbers.{has_flight, without_flight}
 use Rattle.flights.specs.declared.flight.Flight.{Flight}
 use Rattle.flights.proofs.NumberLemmas.{none_removed}
 use Rattle.service_events.specs.State.{Kept, After, after, flight_of}
-use Rattle.service_events.specs.Calls.{after_row, after_rows, all_deleted, deleted, noted}
+use Rattle.service_events.specs.Calls.{all_deleted, deleted, noted}
 use Rattle.service_events.specs.Arriving.{abandoned, abandon_event}
 use Rattle.service_entry_laws.proofs.SearchLemmas.{splits}
 use Rattle.service_laws.proofs.AgeLaws.{abandon_ages}

@@ -1,6 +1,5 @@
 use Rattle.std.proofs.Common.{List, ◌∙◌, ap}
 use Rattle.journal_rows.specs.declared.row.Row.{Row}
-use Rattle.service_events.specs.Arriving.{live_answer_rows}
 use Rattle.service_events.specs.Calls.{noted}
 use Rattle.service_parts.specs.Parts.{kept}
 use Rattle.service_requests.proofs.calls.draft_of_answer.Goals as goal
