@@ -186,13 +186,6 @@ impl<T: Placed + Drop> ByPlace<T> {
         Ok(())
     }
 
-    /// Takes away what stands at the table and the key, if something does.
-    pub fn unset(&mut self, table: &Text, key: &Text)
-        ensures { self.new ≡ unset_in T.place (place_of table.now key.now) self.old }
-    {
-        unset_items(&mut self.items, table, key);
-    }
-
     /// Puts an item last. Refused, it is dropped and the list stays.
     pub fn push(&mut self, item: T) -> Result<(), NoMemory>
         requires { IsOrdered T.place (self.old ++ item ∷ []) }
