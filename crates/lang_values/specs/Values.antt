@@ -1,7 +1,6 @@
 -- What an expression gives.
 use Rattle.std.specs.Prelude.{ℕ, ℤ, pos, negsuc, ◌+ℤ◌, ◌-ℤ◌, ◌*ℤ◌, ◌-◌, Bool, true, false, List, [], ◌∷◌, ◌++◌, Option, Some, None, Result, Ok, Err, if◌then◌else◌, nat_lt, nat_eq, length, slice_get}
-use Rattle.std.specs.declared.cmp.Ordering.{Ordering}
-use Rattle.std.specs.declared.cmp.Ordering.TheVariants.{Less, Equal, Greater}
+use Rattle.std.specs.Ordering.{is_lt}
 use Rattle.lang_base.specs.Texts.{same_text, text_order}
 use Rattle.lang_core.specs.declared.value.Value.{Value}
 use Rattle.lang_core.specs.declared.value.Value.TheVariants.{Int, Str, Nothing}
@@ -44,11 +43,6 @@ same_value (Str a) (Str b) = same_text a b
 same_value Nothing Nothing = true
 same_value _ _ = false
 
-abbrev pub is_less : Ordering → Bool
-is_less Less = true
-is_less Equal = false
-is_less Greater = false
-
 abbrev pub truth : Bool → Value
 truth b = Int (pos (if b then 1 else 0))
 
@@ -64,7 +58,7 @@ on_ints f _ _ = Err Kind
 
 abbrev pub less : Value → Value → Outcome
 less (Int a) (Int b) = Ok (truth (int_below a b))
-less (Str a) (Str b) = Ok (truth (is_less (text_order a b)))
+less (Str a) (Str b) = Ok (truth (is_lt (text_order a b)))
 less _ _ = Err Kind
 
 abbrev pub join : Value → Value → Outcome

@@ -1,7 +1,7 @@
 // What an expression gives.
 ghost use Rattle.std.specs.Prelude.{◌≡◌, ◌+ℤ◌, ◌-ℤ◌, ◌*ℤ◌, ◌++◌, ◌-◌, ◌⊎◌, slice_get, map, Ok, Err, IfOk, IfErr, IsOkAnd};
 ghost use Rattle.lang_core.specs.declared.value.Value.TheVariants.{Str};
-ghost use Rattle.lang_values.specs.Values.{and_then, same_value, is_less, truth, exact, within_limit, less, join, apply, text_or_nothing, int_or_nothing, piece_at, part, number, as_text, var, value_of};
+ghost use Rattle.lang_values.specs.Values.{and_then, same_value, truth, exact, within_limit, less, join, apply, text_or_nothing, int_or_nothing, piece_at, part, number, as_text, var, value_of};
 
 use crate::given::{Binding, Fault, Given};
 use crate::numbers::{signed_number, signed_text};
@@ -9,7 +9,6 @@ use crate::parts::piece;
 use lang_base::both;
 use lang_core::{Copied, Expr, LONGEST_TEXT, NoMemory, Op, Same, Text, Value};
 use std::alloc::Global;
-use std::cmp::Ordering;
 
 /// A value, or the fault of an expression. Want of memory stands outside of it.
 pub type Evaluated = Result<Value, Fault>;
@@ -63,17 +62,8 @@ fn less(left: &Value, right: &Value) -> Evaluated
 {
     match (left, right) {
         (Value::Int(a), Value::Int(b)) => Ok(truth(*a < *b)),
-        (Value::Str(a), Value::Str(b)) => Ok(truth(is_less(a.order(b)))),
+        (Value::Str(a), Value::Str(b)) => Ok(truth(a.order(b).is_lt())),
         _ => Err(Fault::Kind),
-    }
-}
-
-fn is_less(order: Ordering) -> bool
-    ensures { result ≡ is_less order }
-{
-    match order {
-        Ordering::Less => true,
-        Ordering::Equal | Ordering::Greater => false,
     }
 }
 
