@@ -1,5 +1,5 @@
 -- A flight waits for one call at most: each other is over, by an answer or by why there is none.
-use Rattle.std.proofs.Common.{◌≡◌, ℕ, zero, suc, ◌+◌, ◌-◌, ◌<◌, ◌≤◌, ◌⊎◌, ◌||◌, Bool, true, false, List, [], ◌∷◌, ◌++◌, Option, Some, None, IsSome, IsSomeAnd, All, find, fold, length, max, nat_eq, nat_le, option_map, is_some, set, slice_get, take, inl, inr, refl, sym, ◌∙◌, subst, arith, eq-eqb}
+use Rattle.std.proofs.Common.{◌≡◌, ℕ, zero, suc, ◌+◌, ◌-◌, ◌<◌, ◌≤◌, ◌⊎◌, Bool, true, List, [], ◌∷◌, ◌++◌, Option, Some, None, IsSome, IsSomeAnd, All, find, fold, length, max, nat_eq, nat_le, option_map, is_some, set, slice_get, take, inl, inr, refl, sym, ◌∙◌, subst, arith, eq-eqb}
 use Rattle.std.proofs.Math.Bool.{or-true}
 use Rattle.std.proofs.lemmas.Bool.{cases_Bool, cond_both, cond-true}
 use Rattle.std.proofs.lemmas.List.Elements.{All-weaker}

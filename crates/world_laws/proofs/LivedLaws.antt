@@ -23,7 +23,7 @@ use Rattle.flights.specs.declared.flight.Move.{Move}
 use Rattle.flights.specs.declared.flight.Move.TheVariants.{Commit, Name, Change}
 use Rattle.service_events.specs.State.{Kept, After, me, has_flight, without_flight, put_flight, with_flight}
 use Rattle.service_events.specs.Calls.{noted, named, all_deleted}
-use Rattle.service_events.specs.Flying.{flight_run, before_answer, live_answer, surplus_rows, took_rows, answer_to_caller, committed_entry, committed, with_slot, with_change, deletion, change_rows, waits, call_or_none, wanted_of, named_unsent, changed_unsent, completing, completed, changed, moved, goes_on}
+use Rattle.service_events.specs.Flying.{flight_run, before_answer, live_answer, surplus_rows, took_rows, answer_to_caller, committed_entry, committed, with_slot, with_change, deletion, change_rows, waits, wanted_of, named_unsent, changed_unsent, completing, completed, changed, moved, goes_on}
 use Rattle.service_events.specs.declared.answers.Arrived.{Arrived}
 use Rattle.service_events.specs.declared.answers.Arrived.TheVariants.{Done, Call as Sends, Known}
 use Rattle.service_call_laws.proofs.CallLaws.{Grows}

@@ -1,12 +1,10 @@
 -- A live request leaves its service's setting, and calls a peer by a call of its own that asks something.
-use Rattle.std.proofs.Common.{◌≡◌, ℕ, Bool, List, [], ◌∷◌, Option, Some, None, IsSome, Contains, Result, Ok, Err, nat_eq, nat_le, slice_get, refl, sym, ap, ◌∙◌, subst}
+use Rattle.std.proofs.Common.{◌≡◌, ℕ, List, [], ◌∷◌, Option, Some, None, IsSome, Contains, Result, Ok, Err, nat_eq, nat_le, slice_get, refl, sym, ap, ◌∙◌, subst}
 use Rattle.std.proofs.lemmas.Bool.{cond_both}
-use Rattle.lang_core.specs.Traces.{dead_trace}
 use Rattle.lang_core.specs.declared.ids.Origin.{Origin}
 use Rattle.lang_core.specs.declared.ids.Origin.TheVariants.{Outside, Call}
 use Rattle.lang_core.specs.declared.inputs.Inputs.{Inputs}
 use Rattle.lang_core.specs.declared.request.Request.{Request}
-use Rattle.lang_core.specs.declared.setting.Setting.{Setting}
 use Rattle.lang_core.specs.declared.trace.CallMade.{CallMade}
 use Rattle.lang_core.specs.declared.trace.Trace.{Trace}
 use Rattle.handler_run.specs.declared.state.Ran.{Ran}
@@ -26,7 +24,7 @@ use Rattle.flights.specs.declared.flight.Move.{Move}
 use Rattle.flights.specs.declared.flight.Move.TheVariants.{Commit, Name, Change}
 use Rattle.service_events.specs.Arriving.{accepted, admitted, arrive_event, arrives_or_known, by_version, known_by, new_flight, unless_gone, is_for, live_answer_rows, answered_flight, call_answered_event, told, failed_flight, call_failed_event}
 use Rattle.service_events.specs.Calls.{noted, named}
-use Rattle.service_events.specs.Flying.{awaited, wanted_of, with_slot, with_change, waits, call_or_none, committed, changed_unsent, change_rows, completed, changed, moved, flight_run, goes_on}
+use Rattle.service_events.specs.Flying.{awaited, wanted_of, with_slot, with_change, waits, committed, changed_unsent, change_rows, completed, changed, moved, flight_run, goes_on}
 use Rattle.service_events.specs.State.{Kept, After, after, me, or_else, is_crowded, is_heavy, is_in_flight, flight_of}
 use Rattle.service_events.specs.declared.answers.Arrived.{Arrived}
 use Rattle.service_events.specs.declared.answers.Arrived.TheVariants.{Done, Call as Sends, Known}
