@@ -1,6 +1,5 @@
-// Services that ask their rules, what they deny and hold, and how services settle: worked examples, by the bytes that their
-// scripts print.
-use crate::memory::{ran, ran_in};
+// Services that ask their rules, and what they deny and hold: worked examples, by the bytes that their scripts print.
+use crate::memory::ran_in;
 use std::process::Abort;
 
 // The bank takes deletions from an administrator alone.
@@ -120,120 +119,6 @@ const ORDERS_TOLD: &str = "diary/1 = 200\n\
     pages a sun\n\
     legal\n";
 
-// A created call goes to its place, and all is made good.
-const PLACED: &str = "ask shop ann POST /maybe/x 1\n\
-    ask shop ann POST /buy/y 2\n\
-    create shop t1 ann 1 - ann PUT /flag\n\
-    step shop\n\
-    step shop\n\
-    post shop bank\n\
-    deliver p3\n\
-    log bank\n\
-    settle 5\n\
-    log shop\n\
-    settle 1000\n\
-    audit\n";
-
-const PLACED_TOLD: &str = "shop/1 = 200 off\n\
-    shop/2 = 200 ok 2\n\
-    shop ordered t1 shop/3 rule 1\n\
-    shop ran shop/3\n\
-    shop ran shop/1\n\
-    shop -> p3 create shop/2 v1\n\
-    bank took shop/2 v1 rule 1 -> p4\n\
-    bank/2 v1 alive r0 call:shop/2 POST /pay/x = none\n\
-    bank/1 v1 alive r1 call:shop/1 POST /pay/y = 200 ok 2\n\
-    settled 2 2 2\n\
-    shop/3 v0 alive r1 out:ann PUT /flag = 200\n\
-    shop/1 v0 alive r3 out:ann POST /maybe/x = 200 ok 1\n\
-    shop/2 v0 alive r1 out:ann POST /buy/y = 200 ok 2\n\
-    settled 0 0 0\n\
-    legal\n";
-
-// A request whose calls changed four times.
-const HURRIED: &str = "ask shop ann PUT /cfg 1\n\
-    begin shop ann POST /rate/x\n\
-    ask shop ann PUT /cfg 2\n\
-    deliver p1\n\
-    deliver p2\n\
-    ask shop ann PUT /cfg 3\n\
-    deliver p3\n\
-    deliver p4\n\
-    ask shop ann PUT /cfg 4\n\
-    deliver p5\n\
-    deliver p6\n\
-    ask shop ann PUT /cfg 5\n\
-    deliver p7\n\
-    deliver p8\n\
-    settle 5\n\
-    rows bank\n\
-    audit\n";
-
-const HURRIED_TOLD: &str = "shop/1 = 200\n\
-    shop f1 -> p1\n\
-    shop/2 = 200\n\
-    bank/1 = 200 ok 1 -> p2\n\
-    shop f1 -> p3\n\
-    shop/3 = 200\n\
-    bank/2 = 200 ok 2 -> p4\n\
-    shop f1 -> p5\n\
-    shop/4 = 200\n\
-    bank/3 = 200 ok 3 -> p6\n\
-    shop f1 -> p7\n\
-    shop/5 = 200\n\
-    bank/4 = 200 ok 4 -> p8\n\
-    shop/6 = 504\n\
-    settled 2 6 6\n\
-    paid x 5\n\
-    legal\n";
-
-// An intruder's setting is undone while a request waits; packets of `settle` are numbered as others.
-const POSTED: &str = "ask oauth ann PUT /token/ann k1\n\
-    ask oauth root PUT /cfg/debug on\n\
-    ask askbot eve POST /post/eve/zz/q1 evil\n\
-    ask askbot ann POST /post/ann/k1/q2 good\n\
-    cancel oauth/2 t1 root\n\
-    begin askbot ann POST /post/ann/k1/q3 more\n\
-    settle 9\n\
-    deliver p9\n\
-    deliver p14\n\
-    deliver p15\n\
-    deliver p16\n\
-    rows askbot\n\
-    rows dpaste\n\
-    audit\n";
-
-const POSTED_TOLD: &str = "oauth/1 = 200\n\
-    oauth/2 = 200\n\
-    askbot/1 = 200\n\
-    askbot/2 = 200\n\
-    oauth ordered t1 oauth/2 rule 1\n\
-    askbot f1 -> p9\n\
-    settled 1 5 2\n\
-    oauth/5 = 200 ann -> p14\n\
-    askbot f1 -> p15\n\
-    dpaste/3 = 200 -> p16\n\
-    askbot/3 = 200\n\
-    posts q2 good\n\
-    posts q3 more\n\
-    pastes q2 good\n\
-    pastes q3 more\n\
-    legal\n";
-
-const GIVEN_UP: &str = "begin shop ann POST /buy/x 5\n\
-    abandon shop f1\n\
-    audit\n\
-    settle 3\n\
-    log shop\n\
-    audit\n";
-
-const GIVEN_UP_TOLD: &str = "shop f1 -> p1\n\
-    shop abandoned f1\n\
-    unsettled call shop/1\n\
-    settled 1 0 1\n\
-    none\n\
-    legal\n";
-
 // What stays held is no post of a round, and a flight keeps nobody from settling.
 const HELD: &str = "ask shop ann POST /buy/x 5\n\
     cancel shop/1 t1 ann\n\
@@ -262,25 +147,10 @@ fn rules(rt: &(impl Abort + AllocGlobal), world: &str, script: &str, told: &str)
     tells(rt, status, out.bytes(), told);
 }
 
-// The same in a world that comes with the program.
-fn settles(rt: &(impl Abort + AllocGlobal), world: &str, script: &str, told: &str) {
-    let words = &["run", world, "-"];
-    let (status, out) = ran(rt.alloc(), words, &[script], 0, 0).expect(rt, "memory");
-    tells(rt, status, out.bytes(), told);
-}
-
 #[test]
 fn what_is_denied(rt: HostRuntime) {
     rules(&rt, STRICT, DENIED, DENIED_TOLD);
     rules(&rt, DEAF, UNHEARD, UNHEARD_TOLD);
     rules(&rt, OWNED, ORDERS, ORDERS_TOLD);
     rules(&rt, STRICT, HELD, HELD_TOLD);
-}
-
-#[test]
-fn what_settles(rt: HostRuntime) {
-    settles(&rt, "@shops", PLACED, PLACED_TOLD);
-    settles(&rt, "@shops", HURRIED, HURRIED_TOLD);
-    settles(&rt, "@posts", POSTED, POSTED_TOLD);
-    settles(&rt, "@shops", GIVEN_UP, GIVEN_UP_TOLD);
 }

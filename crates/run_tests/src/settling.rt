@@ -135,13 +135,21 @@ const GIVEN_UP_ON_TOLD: &str = "shop -> p2 delete shop/1 v2\n\
 
 // While a debug switch is on, a forged post passes the check of its author. The switch is undone: the forged post and its
 // paste go, the honest ones stay, and a live request that waits meanwhile goes on as if nothing had been.
-const POSTED: &str = "ask oauth ann PUT /token/ann k1\n\
+pub const POSTED: &str = "ask oauth ann PUT /token/ann k1\n\
     ask oauth root PUT /cfg/debug on\n\
     ask askbot eve POST /post/eve/zz/q1 evil\n\
     ask askbot ann POST /post/ann/k1/q2 good\n\
     cancel oauth/2 t1 root\n\
-    begin askbot ann POST /post/ann/k1/q3 more\n\
-    step oauth\n\
+    begin askbot ann POST /post/ann/k1/q3 more\n";
+
+pub const POSTED_TOLD: &str = "oauth/1 = 200\n\
+    oauth/2 = 200\n\
+    askbot/1 = 200\n\
+    askbot/2 = 200\n\
+    oauth ordered t1 oauth/2 rule 1\n\
+    askbot f1 -> p9\n";
+
+const POSTED_ON: &str = "step oauth\n\
     step oauth\n\
     step oauth\n\
     step oauth\n\
@@ -157,22 +165,9 @@ const POSTED: &str = "ask oauth ann PUT /token/ann k1\n\
     post askbot dpaste\n\
     step dpaste\n\
     step dpaste\n\
-    audit\n\
-    deliver p9\n\
-    deliver p14\n\
-    deliver p15\n\
-    deliver p16\n\
-    rows askbot\n\
-    rows dpaste\n\
     audit\n";
 
-const POSTED_TOLD: &str = "oauth/1 = 200\n\
-    oauth/2 = 200\n\
-    askbot/1 = 200\n\
-    askbot/2 = 200\n\
-    oauth ordered t1 oauth/2 rule 1\n\
-    askbot f1 -> p9\n\
-    oauth ran oauth/2\n\
+const POSTED_ON_TOLD: &str = "oauth ran oauth/2\n\
     oauth ran oauth/3\n\
     oauth ran oauth/4\n\
     oauth idle\n\
@@ -188,8 +183,18 @@ const POSTED_TOLD: &str = "oauth/1 = 200\n\
     askbot none dpaste\n\
     dpaste ran dpaste/1\n\
     dpaste idle\n\
-    unsettled flight askbot/1\n\
-    oauth/5 = 200 ann -> p14\n\
+    unsettled flight askbot/1\n";
+
+// The request that waited goes on.
+pub const POSTED_ENDS: &str = "deliver p9\n\
+    deliver p14\n\
+    deliver p15\n\
+    deliver p16\n\
+    rows askbot\n\
+    rows dpaste\n\
+    audit\n";
+
+pub const POSTED_ENDS_TOLD: &str = "oauth/5 = 200 ann -> p14\n\
     askbot f1 -> p15\n\
     dpaste/3 = 200 -> p16\n\
     askbot/3 = 200\n\
@@ -222,6 +227,14 @@ fn nothing_is_left_to_do(rt: HostRuntime) -> Result<(), Fail> {
             &[GIVEN_UP_TOLD, GIVEN_UP_ON_TOLD]
         )?
     );
-    assert!(rt; tells(alloc, "@posts", &[POSTED], &[POSTED_TOLD])?);
+    let posted: &[&str] = &[POSTED, POSTED_ON, POSTED_ENDS];
+    assert!(rt;
+        tells(
+            alloc,
+            "@posts",
+            posted,
+            &[POSTED_TOLD, POSTED_ON_TOLD, POSTED_ENDS_TOLD]
+        )?
+    );
     Ok(())
 }
