@@ -8,7 +8,7 @@ use crate::refusals::is_deletion;
 use crate::texts::{method_in, names_in, number_at, status_in, who_or_anyone};
 use http_front::{AireHeader, WireRequest};
 use http_header::HeaderMap;
-use lang_core::{Method, Name, Names, NoMemory, Request, Response, Seq, Text};
+use lang_core::{Copied, Method, Name, Names, NoMemory, Request, Response, Seq, Text};
 use repair_messages::{AnswerMessage, SetMessage};
 use std::alloc::Global;
 use wire_fields::{ConsoleRequest, ConsoleWord, name_of, number_in, text_at, version_at};
@@ -51,7 +51,7 @@ fn request_of(
     alloc: Global,
     method: Method,
     path: &str,
-    body: &str,
+    body: &Text,
     who: &str,
     chain: Names,
 ) -> Result<Request, NoMemory>
@@ -63,13 +63,13 @@ fn request_of(
       chain = chain;
     }) }
 {
-    let texts = texts_of(alloc, path, body)?;
-    let who = Text::of(alloc, who)?;
+    let texts = texts_of(alloc, path, who)?;
+    let body = body.copied(alloc)?;
     Ok(Request {
         method,
         path: texts.first,
-        body: texts.second,
-        who,
+        body,
+        who: texts.second,
         chain,
     })
 }
@@ -84,7 +84,7 @@ pub fn outside_request(alloc: Global, request: &WireRequest) -> Result<Request, 
         alloc,
         request.method,
         request.path.as_str(),
-        request.body.as_str(),
+        &request.body,
         who,
         chain,
     )
@@ -100,7 +100,7 @@ fn call_request(alloc: Global, request: &WireRequest) -> Result<Request, NoMemor
         alloc,
         request.method,
         request.path.as_str(),
-        request.body.as_str(),
+        &request.body,
         who,
         chain,
     )
@@ -115,7 +115,7 @@ fn set_request(alloc: Global, request: &WireRequest) -> Result<Request, NoMemory
     let method = method_in(text_at(head, AireHeader::Method));
     let path = text_at(head, AireHeader::Path);
     let who = text_at(head, AireHeader::RequestWho);
-    request_of(alloc, method, path, request.body.as_str(), who, chain)
+    request_of(alloc, method, path, &request.body, who, chain)
 }
 
 fn desired_in(

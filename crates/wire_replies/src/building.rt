@@ -10,7 +10,7 @@ use crate::kinds::ReplyKind;
 use crate::replies::Outgoing;
 use http_front::{AireHeader, WireResponse};
 use http_header::HeaderMap;
-use lang_core::{Name, NoMemory, RequestId, Response, Text};
+use lang_core::{Copied, Name, NoMemory, RequestId, Response, Text};
 use repair_messages::{Ack, AnswerMessage, Confirm};
 use std::alloc::Global;
 use wire_fields::{name_of, number_in, refusal_of, text_at, version_at};
@@ -35,7 +35,7 @@ fn sides_of(alloc: Global, head: &HeaderMap) -> Result<Sides, NoMemory>
 fn response_in(alloc: Global, response: &WireResponse) -> Result<Response, NoMemory>
     ensures { IfOk result (λ made. made ≡ response_in response.now) }
 {
-    let body = Text::of(alloc, response.body.as_str())?;
+    let body = response.body.copied(alloc)?;
     Ok(Response {
         status: response.status,
         body,
