@@ -4,6 +4,7 @@
 #![tactic(auto)]
 
 mod changes;
+mod homes;
 mod register;
 mod register_list;
 mod registers;

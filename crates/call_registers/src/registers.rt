@@ -7,6 +7,7 @@ ghost use Rattle.call_registers.specs.Waiting.{AreWaiting};
 ghost use Rattle.call_registers.specs.declared.register.RegisterChange.{RegisterChange};
 
 use crate::changes::RegisterChanges;
+use crate::homes::Homes;
 use crate::register::{Answer, Hold, Register, RegisterChange, Why, new_register};
 use crate::register_list::RegisterList;
 use lang_core::{Copied, Name, NoMemory, Request, Response, Text};
@@ -19,6 +20,8 @@ use std::marker::Model;
 #[derive(Drop)]
 pub struct Registers {
     list: RegisterList,
+    // Nothing that contracts see.
+    homes: Homes,
 }
 
 impl Model for Registers {
@@ -66,6 +69,7 @@ impl Registers {
     {
         Registers {
             list: RegisterList::new(alloc),
+            homes: Homes::new(alloc),
         }
     }
 
@@ -109,6 +113,19 @@ impl Registers {
             None => None,
             Some(register) => answer_of(register),
         }
+    }
+
+    /// Notes that this entry has the calls of these numbers, by which `home` finds it. Nothing that contracts see changes.
+    pub fn place(&mut self, numbers: &[u64], entry: u64)
+        ensures { self.new ≡ self.old }
+    {
+        self.homes.place(numbers, entry);
+    }
+
+    /// The number of the entry that has the call of this number, as far as that was noted; else 0. It is a hint: who takes it
+    /// looks whether the entry has the call.
+    pub fn home(&self, number: u64) -> u64 {
+        self.homes.home(number)
     }
 
     fn change(&mut self, number: u64, change: RegisterChange)
@@ -188,7 +205,7 @@ impl Registers {
     {
         let number = self.list.next_number();
         let register = new_register(alloc, number, dest, request, since)?;
-        self.list.reserve(1)?;
+        self.reserve(1)?;
         self.list.push(register);
         Ok(number)
     }
@@ -216,7 +233,8 @@ impl Registers {
         ensures list { self.new.list ≡ self.old.list }
         ensures ok { OnOk result (more ≤ self.new.spare) }
     {
-        self.list.reserve(more as usize)
+        self.list.reserve(more as usize)?;
+        self.homes.reserve(self.list.len().saturating_add(more))
     }
 
     /// Makes changes, for whose new registers there is room.
@@ -233,8 +251,9 @@ impl Registers {
     pub fn copied(&self, alloc: Global) -> Result<Registers, NoMemory>
         ensures { IfOk result (λ copy. copy.list ≡ self.now.list) }
     {
+        let homes = self.homes.copied(alloc)?;
         let list = self.list.copied(alloc)?;
-        Ok(Registers { list })
+        Ok(Registers { list, homes })
     }
 }
 

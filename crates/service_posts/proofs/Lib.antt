@@ -1,2 +1,3 @@
+mod OutwardLemmas
 mod PostLaws
 mod WalkLemmas

@@ -1,5 +1,5 @@
 -- The post that goes next has a message, which goes to the service that it is for.
-use Rattle.std.proofs.Common.{◌≡◌, ℕ, ◌<◌, ◌≤◌, ◌+◌, ◌⊎◌, ◌&&◌, Bool, true, false, List, [], ◌∷◌, Option, Some, None, IsSome, IfSome, IsSomeAnd, Contains, filter, find, is_none, map, not, nat_eq, nat_lt, option_map, inl, inr, refl, sym, ap, ◌∙◌, subst, arith, eq-eqb, ne_eqb, ltb-true}
+use Rattle.std.proofs.Common.{◌≡◌, ℕ, ◌<◌, ◌≤◌, ◌+◌, ◌⊎◌, ◌&&◌, Bool, true, List, [], ◌∷◌, Option, Some, None, IfSome, IsSomeAnd, Contains, filter, find, is_none, map, not, nat_eq, nat_lt, option_map, inl, inr, refl, sym, ap, ◌∙◌, subst, arith, eq-eqb, ne_eqb, ltb-true}
 use Rattle.std.specs.List.{list_any}
 use Rattle.std.proofs.lemmas.Bool.{cases_Bool, cond-true, cond-false, and_parts}
 use Rattle.std.proofs.lemmas.List.Elements.{Contains-append_cases, Contains-append_right}

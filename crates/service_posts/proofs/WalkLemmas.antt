@@ -40,16 +40,16 @@ module _ {X : Type 0} (p : X → Bool) (x : X) (xs : List X) where
   place_later : p x ≡ false → position_or_len p (x ∷ xs) ≡ suc (position_or_len p xs)
   place_later other = ap (λ b. cond (not b) (1 + position_or_len p xs) 0) other ∙ omega arith
 
-  before_here : p x ≡ true → before_first p (x ∷ xs) ≡ []
+  pub before_here : p x ≡ true → before_first p (x ∷ xs) ≡ []
   before_here is = ap (λ n. take n (x ∷ xs)) (place_here is)
 
-  before_later : p x ≡ false → before_first p (x ∷ xs) ≡ x ∷ before_first p xs
+  pub before_later : p x ≡ false → before_first p (x ∷ xs) ≡ x ∷ before_first p xs
   before_later other = ap (λ n. take n (x ∷ xs)) (place_later other)
 
-  after_here : p x ≡ true → after_first p (x ∷ xs) ≡ xs
+  pub after_here : p x ≡ true → after_first p (x ∷ xs) ≡ xs
   after_here is = ap (λ n. drop (n + 1) (x ∷ xs)) (place_here is)
 
-  after_later : p x ≡ false → after_first p (x ∷ xs) ≡ after_first p xs
+  pub after_later : p x ≡ false → after_first p (x ∷ xs) ≡ after_first p xs
   after_later other =
       let on : position_or_len p (x ∷ xs) + 1 ≡ suc (position_or_len p xs + 1) = ap (λ n. n + 1) (place_later other) ∙ omega arith in
       ap (λ n. drop n (x ∷ xs)) on

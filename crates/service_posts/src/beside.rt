@@ -3,8 +3,10 @@ ghost use Rattle.std.specs.Prelude.{◌≡◌, None, false, fold};
 ghost use Rattle.service_events.specs.Fits.{wanted_call};
 ghost use Rattle.service_events.specs.Posts.{calls_to, goes_to, next_of, previous_of};
 ghost use Rattle.service_parts.specs.Parts.{kept};
+ghost use Rattle.service_parts.specs.Services.{IsService};
 ghost use Rattle.service_posts.specs.Walks.{pass, seen, seen_entry};
 
+use crate::outward::{outward, slot_of};
 use call_registers::Registers;
 use lang_core::{Name, Same};
 use request_log::Entry;
@@ -50,8 +52,8 @@ fn pass(of: u64, walk: Walk, number: u64) -> Walk
     }
 }
 
-// Whether the call of this number is wanted, and goes to this service.
-fn goes_to(registers: &Registers, number: u64, dest: &Name) -> bool
+/// Whether the call of this number is wanted, and goes to this service.
+pub(crate) fn goes_to(registers: &Registers, number: u64, dest: &Name) -> bool
     ensures { result ≡ goes_to dest.now (wanted_call registers.now.list number) }
 {
     match registers.get(number) {
@@ -93,9 +95,8 @@ fn seen_entries(registers: &Registers, dest: &Name, of: u64, entries: &[Entry]) 
     )
 }
 
-/// The neighbours of a call among the wanted calls of entries to this service, in logged order. A call of no entry has all
-/// of them before it. It takes no memory.
-pub fn neighbours_of(parts: &Parts, dest: &Name, number: u64) -> Neighbours
+// The neighbours of a call, by a walk over all entries.
+fn neighbours_among(parts: &Parts, dest: &Name, number: u64) -> Neighbours
     ensures before { result.before ≡ next_of number (calls_to dest.now (kept parts.now)) }
     ensures after { result.after ≡ previous_of number (calls_to dest.now (kept parts.now)) }
 {
@@ -108,5 +109,25 @@ pub fn neighbours_of(parts: &Parts, dest: &Name, number: u64) -> Neighbours
     Neighbours {
         before: walk.next,
         after: walk.previous,
+    }
+}
+
+/// The neighbours of a call among the wanted calls of entries to this service, in logged order. A call of no entry has all
+/// of them before it. It takes no memory. Of a wanted call whose entry is known it looks at the entries between its neighbours
+/// alone, else at all.
+pub fn neighbours_of(parts: &Parts, dest: &Name, number: u64) -> Neighbours
+    requires { IsService parts.now }
+    ensures before { result.before ≡ next_of number (calls_to dest.now (kept parts.now)) }
+    ensures after { result.after ≡ previous_of number (calls_to dest.now (kept parts.now)) }
+{
+    if !goes_to(&parts.registers, number, dest) {
+        return neighbours_among(parts, dest, number);
+    }
+    match slot_of(parts, number) {
+        None => neighbours_among(parts, dest, number),
+        Some(at) => {
+            let entries = parts.repairer.log().as_slice();
+            outward(&parts.registers, dest, entries, number, at)
+        }
     }
 }

@@ -2,6 +2,7 @@
 #![tactic(auto)]
 
 mod beside;
+mod outward;
 mod posting;
 
 pub use beside::{Neighbours, neighbours_of};

@@ -38,6 +38,7 @@ pub fn next_post(parts: &Parts, dest: &Name) -> Option<PostName>
 
 // A new call names its neighbours among the calls to the same service.
 fn where_new(parts: &Parts, register: &Register) -> Neighbours
+    requires { IsService parts.now }
     ensures before { result.before ≡ where_new register.now (next_of register.now.number (calls_to register.now.dest (kept parts.now))) }
     ensures after { result.after ≡ where_new register.now (previous_of register.now.number (calls_to register.now.dest (kept parts.now))) }
 {
@@ -52,6 +53,7 @@ fn where_new(parts: &Parts, register: &Register) -> Neighbours
 }
 
 fn set_message(alloc: Global, parts: &Parts, register: &Register) -> Result<SetMessage, NoMemory>
+    requires { IsService parts.now }
     ensures { IfOk result (λ set. set ≡ set_message (kept parts.now) register.now) }
 {
     let (caller, dest) = copied_pair(alloc, &parts.setting.me, &register.dest)?;
@@ -70,7 +72,8 @@ fn set_message(alloc: Global, parts: &Parts, register: &Register) -> Result<SetM
 }
 
 fn write_call(alloc: Global, parts: &Parts, number: u64) -> Result<Post, NoMemory>
-    requires { IsSome (register number parts.now.registers.list) }
+    requires service { IsService parts.now }
+    requires there { IsSome (register number parts.now.registers.list) }
     ensures { IfOk result (λ post. write_post (kept parts.now) (PostName.Call number) ≡ Some post) }
 {
     let register = parts.registers.get(number).unwrap();
@@ -108,7 +111,8 @@ fn write_reply(alloc: Global, parts: &Parts, id: u64) -> Result<Post, NoMemory>
 /// of this number that has a reply. A call of version 1 names its neighbours among the wanted calls to the same service,
 /// in logged order.
 pub fn write_post(alloc: Global, parts: &Parts, name: PostName) -> Result<Post, NoMemory>
-    requires { IsSome (write_post (kept parts.now) name) }
+    requires service { IsService parts.now }
+    requires there { IsSome (write_post (kept parts.now) name) }
     ensures { IfOk result (λ post. write_post (kept parts.now) name ≡ Some post) }
 {
     match name {

@@ -144,7 +144,8 @@ fn note_reply(replies: &mut Replies, entry: &Entry, index: u64, answered: bool)
 }
 
 impl Book {
-    // Enters the rows of an entry that ran again, where these are those of its calls. Refused, nothing changes.
+    // Enters the rows of an entry that ran again, where these are those of its calls, which have these numbers then. Refused,
+    // nothing changes.
     fn enter(
         &mut self,
         alloc: Global,
@@ -152,6 +153,7 @@ impl Book {
         trace: &Trace,
         answered: bool,
         sent: Vec<Row>,
+        numbers: &[u64],
     ) -> Result<(), NoMemory>
         ensures ok { OnOk result (self.new ≡ entered self.old entry.now trace.now answered sent.items) }
         ensures err { OnErr result (self.new ≡ self.old) }
@@ -175,6 +177,7 @@ impl Book {
             self.flights.as_slice(),
         )?;
         note_draft(&mut self.journal, &mut self.registers, draft);
+        self.registers.place(numbers, entry.id);
         note_reply(&mut self.replies, entry, index, answered);
         let _count = self.journal.len();
         Ok(())
@@ -204,7 +207,7 @@ impl Slots for Book {
         answered: bool,
     ) -> Result<Numbers, NoMemory> {
         let SettlingPlan { rows, numbers } = plan_calls(alloc, &self.registers, entry, trace)?;
-        self.enter(alloc, entry, trace, answered, rows)?;
+        self.enter(alloc, entry, trace, answered, rows, numbers.as_slice())?;
         Ok(numbers)
     }
 }

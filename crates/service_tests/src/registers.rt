@@ -126,10 +126,22 @@ fn ended(rt: &(impl Abort + AllocGlobal), registers: &mut Registers) {
     added(rt, registers);
 }
 
+// Which entry has a call is told as it was noted last; of the others none is known.
+fn placed(rt: &impl Abort, registers: &mut Registers) {
+    registers.place(&[1, 3], 7);
+    registers.place(&[1], 8);
+    equal(rt, registers.home(0), 0);
+    equal(rt, registers.home(1), 8);
+    equal(rt, registers.home(2), 0);
+    equal(rt, registers.home(3), 7);
+    equal(rt, registers.home(4), 0);
+}
+
 fn copied(rt: &(impl Abort + AllocGlobal), registers: &Registers) {
     let copy = registers.copied(rt.alloc()).expect(rt, "memory");
     let is_so = copy.len() == 3 && copy.get(0).is_none() && copy.get(4).is_none();
     holds(rt, "copied", is_so);
+    equal(rt, copy.home(3), 7);
 }
 
 #[test]
@@ -138,5 +150,6 @@ fn registers_follow_calls(rt: HostRuntime) {
     heard(&rt, &mut registers);
     renewed(&rt, &mut registers);
     ended(&rt, &mut registers);
+    placed(&rt, &mut registers);
     copied(&rt, &registers);
 }

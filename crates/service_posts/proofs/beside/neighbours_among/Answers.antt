@@ -1,0 +1,17 @@
+use Rattle.std.proofs.Common.{◌∙◌, ap, fold}
+use Rattle.service_parts.specs.Parts.{kept}
+use Rattle.service_posts.specs.Walks.{seen_entry}
+use Rattle.service_posts.proofs.WalkLemmas.{next_is, previous_is, start_walk}
+use Rattle.service_posts.proofs.beside.neighbours_among.Goals as goal
+
+pub returns-clause-before : goal.returns-clause-before
+returns-clause-before c =
+    let s = kept c.args.parts.now in
+    next_is s c.args.dest.now c.args.number c.seen_entries-walk.result
+    (c.seen_entries-walk.ensures ∙ ap (fold (seen_entry s.registers c.args.dest.now c.args.number) start_walk) (c.as_slice.ensures.entries ∙ c.log.ensures))
+
+pub returns-clause-after : goal.returns-clause-after
+returns-clause-after c =
+    let s = kept c.args.parts.now in
+    previous_is s c.args.dest.now c.args.number c.seen_entries-walk.result
+    (c.seen_entries-walk.ensures ∙ ap (fold (seen_entry s.registers c.args.dest.now c.args.number) start_walk) (c.as_slice.ensures.entries ∙ c.log.ensures))
