@@ -4,32 +4,16 @@
 # reading 16,384 line feeds, which are no head, beside those of 16,384 letters, which are none either: at most twice as many.
 #
 # No program of the repository reads messages yet, so one is made here, outside of it: the crates that it stands on are
-# copied, and it is proved and run.
+# copied, with what `rt check` kept of them in this checkout, and it is proved and run.
 set -eu
 top=$(cd "$(dirname "${BASH_SOURCE[0]}")/.." && pwd)
 folder=$(mktemp -d)
 trap 'rm -rf "$folder"' EXIT
 
-# The crates of the repository below the names given, those themselves among them, in the order of crates.txt.
-closure() {
-    awk -F: -v wanted="$*" '
-        /^#/ || !NF { next }
-        { split($1, words, " "); names[++count] = words[1]; below[words[1]] = $2 }
-        END {
-            n = split(wanted, queue, " ")
-            for (i = 1; i <= n; i++) seen[queue[i]] = 1
-            for (i = 1; i <= n; i++) {
-                m = split(below[queue[i]], deps, " ")
-                for (j = 1; j <= m; j++) if (deps[j] in below && !(deps[j] in seen)) { seen[deps[j]] = 1; queue[++n] = deps[j] }
-            }
-            for (i = 1; i <= count; i++) if (names[i] in seen) print names[i]
-        }' "$top/crates.txt"
-}
-
 mkdir -p "$folder/crates/wire_run/src"
-for name in $(closure io_edge aire_wire); do
+for name in $("$top/bench/below" io_edge aire_wire); do
     grep -E "^$name( |:)" "$top/crates.txt" >>"$folder/crates.txt"
-    tar -C "$top/crates" --exclude=out --exclude=must-fail -cf - "$name" | tar -C "$folder/crates" -xf -
+    tar -C "$top/crates" --exclude=must-fail -cf - "$name" | tar -C "$folder/crates" -xf -
 done
 echo "wire_run: lang_base io_edge http_front lang_core repair_messages wire_fields aire_wire sha2" >>"$folder/crates.txt"
 cp "$top/HANDLES" "$folder/HANDLES"
@@ -62,7 +46,7 @@ fn body(alloc: Global, size: u64) -> Result<Text, NoMemory> {
     for _ in 0..size {
         text.push('x')?;
     }
-    Ok(Text::from(text))
+    Text::shared(text)
 }
 
 fn chain(alloc: Global) -> Result<Names, NoMemory> {
