@@ -1,5 +1,5 @@
 // Messages that repair come to a service of a world.
-ghost use Rattle.std.specs.Prelude.{◌≡◌, IfOk};
+ghost use Rattle.std.specs.Prelude.{◌≡◌};
 ghost use Rattle.world_events.specs.Events.{take_served, take_answer_served, posted_served, set_reply, answer_reply};
 ghost use Rattle.world_core.specs.Acting.{Serves};
 
@@ -95,20 +95,6 @@ pub(crate) fn take_answer(
     }
 }
 
-fn copied_reply(alloc: Global, reply: &PostReply) -> Result<PostReply, NoMemory>
-    ensures { IfOk result (λ copy. copy ≡ reply.now) }
-{
-    match reply {
-        PostReply::Acked(ack) => Ok(PostReply::Acked(ack.copied(alloc)?)),
-        PostReply::Confirmed(confirm) => Ok(PostReply::Confirmed(confirm.copied(alloc)?)),
-        PostReply::Refused { word, number } => Ok(PostReply::Refused {
-            word: *word,
-            number: *number,
-        }),
-        PostReply::Lost(note) => Ok(PostReply::Lost(*note)),
-    }
-}
-
 /// Something comes back of a post.
 pub(crate) fn posted(
     alloc: Global,
@@ -136,6 +122,6 @@ pub(crate) fn posted_reply(
 ) -> Result<Served, NoMemory>
     ensures { Serves (posted_served post.now reply.now service.old) service.old result service.new }
 {
-    let reply = copied_reply(alloc, reply)?;
+    let reply = reply.copied(alloc)?;
     posted(alloc, service, post, reply)
 }
