@@ -1,7 +1,7 @@
 -- The first packet of a call, found from the last packet of its key back.
-use Rattle.std.proofs.Common.{◌≡◌, ℕ, zero, suc, ◌+◌, ◌-◌, ◌<◌, ◌≤◌, Bool, true, false, ◌&&◌, cond, List, [], ◌∷◌, ◌++◌, Option, Some, None, find, length, take, get_or, map, min, slice_get, nat_eq, inl, inr, refl, sym, ap, ◌∙◌, subst, arith, add-one, take-suc}
+use Rattle.std.proofs.Common.{◌≡◌, ℕ, zero, suc, ◌+◌, ◌-◌, ◌<◌, ◌≤◌, Bool, true, false, ◌&&◌, cond, List, [], ◌∷◌, ◌++◌, Option, Some, None, find, length, take, get_or, map, min, nat_eq, inl, inr, refl, sym, ap, ◌∙◌, arith, add-one, take-suc}
 use Rattle.std.proofs.lemmas.Bool.{cases_Bool}
-use Rattle.std.proofs.lemmas.List.{length-map, length-take, map-append, length-take-le, take-take}
+use Rattle.std.proofs.lemmas.List.{length-map, length-take, map-append, take-take}
 use Rattle.std.proofs.lemmas.Option.{slice_get-get_or}
 use Rattle.std.proofs.Math.Nat.{le-min, min-le_left, min-le_right}
 use Rattle.lang_base.specs.Texts.{same_text}

@@ -2,7 +2,7 @@
 use Rattle.std.proofs.Common.{◌≡◌, Bool, true, false, Ok, sym, ap, ◌∙◌, subst}
 use Rattle.lang_base.specs.Memory.{Unless, lacks}
 use Rattle.world_events.specs.Ends.{IsClosed, PostsWell}
-use Rattle.world_events.specs.Events.{Answer, Turn, answer_to, turn}
+use Rattle.world_events.specs.Events.{Answer, Turn, turn}
 use Rattle.world_events.specs.Reach.{AnswersBy, missing}
 use Rattle.world_events.specs.Turns.{Turns, turned_to, world_memory}
 use Rattle.world_events.specs.Worlds.{World}

@@ -1,4 +1,4 @@
-use Rattle.std.proofs.Common.{Some, refl, sym, ap, ◌∙◌}
+use Rattle.std.proofs.Common.{refl, sym, ap, ◌∙◌}
 use Rattle.world_events.specs.Events.{call_arrive_served, call_delivered}
 use Rattle.world_core.specs.Environments.{world_of}
 use Rattle.world_core.proofs.ActLemmas.{drawing_acts, no_call_acts}

@@ -1,10 +1,5 @@
-use Rattle.std.proofs.Common.{ℕ, List, refl, sym, ap, ◌∙◌}
-use Rattle.repair_messages.specs.declared.posts.Post.{Post}
-use Rattle.service_events.specs.State.{Kept}
-use Rattle.world_agreement.specs.Partners.{service_of}
-use Rattle.world_events.specs.Ends.{post_receiver}
-use Rattle.world_events.specs.Events.{post_delivered, take_answer_served, take_served}
-use Rattle.world_core.specs.Environments.{world_of}
+use Rattle.std.proofs.Common.{ℕ, refl}
+use Rattle.world_events.specs.Events.{post_delivered}
 use Rattle.world_core.proofs.ActLemmas.{delivers_answer, delivers_set}
 use Rattle.world_core.proofs.PartLemmas.{lacks_acts}
 use Rattle.world_core.proofs.deliveries.deliver_post.Goals as goal

@@ -1,8 +1,7 @@
 use Rattle.std.proofs.Common.{ℕ, List, ◌++◌, Some, None, Ok, ap, option_to_list, set, sym, ◌∙◌, refl, subst}
 use Rattle.std.proofs.lemmas.List.{set-get_or}
 use Rattle.world_events.specs.Events.{Turn, at_service, next_post_served, turn}
-use Rattle.world_events.specs.Turns.{Turns, turned_to}
-use Rattle.world_events.specs.declared.event.WorldStepRefused.TheVariants.{NoService}
+use Rattle.world_events.specs.Turns.{Turns}
 use Rattle.world_events.specs.declared.packet.Packet.{Packet}
 use Rattle.world_core.specs.Acting.{seen, told}
 use Rattle.world_core.specs.Environments.{world_of}

@@ -1,4 +1,4 @@
-use Rattle.std.proofs.Common.{Some, refl}
+use Rattle.std.proofs.Common.{Some}
 use Rattle.world_events.specs.Ends.{beginner}
 use Rattle.world_events.specs.Events.{lost}
 use Rattle.world_core.proofs.ActLemmas.{by_packet}

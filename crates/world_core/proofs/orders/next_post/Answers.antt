@@ -1,6 +1,4 @@
-use Rattle.std.proofs.Common.{IfSome, IsSomeAnd, subst}
 use Rattle.service_events.specs.Posts.{write_post}
-use Rattle.service_posts.specs.Goes.{GoesTo}
 use Rattle.world_core.proofs.OrderLemmas.{has_message, post_goes}
 use Rattle.world_core.proofs.orders.next_post.Goals as goal
 

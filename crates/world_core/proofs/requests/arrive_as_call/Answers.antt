@@ -1,4 +1,4 @@
-use Rattle.world_core.proofs.ServeLemmas.{call_refused, call_serves}
+use Rattle.world_core.proofs.ServeLemmas.{call_serves}
 use Rattle.world_core.proofs.requests.arrive_as_call.Goals as goal
 
 pub returns-in-Ok : goal.returns-in-Ok

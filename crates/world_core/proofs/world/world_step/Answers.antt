@@ -1,6 +1,3 @@
-use Rattle.std.proofs.Common.{ap, sym, subst}
-use Rattle.world_events.specs.Events.{Turn, turn}
-use Rattle.world_events.specs.Worlds.{World}
 use Rattle.world_core.proofs.WorldLemmas.{named, stays_closed, turns_seen}
 use Rattle.world_core.proofs.world.world_step.Goals as goal
 

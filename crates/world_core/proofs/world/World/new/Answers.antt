@@ -1,7 +1,6 @@
-use Rattle.std.proofs.Common.{List, [], All, ◌≡◌, sym, subst}
+use Rattle.std.proofs.Common.{[], All, sym, subst}
 use Rattle.std.proofs.lemmas.List.Elements.{All-nil}
 use Rattle.world_events.specs.Ends.{HasEnds}
-use Rattle.world_events.specs.declared.packet.Packet.{Packet}
 use Rattle.world_core.proofs.world.World.new.Goals as goal
 
 pub invariant_of-result : goal.invariant_of-result
