@@ -103,6 +103,7 @@ fn add_entry(
 {
     reserve_for(parts, draft, 0)?;
     ready_reply(&mut parts.replies, reply)?;
+    parts.registers.place(entry.slots.as_slice(), entry.id);
     append(&mut parts.repairer, entry)
 }
 
