@@ -1,0 +1,50 @@
+// What a dump says of services.
+use lang_core::{Answers, Calls, Cells, Inputs, Origin, Request, Response, Seq, Setting};
+
+/// The numbers of an entry's calls, in the order of the calls.
+pub type Numbers = Seq<u64>;
+
+/// A request of a service, with what it drew, called, consumed and answered.
+#[derive(Drop)]
+pub struct DumpEntry {
+    /// Its number at the service, from 1.
+    pub id: u64,
+    pub origin: Origin,
+    /// The version of its call that it answers; nothing is tested of it.
+    pub version: u64,
+    /// Whether its origin still wants it.
+    pub wanted: bool,
+    /// Whether an order has cancelled it.
+    pub struck: bool,
+    pub inputs: Inputs,
+    pub request: Request,
+    /// The names of its calls, by their numbers at the service, from 1.
+    pub numbers: Numbers,
+    /// Its calls, each for the service itself and with the service behind the entry's own chain.
+    pub calls: Calls,
+    /// What the calls consumed, one answer for each.
+    pub answers: Answers,
+    /// What it answered when it last ran; None where it never ran.
+    pub reply: Option<Response>,
+}
+
+/// Entries in logged order.
+pub type DumpEntries = Seq<DumpEntry>;
+
+/// A service: what it is set to do, its entries, and its rows after the last of them.
+#[derive(Drop)]
+pub struct DumpService {
+    /// Its weight is 0, as a dump doesn't tell it.
+    pub setting: Setting,
+    pub entries: DumpEntries,
+    pub rows: Cells,
+}
+
+/// Services, in the order of the dump.
+pub type DumpServices = Seq<DumpService>;
+
+/// What a dump says.
+#[derive(Drop)]
+pub struct Dump {
+    pub services: DumpServices,
+}

@@ -1,0 +1,20 @@
+//! Dumps: a text that writes services down with all that a legal execution is made of, read line by line.
+//!
+//! It stands on the handler language and on nothing that repairs, so that whoever doubts a repair needn't trust what made
+//! it. A text is read as the dump that its lines say, or refused at its first line that doesn't fit.
+#![tactic(auto)]
+
+mod dump;
+mod escapes;
+mod line;
+mod lines;
+mod parts;
+mod reading;
+mod refused;
+mod requests;
+mod stage;
+
+pub use dump::{Dump, DumpEntries, DumpEntry, DumpService, DumpServices, Numbers};
+pub use handler_lang::ProgramRefused;
+pub use reading::{LONGEST_DUMP, read_dump};
+pub use refused::DumpRefused;
