@@ -18,7 +18,8 @@ use lang_lists::HashIndex;
 use std::alloc::Global;
 use std::marker::Model;
 
-/// The rows of a journal in order, with spare room. They only grow.
+/// The rows of a journal in order, with spare room. They only grow. Its type tells that the rows there are and those that
+/// still go in can be counted in 64 bits.
 #[derive(Drop)]
 pub struct Rows {
     rows: Vec<Row>,
@@ -28,14 +29,14 @@ pub struct Rows {
 }
 
 impl Model for Rows {
-    ghost use Rattle.std.specs.Prelude.{◌≡◌, ◌-◌, min, vec_len, vec_capacity};
-    ghost use Rattle.journal_rows.specs.Journals.{Journal};
+    ghost use Rattle.std.specs.Prelude.{◌≡◌};
+    ghost use Rattle.journal_rows.specs.Journals.{Journal, journal_of};
     ghost use Rattle.journal_rows.specs.Keys.{AreKeys};
     ghost use Rattle.journal_rows.specs.Weights.{journal_weight};
 
     ghost Value = { Journal };
 
-    ghost view = { λ j. record { rows = j.rows.items; spare = min (vec_capacity j.rows - vec_len j.rows) j.index.spare } };
+    ghost view = { λ j. journal_of j.rows j.index.spare };
 
     ghost invariant = { λ j. (j.weight ≡ journal_weight j.rows.items) × AreKeys j.index.keys j.rows.items };
 }

@@ -13,7 +13,6 @@ pub copy_is : (p q : Parts) → kept q ≡ kept p → HasRoom q → IsService p 
 copy_is p q same room is = record {
   fits = subst Fits (sym same) is.fits;
   allowed = subst IsAllowed (sym same) is.allowed;
-  counted = subst (λ (s : Kept). length s.journal < 2 ^ 64) (sym same) is.counted;
   ages = subst (λ (s : Kept). HasAges s.journal s.registers s.replies) (sym same) is.ages;
   few = subst (λ (s : Kept). in_all s ≤ 100000) (sym same) is.few;
   room = room;

@@ -19,12 +19,10 @@ new_service p entries flights journal registers replies =
     let same : kept p ≡ fresh p.setting p.rules = cc in
     let entered : length p.repairer.entries ≡ 0 = ap length entries in
     let flying : length p.flights.list ≡ 0 = ap length flights in
-    let counted : length p.journal.rows ≡ 0 = ap length journal in
     let least : 0 ≤ p.journal.spare = omega arith in
     record {
       fits = subst Fits (sym same) (fits_start p.setting p.rules);
       allowed = subst IsAllowed (sym same) (allowed_start p.setting p.rules);
-      counted = omega (arith, counted);
       ages = subst AgesOf (sym same) (record { calls = All-nil (IsAged []); replies = All-nil (IsMarked []) });
       few = omega (arith, entered, flying);
       room = (let R : List Flight → Type 0 = λ fs. aloft fs ≤ p.journal.spare in subst R (sym flights) least);

@@ -149,9 +149,9 @@ put_is s s' t (Err why) event drafts left answers = tt
 
 pub take_service : (p p' : Parts) (set : SetMessage) (i : Inputs) (result : Result Taken NoMemory) → IsService p
     → IfOk result (λ answer. after (kept p') (Ok answer) ≡ take_event (kept p) set i) → OnErr result (kept p' ≡ kept p)
-    → OnOk result (length p'.journal.rows < 2 ^ 64) → HasRoom p' → IsService p'
-take_service p p' set i (Ok answer) h is err few room =
+    → HasRoom p' → IsService p'
+take_service p p' set i (Ok answer) h is err room =
     next_service p' (take_event (kept p) set i).service (ap (λ (a : After (Result Taken TakeRefused)). a.service) is)
     (λ counts. take_fits (kept p) set i h.fits counts) (λ counts. take_ages (kept p) set i h.fits counts h.ages) (take_stays_allowed (kept p) set i h.fits h.allowed)
-    (take_bounded (kept p) set i h.few) few room
-take_service p p' set i (Err why) h is err few room = same_service p p' err room h
+    (take_bounded (kept p) set i h.few) room
+take_service p p' set i (Err why) h is err room = same_service p p' err room h

@@ -191,7 +191,5 @@ pub fn take_answer(
     ensures does { Does answer_memory (take_answer_event (kept parts.old) answer.now) (kept parts.old) result (kept parts.new) }
     ensures service { IsService parts.new }
 {
-    let heard = confirm_answer(alloc, parts, answer);
-    let _count = parts.journal.len();
-    heard
+    confirm_answer(alloc, parts, answer)
 }

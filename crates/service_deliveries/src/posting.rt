@@ -153,7 +153,5 @@ pub fn posted(
     ensures does { Does post_memory (posted_event (kept parts.old) post.now reply) (kept parts.old) result (kept parts.new) }
     ensures service { IsService parts.new }
 {
-    let posted = meet(alloc, parts, post, reply);
-    let _count = parts.journal.len();
-    posted
+    meet(alloc, parts, post, reply)
 }

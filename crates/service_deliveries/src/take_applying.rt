@@ -102,7 +102,6 @@ pub(crate) fn put(parts: &mut Parts, taking: Taking) -> Result<Taken, NoMemory>
     requires room { HasRoom parts.old }
     ensures ok { OnOk result (kept parts.new ≡ left_by (kept parts.old) taking) }
     ensures taken { IfOk result (λ taken. taken ≡ taking.taken) }
-    ensures few { OnOk result (length parts.new.journal.rows < 2 ^ 64) }
     ensures err { OnErr result (kept parts.new ≡ kept parts.old) }
     ensures room { HasRoom parts.new }
 {
@@ -115,6 +114,5 @@ pub(crate) fn put(parts: &mut Parts, taking: Taking) -> Result<Taken, NoMemory>
     reserve(&mut parts.journal, count, parts.flights.as_slice())?;
     apply(parts, change)?;
     push_rows(&mut parts.journal, rows);
-    let _count = parts.journal.len();
     Ok(taken)
 }

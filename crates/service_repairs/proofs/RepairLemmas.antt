@@ -37,11 +37,11 @@ step_done s s' (Ok stepped) ok err = ok
 step_done s s' (Err why) ok err = err
 
 pub step_service : (p p' : Parts) (result : Result Stepped NoMemory) → IsService p → IfOk result (λ stepped. after (kept p') stepped ≡ step_event (kept p))
-    → OnErr result (kept p' ≡ kept p) → length p'.journal.rows < 2 ^ 64 → HasRoom p' → IsService p'
-step_service p p' (Ok stepped) h ok err rows room =
+    → OnErr result (kept p' ≡ kept p) → HasRoom p' → IsService p'
+step_service p p' (Ok stepped) h ok err room =
     next_service p' (step_event (kept p)).service (ap (λ (a : After Stepped). a.service) ok) (λ few. step_fits (kept p) h.fits few) (λ few. step_ages (kept p) h.fits few h.ages)
-    (step_stays_allowed (kept p) h.allowed) (step_bounded (kept p) h.few) rows room
-step_service p p' (Err why) h ok err rows room = same_service p p' err room h
+    (step_stays_allowed (kept p) h.allowed) (step_bounded (kept p) h.few) room
+step_service p p' (Err why) h ok err room = same_service p p' err room h
 
 -- ---- an order
 
@@ -93,8 +93,8 @@ may_order p command who h none = record {
 }
 
 pub order_service : (p p' : Parts) (command : Command) (token who : List ℕ) (i : Inputs) (o : Ordered) → IsService p
-    → after (kept p') (Ok o) ≡ order_event (kept p) command token who i → length p'.journal.rows < 2 ^ 64 → HasRoom p' → IsService p'
-order_service p p' command token who i o h is rows room =
+    → after (kept p') (Ok o) ≡ order_event (kept p) command token who i → HasRoom p' → IsService p'
+order_service p p' command token who i o h is room =
     next_service p' (order_event (kept p) command token who i).service (ap (λ (a : After (Result Ordered OrderRefused)). a.service) is)
     (λ few. order_fits (kept p) command token who i h.fits few) (λ few. order_ages (kept p) command token who i h.fits few h.ages)
-    (order_stays_allowed (kept p) command token who i h.fits h.allowed) (order_bounded (kept p) command token who i h.few) rows room
+    (order_stays_allowed (kept p) command token who i h.fits h.allowed) (order_bounded (kept p) command token who i h.few) room

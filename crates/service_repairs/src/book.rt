@@ -179,7 +179,6 @@ impl Book {
         note_draft(&mut self.journal, &mut self.registers, draft);
         self.registers.place(numbers, entry.id);
         note_reply(&mut self.replies, entry, index, answered);
-        let _count = self.journal.len();
         Ok(())
     }
 }

@@ -11,7 +11,6 @@ ghost use Rattle.service_repairs.specs.Ordering.{admission};
 
 use crate::admitting::admission;
 use crate::order_drafts::{about, accept};
-use crate::repairing::count_rows;
 use journal_rows::{Command, OrderedRow};
 use lang_core::{Inputs, Text};
 use service_events::{OrderRefused, Ordered};
@@ -52,7 +51,6 @@ fn accepted(
         rule,
     };
     accept(alloc, parts, command, token, who, inputs, rule)?;
-    count_rows(&parts.journal);
     Ok(ordered)
 }
 

@@ -1,5 +1,5 @@
 // A repair step.
-ghost use Rattle.std.specs.Prelude.{◌≡◌, ◌<◌, ◌^◌, Ok, length};
+ghost use Rattle.std.specs.Prelude.{◌≡◌, Ok};
 ghost use Rattle.local_repair.specs.Current.{AllCurrent};
 ghost use Rattle.service_events.specs.State.{answers, base};
 ghost use Rattle.service_parts.specs.Parts.{kept};
@@ -7,18 +7,10 @@ ghost use Rattle.service_parts.specs.Services.{IsService};
 ghost use Rattle.service_repairs.specs.Answers.{Steps};
 
 use crate::step_drafts::repair;
-use journal_rows::Rows;
 use lang_core::NoMemory;
 use local_repair::Stepped;
 use service_parts::Parts;
 use std::alloc::Global;
-
-/// The rows of a journal can be counted in 64 bits.
-pub(crate) fn count_rows(journal: &Rows)
-    ensures { length journal.now.rows < 2 ^ 64 }
-{
-    let _count = journal.len();
-}
 
 /// Runs the first stale entry again, if there is one, and settles its calls.
 pub fn repair_step(alloc: Global, parts: &mut Parts) -> Result<Stepped, NoMemory>
@@ -27,7 +19,5 @@ pub fn repair_step(alloc: Global, parts: &mut Parts) -> Result<Stepped, NoMemory
     ensures free { AllCurrent (answers (kept parts.old)) (base (kept parts.old)) parts.old.repairer.entries → result ≡ Ok Stepped.Idle }
     ensures service { IsService parts.new }
 {
-    let stepped = repair(alloc, parts);
-    count_rows(&parts.journal);
-    stepped
+    repair(alloc, parts)
 }

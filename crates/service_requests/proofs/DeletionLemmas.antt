@@ -82,8 +82,7 @@ flight_abandoned s s' id f flights found gone is =
     ∙ ap (λ fs. after (noted (all_deleted s.registers f.numbers f.calls) (record s { flights = fs })) true) (gone ∙ ap (λ k. without_flight k s.flights) (sym same))
     ∙ sym (ap (abandoned s) found)
 
-pub abandon_service : (p p' : Parts) (id : ℕ) (there : Bool) → IsService p → after (kept p') there ≡ abandon_event (kept p) id → length p'.journal.rows < 2 ^ 64
-    → HasRoom p' → IsService p'
-abandon_service p p' id there h is few room =
+pub abandon_service : (p p' : Parts) (id : ℕ) (there : Bool) → IsService p → after (kept p') there ≡ abandon_event (kept p) id → HasRoom p' → IsService p'
+abandon_service p p' id there h is room =
     next_service p' (abandon_event (kept p) id).service (ap (λ (a : After Bool). a.service) is) (abandon_fits (kept p) id h.fits) (λ few. abandon_ages (kept p) id h.fits few h.ages)
-    (abandon_stays_allowed (kept p) id h.allowed) (abandon_bounded (kept p) id h.few) few room
+    (abandon_stays_allowed (kept p) id h.allowed) (abandon_bounded (kept p) id h.few) room

@@ -75,7 +75,7 @@ same_may_end s f g e h = subst (MayEnd s) (sym e) h
 -- where an outcome of an event that keeps what fits was put in place, or was refused for want of memory
 pub event_service : {A E : Type 0} (p p' : Parts) (result : Result A NoMemory) (left : After A) (event : After (Result A E)) → accepted left ≡ event
     → IfOk result (λ a. after (kept p') a ≡ left) → OnErr result (kept p' ≡ kept p)
-    → (IsFew event.service → Fits event.service) → (IsFew event.service → AgesOf event.service) → IsAllowed event.service → IsBounded event.service → OnOk result (length p'.journal.rows < 2 ^ 64) → HasRoom p' → IsService p → IsService p'
-event_service {A} {E} p p' (Ok a) left event same is err fits ages allowed few rows room h =
-    next_service p' event.service (ap (λ (x : After A). x.service) is ∙ ap (λ (x : After (Result A E)). x.service) same) fits ages allowed few rows room
-event_service p p' (Err why) left event same is err fits ages allowed few rows room h = same_service p p' err room h
+    → (IsFew event.service → Fits event.service) → (IsFew event.service → AgesOf event.service) → IsAllowed event.service → IsBounded event.service → HasRoom p' → IsService p → IsService p'
+event_service {A} {E} p p' (Ok a) left event same is err fits ages allowed few room h =
+    next_service p' event.service (ap (λ (x : After A). x.service) is ∙ ap (λ (x : After (Result A E)). x.service) same) fits ages allowed few room
+event_service p p' (Err why) left event same is err fits ages allowed few room h = same_service p p' err room h

@@ -93,7 +93,6 @@ fn note_deletions(registers: &mut Registers, journal: &[Row], first: usize)
 fn delete_calls(parts: &mut Parts, flight: Flight)
     requires { length flight.calls + aloft parts.old.flights.list ≤ parts.old.journal.spare }
     ensures kept { kept parts.new ≡ noted (all_deleted parts.old.registers.list flight.numbers flight.calls) (kept parts.old) }
-    ensures few { length parts.new.journal.rows < 2 ^ 64 }
     ensures room { HasRoom parts.new }
 {
     let first = parts.journal.as_slice().len();

@@ -1,7 +1,6 @@
 // What is drafted becomes so.
-ghost use Rattle.std.specs.Prelude.{◌≡◌, ◌+◌, ◌<◌, ◌≤◌, ◌^◌, [], ◌∷◌, ◌++◌, length, IfOk, IfSome, OnOk, OnErr, vec_len};
+ghost use Rattle.std.specs.Prelude.{◌≡◌, ◌+◌, ◌<◌, ◌≤◌, [], ◌∷◌, ◌++◌, length, IfOk, IfSome, OnOk, OnErr, vec_len};
 ghost use Rattle.request_log.specs.Entries.{IsNew};
-ghost use Rattle.call_registers.specs.Overlays.{overlaid};
 ghost use Rattle.call_registers.specs.Replies.{IsAboveAll};
 ghost use Rattle.flights.specs.Numbers.{without_flight};
 ghost use Rattle.service_events.specs.State.{after};
@@ -16,9 +15,8 @@ ghost use Rattle.service_parts.specs.Services.{HasRoom};
 
 use crate::endings::Ending;
 use crate::outcome::DraftedEnd;
-use call_registers::{Registers, Replies, Reply};
+use call_registers::{Replies, Reply};
 use flights::{Flight, Flights};
-use journal_rows::Rows;
 use lang_core::{NoMemory, Origin};
 use local_repair::Repairer;
 use repair_messages::{AnswerMessage, SetMessage};
@@ -107,19 +105,6 @@ fn add_entry(
     append(&mut parts.repairer, entry)
 }
 
-// Puts a draft in place, whose rows and those before can be counted.
-fn note_counted(journal: &mut Rows, registers: &mut Registers, draft: Draft)
-    requires rows { vec_len draft.rows ≤ journal.old.spare }
-    requires added { vec_len draft.changes.added ≤ registers.old.spare }
-    ensures rows { journal.new.rows ≡ journal.old.rows ++ draft.rows.items }
-    ensures registers { registers.new.list ≡ overlaid draft.changes registers.old.list }
-    ensures spare { journal.old.spare ≤ journal.new.spare + vec_len draft.rows }
-    ensures few { length journal.new.rows < 2 ^ 64 }
-{
-    note_draft(journal, registers, draft);
-    let _count = journal.len();
-}
-
 // Takes a flight out, if it is there: one that never waited for a call isn't.
 #[tactic(auto, using(crate::proofs::EndLemmas::without_missing))]
 fn take_out(flights: &mut Flights, flight: u64)
@@ -158,13 +143,12 @@ fn commit(
     requires answer { answer ≡ answer_to_caller (with_draft draft (kept parts.old)) entry.origin entry }
     requires room { HasRoom parts.old }
     ensures ok { IfOk result (λ arrived. after (kept parts.new) arrived ≡ ends (with_draft draft (kept parts.old)) (Ending.Commits flight entry reply index)) }
-    ensures few { OnOk result (length parts.new.journal.rows < 2 ^ 64) }
     ensures err { OnErr result (kept parts.new ≡ kept parts.old) }
     ensures room { HasRoom parts.new }
 {
     let id = entry.id;
     add_entry(parts, &draft, entry, &reply)?;
-    note_counted(&mut parts.journal, &mut parts.registers, draft);
+    note_draft(&mut parts.journal, &mut parts.registers, draft);
     land(&mut parts.flights, &mut parts.replies, flight, reply);
     Ok(Arrived::Done { index, id, answer })
 }
@@ -191,13 +175,12 @@ fn wait(
     requires can { CanEnd (kept parts.old) (Ending.Waits flight set) }
     requires room { HasRoom parts.old }
     ensures ok { IfOk result (λ arrived. after (kept parts.new) arrived ≡ ends (with_draft draft (kept parts.old)) (Ending.Waits flight set)) }
-    ensures few { OnOk result (length parts.new.journal.rows < 2 ^ 64) }
     ensures err { OnErr result (kept parts.new ≡ kept parts.old) }
     ensures room { HasRoom parts.new }
 {
     let id = flight.id;
     reserve_flight(parts, &draft, flight.calls.len())?;
-    note_counted(&mut parts.journal, &mut parts.registers, draft);
+    note_draft(&mut parts.journal, &mut parts.registers, draft);
     parts.flights.put(flight).unwrap();
     Ok(Arrived::Call { flight: id, set })
 }
@@ -233,7 +216,6 @@ fn commit_answering(
     requires can { CanEnd (kept parts.old) (Ending.Commits flight entry reply index) }
     requires room { HasRoom parts.old }
     ensures ok { IfOk result (λ arrived. after (kept parts.new) arrived ≡ ends (with_draft draft (kept parts.old)) (Ending.Commits flight entry reply index)) }
-    ensures few { OnOk result (length parts.new.journal.rows < 2 ^ 64) }
     ensures err { OnErr result (kept parts.new ≡ kept parts.old) }
     ensures room { HasRoom parts.new }
 {
@@ -250,7 +232,6 @@ pub(crate) fn apply(
     requires can { CanLeave (kept parts.old) outcome }
     requires room { HasRoom parts.old }
     ensures ok { IfOk result (λ arrived. after (kept parts.new) arrived ≡ leaves (kept parts.old) outcome) }
-    ensures few { OnOk result (length parts.new.journal.rows < 2 ^ 64) }
     ensures err { OnErr result (kept parts.new ≡ kept parts.old) }
     ensures room { HasRoom parts.new }
 {

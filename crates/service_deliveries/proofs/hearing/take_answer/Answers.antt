@@ -1,4 +1,3 @@
-use Rattle.std.proofs.Common.{arith}
 use Rattle.service_events.specs.Doing.{answer_memory}
 use Rattle.service_events.specs.Messages.{take_answer_event}
 use Rattle.service_laws.proofs.FitLaws.{take_answer_fits}
@@ -12,6 +11,6 @@ use Rattle.service_deliveries.proofs.hearing.take_answer.Goals as goal
 pub returns-clause-service : goal.returns-clause-service
 returns-clause-service c =
     let s = kept c.args.parts.now in
-    done_service c.args.parts.now c.confirm_answer-heard.new.parts answer_memory (take_answer_event s c.args.answer.now) c.confirm_answer-heard.result c.confirm_answer-heard.ensures.does
+    done_service c.args.parts.now c.confirm_answer.new.parts answer_memory (take_answer_event s c.args.answer.now) c.confirm_answer.result c.confirm_answer.ensures.does
     (take_answer_fits s c.args.answer.now c.requires.fits) (λ few. take_answer_ages s c.args.answer.now c.requires.fits few c.requires.ages) (take_answer_stays_allowed s c.args.answer.now c.requires.fits c.requires.allowed)
-    (take_answer_bounded s c.args.answer.now c.requires.few) (omega arith) c.confirm_answer-heard.ensures.room c.requires
+    (take_answer_bounded s c.args.answer.now c.requires.few) c.confirm_answer.ensures.room c.requires

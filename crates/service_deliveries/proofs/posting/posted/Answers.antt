@@ -1,4 +1,3 @@
-use Rattle.std.proofs.Common.{arith}
 use Rattle.service_events.specs.Doing.{post_memory}
 use Rattle.service_events.specs.Messages.{posted_event}
 use Rattle.service_laws.proofs.FitLaws.{posted_fits}
@@ -12,6 +11,6 @@ use Rattle.service_deliveries.proofs.posting.posted.Goals as goal
 pub returns-clause-service : goal.returns-clause-service
 returns-clause-service c =
     let s = kept c.args.parts.now in
-    done_service c.args.parts.now c.meet-posted.new.parts post_memory (posted_event s c.args.post.now c.args.reply) c.meet-posted.result c.meet-posted.ensures.does
+    done_service c.args.parts.now c.meet.new.parts post_memory (posted_event s c.args.post.now c.args.reply) c.meet.result c.meet.ensures.does
     (posted_fits s c.args.post.now c.args.reply c.requires.fits) (λ few. posted_ages s c.args.post.now c.args.reply c.requires.fits few c.requires.ages) (posted_stays_allowed s c.args.post.now c.args.reply c.requires.allowed)
-    (posted_bounded s c.args.post.now c.args.reply c.requires.few) (omega arith) c.meet-posted.ensures.room c.requires
+    (posted_bounded s c.args.post.now c.args.reply c.requires.few) c.meet.ensures.room c.requires

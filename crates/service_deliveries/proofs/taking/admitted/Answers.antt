@@ -13,4 +13,4 @@ returns-clause-service c =
     let p = c.args.parts.now in
     take_service p c.put.new.parts c.args.set.now c.args.inputs c.put.result c.requires.service
     (put_is (kept p) (kept c.put.new.parts) c.in_ok-taking.taking c.put.result (take_event (kept p) c.args.set.now c.args.inputs) c.in_ok-taking.ensures c.put.ensures.ok c.put.ensures.taken)
-    c.put.ensures.err c.put.ensures.few c.put.ensures.room
+    c.put.ensures.err c.put.ensures.room

@@ -19,4 +19,4 @@ returns-clause-service c =
     (accepted_is s c.args.command c.args.who c.args.token c.args.inputs (kept c.accept.new.parts) o c.requires.new
     (none_refuses s c.args.command c.args.who c.args.rule c.requires.admitted) c.in_ok-accept.ensures.ok c.about.ensures
     (rule_is s c.args.command c.args.who c.args.rule c.requires.admitted))
-    c.count_rows.ensures c.accept.ensures.room
+    c.accept.ensures.room

@@ -37,4 +37,4 @@ returns-in-Some-clause-service c =
     let p = c.args.parts.now in
     abandon_service p c.delete_calls.new.parts c.args.flight true c.requires
     (flight_abandoned (kept p) (kept c.delete_calls.new.parts) c.args.flight c.in-Some.gone c.remove.new.self.list (sym c.in-Some.ensures.found) c.remove.ensures.list c.delete_calls.ensures.kept)
-    c.delete_calls.ensures.few c.delete_calls.ensures.room
+    c.delete_calls.ensures.room

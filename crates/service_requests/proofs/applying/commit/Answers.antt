@@ -10,5 +10,5 @@ returns-clause-room c =
     let same = ap (λ (k : Kept). aloft k.flights) c.in_ok-add_entry.ensures.ok in
     let is = ap aloft c.land.ensures.flights in
     let rows = c.in_ok-add_entry.ensures.rows in
-    let spare = c.note_counted.ensures.spare in
+    let spare = c.note_draft.ensures.spare in
     omega (arith, rows, spare, less, same, is)

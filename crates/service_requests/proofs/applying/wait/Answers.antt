@@ -23,7 +23,7 @@ returns-clause-ok c =
       registers = overlaid draft.changes k.registers;
       replies = k.replies;
     } in
-    rw (list, c.note_counted.ensures.rows, c.note_counted.ensures.registers) (ap (λ (k : Kept). after (moved k) (Call flight.id c.args.set)) c.in_ok-reserve_flight.ensures.kept)
+    rw (list, c.note_draft.ensures.rows, c.note_draft.ensures.registers) (ap (λ (k : Kept). after (moved k) (Call flight.id c.args.set)) c.in_ok-reserve_flight.ensures.kept)
 
 pub returns-clause-room : goal.returns-clause-room
 returns-clause-room c =
@@ -34,5 +34,5 @@ returns-clause-room c =
     let same = ap (λ (k : Kept). aloft k.flights) c.in_ok-reserve_flight.ensures.kept in
     let is = ap aloft list in
     let ok = c.in_ok-reserve_flight.ensures.ok in
-    let spare = c.note_counted.ensures.spare in
+    let spare = c.note_draft.ensures.spare in
     omega (arith, ok, spare, put, same, is)

@@ -40,4 +40,4 @@ returns-clause-service c =
     (arrive_fits s c.args.origin c.args.request c.args.inputs c.requires.service.fits)
     (λ few. arrive_ages s c.args.origin c.args.request c.args.inputs c.requires.service.fits few c.requires.service.ages) (arrive_stays_allowed s c.args.origin c.args.request c.args.inputs c.requires.service.allowed)
     (arrive_bounded s c.args.origin c.args.request c.args.inputs c.requires.service.few)
-    c.apply.ensures.few c.apply.ensures.room c.requires.service
+    c.apply.ensures.room c.requires.service

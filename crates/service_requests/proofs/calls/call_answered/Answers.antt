@@ -18,4 +18,4 @@ returns-clause-service c =
     (call_answered_fits s c.args.id c.args.answer.now c.requires.fits)
     (λ few. call_answered_ages s c.args.id c.args.answer.now c.requires.fits few c.requires.ages) (call_answered_stays_allowed s c.args.id c.args.answer.now c.requires.allowed)
     (call_answered_bounded s c.args.id c.args.answer.now c.requires.few)
-    c.in_ok-arrived.ensures.few c.apply.ensures.room c.requires
+    c.apply.ensures.room c.requires

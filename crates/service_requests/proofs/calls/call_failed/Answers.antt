@@ -18,4 +18,4 @@ returns-clause-service c =
     (call_failed_fits s c.args.id c.args.number c.args.why c.requires.fits)
     (λ few. call_failed_ages s c.args.id c.args.number c.args.why c.requires.fits few c.requires.ages) (call_failed_stays_allowed s c.args.id c.args.number c.args.why c.requires.allowed)
     (call_failed_bounded s c.args.id c.args.number c.args.why c.requires.few)
-    c.in_ok-arrived.ensures.few c.apply.ensures.room c.requires
+    c.apply.ensures.room c.requires

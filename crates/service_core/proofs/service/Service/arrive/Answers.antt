@@ -5,6 +5,7 @@ use Rattle.service_events.specs.Commits.{Commits}
 use Rattle.service_events.specs.RunsOn.{Begins}
 use Rattle.service_events.specs.State.{Kept}
 use Rattle.service_parts.specs.Parts.{kept}
+use Rattle.service_laws.proofs.ServiceLaws.{rows_few}
 use Rattle.service_laws.proofs.CauseLaws.{begins_adds}
 use Rattle.service_laws.proofs.DoneLaws.{arrive_done}
 use Rattle.service_laws.proofs.RunsOnLaws.{does_arrive}
@@ -14,7 +15,7 @@ pub returns-clause-commits : goal.returns-clause-commits
 returns-clause-commits c =
     subst (λ s. Commits c.args.origin c.args.request c.args.inputs s c.arrive.result (kept c.arrive.new.parts)) c.self.view_is
     (arrive_done (kept c.self.inside.parts) (kept c.arrive.new.parts) c.args.origin c.args.request c.args.inputs c.arrive.result c.self.invariant.fits
-    c.arrive.ensures.service.counted c.arrive.ensures.does)
+    (rows_few c.arrive.new.parts) c.arrive.ensures.does)
 
 pub returns-clause-goes : goal.returns-clause-goes
 returns-clause-goes c =
