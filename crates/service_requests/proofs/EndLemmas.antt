@@ -14,7 +14,7 @@ use Rattle.service_events.specs.Calls.{after_row, after_rows, noted}
 use Rattle.service_events.specs.Flying.{before_answer, live_answer, committed_entry, committed, answer_index, live_replies, flight_run, live_call, call_or_none, completing, completed, changed, moved, goes_on}
 use Rattle.service_events.specs.declared.answers.Arrived.{Arrived}
 use Rattle.service_parts.specs.Drafts.{with_draft}
-use Rattle.service_requests.specs.Endings.{ends, follows, new_call, slot_of, with_call, named_flight, named_service, unsent_service, call_sent, called, listed, reply_of, commit_noted, CanEnd, MayEnd}
+use Rattle.service_requests.specs.Endings.{ends, follows, new_call, slot_of, with_call, named_flight, named_service, unsent_service, call_sent, listed, reply_of, commit_noted, CanEnd, MayEnd}
 use Rattle.service_parts.specs.declared.draft.Draft.{Draft}
 use Rattle.handler_run.specs.declared.state.Ran.{Ran}
 use Rattle.flights.specs.declared.flight.Move.{Move}
@@ -110,12 +110,6 @@ goes_is s f ran move e m = ap (moved s f ran) m ∙ ap (λ (r : Ran). moved s f 
 
 -- ---- a new call
 
-new_moved : (s : Kept) (f : Flight) (ran : Ran) (move : Move)
-    → call_or_none (new_call move ran) (λ (call : CallMade). called s f (slot_of move) call) (committed s f (trace_or_dead ran)) ≡ moved s f ran move
-new_moved s f ran Commit = refl
-new_moved s f ran Name = refl
-new_moved s f ran (Change slot) = refl
-
 new_completing : (s : Kept) (f : Flight) (ran : Ran) (move : Move) (again : Kept → Flight → After Arrived)
     → call_or_none (new_call move ran) (λ (call : CallMade). again (unsent_service s f (slot_of move) call) (named_flight s f (slot_of move) call)) (committed s f (trace_or_dead ran))
     ≡ completing s f ran move again
@@ -123,22 +117,7 @@ new_completing s f ran Commit again = refl
 new_completing s f ran Name again = refl
 new_completing s f ran (Change slot) again = refl
 
--- without a new call the flight is committed
-pub goes_commits : (s : Kept) (f : Flight) (ran : Ran) (move : Move) → ran ≡ flight_run s f → move ≡ next_move f ran → None ≡ new_call move ran
-    → committed s f (trace_or_dead ran) ≡ goes_on s f
-goes_commits s f ran move e m none =
-    ap (λ (o : Option CallMade). call_or_none o (λ (call : CallMade). called s f (slot_of move) call) (committed s f (trace_or_dead ran))) none
-    ∙ new_moved s f ran move ∙ goes_is s f ran move e m
-
--- with one it calls
-pub goes_called : (s : Kept) (f : Flight) (ran : Ran) (move : Move) (slot : Option ℕ) (call : CallMade) → ran ≡ flight_run s f → move ≡ next_move f ran
-    → slot ≡ slot_of move → Some call ≡ new_call move ran → called s f slot call ≡ goes_on s f
-goes_called s f ran move slot call e m at new =
-    ap (λ (o : Option ℕ). called s f o call) at
-    ∙ ap (λ (o : Option CallMade). call_or_none o (λ (call : CallMade). called s f (slot_of move) call) (committed s f (trace_or_dead ran))) new
-    ∙ new_moved s f ran move ∙ goes_is s f ran move e m
-
--- the same of one run of a flight that is completed
+-- one run of a flight that is completed
 
 pub step_commits : (s now : Kept) (f : Flight) (ran : Ran) (move : Move) (e : Ending) → move ≡ next_move f ran → None ≡ new_call move ran
     → ends now e ≡ committed s f (trace_or_dead ran)

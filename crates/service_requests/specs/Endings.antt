@@ -17,7 +17,7 @@ use Rattle.flights.specs.declared.flight.Move.{Move}
 use Rattle.flights.specs.declared.flight.Move.TheVariants.{Commit, Name, Change}
 use Rattle.service_events.specs.State.{Kept, After, after, me, next_id}
 use Rattle.service_events.specs.Calls.{noted, named}
-use Rattle.service_events.specs.Flying.{before_answer, live_answer, answer_to_caller, with_slot, with_change, change_rows, waits, untold, wanted_of, changed}
+use Rattle.service_events.specs.Flying.{before_answer, live_answer, answer_to_caller, with_slot, with_change, change_rows, waits, untold, wanted_of}
 use Rattle.service_events.specs.declared.answers.Arrived.{Arrived}
 use Rattle.service_events.specs.declared.answers.Arrived.TheVariants.{Done, Call}
 use Rattle.service_requests.specs.declared.endings.Ending.{Ending}
@@ -85,11 +85,6 @@ unsent_service s f slot call = untold (next_number s.registers) (named_service s
 -- it is sent, and the flight waits for its answer
 abbrev pub call_sent : Kept → Flight → Option ℕ → CallMade → After Arrived
 call_sent s f slot call = waits (named_service s f slot call) (named_flight s f slot call) (next_number s.registers) call
-
--- one more is sent; another one is, up to the third change
-abbrev pub called : Kept → Flight → Option ℕ → CallMade → After Arrived
-called s f None call = call_sent s f None call
-called s f (Some slot) call = changed s f slot call
 
 -- ---- how it ends
 

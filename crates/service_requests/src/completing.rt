@@ -1,5 +1,5 @@
 // What a live request does after a run.
-ghost use Rattle.std.specs.Prelude.{◌≡◌, IfOk, OnOk};
+ghost use Rattle.std.specs.Prelude.{◌≡◌, IfOk, OnOk, Some};
 ghost use Rattle.std.specs.Option.{option_copied};
 ghost use Rattle.local_repair.specs.Alone.{trace_or_dead};
 ghost use Rattle.call_registers.specs.Registers.{next_number};
@@ -7,10 +7,10 @@ ghost use Rattle.flights.specs.declared.flight.Flight.{Flight};
 ghost use Rattle.flights.specs.Moves.{next_move};
 ghost use Rattle.service_events.specs.State.{Kept, After};
 ghost use Rattle.service_events.specs.declared.answers.Arrived.{Arrived};
-ghost use Rattle.service_events.specs.Flying.{live_call, wanted_of, goes_on, changed, committed, completing, completed};
+ghost use Rattle.service_events.specs.Flying.{live_call, wanted_of, goes_on, changed, committed, completing, completed, moved};
 ghost use Rattle.service_parts.specs.Drafts.{with_draft};
 ghost use Rattle.service_parts.specs.Parts.{kept};
-ghost use Rattle.service_requests.specs.Endings.{ends, follows, CanEnd, CanStep, MayEnd, new_call, slot_of, call_rows, named_service, named_flight, unsent_service, call_sent, called};
+ghost use Rattle.service_requests.specs.Endings.{ends, follows, CanEnd, CanStep, MayEnd, new_call, slot_of, call_rows, named_service, named_flight, unsent_service, call_sent};
 
 use crate::commits::commit;
 use crate::endings::{Ending, Step};
@@ -21,7 +21,7 @@ use call_registers::Why;
 use flights::{Flight, Move, advance, call_at};
 use handler_run::Ran;
 use journal_rows::Row;
-use lang_core::{Boxed, CallMade, NoMemory, Trace};
+use lang_core::{Boxed, CallMade, Copied, NoMemory, Trace};
 use request_log::dead_trace;
 use service_parts::{Draft, Parts, change_rows, drafted, named, next_number, note, tell};
 use std::alloc::Global;
@@ -46,9 +46,9 @@ fn wait(
     parts: &Parts,
     flight: Flight,
     number: u64,
-    call: &CallMade,
+    call: CallMade,
 ) -> Result<Ending, NoMemory>
-    ensures { IfOk result (λ ending. ending ≡ Ending.Waits flight (live_call (kept parts.now) number call.now)) }
+    ensures { IfOk result (λ ending. ending ≡ Ending.Waits flight (live_call (kept parts.now) number call)) }
 {
     let flight = Boxed::new(alloc, flight)?;
     let set = live_call(alloc, parts, number, call)?;
@@ -129,14 +129,31 @@ fn send(
     draft: &mut Draft,
     mut flight: Flight,
     slot: Option<u64>,
+    call: CallMade,
+) -> Result<Ending, NoMemory>
+    requires { MayEnd (kept parts.now) flight }
+    ensures ends { IfOk result (λ ending. ends (with_draft draft.new (kept parts.now)) ending ≡ call_sent (with_draft draft.old (kept parts.now)) flight slot call) }
+    ensures can { IfOk result (λ ending. CanEnd (kept parts.now) ending) }
+{
+    let number = name(alloc, parts, draft, &mut flight, slot, &call)?;
+    wait(alloc, parts, flight, number, call)
+}
+
+// Another call at a slot is sent, of which its run keeps its own.
+fn send_other(
+    alloc: Global,
+    parts: &Parts,
+    draft: &mut Draft,
+    flight: Flight,
+    slot: u64,
     call: &CallMade,
 ) -> Result<Ending, NoMemory>
     requires { MayEnd (kept parts.now) flight }
-    ensures ends { IfOk result (λ ending. ends (with_draft draft.new (kept parts.now)) ending ≡ call_sent (with_draft draft.old (kept parts.now)) flight slot call.now) }
+    ensures ends { IfOk result (λ ending. ends (with_draft draft.new (kept parts.now)) ending ≡ call_sent (with_draft draft.old (kept parts.now)) flight (Some slot) call.now) }
     ensures can { IfOk result (λ ending. CanEnd (kept parts.now) ending) }
 {
-    let number = name(alloc, parts, draft, &mut flight, slot, call)?;
-    wait(alloc, parts, flight, number, call)
+    let copy = call.copied(alloc)?;
+    send(alloc, parts, draft, flight, Some(slot), copy)
 }
 
 // What follows where a run was to be committed.
@@ -248,28 +265,46 @@ fn changed(
     ensures can { IfOk result (λ ending. CanEnd (kept parts.now) ending) }
 {
     if flight.changes < SENT_CHANGES {
-        return send(alloc, parts, draft, flight, Some(slot), call);
+        return send_other(alloc, parts, draft, flight, slot, call);
     }
     name_unsent(alloc, parts, draft, &mut flight, Some(slot), call)?;
     complete(alloc, parts, draft, flight, MOST_RUNS)
 }
 
-// A new call: one more is sent.
+// A run that wants a call more, which is sent.
 fn call_on(
     alloc: Global,
     parts: &Parts,
     draft: &mut Draft,
     flight: Flight,
-    slot: Option<u64>,
-    call: &CallMade,
+    ran: Ran,
 ) -> Result<Ending, NoMemory>
     requires { MayEnd (kept parts.now) flight }
-    ensures ends { IfOk result (λ ending. ends (with_draft draft.new (kept parts.now)) ending ≡ called (with_draft draft.old (kept parts.now)) flight slot call.now) }
+    ensures ends { IfOk result (λ ending. ends (with_draft draft.new (kept parts.now)) ending ≡ moved (with_draft draft.old (kept parts.now)) flight ran Move.Name) }
     ensures can { IfOk result (λ ending. CanEnd (kept parts.now) ending) }
 {
-    match slot {
-        None => send(alloc, parts, draft, flight, None, call),
-        Some(slot) => changed(alloc, parts, draft, flight, slot, call),
+    match ran {
+        Ran::Done(trace) => commit(alloc, parts, draft, flight, trace),
+        Ran::Wants { call, .. } => send(alloc, parts, draft, flight, None, call),
+    }
+}
+
+// A run that makes another call at a slot.
+fn change_on(
+    alloc: Global,
+    parts: &Parts,
+    draft: &mut Draft,
+    flight: Flight,
+    slot: u64,
+    ran: Ran,
+) -> Result<Ending, NoMemory>
+    requires { MayEnd (kept parts.now) flight }
+    ensures ends { IfOk result (λ ending. ends (with_draft draft.new (kept parts.now)) ending ≡ moved (with_draft draft.old (kept parts.now)) flight ran (Move.Change slot)) }
+    ensures can { IfOk result (λ ending. CanEnd (kept parts.now) ending) }
+{
+    match call_at(&ran, slot) {
+        None => ended(alloc, parts, draft, flight, ran),
+        Some(call) => changed(alloc, parts, draft, flight, slot, call),
     }
 }
 
@@ -286,9 +321,9 @@ pub fn go_on(
     ensures can { IfOk result (λ ending. CanEnd (kept parts.now) ending) }
 {
     let ran = run_flight(alloc, parts, draft, &flight)?;
-    let next = advance(&flight, &ran);
-    match new_call(next, &ran) {
-        None => ended(alloc, parts, draft, flight, ran),
-        Some(call) => call_on(alloc, parts, draft, flight, slot_of(next), call),
+    match advance(&flight, &ran) {
+        Move::Commit => ended(alloc, parts, draft, flight, ran),
+        Move::Name => call_on(alloc, parts, draft, flight, ran),
+        Move::Change { slot } => change_on(alloc, parts, draft, flight, slot, ran),
     }
 }

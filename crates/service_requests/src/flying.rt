@@ -84,17 +84,17 @@ pub(crate) fn put_call(
     }
 }
 
-/// The message of a live call: its first version, which names no neighbours.
+/// The message of a live call: its first version, which names no neighbours. It takes the run's own request.
 pub(crate) fn live_call(
     alloc: Global,
     parts: &Parts,
     number: u64,
-    call: &CallMade,
+    call: CallMade,
 ) -> Result<SetMessage, NoMemory>
-    ensures { IfOk result (λ set. set ≡ live_call (kept parts.now) number call.now) }
+    ensures { IfOk result (λ set. set ≡ live_call (kept parts.now) number call) }
 {
-    let (caller, dest) = copied_pair(alloc, &parts.setting.me, &call.dest)?;
-    let (request, who) = copied_pair(alloc, &call.request, &call.request.who)?;
+    let (caller, who) = copied_pair(alloc, &parts.setting.me, &call.request.who)?;
+    let CallMade { dest, request } = call;
     Ok(SetMessage {
         caller,
         dest,

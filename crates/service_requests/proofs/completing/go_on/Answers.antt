@@ -1,18 +1,25 @@
-use Rattle.std.proofs.Common.{◌∙◌}
+use Rattle.std.proofs.Common.{◌∙◌, sym}
 use Rattle.std.proofs.lemmas.Result.{IfOk-weaker}
+use Rattle.flights.specs.declared.flight.Move.TheVariants.{Commit, Name, Change}
 use Rattle.service_parts.specs.Drafts.{with_draft}
 use Rattle.service_parts.specs.Parts.{kept}
-use Rattle.service_requests.proofs.EndLemmas.{goes_called, goes_commits}
+use Rattle.service_requests.proofs.EndLemmas.{goes_is}
 use Rattle.service_requests.proofs.completing.go_on.Goals as goal
 
-pub returns-in-None-clause-ends : goal.returns-in-None-clause-ends
-returns-in-None-clause-ends c =
+pub returns-in-Commit-clause-ends : goal.returns-in-Commit-clause-ends
+returns-in-Commit-clause-ends c =
     IfOk-weaker c.ended.result _ _
-    (λ ending h. h ∙ goes_commits (with_draft c.args.draft.now (kept c.args.parts.now)) c.args.flight c.in_ok-ran.ran c.advance-next.result c.in_ok-ran.ensures c.advance-next.ensures c.in-None.ensures)
+    (λ ending h. h ∙ goes_is (with_draft c.args.draft.now (kept c.args.parts.now)) c.args.flight c.in_ok-ran.ran Commit c.in_ok-ran.ensures (sym c.in-Commit.is ∙ c.advance.ensures))
     c.ended.ensures.ends
 
-pub returns-in-Some-clause-ends : goal.returns-in-Some-clause-ends
-returns-in-Some-clause-ends c =
+pub returns-in-Name-clause-ends : goal.returns-in-Name-clause-ends
+returns-in-Name-clause-ends c =
     IfOk-weaker c.call_on.result _ _
-    (λ ending h. h ∙ goes_called (with_draft c.args.draft.now (kept c.args.parts.now)) c.args.flight c.in_ok-ran.ran c.advance-next.result c.slot_of.result c.in-Some.call.now c.in_ok-ran.ensures c.advance-next.ensures c.slot_of.ensures c.in-Some.ensures)
+    (λ ending h. h ∙ goes_is (with_draft c.args.draft.now (kept c.args.parts.now)) c.args.flight c.in_ok-ran.ran Name c.in_ok-ran.ensures (sym c.in-Name.is ∙ c.advance.ensures))
     c.call_on.ensures.ends
+
+pub returns-in-Change-clause-ends : goal.returns-in-Change-clause-ends
+returns-in-Change-clause-ends c =
+    IfOk-weaker c.change_on.result _ _
+    (λ ending h. h ∙ goes_is (with_draft c.args.draft.now (kept c.args.parts.now)) c.args.flight c.in_ok-ran.ran (Change c.in-Change.slot) c.in_ok-ran.ensures (sym c.in-Change.is ∙ c.advance.ensures))
+    c.change_on.ensures.ends
