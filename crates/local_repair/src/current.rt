@@ -14,7 +14,7 @@ ghost use Rattle.local_repair.specs.Steps.{answer_or_tentative, tentative};
 use crate::slots::Slots;
 use lang_core::{Read, Response, Same, Text};
 use log_index::{EntryMarks, EntryRows};
-use request_log::{Entry, Made};
+use request_log::{Entry, KeptEntry, Made};
 
 fn is_text(now: Option<&Text>, found: &Option<Text>) -> bool
     ensures { IsTrue result ↔ (option_copied now.entry ≡ found.now) }
@@ -152,7 +152,7 @@ fn is_answered<S: Slots>(entry: &Entry, slots: &S) -> bool
 fn place_of_marked<S: Slots>(
     rows: &EntryRows,
     marks: &[u64],
-    entries: &[Entry],
+    entries: &[KeptEntry],
     slots: &S,
 ) -> Option<usize>
     requires tied { rows.now.writes ≡ all_written entries.now }
@@ -163,7 +163,7 @@ fn place_of_marked<S: Slots>(
 {
     for mark in marks {
         let place = *mark as usize;
-        if !is_current(rows, place, &entries[place], slots) {
+        if !is_current(rows, place, entries[place].entry(), slots) {
             return Some(place);
         }
     }
@@ -174,7 +174,7 @@ fn place_of_marked<S: Slots>(
 // entry has calls there is none, and no entry is looked at.
 fn place_of_changed<S: Slots>(
     calls: bool,
-    entries: &[Entry],
+    entries: &[KeptEntry],
     end: usize,
     slots: &S,
 ) -> Option<usize>
@@ -187,7 +187,7 @@ fn place_of_changed<S: Slots>(
         return None;
     }
     for place in 0..end {
-        if !is_answered(&entries[place], slots) {
+        if !is_answered(entries[place].entry(), slots) {
             return Some(place);
         }
     }
@@ -209,7 +209,7 @@ pub(crate) fn place_of_stale<S: Slots>(
     rows: &EntryRows,
     marks: &EntryMarks,
     calls: bool,
-    entries: &[Entry],
+    entries: &[KeptEntry],
     slots: &S,
 ) -> Option<usize>
     requires { IsKept entries.now rows.now.writes marks.now calls }

@@ -22,7 +22,7 @@ use crate::written::{insert_entry, may_call};
 use lang_base::both;
 use lang_core::{Cells, Copied, Method, NoMemory, Setting, Text};
 use log_index::{EntryMarks, EntryRows};
-use request_log::{Entry, Log, LogFull};
+use request_log::{Entry, KeptEntry, Log, LogFull};
 use std::alloc::Global;
 use std::marker::Model;
 
@@ -62,7 +62,7 @@ fn raised_if(raise: bool, n: u64) -> u64
 fn remake_at<S: Slots>(
     alloc: Global,
     setting: &Setting,
-    entries: &[Entry],
+    entries: &[KeptEntry],
     rows: &mut EntryRows,
     marks: &mut EntryMarks,
     place: usize,
@@ -92,7 +92,15 @@ fn remake_at<S: Slots>(
     ensures timely { S.is_timely slots.old → S.is_timely slots.new }
     ensures err { OnErr result (slots.new ≡ slots.old) }
 {
-    remake(alloc, setting, rows, marks, &entries[place], place, slots)
+    remake(
+        alloc,
+        setting,
+        rows,
+        marks,
+        entries[place].entry(),
+        place,
+        slots,
+    )
 }
 
 // Notes what came of running the entry at a place again. There is room for what it wrote and for where it looked. No entry
@@ -133,7 +141,7 @@ fn note_run(log: &mut Log, place: usize, again: Rerun) -> Stepped
         numbers,
         answered,
     } = again;
-    let entry = &log.as_slice()[place];
+    let entry = log.as_slice()[place].entry();
     let id = entry.id;
     let answer_version = raised_if(answered, entry.answer_version);
     let runs = entry.runs.saturating_add(1);
@@ -278,7 +286,7 @@ impl Repairer {
         let entries = self.log.as_slice();
         match place_of_stale(&self.rows, &self.marks, self.calls, entries, slots) {
             None => None,
-            Some(place) => Some(entries[place].id),
+            Some(place) => Some(entries[place].entry().id),
         }
     }
 

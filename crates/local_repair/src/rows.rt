@@ -3,7 +3,7 @@ ghost use Rattle.std.specs.Prelude.{◌≡◌, IfOk, OnOk, OnErr};
 ghost use Rattle.local_repair.specs.Current.{after_entry, rows_after, base_rows};
 
 use lang_core::{Cells, NoMemory, apply_writes};
-use request_log::Entry;
+use request_log::{Entry, KeptEntry};
 use std::alloc::Global;
 
 // Applies the writes of an entry's record, if it has one. Refused, the rows stay.
@@ -18,12 +18,12 @@ fn apply_entry(alloc: Global, rows: &mut Cells, entry: &Entry) -> Result<(), NoM
 }
 
 /// The rows after these entries, the first of a log.
-pub(crate) fn rows_after(alloc: Global, entries: &[Entry]) -> Result<Cells, NoMemory>
+pub(crate) fn rows_after(alloc: Global, entries: &[KeptEntry]) -> Result<Cells, NoMemory>
     ensures { IfOk result (λ rows. rows ≡ rows_after base_rows entries.now) }
 {
     let mut rows = Cells::new(alloc);
     for entry in entries {
-        apply_entry(alloc, &mut rows, entry)?;
+        apply_entry(alloc, &mut rows, entry.entry())?;
     }
     Ok(rows)
 }

@@ -151,6 +151,12 @@ pub(crate) fn insert_entry(
     *calls = may_call(*calls, &entry.slots);
     log.insert(at, entry)?;
     let entries = log.as_slice();
-    insert_parts(alloc, rows, marks, at as usize, &entries[at as usize]);
+    insert_parts(
+        alloc,
+        rows,
+        marks,
+        at as usize,
+        entries[at as usize].entry(),
+    );
     Ok(())
 }

@@ -100,7 +100,7 @@ pub fn log_text(alloc: Global, me: &Name, log: &Log) -> Result<Text, NoMemory>
 {
     let mut lines = String::new(alloc);
     for entry in log.as_slice() {
-        push_entry(&mut lines, me, entry)?;
+        push_entry(&mut lines, me, entry.entry())?;
     }
     or_none(lines)
 }

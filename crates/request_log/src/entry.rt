@@ -1,11 +1,14 @@
 // Entries of a log, and their records.
 ghost use Rattle.std.specs.Prelude.{◌≡◌, IfOk};
 ghost use Rattle.lang_core.specs.Traces.{dead_trace};
-ghost use Rattle.request_log.specs.Entries.{is_alive};
+ghost use Rattle.request_log.specs.Entries.{is_alive, mark, replace, with_run};
 
 use lang_base::both;
-use lang_core::{Copied, Inputs, NoMemory, Origin, Request, Response, Seq, Text, Trace, Writes};
+use lang_core::{
+    Copied, Inputs, Method, NoMemory, Origin, Request, Response, Seq, Text, Trace, Writes,
+};
 use std::alloc::Global;
+use std::marker::Model;
 
 /// Numbers, in order.
 pub type Numbers = Seq<u64>;
@@ -44,6 +47,81 @@ pub struct Entry {
     pub answer_version: u64,
     /// How often it ran.
     pub runs: u64,
+}
+
+/// An entry as a log keeps it, seen as the entry: behind a pointer, so that a log moves few bytes for each when one is put
+/// between others.
+#[derive(Drop)]
+pub struct KeptEntry {
+    pub(crate) inner: Box<Entry>,
+}
+
+impl Model for KeptEntry {
+    ghost use Rattle.request_log.specs.declared.entry.Entry.{Entry};
+
+    ghost Value = { Entry };
+
+    ghost view = { λ kept. kept.inner.value };
+}
+
+impl KeptEntry {
+    /// Keeps an entry. Refused, it is dropped.
+    pub(crate) fn of(alloc: Global, entry: Entry) -> Result<KeptEntry, NoMemory>
+        ensures { IfOk result (λ kept. kept ≡ entry) }
+    {
+        let inner = Box::new(alloc, entry)?;
+        Ok(KeptEntry { inner })
+    }
+
+    /// The entry.
+    pub fn entry(&self) -> &Entry
+        ensures { result.now ≡ self.now }
+    {
+        &self.inner
+    }
+
+    /// Puts an entry in place of this one, which is handed back.
+    pub(crate) fn replace(&mut self, entry: Entry) -> Entry
+        ensures new { self.new ≡ entry }
+        ensures old { result ≡ self.old }
+    {
+        std::mem::replace(&mut *self.inner, entry)
+    }
+
+    /// Notes a run: the record, the slots, the version of the answer, and how often the entry ran.
+    pub(crate) fn note_run(&mut self, made: Made, slots: Numbers, answer_version: u64, runs: u64)
+        ensures { self.new ≡ with_run made slots answer_version runs self.old }
+    {
+        let entry = &mut *self.inner;
+        entry.made = Some(made);
+        entry.slots = slots;
+        entry.answer_version = answer_version;
+        entry.runs = runs;
+    }
+
+    /// Sets whether it is struck.
+    pub(crate) fn set_struck(&mut self, struck: bool)
+        ensures { self.new ≡ mark struck self.old }
+    {
+        self.inner.struck = struck;
+    }
+
+    /// Gives it another method, path and body.
+    pub(crate) fn rewrite(&mut self, method: Method, path: Text, body: Text)
+        ensures { self.new ≡ replace method path body self.old }
+    {
+        let request = &mut self.inner.request;
+        request.method = method;
+        request.path = path;
+        request.body = body;
+    }
+}
+
+impl Copied for KeptEntry {
+    fn copied(&self, alloc: Global) -> Result<KeptEntry, NoMemory> {
+        let entry = self.entry().copied(alloc)?;
+        KeptEntry::of(alloc, entry)
+    }
 }
 
 impl Copied for Made {

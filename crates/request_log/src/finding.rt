@@ -4,7 +4,7 @@ ghost use Rattle.std.specs.Option.{option_copied};
 ghost use Rattle.request_log.specs.Entries.{has_id, has_origin, IsDistinct};
 ghost use Rattle.request_log.specs.Keys.{number_of, origin_key, entry_key};
 
-use crate::entry::Entry;
+use crate::entry::{Entry, KeptEntry};
 use lang_core::{Name, NoMemory, Origin, Same};
 use lang_lists::{HashIndex, call_key};
 
@@ -32,7 +32,7 @@ fn has_origin(entry: &Entry, caller: &Name, number: u64) -> bool
 }
 
 /// Where the entry of a number stands, by the index of their numbers; None exactly where there is none.
-pub(crate) fn place_of(entries: &[Entry], numbers: &HashIndex, id: u64) -> Option<usize>
+pub(crate) fn place_of(entries: &[KeptEntry], numbers: &HashIndex, id: u64) -> Option<usize>
     requires distinct { IsDistinct entries.now }
     requires keys { numbers.now.keys ≡ map number_of entries.now }
     ensures { result ≡ position (has_id id) entries.now }
@@ -43,7 +43,7 @@ pub(crate) fn place_of(entries: &[Entry], numbers: &HashIndex, id: u64) -> Optio
 
 /// The entry that comes from a call, by the index of their origins; None exactly where there is none.
 pub(crate) fn find_origin<'a>(
-    entries: &'a [Entry],
+    entries: &'a [KeptEntry],
     origins: &HashIndex,
     caller: &Name,
     number: u64,
@@ -54,7 +54,7 @@ pub(crate) fn find_origin<'a>(
 {
     let mut end = origins.end_of(call_key(caller.text(), number));
     while end > 0 {
-        let entry = &entries[end - 1];
+        let entry = entries[end - 1].entry();
         if has_origin(entry, caller, number) {
             return Some(entry);
         }

@@ -5,5 +5,5 @@ mod entry;
 mod finding;
 mod log;
 
-pub use entry::{Entry, Made, Numbers, dead_trace};
+pub use entry::{Entry, KeptEntry, Made, Numbers, dead_trace};
 pub use log::{Log, LogFull, MOST_ENTRIES};

@@ -4,7 +4,7 @@ ghost use Rattle.std.specs.Option.{option_copied};
 ghost use Rattle.request_log.specs.Entries.{changed, has_id, has_origin, mark, replace, IsNew, IsKnown, IsLog, with_entry, with_run};
 ghost use Rattle.request_log.specs.declared.entry.Entry.{Entry};
 
-use crate::entry::{Entry, Made, Numbers};
+use crate::entry::{Entry, KeptEntry, Made, Numbers};
 use crate::finding::{find_origin, make_room, origin_key, place_of};
 use lang_base::{both, copied_items};
 use lang_core::{Copied, Method, Name, NoMemory, Text};
@@ -47,7 +47,7 @@ impl<T: Drop> From<AllocFailed<T>> for LogFull {
 /// The entries of a service in logged order, of which no two have one number, and no two come from one call.
 #[derive(Drop)]
 pub struct Log {
-    items: Vec<Entry>,
+    items: Vec<KeptEntry>,
     // By number.
     numbers: HashIndex,
     // By the keys of origins.
@@ -78,7 +78,7 @@ impl Log {
     }
 
     /// The entries, in order.
-    pub fn as_slice(&self) -> &[Entry]
+    pub fn as_slice(&self) -> &[KeptEntry]
         ensures entries { result.now ≡ self.now.entries }
         ensures log { IsLog self.now.entries }
     {
@@ -96,7 +96,7 @@ impl Log {
     pub fn at(&self, place: u64) -> Option<&Entry>
         ensures { option_copied result ≡ slice_get self.now.entries place }
     {
-        self.items.get(place as usize)
+        self.items.get(place as usize).map(|kept| kept.entry())
     }
 
     /// The entry of a number; None exactly where there is none.
@@ -143,7 +143,8 @@ impl Log {
         make_room(&mut self.numbers, &mut self.origins)?;
         let id = entry.id;
         let key = origin_key(id, &entry.origin);
-        self.items.push(entry)?;
+        let kept = KeptEntry::of(*self.items.allocator(), entry)?;
+        self.items.push(kept)?;
         self.numbers.push(id);
         self.origins.push(key);
         Ok(())
@@ -164,7 +165,8 @@ impl Log {
         make_room(&mut self.numbers, &mut self.origins)?;
         let id = entry.id;
         let key = origin_key(id, &entry.origin);
-        self.items.insert(at as usize, entry)?;
+        let kept = KeptEntry::of(*self.items.allocator(), entry)?;
+        self.items.insert(at as usize, kept)?;
         self.numbers.insert(at as usize, id);
         self.origins.insert(at as usize, key);
         Ok(())
@@ -177,7 +179,7 @@ impl Log {
         ensures old { find (has_id entry.id) self.old.entries ≡ Some result }
     {
         let place = place_of(&self.items, &self.numbers, entry.id).unwrap();
-        std::mem::replace(&mut self.items[place], entry)
+        self.items[place].replace(entry)
     }
 
     /// Notes a run of the entry at a place, counted from 0: its record, its slots, the version of its answer, and how
@@ -194,11 +196,7 @@ impl Log {
         ensures { (d : Entry) → self.new.entries
             ≡ slice_set self.old.entries place (with_run made slots answer_version runs (slice_index_or self.old.entries place d)) }
     {
-        let entry = &mut self.items[place as usize];
-        entry.made = Some(made);
-        entry.slots = slots;
-        entry.answer_version = answer_version;
-        entry.runs = runs;
+        self.items[place as usize].note_run(made, slots, answer_version, runs);
     }
 
     /// Sets whether the entry of a number is struck; false exactly where there is none.
@@ -209,7 +207,7 @@ impl Log {
         match place_of(&self.items, &self.numbers, id) {
             None => false,
             Some(place) => {
-                self.items[place].struck = struck;
+                self.items[place].set_struck(struck);
                 true
             }
         }
@@ -223,10 +221,7 @@ impl Log {
         match place_of(&self.items, &self.numbers, id) {
             None => false,
             Some(place) => {
-                let request = &mut self.items[place].request;
-                request.method = method;
-                request.path = path;
-                request.body = body;
+                self.items[place].rewrite(method, path, body);
                 true
             }
         }

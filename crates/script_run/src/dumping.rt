@@ -51,7 +51,7 @@ fn push_entries(text: &mut String, service: &Service) -> Result<(), NoMemory>
     ensures { OnOk result (string_bytes text.new ≡ string_bytes text.old ++ flat_map (entry_lines (answers service.now)) service.now.entries) }
 {
     for entry in service.entries().as_slice() {
-        push_entry(text, service.registers(), entry)?;
+        push_entry(text, service.registers(), entry.entry())?;
     }
     Ok(())
 }

@@ -9,7 +9,7 @@ ghost use Rattle.service_posts.specs.Walks.{pass, seen, seen_entry};
 use crate::outward::{outward, slot_of};
 use call_registers::Registers;
 use lang_core::{Name, Same};
-use request_log::Entry;
+use request_log::KeptEntry;
 use service_parts::Parts;
 
 /// The calls next to a call, by their numbers.
@@ -72,16 +72,16 @@ fn seen(registers: &Registers, dest: &Name, of: u64, walk: Walk, number: u64) ->
     }
 }
 
-fn seen_entry(registers: &Registers, dest: &Name, of: u64, walk: Walk, entry: &Entry) -> Walk
+fn seen_entry(registers: &Registers, dest: &Name, of: u64, walk: Walk, entry: &KeptEntry) -> Walk
     ensures { result ≡ seen_entry registers.now.list dest.now of walk entry.now }
 {
-    entry.slots.as_slice().iter().fold(
+    entry.entry().slots.as_slice().iter().fold(
         walk,
         |walk, number| seen(registers, dest, of, walk, *number),
     )
 }
 
-fn seen_entries(registers: &Registers, dest: &Name, of: u64, entries: &[Entry]) -> Walk
+fn seen_entries(registers: &Registers, dest: &Name, of: u64, entries: &[KeptEntry]) -> Walk
     ensures { result ≡ fold (seen_entry registers.now.list dest.now of) (record { previous = None; passed = false; next = None }) entries.now }
 {
     let start = Walk {

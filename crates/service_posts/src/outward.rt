@@ -8,7 +8,7 @@ ghost use Rattle.service_posts.specs.Walks.{calls_in, first_to, is_to, last_to, 
 use crate::beside::{Neighbours, goes_to};
 use call_registers::Registers;
 use lang_core::Name;
-use request_log::Entry;
+use request_log::{Entry, KeptEntry};
 use service_parts::Parts;
 
 /// Where a call stands: the place of its entry in the log, and its own among the entry's calls, both counted from 0.
@@ -34,13 +34,13 @@ fn slot_in(entry: &Entry, place: usize, number: u64) -> Option<Slot>
     }
 }
 
-fn entry_at(entries: &[Entry], place: usize) -> Option<&Entry>
+fn entry_at(entries: &[KeptEntry], place: usize) -> Option<&Entry>
     ensures { option_copied result ≡ slice_get entries.now place }
 {
-    entries.get(place)
+    entries.get(place).map(|kept| kept.entry())
 }
 
-fn slot_at(entries: &[Entry], place: usize, number: u64) -> Option<Slot>
+fn slot_at(entries: &[KeptEntry], place: usize, number: u64) -> Option<Slot>
     ensures { IfSome result (IsSlot number entries.now) }
 {
     match entry_at(entries, place) {
@@ -115,20 +115,20 @@ fn last_to(registers: &Registers, dest: &Name, numbers: &[u64]) -> Option<u64>
     later_to(registers, dest, numbers)
 }
 
-fn first_of(registers: &Registers, dest: &Name, entry: &Entry) -> Option<u64>
+fn first_of(registers: &Registers, dest: &Name, entry: &KeptEntry) -> Option<u64>
     ensures { result ≡ first_to registers.now.list dest.now entry.now.slots }
 {
-    first_to(registers, dest, entry.slots.as_slice())
+    first_to(registers, dest, entry.entry().slots.as_slice())
 }
 
-fn last_of(registers: &Registers, dest: &Name, entry: &Entry) -> Option<u64>
+fn last_of(registers: &Registers, dest: &Name, entry: &KeptEntry) -> Option<u64>
     ensures { result ≡ last_to registers.now.list dest.now entry.now.slots }
 {
-    last_to(registers, dest, entry.slots.as_slice())
+    last_to(registers, dest, entry.entry().slots.as_slice())
 }
 
 // The first call to this service of the entries from this place on.
-fn first_from(registers: &Registers, dest: &Name, entries: &[Entry], from: usize) -> Option<u64>
+fn first_from(registers: &Registers, dest: &Name, entries: &[KeptEntry], from: usize) -> Option<u64>
     requires { from ≤ length entries.now }
     ensures { result ≡ first_to registers.now.list dest.now (calls_in (drop from entries.now)) }
 {
@@ -144,7 +144,7 @@ fn first_from(registers: &Registers, dest: &Name, entries: &[Entry], from: usize
 }
 
 // The last call to this service of the entries before this place.
-fn last_before(registers: &Registers, dest: &Name, entries: &[Entry], to: usize) -> Option<u64>
+fn last_before(registers: &Registers, dest: &Name, entries: &[KeptEntry], to: usize) -> Option<u64>
     requires { to ≤ length entries.now }
     ensures { result ≡ last_to registers.now.list dest.now (calls_in (take to entries.now)) }
 {
@@ -163,7 +163,7 @@ fn last_before(registers: &Registers, dest: &Name, entries: &[Entry], to: usize)
 fn next_to(
     registers: &Registers,
     dest: &Name,
-    entries: &[Entry],
+    entries: &[KeptEntry],
     numbers: &[u64],
     at: Slot,
 ) -> Option<u64>
@@ -181,7 +181,7 @@ fn next_to(
 fn previous_to(
     registers: &Registers,
     dest: &Name,
-    entries: &[Entry],
+    entries: &[KeptEntry],
     numbers: &[u64],
     at: Slot,
 ) -> Option<u64>
@@ -195,11 +195,11 @@ fn previous_to(
     }
 }
 
-fn entry_in(entries: &[Entry], place: usize) -> &Entry
+fn entry_in(entries: &[KeptEntry], place: usize) -> &Entry
     requires { place < length entries.now }
     ensures { result.now ≡ get_or entries.now place result.now }
 {
-    &entries[place]
+    entries[place].entry()
 }
 
 /// The neighbours of a wanted call to this service that stands at this place. It stands nowhere else, so the nearest ones are
@@ -207,7 +207,7 @@ fn entry_in(entries: &[Entry], place: usize) -> &Entry
 pub(crate) fn outward(
     registers: &Registers,
     dest: &Name,
-    entries: &[Entry],
+    entries: &[KeptEntry],
     number: u64,
     at: Slot,
 ) -> Neighbours

@@ -17,7 +17,7 @@ loop-place-preserved g c = λ q lt d.
     elim (cases_lt q place) [
       | inl less ↦ c.loop-place.invariant q less d
       | inr more ↦ (let same : place ≡ q = omega arith in
-          subst P (c.index-entries-place.is ∙ get_or_default es place e d within ∙ ap (λ n. get_or es n d) same) (c.if-not-is_answered.ensures.0 refl))
+          subst P (c.entry.ensures ∙ c.index-entries-place.is ∙ get_or_default es place e d within ∙ ap (λ n. get_or es n d) same) (c.if-not-is_answered.ensures.0 refl))
     ]
 
 pub returns-then-not-is_answered : goal.returns-then-not-is_answered
@@ -33,6 +33,6 @@ returns-then-not-is_answered g c =
       record {
         within = within;
         before = c.loop-place.invariant;
-        stale = λ d answered. let never : false ≡ true = c.if-not-is_answered.ensures.1 (subst P (get_or_default es place d e within ∙ sym c.index-entries-place.is) answered) in cc;
+        stale = λ d answered. let never : false ≡ true = c.if-not-is_answered.ensures.1 (subst P (get_or_default es place d e within ∙ sym c.index-entries-place.is ∙ sym c.entry.ensures) answered) in cc;
       },
     )

@@ -21,7 +21,7 @@ loop-mark-preserved g c = λ j lt.
       | inl less ↦ c.loop-mark.invariant j less
       | inr more ↦ (let same : j ≡ i = omega arith in
           current_here consumed es (get_or marks j 0) place c.index-entries-place.result _ within c.index-entries-place.is (seen_before c.args.rows.now es place c.requires.tied)
-          (c.if-not-is_current.ensures.0 refl) (ap (λ n. get_or marks n 0) same))
+          ((rw c.entry.ensures at c.if-not-is_current.ensures).0 refl) (ap (λ n. get_or marks n 0) same))
     ]
 
 pub returns-then-not-is_current : goal.returns-then-not-is_current
@@ -39,7 +39,7 @@ returns-then-not-is_current g c =
       before = λ q lt told.
           marked_below (IsCurrentAt consumed es) marks i q c.requires.marks.rising inside lt told c.loop-mark.invariant;
       stale = stale_here consumed es place c.index-entries-place.result _ within c.index-entries-place.is (seen_before c.args.rows.now es place c.requires.tied)
-          (λ current. let never : false ≡ true = c.if-not-is_current.ensures.1 current in cc);
+          (λ current. let never : false ≡ true = (rw c.entry.ensures at c.if-not-is_current.ensures).1 current in cc);
     }
 
 pub returns : goal.returns

@@ -28,7 +28,7 @@ returns-clause-ok g c =
       settles = g.S.Slots.settles c.args.slots.now c.remake.new.slots;
     } in
     again_at c.args.setting.now change c.args.entries.now c.args.place c.index-entries-place.result (rows_before c.args.place c.args.rows.now) c.remake.result
-    c.requires.within c.index-entries-place.is (seen_before c.args.rows.now c.args.entries.now c.args.place c.requires.tied) c.remake.ensures.ok
+    c.requires.within c.index-entries-place.is (seen_before c.args.rows.now c.args.entries.now c.args.place c.requires.tied) (rw c.entry.ensures at c.remake.ensures.ok)
 
 pub returns-clause-marked : goal.returns-clause-marked
 returns-clause-marked g c =
@@ -37,5 +37,5 @@ returns-clause-marked g c =
     let e = c.index-entries-place.result in
     IfOk-weaker c.remake.result _ _
     (λ again from d. (let P : Entry → Type 0 = λ x. IsMarkedBehind place (writes_of x.made) again.made.trace.writes c.args.marks.now c.remake.new.marks in
-    subst P (c.index-entries-place.is ∙ get_or_default es place e d c.requires.within) from))
+    subst P (c.entry.ensures ∙ c.index-entries-place.is ∙ get_or_default es place e d c.requires.within) from))
     c.remake.ensures.marked

@@ -24,7 +24,8 @@ returns-then-has_origin c =
     let before : Option Entry = fold (last_of passes) None (take (c.loop-end.end - 1) c.args.entries.now) in
     let chosen : Bool → Option Entry = λ b. cond b (Some entry) before in
     let here = sought_here entry_key (last_of passes) (call_key c.args.caller.now c.args.number) (call_quiet c.args.caller.now c.args.number) None c.args.entries.now c.loop-end.end entry c.loop-end.invariant (omega arith) c.index-entries-end.is in
-    sym (sym (last_found c.args.caller.now c.args.number c.args.entries.now c.requires.distinct) ∙ here ∙ ap chosen (sym c.has_origin.ensures ∙ c.if-has_origin.true))
+    let tested = rw c.entry-entry.ensures at c.has_origin.ensures in
+    ap Some c.entry-entry.ensures ∙ sym (sym (last_found c.args.caller.now c.args.number c.args.entries.now c.requires.distinct) ∙ here ∙ ap chosen (sym tested ∙ c.if-has_origin.true))
 
 pub loop-end-smaller : goal.loop-end-smaller
 loop-end-smaller c =
@@ -38,9 +39,10 @@ pub loop-end-preserved : goal.loop-end-preserved
 loop-end-preserved c =
     let passes = has_origin c.args.caller.now c.args.number in
     let entry = c.index-entries-end.result in
+    let tested = rw c.entry-entry.ensures at c.has_origin.ensures in
     sought_next entry_key (last_of passes) (call_key c.args.caller.now c.args.number) (call_quiet c.args.caller.now c.args.number) None c.args.entries.now c.loop-end.end c.end_before-end.result entry
     c.loop-end.invariant (omega arith) c.index-entries-end.is
-    (not_last (passes entry) entry _ (sym c.has_origin.ensures ∙ c.if-has_origin.false))
+    (not_last (passes entry) entry _ (sym tested ∙ c.if-has_origin.false))
     (c.end_before-end.ensures ∙ ap (λ (ks : List ℕ). last_end (nat_eq (get_or ks (c.loop-end.end - 1) 0)) (take (c.loop-end.end - 1) ks)) c.requires.keys)
 
 pub returns : goal.returns

@@ -24,11 +24,14 @@ returns-in-Some-clause-test g c =
     let consumed = g.S.Slots.consumed_of c.args.slots.now in
     let seen : c.as_slice-entries.result.now ≡ c.args.self.now.entries = c.as_slice-entries.ensures.entries ∙ ap (λ (k : KeptRepairer). k.entries) c.self.view_is in
     let P : List Entry → Type 0 = λ entries. Some (get_or c.as_slice-entries.result.now c.in-Some.place c.index-entries-place.result).id ≡ stale_id consumed [] entries in
-    subst P seen (stale_id_at consumed c.as_slice-entries.result.now c.in-Some.place c.index-entries-place.result c.in-Some.ensures)
+    ap (λ (e : Entry). Some e.id) (c.entry.ensures ∙ c.index-entries-place.is)
+    ∙ subst P seen (stale_id_at consumed c.as_slice-entries.result.now c.in-Some.place c.index-entries-place.result c.in-Some.ensures)
 
 pub returns-in-Some-clause-first : goal.returns-in-Some-clause-first
 returns-in-Some-clause-first g c =
     let consumed = g.S.Slots.consumed_of c.args.slots.now in
     let seen : c.as_slice-entries.result.now ≡ c.args.self.now.entries = c.as_slice-entries.ensures.entries ∙ ap (λ (k : KeptRepairer). k.entries) c.self.view_is in
     let P : List Entry → Type 0 = λ entries. IsStaleId consumed [] entries (get_or c.as_slice-entries.result.now c.in-Some.place c.index-entries-place.result).id in
-    subst P seen (is_stale_id consumed c.as_slice-entries.result.now c.in-Some.place c.index-entries-place.result c.in-Some.ensures)
+    let Q : Entry → Type 0 = λ e. IsStaleId consumed [] c.args.self.now.entries e.id in
+    subst Q (sym (c.entry.ensures ∙ c.index-entries-place.is))
+    (subst P seen (is_stale_id consumed c.as_slice-entries.result.now c.in-Some.place c.index-entries-place.result c.in-Some.ensures))

@@ -6,7 +6,7 @@ use Rattle.request_log.proofs.log.Log.set_struck.Goals as goal
 pub invariant_of-self : goal.invariant_of-self
 invariant_of-self c =
     let at : position (has_id c.args.id) c.self.inside.items.items ≡ Some c.in-Some.place = rw c.deref.ensures.value at (sym c.place_of.ensures ∙ c.in-Some.is) in
-    (changed_place (mark c.args.struck) (record { id = λ e. refl; origin = λ e. refl }) c.args.id c.args.self.now c.self.inside.items.items c.self.inside.numbers.keys c.self.inside.origins.keys c.in-Some.place c.index_mut.result.now c.self.view_is at c.index_mut.ensures.value c.self.invariant).log
+    rw c.set_struck.ensures (changed_place (mark c.args.struck) (record { id = λ e. refl; origin = λ e. refl }) c.args.id c.args.self.now c.self.inside.items.items c.self.inside.numbers.keys c.self.inside.origins.keys c.in-Some.place c.index_mut.result.now c.self.view_is at c.index_mut.ensures.value c.self.invariant).log
 
 pub returns-in-None-clause-entries : goal.returns-in-None-clause-entries
 returns-in-None-clause-entries c =
@@ -21,7 +21,7 @@ returns-in-None-clause-there c =
 pub returns-in-Some-clause-entries : goal.returns-in-Some-clause-entries
 returns-in-Some-clause-entries c =
     let at : position (has_id c.args.id) c.self.inside.items.items ≡ Some c.in-Some.place = rw c.deref.ensures.value at (sym c.place_of.ensures ∙ c.in-Some.is) in
-    (changed_place (mark c.args.struck) (record { id = λ e. refl; origin = λ e. refl }) c.args.id c.args.self.now c.self.inside.items.items c.self.inside.numbers.keys c.self.inside.origins.keys c.in-Some.place c.index_mut.result.now c.self.view_is at c.index_mut.ensures.value c.self.invariant).entries
+    rw c.set_struck.ensures (changed_place (mark c.args.struck) (record { id = λ e. refl; origin = λ e. refl }) c.args.id c.args.self.now c.self.inside.items.items c.self.inside.numbers.keys c.self.inside.origins.keys c.in-Some.place c.index_mut.result.now c.self.view_is at c.index_mut.ensures.value c.self.invariant).entries
 
 pub returns-in-Some-clause-there : goal.returns-in-Some-clause-there
 returns-in-Some-clause-there c =
