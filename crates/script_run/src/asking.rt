@@ -1,5 +1,5 @@
 // A request, and the deliveries that follow it.
-ghost use Rattle.std.specs.Prelude.{IfOk, OnErr, Some};
+ghost use Rattle.std.specs.Prelude.{IfOk, OnErr, OnOk, Some};
 ghost use Rattle.world_delivery_laws.specs.InHand.{IsInHand};
 ghost use Rattle.world_delivery_laws.specs.Runs.{IsAsking, IsRun};
 ghost use Rattle.script_run.specs.Told.{events_said, saying};
@@ -14,37 +14,30 @@ use script_text::Detail;
 use std::alloc::Global;
 use world_settle::{Event, Happened, World};
 
-/// What happened last, and what its event was told.
-#[derive(Drop)]
-pub struct LastHappened {
-    pub detail: Detail,
-    pub happened: Happened,
-}
-
-// Delivers what is in hand, and what that writes, until nothing is written.
-fn follow(alloc: Global, world: &mut World, begun: Happened) -> Result<LastHappened, NoMemory>
-    requires { IsInHand world.now begun.packet }
-    ensures run { IfOk result (λ last. Delivers world.old begun.packet (Some (Detail.Nothing, begun)) (Some (last.detail, last.happened)) world.new) }
-    ensures early { OnErr result (DoesFirst world.old (IsRun world.old begun.packet) world.new) }
+// Delivers what is in hand, and what that writes, until nothing is written. What happened first, and what its event was told,
+// become what happened last.
+fn follow(
+    alloc: Global,
+    world: &mut World,
+    detail: &mut Detail,
+    happened: &mut Happened,
+) -> Result<(), NoMemory>
+    requires { IsInHand world.old happened.old.packet }
+    ensures run { OnOk result (Delivers world.old happened.old.packet (Some (detail.old, happened.old)) (Some (detail.new, happened.new)) world.new) }
+    ensures early { OnErr result (DoesFirst world.old (IsRun world.old happened.old.packet) world.new) }
 {
-    let mut next = begun.packet;
-    let mut last = LastHappened {
-        detail: Detail::Nothing,
-        happened: begun,
-    };
+    let mut next = happened.packet;
     while let Some(number) = next {
         match step(alloc, world, Event::Deliver(number))? {
-            Ok(happened) => {
-                next = happened.packet;
-                last = LastHappened {
-                    detail: Detail::Packet(number),
-                    happened,
-                };
+            Ok(came) => {
+                next = came.packet;
+                *detail = Detail::Packet(number);
+                *happened = came;
             }
             Err(_) => next = None,
         }
     }
-    Ok(last)
+    Ok(())
 }
 
 /// A request comes from outside, and what is written of it is delivered until nothing is. Only what happened last is
@@ -59,9 +52,10 @@ pub fn ask(
     ensures early { OnErr result (DoesFirst world.old (IsAsking world.old service request) world.new) }
 {
     match step(alloc, world, Event::Begin { service, request })? {
-        Ok(begun) => {
-            let last = follow(alloc, world, begun)?;
-            let text = tell(alloc, world, &last.detail, &last.happened)?;
+        Ok(mut happened) => {
+            let mut detail = Detail::Nothing;
+            follow(alloc, world, &mut detail, &mut happened)?;
+            let text = tell(alloc, world, &detail, &happened)?;
             Ok(Ok(Said::printed(text)))
         }
         Err(fault) => Ok(Err(fault)),

@@ -31,7 +31,7 @@ fn counted(services: &[Service])
     ensures { All (λ (s : Kept). length s.journal < 2 ^ 64) services.now }
 {
     for service in services {
-        let _rows = service.journal().len();
+        let _journal = service.journal();
     }
 }
 

@@ -7,8 +7,9 @@ use Rattle.script_run.proofs.telling.counted.Goals as goal
 pub loop-service-preserved : goal.loop-service-preserved
 loop-service-preserved c =
     let P : Kept → Type 0 = λ s. length s.journal < 2 ^ 64 in
-    let size = ap length c.journal.ensures.rows in
-    let few : P c.service-item.result = omega (arith, c.len-rows.ensures, size) in
+    let size = ap length c.journal-journal.ensures.rows in
+    let counted = c.journal-journal.result.now.few in
+    let few : P c.service-item.result = omega (arith, counted, size) in
     All-more P c.args.services.now c.loop-service.service-index c.service-item.result c.loop-service-test.true c.loop-service.invariant (subst P c.service-item.is few)
 
 pub returns : goal.returns
