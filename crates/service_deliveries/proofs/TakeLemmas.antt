@@ -20,11 +20,11 @@ use Rattle.service_events.specs.Messages.{acked_again, at_version, created_entry
 use Rattle.service_events.specs.declared.answers.Taken.{Taken}
 use Rattle.service_events.specs.declared.refusals.TakeRefused.{TakeRefused}
 use Rattle.service_events.specs.declared.refusals.TakeRefused.TheVariants.{Full, NotYet, Denied}
-use Rattle.service_entry_laws.proofs.EntryLemmas.{found_by_call}
-use Rattle.service_entry_laws.proofs.FreshLemmas.{unfound, below_next}
-use Rattle.service_entry_laws.proofs.PartLemmas.{logged}
-use Rattle.service_entry_laws.proofs.ReplyLemmas.{above_all}
-use Rattle.service_entry_laws.proofs.SearchLemmas.{some_and}
+use Rattle.service_events.proofs.EntryLemmas.{found_by_call}
+use Rattle.service_events.proofs.FreshLemmas.{unfound, below_next}
+use Rattle.service_events.proofs.PartLemmas.{logged}
+use Rattle.service_events.proofs.ReplyLemmas.{above_all}
+use Rattle.service_events.proofs.SearchLemmas.{some_and}
 use Rattle.service_laws.proofs.FitLaws.{take_fits}
 use Rattle.service_laws.proofs.MessageAges.{take_ages}
 use Rattle.service_laws.proofs.MessageBounds.{take_bounded}

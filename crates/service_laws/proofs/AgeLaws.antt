@@ -40,14 +40,14 @@ use Rattle.service_events.specs.Steps.{sent_rows, answer_rows, new_record, Stale
 use Rattle.service_events.specs.declared.answers.Arrived.{Arrived}
 use Rattle.service_events.specs.declared.refusals.ArriveRefused.{ArriveRefused}
 use Rattle.service_events.specs.declared.refusals.ArriveRefused.TheVariants.{NotYet}
-use Rattle.service_entry_laws.proofs.FreshLemmas.{below_next}
-use Rattle.service_entry_laws.proofs.LiveLaws.{call_keeps}
-use Rattle.service_entry_laws.proofs.PartLemmas.{logged}
-use Rattle.service_call_laws.proofs.CallLaws.{IsFew}
-use Rattle.service_call_laws.proofs.FlightLaws.{sends_change}
-use Rattle.service_call_laws.proofs.KindLemmas.{sends_deleted, sends_settled}
-use Rattle.service_call_laws.proofs.RegisterLemmas.{flip_false}
-use Rattle.service_call_laws.proofs.RowLemmas.{Each, each_append, each_weaker, each_of_all, all_of_each, IsSending}
+use Rattle.service_events.proofs.FreshLemmas.{below_next}
+use Rattle.service_events.proofs.LiveEntryLaws.{call_keeps}
+use Rattle.service_events.proofs.PartLemmas.{logged}
+use Rattle.service_events.proofs.CallLaws.{IsFew}
+use Rattle.service_events.proofs.FlightLaws.{sends_change}
+use Rattle.service_events.proofs.KindLemmas.{sends_deleted, sends_settled}
+use Rattle.service_events.proofs.RegisterLemmas.{flip_false}
+use Rattle.service_events.proofs.CallRowLemmas.{Each, each_append, each_weaker, each_of_all, all_of_each, IsSending}
 use Rattle.service_laws.proofs.AgeLemmas.{Ages, ages, ages_stay, ages_noted, ages_then, ages_same, KeepsAge, calls_aged, IsAged, IsMarked, IsUnmarked, MarksNone, all_unmarked, unmarked, unmarked-append, replies_stay, reply_marked, none_any, last_here}
 use Rattle.service_laws.proofs.FitLaws.{arrive_fits, call_answered_fits, call_failed_fits, abandon_fits, step_fits}
 

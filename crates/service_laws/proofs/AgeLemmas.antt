@@ -20,9 +20,9 @@ use Rattle.service_events.specs.Ages.{IsLastAt, sends, marks_reply}
 use Rattle.service_events.specs.Calls.{after_row, after_rows, put_sent, first_sent, seen_answer}
 use Rattle.service_events.specs.Fits.{EachAfter, FitsSent, SendsOn, sent_by}
 use Rattle.service_events.specs.State.{Kept}
-use Rattle.service_call_laws.proofs.RegisterLemmas.{flip_false}
-use Rattle.service_call_laws.proofs.RowLemmas.{Each, EachAfter-behind, each_append, each_weaker}
-use Rattle.service_call_laws.proofs.SentLemmas.{fits_row}
+use Rattle.service_events.proofs.RegisterLemmas.{flip_false}
+use Rattle.service_events.proofs.CallRowLemmas.{Each, EachAfter-behind, each_append, each_weaker}
+use Rattle.service_events.proofs.SentLemmas.{fits_row}
 
 -- ---- the last row of a kind
 

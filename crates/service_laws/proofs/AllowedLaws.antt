@@ -64,12 +64,12 @@ use Rattle.service_events.specs.declared.refusals.OrderRefused.{OrderRefused}
 use Rattle.service_events.specs.declared.refusals.OrderRefused.TheVariants.{Full}
 use Rattle.service_events.specs.declared.refusals.PostRefused.TheVariants.{Foreign}
 use Rattle.service_events.specs.declared.refusals.TakeRefused.TheVariants.{NotYet}
-use Rattle.service_entry_laws.proofs.KnownLaws.{known_as_told, subject_as_told}
-use Rattle.service_entry_laws.proofs.SearchLemmas.{neither}
-use Rattle.service_call_laws.proofs.FlightLaws.{sends_change}
-use Rattle.service_call_laws.proofs.KindLemmas.{sends_deleted, sends_settled}
-use Rattle.service_call_laws.proofs.OrderLaws.{same_journal}
-use Rattle.service_call_laws.proofs.RowLemmas.{Each, EachAfter-append, each_append, each_weaker, IsSending, kind_follows}
+use Rattle.service_events.proofs.KnownLaws.{known_as_told, subject_as_told}
+use Rattle.service_events.proofs.SearchLemmas.{neither}
+use Rattle.service_events.proofs.FlightLaws.{sends_change}
+use Rattle.service_events.proofs.KindLemmas.{sends_deleted, sends_settled}
+use Rattle.service_events.proofs.OrderLaws.{same_journal}
+use Rattle.service_events.proofs.CallRowLemmas.{Each, EachAfter-append, each_append, each_weaker, IsSending, kind_follows}
 
 -- ---- rows of which no rule is asked
 

@@ -7,9 +7,9 @@ use Rattle.local_repair.specs.Steps.{calls_of_made, StandOnce, AreApart}
 use Rattle.call_registers.specs.Registers.{IsNumbered}
 use Rattle.call_registers.specs.declared.register.Register.{Register}
 use Rattle.service_events.specs.Fits.{NumberedCalls, FitsPlaces, WantsItsCalls, calls_of_entry, count, times_held, wanted_call}
-use Rattle.service_call_laws.proofs.RowLemmas.{Each, each_of_all, each_front, all_of_each}
-use Rattle.service_call_laws.proofs.PlaceLemmas.{lengths, times_held-append}
-use Rattle.service_call_laws.proofs.EntryPlaces.{Stands}
+use Rattle.service_events.proofs.CallRowLemmas.{Each, each_of_all, each_front, all_of_each}
+use Rattle.service_events.proofs.PlaceLemmas.{lengths, times_held-append}
+use Rattle.service_events.proofs.EntryPlaces.{Stands}
 use Rattle.service_laws.proofs.SettledLaws.{counted, once_each, one_most, wanted_within}
 
 -- what stands in an entry stands in no other one

@@ -30,8 +30,8 @@ use Rattle.service_events.specs.Arriving.{new_flight, admitted, arrives, known_b
 use Rattle.service_events.specs.declared.answers.Arrived.{Arrived}
 use Rattle.service_events.specs.declared.refusals.ArriveRefused.{ArriveRefused}
 use Rattle.service_events.specs.declared.refusals.ArriveRefused.TheVariants.{NotYet}
-use Rattle.service_entry_laws.proofs.LiveLaws.{call_keeps}
-use Rattle.service_entry_laws.proofs.SearchLemmas.{splits}
+use Rattle.service_events.proofs.LiveEntryLaws.{call_keeps}
+use Rattle.service_events.proofs.SearchLemmas.{splits}
 
 -- so many entries and flights at most
 abbrev pub IsBounded : Kept → Type 0

@@ -33,9 +33,9 @@ use Rattle.service_events.specs.Flying.{flight_run, surplus_rows, took_rows, bef
 use Rattle.service_events.specs.RunsOn.{Ends, TakesUnsent, Completes, Changes, Moves, GoesOn, GoesOnTo, Begins}
 use Rattle.service_events.specs.declared.answers.Arrived.{Arrived}
 use Rattle.service_events.specs.declared.answers.Arrived.TheVariants.{Done as Committed, Call as Sends, Known}
-use Rattle.service_entry_laws.proofs.AloftLemmas.{AnyNumber, answer_number, IsNot, named_is, named_became, put_deleted, changed_became, untold_became}
-use Rattle.service_entry_laws.proofs.OwnLemmas.{numbered_changed}
-use Rattle.service_call_laws.proofs.RowLemmas.{Each, each_append}
+use Rattle.service_events.proofs.AloftLemmas.{AnyNumber, answer_number, IsNot, named_is, named_became, put_deleted, changed_became, untold_became}
+use Rattle.service_events.proofs.OwnLemmas.{numbered_changed}
+use Rattle.service_events.proofs.CallRowLemmas.{Each, each_append}
 
 -- ---- changes that tell of no cause
 

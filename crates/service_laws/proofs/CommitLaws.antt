@@ -1,7 +1,7 @@
 -- What a live request is committed with: what its run on the rows at the end of the log did, and an entry that isn't stale.
-use Rattle.service_call_laws.proofs.KindLemmas.{sends_deleted}
-use Rattle.service_call_laws.proofs.LiveRows.{IsSilent, live-append, live_same, silent_none, sending_silent, took_silent, got_behind}
-use Rattle.service_call_laws.proofs.RowLemmas.{Each, each_append, each_weaker, fold_same, word_same, IsSending}
+use Rattle.service_events.proofs.KindLemmas.{sends_deleted}
+use Rattle.service_events.proofs.LiveRows.{IsSilent, live-append, live_same, silent_none, sending_silent, took_silent, got_behind}
+use Rattle.service_events.proofs.CallRowLemmas.{Each, each_append, each_weaker, fold_same, word_same, IsSending}
 use Rattle.journal_rows.specs.declared.caller.AckHow.TheVariants.{WithAnswer}
 use Rattle.journal_rows.specs.declared.callee.AskedRow.{AskedRow}
 use Rattle.journal_rows.specs.declared.row.Row.TheVariants.{Asked, Answered, Sent, SawAck, SawAnswer}
@@ -39,16 +39,16 @@ use Rattle.service_events.specs.Commits.{live_rows, live_answer_of, IsInFlight, 
 use Rattle.service_events.specs.Fits.{Fits}
 use Rattle.service_events.specs.Flying.{flight_run, awaited, before_answer, live_answer, committed_entry, committed, with_slot, with_change, change_rows, waits, call_or_none, named_unsent, changed_unsent, completing, completed, changed, moved, goes_on, surplus_rows, took_rows, answer_index}
 use Rattle.service_events.specs.declared.answers.Arrived.{Arrived}
-use Rattle.service_entry_laws.proofs.AloftLemmas.{IsAloft, aloft_by}
-use Rattle.service_entry_laws.proofs.FreshLemmas.{unmade}
-use Rattle.service_entry_laws.proofs.GrowthLemmas.{follows_none, few_calls}
-use Rattle.service_entry_laws.proofs.LiveRuns.{runs_of, answers_given, grows, changed_aloft, Completes, name_completes, change_completes}
-use Rattle.service_entry_laws.proofs.PartLemmas.{logged}
-use Rattle.service_call_laws.proofs.CallLaws.{FitsCalls, calls_of_fits, IsFew, Goes, goes_same, goes_then, goes_longer}
-use Rattle.service_call_laws.proofs.CurrentLaws.{committed_current, committed_ran}
-use Rattle.service_call_laws.proofs.FlightLaws.{flying, goes_untold, sends_change}
-use Rattle.service_call_laws.proofs.GoingLaws.{is_other, goes_named_unsent, goes_changed_unsent, goes_on_goes}
-use Rattle.service_call_laws.proofs.LiveLaws.{begins, has_entry, outside_apart, flies_known, answered_by, heard_goes}
+use Rattle.service_events.proofs.AloftLemmas.{IsAloft, aloft_by}
+use Rattle.service_events.proofs.FreshLemmas.{unmade}
+use Rattle.service_events.proofs.GrowthLemmas.{follows_none, few_calls}
+use Rattle.service_events.proofs.LiveRuns.{runs_of, answers_given, grows, changed_aloft, Completes, name_completes, change_completes}
+use Rattle.service_events.proofs.PartLemmas.{logged}
+use Rattle.service_events.proofs.CallLaws.{FitsCalls, calls_of_fits, IsFew, Goes, goes_same, goes_then, goes_longer}
+use Rattle.service_events.proofs.CurrentLaws.{committed_current, committed_ran}
+use Rattle.service_events.proofs.FlightLaws.{flying, goes_untold, sends_change}
+use Rattle.service_events.proofs.GoingLaws.{is_other, goes_named_unsent, goes_changed_unsent, goes_on_goes}
+use Rattle.service_events.proofs.LiveCallLaws.{begins, has_entry, outside_apart, flies_known, answered_by, heard_goes}
 
 -- ---- rows that commit nothing and ask of no entry
 

@@ -15,7 +15,7 @@ use Rattle.service_events.specs.Fits.{Fits}
 use Rattle.service_events.specs.declared.answers.Arrived.{Arrived}
 use Rattle.service_events.specs.declared.refusals.ArriveRefused.{ArriveRefused}
 use Rattle.service_events.specs.declared.refusals.CallRefused.{CallRefused}
-use Rattle.service_call_laws.proofs.CallLaws.{IsFew}
+use Rattle.service_events.proofs.CallLaws.{IsFew}
 use Rattle.service_laws.proofs.CommitLaws.{arrive_commits, call_answered_commits, call_failed_commits}
 use Rattle.service_laws.proofs.UntoldLaws.{TellsNone, same_tells_none}
 

@@ -15,10 +15,10 @@ use Rattle.service_events.specs.Messages.{take_event, take_answer_event, posted_
 use Rattle.service_events.specs.Orders.{order_event}
 use Rattle.service_events.specs.declared.answers.PostReply.{PostReply}
 use Rattle.service_events.specs.Fits.{Fits}
-use Rattle.service_entry_laws.proofs.LiveEvents.{arrive_keeps_taken, arrive_keeps_asked, arrive_keeps_runs, arrive_keeps_answered, arrive_keeps_replies, call_answered_keeps_taken, call_answered_keeps_asked, call_answered_keeps_runs, call_answered_keeps_answered, call_answered_keeps_replies, call_failed_keeps_taken, call_failed_keeps_asked, call_failed_keeps_runs, call_failed_keeps_answered, call_failed_keeps_replies, abandon_keeps_taken, abandon_keeps_asked, abandon_keeps_runs, abandon_keeps_answered, abandon_keeps_replies}
-use Rattle.service_entry_laws.proofs.RepairEvents.{step_keeps_taken, step_keeps_asked, step_keeps_runs, step_keeps_answered, step_keeps_replies, take_keeps_taken, take_keeps_asked, take_keeps_runs, take_keeps_answered, take_keeps_replies, take_answer_keeps_taken, take_answer_keeps_asked, take_answer_keeps_runs, take_answer_keeps_answered, take_answer_keeps_replies, posted_keeps_taken, posted_keeps_asked, posted_keeps_runs, posted_keeps_answered, posted_keeps_replies, order_keeps_taken, order_keeps_asked, order_keeps_runs, order_keeps_answered, order_keeps_replies}
-use Rattle.service_call_laws.proofs.CallLaws.{IsFew}
-use Rattle.service_call_laws.proofs.EventLaws.{arrive_keeps, call_answered_keeps, call_failed_keeps, abandon_keeps, step_keeps, take_keeps, take_answer_keeps, posted_keeps, order_keeps}
+use Rattle.service_events.proofs.LiveEvents.{arrive_keeps_taken, arrive_keeps_asked, arrive_keeps_runs, arrive_keeps_answered, arrive_keeps_replies, call_answered_keeps_taken, call_answered_keeps_asked, call_answered_keeps_runs, call_answered_keeps_answered, call_answered_keeps_replies, call_failed_keeps_taken, call_failed_keeps_asked, call_failed_keeps_runs, call_failed_keeps_answered, call_failed_keeps_replies, abandon_keeps_taken, abandon_keeps_asked, abandon_keeps_runs, abandon_keeps_answered, abandon_keeps_replies}
+use Rattle.service_events.proofs.RepairEvents.{step_keeps_taken, step_keeps_asked, step_keeps_runs, step_keeps_answered, step_keeps_replies, take_keeps_taken, take_keeps_asked, take_keeps_runs, take_keeps_answered, take_keeps_replies, take_answer_keeps_taken, take_answer_keeps_asked, take_answer_keeps_runs, take_answer_keeps_answered, take_answer_keeps_replies, posted_keeps_taken, posted_keeps_asked, posted_keeps_runs, posted_keeps_answered, posted_keeps_replies, order_keeps_taken, order_keeps_asked, order_keeps_runs, order_keeps_answered, order_keeps_replies}
+use Rattle.service_events.proofs.CallLaws.{IsFew}
+use Rattle.service_events.proofs.EventLaws.{arrive_keeps, call_answered_keeps, call_failed_keeps, abandon_keeps, step_keeps, take_keeps, take_answer_keeps, posted_keeps, order_keeps}
 
 -- an arrival
 pub arrive_fits : (s : Kept) (o : Origin) (q : Request) (i : Inputs) → Fits s → IsFew (arrive_event s o q i).service → Fits (arrive_event s o q i).service

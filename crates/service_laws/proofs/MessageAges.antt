@@ -37,12 +37,12 @@ use Rattle.service_events.specs.declared.refusals.AnswerRefused.TheVariants.{Unk
 use Rattle.service_events.specs.declared.refusals.OrderRefused.{OrderRefused}
 use Rattle.service_events.specs.declared.refusals.PostRefused.TheVariants.{Foreign}
 use Rattle.service_events.specs.declared.refusals.TakeRefused.TheVariants.{NotYet}
-use Rattle.service_entry_laws.proofs.AskedLemmas.{take_either, hear_either}
-use Rattle.service_entry_laws.proofs.PostedLaw.{IsOfEntry}
-use Rattle.service_entry_laws.proofs.SearchLemmas.{some_or_none, splits, text_is}
-use Rattle.service_call_laws.proofs.CallLaws.{IsFew}
-use Rattle.service_call_laws.proofs.FlightLemmas.{each_found}
-use Rattle.service_call_laws.proofs.RowLemmas.{Each, each_append, each_weaker}
+use Rattle.service_events.proofs.AskedLemmas.{take_either, hear_either}
+use Rattle.service_events.proofs.PostedLaw.{IsOfEntry}
+use Rattle.service_events.proofs.SearchLemmas.{some_or_none, splits, text_is}
+use Rattle.service_events.proofs.CallLaws.{IsFew}
+use Rattle.service_events.proofs.FlightLemmas.{each_found}
+use Rattle.service_events.proofs.CallRowLemmas.{Each, each_append, each_weaker}
 use Rattle.service_laws.proofs.AgeLaws.{AgesOf, AllMarked, keeps_ages, IsStep, step_noted, step_marked}
 use Rattle.service_laws.proofs.AgeLemmas.{Ages, ages_stay, ages_noted, ages_then, ages_same, KeepsAge, IsMarked, IsUnmarked, MarksNone, unmarked, unmarked-append, replies_stay, reply_marked, replies_kept, none_any, last_here}
 use Rattle.service_laws.proofs.FitLaws.{take_fits, take_answer_fits, posted_fits, order_fits}

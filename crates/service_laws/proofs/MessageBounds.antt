@@ -25,8 +25,8 @@ use Rattle.service_events.specs.declared.answers.Posted.TheVariants.{Held, Left}
 use Rattle.service_events.specs.declared.refusals.AnswerRefused.TheVariants.{Unknown}
 use Rattle.service_events.specs.declared.refusals.PostRefused.TheVariants.{Foreign}
 use Rattle.service_events.specs.declared.refusals.TakeRefused.TheVariants.{NotYet}
-use Rattle.service_entry_laws.proofs.AskedLemmas.{take_either, hear_either}
-use Rattle.service_entry_laws.proofs.SearchLemmas.{length_insert}
+use Rattle.service_events.proofs.AskedLemmas.{take_either, hear_either}
+use Rattle.service_events.proofs.SearchLemmas.{length_insert}
 use Rattle.service_laws.proofs.BoundLaws.{IsBounded, uncrowded}
 
 -- ---- a version of a call

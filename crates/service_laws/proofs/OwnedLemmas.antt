@@ -11,11 +11,11 @@ use Rattle.call_registers.specs.Replies.{reply, IsBelowAll, IsRising}
 use Rattle.call_registers.specs.declared.reply.Reply.{Reply}
 use Rattle.service_events.specs.Fits.{Fits, HasReply, IsReply}
 use Rattle.service_events.specs.State.{Kept}
-use Rattle.service_call_laws.proofs.RowLemmas.{Each, each_weaker}
-use Rattle.service_entry_laws.proofs.LogLemmas.{call_is, itself, found_call}
-use Rattle.service_entry_laws.proofs.PartLemmas.{logged}
-use Rattle.service_entry_laws.proofs.PostedLaw.{IsOfEntry, of_entry}
-use Rattle.service_entry_laws.proofs.SearchLemmas.{text_is, some_none, splits, found_all}
+use Rattle.service_events.proofs.CallRowLemmas.{Each, each_weaker}
+use Rattle.service_events.proofs.LogLemmas.{call_is, itself, found_call}
+use Rattle.service_events.proofs.PartLemmas.{logged}
+use Rattle.service_events.proofs.PostedLaw.{IsOfEntry, of_entry}
+use Rattle.service_events.proofs.SearchLemmas.{text_is, some_none, splits, found_all}
 use Rattle.service_laws.proofs.AgeLemmas.{each_both}
 
 -- ---- the reply of a number

@@ -10,7 +10,7 @@ use Rattle.service_events.specs.Fits.{Fits}
 use Rattle.service_events.specs.Flying.{awaited}
 use Rattle.service_events.specs.Posts.{Aged, aged_call, aged_reply, is_unacknowledged, is_owed, outstanding}
 use Rattle.service_events.specs.State.{Kept}
-use Rattle.service_call_laws.proofs.RowLemmas.{Each, each_of_all, all_of_each}
+use Rattle.service_events.proofs.CallRowLemmas.{Each, each_of_all, all_of_each}
 use Rattle.service_laws.proofs.AgeLaws.{AgesOf}
 use Rattle.service_laws.proofs.AgeLemmas.{IsAged, IsMarked, each_both}
 use Rattle.service_laws.proofs.OwnedLemmas.{found_itself}

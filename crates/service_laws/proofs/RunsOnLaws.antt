@@ -47,12 +47,12 @@ use Rattle.service_events.specs.declared.refusals.ArriveRefused.{ArriveRefused}
 use Rattle.service_events.specs.declared.refusals.ArriveRefused.TheVariants.{NotYet}
 use Rattle.service_events.specs.declared.refusals.CallRefused.{CallRefused}
 use Rattle.service_events.specs.declared.refusals.CallRefused.TheVariants.{NoFlight}
-use Rattle.service_entry_laws.proofs.AloftLemmas.{IsAloft, acked_aloft, aloft_of, answered_aloft, told_aloft}
-use Rattle.service_entry_laws.proofs.GrowthLemmas.{follows_none, few_calls}
-use Rattle.service_entry_laws.proofs.LiveRuns as live
-use Rattle.service_entry_laws.proofs.LiveRuns.{runs_of, answers_given, grows, changed_aloft, name_completes, change_completes}
-use Rattle.service_call_laws.proofs.CallLaws.{calls_of_fits}
-use Rattle.service_call_laws.proofs.GoingLaws.{is_other}
+use Rattle.service_events.proofs.AloftLemmas.{IsAloft, acked_aloft, aloft_of, answered_aloft, told_aloft}
+use Rattle.service_events.proofs.GrowthLemmas.{follows_none, few_calls}
+use Rattle.service_events.proofs.LiveRuns as live
+use Rattle.service_events.proofs.LiveRuns.{runs_of, answers_given, grows, changed_aloft, name_completes, change_completes}
+use Rattle.service_events.proofs.CallLaws.{calls_of_fits}
+use Rattle.service_events.proofs.GoingLaws.{is_other}
 use Rattle.service_laws.proofs.CommitLaws.{with_call}
 use Rattle.service_events.specs.RunsOn.{Ends, TakesUnsent, Completes, Changes, Moves, GoesOn, GoesOnTo, Begins, TakesAnswer, RunsThrough, RunsAgain, IsRecord, StepsBy, IsStep}
 

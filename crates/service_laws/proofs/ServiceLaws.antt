@@ -5,7 +5,7 @@ use Rattle.service_events.specs.State.{Kept, After, after}
 use Rattle.service_events.specs.Allowed.{IsAllowed}
 use Rattle.service_events.specs.Doing.{Does}
 use Rattle.service_events.specs.Fits.{Fits}
-use Rattle.service_call_laws.proofs.CallLaws.{IsFew}
+use Rattle.service_events.proofs.CallLaws.{IsFew}
 use Rattle.service_laws.proofs.AgeLaws.{AgesOf}
 use Rattle.service_laws.proofs.BoundLaws.{IsBounded}
 use Rattle.service_parts.specs.Parts.{kept}

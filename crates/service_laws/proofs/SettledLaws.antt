@@ -19,11 +19,11 @@ use Rattle.call_registers.specs.Registers.{IsNumbered, register, next_number, co
 use Rattle.call_registers.specs.declared.register.Register.{Register}
 use Rattle.service_events.specs.Calls.{first_sent, put_sent, seen_answer, after_row, after_rows, keeps_number, next_after, settling_rows, settling_numbers}
 use Rattle.service_events.specs.Fits.{NumberedCalls, WantsItsCalls, calls_of_entry, count, wanted_call, call_in}
-use Rattle.service_call_laws.proofs.RowLemmas.{Each, each_of_all, all_of_each, each_weaker, IsPlain}
-use Rattle.service_call_laws.proofs.RegisterLemmas.{found_within, length-change}
-use Rattle.service_call_laws.proofs.PlaceLemmas.{one_if, lengths, not_counted, place}
-use Rattle.service_call_laws.proofs.FittingLemmas.{Book, entered, entered-append, HasRoom, room_first, Fitting, plain_rows, answered}
-use Rattle.service_call_laws.proofs.SettleLemmas.{Settled, settle_all, same_versions}
+use Rattle.service_events.proofs.CallRowLemmas.{Each, each_of_all, all_of_each, each_weaker, IsPlain}
+use Rattle.service_events.proofs.RegisterLemmas.{found_within, length-change}
+use Rattle.service_events.proofs.PlaceLemmas.{one_if, lengths, not_counted, place}
+use Rattle.service_events.proofs.FittingLemmas.{Book, entered, entered-append, HasRoom, room_first, Fitting, plain_rows, answered}
+use Rattle.service_events.proofs.SettleLemmas.{Settled, settle_all, same_versions}
 
 -- ---- numbers and how often they stand
 

@@ -35,11 +35,11 @@ use Rattle.service_events.specs.declared.refusals.AnswerRefused.TheVariants.{Unk
 use Rattle.service_events.specs.declared.refusals.OrderRefused.{OrderRefused}
 use Rattle.service_events.specs.declared.refusals.PostRefused.TheVariants.{Foreign}
 use Rattle.service_events.specs.declared.refusals.TakeRefused.TheVariants.{NotYet}
-use Rattle.service_entry_laws.proofs.AskedLemmas.{take_either, hear_either}
-use Rattle.service_call_laws.proofs.RowLemmas.{Each, each_append, each_weaker, IsSending}
-use Rattle.service_call_laws.proofs.KindLemmas.{sends_deleted, sends_settled}
-use Rattle.service_call_laws.proofs.LiveRows.{IsSilent, live_same, sending_silent}
-use Rattle.service_call_laws.proofs.OrderLaws.{same_journal}
+use Rattle.service_events.proofs.AskedLemmas.{take_either, hear_either}
+use Rattle.service_events.proofs.CallRowLemmas.{Each, each_append, each_weaker, IsSending}
+use Rattle.service_events.proofs.KindLemmas.{sends_deleted, sends_settled}
+use Rattle.service_events.proofs.LiveRows.{IsSilent, live_same, sending_silent}
+use Rattle.service_events.proofs.OrderLaws.{same_journal}
 
 -- the same live requests are answered
 abbrev pub AnswersNone : {A : Type 0} → Kept → After A → Type 0

@@ -7,7 +7,7 @@ use Rattle.local_repair.specs.Current.{Consumed, after_entry, rows_after, IsCurr
 use Rattle.local_repair.specs.Tests.{is_current}
 use Rattle.local_repair.proofs.TestLemmas.{is_current-true, is_current-from, is_current-false}
 use Rattle.service_events.specs.Steps.{Stale, stale_in}
-use Rattle.service_entry_laws.proofs.SearchLemmas.{some_none}
+use Rattle.service_events.proofs.SearchLemmas.{some_none}
 
 -- where the walk finds none, all are current
 pub all_current : (consumed : Consumed) (rows : List Cell) (es : List Entry) → stale_in consumed rows es ≡ None → AllCurrent consumed rows es

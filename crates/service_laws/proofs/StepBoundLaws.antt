@@ -17,7 +17,7 @@ use Rattle.service_events.specs.Orders.{carried_out, is_too_much, makes_entry, m
 use Rattle.service_events.specs.Steps.{new_record, new_numbers, Stale, stale_in, step_by, step_event}
 use Rattle.service_events.specs.declared.refusals.OrderRefused.{OrderRefused}
 use Rattle.service_events.specs.declared.refusals.OrderRefused.TheVariants.{Full}
-use Rattle.service_entry_laws.proofs.SearchLemmas.{neither, length_insert}
+use Rattle.service_events.proofs.SearchLemmas.{neither, length_insert}
 
 -- ---- a step
 

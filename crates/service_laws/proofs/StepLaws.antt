@@ -25,11 +25,11 @@ use Rattle.service_events.specs.State.{Kept, answers, base}
 use Rattle.service_events.specs.Fits.{Fits, FitsPlaces, calls_of_entry, calls_of_flight}
 use Rattle.service_events.specs.Progress.{gives_numbers, changes, raised_at, Counts, GoesFurther}
 use Rattle.service_events.specs.Steps.{new_record, new_numbers, sent_rows, answer_rows, Stale, stale_in, step_by, step_event}
-use Rattle.service_entry_laws.proofs.StepForms.{run_again, step_entries}
-use Rattle.service_call_laws.proofs.RowLemmas.{Each, IsPlain}
-use Rattle.service_call_laws.proofs.FittingLemmas.{HasRoom, Fitting}
-use Rattle.service_call_laws.proofs.CallLaws.{IsFew, book}
-use Rattle.service_call_laws.proofs.EntryPlaces.{Stands, others, entry_to_head}
+use Rattle.service_events.proofs.StepForms.{run_again, step_entries}
+use Rattle.service_events.proofs.CallRowLemmas.{Each, IsPlain}
+use Rattle.service_events.proofs.FittingLemmas.{HasRoom, Fitting}
+use Rattle.service_events.proofs.CallLaws.{IsFew, book}
+use Rattle.service_events.proofs.EntryPlaces.{Stands, others, entry_to_head}
 use Rattle.service_laws.proofs.FitLaws.{step_fits}
 use Rattle.service_laws.proofs.TraceLaws.{new_is_rerun}
 use Rattle.service_laws.proofs.SettledLaws.{settled_is, settled_timely}

@@ -16,7 +16,7 @@ use Rattle.local_repair.proofs.CallsLemmas.{IsTurn, first_turn, turn_more, done_
 use Rattle.local_repair.proofs.HandlerLemmas.{IsSteady, handler}
 use Rattle.service_events.specs.State.{Kept, answers}
 use Rattle.service_events.specs.Steps.{new_record}
-use Rattle.service_entry_laws.proofs.StepForms.{new_trace_is}
+use Rattle.service_events.proofs.StepForms.{new_trace_is}
 
 -- a run whose calls are answered as their slots consume ended with this trace
 record Ended (run : List Response → Ran) (consumed : Consumed) (old : List CallMade) (slots : List ℕ) (t : Trace) : Type 0 where

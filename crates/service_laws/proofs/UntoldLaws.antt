@@ -37,7 +37,7 @@ use Rattle.service_events.specs.declared.refusals.AnswerRefused.TheVariants.{Unk
 use Rattle.service_events.specs.declared.refusals.OrderRefused.{OrderRefused}
 use Rattle.service_events.specs.declared.refusals.PostRefused.TheVariants.{Foreign}
 use Rattle.service_events.specs.declared.refusals.TakeRefused.TheVariants.{NotYet}
-use Rattle.service_entry_laws.proofs.AskedLemmas.{take_either, hear_either}
+use Rattle.service_events.proofs.AskedLemmas.{take_either, hear_either}
 use Rattle.service_laws.proofs.CauseLaws.{same_causes, row_tells, causes_push}
 
 -- ---- rows tell nothing of why

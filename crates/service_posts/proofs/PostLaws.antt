@@ -19,10 +19,10 @@ use Rattle.service_events.specs.Fits.{Fits, HasAnswered}
 use Rattle.service_events.specs.Flying.{awaited}
 use Rattle.service_events.specs.Posts.{is_unacknowledged, is_owed, Aged, aged_call, aged_reply, outstanding, set_message, answer_post, reply_post, where_there, write_post}
 use Rattle.service_events.specs.State.{Kept}
-use Rattle.service_entry_laws.proofs.EntryLemmas.{found_itself}
-use Rattle.service_entry_laws.proofs.PartLemmas.{logged}
-use Rattle.service_entry_laws.proofs.PostedLaw.{of_entry}
-use Rattle.service_entry_laws.proofs.SearchLemmas.{text_is, found_all, contains_here, contains_cases}
+use Rattle.service_events.proofs.EntryLemmas.{found_itself}
+use Rattle.service_events.proofs.PartLemmas.{logged}
+use Rattle.service_events.proofs.PostedLaw.{of_entry}
+use Rattle.service_events.proofs.SearchLemmas.{text_is, found_all, contains_here, contains_cases}
 use Rattle.service_laws.proofs.AgeLaws.{AgesOf}
 use Rattle.service_laws.proofs.PostAges.{posts_aged}
 use Rattle.repair_queue.specs.Queue.{IsOldest}

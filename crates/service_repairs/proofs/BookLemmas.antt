@@ -9,8 +9,8 @@ use Rattle.call_registers.specs.Registers.{IsTimely}
 use Rattle.call_registers.specs.Replies.{has_entry, reply, at_entry}
 use Rattle.call_registers.specs.declared.reply.Reply.{Reply}
 use Rattle.service_events.specs.Fits.{calls_of_entry}
-use Rattle.service_call_laws.proofs.RowLemmas.{Each, IsPlain}
-use Rattle.service_call_laws.proofs.FittingLemmas.{Book, HasRoom, Fitting}
+use Rattle.service_events.proofs.CallRowLemmas.{Each, IsPlain}
+use Rattle.service_events.proofs.FittingLemmas.{Book, HasRoom, Fitting}
 use Rattle.service_laws.proofs.SettledLaws.{change, settled_is, settled_timely}
 use Rattle.service_laws.proofs.StepLaws.{answer_plain}
 use Rattle.service_repairs.specs.Books.{KeptBook, answers, answer_rows, new_numbers, sent_rows, entered, settled, Settles, IsOwn}

@@ -10,7 +10,7 @@ use Rattle.service_events.specs.Fits.{Fits}
 use Rattle.service_events.specs.Progress.{Counts, GoesFurther, IsLocalStep}
 use Rattle.service_events.specs.RunsOn.{IsStep}
 use Rattle.service_events.specs.Steps.{step_event}
-use Rattle.service_call_laws.proofs.CallLaws.{IsFew}
+use Rattle.service_events.proofs.CallLaws.{IsFew}
 use Rattle.service_laws.proofs.RunsOnLaws.{step_runs_through}
 use Rattle.service_laws.proofs.SilentLaws.{step_answers_none}
 use Rattle.service_laws.proofs.StepLaws.{step_steps, step_counts, step_goes}

@@ -16,8 +16,8 @@ use Rattle.service_events.specs.Orders.{about, carried_out, order_by, order_deci
 use Rattle.service_events.specs.Steps.{step_event}
 use Rattle.service_events.specs.declared.answers.Ordered.{Ordered}
 use Rattle.service_events.specs.declared.refusals.OrderRefused.{OrderRefused}
-use Rattle.service_entry_laws.proofs.FreshLemmas.{unfound}
-use Rattle.service_entry_laws.proofs.PartLemmas.{logged}
+use Rattle.service_events.proofs.FreshLemmas.{unfound}
+use Rattle.service_events.proofs.PartLemmas.{logged}
 use Rattle.service_laws.proofs.AgeLaws.{step_ages}
 use Rattle.service_laws.proofs.AllowedLaws.{step_stays_allowed, order_stays_allowed}
 use Rattle.service_laws.proofs.FitLaws.{step_fits, order_fits}

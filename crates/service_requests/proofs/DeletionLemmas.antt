@@ -10,7 +10,7 @@ use Rattle.flights.proofs.NumberLemmas.{none_removed}
 use Rattle.service_events.specs.State.{Kept, After, after, flight_of}
 use Rattle.service_events.specs.Calls.{all_deleted, deleted, noted}
 use Rattle.service_events.specs.Arriving.{abandoned, abandon_event}
-use Rattle.service_entry_laws.proofs.SearchLemmas.{splits}
+use Rattle.service_events.proofs.SearchLemmas.{splits}
 use Rattle.service_laws.proofs.AgeLaws.{abandon_ages}
 use Rattle.service_laws.proofs.AllowedLaws.{abandon_stays_allowed}
 use Rattle.service_laws.proofs.BoundLaws.{abandon_bounded}

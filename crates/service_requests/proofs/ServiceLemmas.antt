@@ -12,12 +12,12 @@ use Rattle.service_events.specs.Allowed.{IsAllowed}
 use Rattle.service_events.specs.Fits.{Fits}
 use Rattle.service_events.specs.Flying.{goes_on}
 use Rattle.service_events.specs.declared.answers.Arrived.{Arrived}
-use Rattle.service_entry_laws.proofs.FreshLemmas.{unfound, alone, below_next, untaken_of}
-use Rattle.service_entry_laws.proofs.PartLemmas.{logged}
-use Rattle.service_entry_laws.proofs.ReplyLemmas.{above_all}
-use Rattle.service_entry_laws.proofs.SearchLemmas.{found_all}
-use Rattle.service_call_laws.proofs.CallLaws.{IsFew}
-use Rattle.service_call_laws.proofs.FlightLemmas.{flies_from, free_number}
+use Rattle.service_events.proofs.FreshLemmas.{unfound, alone, below_next, untaken_of}
+use Rattle.service_events.proofs.PartLemmas.{logged}
+use Rattle.service_events.proofs.ReplyLemmas.{above_all}
+use Rattle.service_events.proofs.SearchLemmas.{found_all}
+use Rattle.service_events.proofs.CallLaws.{IsFew}
+use Rattle.service_events.proofs.FlightLemmas.{flies_from, free_number}
 use Rattle.service_laws.proofs.AgeLaws.{AgesOf}
 use Rattle.service_laws.proofs.BoundLaws.{IsBounded}
 use Rattle.service_requests.specs.Endings.{MayEnd}

@@ -24,7 +24,7 @@ use Rattle.call_registers.specs.declared.reply.Reply.{Reply}
 use Rattle.service_events.specs.State.{Kept, me}
 use Rattle.service_events.specs.Fits.{Fits, HasAnswered as HasItsAnswer, HasReply, IsReply, answer_recorded, answer_given}
 use Rattle.service_events.specs.Calls.{seen_answer}
-use Rattle.service_entry_laws.proofs.SearchLemmas.{found_all}
+use Rattle.service_events.proofs.SearchLemmas.{found_all}
 use Rattle.world_agreement.specs.Partners.{service_of, JournalOfDest, HasAnswered, HasConfirmed, HasAcknowledged}
 use Rattle.world_agreement.specs.Quiet.{IsQuiet}
 use Rattle.world_agreement.proofs.EntryFacts.{begun, Entered, same_entry}

@@ -23,10 +23,10 @@ use Rattle.call_registers.specs.Registers.{register}
 use Rattle.call_registers.specs.declared.register.Register.{Register}
 use Rattle.service_events.specs.State.{Kept, me, answers}
 use Rattle.service_events.specs.Fits.{IsAsNow, sent_by, calls_of_entry, calls_of_flight, places, call_to, call_in, wanted_call, count, times_held}
-use Rattle.service_call_laws.proofs.PlaceLemmas.{head_of, tail_of, times_held-append}
+use Rattle.service_events.proofs.PlaceLemmas.{head_of, tail_of, times_held-append}
 use Rattle.world_agreement.specs.Partners.{service_of, JournalOf, HasSent}
 use Rattle.world_agreement.specs.Legal.{history, histories}
-use Rattle.service_entry_laws.proofs.SearchLemmas.{contains_here}
+use Rattle.service_events.proofs.SearchLemmas.{contains_here}
 use Rattle.world_agreement.proofs.ListLemmas.{some_out, all_from, any_from, contains_map}
 use Rattle.world_agreement.proofs.NameLemmas.{found_by_name, name_is, found_history, found_own}
 use Rattle.world_agreement.proofs.SentFacts.{IsSentBefore, sent_before}

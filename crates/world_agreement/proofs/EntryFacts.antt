@@ -15,9 +15,9 @@ use Rattle.journal_rows.specs.declared.callee.AskedRow.{AskedRow}
 use Rattle.journal_rows.specs.declared.callee.TookRow.{TookRow}
 use Rattle.service_events.specs.State.{Kept}
 use Rattle.service_events.specs.Fits.{Fits, IsAsNow, made_as, asked_as}
-use Rattle.service_entry_laws.proofs.SearchLemmas.{found_all}
-use Rattle.service_entry_laws.proofs.JournalLemmas.{taken_with}
-use Rattle.service_entry_laws.proofs.LogLemmas.{call_is, found_call, itself}
+use Rattle.service_events.proofs.SearchLemmas.{found_all}
+use Rattle.service_events.proofs.JournalLemmas.{taken_with}
+use Rattle.service_events.proofs.LogLemmas.{call_is, found_call, itself}
 use Rattle.world_agreement.proofs.ListLemmas.{some_of, found_passes}
 use Rattle.world_agreement.proofs.NameLemmas.{found_by_id}
 use Rattle.world_agreement.proofs.RequestFacts.{asks_taken}

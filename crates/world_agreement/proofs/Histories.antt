@@ -4,7 +4,7 @@ use Rattle.std.proofs.lemmas.List.Sums.{fold_push}
 use Rattle.std.proofs.lemmas.List.Elements.{Contains-push, Contains-push_cases, Contains-append_left}
 use Rattle.journal_rows.specs.declared.row.Row.{Row}
 use Rattle.service_events.specs.Fits.{EachAfter}
-use Rattle.service_call_laws.proofs.RowLemmas.{go_on, all_follow}
+use Rattle.service_events.proofs.CallRowLemmas.{go_on, all_follow}
 
 -- what the value of a word is taken from
 pub word_from : {S : Type 0} (step : S → Row → S) (start : S) (IsFrom : List Row → S → Type 0) → IsFrom [] start

@@ -2,7 +2,7 @@
 use Rattle.std.proofs.Common.{◌≡◌, ℕ, zero, suc, ◌<◌, Bool, true, List, [], ◌∷◌, Option, Some, None, IsSome, IsSomeAnd, All, AllPairs, Any, Contains, find, filter, map, length, get_or, option_map, inl, inr, ◌⊎◌, refl, sym, ap, subst, arith}
 use Rattle.std.proofs.lemmas.Bool.{cases_Bool}
 use Rattle.std.proofs.lemmas.List.Elements.{All-nil, All-cons, Contains-get_or, Contains-append_right}
-use Rattle.service_entry_laws.proofs.SearchLemmas.{splits, none_first, contains_here, contains_cases}
+use Rattle.service_events.proofs.SearchLemmas.{splits, none_first, contains_here, contains_cases}
 
 -- ---- what is there
 

@@ -14,7 +14,7 @@ use Rattle.journal_rows.specs.declared.row.Row.TheVariants.{Asked, Took, Acked, 
 use Rattle.journal_rows.specs.declared.words.Mark.{Mark}
 use Rattle.journal_rows.specs.declared.words.Mark.TheVariants.{Unsettled, AnsweredLive, ConfirmedAt}
 use Rattle.service_events.specs.Fits.{EachAfter, TakesOn, AnswersOn, IsFirst, IsTakenLive}
-use Rattle.service_call_laws.proofs.RowLemmas.{go_on}
+use Rattle.service_events.proofs.CallRowLemmas.{go_on}
 use Rattle.world_agreement.proofs.Histories.{word_from}
 use Rattle.world_agreement.proofs.TakenFacts.{at_call, acknowledged_stays}
 use Rattle.world_agreement.proofs.AnswerFacts.{asked_keeps}

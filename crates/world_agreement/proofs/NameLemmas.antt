@@ -8,8 +8,8 @@ use Rattle.execution.specs.Together.{history_in}
 use Rattle.request_log.specs.Entries.{has_id, has_origin, find_call, IsDistinct}
 use Rattle.request_log.specs.declared.entry.Entry.{Entry}
 use Rattle.service_events.specs.State.{Kept, me}
-use Rattle.service_entry_laws.proofs.SearchLemmas.{text_is, splits, found_behind, contains_cases}
-use Rattle.service_entry_laws.proofs.LogLemmas.{call_is, front_id}
+use Rattle.service_events.proofs.SearchLemmas.{text_is, splits, found_behind, contains_cases}
+use Rattle.service_events.proofs.LogLemmas.{call_is, front_id}
 use Rattle.world_agreement.specs.Partners.{has_name, service_of, NamesDiffer}
 use Rattle.world_agreement.specs.Legal.{history, histories}
 use Rattle.world_agreement.proofs.ListLemmas.{find_map, filter_none, found_passes}

@@ -17,11 +17,11 @@ use Rattle.call_registers.specs.declared.register.Register.{Register}
 use Rattle.call_registers.specs.declared.reply.Reply.{Reply}
 use Rattle.service_events.specs.State.{Kept, me}
 use Rattle.service_events.specs.Fits.{Fits, FitsSent, FitsSeen, FitsAsked, IsAsNow, HasAnswered, HasReply, WantsItsCalls, AreOther}
-use Rattle.service_call_laws.proofs.PurchaseExample.{shop_name, bank_name, ok, start, sent, bought, paid, made, paid_made}
+use Rattle.service_events.proofs.PurchaseExample.{shop_name, bank_name, ok, start, sent, bought, paid, made, paid_made}
 use Rattle.world_agreement.specs.Partners.{NamesDiffer, HasPartner, IsJoined}
 use Rattle.world_agreement.specs.Quiet.{IsQuiet, AreQuiet}
 use Rattle.world_agreement.specs.Legal.{history, histories, AreLegal}
-use Rattle.service_entry_laws.proofs.SearchLemmas.{contains_cases}
+use Rattle.service_events.proofs.SearchLemmas.{contains_cases}
 use Rattle.world_agreement.proofs.ListLemmas.{all_one, all_two, no_pairs, one_pair}
 use Rattle.world_agreement.proofs.LegalLaws.{legal_together}
 

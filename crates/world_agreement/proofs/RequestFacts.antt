@@ -15,7 +15,7 @@ use Rattle.journal_rows.specs.declared.orders.OrderedRow.{OrderedRow}
 use Rattle.journal_rows.specs.declared.row.Row.{Row}
 use Rattle.journal_rows.specs.declared.row.Row.TheVariants.{Asked, Took, Ordered}
 use Rattle.service_events.specs.Fits.{EachAfter, AsksOn, IsOrderOn, IsOrderAbout}
-use Rattle.service_call_laws.proofs.RowLemmas.{go_on}
+use Rattle.service_events.proofs.CallRowLemmas.{go_on}
 
 module _ (id : ℕ) (c : List ℕ) (n : ℕ) (first : Request) where
   -- if the entry was made, then for this call

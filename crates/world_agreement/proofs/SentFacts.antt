@@ -12,7 +12,7 @@ use Rattle.journal_rows.specs.declared.caller.SentRow.{SentRow}
 use Rattle.journal_rows.specs.declared.row.Row.{Row}
 use Rattle.journal_rows.specs.declared.row.Row.TheVariants.{Sent, SawAck, SawAnswer, Confirmed}
 use Rattle.service_events.specs.Fits.{EachAfter, SendsOn}
-use Rattle.service_call_laws.proofs.RowLemmas.{go_on, all_follow}
+use Rattle.service_events.proofs.CallRowLemmas.{go_on, all_follow}
 use Rattle.world_agreement.proofs.Histories.{word_from, once_come, Sets, last_from}
 
 -- ---- versions that were sent

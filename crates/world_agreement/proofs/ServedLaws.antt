@@ -11,9 +11,9 @@ use Rattle.local_repair.specs.Histories.{deed_in, act_of}
 use Rattle.local_repair.specs.Steps.{calls_of_made, answer_or_tentative}
 use Rattle.service_events.specs.State.{Kept, me, answers}
 use Rattle.service_events.specs.Fits.{Fits, calls_of_entry, calls_of_flight, places, wanted_call, WantsItsCalls}
-use Rattle.service_call_laws.proofs.FittingLemmas.{wanted_by}
-use Rattle.service_call_laws.proofs.PlaceLemmas.{head_of, tail_of}
-use Rattle.service_entry_laws.proofs.SearchLemmas.{found_all}
+use Rattle.service_events.proofs.FittingLemmas.{wanted_by}
+use Rattle.service_events.proofs.PlaceLemmas.{head_of, tail_of}
+use Rattle.service_events.proofs.SearchLemmas.{found_all}
 use Rattle.world_agreement.specs.Partners.{service_of}
 use Rattle.world_agreement.specs.Legal.{history, histories}
 use Rattle.world_agreement.proofs.ListLemmas.{some_out, all_from, contains_map, filter_map_is}

@@ -14,7 +14,7 @@ use Rattle.call_registers.specs.declared.register.Register.{Register}
 use Rattle.service_events.specs.State.{Kept, me}
 use Rattle.service_events.specs.Fits.{Fits, sent_by, HasSeen}
 use Rattle.service_events.specs.Calls.{seen_answer}
-use Rattle.service_entry_laws.proofs.SearchLemmas.{found_all}
+use Rattle.service_events.proofs.SearchLemmas.{found_all}
 use Rattle.world_agreement.specs.Partners.{has_name, service_of, NamesDiffer, JournalOf, JournalOfDest, HasSent, HasAcknowledged, HasPartner, IsJoined}
 use Rattle.world_agreement.specs.Quiet.{IsQuiet, AreQuiet}
 use Rattle.world_agreement.proofs.ListLemmas.{some_out}

@@ -11,8 +11,8 @@ use Rattle.journal_rows.specs.declared.callee.TookRow.{TookRow}
 use Rattle.journal_rows.specs.declared.row.Row.{Row}
 use Rattle.journal_rows.specs.declared.row.Row.TheVariants.{Took, Acked, Answered}
 use Rattle.service_events.specs.Fits.{EachAfter, TakesOn}
-use Rattle.service_call_laws.proofs.RowLemmas.{go_on, all_follow}
-use Rattle.service_entry_laws.proofs.SearchLemmas.{text_is}
+use Rattle.service_events.proofs.CallRowLemmas.{go_on, all_follow}
+use Rattle.service_events.proofs.SearchLemmas.{text_is}
 use Rattle.world_agreement.proofs.Histories.{once_come, Sets, last_from}
 
 -- ---- of which call a row speaks

@@ -20,8 +20,8 @@ use Rattle.journal_rows.specs.declared.caller.SentRow.{SentRow}
 use Rattle.journal_rows.specs.declared.row.Row.{Row}
 use Rattle.journal_rows.specs.declared.row.Row.TheVariants.{Asked, Took, Acked, Answered, WasConfirmed, Sent, SawAck, SawAnswer, Confirmed, Ordered}
 use Rattle.service_events.specs.State.{Kept, me}
-use Rattle.service_entry_laws.proofs.LogLemmas.{call_is, itself}
-use Rattle.service_entry_laws.proofs.SearchLemmas.{text_is}
+use Rattle.service_events.proofs.LogLemmas.{call_is, itself}
+use Rattle.service_events.proofs.SearchLemmas.{text_is}
 use Rattle.world_agreement.specs.Partners.{HasPartner, HasAcked, HasAcknowledged, HasAnswered, HasConfirmed, HasSent, JournalOf, service_of}
 use Rattle.world_audit.specs.Conditions.{sends, acknowledges, is_answer, answers, gives, confirms, acknowledges_so, has_row, callee_of, is_partnered}
 

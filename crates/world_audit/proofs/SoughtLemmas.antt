@@ -1,5 +1,5 @@
 -- A row that is sought has its key, and is found along the rows of that key.
-use Rattle.std.proofs.Common.{◌≡◌, ◌∙◌, refl, sym, ap, ℕ, Bool, true, false, ◌&&◌, ◌||◌, List, [], ◌∷◌, fold, nat_eq, take, eq-eqb, eqb-true}
+use Rattle.std.proofs.Common.{◌≡◌, refl, sym, ap, ℕ, Bool, true, false, ◌&&◌, ◌||◌, List, [], ◌∷◌, fold, nat_eq, eq-eqb, eqb-true}
 use Rattle.std.specs.List.{list_any}
 use Rattle.lang_base.proofs.EqualLemmas.{equal-true}
 use Rattle.lang_base.specs.Equal.{equal}

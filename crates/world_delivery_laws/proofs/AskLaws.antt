@@ -24,7 +24,7 @@ use Rattle.service_events.specs.declared.refusals.ArriveRefused.{ArriveRefused}
 use Rattle.service_events.specs.declared.refusals.ArriveRefused.TheVariants.{NotYet}
 use Rattle.service_events.specs.declared.refusals.CallRefused.{CallRefused}
 use Rattle.service_events.specs.declared.refusals.CallRefused.TheVariants.{NoFlight}
-use Rattle.service_call_laws.proofs.FlightLemmas.{found_id}
+use Rattle.service_events.proofs.FlightLemmas.{found_id}
 use Rattle.world_delivery_laws.proofs.GoingWeights.{goes_on_comes}
 use Rattle.world_delivery_laws.proofs.Weights.{is_among, left_by, chain_behind, cost, flight_weight, call_weight, weight_of_arrival, weight_of_return, IsLighter}
 

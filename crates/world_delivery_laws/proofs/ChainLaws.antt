@@ -33,8 +33,8 @@ use Rattle.handler_run.specs.declared.state.Flow.{Flow}
 use Rattle.handler_run.specs.declared.state.Flow.TheVariants.{GoesOn, Replied, Wants, Faulted}
 use Rattle.handler_run.specs.declared.state.State.{State}
 use Rattle.flights.specs.Moves.{calls_in}
-use Rattle.service_entry_laws.proofs.SearchLemmas.{text_is, splits}
-use Rattle.service_call_laws.proofs.RowLemmas.{Each, each_append}
+use Rattle.service_events.proofs.SearchLemmas.{text_is, splits}
+use Rattle.service_events.proofs.CallRowLemmas.{Each, each_append}
 use Rattle.world_delivery_laws.proofs.Weights.{is_among, chain_behind}
 
 -- a call that a service with these peers makes for a request: for itself, with the chain of the request and its own name behind it, to a peer that

@@ -19,7 +19,7 @@ use Rattle.service_events.specs.declared.answers.Arrived.{Arrived}
 use Rattle.service_events.specs.declared.answers.Arrived.TheVariants.{Done, Call as Sends, Known}
 use Rattle.service_events.specs.declared.refusals.ArriveRefused.{ArriveRefused}
 use Rattle.service_events.specs.declared.refusals.CallRefused.{CallRefused}
-use Rattle.service_entry_laws.proofs.SearchLemmas.{text_is, splits}
+use Rattle.service_events.proofs.SearchLemmas.{text_is, splits}
 use Rattle.world_events.specs.Events.{Served, Turn, answered_back, turn, turned, if_there, refused, sent, sent_or, reply_among, reply_to, call_arrive_served, call_answered_served, call_failed_served, delivered, call_delivered, reply_delivered, is_call_of, live_refusal, arrive_served, drawing_at, unsaid}
 use Rattle.world_events.specs.Worlds.{World, with_service, packet_of, packet_in, next_packet, next_inputs, once_drawn}
 use Rattle.world_events.specs.declared.event.Event.TheVariants.{Begin, Deliver}

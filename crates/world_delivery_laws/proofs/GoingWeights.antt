@@ -18,9 +18,9 @@ use Rattle.service_events.specs.State.{Kept, After, me, answers, without_flight,
 use Rattle.service_events.specs.Calls.{noted, named}
 use Rattle.service_events.specs.Flying.{flight_run, committed, with_slot, with_change, change_rows, waits, call_or_none, changed_unsent, completed, changed, moved, goes_on}
 use Rattle.service_events.specs.declared.answers.Arrived.{Arrived}
-use Rattle.service_call_laws.proofs.FlightLaws.{flown}
-use Rattle.service_call_laws.proofs.GoingLaws.{is_other}
-use Rattle.service_call_laws.proofs.RowLemmas.{Each, each_behind}
+use Rattle.service_events.proofs.FlightLaws.{flown}
+use Rattle.service_events.proofs.GoingLaws.{is_other}
+use Rattle.service_events.proofs.CallRowLemmas.{Each, each_behind}
 use Rattle.world_delivery_laws.proofs.LandingLaws.{Lands, lands_after, completed_lands}
 use Rattle.world_delivery_laws.proofs.ChainLaws.{IsOnward, calls_onward}
 use Rattle.world_delivery_laws.proofs.WeightLemmas.{left_less, cost_grows, cost_some, fewer_weigh, sum_between}

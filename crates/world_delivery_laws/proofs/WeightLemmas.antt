@@ -6,7 +6,7 @@ use Rattle.std.proofs.lemmas.List.Folds.{list_any-append}
 use Rattle.std.proofs.lemmas.List.Sums.{sum_by-cons, sum_by-append}
 use Rattle.std.proofs.lemmas.Slice.Eq.{bytes_eq-Decides}
 use Rattle.lang_base.specs.Texts.{same_text}
-use Rattle.service_entry_laws.proofs.SearchLemmas.{text_is}
+use Rattle.service_events.proofs.SearchLemmas.{text_is}
 use Rattle.world_delivery_laws.proofs.Weights.{is_among, left_by, cost}
 
 -- ---- names that are left

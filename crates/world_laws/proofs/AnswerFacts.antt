@@ -12,8 +12,8 @@ use Rattle.journal_rows.specs.declared.row.Row.{Row}
 use Rattle.journal_rows.specs.declared.row.Row.TheVariants.{Answered}
 use Rattle.service_events.specs.Fits.{Fits, made_as, asked_as, takes_request}
 use Rattle.service_events.specs.State.{Kept}
-use Rattle.service_entry_laws.proofs.JournalLemmas.{untaken}
-use Rattle.service_entry_laws.proofs.LogLemmas.{itself, found_call}
+use Rattle.service_events.proofs.JournalLemmas.{untaken}
+use Rattle.service_events.proofs.LogLemmas.{itself, found_call}
 use Rattle.world_agreement.proofs.AnswerFacts.{given_asked}
 
 -- an entry with this number, which comes from this call

@@ -22,7 +22,7 @@ use Rattle.call_registers.specs.declared.register.Register.{Register}
 use Rattle.service_events.specs.Fits.{EachAfter, TakesOn, AnswersOn, Fits, HasAnswered as HasItsAnswer, answer_made, answer_recorded, answer_given, sent_by, call_to, call_in, wanted_call, HasSeen}
 use Rattle.service_events.specs.State.{Kept, me}
 use Rattle.service_events.specs.Calls.{seen_answer}
-use Rattle.service_entry_laws.proofs.SearchLemmas.{found_all}
+use Rattle.service_events.proofs.SearchLemmas.{found_all}
 use Rattle.world_agreement.specs.Partners.{has_name, service_of, JournalOf, HasSent, HasAnswered, HasPartner}
 use Rattle.world_agreement.proofs.AnswerFacts.{IsGivenBefore, given_before, given_from}
 use Rattle.world_agreement.proofs.EntryFacts.{entered}

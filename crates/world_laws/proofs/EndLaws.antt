@@ -36,9 +36,9 @@ use Rattle.service_events.specs.declared.answers.Arrived.TheVariants.{Done, Call
 use Rattle.service_events.specs.declared.answers.PostReply.{PostReply}
 use Rattle.service_events.specs.declared.answers.PostReply.TheVariants.{Lost as PostIsLost}
 use Rattle.service_events.specs.declared.refusals.TakeRefused.{TakeRefused}
-use Rattle.service_entry_laws.proofs.AskedLemmas.{take_either}
-use Rattle.service_call_laws.proofs.EventLaws.{abandon_grows, order_grows, posted_grows, take_answer_grows}
-use Rattle.service_entry_laws.proofs.SearchLemmas.{found_all}
+use Rattle.service_events.proofs.AskedLemmas.{take_either}
+use Rattle.service_events.proofs.EventLaws.{abandon_grows, order_grows, posted_grows, take_answer_grows}
+use Rattle.service_events.proofs.SearchLemmas.{found_all}
 use Rattle.world_agreement.specs.Partners.{has_name, service_of, NamesDiffer}
 use Rattle.world_agreement.proofs.ListLemmas.{found_in}
 use Rattle.world_agreement.proofs.NameLemmas.{name_is}

@@ -28,13 +28,13 @@ use Rattle.service_events.specs.Calls.{first_sent, put_sent, after_row, after_ro
 use Rattle.service_events.specs.Flying.{awaited, flight_run, before_answer, live_answer, committed_entry, committed, with_slot, with_change, change_rows, waits, wanted_of, named_unsent, changed_unsent, completing, completed, changed, moved, goes_on}
 use Rattle.service_events.specs.declared.answers.Arrived.{Arrived}
 use Rattle.service_events.specs.declared.answers.Arrived.TheVariants.{Done, Call as Sends, Known}
-use Rattle.service_call_laws.proofs.RegisterLemmas.{find-change}
-use Rattle.service_call_laws.proofs.RowLemmas.{Each, each_append, each_weaker, each_of_all, all_of_each}
-use Rattle.service_entry_laws.proofs.AloftLemmas.{IsAloft, named_became, changed_became}
-use Rattle.service_entry_laws.proofs.LiveRuns.{named_aloft, changed_aloft}
-use Rattle.service_entry_laws.proofs.OwnLemmas.{AreWithin, within_more, within_push, within_set}
+use Rattle.service_events.proofs.RegisterLemmas.{find-change}
+use Rattle.service_events.proofs.CallRowLemmas.{Each, each_append, each_weaker, each_of_all, all_of_each}
+use Rattle.service_events.proofs.AloftLemmas.{IsAloft, named_became, changed_became}
+use Rattle.service_events.proofs.LiveRuns.{named_aloft, changed_aloft}
+use Rattle.service_events.proofs.OwnLemmas.{AreWithin, within_more, within_push, within_set}
 use Rattle.world_events.specs.Live.{IsCallOver, WaitsForOne, is_call_over}
-use Rattle.service_entry_laws.proofs.LiveLaws.{call_keeps}
+use Rattle.service_events.proofs.LiveEntryLaws.{call_keeps}
 use Rattle.world_laws.proofs.LivedLaws.{without_all, with_all}
 
 -- ---- a call that is over stays so

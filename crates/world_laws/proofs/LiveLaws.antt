@@ -31,10 +31,10 @@ use Rattle.service_events.specs.State.{Kept, After, after, or_else, is_crowded, 
 use Rattle.service_events.specs.declared.answers.Arrived.{Arrived}
 use Rattle.service_events.specs.declared.refusals.ArriveRefused.{ArriveRefused}
 use Rattle.service_events.specs.declared.refusals.CallRefused.{CallRefused}
-use Rattle.service_call_laws.proofs.RegisterLemmas.{find-change}
-use Rattle.service_call_laws.proofs.RowLemmas.{Each, each_weaker, all_of_each}
-use Rattle.service_entry_laws.proofs.AloftLemmas.{IsAloft, acked_aloft, answered_aloft, told_aloft, aloft_of}
-use Rattle.service_entry_laws.proofs.SearchLemmas.{found_all}
+use Rattle.service_events.proofs.RegisterLemmas.{find-change}
+use Rattle.service_events.proofs.CallRowLemmas.{Each, each_weaker, all_of_each}
+use Rattle.service_events.proofs.AloftLemmas.{IsAloft, acked_aloft, answered_aloft, told_aloft, aloft_of}
+use Rattle.service_events.proofs.SearchLemmas.{found_all}
 use Rattle.world_events.specs.Live.{IsLiveRow, IsCallOver, WaitsForOne, IsLive, is_call_over}
 use Rattle.world_laws.proofs.HeardLaws.{KeepsOver, rows_keep_over, told_keeps_over, told_over, over_at, AllOver, waits_still, others_over, Ends, OverOn, goes_on_over}
 use Rattle.world_laws.proofs.LivedLaws.{IsNaming, IsOfRequest, Lived, goes_on_lives, deleted_names, without_all}

@@ -31,9 +31,9 @@ use Rattle.service_events.specs.State.{Kept, After, after, me, or_else, is_crowd
 use Rattle.service_events.specs.declared.answers.Arrived.{Arrived}
 use Rattle.service_events.specs.declared.refusals.ArriveRefused.{ArriveRefused}
 use Rattle.service_events.specs.declared.refusals.CallRefused.{CallRefused}
-use Rattle.service_call_laws.proofs.RowLemmas.{all_of_each, each_weaker}
-use Rattle.service_entry_laws.proofs.LogLemmas.{call_is}
-use Rattle.service_entry_laws.proofs.SearchLemmas.{text_is, found_all}
+use Rattle.service_events.proofs.CallRowLemmas.{all_of_each, each_weaker}
+use Rattle.service_events.proofs.LogLemmas.{call_is}
+use Rattle.service_events.proofs.SearchLemmas.{text_is, found_all}
 use Rattle.world_agreement.specs.Partners.{service_of, JournalOf, JournalOfDest, HasSent, HasAnswered, HasAcknowledged, HasPartner}
 use Rattle.world_agreement.proofs.AnswerFacts.{given_from, given_asked}
 use Rattle.world_agreement.proofs.EntryFacts.{Begun, begun}

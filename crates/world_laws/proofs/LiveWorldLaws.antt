@@ -16,7 +16,7 @@ use Rattle.service_events.specs.Arriving.{arrive_event, call_answered_event, cal
 use Rattle.service_events.specs.Fits.{Fits, WantsItsCalls, calls_of_entry, calls_of_flight, places, wanted_call}
 use Rattle.service_events.specs.declared.answers.Arrived.{Arrived}
 use Rattle.service_events.specs.declared.answers.Arrived.TheVariants.{Done, Call as Sends, Known}
-use Rattle.service_entry_laws.proofs.SearchLemmas.{found_all}
+use Rattle.service_events.proofs.SearchLemmas.{found_all}
 use Rattle.world_agreement.proofs.ListLemmas.{contains_map}
 use Rattle.world_agreement.proofs.NameLemmas.{found_own}
 use Rattle.world_agreement.specs.Partners.{has_name, service_of}

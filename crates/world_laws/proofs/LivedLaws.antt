@@ -26,9 +26,9 @@ use Rattle.service_events.specs.Calls.{noted, named, all_deleted}
 use Rattle.service_events.specs.Flying.{flight_run, before_answer, live_answer, surplus_rows, took_rows, answer_to_caller, committed_entry, committed, with_slot, with_change, deletion, change_rows, waits, wanted_of, named_unsent, changed_unsent, completing, completed, changed, moved, goes_on}
 use Rattle.service_events.specs.declared.answers.Arrived.{Arrived}
 use Rattle.service_events.specs.declared.answers.Arrived.TheVariants.{Done, Call as Sends, Known}
-use Rattle.service_call_laws.proofs.CallLaws.{Grows}
-use Rattle.service_call_laws.proofs.RowLemmas.{Each, each_append, each_weaker}
-use Rattle.service_entry_laws.proofs.LiveLaws.{call_keeps}
+use Rattle.service_events.proofs.CallLaws.{Grows}
+use Rattle.service_events.proofs.CallRowLemmas.{Each, each_append, each_weaker}
+use Rattle.service_events.proofs.LiveEntryLaws.{call_keeps}
 use Rattle.world_agreement.specs.Partners.{HasSent, HasAnswered}
 
 -- ---- what it leaves

@@ -61,10 +61,10 @@ use Rattle.service_events.specs.declared.refusals.CallRefused.{CallRefused}
 use Rattle.service_events.specs.declared.refusals.OrderRefused.{OrderRefused}
 use Rattle.service_events.specs.declared.refusals.PostRefused.{PostRefused}
 use Rattle.service_events.specs.declared.refusals.TakeRefused.{TakeRefused}
-use Rattle.service_entry_laws.proofs.AskedLemmas.{take_either, hear_either}
+use Rattle.service_events.proofs.AskedLemmas.{take_either, hear_either}
 use Rattle.world_delivery_laws.proofs.ChainLaws.{IsOnward, calls_onward}
-use Rattle.service_call_laws.proofs.RowLemmas.{Each, each_append, each_behind, each_weaker, all_of_each}
-use Rattle.service_entry_laws.proofs.SearchLemmas.{contains_here}
+use Rattle.service_events.proofs.CallRowLemmas.{Each, each_append, each_behind, each_weaker, all_of_each}
+use Rattle.service_events.proofs.SearchLemmas.{contains_here}
 use Rattle.world_events.specs.Reach.{GoesTo, CallsPeers}
 use Rattle.world_laws.proofs.PlaceFacts.{wanted_calls, entries_want, flight_wants}
 use Rattle.world_laws.proofs.StillLemmas.{sent_from}

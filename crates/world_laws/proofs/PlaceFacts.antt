@@ -6,8 +6,8 @@ use Rattle.call_registers.specs.declared.register.Register.{Register}
 use Rattle.flights.specs.declared.flight.Flight.{Flight}
 use Rattle.service_events.specs.Fits.{Fits, WantsItsCalls, NumberedCalls, calls_of_entry, calls_of_flight, call_in, wanted_call}
 use Rattle.service_events.specs.State.{Kept, has_flight, flight_of}
-use Rattle.service_call_laws.proofs.RowLemmas.{Each, each_front, each_behind, each_of_all, all_of_each}
-use Rattle.service_entry_laws.proofs.SearchLemmas.{found_all}
+use Rattle.service_events.proofs.CallRowLemmas.{Each, each_front, each_behind, each_of_all, all_of_each}
+use Rattle.service_events.proofs.SearchLemmas.{found_all}
 
 -- what holds of each number whose call is wanted holds of these
 pub wanted_each : (registers : List Register) (P : ℕ → Type 0) → ((n : ℕ) (c : CallMade) → wanted_call registers n ≡ Some c → P n) → (ns : List ℕ) (cs : List CallMade)

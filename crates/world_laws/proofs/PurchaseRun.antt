@@ -39,7 +39,7 @@ use Rattle.service_events.specs.declared.answers.Arrived.TheVariants.{Done as Co
 use Rattle.service_events.specs.Steps.{new_trace}
 use Rattle.service_events.specs.declared.answers.Posted.TheVariants.{Acked as WasAcked}
 use Rattle.service_events.specs.declared.answers.PostReply.TheVariants.{Acked}
-use Rattle.service_call_laws.proofs.PurchaseExample.{shop_name, bank_name, ok, allow_any, start, call, flight, named, answer, answered as answered_shop, bought, cancelled, remade, trace, paid_trace, paid, unwanted, unpaid}
+use Rattle.service_events.proofs.PurchaseExample.{shop_name, bank_name, ok, allow_any, start, call, flight, named, answer, answered as answered_shop, bought, cancelled, remade, trace, paid_trace, paid, unwanted, unpaid}
 use Rattle.world_agreement.proofs.PurchaseTogether.{names_differ, at_shop, at_bank, no_name}
 use Rattle.world_agreement.specs.Partners.{HasPartner}
 use Rattle.world_agreement.proofs.ListLemmas.{all_two, one_pair}

@@ -23,7 +23,7 @@ use Rattle.handler_run.specs.declared.state.Ran.{Ran}
 use Rattle.handler_run.specs.declared.state.Ran.TheVariants.{Done, Wants}
 use Rattle.local_repair.specs.Steps.{tentative}
 use Rattle.local_repair.specs.declared.stepped.Stepped.TheVariants.{Ran as RanAgain}
-use Rattle.service_call_laws.proofs.PurchaseExample.{shop_name, ok, call, trace, paid_trace}
+use Rattle.service_events.proofs.PurchaseExample.{shop_name, ok, call, trace, paid_trace}
 use Rattle.world_events.specs.Events.{turn, after_events}
 use Rattle.world_events.specs.Sound.{IsSound}
 use Rattle.world_events.specs.declared.event.Event.TheVariants.{Lose, Step}

@@ -6,7 +6,7 @@ use Rattle.std.proofs.lemmas.List.Elements.{All-cons, All-head, All-tail}
 use Rattle.std.proofs.lemmas.Option.{same_Some}
 use Rattle.lang_base.specs.Texts.{same_text}
 use Rattle.service_events.specs.State.{Kept, me}
-use Rattle.service_call_laws.proofs.CallLaws.{Grows}
+use Rattle.service_events.proofs.CallLaws.{Grows}
 use Rattle.world_agreement.specs.Partners.{has_name, service_of, NamesDiffer}
 use Rattle.world_events.specs.Worlds.{with_service}
 

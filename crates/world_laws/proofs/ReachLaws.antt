@@ -13,8 +13,8 @@ use Rattle.service_events.specs.Fits.{Fits}
 use Rattle.service_events.specs.Posts.{next_post}
 use Rattle.service_events.specs.State.{Kept, flight_of}
 use Rattle.service_events.specs.declared.answers.PostReply.TheVariants.{Lost as PostIsLost}
-use Rattle.service_call_laws.proofs.CallLaws.{Grows}
-use Rattle.service_entry_laws.proofs.SearchLemmas.{found_all}
+use Rattle.service_events.proofs.CallLaws.{Grows}
+use Rattle.service_events.proofs.SearchLemmas.{found_all}
 use Rattle.world_agreement.specs.Partners.{has_name, service_of}
 use Rattle.world_agreement.proofs.ListLemmas.{some_of}
 use Rattle.world_events.specs.Worlds.{World, fresh_world, with_service, packet_of, next_inputs, once_drawn, once_lost, loss_note}

@@ -48,13 +48,13 @@ use Rattle.service_events.specs.declared.refusals.AnswerRefused.{AnswerRefused}
 use Rattle.service_events.specs.declared.refusals.OrderRefused.{OrderRefused}
 use Rattle.service_events.specs.declared.refusals.PostRefused.{PostRefused}
 use Rattle.service_events.specs.declared.refusals.TakeRefused.{TakeRefused}
-use Rattle.service_entry_laws.proofs.AskedLemmas.{take_either, hear_either}
-use Rattle.service_call_laws.proofs.KindLemmas.{sends_deleted, sends_settled}
-use Rattle.service_call_laws.proofs.RowLemmas.{Each, each_append, each_weaker, all_of_each, IsSending}
-use Rattle.service_entry_laws.proofs.EntryLemmas.{found_itself}
-use Rattle.service_entry_laws.proofs.PartLemmas.{logged}
-use Rattle.service_entry_laws.proofs.PostedLaw.{of_entry}
-use Rattle.service_entry_laws.proofs.SearchLemmas.{text_is}
+use Rattle.service_events.proofs.AskedLemmas.{take_either, hear_either}
+use Rattle.service_events.proofs.KindLemmas.{sends_deleted, sends_settled}
+use Rattle.service_events.proofs.CallRowLemmas.{Each, each_append, each_weaker, all_of_each, IsSending}
+use Rattle.service_events.proofs.EntryLemmas.{found_itself}
+use Rattle.service_events.proofs.PartLemmas.{logged}
+use Rattle.service_events.proofs.PostedLaw.{of_entry}
+use Rattle.service_events.proofs.SearchLemmas.{text_is}
 use Rattle.world_agreement.specs.Partners.{JournalOf, HasSent, HasAcked, HasAnswered, HasConfirmed, HasPartner}
 use Rattle.world_events.specs.Sound.{WasSent, WasAnswered, PostReplyStands, FlightStands, FlightsStand}
 use Rattle.world_laws.proofs.LiveTurns.{IsHeard, heard_said, dest_said, entry_answered}

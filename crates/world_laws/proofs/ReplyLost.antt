@@ -33,7 +33,7 @@ use Rattle.service_events.specs.State.{Kept, answers}
 use Rattle.service_events.specs.Steps.{ended_or, rerun, new_trace, stepped}
 use Rattle.service_events.specs.declared.answers.Posted.TheVariants.{Acked as WasAcked, Confirmed as WasConfirmed}
 use Rattle.service_events.specs.declared.answers.PostReply.TheVariants.{Acked, Confirmed}
-use Rattle.service_call_laws.proofs.PurchaseExample.{shop_name, bank_name, ok}
+use Rattle.service_events.proofs.PurchaseExample.{shop_name, bank_name, ok}
 use Rattle.world_events.specs.Worlds.{World, loss_note}
 use Rattle.world_events.specs.Events.{Turn, turn}
 use Rattle.world_events.specs.declared.event.Event.TheVariants.{Deliver, Lose, Post as Posts, Step}

@@ -19,7 +19,7 @@ use Rattle.service_events.specs.Fits.{EachAfter, SendsOn}
 use Rattle.service_events.specs.State.{Kept, me}
 use Rattle.service_events.specs.declared.answers.PostReply.{PostReply}
 use Rattle.service_events.specs.declared.answers.PostReply.TheVariants.{Acked, Confirmed}
-use Rattle.service_call_laws.proofs.CallLaws.{Grows}
+use Rattle.service_events.proofs.CallLaws.{Grows}
 use Rattle.world_agreement.specs.Partners.{service_of, JournalOf, HasSent, HasAcked, HasAnswered, HasConfirmed, HasAcknowledged, HasPartner}
 use Rattle.world_agreement.proofs.Histories.{Sets, last_from}
 use Rattle.world_agreement.proofs.ListLemmas.{some_out}

@@ -5,8 +5,8 @@ use Rattle.flights.specs.declared.flight.Flight.{Flight}
 use Rattle.journal_rows.specs.declared.row.Row.{Row}
 use Rattle.service_events.specs.Fits.{Fits}
 use Rattle.service_events.specs.State.{Kept, me}
-use Rattle.service_call_laws.proofs.CallLaws.{Grows}
-use Rattle.service_entry_laws.proofs.SearchLemmas.{found_all}
+use Rattle.service_events.proofs.CallLaws.{Grows}
+use Rattle.service_events.proofs.SearchLemmas.{found_all}
 use Rattle.world_agreement.specs.Partners.{has_name, service_of, HasPartner}
 use Rattle.world_events.specs.Sound.{PacketStands, OriginStands, FlightStands, FlightsStand, AreSound}
 use Rattle.world_events.specs.declared.packet.Packet.{Packet}

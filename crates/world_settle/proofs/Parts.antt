@@ -7,7 +7,7 @@ use Rattle.std.proofs.lemmas.List.{append-nil}
 use Rattle.std.proofs.lemmas.List.Concat.{flat_map-cons}
 use Rattle.lang_base.specs.Texts.{same_text}
 use Rattle.call_registers.specs.Changes.{raised}
-use Rattle.service_entry_laws.proofs.SearchLemmas.{text_is}
+use Rattle.service_events.proofs.SearchLemmas.{text_is}
 use Rattle.world_core.proofs.HandedOn.{events_sound}
 use Rattle.world_events.specs.Events.{after_event, after_events, answer_to}
 use Rattle.world_events.specs.Sound.{IsSound}

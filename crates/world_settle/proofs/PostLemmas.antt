@@ -35,10 +35,10 @@ use Rattle.service_events.specs.declared.answers.Posted.{Posted}
 use Rattle.service_events.specs.declared.answers.Posted.TheVariants.{Held, Left}
 use Rattle.service_events.specs.declared.refusals.PostRefused.{PostRefused}
 use Rattle.service_events.specs.declared.refusals.PostRefused.TheVariants.{Foreign}
-use Rattle.service_entry_laws.proofs.EntryLemmas.{found_itself as entry_number}
-use Rattle.service_entry_laws.proofs.PartLemmas.{logged}
-use Rattle.service_entry_laws.proofs.PostedLaw.{of_entry}
-use Rattle.service_entry_laws.proofs.SearchLemmas.{text_is, contains_here, contains_cases, splits}
+use Rattle.service_events.proofs.EntryLemmas.{found_itself as entry_number}
+use Rattle.service_events.proofs.PartLemmas.{logged}
+use Rattle.service_events.proofs.PostedLaw.{of_entry}
+use Rattle.service_events.proofs.SearchLemmas.{text_is, contains_here, contains_cases, splits}
 use Rattle.world_events.specs.declared.happened.What.TheVariants.{Posted as WasPosted}
 use Rattle.world_events.specs.Ends.{post_receiver}
 use Rattle.world_events.specs.Events.{sender}

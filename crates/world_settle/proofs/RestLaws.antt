@@ -11,7 +11,7 @@ use Rattle.service_events.specs.Fits.{Fits}
 use Rattle.service_events.specs.Progress.{changes}
 use Rattle.service_events.specs.State.{Kept, answers, base, me}
 use Rattle.service_events.specs.Steps.{Stale, stale_in, step_by, step_event}
-use Rattle.service_entry_laws.proofs.SearchLemmas.{found_all}
+use Rattle.service_events.proofs.SearchLemmas.{found_all}
 use Rattle.service_laws.proofs.FitLaws.{step_fits}
 use Rattle.service_laws.proofs.StepLaws.{step_as_many, step_further, step_steps, step_timely}
 use Rattle.world_agreement.specs.Partners.{has_name, service_of}

@@ -1,8 +1,6 @@
-use Rattle.std.proofs.Common.{◌≡◌, ◌∙◌, sym, ap, None, Some, Option, option_map}
+use Rattle.std.proofs.Common.{◌≡◌, ◌∙◌, sym, ap, None, Some, option_map}
 use Rattle.std.specs.Option.{option_copied}
 use Rattle.call_registers.specs.Registers.{register}
-use Rattle.call_registers.specs.declared.register.Register.{Register}
-use Rattle.journal_rows.specs.Words.{last_sent}
 use Rattle.service_events.specs.Fits.{sent_by}
 use Rattle.world_audit.specs.Conditions.{callee_of}
 use Rattle.world_audit.proofs.partners.callee_of.Goals as goal

@@ -1,6 +1,5 @@
 use Rattle.std.proofs.Common.{◌≡◌, ◌∙◌, ℕ, ◌-◌, ◌≤◌, Bool, true, false, List, fold, map, take, get_or, nat_eq, sym, ap, arith}
 use Rattle.std.proofs.lemmas.List.{length-take}
-use Rattle.std.specs.List.{list_any}
 use Rattle.lang_lists.specs.Ends.{last_end}
 use Rattle.lang_lists.proofs.HashEndLemmas.{last_end-within}
 use Rattle.lang_lists.proofs.SearchLemmas.{sought_first, sought_here, sought_next}

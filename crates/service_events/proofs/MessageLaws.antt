@@ -1,0 +1,241 @@
+-- Events of repair messages keep what fits of calls: a version is taken, an answer is taken, something comes back of a post.
+use Rattle.std.proofs.Common.{◌≡◌, ℕ, ◌+◌, ◌≤◌, Bool, true, false, not, ◌&&◌, List, [], ◌∷◌, ◌++◌, Option, Some, None, Ok, Err, IsSome, max, map, length, insert, nat_eq, is_some, refl, sym, ap, ◌∙◌, subst, inl, inr, arith, eqb-true, if◌then◌else◌, append-nil}
+use Rattle.std.proofs.lemmas.Bool.{cases_Bool, and_parts}
+use Rattle.std.proofs.lemmas.List.Sums.{fold_push}
+use Rattle.lang_base.specs.Texts.{same_text}
+use Rattle.lang_core.specs.declared.ids.Origin.{Origin}
+use Rattle.lang_core.specs.declared.ids.Origin.TheVariants.{Outside, Call}
+use Rattle.lang_core.specs.declared.inputs.Inputs.{Inputs}
+use Rattle.lang_core.specs.declared.request.Request.{Request}
+use Rattle.request_log.specs.Entries.{has_origin, find_call, IsDistinct, with_entry}
+use Rattle.request_log.specs.declared.entry.Entry.{Entry}
+use Rattle.repair_messages.specs.declared.messages.Ack.{Ack}
+use Rattle.repair_messages.specs.declared.messages.AnswerMessage.{AnswerMessage}
+use Rattle.repair_messages.specs.declared.messages.SetMessage.{SetMessage}
+use Rattle.repair_messages.specs.declared.posts.Post.{Post}
+use Rattle.repair_messages.specs.declared.posts.Post.TheVariants.{Set, Answer}
+use Rattle.journal_rows.specs.Words.{sent_step, last_sent, last_seen, seen_version, claimed, comes_from}
+use Rattle.journal_rows.specs.declared.callee.TookRow.{TookRow}
+use Rattle.journal_rows.specs.declared.callee.TookHow.TheVariants.{Message}
+use Rattle.journal_rows.specs.declared.row.Row.{Row}
+use Rattle.journal_rows.specs.declared.row.Row.TheVariants.{Asked, Ordered}
+use Rattle.call_registers.specs.Registers.{register, with_hold, is_newer}
+use Rattle.call_registers.specs.declared.register.Hold.{Hold}
+use Rattle.call_registers.specs.declared.register.Register.{Register}
+use Rattle.call_registers.specs.Replies.{reply, at_entry, with_taken, made_due}
+use Rattle.flights.specs.declared.flight.Flight.{Flight}
+use Rattle.service_events.specs.State.{Kept, after, me, next_id, is_in_flight, same_call_origin}
+use Rattle.service_events.specs.Calls.{noted}
+use Rattle.service_events.specs.Messages.{take_decision, take_rule, take_new, origin_of, is_known, is_too_much, acked_row, took_row, at_reply_of, acked_again, created_entry, created_reply, created_place, at_version, taken_by, take_admitted, take_event, confirmed_row, hear_decision, seen_row, heard, hear_rule, hear_allowed, hear_new, answer_taken_where, take_answer_event, had_call, is_ack_of, replies_to, had, is_now, hold_of, held_back, held_where, saw_ack_row, was_confirmed_row, confirmed_reply, posted, posted_event}
+use Rattle.service_events.specs.Questions.{is_denied}
+use Rattle.service_events.specs.declared.answers.PostReply.{PostReply}
+use Rattle.service_events.specs.declared.answers.PostReply.TheVariants.{Acked as WasAcked, Confirmed as WasConfirmedBack, Refused, Lost}
+use Rattle.service_events.specs.declared.refusals.AnswerRefused.TheVariants.{Unknown}
+use Rattle.service_events.specs.declared.refusals.TakeRefused.TheVariants.{NotYet}
+use Rattle.service_events.specs.Fits.{OrdersOn, Fits, calls_of_flight}
+use Rattle.service_events.proofs.CallRowLemmas.{Each, kind_follows, IsPlain, IsUnseen, IsUnordered}
+use Rattle.service_events.proofs.FlightLemmas.{LeavesOrigin, same_flips, any_none, flies_rows, flies_took}
+use Rattle.service_events.proofs.HeardLemmas.{goes_heard, false_is_not_true, seen_by, known, older_by, as_new_by, claims_below}
+use Rattle.service_events.proofs.CallLaws.{FitsCalls, Goes, goes_same, goes_then, IsMinor, register_calls}
+use Rattle.service_events.proofs.EntryPlaces.{found_stands, places_insert, places_with}
+use Rattle.service_events.proofs.PlainLaws.{goes_entries, goes_plain}
+
+no_order : (before : List Row) (row : Row) → IsUnordered row → OrdersOn before row
+no_order before (Ordered o) h = absurd h
+no_order before row h = tt
+
+-- ---- a version of a call
+
+-- rows that take a version for an origin that isn't in flight
+pub leaves_took : (c : List ℕ) (n : ℕ) (g : Origin) (t : TookRow) → t.caller ≡ c → t.number ≡ n → same_call_origin (Call c n) g ≡ false → comes_from g t ≡ false
+leaves_took c n Outside t caller number h = refl
+leaves_took c n (Call d m) t caller number h =
+    ap (λ x. same_text x d && nat_eq t.number m) caller ∙ ap (λ k. same_text c d && nat_eq k m) number ∙ same_flips (Call d m) (Call c n) ∙ h
+
+took_all : (set : SetMessage) (rows : List Row) → ((g : Origin) → same_call_origin (origin_of set) g ≡ false → Each (LeavesOrigin g) rows)
+    → (fs : List Flight) → Each (λ (g : Flight). same_call_origin (origin_of set) g.origin ≡ false) fs → Each (λ (g : Flight). Each (LeavesOrigin g.origin) rows) fs
+took_all set rows leaves [] h = tt
+took_all set rows leaves (g ∷ gs) h = (leaves g.origin h.0, took_all set rows leaves gs h.1)
+
+-- rows of a taken version
+goes_took : (s : Kept) (set : SetMessage) (rows : List Row) → is_in_flight (origin_of set) s ≡ false → Each IsPlain rows → Each IsUnseen rows → Each IsUnordered rows
+    → ((g : Origin) → same_call_origin (origin_of set) g ≡ false → Each (LeavesOrigin g) rows) → Goes s (noted rows s)
+goes_took s set rows apart plain unseen unordered leaves =
+    goes_plain s rows plain unseen (λ h. kind_follows OrdersOn IsUnordered no_order rows s.journal unordered)
+    (λ h. flies_took s.journal rows s.flights (took_all set rows leaves s.flights (any_none (origin_of set) s.flights apart)) h)
+
+took_leaves : (s : Kept) (set : SetMessage) (g : Origin) → same_call_origin (origin_of set) g ≡ false → LeavesOrigin g (took_row s set)
+took_leaves s set g h =
+    leaves_took set.caller set.number g (record { caller = set.caller; number = set.number; version = set.version; desired = set.desired; how = Message; who = set.who; rule = take_rule s set }) refl refl h
+
+taken_goes : (s : Kept) (set : SetMessage) (i : Inputs) (e : Option Entry) (d : Option Request) → IsDistinct s.entries → is_in_flight (origin_of set) s ≡ false
+    → find_call (origin_of set) s.entries ≡ e → Goes s (taken_by s set i e d)
+taken_goes s set i (Some e) d distinct apart found =
+    let es = with_entry (at_version set e) s.entries in
+    let ps = at_entry e.id (λ p. made_due (length s.journal + 1) (with_taken set.version (is_some set.desired) p)) s.replies in
+    let t = record s { entries = es; replies = ps } in
+    goes_then s t (taken_by s set i (Some e) d)
+    (goes_entries s es ps (places_with s.registers s.entries e (at_version set e) (map calls_of_flight s.flights)
+    (found_stands (has_origin set.caller set.number) s.entries e found) refl refl distinct))
+    (goes_took t set (took_row s set ∷ (acked_row set ∷ [])) apart (tt, (tt, tt)) (tt, (tt, tt)) (tt, (tt, tt)) (λ g h. (took_leaves s set g h, (tt, tt))))
+taken_goes s set i None (Some q) distinct apart found =
+    let es = insert s.entries (created_place s set) (created_entry s set q i) in
+    let ps = s.replies ++ created_reply s set ∷ [] in
+    let t = record s { entries = es; replies = ps } in
+    goes_then s t (taken_by s set i None (Some q))
+    (goes_entries s es ps (places_insert s.registers s.entries (created_place s set) (created_entry s set q i) (map calls_of_flight s.flights) refl))
+    (goes_took t set (took_row s set ∷ (Asked (record { id = next_id s; origin = origin_of set; request = q; inputs = i }) ∷ (acked_row set ∷ []))) apart
+    (tt, (tt, (tt, tt))) (tt, (tt, (tt, tt))) (tt, (tt, (tt, tt))) (λ g h. (took_leaves s set g h, (tt, (tt, tt)))))
+taken_goes s set i None None distinct apart found =
+    goes_took s set (took_row s set ∷ (acked_row set ∷ [])) apart (tt, (tt, tt)) (tt, (tt, tt)) (tt, (tt, tt)) (λ g h. (took_leaves s set g h, (tt, tt)))
+
+again_goes : (s : Kept) (set : SetMessage) → Goes s (acked_again s set)
+again_goes s set =
+    let ps = at_reply_of (find_call (origin_of set) s.entries) (made_due (length s.journal)) s.replies in
+    let t = record s { replies = ps } in
+    goes_then s t (acked_again s set) (goes_entries s s.entries ps (λ h. h))
+    (goes_plain t (acked_row set ∷ []) (tt, tt) (tt, tt) (λ h. (tt, tt)) (λ h. flies_rows s.journal (acked_row set ∷ []) s.flights (tt, tt) h))
+
+new_goes : (s : Kept) (set : SetMessage) (i : Inputs) → IsDistinct s.entries → is_in_flight (origin_of set) s ≡ false → Goes s (take_new s set i).service
+new_goes s set i distinct apart = elim (cases_Bool (is_denied (take_decision s set))) [
+  | inl denied ↦ rw denied (goes_same s)
+  | inr allowed ↦ rw allowed (taken_goes s set i (find_call (origin_of set) s.entries) set.desired distinct apart refl)
+]
+
+admitted_goes : (s : Kept) (set : SetMessage) (i : Inputs) (n : Option ℕ) → IsDistinct s.entries → is_in_flight (origin_of set) s ≡ false
+    → Goes s (take_admitted s set i n).service
+admitted_goes s set i (Some n) distinct apart = goes_same s
+admitted_goes s set i None distinct apart = elim (cases_Bool (is_known s set)) [
+  | inl is ↦ rw is (again_goes s set)
+  | inr new ↦ rw new (new_goes s set i distinct apart)
+]
+
+take_by : (s : Kept) (set : SetMessage) (i : Inputs) (b : Bool) → IsDistinct s.entries → is_in_flight (origin_of set) s ≡ b
+    → Goes s (if b then after s (Err (NotYet set.number)) else take_admitted s set i (is_too_much s set)).service
+take_by s set i true distinct is = goes_same s
+take_by s set i false distinct is = admitted_goes s set i (is_too_much s set) distinct is
+
+pub take_goes : (s : Kept) (set : SetMessage) (i : Inputs) → Fits s → Goes s (take_event s set i).service
+take_goes s set i f = take_by s set i (is_in_flight (origin_of set) s) f.asked.distinct refl
+
+-- ---- an answer
+
+heard_new : (s : Kept) (a : AnswerMessage) (r : Register) → register a.number s.registers ≡ Some r → is_newer r.answer a.answer_version ≡ true
+    → Goes s (hear_allowed s a r).service
+heard_new s a r found new =
+    let n = a.number in
+    let v = a.answer_version in
+    goes_heard s (seen_row (hear_rule s a r) a ∷ (confirmed_row a ∷ [])) (tt, (tt, tt)) (tt, (tt, tt)) (tt, (tt, tt))
+    (λ f. (let k = known s n r found f in
+    ((k.sent, older_by r.answer v (last_seen n s.journal) k.answer new), (subst IsSome (sym (fold_push (sent_step n) None s.journal (seen_row (hear_rule s a r) a))) k.sent, tt))))
+    (λ f m. elim (cases_Bool (nat_eq n m)) [
+      | inl is ↦ (let R : ℕ → Type 0 = λ j. max (claimed j s.journal) v ≤ v in rw is ((λ told. refl), subst R (eqb-true n m is) (above f)))
+      | inr differs ↦ rw differs ((λ told. absurd (false_is_not_true told)), f.seen.heard m)
+    ])
+  where
+    above : FitsCalls s → max (claimed a.number s.journal) a.answer_version ≤ a.answer_version
+    above f =
+        let k = known s a.number r found f in
+        claims_below (claimed a.number s.journal) a.answer_version (last_seen a.number s.journal) (f.seen.heard a.number)
+        (older_by r.answer a.answer_version (last_seen a.number s.journal) k.answer new)
+
+heard_old : (s : Kept) (a : AnswerMessage) (r : Register) → register a.number s.registers ≡ Some r → is_newer r.answer a.answer_version ≡ false
+    → Goes s (noted (confirmed_row a ∷ []) s)
+heard_old s a r found old =
+    let n = a.number in
+    let v = a.answer_version in
+    goes_heard s (confirmed_row a ∷ []) (tt, tt) (tt, tt) (tt, tt) (λ f. ((known s n r found f).sent, tt))
+    (λ f m. elim (cases_Bool (nat_eq n m)) [
+      | inl is ↦ (let R : ℕ → Type 0 = λ j. max (claimed j s.journal) v ≤ seen_version (last_seen j s.journal) in
+          let S : ℕ → Type 0 = λ j. IsSome (last_seen j s.journal) in
+          let some = seen_by r.answer v (last_seen n s.journal) (known s n r found f).answer old in
+          rw is ((λ told. subst S (eqb-true n m is) some), subst R (eqb-true n m is) (above f)))
+      | inr differs ↦ rw differs ((λ told. absurd (false_is_not_true told)), f.seen.heard m)
+    ])
+  where
+    above : FitsCalls s → max (claimed a.number s.journal) a.answer_version ≤ seen_version (last_seen a.number s.journal)
+    above f =
+        let k = known s a.number r found f in
+        let most = as_new_by r.answer a.answer_version (last_seen a.number s.journal) k.answer old in
+        let heard = f.seen.heard a.number in omega (arith, most, heard)
+
+answer_taken_by_cases : (s : Kept) (a : AnswerMessage) (r : Register) (same new : Bool) → register a.number s.registers ≡ Some r → is_newer r.answer a.answer_version ≡ new
+    → Goes s
+    (if not same then after s (Err (Unknown a.number))
+    else (if new
+    then hear_new s a r
+    else after (noted (confirmed_row a ∷ []) s) (Ok (heard a None)))).service
+answer_taken_by_cases s a r false new found is = goes_same s
+answer_taken_by_cases s a r true true found is = elim (cases_Bool (is_denied (hear_decision s a r))) [
+  | inl denied ↦ rw denied (goes_same s)
+  | inr allowed ↦ rw allowed (heard_new s a r found is)
+]
+answer_taken_by_cases s a r true false found is = heard_old s a r found is
+
+answer_taken_where_goes : (s : Kept) (a : AnswerMessage) (o : Option Register) → register a.number s.registers ≡ o → Goes s (answer_taken_where s a o).service
+answer_taken_where_goes s a None is = goes_same s
+answer_taken_where_goes s a (Some r) is = answer_taken_by_cases s a r (same_text r.dest a.callee) (is_newer r.answer a.answer_version) is refl
+
+pub take_answer_goes : (s : Kept) (a : AnswerMessage) → Goes s (take_answer_event s a).service
+take_answer_goes s a = answer_taken_where_goes s a (register a.number s.registers) refl
+
+-- ---- what comes back of a post
+
+pub minor_hold : (hold : Hold) → IsMinor (with_hold hold)
+minor_hold hold = record { aside = record { number = λ r. refl; sent = λ r. refl }; seen = λ r. (refl, refl); wants = λ r. refl }
+
+goes_held_back : (s : Kept) (post : Post) (hold : Hold) → Goes s (held_back s post hold)
+goes_held_back s (Set set) hold = record { grows = record { rows = []; is = sym (append-nil s.journal); setting = refl }; keeps = λ few h. register_calls s set.number (with_hold hold) (minor_hold hold) h }
+goes_held_back s (Answer a) hold = goes_entries s s.entries (held_back s (Answer a) hold).replies (λ h. h)
+
+held_goes : (s : Kept) (post : Post) (hold : Option Hold) → Goes s (held_where s post hold).service
+held_goes s post None = goes_same s
+held_goes s post (Some hold) = elim (cases_Bool (is_now s post)) [
+  | inl is ↦ rw is (goes_held_back s post hold)
+  | inr isnt ↦ rw isnt (goes_same s)
+]
+
+-- a call that the service had was sent
+call_sent : (s : Kept) (set : SetMessage) (o : Option Register) → register set.number s.registers ≡ o → had_call set o ≡ true → FitsCalls s
+    → IsSome (last_sent set.number s.journal)
+call_sent s set None is h f = cc
+call_sent s set (Some r) is h f = (known s set.number r is f).sent
+
+acked_goes : (s : Kept) (post : Post) (ack : Ack) → had s post ≡ true → replies_to post (WasAcked ack) ≡ true → Goes s (noted (saw_ack_row ack ∷ []) s)
+acked_goes s (Answer a) ack have reply = cc
+acked_goes s (Set set) ack have reply =
+    goes_heard s (saw_ack_row ack ∷ []) (tt, tt) (tt, tt) (tt, tt)
+    (λ f. (let S : ℕ → Type 0 = λ n. IsSome (last_sent n s.journal) in
+    let parts = and_parts (same_text set.caller (me s)) (had_call set (register set.number s.registers)) have in
+    (subst S (sym (number_of set ack reply)) (call_sent s set (register set.number s.registers) refl parts.1 f), tt)))
+    (λ f m. elim (cases_Bool (nat_eq ack.number m)) [
+      | inl is ↦ rw is ((λ told. absurd (false_is_not_true told)), f.seen.heard m)
+      | inr differs ↦ rw differs ((λ told. absurd (false_is_not_true told)), f.seen.heard m)
+    ])
+  where
+    number_by : (a b c d : Bool) → (a && b && c && d) ≡ true → c ≡ true
+    number_by true true true d h = refl
+    number_by true true false d h = cc
+    number_by true false c d h = cc
+    number_by false b c d h = cc
+
+    number_of : (set : SetMessage) (ack : Ack) → is_ack_of set ack ≡ true → ack.number ≡ set.number
+    number_of set ack h =
+        eqb-true ack.number set.number
+        (number_by (same_text ack.caller set.caller) (same_text ack.dest set.dest) (nat_eq ack.number set.number) (nat_eq ack.version set.version) h)
+
+posted_goes : (s : Kept) (post : Post) (answer : PostReply) → had s post ≡ true → replies_to post answer ≡ true → Goes s (posted s post answer).service
+posted_goes s post (WasAcked ack) have reply = acked_goes s post ack have reply
+posted_goes s post (WasConfirmedBack c) have reply =
+    let ps = confirmed_reply s post c.answer_version in
+    let t = record s { replies = ps } in
+    goes_then s t (noted (was_confirmed_row c ∷ []) t) (goes_entries s s.entries ps (λ h. h))
+    (goes_plain t (was_confirmed_row c ∷ []) (tt, tt) (tt, tt) (λ h. (tt, tt)) (λ h. flies_rows s.journal (was_confirmed_row c ∷ []) s.flights (tt, tt) h))
+posted_goes s post (Refused word number) have reply = held_goes s post (hold_of word number)
+posted_goes s post (Lost note) have reply = goes_same s
+
+pub posted_event_goes : (s : Kept) (post : Post) (answer : PostReply) → Goes s (posted_event s post answer).service
+posted_event_goes s post answer = elim (cases_Bool (had s post && replies_to post answer)) [
+  | inl is ↦ (let parts = and_parts (had s post) (replies_to post answer) is in rw is (posted_goes s post answer parts.0 parts.1))
+  | inr isnt ↦ rw isnt (goes_same s)
+]
