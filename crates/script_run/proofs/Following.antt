@@ -9,11 +9,11 @@ use Rattle.world_events.specs.declared.event.Event.{Event}
 use Rattle.world_events.specs.declared.event.Event.TheVariants.{Begin, Deliver}
 use Rattle.world_events.specs.declared.event.WorldStepRefused.{WorldStepRefused}
 use Rattle.world_events.specs.declared.happened.Happened.{Happened}
-use Rattle.world_delivery_laws.specs.InHand.{IsInHand, written_at}
-use Rattle.world_delivery_laws.proofs.WorldWeights.{world_weight}
-use Rattle.world_delivery_laws.proofs.DeliveryLaws.{begin_writes_live}
-use Rattle.world_delivery_laws.specs.Runs.{IsAsking, IsRun, written}
-use Rattle.world_delivery_laws.proofs.RunLaws.{hand_falls, hand_hands, has_asking, has_run}
+use Rattle.world_laws.specs.InHand.{IsInHand, written_at}
+use Rattle.world_laws.proofs.WorldWeights.{world_weight}
+use Rattle.world_laws.proofs.DeliveryLaws.{begin_writes_live}
+use Rattle.world_laws.specs.Runs.{IsAsking, IsRun, written}
+use Rattle.world_laws.proofs.RunLaws.{hand_falls, hand_hands, has_asking, has_run}
 use Rattle.script_text.specs.Details.{detail_of}
 use Rattle.script_text.specs.declared.detail.Detail.{Detail}
 use Rattle.script_text.specs.declared.detail.Detail.TheVariants.{Nothing, Packet}

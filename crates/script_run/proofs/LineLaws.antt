@@ -7,9 +7,9 @@ use Rattle.world_events.specs.Worlds.{World}
 use Rattle.world_events.specs.declared.event.Event.{Event}
 use Rattle.world_events.specs.declared.event.Event.TheVariants as event
 use Rattle.world_events.specs.declared.event.WorldStepRefused.{WorldStepRefused}
-use Rattle.world_delivery_laws.specs.Runs.{IsAsking}
-use Rattle.world_delivery_laws.proofs.RunLaws.{asking_live, has_asking, one_asking}
-use Rattle.world_delivery_laws.proofs.StillLaws.{event_still, asking_still}
+use Rattle.world_laws.specs.Runs.{IsAsking}
+use Rattle.world_laws.proofs.RunLaws.{asking_live, has_asking, one_asking}
+use Rattle.world_laws.proofs.StillLaws.{event_still, asking_still}
 use Rattle.world_settle.specs.declared.settled.Settled.{Settled}
 use Rattle.world_settle.proofs.ComeToEnd.{settled}
 use Rattle.script_lines.specs.Lines.{Read}

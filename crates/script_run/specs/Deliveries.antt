@@ -3,7 +3,7 @@ use Rattle.std.specs.Prelude.{◌≡◌, ℕ, List, Option}
 use Rattle.world_events.specs.Worlds.{World}
 use Rattle.world_events.specs.declared.event.Event.{Event}
 use Rattle.world_events.specs.declared.happened.Happened.{Happened}
-use Rattle.world_delivery_laws.specs.Runs.{IsRun}
+use Rattle.world_laws.specs.Runs.{IsRun}
 use Rattle.script_text.specs.declared.detail.Detail.{Detail}
 use Rattle.script_run.specs.Stops.{AreDone}
 use Rattle.script_run.specs.Told.{last_at}

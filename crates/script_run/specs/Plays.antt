@@ -11,7 +11,7 @@ use Rattle.world_events.specs.Events.{after_events}
 use Rattle.world_events.specs.Live.{IsLiveEvent}
 use Rattle.world_events.specs.Worlds.{World}
 use Rattle.world_events.specs.declared.event.Event.{Event}
-use Rattle.world_delivery_laws.specs.Runs.{IsAsking}
+use Rattle.world_laws.specs.Runs.{IsAsking}
 use Rattle.world_settle.specs.Doing.{AreOfSettling}
 use Rattle.script_lines.specs.Faults.{fault_number}
 use Rattle.script_lines.specs.Lines.{Read, line_at}

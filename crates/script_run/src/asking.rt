@@ -1,7 +1,7 @@
 // A request, and the deliveries that follow it.
 ghost use Rattle.std.specs.Prelude.{IfOk, OnErr, OnOk, Some};
-ghost use Rattle.world_delivery_laws.specs.InHand.{IsInHand};
-ghost use Rattle.world_delivery_laws.specs.Runs.{IsAsking, IsRun};
+ghost use Rattle.world_laws.specs.InHand.{IsInHand};
+ghost use Rattle.world_laws.specs.Runs.{IsAsking, IsRun};
 ghost use Rattle.script_run.specs.Told.{events_said, saying};
 ghost use Rattle.script_run.specs.Stops.{Does, DoesFirst};
 ghost use Rattle.script_run.specs.Deliveries.{Delivers};

@@ -22,7 +22,7 @@ use Rattle.service_events.specs.Flying.{awaited, answer_to_caller, committed, co
 use Rattle.service_events.specs.declared.answers.Arrived.{Arrived}
 use Rattle.service_events.specs.declared.answers.Arrived.TheVariants.{Done, Call as Sends, Known}
 use Rattle.service_events.specs.declared.refusals.CallRefused.TheVariants.{NoFlight}
-use Rattle.world_delivery_laws.proofs.LandingLaws.{completed_lands}
+use Rattle.world_laws.proofs.LandingLaws.{completed_lands}
 use Rattle.world_events.specs.Events.{answered_back, is_call_of, reply_among, reply_to, sent}
 use Rattle.world_events.specs.declared.packet.Packet.{Packet}
 use Rattle.world_events.specs.declared.packet.Packet.TheVariants.{Call, CallReply, Post, PostReply}

@@ -12,7 +12,7 @@ use Rattle.service_events.specs.Arriving.{arrive_event, call_answered_event, cal
 use Rattle.service_events.specs.State.{Kept, After, after, me, flight_of}
 use Rattle.service_events.specs.declared.answers.Arrived.{Arrived}
 use Rattle.service_events.specs.declared.refusals.ArriveRefused.{ArriveRefused}
-use Rattle.world_delivery_laws.proofs.AskLaws.{arrive_lightens, call_answered_lightens, call_failed_lightens}
+use Rattle.world_laws.proofs.AskLaws.{arrive_lightens, call_answered_lightens, call_failed_lightens}
 use Rattle.world_events.specs.Events.{Served, call_answered_served, arrive_served, call_arrive_served, call_failed_served, live_refusal, lives, outcome_of, reply_among, sent}
 use Rattle.world_events.specs.declared.happened.Outcome.{Outcome}
 use Rattle.world_events.specs.declared.happened.What.{What}

@@ -20,3 +20,13 @@ pub mod PurchaseTried
 pub mod ReplyLost
 pub mod SendLaws
 pub mod EndLaws
+pub mod Weights
+pub mod ChainLaws
+pub mod LandingLaws
+pub mod WeightLemmas
+pub mod GoingWeights
+pub mod AskLaws
+pub mod WorldWeights
+pub mod DeliveryLaws
+pub mod RunLaws
+pub mod StillLaws

@@ -62,7 +62,7 @@ use Rattle.service_events.specs.declared.refusals.OrderRefused.{OrderRefused}
 use Rattle.service_events.specs.declared.refusals.PostRefused.{PostRefused}
 use Rattle.service_events.specs.declared.refusals.TakeRefused.{TakeRefused}
 use Rattle.service_events.proofs.AskedLemmas.{take_either, hear_either}
-use Rattle.world_delivery_laws.proofs.ChainLaws.{IsOnward, calls_onward}
+use Rattle.world_laws.proofs.ChainLaws.{IsOnward, calls_onward}
 use Rattle.service_events.proofs.CallRowLemmas.{Each, each_append, each_behind, each_weaker, all_of_each}
 use Rattle.service_events.proofs.SearchLemmas.{contains_here}
 use Rattle.world_events.specs.Reach.{GoesTo, CallsPeers}

@@ -30,7 +30,7 @@ use Rattle.service_events.specs.declared.answers.Arrived.{Arrived}
 use Rattle.service_events.specs.declared.answers.Arrived.TheVariants.{Done, Call as Sends, Known}
 use Rattle.service_events.specs.declared.refusals.ArriveRefused.{ArriveRefused}
 use Rattle.service_events.specs.declared.refusals.CallRefused.{CallRefused}
-use Rattle.world_delivery_laws.proofs.LandingLaws.{completed_lands}
+use Rattle.world_laws.proofs.LandingLaws.{completed_lands}
 use Rattle.world_laws.proofs.PeerLaws.{call_by, flight_to, got_to, wanted_to}
 
 -- a live call of this service: its own, to a peer, which asks something

@@ -2,7 +2,7 @@ use Rattle.std.proofs.Common.{Option, Some, Ok, Err, ℕ, sym, subst, ◌∙◌}
 use Rattle.world_events.specs.Events.{answer_to}
 use Rattle.world_events.specs.Worlds.{World}
 use Rattle.world_events.specs.declared.event.Event.TheVariants.{Deliver}
-use Rattle.world_delivery_laws.specs.Runs.{IsRun}
+use Rattle.world_laws.specs.Runs.{IsRun}
 use Rattle.script_run.specs.Stops.{DoesFirst}
 use Rattle.script_run.proofs.Following.{Follows, falls_answer, followed, followed_first, follows_answer, follows_first, heard_err, heard_ok, nothing_next, on_err}
 use Rattle.script_run.proofs.asking.follow.Goals as goal

@@ -1,5 +1,5 @@
 use Rattle.std.proofs.Common.{Some}
-use Rattle.world_delivery_laws.proofs.WorldWeights.{world_weight}
+use Rattle.world_laws.proofs.WorldWeights.{world_weight}
 use Rattle.script_run.proofs.Following.{Follows}
 use Rattle.script_run.proofs.asking.follow.Given as goal
 

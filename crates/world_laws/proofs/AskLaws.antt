@@ -25,8 +25,8 @@ use Rattle.service_events.specs.declared.refusals.ArriveRefused.TheVariants.{Not
 use Rattle.service_events.specs.declared.refusals.CallRefused.{CallRefused}
 use Rattle.service_events.specs.declared.refusals.CallRefused.TheVariants.{NoFlight}
 use Rattle.service_events.proofs.FlightLemmas.{found_id}
-use Rattle.world_delivery_laws.proofs.GoingWeights.{goes_on_comes}
-use Rattle.world_delivery_laws.proofs.Weights.{is_among, left_by, chain_behind, cost, flight_weight, call_weight, weight_of_arrival, weight_of_return, IsLighter}
+use Rattle.world_laws.proofs.GoingWeights.{goes_on_comes}
+use Rattle.world_laws.proofs.Weights.{is_among, left_by, chain_behind, cost, flight_weight, call_weight, weight_of_arrival, weight_of_return, IsLighter}
 
 -- ---- flights without one
 

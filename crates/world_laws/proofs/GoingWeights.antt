@@ -21,10 +21,10 @@ use Rattle.service_events.specs.declared.answers.Arrived.{Arrived}
 use Rattle.service_events.proofs.FlightLaws.{flown}
 use Rattle.service_events.proofs.GoingLaws.{is_other}
 use Rattle.service_events.proofs.CallRowLemmas.{Each, each_behind}
-use Rattle.world_delivery_laws.proofs.LandingLaws.{Lands, lands_after, completed_lands}
-use Rattle.world_delivery_laws.proofs.ChainLaws.{IsOnward, calls_onward}
-use Rattle.world_delivery_laws.proofs.WeightLemmas.{left_less, cost_grows, cost_some, fewer_weigh, sum_between}
-use Rattle.world_delivery_laws.proofs.Weights.{is_among, left_by, chain_behind, cost, room, flight_weight, load, call_weight, sent_weight}
+use Rattle.world_laws.proofs.LandingLaws.{Lands, lands_after, completed_lands}
+use Rattle.world_laws.proofs.ChainLaws.{IsOnward, calls_onward}
+use Rattle.world_laws.proofs.WeightLemmas.{left_less, cost_grows, cost_some, fewer_weigh, sum_between}
+use Rattle.world_laws.proofs.Weights.{is_among, left_by, chain_behind, cost, room, flight_weight, load, call_weight, sent_weight}
 
 -- ---- a call that is sent
 

@@ -30,11 +30,11 @@ use Rattle.world_events.specs.declared.packet.Packet.{Packet}
 use Rattle.world_events.specs.declared.packet.Packet.TheVariants.{Call, CallReply, Post, PostReply}
 use Rattle.world_events.specs.Live.{IsLivePacket}
 use Rattle.world_agreement.specs.Partners.{has_name, service_of}
-use Rattle.world_delivery_laws.proofs.AskLaws.{arrive_lightens, call_answered_lightens, call_failed_lightens}
-use Rattle.world_delivery_laws.proofs.WeightLemmas.{cost_some}
-use Rattle.world_delivery_laws.proofs.Weights.{is_among, load, cost, left_by, chain_behind, call_weight, message_weight, sent_weight, weight_of_arrival, weight_of_return}
-use Rattle.world_delivery_laws.specs.InHand.{written_at, IsInHand}
-use Rattle.world_delivery_laws.proofs.WorldWeights.{names_of, packet_weight, weight_if, in_hand, world_weight}
+use Rattle.world_laws.proofs.AskLaws.{arrive_lightens, call_answered_lightens, call_failed_lightens}
+use Rattle.world_laws.proofs.WeightLemmas.{cost_some}
+use Rattle.world_laws.proofs.Weights.{is_among, load, cost, left_by, chain_behind, call_weight, message_weight, sent_weight, weight_of_arrival, weight_of_return}
+use Rattle.world_laws.specs.InHand.{written_at, IsInHand}
+use Rattle.world_laws.proofs.WorldWeights.{names_of, packet_weight, weight_if, in_hand, world_weight}
 
 -- ---- packets
 

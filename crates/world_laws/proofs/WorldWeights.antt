@@ -4,7 +4,7 @@ use Rattle.service_events.specs.State.{Kept, me}
 use Rattle.world_events.specs.Worlds.{World, packet_of}
 use Rattle.world_events.specs.declared.packet.Packet.{Packet}
 use Rattle.world_events.specs.declared.packet.Packet.TheVariants.{Call}
-use Rattle.world_delivery_laws.proofs.Weights.{load, message_weight}
+use Rattle.world_laws.proofs.Weights.{load, message_weight}
 
 abbrev pub names_of : List Kept → List (List ℕ)
 names_of services = map me services

@@ -19,8 +19,8 @@ use Rattle.world_events.specs.declared.packet.Live.{Live}
 use Rattle.world_events.specs.declared.packet.Live.TheVariants.{Answer, Refused}
 use Rattle.world_events.specs.declared.packet.Packet.{Packet}
 use Rattle.world_events.specs.declared.packet.Packet.TheVariants.{Call, CallReply, Post as PostPacket, PostReply as PostReplyPacket}
-use Rattle.world_delivery_laws.specs.InHand.{written_at}
-use Rattle.world_delivery_laws.specs.Runs.{IsRun, IsAsking, written}
+use Rattle.world_laws.specs.InHand.{written_at}
+use Rattle.world_laws.specs.Runs.{IsRun, IsAsking, written}
 
 -- where the turn is refused, its world is this
 abbrev IsStill : World → Turn → Type 0

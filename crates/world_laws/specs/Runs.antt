@@ -5,7 +5,7 @@ use Rattle.world_events.specs.Events.{after_event, answer_to}
 use Rattle.world_events.specs.Worlds.{World}
 use Rattle.world_events.specs.declared.event.Event.{Event}
 use Rattle.world_events.specs.declared.event.Event.TheVariants.{Begin, Deliver}
-use Rattle.world_delivery_laws.specs.InHand.{written_at}
+use Rattle.world_laws.specs.InHand.{written_at}
 
 -- the number of the packet that an event writes, if it writes one
 abbrev pub written : World → Event → Option ℕ

@@ -7,7 +7,7 @@ use Rattle.std.proofs.lemmas.List.Sums.{sum_by-cons, sum_by-append}
 use Rattle.std.proofs.lemmas.Slice.Eq.{bytes_eq-Decides}
 use Rattle.lang_base.specs.Texts.{same_text}
 use Rattle.service_events.proofs.SearchLemmas.{text_is}
-use Rattle.world_delivery_laws.proofs.Weights.{is_among, left_by, cost}
+use Rattle.world_laws.proofs.Weights.{is_among, left_by, cost}
 
 -- ---- names that are left
 

@@ -35,7 +35,7 @@ use Rattle.handler_run.specs.declared.state.State.{State}
 use Rattle.flights.specs.Moves.{calls_in}
 use Rattle.service_events.proofs.SearchLemmas.{text_is, splits}
 use Rattle.service_events.proofs.CallRowLemmas.{Each, each_append}
-use Rattle.world_delivery_laws.proofs.Weights.{is_among, chain_behind}
+use Rattle.world_laws.proofs.Weights.{is_among, chain_behind}
 
 -- a call that a service with these peers makes for a request: for itself, with the chain of the request and its own name behind it, to a peer that
 -- is no service of that chain

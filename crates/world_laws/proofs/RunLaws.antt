@@ -7,10 +7,10 @@ use Rattle.world_events.specs.Worlds.{World, packet_of}
 use Rattle.world_events.specs.declared.event.Event.{Event}
 use Rattle.world_events.specs.declared.event.Event.TheVariants.{Begin, Deliver}
 use Rattle.world_events.specs.declared.packet.Packet.{Packet}
-use Rattle.world_delivery_laws.specs.InHand.{IsInHand}
-use Rattle.world_delivery_laws.proofs.WorldWeights.{world_weight}
-use Rattle.world_delivery_laws.proofs.DeliveryLaws.{begin_writes_live, delivery_falls, delivery_writes_live}
-use Rattle.world_delivery_laws.specs.Runs.{IsRun, IsAsking, written}
+use Rattle.world_laws.specs.InHand.{IsInHand}
+use Rattle.world_laws.proofs.WorldWeights.{world_weight}
+use Rattle.world_laws.proofs.DeliveryLaws.{begin_writes_live, delivery_falls, delivery_writes_live}
+use Rattle.world_laws.specs.Runs.{IsRun, IsAsking, written}
 
 -- a delivery of what is in hand makes the world and what is in hand then lighter
 falls_of : (w : World) (number : ℕ) (o : Option Packet) → packet_of number w ≡ o → IsSomeAnd o IsLivePacket
