@@ -1,5 +1,5 @@
 -- What a link tells before an exchange and after it.
-use Rattle.std.specs.Prelude.{◌≡◌, ℕ, List, [], ◌∷◌, ◌++◌, Option, Some, ⊤}
+use Rattle.std.specs.Prelude.{◌≡◌, ℕ, Bool, true, false, List, [], ◌∷◌, ◌++◌, Option, Some, ⊤}
 use Rattle.std.specs.Option.{ForSome}
 use Rattle.io_links.specs.declared.links.Exchange.{Exchange}
 use Rattle.io_links.specs.declared.links.Exchange.TheVariants.{Reply, NoMemory, Failed}
@@ -31,3 +31,15 @@ abbrev pub Notes : Exchanges → Exchanges → Exchange → Type 0
 Notes before now (Reply reply) = ⊤
 Notes before now NoMemory = ⊤
 Notes before now (Failed note) = (note.before ≡ before.faults) × (note.after ≡ now.faults)
+
+-- whether there was no memory for an exchange
+abbrev pub wants_memory : Exchange → Bool
+wants_memory (Reply reply) = false
+wants_memory NoMemory = true
+wants_memory (Failed note) = false
+
+-- the exchange failed
+abbrev pub IsFailure : Exchange → Type 0
+IsFailure (Reply reply) = ⊥
+IsFailure NoMemory = ⊥
+IsFailure (Failed note) = ⊤

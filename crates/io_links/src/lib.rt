@@ -9,11 +9,17 @@
 #![tactic(auto)]
 
 mod doors;
+mod failing;
 mod gates;
 mod jobs;
 mod links;
+mod prepared;
+mod spawners;
+mod told;
 
 pub use doors::{Accepted, Door, Ear};
 pub use gates::{Gate, OpenGate};
 pub use jobs::{Job, Spawner, Ticket};
 pub use links::{Exchange, Exchanged, Link};
+pub use prepared::PreparedLink;
+pub use spawners::{MemorySpawner, SystemSpawner};
