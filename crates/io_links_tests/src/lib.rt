@@ -1,0 +1,7 @@
+//! Tests of doors, links, jobs and gates.
+#![tactic(auto)]
+
+#[cfg(test)]
+mod given;
+#[cfg(test)]
+mod memory;
