@@ -1,0 +1,4 @@
+pub mod Failures
+pub mod Posts
+pub mod Refusals
+pub mod Words
