@@ -7,7 +7,7 @@ use Rattle.lang_core.specs.declared.request.Request.{Request}
 use Rattle.lang_tree.specs.Forms.{is_path}
 use Rattle.http_front.specs.declared.message.WireRequest.{WireRequest}
 use Rattle.http_front.specs.ReadBack.{IsSendable, request_read}
-use Rattle.http_front.proofs.RequestsBack.{request_reads_back}
+use Rattle.http_front.proofs.RequestsBack.{request_reads_back, spelled}
 use Rattle.repair_messages.specs.declared.messages.AnswerMessage.{AnswerMessage}
 use Rattle.repair_messages.specs.declared.messages.SetMessage.{SetMessage}
 use Rattle.wire_fields.proofs.MadeHeads.{ArePlain, AreSingle, table_plain}
@@ -25,20 +25,18 @@ use Rattle.aire_wire.proofs.SameMessages.{same_message}
 -- a request that is read as a message is read so from its bytes
 carried : (me sender secret : List ℕ) (written : WireRequest) (message : Incoming) → IsReadAs me sender secret written message → is_path written.path ≡ true
     → is_utf8 written.body ≡ true → ArePlain written.head → AreSingle written.head → AreReadAs me sender secret written message
-carried me sender secret written message reads path text plain one = λ sent carries peers console peer rest answer left spells.
+carried me sender secret written message reads path text plain one = λ sent carries peers console peer rest.
     let sendable : IsSendable sent = record {
       path = ap is_path carries.path ∙ path;
       host = carries.host;
       fields = same_lines sent.head written.head carries.fields (table_plain written.head plain);
       within = carries.within;
       text = ap is_utf8 carries.body ∙ text;
-    } in
-    let back = request_reads_back sent sendable rest answer left spells in (
+    } in (
       request_read sent,
-      back.0,
+      (spelled sent rest sendable, request_reads_back sent sendable rest),
       same_message me peers console (request_read sent) written carries.method carries.path carries.body (request_agrees sent written.head carries.fields one)
           ∙ reads peers console peer,
-      back.1,
     )
 
 pub call_bytes : (set : SetMessage) (notifier secret : List ℕ) (asked : Request) → set.desired ≡ Some asked → IsUtf8 (body_of set.desired) → CallBytesReadBack set notifier secret (call_asking set notifier secret asked)

@@ -1,5 +1,5 @@
 -- Texts of paths, users and chains, as they are written.
-use Rattle.std.proofs.Common.{◌≡◌, ℕ, ◌+◌, ◌-◌, ◌<◌, Bool, true, false, not, List, [], ◌∷◌, ◌++◌, length, take, drop, nat_eq, nat_le, ◌==◌, codes, refl, sym, ap, ◌∙◌, ◌&&◌, ◌||◌, arith, length-append}
+use Rattle.std.proofs.Common.{◌≡◌, ℕ, ◌+◌, ◌-◌, ◌<◌, true, false, not, List, [], ◌∷◌, ◌++◌, length, take, drop, nat_eq, nat_le, ◌==◌, codes, refl, sym, ap, ◌∙◌, ◌&&◌, arith, length-append}
 use Rattle.std.specs.List.{list_all, flat_map, starts_with, ends_with, All}
 use Rattle.std.specs.Str.{is_utf8, IsAscii}
 use Rattle.std.proofs.Math.Bool.{or-true}
@@ -44,7 +44,7 @@ without_comma (b ∷ bs) all =
     let both = and_parts (is_name_byte b) (list_all is_name_byte bs) all in
     All-cons (λ b. (b == 44) ≡ false) b bs (no_comma b both.0) (without_comma bs both.1)
 
-name_without_comma : (name : List ℕ) → is_name name ≡ true → All (λ b. (b == 44) ≡ false) name
+pub name_without_comma : (name : List ℕ) → is_name name ≡ true → All (λ b. (b == 44) ≡ false) name
 name_without_comma name is =
     without_comma name (and_parts (not (nat_eq (length name) 0) && nat_le (length name) 32) (list_all is_name_byte name) is).1
 

@@ -1,3 +1,4 @@
 pub mod Incoming
+pub mod Known
 pub mod ReadBack
 pub mod Written

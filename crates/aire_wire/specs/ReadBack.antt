@@ -110,13 +110,18 @@ pub record Carries (sent written : WireRequest) : Type 0 where
   pub host : list_all is_plain_line (first_of sent.head (codes "Host")) ≡ true
   pub within : IsWithin (request_bytes sent) sent.body
 
--- its bytes, whatever follows them, are read as one request, which says this message to that service, where its sender is a
--- peer with this secret; and what follows is left
+-- the bytes, whatever follows them, spell this request and nothing else, and leave what follows
+abbrev pub SpellAlone : List ℕ → WireRequest → List ℕ → Type 0
+SpellAlone bytes read rest =
+    SpellsRequest (bytes ++ rest) (Ok read) rest
+    × ((answer : Result WireRequest FrontRefused) (left : List ℕ) → SpellsRequest (bytes ++ rest) answer left → (answer ≡ Ok read) × (left ≡ rest))
+
+-- its bytes, whatever follows them, spell one request, which says this message to that service, where its sender is a peer with
+-- this secret
 abbrev pub AreReadAs : List ℕ → List ℕ → List ℕ → WireRequest → Incoming → Type 0
 AreReadAs me sender secret written message =
-    (sent : WireRequest) → Carries sent written → (peers : Secrets) (console : List ℕ) → IsPeer peers sender secret
-    → (rest : List ℕ) (answer : Result WireRequest FrontRefused) (left : List ℕ) → SpellsRequest (request_bytes sent ++ rest) answer left
-    → (read : WireRequest) × (answer ≡ Ok read) × (incoming me peers console read ≡ Ok message) × (left ≡ rest)
+    (sent : WireRequest) → Carries sent written → (peers : Secrets) (console : List ℕ) → IsPeer peers sender secret → (rest : List ℕ)
+    → (read : WireRequest) × SpellAlone (request_bytes sent) read rest × (incoming me peers console read ≡ Ok message)
 
 abbrev pub CallBytesReadBack : SetMessage → List ℕ → List ℕ → WireRequest → Type 0
 CallBytesReadBack set notifier secret written =

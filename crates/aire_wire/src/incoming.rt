@@ -1,6 +1,7 @@
 // Requests, read.
 ghost use Rattle.std.specs.Prelude.{◌≡◌, false, IfOk};
 ghost use Rattle.aire_wire.specs.Incoming.{answer_answer, answer_refusal, call_answer, call_refusal, console_answer, console_refusal, incoming, outside_answer, set_answer, set_refusal};
+ghost use Rattle.aire_wire.specs.Known.{IsKnown};
 ghost use Rattle.wire_fields.specs.Fits.{lacks_memory};
 
 use crate::building::{
@@ -187,9 +188,7 @@ fn read_console(
     }
 }
 
-/// The message that a request spells to the service `me`, whose peers have these secrets, or the first refusal: of its
-/// kind, of its header fields in the order of the table, of how they fit, of its seal. `NoMemory` may come in place of any.
-pub fn read_incoming(
+fn read_any(
     alloc: Global,
     me: &Name,
     peers: &Secrets,
@@ -212,4 +211,23 @@ pub fn read_incoming(
             request,
         ),
     }
+}
+
+/// The message that a request spells to the service `me`, whose peers have these secrets, or the first refusal: of its
+/// kind, of its header fields in the order of the table, of how they fit, of its seal. `NoMemory` may come in place of any.
+///
+/// A message of a service is a peer's, sealed with that peer's secret, and to `me`; its numbers of requests and calls are
+/// from 1, and a live call is a first version whose chain ends with its sender. An operator's is read alike whatever the
+/// peers.
+pub fn read_incoming(
+    alloc: Global,
+    me: &Name,
+    peers: &Secrets,
+    console: &Text,
+    request: &WireRequest,
+) -> Result<Incoming, WireRefused>
+    ensures message { lacks_memory result ≡ false → result ≡ incoming me.now peers.now console.now request.now }
+    ensures known { IfOk result (IsKnown me.now peers.now console.now request.now) }
+{
+    read_any(alloc, me, peers, console, request)
 }

@@ -6,7 +6,7 @@ use Rattle.std.specs.Option.{ForSome}
 use Rattle.lang_core.specs.Names.{is_name}
 use Rattle.http_front.specs.declared.message.WireResponse.{WireResponse}
 use Rattle.http_front.specs.ReadBack.{IsRepliable, response_read}
-use Rattle.http_front.proofs.ResponsesBack.{response_reads_back}
+use Rattle.http_front.proofs.ResponsesBack.{response_reads_back, spelled}
 use Rattle.wire_fields.proofs.MadeHeads.{table_plain}
 use Rattle.wire_fields.proofs.SameFields.{response_agrees, same_lines}
 use Rattle.wire_replies.specs.Sent.{BytesReadBack}
@@ -18,7 +18,7 @@ use Rattle.wire_replies.proofs.SameReplies.{same_reply}
 
 bytes : (me peer secret : List ℕ) (reply : Outgoing) → is_name me ≡ true → is_name peer ≡ true → AreNumbers reply → IsUtf8 (reply_body reply) → IsFor me (Some peer) reply
     → BytesReadBack me peer secret reply (sealed_reply me peer reply secret)
-bytes me peer secret reply mine theirs small utf8 goes = λ spelt asking answers sent carries rest answer left spells.
+bytes me peer secret reply mine theirs small utf8 goes = λ spelt asking answers sent carries rest.
     let written = sealed_reply me peer reply secret in
     let repliable : IsRepliable sent = record {
       three_digits = carries.three_digits;
@@ -26,13 +26,11 @@ bytes me peer secret reply mine theirs small utf8 goes = λ spelt asking answers
       fields = same_lines sent.head written.head carries.fields (table_plain written.head (reply_plain me peer secret reply mine theirs small goes spelt));
       within = carries.within;
       text = ap is_utf8 carries.body ∙ is_utf8-from_IsUtf8 (reply_body reply) utf8;
-    } in
-    let read = response_reads_back sent repliable rest answer left spells in (
+    } in (
       response_read sent,
-      read.0,
+      (spelled sent rest repliable, response_reads_back sent repliable rest),
       same_reply peer me secret asking (response_read sent) written carries.status carries.body (response_agrees sent written.head carries.fields (reply_single me peer secret reply))
           ∙ back me peer secret reply mine theirs small goes spelt asking answers,
-      read.1,
     )
 
 -- as the code has it

@@ -23,9 +23,14 @@ pub record Carries (sent written : WireResponse) : Type 0 where
   pub kind : is_plain_line (type_line sent.head) ≡ true
   pub within : IsWithin (response_bytes sent) sent.body
 
--- its bytes, whatever follows them, are read as one response, which who asked reads as that reply; and what follows is left
+-- the bytes, whatever follows them, spell this response and nothing else, and leave what follows
+abbrev pub SpellAlone : List ℕ → WireResponse → List ℕ → Type 0
+SpellAlone bytes read rest =
+    SpellsResponse (bytes ++ rest) (Ok read) rest
+    × ((answer : Result WireResponse FrontRefused) (left : List ℕ) → SpellsResponse (bytes ++ rest) answer left → (answer ≡ Ok read) × (left ≡ rest))
+
+-- its bytes, whatever follows them, spell one response, which who asked reads as that reply
 abbrev pub BytesReadBack : List ℕ → List ℕ → List ℕ → Outgoing → WireResponse → Type 0
 BytesReadBack me peer secret reply written =
-    IsSpelt reply → (asking : Asking) → Answers asking reply → (sent : WireResponse) → Carries sent written
-    → (rest : List ℕ) (answer : Result WireResponse FrontRefused) (left : List ℕ) → SpellsResponse (response_bytes sent ++ rest) answer left
-    → (read : WireResponse) × (answer ≡ Ok read) × (replied peer me secret asking read ≡ Ok reply) × (left ≡ rest)
+    IsSpelt reply → (asking : Asking) → Answers asking reply → (sent : WireResponse) → Carries sent written → (rest : List ℕ)
+    → (read : WireResponse) × SpellAlone (response_bytes sent) read rest × (replied peer me secret asking read ≡ Ok reply)
