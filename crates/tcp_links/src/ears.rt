@@ -1,0 +1,174 @@
+// Doors over TCP.
+ghost use Rattle.std.specs.Prelude.{◌≡◌, ◌≤◌, IfOk, OnOk, OnErr};
+ghost use Rattle.io_edge.specs.Edge.{Rose};
+ghost use Rattle.io_edge.specs.Told.{count_after};
+ghost use Rattle.io_links.specs.Connections.{IsNew, GivesNew};
+ghost use Rattle.tcp_links.specs.Connections.{tcp_reads, tcp_writes};
+ghost use Rattle.tcp_links.specs.Faults.{door_faults};
+
+use crate::ClosingDoor;
+use crate::closing::sweep;
+use crate::connection::TcpConnection;
+use crate::guests::{Guest, Guests};
+use io_edge::Failed;
+use io_links::{Accepted, Door, Ear};
+use mio::Poll;
+use mio::net::TcpListener;
+use std::alloc::Global;
+use std::io;
+use std::net::{Net, TcpStream, ToSocketAddrs};
+use std::sync::{Arc, Mutex, Wait};
+use std::time::{Clock, Duration, Instant};
+
+/// How long an ear looks before it says that nobody came, in milliseconds.
+const LOOK: u64 = 100;
+
+/// How long a connection may take to send its head, and then for all that it does, in
+/// milliseconds.
+const PATIENCE: u64 = 10_000;
+
+/// A door over TCP.
+#[derive(Drop)]
+pub struct TcpDoor<'a, R: Net + Clock + Wait> {
+    rt: &'a R,
+    alloc: Global,
+    patience: Duration,
+    faults: u64,
+}
+
+impl<'a, R: Net + Clock + Wait> TcpDoor<'a, R> {
+    /// A door that listened nowhere so far, whose connections have 10 seconds.
+    pub fn new(rt: &'a R, alloc: Global) -> Self
+        ensures { door_faults result ≡ 0 }
+    {
+        TcpDoor::with_patience(rt, alloc, Duration::from_millis(PATIENCE))
+    }
+
+    /// A door whose connections have so long to send their heads, and then as long again for all
+    /// that they do.
+    pub fn with_patience(rt: &'a R, alloc: Global, patience: Duration) -> Self
+        ensures { door_faults result ≡ 0 }
+    {
+        TcpDoor {
+            rt,
+            alloc,
+            patience,
+            faults: 0,
+        }
+    }
+}
+
+impl<'a, R: Net + Clock + Wait + Sync> Door for TcpDoor<'a, R> {
+    type Ear = TcpEar<'a, R>;
+
+    ghost faults = { λ d. door_faults d };
+
+    fn listen(&mut self, address: &str) -> Result<TcpEar<'a, R>, Failed>
+        ensures counted { door_faults self.old ≤ door_faults self.new }
+        ensures failed { OnErr result (Rose (door_faults self.old) (door_faults self.new)) }
+        // Each failure counts once, and nothing else counts.
+        ensures one { OnErr result (door_faults self.new ≡ count_after (door_faults self.old)) }
+        ensures none_else { OnOk result (door_faults self.new ≡ door_faults self.old) }
+    {
+        match TcpEar::at(self.rt, self.alloc, self.patience, address) {
+            Ok(ear) => Ok(ear),
+            Err(_) => {
+                self.faults = self.faults.saturating_add(1);
+                Err(Failed)
+            }
+        }
+    }
+}
+
+/// A socket that listens. A connection is given once the head of its request is whole, so that one
+/// that sends nothing, or slowly, keeps no worker; or once it has waited for 10 seconds, and then
+/// it fails at its first read beyond what came.
+#[derive(Drop)]
+pub struct TcpEar<'a, R: Clock + Wait> {
+    rt: &'a R,
+    patience: Duration,
+    guests: Mutex<Guests>,
+    door: ClosingDoor,
+}
+
+// The socket that listens at the first of these addresses that is free.
+fn bound<R: Net>(rt: &R, address: &str) -> io::Result<TcpListener> {
+    let mut last = io::Error::from(io::ErrorKind::InvalidInput);
+    for addr in address.to_socket_addrs(rt)? {
+        match TcpListener::bind(rt, addr) {
+            Ok(listener) => return Ok(listener),
+            Err(error) => last = error,
+        }
+    }
+    Err(last)
+}
+
+impl<'a, R: Net + Clock + Wait> TcpEar<'a, R> {
+    fn at(rt: &'a R, alloc: Global, patience: Duration, address: &str) -> io::Result<Self> {
+        let listener = bound(rt, address)?;
+        let guests = Guests::new(alloc, Poll::new(rt)?, listener)?;
+        match Arc::new(alloc, Mutex::new(Vec::new(alloc))) {
+            Ok(door) => Ok(TcpEar {
+                rt,
+                patience,
+                guests: Mutex::new(guests),
+                door,
+            }),
+            Err(_) => Err(io::Error::from(io::ErrorKind::OutOfMemory)),
+        }
+    }
+}
+
+// From a guest a connection that may take `patience` from now on, if it hasn't waited too long.
+fn connection<'a, R: Clock + Wait>(
+    rt: &'a R,
+    guest: Guest,
+    patience: Duration,
+    door: ClosingDoor,
+) -> io::Result<TcpConnection<'a, R>>
+    ensures { IfOk result (λ conn. IsNew (tcp_reads conn) (tcp_writes conn)) }
+{
+    let now = Instant::now(rt)?;
+    let since = if now.duration_since(guest.since) >= patience {
+        guest.since
+    } else {
+        now
+    };
+    let (stream, bytes) = guest.into_parts();
+    let stream = TcpStream::from(stream);
+    stream.set_nonblocking(false)?;
+    stream.set_nodelay(true)?;
+    Ok(TcpConnection::new(rt, stream, bytes, since, patience, Some(door)))
+}
+
+impl<'a, R: Clock + Wait + Sync> Ear for TcpEar<'a, R> {
+    type Conn = TcpConnection<'a, R>;
+
+    fn accept(&self) -> Accepted<TcpConnection<'a, R>>
+        ensures new { GivesNew (λ conn. IsNew (tcp_reads conn) (tcp_writes conn)) result }
+    {
+        sweep(self.rt, &self.door);
+        let guest = self.guest();
+        let Ok(guest) = guest else {
+            return Accepted::Failed;
+        };
+        let Some(guest) = guest else {
+            return Accepted::Nobody;
+        };
+        let Ok(door) = Arc::try_clone(&self.door) else {
+            return Accepted::Failed;
+        };
+        match connection(self.rt, guest, self.patience, door) {
+            Ok(conn) => Accepted::Conn(conn),
+            Err(_) => Accepted::Failed,
+        }
+    }
+}
+
+impl<'a, R: Clock + Wait> TcpEar<'a, R> {
+    // The next that is ready, if one is within a look.
+    fn guest(&self) -> io::Result<Option<Guest>> {
+        let mut guests = self.guests.lock(self.rt);
+        guests.look(self.rt, Duration::from_millis(LOOK), self.patience)
+    }
+}

@@ -1,0 +1,111 @@
+// Calls to peers over TCP.
+ghost use Rattle.std.specs.Prelude.{◌≡◌, ◌≤◌};
+ghost use Rattle.io_edge.specs.Told.{count_after};
+ghost use Rattle.io_links.specs.Exchanges.{IsAnother, IsFailure, Leaves, Notes};
+ghost use Rattle.tcp_links.specs.Faults.{tcp_exchanges};
+
+use crate::connection::TcpConnection;
+use crate::exchanges::exchange_over;
+use io_links::{Exchange, Link};
+use lang_core::FaultNote;
+use std::alloc::Global;
+use std::io;
+use std::net::{Net, TcpStream, ToSocketAddrs};
+use std::sync::Wait;
+use std::time::{Clock, Duration, Instant};
+
+/// How long an exchange may take, in milliseconds.
+const PATIENCE: u64 = 10_000;
+
+/// The most bytes of a reply that are read: a head, a body, and one more.
+const LONGEST_REPLY: u64 = 81_921;
+
+/// A link over TCP: each exchange is made on a connection of its own, and fails where it isn't done
+/// within its time. It tells no exchanges.
+#[derive(Drop)]
+pub struct TcpLink<'a, R: Net<Stream = TcpStream> + Clock + Wait> {
+    rt: &'a R,
+    patience: Duration,
+    faults: u64,
+}
+
+impl<'a, R: Net<Stream = TcpStream> + Clock + Wait> TcpLink<'a, R> {
+    /// A link that made no exchange so far, each of which has 10 seconds.
+    pub fn new(rt: &'a R) -> Self
+        ensures { (tcp_exchanges result).faults ≡ 0 }
+    {
+        TcpLink::with_patience(rt, Duration::from_millis(PATIENCE))
+    }
+
+    /// A link of which each exchange has so long.
+    pub fn with_patience(rt: &'a R, patience: Duration) -> Self
+        ensures { (tcp_exchanges result).faults ≡ 0 }
+    {
+        TcpLink {
+            rt,
+            patience,
+            faults: 0,
+        }
+    }
+
+    // Counts a failed exchange.
+    fn failed(&mut self) -> Exchange
+        ensures failure { IsFailure result }
+        ensures notes { Notes (tcp_exchanges self.old) (tcp_exchanges self.new) result }
+        ensures one { (tcp_exchanges self.new).faults ≡ count_after (tcp_exchanges self.old).faults }
+    {
+        let before = self.faults;
+        let after = before.saturating_add(1);
+        self.faults = after;
+        Exchange::Failed(FaultNote { before, after })
+    }
+}
+
+// A connection to the first of the addresses that answers. All that it does ends by `patience` from
+// now.
+fn connected<'a, R: Net<Stream = TcpStream> + Clock + Wait>(
+    rt: &'a R,
+    alloc: Global,
+    patience: Duration,
+    address: &str,
+) -> io::Result<TcpConnection<'a, R>> {
+    let since = Instant::now(rt)?;
+    let mut last = io::Error::from(io::ErrorKind::InvalidInput);
+    for addr in address.to_socket_addrs(rt)? {
+        match TcpStream::connect_timeout(rt, &addr, patience) {
+            Ok(stream) => {
+                stream.set_nodelay(true)?;
+                let none = Vec::new(alloc);
+                return Ok(TcpConnection::new(rt, stream, none, since, patience, None));
+            }
+            Err(error) => last = error,
+        }
+    }
+    Err(last)
+}
+
+impl<'a, R: Net<Stream = TcpStream> + Clock + Wait> Link for TcpLink<'a, R> {
+    ghost exchanges = { λ l. tcp_exchanges l };
+
+    fn another(&self) -> Self
+        ensures { IsAnother (tcp_exchanges self.now) (tcp_exchanges result) }
+    {
+        TcpLink::with_patience(self.rt, self.patience)
+    }
+
+    fn exchange(&mut self, alloc: Global, address: &str, bytes: &[u8]) -> Exchange
+        ensures made { Leaves (tcp_exchanges self.old) (tcp_exchanges self.new)
+            address.now bytes.now result }
+        ensures counted { (tcp_exchanges self.old).faults ≤ (tcp_exchanges self.new).faults }
+        ensures failed { Notes (tcp_exchanges self.old) (tcp_exchanges self.new) result }
+    {
+        let Ok(mut conn) = connected(self.rt, alloc, self.patience, address) else {
+            return self.failed();
+        };
+        match exchange_over(alloc, &mut conn, bytes, LONGEST_REPLY) {
+            Exchange::Reply(reply) => Exchange::Reply(reply),
+            Exchange::NoMemory => Exchange::NoMemory,
+            Exchange::Failed(_) => self.failed(),
+        }
+    }
+}
