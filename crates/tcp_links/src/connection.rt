@@ -6,7 +6,7 @@ ghost use Rattle.io_edge.specs.Told.{count_after};
 ghost use Rattle.io_links.specs.Connections.{IsNew};
 
 use crate::clocked::Clocked;
-use crate::closing::{Closing, linger};
+use crate::closing::{Kept, linger};
 use io_edge::{Connection, Failed, Sink, Source};
 use std::alloc::Global;
 use std::net::TcpStream;
@@ -17,7 +17,7 @@ use std::time::{Clock, Duration, Instant};
 const PIECE: usize = 4096;
 
 /// The sockets that wait for their peers to close, which an ear shares with its connections.
-pub type ClosingDoor = Arc<Mutex<Vec<Closing>>, Global>;
+pub type ClosingDoor = Arc<Mutex<Kept>, Global>;
 
 /// A connection over TCP. Reads and writes all end by one moment: what isn't done by then fails.
 /// It tells no bytes.

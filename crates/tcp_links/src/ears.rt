@@ -7,7 +7,7 @@ ghost use Rattle.tcp_links.specs.Connections.{tcp_reads, tcp_writes};
 ghost use Rattle.tcp_links.specs.Faults.{door_faults};
 
 use crate::ClosingDoor;
-use crate::closing::sweep;
+use crate::closing::{Kept, sweep};
 use crate::connection::TcpConnection;
 use crate::guests::{Guest, Guests};
 use io_edge::Failed;
@@ -107,7 +107,7 @@ impl<'a, R: Net + Clock + Wait> TcpEar<'a, R> {
     fn at(rt: &'a R, alloc: Global, patience: Duration, address: &str) -> io::Result<Self> {
         let listener = bound(rt, address)?;
         let guests = Guests::new(alloc, Poll::new(rt)?, listener)?;
-        match Arc::new(alloc, Mutex::new(Vec::new(alloc))) {
+        match Arc::new(alloc, Mutex::new(Kept::new(alloc))) {
             Ok(door) => Ok(TcpEar {
                 rt,
                 patience,

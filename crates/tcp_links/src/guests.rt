@@ -113,11 +113,13 @@ impl Guests {
         look: Duration,
         patience: Duration,
     ) -> io::Result<Option<Guest>> {
-        self.arrive(clock)?;
+        let arrived = self.arrive(clock);
         if let Some(guest) = self.ready(clock, patience) {
             return Ok(Some(guest));
         }
+        // Where none can be taken in, as with too many open files, it waits all the same.
         self.poll.poll(&mut self.events, Some(look))?;
+        arrived?;
         self.arrive(clock)?;
         self.hear();
         Ok(self.ready(clock, patience))

@@ -72,7 +72,8 @@ fn connected<'a, R: Net<Stream = TcpStream> + Clock + Wait>(
     let since = Instant::now(rt)?;
     let mut last = io::Error::from(io::ErrorKind::InvalidInput);
     for addr in address.to_socket_addrs(rt)? {
-        match TcpStream::connect_timeout(rt, &addr, patience) {
+        let left = patience.saturating_sub(since.elapsed(rt)?);
+        match TcpStream::connect_timeout(rt, &addr, left) {
             Ok(stream) => {
                 stream.set_nodelay(true)?;
                 let none = Vec::new(alloc);
