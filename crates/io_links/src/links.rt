@@ -2,7 +2,7 @@
 ghost use Rattle.std.specs.Prelude.{◌≤◌};
 ghost use Rattle.io_links.specs.Exchanges.{Exchanges, IsAnother, Leaves, Notes};
 
-use lang_core::{Bytes, FaultNote, Text};
+use lang_core::{Bytes, Copied, FaultNote, NoMemory, Text};
 use std::alloc::Global;
 
 /// What came of one exchange with a peer.
@@ -16,6 +16,16 @@ pub enum Exchange {
     Failed(FaultNote),
 }
 
+impl Copied for Exchange {
+    fn copied(&self, alloc: Global) -> Result<Exchange, NoMemory> {
+        match self {
+            Exchange::Reply(reply) => Ok(Exchange::Reply(reply.copied(alloc)?)),
+            Exchange::NoMemory => Ok(Exchange::NoMemory),
+            Exchange::Failed(note) => Ok(Exchange::Failed(*note)),
+        }
+    }
+}
+
 /// An exchange that was made.
 #[derive(Drop)]
 pub struct Exchanged {
@@ -25,6 +35,18 @@ pub struct Exchanged {
     pub bytes: Bytes,
     /// What came of it, a reply or a failure.
     pub answer: Exchange,
+}
+
+impl Copied for Exchanged {
+    fn copied(&self, alloc: Global) -> Result<Exchanged, NoMemory> {
+        let address = self.address.copied(alloc)?;
+        let bytes = self.bytes.copied(alloc)?;
+        Ok(Exchanged {
+            address,
+            bytes,
+            answer: self.answer.copied(alloc)?,
+        })
+    }
 }
 
 /// Calls peers, each at an address. Each worker has a link of its own.

@@ -1,5 +1,5 @@
 // Doors, ears, connections and links over a network in memory.
-ghost use Rattle.std.specs.Prelude.{◌≡◌, ◌<◌, ◌≤◌, ◌≢◌, [], None, IsOk, length, take, IfOk, OnErr};
+ghost use Rattle.std.specs.Prelude.{◌≡◌, ◌<◌, ◌≤◌, ◌≢◌, [], Some, length, take, IfOk, OnErr};
 ghost use Rattle.io_edge.specs.Edge.{Took, IsAtEnd, Wrote, ReadFails, WriteFails, Rose};
 ghost use Rattle.io_links.specs.Connections.{IsNew, GivesNew};
 ghost use Rattle.io_links.specs.Exchanges.{IsAnother, Leaves, Notes};
@@ -9,7 +9,7 @@ ghost use Rattle.std.proofs.Common.{refl};
 use crate::failing::FailingCalls;
 use crate::network::{CallRefused, MemoryNetwork};
 use crate::told::Told;
-use crate::{Accepted, Door, Ear, Exchange, Link};
+use crate::{Accepted, Door, Ear, Exchange, Exchanged, Link};
 use io_edge::{Connection, Failed, MemoryConnection, MemorySink, MemorySource, Sink, Source};
 use lang_core::Text;
 use std::alloc::Global;
@@ -237,6 +237,13 @@ impl<'a, W: Wait + Clock> MemoryLink<'a, W> {
             network,
             told: Told::new(alloc),
         }
+    }
+
+    /// The exchanges that it made, in order.
+    pub fn made(&self) -> &[Exchanged]
+        ensures { Some result.now ≡ (link_exchanges self.now).made }
+    {
+        &self.told.made
     }
 }
 

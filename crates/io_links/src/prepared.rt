@@ -1,11 +1,11 @@
 // A link in memory whose replies are known beforehand.
-ghost use Rattle.std.specs.Prelude.{◌≡◌, ◌≤◌};
+ghost use Rattle.std.specs.Prelude.{◌≡◌, ◌≤◌, Some};
 ghost use Rattle.lang_base.specs.Memory.{Unless};
 ghost use Rattle.io_links.specs.Exchanges.{IsAnother, Leaves, Notes, wants_memory};
 ghost use Rattle.io_links.specs.Prepared.{prepared_exchanges, prepared_next, prepared_replies, Answers};
 
 use crate::told::Told;
-use crate::{Exchange, Link};
+use crate::{Exchange, Exchanged, Link};
 use lang_core::Bytes;
 use std::alloc::Global;
 
@@ -31,6 +31,13 @@ impl<'a> PreparedLink<'a> {
             replies,
             told: Told::new(alloc),
         }
+    }
+
+    /// The exchanges that it made, in order.
+    pub fn made(&self) -> &[Exchanged]
+        ensures { Some result.now ≡ (prepared_exchanges self.now).made }
+    {
+        &self.told.made
     }
 }
 
