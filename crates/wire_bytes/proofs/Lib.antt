@@ -1,0 +1,5 @@
+pub mod Alone
+pub mod DoorLemmas
+pub mod Heads
+pub mod HearingLemmas
+pub mod Sayings
