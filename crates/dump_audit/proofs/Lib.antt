@@ -1,0 +1,5 @@
+pub mod Firsts
+pub mod LegalLaws
+pub mod OneServes
+pub mod ReplayLaws
+pub mod ServedLaws
