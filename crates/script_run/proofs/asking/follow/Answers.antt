@@ -28,6 +28,19 @@ loop-next-preserved-in-Ok c =
     (subst F c.in-Some.is c.loop-next.invariant)
     (heard_ok (answer_to c.loop-next.world (Deliver c.in-Some.number)) c.in-Ok.came (sym c.in-Ok.is ∙ c.in_ok-came.ensures.heard)) c.in_ok-came.ensures.after c.in_ok-came.ensures.few
 
+pub loop-next-smaller-in-Ok-2 : goal.loop-next-smaller-in-Ok-2
+loop-next-smaller-in-Ok-2 c =
+    falls_answer c.loop-next.world c.step.new.world c.loop-next.next c.in-Some.number (Ok c.in-Ok.came) c.loop-next.invariant.hand c.in-Some.is
+    (heard_ok (answer_to c.loop-next.world (Deliver c.in-Some.number)) c.in-Ok.came (sym c.in-Ok.is ∙ c.in_ok-came.ensures.heard)) c.in_ok-came.ensures.after
+
+pub loop-next-preserved-in-Ok-2 : goal.loop-next-preserved-in-Ok-2
+loop-next-preserved-in-Ok-2 c =
+    let last = Some (c.loop-next.detail, c.loop-next.happened) in
+    let F : Option ℕ → Type 0 = λ o. Follows c.args.world.now c.args.happened.now.packet (Some (c.args.detail.now, c.args.happened.now)) c.loop-next.world o last in
+    follows_answer c.args.world.now c.args.happened.now.packet (Some (c.args.detail.now, c.args.happened.now)) c.loop-next.world c.step.new.world c.in-Some.number last (Ok c.in-Ok.came)
+    (subst F c.in-Some.is c.loop-next.invariant)
+    (heard_ok (answer_to c.loop-next.world (Deliver c.in-Some.number)) c.in-Ok.came (sym c.in-Ok.is ∙ c.in_ok-came.ensures.heard)) c.in_ok-came.ensures.after c.in_ok-came.ensures.few
+
 pub loop-next-smaller : goal.loop-next-smaller
 loop-next-smaller c =
     let r = heard_err (answer_to c.loop-next.world (Deliver c.in-Some.number)) _ (sym c.in-Err.is ∙ c.in_ok-came.ensures.heard) in
