@@ -5,3 +5,7 @@
 mod given;
 #[cfg(test)]
 mod memory;
+#[cfg(test)]
+mod tcp;
+#[cfg(test)]
+mod world;

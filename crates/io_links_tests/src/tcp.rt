@@ -1,0 +1,179 @@
+// Doors and links over loopback, with both ends in threads. Each wait is bounded.
+use crate::given::{equal, got, holds, lost, same, serve};
+use io_edge::Source;
+use io_links::{Accepted, Door, Ear, Exchange, Link};
+use std::io::{Read, Write};
+use std::net::{Net, TcpListener, TcpStream};
+use std::process::Abort;
+use std::sync::Wait;
+use std::thread;
+use std::time::{Clock, Duration, Instant};
+use tcp_links::{TcpDoor, TcpEar, TcpLink};
+
+// More than a test takes, and less than it may.
+fn patience() -> Duration {
+    Duration::from_secs(20)
+}
+
+fn short() -> Duration {
+    Duration::from_millis(300)
+}
+
+// An exchange on a link of its own.
+fn ask<R: Abort + AllocGlobal + Net<Stream = TcpStream> + Wait + Clock>(
+    rt: &R,
+    address: &str,
+    bytes: &[u8],
+) -> Exchange {
+    TcpLink::with_patience(rt, patience()).exchange(rt.alloc(), address, bytes)
+}
+
+// A socket to this address, with a bound on its waits.
+fn client<R: Abort + Net<Stream = TcpStream>>(rt: &R, address: &str) -> TcpStream {
+    let socket = TcpStream::connect(rt, address).expect(rt, "a socket");
+    holds(
+        rt,
+        "bounded",
+        socket.set_read_timeout(Some(patience())).is_ok(),
+    );
+    holds(
+        rt,
+        "bounded",
+        socket.set_write_timeout(Some(patience())).is_ok(),
+    );
+    socket
+}
+
+fn send(rt: &impl Abort, socket: &mut TcpStream, bytes: &[u8]) {
+    holds(rt, "sent", socket.write_all(bytes).is_ok());
+}
+
+// All that comes on a socket is this, and then the end.
+fn comes(rt: &(impl Abort + AllocGlobal), socket: &mut TcpStream, want: &str) {
+    let mut bytes = Vec::new(rt.alloc());
+    holds(rt, "to the end", socket.read_to_end(&mut bytes).is_ok());
+    same(rt, &bytes, want);
+}
+
+// Exchanges come to a door, also again once it was closed; a port that is taken is refused, and
+// one that nobody listens at.
+#[test]
+fn exchanges_over_loopback(rt: HostRuntime) {
+    let address = "127.0.31.1:18431";
+    let mut door = TcpDoor::new(&rt, rt.alloc());
+    for _ in 0..2 {
+        let ear = door.listen(address).expect(&rt, "an ear");
+        holds(&rt, "taken", door.listen(address).is_err());
+        let asks = || {
+            got(&rt, ask(&rt, address, b"GET /a\n\n"), "ok GET /a\n\n");
+            got(
+                &rt,
+                ask(&rt, address, b"\r\nPUT\r\n\r\nbody"),
+                "ok \r\nPUT\r\n\r\nbody",
+            );
+        };
+        let (served, ()) = thread::join(&rt, || serve(&ear, 2), asks);
+        holds(&rt, "served", served);
+    }
+    holds(&rt, "no address", door.listen("no address").is_err());
+    lost(&rt, ask(&rt, address, b"GET /a\n\n"), 0, 1);
+}
+
+// A client that is slow with its head keeps nobody from being served, and is served in the end.
+fn be_slow<R: Abort + AllocGlobal + Net<Stream = TcpStream> + Wait + Clock>(rt: &R, address: &str) {
+    let mut slow = client(rt, address);
+    send(rt, &mut slow, b"GET /slow\n");
+    let silent = client(rt, address);
+    got(rt, ask(rt, address, b"GET /fast\n\n"), "ok GET /fast\n\n");
+    send(rt, &mut slow, b"\r\n");
+    comes(rt, &mut slow, "ok GET /slow\n\r\n");
+    drop(silent);
+}
+
+#[test]
+fn serves_beside_a_slow_client(rt: HostRuntime) {
+    let address = "127.0.31.2:18431";
+    let mut door = TcpDoor::new(&rt, rt.alloc());
+    let ear = door.listen(address).expect(&rt, "an ear");
+    // The silent one's end comes as a connection too.
+    let (served, ()) = thread::join(&rt, || serve(&ear, 2), || be_slow(&rt, address));
+    holds(&rt, "served", served);
+}
+
+// How many reads of the next connection failed until it ended or one failed.
+fn failed_reads<E: Ear>(ear: &E) -> Option<u64> {
+    for _ in 0..1000u32 {
+        if let Accepted::Conn(mut conn) = ear.accept() {
+            let mut piece = [0u8; 64];
+            for _ in 0..3u32 {
+                let _ = conn.read(&mut piece);
+            }
+            return Some(Source::faults(&conn));
+        }
+    }
+    None
+}
+
+// A client that sends no head is given once its time is up, and then its reads fail at once.
+#[test]
+fn gives_up_a_silent_client(rt: HostRuntime) {
+    let address = "127.0.31.3:18431";
+    let mut door = TcpDoor::with_patience(&rt, rt.alloc(), short());
+    let ear = door.listen(address).expect(&rt, "an ear");
+    let silent = client(&rt, address);
+    let start = Instant::now(&rt).expect(&rt, "a clock");
+    holds(&rt, "failed", failed_reads(&ear) == Some(3));
+    let spent = start.elapsed(&rt).expect(&rt, "a clock");
+    holds(&rt, "in time", short() <= spent && spent < patience());
+    drop(silent);
+}
+
+// A client whose body isn't read gets its reply to the end, without a reset.
+fn send_more_than_is_read<R: Abort + AllocGlobal + Net<Stream = TcpStream> + Wait + Clock>(
+    rt: &R,
+    address: &str,
+) {
+    let mut long = client(rt, address);
+    let body = [b'b'; 65_537];
+    send(rt, &mut long, b"PUT /a\n\n");
+    send(rt, &mut long, &body);
+    let mut bytes = Vec::new(rt.alloc());
+    holds(rt, "to the end", long.read_to_end(&mut bytes).is_ok());
+    holds(rt, "a reply", bytes.starts_with(b"ok PUT /a\n\n"));
+    drop(long);
+    got(rt, ask(rt, address, b"GET /b\n\n"), "ok GET /b\n\n");
+}
+
+#[test]
+fn replies_to_what_is_not_read(rt: HostRuntime) {
+    let address = "127.0.31.4:18431";
+    let mut door = TcpDoor::new(&rt, rt.alloc());
+    let ear = door.listen(address).expect(&rt, "an ear");
+    let sends = || send_more_than_is_read(&rt, address);
+    let (served, ()) = thread::join(&rt, || serve(&ear, 2), sends);
+    holds(&rt, "served", served);
+}
+
+// Takes one connection, and the first piece of what it sends, and hands it back unanswered.
+fn take_one(rt: &impl Abort, listener: &TcpListener) -> TcpStream {
+    let (mut socket, _) = listener.accept().expect(rt, "a connection");
+    let mut piece = [0u8; 64];
+    holds(rt, "read", socket.read(&mut piece).is_ok());
+    socket
+}
+
+// A peer that closes without a word replied with nothing, and one that keeps silent fails.
+#[test]
+fn exchanges_with_peers_that_do_not_answer(rt: HostRuntime) {
+    let address = "127.0.31.5:18431";
+    let listener = TcpListener::bind(&rt, address).expect(&rt, "a listener");
+    let take = || drop(take_one(&rt, &listener));
+    let ((), reply) = thread::join(&rt, take, || ask(&rt, address, b"GET /a\n\n"));
+    got(&rt, reply, "");
+    let mut link = TcpLink::with_patience(&rt, short());
+    let exchange = || link.exchange(rt.alloc(), address, b"GET /a\n\n");
+    let (silent, reply) = thread::join(&rt, || take_one(&rt, &listener), exchange);
+    lost(&rt, reply, 0, 1);
+    drop(silent);
+    equal(&rt, 0, 0);
+}
