@@ -14,6 +14,7 @@ use Rattle.aire_wire.specs.Known.{IsKnown}
 use Rattle.aire_wire.specs.declared.incoming.Incoming.{Incoming}
 use Rattle.wire_bytes.specs.Hearing.{TakenSays}
 use Rattle.wire_bytes.proofs.Alone.{request_alone}
+use Rattle.wire_bytes.proofs.Paths.{path_read}
 
 -- the answer that the bytes which were left decide
 abbrev pub Read : Reads → Reads → Result WireRequest FrontRefused → Type 0
@@ -35,4 +36,4 @@ heard_alone me peers console before now request message answer read is says know
     let same : it.0 ≡ rest = some_same it.0 rest (sym it.1 ∙ left) in
     let here = subst (λ (r : List ℕ). SpellsRequest bytes (Ok request) r) same it.2 in
     let there = subst (λ (b : List ℕ). SpellsRequest b (Ok request) rest) split here in
-    (request, request_alone taken rest request there, said_by me peers console request message answer is says, known)
+    (request, request_alone taken rest request there, said_by me peers console request message answer is says, known, path_read bytes request it.0 it.2)

@@ -1,7 +1,8 @@
 -- What a service hears on a connection: a message, or why there is none.
-use Rattle.std.specs.Prelude.{◌≡◌, ℕ, Bool, false, List, [], ◌++◌, Some, Result, Ok, Err}
+use Rattle.std.specs.Prelude.{◌≡◌, ℕ, Bool, true, false, List, [], ◌++◌, Some, Result, Ok, Err}
 use Rattle.std.specs.Option.{ForSome}
 use Rattle.lang_base.specs.Memory.{lacks}
+use Rattle.lang_tree.specs.Forms.{is_path}
 use Rattle.io_edge.specs.Edge.{Reads}
 use Rattle.http_front.specs.Answers.{interrupts}
 use Rattle.http_front.specs.Reading.{SpellsRequest}
@@ -31,11 +32,11 @@ abbrev pub IsHeardFrom : List ℕ → Secrets → List ℕ → Reads → Reads �
 IsHeardFrom me peers console before now answer =
     lacks broke_off answer ≡ false → ForSome before.left (λ bytes. (rest : List ℕ) × (now.left ≡ Some rest) × IsHeard me peers console bytes answer rest)
 
--- these bytes say this message, no byte is left, and it is known to be what such a message is
+-- these bytes say this message, no byte is left, and it is known to be what such a message is, and to go to a path
 abbrev pub SaysKnown : List ℕ → Secrets → List ℕ → List ℕ → Incoming → Type 0
 SaysKnown me peers console taken message =
     (request : WireRequest) × SpellsRequest taken (Ok request) [] × (incoming me peers console request ≡ Ok message)
-    × IsKnown me peers console request message
+    × IsKnown me peers console request message × (is_path request.path ≡ true)
 
 -- what was taken says it alone
 abbrev pub TakenSays : List ℕ → Secrets → List ℕ → Reads → Reads → Incoming → Type 0

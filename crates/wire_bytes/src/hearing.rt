@@ -11,7 +11,7 @@ use std::alloc::Global;
 use wire_fields::{Secrets, WireRefused};
 
 /// Why a service hears no message.
-#[derive(Clone, Copy, Debug, PartialEq, Eq)]
+#[derive(Clone, Copy, PartialEq, Eq)]
 pub enum Unheard {
     /// The bytes are no HTTP request.
     Front(FrontRefused),
