@@ -1,0 +1,8 @@
+use Rattle.preview_core.proofs.StepLemmas.{Going}
+use Rattle.preview_core.proofs.stepping.step_until_idle.Given as goal
+
+abbrev pub invariant-loop-left : goal.invariant-loop-left
+invariant-loop-left l = Going l.initial.service l.service l.ids l.left
+
+abbrev pub decreases-loop-left : goal.decreases-loop-left
+decreases-loop-left l = l.left

@@ -1,0 +1,5 @@
+pub mod Trials
+pub mod Repairs
+pub mod Differences
+pub mod Posts
+pub mod Previews
