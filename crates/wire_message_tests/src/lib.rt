@@ -11,7 +11,11 @@ mod reading;
 #[cfg(test)]
 mod reply_given;
 #[cfg(test)]
+mod sending;
+#[cfg(test)]
 mod told;
+#[cfg(test)]
+mod words;
 #[cfg(test)]
 mod writing;
 #[cfg(test)]

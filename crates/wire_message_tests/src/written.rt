@@ -23,7 +23,8 @@ const DELETION: &str =
 const ANSWER: &str =
     "POST /aire/response HTTP/1.1\r\nAire-From: shop\r\nAire-Dest: bank\r\nAire-Request-Id: shop/9\r\nAire-Response-Id: bank/4\r\nAire-Repair: replace_response\r\nAire-Version: 2\r\nAire-Answer-Version: 3\r\nAire-Who: shop\r\nAire-Status: 201\r\nAire-Seal: 974edb3d301b1fe1ea2ae181b325cf784084598069d6ac58f3aa209b0e0c3443\r\nContent-Length: 2\r\nConnection: close\r\n\r\nok";
 
-fn asked(
+/// A request to pay, called for by the shop, which another service called first where it is to be an inner one.
+pub fn asked(
     rt: &(impl Abort + AllocGlobal),
     method: Method,
     who: &str,
@@ -47,7 +48,8 @@ fn asked(
     }
 }
 
-fn set(
+/// A version of the shop's call 3 to the bank.
+pub fn set(
     rt: &(impl Abort + AllocGlobal),
     who: &str,
     version: u64,
@@ -106,7 +108,8 @@ fn post_is(rt: &(impl Abort + AllocGlobal), post: Post, bytes: &str, told: &str)
     reads(rt, bytes, told);
 }
 
-fn create(rt: &(impl Abort + AllocGlobal)) -> Post {
+/// The first version of one.
+pub fn create(rt: &(impl Abort + AllocGlobal)) -> Post {
     let desired = asked(rt, Method::Put, "ann", true, "5");
     Post::Set(set(rt, "shop", 1, Some(desired), None, Some(2)))
 }
