@@ -19,8 +19,8 @@ pub enum Live {
 }
 
 impl Live {
-    /// The callee refused the call. Refusals of arrivals are numbered here, and nowhere else: NoMemory 1, Full 2, NotYet 3,
-    /// Gone 4.
+    /// The callee refused the call. Refusals of arrivals are numbered so: NoMemory 1, Full 2, NotYet 3, Gone 4. What a reply
+    /// over the wire comes to has the same numbers.
     pub fn refused(why: ArriveRefused) -> Live
         ensures { result ≡ live_refusal why }
     {
