@@ -10,9 +10,9 @@ use Rattle.lang_core.specs.declared.writes.Write.{Write}
 use Rattle.request_log.specs.declared.entry.Entry.{Entry}
 use Rattle.request_log.specs.declared.entry.Made.{Made}
 use Rattle.log_index.specs.Marks.{KeptMarks, is_marked}
-use Rattle.local_repair.specs.Current.{Consumed, AllCurrent, IsCurrent, IsCurrentRecord, IsFirstStale, rows_after}
+use Rattle.local_repair.specs.Current.{Consumed, AllCurrent, AreChecked, IsCurrent, IsCurrentRecord, IsFirstStale, rows_after}
 use Rattle.local_repair.specs.Held.{AreCurrent, IsAnswered, IsCurrentAt, IsFirstChanged, IsFirstMarked, IsHeldRecord, IsKept}
-use Rattle.local_repair.proofs.CurrentLemmas.{AllCurrent-more}
+use Rattle.local_repair.proofs.CurrentLemmas.{AllCurrent-more, current_at}
 use Rattle.local_repair.proofs.StepLemmas.{entry_at}
 
 -- ---- one entry
@@ -49,6 +49,13 @@ stale_here consumed entries place e rows within is seen stale = λ d current.
     let Q : List Cell → Entry → Type 0 = λ r x. IsCurrent consumed r x in
     let B : List Cell → Type 0 = λ r. Q r e in
     stale (subst B (sym seen) (subst (Q (rows_after [] (take place entries))) (get_or_default entries place d e within ∙ sym is) current))
+
+-- what is known to be current consumed what there is now
+pub checked_answered : (consumed : Consumed) (entries : List Entry) (checked : ℕ) → AreChecked consumed entries checked → (q : ℕ) → q < checked → HoldsAt (IsAnswered consumed) entries q
+checked_answered consumed entries checked known q lt = λ d.
+    let within = known.within in
+    changed_by consumed (rows_after [] (take q entries)) (get_or entries q d) (get_or entries q d).made
+    (current_at consumed entries [] checked q d lt (omega arith) known.current)
 
 -- ---- all before a place
 

@@ -148,6 +148,7 @@ step_leaves setting h c entries place was again first at a runs apart own =
       runs = All-set (λ e. IfSome e.made (IsRun setting e.inputs)) entries place z (rerun_is setting h c.before rows was m a.rerun) runs;
       apart = apart_after c.last c.later entries place was z apart l at a.settled.fresh a.settled.once a.settled.higher;
       own = All-set HasItsSlots entries place z many own;
+      before = (rw length-set (omega (arith, l)), rw (take-set entries place z) before);
       current = λ ok. AllCurrent-more c.after (set entries place z) place z [] (rw length-set l) (sym (get_or-set_same entries place z z l)) (rw (take-set entries place z) before) (rw (take-set entries place z) (current ok));
     }
 

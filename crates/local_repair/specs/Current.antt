@@ -1,5 +1,5 @@
 -- Which entries of a log are current, and which is the first that is stale.
-use Rattle.std.specs.Prelude.{ℕ, ◌≡◌, ◌<◌, List, [], ◌∷◌, Option, Some, None, map, fold, take, length, IsSomeAnd, IfSome, All}
+use Rattle.std.specs.Prelude.{ℕ, ◌≡◌, ◌<◌, ◌≤◌, List, [], ◌∷◌, Option, Some, None, map, fold, take, length, IsSomeAnd, IfSome, All}
 use Rattle.std.specs.List.{HoldsAt}
 use Rattle.lang_core.specs.Rows.{apply}
 use Rattle.lang_core.specs.Traces.{dead_trace}
@@ -53,6 +53,11 @@ IsCurrent consumed rows e = IsSomeAnd e.made (λ m. IsCurrentRecord consumed row
 abbrev pub AllCurrent : Consumed → List Cell → List Entry → Type 0
 AllCurrent consumed rows [] = Unit {0}
 AllCurrent consumed rows (e ∷ es) = IsCurrent consumed rows e × AllCurrent consumed (after_entry rows e) es
+
+-- of the log's first entries, so many are known to be current
+pub record AreChecked (consumed : Consumed) (entries : List Entry) (checked : ℕ) : Type 0 where
+  pub within : checked ≤ length entries
+  pub current : AllCurrent consumed base_rows (take checked entries)
 
 -- the entry at this place is stale, and none before it, where these are the rows before the first
 pub record IsFirstStale (consumed : Consumed) (base : List Cell) (entries : List Entry) (place : ℕ) : Type 0 where

@@ -57,3 +57,4 @@ pub record Leaves (setting : Setting) (c : SlotsChange) (base : List Cell) (plac
   pub apart : AreApart c.later entries
   pub own : All HasItsSlots entries
   pub current : c.timely → AllCurrent c.after base (take (place + 1) entries)
+  pub before : (place ≤ length entries) × AllCurrent c.after base (take place entries)

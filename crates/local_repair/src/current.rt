@@ -5,7 +5,7 @@ ghost use Rattle.std.specs.Option.{option_copied};
 ghost use Rattle.handler_run.specs.Reads.{Gives, GivesAll};
 ghost use Rattle.log_index.specs.Rows.{rows_before};
 ghost use Rattle.log_index.specs.Marks.{AreMarks};
-ghost use Rattle.local_repair.specs.Current.{IsCurrentRecord, IsCurrent, AllCurrent, IsFirstStale, base_rows};
+ghost use Rattle.local_repair.specs.Current.{AreChecked, IsCurrentRecord, IsCurrent, AllCurrent, IsFirstStale, base_rows};
 ghost use Rattle.local_repair.specs.Held.{AreCurrent, IsAnswered, IsFirstChanged, IsFirstMarked, IsHeld, IsHeldRecord, IsKept, IsOfNow};
 ghost use Rattle.local_repair.specs.Written.{all_written};
 ghost use Rattle.local_repair.specs.Parts.{IsOf};
@@ -171,14 +171,16 @@ fn place_of_marked<S: Slots>(
 }
 
 // The place of the first entry, of so many, whose record consumed something else than its slots consume now. Where no
-// entry has calls there is none, and no entry is looked at.
+// entry has calls there is none, and no entry is looked at, nor is one that is known to be current.
 fn place_of_changed<S: Slots>(
     calls: bool,
     entries: &[KeptEntry],
+    checked: usize,
     end: usize,
     slots: &S,
 ) -> Option<usize>
-    requires { end ≤ length entries.now }
+    requires within { end ≤ length entries.now }
+    requires checked { AreChecked (S.consumed_of slots.now) entries.now checked }
     ensures { MatchOption result
         (calls ≡ true → (q : ℕ) → q < end → HoldsAt (IsAnswered (S.consumed_of slots.now)) entries.now q)
         (λ place. (place < end) × IsFirstChanged (S.consumed_of slots.now) entries.now place) }
@@ -186,7 +188,7 @@ fn place_of_changed<S: Slots>(
     if !calls {
         return None;
     }
-    for place in 0..end {
+    for place in checked..end {
         if !is_answered(entries[place].entry(), slots) {
             return Some(place);
         }
@@ -203,23 +205,26 @@ fn end_of(marked: Option<usize>, count: usize) -> usize
     }
 }
 
-/// The place of the first stale entry of a log, counted from 0; None exactly where no entry is stale. Only what is marked
-/// is tested on its rows; where an entry may have calls, what stands before that is tested by its answers.
+/// The place of the first stale entry of a log, counted from 0, of whose first entries so many are known to be current; None
+/// exactly where no entry is stale. Only what is marked is tested on its rows; where an entry may have calls, what stands
+/// before that and isn't known to be current is tested by its answers.
 pub(crate) fn place_of_stale<S: Slots>(
     rows: &EntryRows,
     marks: &EntryMarks,
     calls: bool,
     entries: &[KeptEntry],
+    checked: usize,
     slots: &S,
 ) -> Option<usize>
-    requires { IsKept entries.now rows.now.writes marks.now calls }
+    requires kept { IsKept entries.now rows.now.writes marks.now calls }
+    requires checked { AreChecked (S.consumed_of slots.now) entries.now checked }
     ensures { MatchOption result
         (AllCurrent (S.consumed_of slots.now) base_rows entries.now)
         (λ place. IsFirstStale (S.consumed_of slots.now) base_rows entries.now place) }
 {
     let marked = place_of_marked(rows, marks.marks(), entries, slots);
     let end = end_of(marked, entries.len());
-    match place_of_changed(calls, entries, end, slots) {
+    match place_of_changed(calls, entries, checked, end, slots) {
         Some(place) => Some(place),
         None => marked,
     }

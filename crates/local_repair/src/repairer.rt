@@ -4,7 +4,7 @@ ghost use Rattle.request_log.specs.Entries.{changed, has_id, mark, replace, IsNe
 ghost use Rattle.dependency_index.specs.Reads.{read_at};
 ghost use Rattle.log_index.specs.Marks.{is_marked, IsReadyToSet as IsReadyToMark};
 ghost use Rattle.log_index.specs.Rows.{IsReadyToSet};
-ghost use Rattle.local_repair.specs.Current.{AllCurrent, AllRuns, rows_after, writes_of, base_rows};
+ghost use Rattle.local_repair.specs.Current.{AllCurrent, AreChecked, AllRuns, rows_after, writes_of, base_rows};
 ghost use Rattle.local_repair.specs.Held.{all_looked, IsIdMarked, IsKept, IsMarkedBehind, IsMarkedFrom};
 ghost use Rattle.local_repair.specs.Written.{all_written, rows_seen};
 ghost use Rattle.request_log.specs.declared.entry.Entry.{Entry};
@@ -276,32 +276,38 @@ impl Repairer {
         self.log.rewrite(id, method, path, body)
     }
 
-    /// The number of the first stale entry; None exactly where no entry is stale.
-    pub fn first_stale<S: Slots>(&self, slots: &S) -> Option<u64>
+    /// The number of the first stale entry, where so many of the first entries are known to be current; None exactly where no
+    /// entry is stale.
+    pub fn first_stale<S: Slots>(&self, slots: &S, checked: usize) -> Option<u64>
+        requires { AreChecked (S.consumed_of slots.now) self.now.entries checked }
         ensures first { MatchOption result
             (AllCurrent (S.consumed_of slots.now) base_rows self.now.entries)
             (λ id. IsStaleId (S.consumed_of slots.now) base_rows self.now.entries id) }
         ensures test { result ≡ stale_id (S.consumed_of slots.now) base_rows self.now.entries }
     {
         let entries = self.log.as_slice();
-        match place_of_stale(&self.rows, &self.marks, self.calls, entries, slots) {
+        match place_of_stale(&self.rows, &self.marks, self.calls, entries, checked, slots) {
             None => None,
             Some(place) => Some(entries[place].entry().id),
         }
     }
 
     /// Runs the first stale entry again on the rows before it, and settles its calls. Where none is stale the answer is
-    /// Idle, which takes no memory. Refused, nothing changes.
+    /// Idle, which takes no memory. Refused, nothing changes. So many of the first entries are known to be current; how many
+    /// are it afterwards is noted, so that the next step doesn't look at them again.
     pub fn step<S: Slots>(
         &mut self,
         alloc: Global,
         setting: &Setting,
         slots: &mut S,
+        checked: &mut usize,
     ) -> Result<Stepped, NoMemory>
         requires runs { AllRuns setting.now self.old.entries }
         requires apart { AreApart (S.last_of slots.old) self.old.entries }
         requires own { All HasItsSlots self.old.entries }
         requires can { All (CanSettle (S.can_settle slots.old) setting.now) self.old.entries }
+        requires checked { AreChecked (S.consumed_of slots.old) self.old.entries checked.old }
+        ensures checked { AreChecked (S.consumed_of slots.new) self.new.entries checked.new }
         ensures runs { AllRuns setting.now self.new.entries }
         ensures apart { AreApart (S.last_of slots.new) self.new.entries }
         ensures own { All HasItsSlots self.new.entries }
@@ -321,13 +327,22 @@ impl Repairer {
         ensures err { OnErr result ((self.new ≡ self.old) × (slots.new ≡ slots.old)) }
     {
         let entries = self.log.as_slice();
-        let stale = place_of_stale(&self.rows, &self.marks, self.calls, entries, slots);
+        let stale = place_of_stale(
+            &self.rows,
+            &self.marks,
+            self.calls,
+            entries,
+            *checked,
+            slots,
+        );
         match stale {
             None => {
                 self.marks.clear_before(entries.len());
+                *checked = entries.len();
                 Ok(Stepped::Idle)
             }
             Some(place) => {
+                *checked = place;
                 let again = remake_at(
                     alloc,
                     setting,

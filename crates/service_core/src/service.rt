@@ -51,12 +51,16 @@ use std::marker::Model;
 #[derive(Drop)]
 pub struct Service {
     parts: Parts,
+    // Of the log's first entries so many are known to be current. A repair step doesn't look at them again, and notes how many
+    // are it then; every other event may change an answer that one of them consumed, and forgets it.
+    checked: usize,
 }
 
 impl Model for Service {
     ghost use Rattle.service_events.specs.State.{Kept, kept_code};
     ghost use Rattle.service_parts.specs.Parts.{kept};
     ghost use Rattle.service_parts.specs.Services.{IsService};
+    ghost use Rattle.service_repairs.specs.Answers.{IsChecked};
 
     ghost Value = { Kept };
 
@@ -64,7 +68,7 @@ impl Model for Service {
 
     ghost view = { λ s. kept s.parts };
 
-    ghost invariant = { λ s. IsService s.parts };
+    ghost invariant = { λ s. IsService s.parts × IsChecked (kept s.parts) s.checked };
 }
 
 impl Service {
@@ -81,7 +85,7 @@ impl Service {
             registers: Registers::new(alloc),
             replies: Replies::new(alloc),
         };
-        Service { parts }
+        Service { parts, checked: 0 }
     }
 
     /// What it is set to do.
@@ -161,7 +165,7 @@ impl Service {
         ensures test { result ≡ first_stale self.now }
         ensures replay { MatchOption result (AreReplayed self.now self.now.entries) (λ id. IsReplayedBefore self.now id) }
     {
-        first_stale(&self.parts)
+        first_stale(&self.parts, self.checked)
     }
 
     /// A live request arrives. It runs, and is committed or waits for a call; or it is a call that has an entry. It is
@@ -179,6 +183,7 @@ impl Service {
         ensures goes { IfOk result (λ arrived. Begins self.old (new_flight self.old origin request inputs) arrived self.new) }
         ensures told { OnOk result (AddsCauses (causes self.old) false self.new) }
     {
+        self.checked = 0;
         arrive(alloc, &mut self.parts, origin, request, inputs)
     }
 
@@ -197,6 +202,7 @@ impl Service {
             (λ f. GoesOnTo (noted (live_answer_rows self.old answer.now) self.old) f (after self.new arrived))) }
         ensures told { TellsAnswered flight answer.now self.old result self.new }
     {
+        self.checked = 0;
         call_answered(alloc, &mut self.parts, flight, answer)
     }
 
@@ -216,6 +222,7 @@ impl Service {
             (λ f. GoesOnTo (told number why self.old) f (after self.new arrived))) }
         ensures told { TellsFailed flight number why self.old result self.new }
     {
+        self.checked = 0;
         call_failed(alloc, &mut self.parts, flight, number, why)
     }
 
@@ -226,6 +233,7 @@ impl Service {
         ensures silent { live_rows self.new.journal ≡ live_rows self.old.journal }
         ensures told { AddsCauses (causes self.old) false self.new }
     {
+        self.checked = 0;
         abandon(&mut self.parts, flight)
     }
 
@@ -242,7 +250,7 @@ impl Service {
         ensures silent { live_rows self.new.journal ≡ live_rows self.old.journal }
         ensures told { AddsCauses (causes self.old) false self.new }
     {
-        repair_step(alloc, &mut self.parts)
+        repair_step(alloc, &mut self.parts, &mut self.checked)
     }
 
     /// Carries out an order of an operator. An order whose token was accepted before is answered as then, without memory, and
@@ -261,6 +269,7 @@ impl Service {
         ensures silent { live_rows self.new.journal ≡ live_rows self.old.journal }
         ensures told { AddsCauses (causes self.old) false self.new }
     {
+        self.checked = 0;
         order(alloc, &mut self.parts, command, token, who, inputs)
     }
 
@@ -278,6 +287,7 @@ impl Service {
         ensures silent { live_rows self.new.journal ≡ live_rows self.old.journal }
         ensures told { AddsCauses (causes self.old) false self.new }
     {
+        self.checked = 0;
         take(alloc, &mut self.parts, set, inputs)
     }
 
@@ -293,6 +303,7 @@ impl Service {
         ensures silent { live_rows self.new.journal ≡ live_rows self.old.journal }
         ensures told { AddsCauses (causes self.old) false self.new }
     {
+        self.checked = 0;
         take_answer(alloc, &mut self.parts, answer)
     }
 
@@ -309,6 +320,7 @@ impl Service {
         ensures silent { live_rows self.new.journal ≡ live_rows self.old.journal }
         ensures told { AddsCauses (causes self.old) false self.new }
     {
+        self.checked = 0;
         posted(alloc, &mut self.parts, post, reply)
     }
 
@@ -337,6 +349,6 @@ impl Service {
 impl Copied for Service {
     fn copied(&self, alloc: Global) -> Result<Service, NoMemory> {
         let parts = copied_parts(alloc, &self.parts)?;
-        Ok(Service { parts })
+        Ok(Service { parts, checked: 0 })
     }
 }

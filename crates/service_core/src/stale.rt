@@ -4,6 +4,7 @@ ghost use Rattle.local_repair.specs.Current.{AllCurrent};
 ghost use Rattle.local_repair.specs.Repairs.{IsStaleId};
 ghost use Rattle.service_events.specs.State.{answers, base};
 ghost use Rattle.service_parts.specs.Parts.{kept};
+ghost use Rattle.service_repairs.specs.Answers.{IsChecked};
 ghost use Rattle.service_core.specs.Readings.{first_stale};
 
 use call_registers::Registers;
@@ -49,8 +50,10 @@ impl Slots for Held<'_> {
     }
 }
 
-/// The number of the first stale entry; None exactly where no entry is stale.
-pub(crate) fn first_stale(parts: &Parts) -> Option<u64>
+/// The number of the first stale entry, where so many of the log's first entries are known to be current; None exactly where no
+/// entry is stale.
+pub(crate) fn first_stale(parts: &Parts, checked: usize) -> Option<u64>
+    requires { IsChecked (kept parts.now) checked }
     ensures first { MatchOption result
         (AllCurrent (answers (kept parts.now)) (base (kept parts.now)) parts.now.repairer.entries)
         (λ id. IsStaleId (answers (kept parts.now)) (base (kept parts.now)) parts.now.repairer.entries id) }
@@ -59,5 +62,5 @@ pub(crate) fn first_stale(parts: &Parts) -> Option<u64>
     let held = Held {
         registers: &parts.registers,
     };
-    parts.repairer.first_stale(&held)
+    parts.repairer.first_stale(&held, checked)
 }

@@ -6,6 +6,7 @@ ghost use Rattle.service_events.specs.Steps.{step_event};
 ghost use Rattle.service_events.specs.Fits.{Fits};
 ghost use Rattle.service_parts.specs.Parts.{kept};
 ghost use Rattle.service_parts.specs.Rooms.{aloft};
+ghost use Rattle.service_repairs.specs.Answers.{IsChecked};
 ghost use Rattle.service_repairs.specs.Books.{book_of, with_book};
 
 use crate::book::Book;
@@ -55,17 +56,21 @@ fn put_book(parts: &mut Parts, book: Book)
 }
 
 /// Runs the first stale entry again, if there is one, and settles its calls. Where none is stale the answer is Idle, which
-/// takes no memory. Refused, nothing changes.
-pub fn repair(alloc: Global, parts: &mut Parts) -> Result<Stepped, NoMemory>
+/// takes no memory. Refused, nothing changes. How many of the first entries are known to be current is noted.
+pub fn repair(alloc: Global, parts: &mut Parts, checked: &mut usize) -> Result<Stepped, NoMemory>
     requires fits { Fits (kept parts.old) }
     requires room { aloft parts.old.flights.list ≤ parts.old.journal.spare }
+    requires checked { IsChecked (kept parts.old) checked.old }
+    ensures checked { IsChecked (kept parts.new) checked.new }
     ensures ok { IfOk result (λ stepped. after (kept parts.new) stepped ≡ step_event (kept parts.old)) }
     ensures err { OnErr result (kept parts.new ≡ kept parts.old) }
     ensures room { aloft parts.new.flights.list ≤ parts.new.journal.spare }
     ensures free { AllCurrent (answers (kept parts.old)) (base (kept parts.old)) parts.old.repairer.entries → result ≡ Ok Stepped.Idle }
 {
     let mut book = take_book(alloc, parts);
-    let stepped = parts.repairer.step(alloc, &parts.setting, &mut book);
+    let stepped = parts
+        .repairer
+        .step(alloc, &parts.setting, &mut book, checked);
     put_book(parts, book);
     stepped
 }

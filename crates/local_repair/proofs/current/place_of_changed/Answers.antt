@@ -3,7 +3,11 @@ use Rattle.std.proofs.lemmas.Bool.{cases_lt}
 use Rattle.std.proofs.lemmas.List.{get_or_default}
 use Rattle.request_log.specs.declared.entry.Entry.{Entry}
 use Rattle.local_repair.specs.Held.{IsAnswered}
+use Rattle.local_repair.proofs.StaleLemmas.{checked_answered}
 use Rattle.local_repair.proofs.current.place_of_changed.Goals as goal
+
+pub loop-place-init : goal.loop-place-init
+loop-place-init g c = checked_answered (g.S.Slots.consumed_of c.args.slots.now) c.args.entries.now c.args.checked c.requires.checked
 
 pub loop-place-preserved : goal.loop-place-preserved
 loop-place-preserved g c = λ q lt d.
@@ -11,7 +15,7 @@ loop-place-preserved g c = λ q lt d.
     let place = c.loop-place.place in
     let e = c.index-entries-place.result in
     let P : Entry → Type 0 = IsAnswered (g.S.Slots.consumed_of c.args.slots.now) in
-    let le = c.requires in
+    let le = c.requires.within in
     let inside = c.loop-place-test.true in
     let within : place < length es = omega arith in
     elim (cases_lt q place) [
@@ -26,7 +30,7 @@ returns-then-not-is_answered g c =
     let place = c.loop-place.place in
     let e = c.index-entries-place.result in
     let P : Entry → Type 0 = IsAnswered (g.S.Slots.consumed_of c.args.slots.now) in
-    let le = c.requires in
+    let le = c.requires.within in
     let inside = c.loop-place-test.true in
     let within : place < length es = omega arith in (
       inside,

@@ -8,4 +8,4 @@ returns-clause-steps c =
 
 pub returns-clause-service : goal.returns-clause-service
 returns-clause-service c =
-    step_service c.args.parts.now c.repair.new.parts c.repair.result c.requires c.repair.ensures.ok c.repair.ensures.err c.repair.ensures.room
+    step_service c.args.parts.now c.repair.new.parts c.repair.result c.requires.service c.repair.ensures.ok c.repair.ensures.err c.repair.ensures.room

@@ -1,14 +1,16 @@
 use Rattle.std.proofs.Common.{[], List, All, ap, subst, sym, length, map}
 use Rattle.lang_core.specs.declared.setting.Setting.{Setting}
 use Rattle.request_log.specs.declared.entry.Entry.{Entry}
-use Rattle.local_repair.specs.Current.{AllCurrent}
+use Rattle.local_repair.specs.Current.{AllCurrent, AreChecked}
 use Rattle.local_repair.specs.Repairs.{KeptRepairer}
 use Rattle.local_repair.specs.Settling.{HasItsSlots, CanSettle}
 use Rattle.local_repair.specs.Steps.{AreApart}
 use Rattle.call_registers.specs.declared.register.Register.{Register}
 use Rattle.service_events.specs.Fits.{calls_of_flight}
+use Rattle.service_events.specs.State.{Kept}
 use Rattle.service_parts.specs.Parts.{kept}
 use Rattle.service_laws.proofs.ApartLaws.{own_slots, all_apart}
+use Rattle.service_repairs.specs.Answers.{IsChecked}
 use Rattle.service_repairs.specs.Books.{KeptBook, answers, IsOwn}
 use Rattle.service_repairs.proofs.StepDraftLemmas.{all_settle, repaired}
 use Rattle.service_repairs.proofs.step_drafts.repair.Goals as goal
@@ -55,3 +57,15 @@ returns-clause-free c = λ all.
     let Q : List Entry → Type 0 = λ es. AllCurrent (answers c.take_book-book.result) [] es in
     c.step-stepped.ensures.free
     (subst Q (sym (ap (λ (r : KeptRepairer). r.entries) c.take_book-book.ensures.entries)) (subst P (sym c.take_book-book.ensures.book) all))
+
+pub step-stepped-requires-clause-checked : goal.step-stepped-requires-clause-checked
+step-stepped-requires-clause-checked c =
+    let s = kept c.args.parts.now in
+    let P : KeptBook → Type 0 = λ b. AreChecked (answers b) s.entries c.args.checked.now in
+    let Q : List Entry → Type 0 = λ es. AreChecked (answers c.take_book-book.result) es c.args.checked.now in
+    subst Q (sym (ap (λ (r : KeptRepairer). r.entries) c.take_book-book.ensures.entries)) (subst P (sym c.take_book-book.ensures.book) c.requires.checked)
+
+pub returns-clause-checked : goal.returns-clause-checked
+returns-clause-checked c =
+    let P : Kept → Type 0 = λ k. IsChecked k c.step-stepped.new.checked in
+    subst P (sym c.put_book.ensures.kept) c.step-stepped.ensures.checked

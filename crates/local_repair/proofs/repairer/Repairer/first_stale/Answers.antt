@@ -6,8 +6,8 @@ use Rattle.local_repair.specs.Repairs.{KeptRepairer, IsStaleId, stale_id}
 use Rattle.local_repair.proofs.TestLemmas.{stale_id_none, stale_id_at, is_stale_id}
 use Rattle.local_repair.proofs.repairer.Repairer.first_stale.Goals as goal
 
-pub place_of_stale-requires : goal.place_of_stale-requires
-place_of_stale-requires g c =
+pub place_of_stale-requires-clause-kept : goal.place_of_stale-requires-clause-kept
+place_of_stale-requires-clause-kept g c =
     let inside = c.self.inside in
     let P : List Entry → Type 0 = λ l. IsKept l inside.rows.writes inside.marks inside.calls in
     subst P (sym c.as_slice-entries.ensures.entries) c.self.invariant

@@ -16,8 +16,8 @@ use Rattle.local_repair.proofs.TestLemmas.{none_first}
 use Rattle.local_repair.proofs.repairer.Repairer.step.Given.{Over}
 use Rattle.local_repair.proofs.repairer.Repairer.step.Goals as goal
 
-pub place_of_stale-stale-requires : goal.place_of_stale-stale-requires
-place_of_stale-stale-requires g c =
+pub place_of_stale-stale-requires-clause-kept : goal.place_of_stale-stale-requires-clause-kept
+place_of_stale-stale-requires-clause-kept g c =
     let inside = c.self.inside in
     let P : List Entry → Type 0 = λ l. IsKept l inside.rows.writes inside.marks inside.calls in
     subst P (sym c.as_slice-entries.ensures.entries) c.self.invariant
@@ -124,3 +124,10 @@ returns-in_ok-again-in-Some-clause-idle g c = λ idle.
     let F : List Entry → Type 0 = λ xs. IsFirstStale (g.S.Slots.consumed_of c.args.slots.now) [] xs c.in-Some.place in
     let first = subst F c.as_slice-entries.ensures.entries c.in-Some.ensures in
     absurd (not_idle c.self.inside.log.entries c.in-Some.place c.in_ok-again-in-Some.again.answered c.note.result first.within c.note.ensures.stepped idle)
+
+-- how many of the first entries are known to be current
+pub returns-in_ok-again-in-Some-clause-checked : goal.returns-in_ok-again-in-Some-clause-checked
+unfolding change
+returns-in_ok-again-in-Some-clause-checked g c =
+    let before = (left g c).0.before in
+    record { within = before.0; current = before.1 }

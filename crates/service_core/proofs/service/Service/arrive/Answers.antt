@@ -14,18 +14,18 @@ use Rattle.service_core.proofs.service.Service.arrive.Goals as goal
 pub returns-clause-commits : goal.returns-clause-commits
 returns-clause-commits c =
     subst (λ s. Commits c.args.origin c.args.request c.args.inputs s c.arrive.result (kept c.arrive.new.parts)) c.self.view_is
-    (arrive_done (kept c.self.inside.parts) (kept c.arrive.new.parts) c.args.origin c.args.request c.args.inputs c.arrive.result c.self.invariant.fits
+    (arrive_done (kept c.self.inside.parts) (kept c.arrive.new.parts) c.args.origin c.args.request c.args.inputs c.arrive.result c.self.invariant.0.fits
     (rows_few c.arrive.new.parts) c.arrive.ensures.does)
 
 pub returns-clause-goes : goal.returns-clause-goes
 returns-clause-goes c =
     subst (λ s. IfOk c.arrive.result (λ arrived. Begins s (new_flight s c.args.origin c.args.request c.args.inputs) arrived (kept c.arrive.new.parts))) c.self.view_is
-    (does_arrive (kept c.self.inside.parts) (kept c.arrive.new.parts) c.args.origin c.args.request c.args.inputs c.arrive.result c.self.invariant.fits
+    (does_arrive (kept c.self.inside.parts) (kept c.arrive.new.parts) c.args.origin c.args.request c.args.inputs c.arrive.result c.self.invariant.0.fits
     c.arrive.ensures.does)
 
 pub returns-clause-told : goal.returns-clause-told
 returns-clause-told c =
     subst (λ (s : Kept). OnOk c.arrive.result (AddsCauses (causes s) false (kept c.arrive.new.parts))) c.self.view_is
-    (begins_adds (kept c.self.inside.parts) (kept c.arrive.new.parts) c.args.origin c.args.request c.args.inputs c.arrive.result c.self.invariant.fits.sent.numbered
-    (does_arrive (kept c.self.inside.parts) (kept c.arrive.new.parts) c.args.origin c.args.request c.args.inputs c.arrive.result c.self.invariant.fits
+    (begins_adds (kept c.self.inside.parts) (kept c.arrive.new.parts) c.args.origin c.args.request c.args.inputs c.arrive.result c.self.invariant.0.fits.sent.numbered
+    (does_arrive (kept c.self.inside.parts) (kept c.arrive.new.parts) c.args.origin c.args.request c.args.inputs c.arrive.result c.self.invariant.0.fits
     c.arrive.ensures.does))

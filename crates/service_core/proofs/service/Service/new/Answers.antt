@@ -1,5 +1,9 @@
+use Rattle.std.proofs.Common.{arith}
 use Rattle.service_core.proofs.StartLemmas.{new_service}
 use Rattle.service_core.proofs.service.Service.new.Goals as goal
 
 pub invariant_of-result : goal.invariant_of-result
-invariant_of-result c = new_service _ c.new.ensures c.new-2.ensures c.new-3.ensures c.new-4.ensures c.new-5.ensures.list
+invariant_of-result c = (
+  new_service _ c.new.ensures c.new-2.ensures c.new-3.ensures c.new-4.ensures c.new-5.ensures.list,
+  record { within = omega arith; current = tt },
+)

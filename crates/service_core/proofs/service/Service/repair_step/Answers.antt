@@ -14,19 +14,19 @@ pub returns-clause-local : goal.returns-clause-local
 returns-clause-local c =
     let t = kept c.repair_step.new.parts in
     subst (λ s. IfOk c.repair_step.result (λ stepped. IsLocalStep s stepped t)) c.self.view_is
-    (step_local (kept c.self.inside.parts) t c.repair_step.result c.self.invariant.fits (rows_few c.repair_step.new.parts) c.repair_step.ensures.steps)
+    (step_local (kept c.self.inside.parts) t c.repair_step.result c.self.invariant.0.fits (rows_few c.repair_step.new.parts) c.repair_step.ensures.steps)
 
 pub returns-clause-once : goal.returns-clause-once
 returns-clause-once c =
     let t = kept c.repair_step.new.parts in
     subst (λ s. IfOk c.repair_step.result (λ stepped. Counts s stepped t)) c.self.view_is
-    (step_runs (kept c.self.inside.parts) t c.repair_step.result c.self.invariant.fits (rows_few c.repair_step.new.parts) c.repair_step.ensures.steps)
+    (step_runs (kept c.self.inside.parts) t c.repair_step.result c.self.invariant.0.fits (rows_few c.repair_step.new.parts) c.repair_step.ensures.steps)
 
 pub returns-clause-further : goal.returns-clause-further
 returns-clause-further c =
     let t = kept c.repair_step.new.parts in
     subst (λ (s : Kept). OnOk c.repair_step.result (IsTimely s.registers → GoesFurther s t)) c.self.view_is
-    (step_further (kept c.self.inside.parts) t c.repair_step.result c.self.invariant.fits (rows_few c.repair_step.new.parts) c.repair_step.ensures.steps)
+    (step_further (kept c.self.inside.parts) t c.repair_step.result c.self.invariant.0.fits (rows_few c.repair_step.new.parts) c.repair_step.ensures.steps)
 
 pub returns-clause-silent : goal.returns-clause-silent
 returns-clause-silent c =
