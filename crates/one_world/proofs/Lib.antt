@@ -1,0 +1,10 @@
+pub mod Alike
+pub mod Facts
+pub mod Fresh
+pub mod Lists
+pub mod Low
+pub mod OneRun
+pub mod Passing
+pub mod Playing
+pub mod Prefixes
+pub mod Stands

@@ -1,0 +1,5 @@
+pub mod Certificates
+pub mod Checks
+pub mod OneWorld
+pub mod Tapes
+pub mod Trees
