@@ -8,3 +8,5 @@ pub mod Passing
 pub mod Playing
 pub mod Prefixes
 pub mod Stands
+pub mod Turning
+pub mod Existing

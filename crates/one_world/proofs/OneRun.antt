@@ -22,12 +22,12 @@ next_is : (o : Option Played) (k : Played → Option Run) (p : Played) (r : Run)
 next_is o k p r e f = ap (λ x. next_root x k) e ∙ ap (λ x. and_roots p x) f
 
 -- where a root is
-record IsAt (world : List History) (h : History) (a : Act) : Type 0 where
-  there : Has h world
-  found : history_in (name_of h) world ≡ Some h
-  logged : Has a h.acts
+pub record IsAt (world : List History) (h : History) (a : Act) : Type 0 where
+  pub there : Has h world
+  pub found : history_in (name_of h) world ≡ Some h
+  pub logged : Has a h.acts
 
-root_at : (world : List History) (id : RequestId) (h : History) (a : Act) → IsRoot world id h a → IsAt world h a
+pub root_at : (world : List History) (id : RequestId) (h : History) (a : Act) → IsRoot world id h a → IsAt world h a
 root_at world id h a root =
     let at = has_found (λ (g : History). same_text (name_of g) id.service) world h root.served in
     let named = text_is (name_of h) id.service at.1 in

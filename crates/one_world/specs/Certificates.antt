@@ -5,7 +5,7 @@ use Rattle.lang_base.specs.Texts.{same_text}
 use Rattle.lang_core.specs.declared.ids.RequestId.{RequestId}
 use Rattle.execution.specs.Executions.{Act, History, survives}
 use Rattle.execution.specs.Together.{name_of}
-use Rattle.one_world.specs.Trees.{AreRoots, Trees, call_order}
+use Rattle.one_world.specs.Trees.{AreRoots, IsRoot, Trees, call_order}
 
 -- the numbers of those requests that are of the service of this name
 abbrev pub numbers_at : List ℕ → List RequestId → List ℕ
@@ -31,3 +31,7 @@ AreApart (x ∷ xs) = AllByRecursion (λ y. ¬ (x ≡ y)) xs × AreApart xs
 pub record AreNamed (world : List History) : Type 0 where
   pub names : AreApart (map name_of world)
   pub ids : AllByRecursion (λ h. AreApart (map (λ (a : Act). a.id) h.acts)) world
+
+-- each of these is a root
+abbrev pub AllRoots : List History → List RequestId → Type 0
+AllRoots world order = AllByRecursion (λ i. (h : History) × (a : Act) × IsRoot world i h a) order

@@ -3,3 +3,4 @@ pub mod Checks
 pub mod OneWorld
 pub mod Tapes
 pub mod Trees
+pub mod Turns
