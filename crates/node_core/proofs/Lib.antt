@@ -1,0 +1,4 @@
+pub mod Places
+pub mod SearchLemmas
+pub mod ApartLemmas
+pub mod WholeLemmas

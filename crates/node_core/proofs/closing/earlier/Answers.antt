@@ -1,0 +1,14 @@
+use Rattle.std.proofs.Common.{arith}
+use Rattle.std.proofs.lemmas.Option.{slice_get_within}
+use Rattle.node_core.proofs.SearchLemmas.{all_more, refuted}
+use Rattle.node_core.specs.Closings.{SamePlace}
+use Rattle.node_core.proofs.closing.earlier.Goals as goal
+
+pub loop-at-preserved : goal.loop-at-preserved
+loop-at-preserved c =
+    all_more (λ r. ¬ SamePlace r c.args.receipt.now) c.args.receipts.now c.loop-at.at c.index-receipts-at.result c.index-receipts-at.is c.loop-at-test.true
+    c.loop-at.invariant (refuted c.is_same_place.result c.is_same_place.ensures c.if-is_same_place.false)
+
+pub returns-clause-none : goal.returns-clause-none
+returns-clause-none c at r there =
+    c.loop-at.invariant at r (omega (arith, slice_get_within c.args.receipts.now at r there, c.loop-at-test.false)) there

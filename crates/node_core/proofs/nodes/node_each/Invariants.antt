@@ -1,0 +1,15 @@
+use Rattle.std.proofs.Common.{◌≡◌, ◌+◌, ℕ, [], vec_len, slice_get, Some}
+use Rattle.service_events.specs.State.{Kept}
+use Rattle.node_core.proofs.nodes.node_each.Given as goal
+
+abbrev pub invariant-loop-service : goal.invariant-loop-service
+invariant-loop-service g l = record {
+  parts : l.rest.parts ≡ vec_len l.services;
+  none : l.rest.amount ≡ 0;
+  count : vec_len l.nodes + vec_len l.services ≡ vec_len l.fn.services;
+  secrets : vec_len l.secrets ≡ vec_len l.services;
+  empty : (i : ℕ) (s : Kept) → slice_get l.services.items i ≡ Some s → s.journal ≡ [];
+}
+
+abbrev pub decreases-loop-service : goal.decreases-loop-service
+decreases-loop-service g l = vec_len l.services

@@ -1,0 +1,64 @@
+-- What services and receipts come to at the end.
+use Rattle.std.specs.Prelude.{ℕ, ◌≡◌, ◌<◌, true, List, Option, Some, IsSomeAnd, find, length, slice_get}
+use Rattle.lang_base.specs.Texts.{same_text}
+use Rattle.journal_rows.specs.declared.row.Row.{Row}
+use Rattle.service_events.specs.Commits.{is_live_row, live_rows}
+use Rattle.service_events.specs.State.{Kept, me}
+use Rattle.node_core.specs.Receipts.{AgreesWith}
+use Rattle.node_core.specs.declared.receipt.Receipt.{Receipt}
+
+-- the service of a name; where several have it, the first
+abbrev pub service_of : List ℕ → List Kept → Option Kept
+service_of name services = find (λ (s : Kept). same_text (me s) name) services
+
+-- it agrees with the journal of the service that it names
+abbrev pub Agrees : List Kept → Receipt → Type 0
+Agrees services r = IsSomeAnd (service_of r.service services) (λ (s : Kept). AgreesWith s.journal r)
+
+-- each of them agrees
+abbrev pub AllAgree : List Kept → List Receipt → Type 0
+AllAgree services receipts = (at : ℕ) (r : Receipt) → slice_get receipts at ≡ Some r → Agrees services r
+
+-- how many live requests its journal answers
+abbrev pub live_count : Kept → ℕ
+live_count s = length (live_rows s.journal)
+
+-- they name one service and index
+abbrev pub SamePlace : Receipt → Receipt → Type 0
+SamePlace r t = (r.service ≡ t.service) × (r.index ≡ t.index)
+
+-- no two of them are of one answer
+abbrev pub AreApart : List Receipt → Type 0
+AreApart receipts =
+    (at other : ℕ) (r t : Receipt) → slice_get receipts at ≡ Some r → slice_get receipts other ≡ Some t → SamePlace r t → at ≡ other
+
+-- it stands among them
+pub record IsAmong (r : Receipt) (receipts : List Receipt) : Type 0 where
+  pub at : ℕ
+  pub there : slice_get receipts at ≡ Some r
+
+-- they stand among them, this one before that one
+pub record AreAmong (r t : Receipt) (receipts : List Receipt) : Type 0 where
+  pub at : ℕ
+  pub other : ℕ
+  pub before : at < other
+  pub here : slice_get receipts at ≡ Some r
+  pub there : slice_get receipts other ≡ Some t
+
+-- a receipt for the row at this place of this service's journal
+pub record HasReceipt (s : Kept) (place : ℕ) (row : Row) (receipts : List Receipt) : Type 0 where
+  pub receipt : Receipt
+  pub at : ℕ
+  pub there : slice_get receipts at ≡ Some receipt
+  pub service : receipt.service ≡ me s
+  pub index : receipt.index ≡ place
+  pub answer : receipt.row ≡ row
+  pub agrees : AgreesWith s.journal receipt
+
+-- each receipt agrees with the journal of the service that it names; each live answer in a service's journal has a receipt; and no two receipts
+-- are of one answer
+pub record IsWhole (services : List Kept) (receipts : List Receipt) : Type 0 where
+  pub agree : AllAgree services receipts
+  pub each : (k : ℕ) (s : Kept) (place : ℕ) (row : Row) → slice_get services k ≡ Some s → slice_get s.journal place ≡ Some row
+      → is_live_row row ≡ true → HasReceipt s place row receipts
+  pub once : AreApart receipts

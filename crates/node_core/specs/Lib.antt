@@ -1,0 +1,4 @@
+pub mod Replies
+pub mod Receipts
+pub mod Closings
+pub mod Notes

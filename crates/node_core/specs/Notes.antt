@@ -1,0 +1,219 @@
+-- What a pass notes of an event.
+use Rattle.std.specs.Prelude.{ℕ, ◌+◌, ◌-◌, ◌^◌, List, Option, Some, None, Result, Ok, Err, min, option_map}
+use Rattle.lang_base.specs.declared.memory.NoMemory.{NoMemory as LacksMemory}
+use Rattle.repair_messages.specs.declared.messages.SetMessage.{SetMessage}
+use Rattle.repair_messages.specs.declared.posts.Post.{Post}
+use Rattle.repair_messages.specs.declared.posts.Post.TheVariants as posts
+use Rattle.repair_messages.specs.declared.posts.PostName.{PostName}
+use Rattle.repair_messages.specs.declared.posts.PostName.TheVariants as names
+use Rattle.call_registers.specs.declared.register.Why.{Why}
+use Rattle.call_registers.specs.declared.register.Why.TheVariants as whys
+use Rattle.service_events.specs.declared.answers.Arrived.{Arrived}
+use Rattle.service_events.specs.declared.answers.Arrived.TheVariants as arrived
+use Rattle.service_events.specs.declared.answers.Posted.{Posted}
+use Rattle.service_events.specs.declared.refusals.AnswerRefused.{AnswerRefused}
+use Rattle.service_events.specs.declared.refusals.AnswerRefused.TheVariants as answer
+use Rattle.service_events.specs.declared.refusals.ArriveRefused.{ArriveRefused}
+use Rattle.service_events.specs.declared.refusals.ArriveRefused.TheVariants as arrive
+use Rattle.service_events.specs.declared.refusals.CallRefused.{CallRefused}
+use Rattle.service_events.specs.declared.refusals.CallRefused.TheVariants as call
+use Rattle.service_events.specs.declared.refusals.OrderRefused.{OrderRefused}
+use Rattle.service_events.specs.declared.refusals.OrderRefused.TheVariants as order
+use Rattle.service_events.specs.declared.refusals.PostRefused.{PostRefused}
+use Rattle.service_events.specs.declared.refusals.PostRefused.TheVariants as post
+use Rattle.service_events.specs.declared.refusals.TakeRefused.{TakeRefused}
+use Rattle.service_events.specs.declared.refusals.TakeRefused.TheVariants as take
+use Rattle.node_core.specs.declared.asking.NodeDone.{NodeDone}
+use Rattle.node_core.specs.declared.asking.NodeDone.TheVariants as done
+use Rattle.node_core.specs.declared.asking.NodeEvent.{NodeEvent}
+use Rattle.node_core.specs.declared.asking.NodeEvent.TheVariants as events
+use Rattle.node_core.specs.declared.notes.Begun.{Begun}
+use Rattle.node_core.specs.declared.notes.Gave.{Gave}
+use Rattle.node_core.specs.declared.notes.Notes.{Notes}
+use Rattle.node_core.specs.declared.notes.Posting.{Posting}
+use Rattle.node_core.specs.declared.notes.Posting.TheVariants as posting
+use Rattle.node_core.specs.declared.notes.Turn.{Turn}
+use Rattle.node_core.specs.declared.notes.Turn.TheVariants as turn
+use Rattle.node_core.specs.declared.notes.TurnWord.TheVariants as words
+
+-- ---- how an event was turned away
+
+abbrev pub arrive_turn : ArriveRefused → Turn
+arrive_turn arrive.NoMemory = turn.Refused words.NoMemory 0
+arrive_turn (arrive.Full n) = turn.Refused words.Full n
+arrive_turn (arrive.NotYet number) = turn.Refused words.NotYet number
+arrive_turn (arrive.Gone version) = turn.Refused words.Gone version
+
+abbrev pub call_turn : CallRefused → Turn
+call_turn call.NoMemory = turn.Refused words.NoMemory 0
+call_turn (call.NoFlight flight) = turn.Refused words.NoFlight flight
+
+abbrev pub take_turn : TakeRefused → Turn
+take_turn take.NoMemory = turn.Refused words.NoMemory 0
+take_turn (take.Full n) = turn.Refused words.Full n
+take_turn (take.NotYet number) = turn.Refused words.NotYet number
+take_turn (take.Denied rule) = turn.Refused words.Denied rule
+
+abbrev pub answer_turn : AnswerRefused → Turn
+answer_turn answer.NoMemory = turn.Refused words.NoMemory 0
+answer_turn (answer.Unknown number) = turn.Refused words.Unknown number
+answer_turn (answer.Denied rule) = turn.Refused words.Denied rule
+
+abbrev pub post_turn : PostRefused → Turn
+post_turn post.NoMemory = turn.Refused words.NoMemory 0
+post_turn post.Foreign = turn.Refused words.Foreign 0
+
+abbrev pub order_turn : OrderRefused → Turn
+order_turn order.NoMemory = turn.Refused words.NoMemory 0
+order_turn (order.NoSuchRequest id) = turn.Refused words.NoSuchRequest id
+order_turn (order.Denied rule) = turn.Refused words.Denied rule
+order_turn (order.Full n) = turn.Refused words.Full n
+order_turn order.NotHeld = turn.Refused words.NotHeld 0
+order_turn (order.NotOutside id) = turn.Refused words.NotOutside id
+
+abbrev pub memory_turn : LacksMemory → Turn
+memory_turn why = turn.Refused words.NoMemory 0
+
+-- the reason of a refusal
+abbrev pub why_of : {A E : Type 0} → Result A E → Option E
+why_of (Ok a) = None
+why_of (Err why) = Some why
+
+abbrev pub turn_if : {A E : Type 0} → (E → Turn) → Result A E → Option Turn
+turn_if turned result = option_map turned (why_of result)
+
+-- by what refused it, if anything did
+abbrev pub turn_of : NodeDone → Option Turn
+turn_of (done.Arrive result) = turn_if arrive_turn result
+turn_of (done.CallAnswered result) = turn_if call_turn result
+turn_of (done.CallFailed result) = turn_if call_turn result
+turn_of (done.Abandon found) = None
+turn_of (done.Take result) = turn_if take_turn result
+turn_of (done.TakeAnswer result) = turn_if answer_turn result
+turn_of (done.NextPost name) = None
+turn_of (done.WritePost result) = turn_if memory_turn result
+turn_of (done.Posted result) = turn_if post_turn result
+turn_of (done.Step result) = turn_if memory_turn result
+turn_of (done.Order result) = turn_if order_turn result
+turn_of done.Gone = Some turn.Gone
+
+-- ---- the open flight
+
+-- a flight of this service that waits for this call
+abbrev pub begun_as : List ℕ → NodeEvent → ℕ → SetMessage → Option Begun
+begun_as me (events.Arrive o q i) flight set = Some (record {
+  service = me;
+  flight = flight;
+  dest = set.dest;
+  number = set.number;
+  origin = o;
+  request = q;
+  inputs = i;
+})
+begun_as me event flight set = None
+
+abbrev pub begun_by : {E : Type 0} → List ℕ → NodeEvent → Option Begun → Result Arrived E → Option Begun
+begun_by me event before (Ok (arrived.Call flight set)) = begun_as me event flight set
+begun_by me event before result = before
+
+-- it waits for this call now
+abbrev pub waiting_for : ℕ → SetMessage → Begun → Begun
+waiting_for flight set b = record b { flight = flight; dest = set.dest; number = set.number }
+
+-- a flight ends with its commit; where its call was refused, it is as before
+abbrev pub goes_on_by : {E : Type 0} → Option Begun → Result Arrived E → Option Begun
+goes_on_by before (Ok (arrived.Done index id answer)) = None
+goes_on_by before (Ok (arrived.Call flight set)) = option_map (waiting_for flight set) before
+goes_on_by before result = before
+
+abbrev pub begun_after : List ℕ → Option Begun → NodeEvent → NodeDone → Option Begun
+begun_after me before event (done.Arrive result) = begun_by me event before result
+begun_after me before event (done.CallAnswered result) = goes_on_by before result
+begun_after me before event (done.CallFailed result) = goes_on_by before result
+begun_after me before event (done.Abandon found) = None
+begun_after me before event done.Gone = None
+begun_after me before event other = before
+
+-- ---- posts
+
+abbrev pub post_name : Post → PostName
+post_name (posts.Set set) = names.Call set.number
+post_name (posts.Answer a) = names.Reply a.id
+
+abbrev pub next_posting : List ℕ → Option PostName → Option Posting
+next_posting dest None = Some (posting.Quiet dest)
+next_posting dest (Some name) = Some (posting.Next name)
+
+abbrev pub ended_posting : {E : Type 0} → Option Posting → Post → Result Posted E → Option Posting
+ended_posting before p (Ok posted) = Some (posting.Ended (post_name p) posted)
+ended_posting before p (Err why) = before
+
+abbrev pub posting_of : Option Posting → NodeEvent → NodeDone → Option Posting
+posting_of before (events.NextPost dest) (done.NextPost name) = next_posting dest name
+posting_of before (events.Posted p reply) (done.Posted result) = ended_posting before p result
+posting_of before event answer = before
+
+-- ---- what was asked that was neither committed nor begun
+
+abbrev pub gave : NodeEvent → NodeDone → Option Gave
+gave event answer = Some (record { asked = event; done = answer })
+
+abbrev pub gave_arrival : {E : Type 0} → Option Gave → Result Arrived E → Option Gave
+gave_arrival given (Ok (arrived.Done index id answer)) = None
+gave_arrival given (Ok (arrived.Call flight set)) = None
+gave_arrival given result = given
+
+abbrev pub gave_after : Option Gave → NodeEvent → NodeDone → Option Gave
+gave_after before event (done.Arrive result) = gave_arrival (gave event (done.Arrive result)) result
+gave_after before event (done.Take result) = gave event (done.Take result)
+gave_after before event (done.TakeAnswer result) = gave event (done.TakeAnswer result)
+gave_after before event (done.Order result) = gave event (done.Order result)
+gave_after before event answer = before
+
+-- ---- calls that were given up
+
+-- one more; where 64 bits don't hold it, as many as before
+abbrev pub one_more : ℕ → ℕ
+one_more n = min (n + 1) (2 ^ 64 - 1)
+
+abbrev pub lost_by : ℕ → Why → ℕ
+lost_by n (whys.Lost fault) = one_more n
+lost_by n why = n
+
+abbrev pub refused_by : ℕ → Why → ℕ
+refused_by n (whys.Refused word number) = one_more n
+refused_by n why = n
+
+abbrev pub if_accepted : {A E : Type 0} → ℕ → ℕ → Result A E → ℕ
+if_accepted before after (Ok a) = after
+if_accepted before after (Err why) = before
+
+abbrev pub lost_after : ℕ → NodeEvent → NodeDone → ℕ
+lost_after n (events.CallFailed flight number why) (done.CallFailed result) = if_accepted n (lost_by n why) result
+lost_after n event answer = n
+
+abbrev pub refused_after : ℕ → NodeEvent → NodeDone → ℕ
+refused_after n (events.CallFailed flight number why) (done.CallFailed result) = if_accepted n (refused_by n why) result
+refused_after n event answer = n
+
+-- ---- all of it
+
+-- of a worker that has made no event yet
+abbrev pub no_notes : Notes
+no_notes = record { begun = None; turn = None; posting = None; gave = None; lost = 0; refused = 0 }
+
+-- of an event at the service of this name
+
+abbrev pub noted : List ℕ → Notes → NodeEvent → NodeDone → Notes
+noted me before event answer = record {
+  begun = begun_after me before.begun event answer;
+  turn = turn_of answer;
+  posting = posting_of before.posting event answer;
+  gave = gave_after before.gave event answer;
+  lost = lost_after before.lost event answer;
+  refused = refused_after before.refused event answer;
+}
+
+-- all but how it was turned away
+abbrev pub unturned : List ℕ → Notes → NodeEvent → NodeDone → Notes
+unturned me before event answer = record (noted me before event answer) { turn = before.turn }

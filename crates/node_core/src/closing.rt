@@ -1,0 +1,288 @@
+// Taking nodes and passes apart, and comparing receipts with journals.
+ghost use Rattle.std.specs.Prelude.{◌≡◌, ◌+◌, ◌<◌, ◌↔◌, ◌++◌, ℕ, Some, find, flat_map, length, slice_get, sum_by, vec_len, IfOk, OnOk, IfSome, IfNone, IsErrOf, IsSomeAnd, IsTrue, option_map};
+ghost use Rattle.std.specs.Option.{option_copied};
+ghost use Rattle.journal_rows.specs.Words.{asked};
+ghost use Rattle.lang_base.specs.Texts.{same_text};
+ghost use Rattle.service_events.specs.State.{me};
+ghost use Rattle.node_core.specs.Closings.{live_count, service_of, Agrees, AllAgree, AreAmong, AreApart, IsAmong, IsWhole, SamePlace};
+ghost use Rattle.node_core.specs.Receipts.{answered_id, AgreesWith, WasAskedSo};
+ghost use Rattle.node_core.specs.declared.closing.CloseRefused.TheVariants as refusals;
+
+use crate::nodes::{Node, Nodes};
+use crate::pass::Pass;
+use crate::receipt::Receipt;
+use crate::state::NodeState;
+use crate::tally::{Books, Tally};
+use journal_rows::{AskedRow, Row, Rows};
+use lang_core::{Inputs, Name, NoMemory, Request, Same};
+use service_core::Service;
+use std::alloc::Global;
+use std::sync::ledger::{Ledger, Share};
+
+/// The services of a run that ended, and the receipts of all its workers: one for each live request that was answered.
+#[derive(Drop)]
+pub struct Closed {
+    pub services: Vec<Service>,
+    pub receipts: Vec<Receipt>,
+}
+
+/// Why a run wasn't closed.
+#[derive(Drop)]
+pub enum CloseRefused {
+    /// There was no memory for it. Nodes and passes are gone.
+    NoMemory,
+    /// This receipt doesn't agree with the journal of the service that it names.
+    Differs {
+        receipt: Receipt,
+        services: Vec<Service>,
+    },
+    /// Each receipt agrees, and these two are of one answer.
+    Twice {
+        first: Receipt,
+        second: Receipt,
+        services: Vec<Service>,
+    },
+}
+
+impl From<NoMemory> for CloseRefused {
+    ghost from_gives = { λ _ why. why ≡ refusals.NoMemory };
+
+    fn from(_: NoMemory) -> CloseRefused {
+        CloseRefused::NoMemory
+    }
+}
+
+// The services, and all their shares as one.
+fn gather_rows<R: Ledger>(
+    alloc: Global,
+    rest: Share<R>,
+    nodes: Vec<Node<R>>,
+) -> Result<(Share<R>, Vec<Service>), NoMemory>
+    requires parts { rest.parts ≡ 0 }
+    requires none { rest.amount ≡ 0 }
+    ensures parts { IfOk result (λ r. r.0.parts ≡ vec_len nodes) }
+    ensures amount { IfOk result (λ r. r.0.amount ≡ sum_by live_count r.1.items) }
+    ensures len { IfOk result (λ r. vec_len r.1 ≡ vec_len nodes) }
+{
+    let mut all = rest;
+    let mut services = Vec::new(alloc);
+    for node in nodes {
+        let Node { state, work: _ } = node;
+        let NodeState {
+            service,
+            share,
+            secret: _,
+            stopped: _,
+        } = state.into_inner();
+        all.merge(share);
+        services.push(service)?;
+    }
+    Ok((all, services))
+}
+
+// The receipts, and all shares of theirs as one.
+fn gather_receipts<Q: Ledger>(
+    alloc: Global,
+    rest: Share<Q>,
+    passes: Vec<Pass<Q>>,
+) -> Result<(Share<Q>, Vec<Receipt>), NoMemory>
+    requires parts { rest.parts ≡ 0 }
+    requires none { rest.amount ≡ 0 }
+    ensures parts { IfOk result (λ r. r.0.parts ≡ vec_len passes) }
+    ensures amount { IfOk result (λ r. r.0.amount ≡ vec_len r.1) }
+    ensures receipts { IfOk result (λ r. r.1.items ≡ flat_map (λ p. p.receipts.items) passes.items) }
+{
+    let mut all = rest;
+    let mut found = Vec::new(alloc);
+    for pass in passes {
+        let Pass {
+            share,
+            mut receipts,
+            notes: _,
+        } = pass;
+        all.merge(share);
+        found.append(&mut receipts)?;
+    }
+    Ok((all, found))
+}
+
+// How the entry of this number was made.
+fn asked(rows: &[Row], id: u64) -> Option<&AskedRow>
+    ensures { option_copied result ≡ asked id rows.now }
+{
+    for row in rows {
+        if let Row::Asked(asked) = row
+            && asked.id == id
+        {
+            return Some(asked);
+        }
+    }
+    None
+}
+
+fn same_inputs(left: &Inputs, right: &Inputs) -> bool
+    ensures { IsTrue result ↔ (left.now ≡ right.now) }
+{
+    *left == *right
+}
+
+fn was_asked_so(rows: &[Row], id: u64, request: &Request, inputs: &Inputs) -> bool
+    ensures { IsTrue result ↔ WasAskedSo request.now inputs.now (asked id rows.now) }
+{
+    match asked(rows, id) {
+        None => false,
+        Some(row) => row.request.is(request) && same_inputs(&row.inputs, inputs),
+    }
+}
+
+fn answered_id(row: &Row) -> u64
+    ensures { result ≡ answered_id row.now }
+{
+    match row {
+        Row::Answered(row) => row.id,
+        _ => 0,
+    }
+}
+
+fn stands_there(rows: &Rows, receipt: &Receipt) -> bool
+    ensures { IsTrue result ↔ (slice_get rows.now.rows receipt.now.index ≡ Some receipt.now.row) }
+{
+    match rows.at(receipt.index) {
+        None => false,
+        Some(row) => row.is(&receipt.row),
+    }
+}
+
+fn agrees_with(service: &Service, receipt: &Receipt) -> bool
+    ensures { IsTrue result ↔ AgreesWith service.now.journal receipt.now }
+{
+    let rows = service.journal();
+    stands_there(rows, receipt)
+        && was_asked_so(
+            rows.as_slice(),
+            answered_id(&receipt.row),
+            &receipt.request,
+            &receipt.inputs,
+        )
+}
+
+fn is_named(service: &Service, name: &Name) -> bool
+    ensures { result ≡ same_text (me service.now) name.now }
+{
+    service.setting().me.text().is(name.text())
+}
+
+fn service_of<'a>(services: &'a [Service], name: &Name) -> Option<&'a Service>
+    ensures { option_map (λ s. s.now) result ≡ service_of name.now services.now }
+{
+    services.iter().find(|service| is_named(service, name))
+}
+
+fn agrees(services: &[Service], receipt: &Receipt) -> bool
+    ensures { IsTrue result ↔ Agrees services.now receipt.now }
+{
+    match service_of(services, &receipt.service) {
+        None => false,
+        Some(service) => agrees_with(service, receipt),
+    }
+}
+
+// Where the first receipt stands that doesn't agree.
+fn first_differing(services: &[Service], receipts: &[Receipt]) -> Option<usize>
+    ensures none { IfNone result ((at : ℕ) (r : _) → slice_get receipts.now at ≡ Some r → Agrees services.now r) }
+    ensures some { IfSome result (λ at. (at < length receipts.now) × ((r : _) → slice_get receipts.now at ≡ Some r → ¬ Agrees services.now r)) }
+{
+    for (at, receipt) in receipts.iter().enumerate() {
+        if !agrees(services, receipt) {
+            return Some(at);
+        }
+    }
+    None
+}
+
+// Numbers are compared first: they differ more often than names do.
+fn is_same_place(left: &Receipt, right: &Receipt) -> bool
+    ensures { IsTrue result ↔ SamePlace left.now right.now }
+{
+    left.index == right.index && left.service.is(&right.service)
+}
+
+// Where a receipt among these stands that is of the same answer.
+fn earlier(receipts: &[Receipt], receipt: &Receipt) -> Option<usize>
+    ensures none { IfNone result ((at : ℕ) (r : _) → slice_get receipts.now at ≡ Some r → ¬ SamePlace r receipt.now) }
+    ensures some { IfSome result (λ at. IsSomeAnd (slice_get receipts.now at) (λ r. SamePlace r receipt.now)) }
+{
+    for (at, other) in receipts.iter().enumerate() {
+        if is_same_place(other, receipt) {
+            return Some(at);
+        }
+    }
+    None
+}
+
+// Where two receipts of one answer stand, the first of them first.
+fn first_twice(receipts: &[Receipt]) -> Option<(usize, usize)>
+    ensures none { IfNone result (AreApart receipts.now) }
+    ensures some { IfSome result (λ p. (p.0 < p.1) × (p.1 < length receipts.now)
+        × ((r : _) (t : _) → slice_get receipts.now p.0 ≡ Some r → slice_get receipts.now p.1 ≡ Some t → SamePlace r t)) }
+{
+    for (at, receipt) in receipts.iter().enumerate() {
+        if let Some(first) = earlier(&receipts[..at], receipt) {
+            return Some((first, at));
+        }
+    }
+    None
+}
+
+/// Takes the nodes and the passes of a run apart, once all its workers have ended, and compares each receipt with the journal of
+/// the service that it names. Where all agree and no two are of one answer, each live request that a journal answers has
+/// exactly one receipt: none was lost and none counted twice, since the ledgers counted as many receipts as answers. The
+/// services are those of the nodes, in order.
+pub fn close<R: Ledger, Q: Ledger>(
+    alloc: Global,
+    nodes: Nodes<R, Q>,
+    passes: Vec<Pass<Q>>,
+) -> Result<Closed, CloseRefused>
+    requires nodes { vec_len nodes.nodes ≡ R.parts }
+    requires passes { vec_len passes ≡ Q.parts }
+    ensures whole { IfOk result (λ closed. IsWhole closed.services.items closed.receipts.items) }
+    ensures len { IfOk result (λ closed. vec_len closed.services ≡ vec_len nodes.nodes) }
+    ensures receipts { IfOk result (λ closed. closed.receipts.items ≡ flat_map (λ p. p.receipts.items) passes.items) }
+    ensures differs { (r : _) (services : _) → IsErrOf result (refusals.Differs r services) → ¬ Agrees services.items r }
+    ensures twice { (r : _) (t : _) (services : _) → IsErrOf result (refusals.Twice r t services)
+        → SamePlace r t × (Agrees services.items r × Agrees services.items t) }
+    ensures among { (r : _) (services : _) → IsErrOf result (refusals.Differs r services)
+        → IsAmong r (flat_map (λ p. p.receipts.items) passes.items) }
+    ensures two { (r : _) (t : _) (services : _) → IsErrOf result (refusals.Twice r t services)
+        → AreAmong r t (flat_map (λ p. p.receipts.items) passes.items) × AllAgree services.items (flat_map (λ p. p.receipts.items) passes.items) }
+{
+    let Nodes { nodes, tally } = nodes;
+    let Tally { books } = tally;
+    let Books {
+        mut rows,
+        mut receipts,
+        no_rows,
+        no_receipts,
+    } = books.into_inner();
+    let (mut all_rows, services) = gather_rows(alloc, no_rows, nodes)?;
+    let (mut all_receipts, mut found) = gather_receipts(alloc, no_receipts, passes)?;
+    rows.audit(&mut all_rows);
+    receipts.audit(&mut all_receipts);
+    if let Some(at) = first_differing(&services, &found) {
+        let receipt = found.swap_remove(at);
+        return Err(CloseRefused::Differs { receipt, services });
+    }
+    if let Some((at, other)) = first_twice(&found) {
+        let second = found.swap_remove(other);
+        let first = found.swap_remove(at);
+        return Err(CloseRefused::Twice {
+            first,
+            second,
+            services,
+        });
+    }
+    Ok(Closed {
+        services,
+        receipts: found,
+    })
+}

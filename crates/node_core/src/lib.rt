@@ -1,0 +1,25 @@
+//! Nodes: services behind locks, the passes of workers that make events of them, and the receipts of what was answered.
+//!
+//! Two ledgers stand behind all nodes of a run, one of answers and one of receipts. Each node has a share of the first, whose
+//! amount is the number of live requests that its service's journal answers, and each pass a share of the second, whose amount
+//! is the number of its receipts. Both totals are equal, so when all nodes and passes are back there are as many receipts as
+//! answers.
+#![tactic(auto)]
+
+mod asking;
+mod closing;
+mod nodes;
+mod notes;
+mod pass;
+mod receipt;
+mod state;
+mod tally;
+
+pub use asking::{NodeDone, NodeEvent};
+pub use closing::{CloseRefused, Closed, close};
+pub use nodes::{Node, Nodes, Opened};
+pub use notes::{Begun, Gave, LastGave, Notes, Posting, Turn, TurnWord};
+pub use pass::Pass;
+pub use receipt::Receipt;
+pub use state::NodeState;
+pub use tally::Tally;

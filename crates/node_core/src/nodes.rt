@@ -1,0 +1,154 @@
+// All nodes of a run, and the passes of its workers.
+ghost use Rattle.std.specs.Prelude.{◌≡◌, ◌+◌, ◌<◌, ℕ, [], vec_len, slice_get, None, Some, IfOk};
+ghost use Rattle.node_core.specs.Notes.{no_notes};
+
+use crate::notes::{LastGave, Notes};
+use crate::pass::Pass;
+use crate::state::NodeState;
+use crate::tally::{Books, Tally};
+use lang_core::{NoMemory, Text};
+use service_core::Service;
+use std::alloc::Global;
+use std::sync::ledger::{Blank, Ledger, Share};
+use std::sync::{Condvar, Mutex};
+
+/// A service behind a lock, and what its workers wait at.
+#[derive(Drop)]
+pub struct Node<R: Ledger> {
+    pub state: Mutex<NodeState<R>>,
+    pub work: Condvar,
+}
+
+/// The nodes of a run, and the tally behind all of them.
+#[derive(Drop)]
+pub struct Nodes<R: Ledger, Q: Ledger> {
+    pub nodes: Vec<Node<R>>,
+    pub tally: Tally<R, Q>,
+}
+
+/// The nodes of a run that begins, and the passes of its workers.
+#[derive(Drop)]
+pub struct Opened<R: Ledger, Q: Ledger> {
+    pub nodes: Nodes<R, Q>,
+    pub passes: Vec<Pass<Q>>,
+}
+
+fn fresh_node<R: Ledger>(service: Service, secret: Text, share: Share<R>) -> Node<R>
+    requires empty { service.journal ≡ [] }
+    requires one_part { share.parts ≡ 1 }
+    requires none { share.amount ≡ 0 }
+{
+    Node {
+        state: Mutex::new(NodeState {
+            service,
+            share,
+            secret,
+            stopped: false,
+        }),
+        work: Condvar::new(),
+    }
+}
+
+// A node for each service, whose shares are cut from one that has a part for each. They come from the last on.
+fn node_each<R: Ledger>(
+    alloc: Global,
+    mut services: Vec<Service>,
+    mut secrets: Vec<Text>,
+    rest: &mut Share<R>,
+) -> Result<Vec<Node<R>>, NoMemory>
+    requires secrets { vec_len secrets ≡ vec_len services }
+    requires empty { (i : ℕ) (s : _) → slice_get services.items i ≡ Some s → s.journal ≡ [] }
+    requires parts { rest.old.parts ≡ vec_len services }
+    requires none { rest.old.amount ≡ 0 }
+    ensures len { IfOk result (λ nodes. vec_len nodes ≡ vec_len services) }
+    ensures parts { IfOk result (λ _. (rest.new.parts ≡ 0) × (rest.new.amount ≡ 0)) }
+{
+    let mut nodes = Vec::with_capacity(alloc, services.len())?;
+    while let Some(service) = services.pop() {
+        let Some(secret) = secrets.pop() else {
+            unreachable!()
+        };
+        nodes.push(fresh_node(service, secret, rest.split_off(1, 0)))?;
+    }
+    nodes.reverse();
+    Ok(nodes)
+}
+
+fn no_notes(gave: LastGave) -> Notes
+    requires { gave ≡ None }
+    ensures { result ≡ no_notes }
+{
+    Notes {
+        begun: None,
+        turn: None,
+        posting: None,
+        gave,
+        lost: 0,
+        refused: 0,
+    }
+}
+
+// As many passes as the share has parts.
+fn passes_of<Q: Ledger>(
+    alloc: Global,
+    passes: u64,
+    rest: &mut Share<Q>,
+) -> Result<Vec<Pass<Q>>, NoMemory>
+    requires parts { rest.old.parts ≡ passes }
+    requires none { rest.old.amount ≡ 0 }
+    ensures len { IfOk result (λ all. vec_len all ≡ passes) }
+    ensures fresh { IfOk result (λ all. (i : ℕ) (p : _) → slice_get all.items i ≡ Some p → (p.receipts.items ≡ []) × (p.notes ≡ no_notes)) }
+    ensures parts { IfOk result (λ _. (rest.new.parts ≡ 0) × (rest.new.amount ≡ 0)) }
+{
+    let mut all = Vec::new(alloc);
+    for _i in 0..passes {
+        let gave = LastGave::none(alloc)?;
+        all.push(Pass {
+            share: rest.split_off(1, 0),
+            receipts: Vec::new(alloc),
+            notes: no_notes(gave),
+        })?;
+    }
+    Ok(all)
+}
+
+impl<R: Ledger, Q: Ledger> Nodes<R, Q> {
+    /// A node for each service, in order, with its secret, and so many passes without receipts, of which each serves any node.
+    /// The services have answered nothing yet. Each of the two ledgers, of answers and of receipts, stands for one run alone:
+    /// so what is counted in it is what this run's nodes and passes count.
+    pub fn open(
+        alloc: Global,
+        services: Vec<Service>,
+        secrets: Vec<Text>,
+        passes: u64,
+        rows: Blank,
+        receipts: Blank,
+    ) -> Result<Opened<R, Q>, NoMemory>
+        requires rows_name { rows.name ≡ R.name }
+        requires rows_parts { rows.parts ≡ R.parts }
+        requires receipts_name { receipts.name ≡ Q.name }
+        requires receipts_parts { receipts.parts ≡ Q.parts }
+        requires one_each { R.parts ≡ vec_len services }
+        requires one_pass_each { Q.parts ≡ passes }
+        requires secrets { vec_len secrets ≡ vec_len services }
+        requires empty { (i : ℕ) (s : _) → slice_get services.items i ≡ Some s → s.journal ≡ [] }
+        ensures nodes { IfOk result (λ o. vec_len o.nodes.nodes ≡ R.parts) }
+        ensures passes { IfOk result (λ o. vec_len o.passes ≡ Q.parts) }
+        ensures fresh { IfOk result (λ o. (i : ℕ) (p : _) → slice_get o.passes.items i ≡ Some p → (p.receipts.items ≡ []) × (p.notes ≡ no_notes)) }
+    {
+        let (rows, mut no_rows) = rows.open::<R>();
+        let (receipts, mut no_receipts) = receipts.open::<Q>();
+        let nodes = node_each(alloc, services, secrets, &mut no_rows)?;
+        let passes = passes_of(alloc, passes, &mut no_receipts)?;
+        let tally = Tally::new(Books {
+            rows,
+            receipts,
+            no_rows,
+            no_receipts,
+        });
+        Ok(Opened {
+            nodes: Nodes { nodes, tally },
+            passes,
+        })
+    }
+}

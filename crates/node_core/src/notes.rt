@@ -1,0 +1,137 @@
+// What a pass keeps of its worker's last events.
+ghost use Rattle.std.specs.Prelude.{◌≡◌, None, Some, IfOk};
+ghost use Rattle.std.specs.Option.{option_copied};
+
+use crate::asking::{NodeDone, NodeEvent};
+use lang_core::{Inputs, Name, NoMemory, Origin, Request};
+use repair_messages::PostName;
+use service_events::Posted;
+use std::alloc::Global;
+use std::marker::Model;
+
+/// A worker's open flight, with the call for which it waits.
+#[derive(Drop)]
+pub struct Begun {
+    /// The service in which it is.
+    pub service: Name,
+    /// Its number there.
+    pub flight: u64,
+    /// The service that is called.
+    pub dest: Name,
+    /// The number of the call.
+    pub number: u64,
+    /// Where the live request came from.
+    pub origin: Origin,
+    pub request: Request,
+    pub inputs: Inputs,
+}
+
+/// Why a service refused an event.
+#[derive(Clone, Copy, PartialEq, Eq)]
+pub enum TurnWord {
+    NoMemory,
+    Full,
+    NotYet,
+    Gone,
+    NoFlight,
+    Denied,
+    Unknown,
+    Foreign,
+    NoSuchRequest,
+    NotOutside,
+    NotHeld,
+}
+
+/// How an event was turned away.
+#[derive(Clone, Copy, PartialEq, Eq)]
+pub enum Turn {
+    /// The service refused it, with what the refusal carries, or 0.
+    Refused { word: TurnWord, number: u64 },
+    /// The service hasn't the worker's open flight.
+    Gone,
+}
+
+/// How far a post is.
+#[derive(Drop)]
+pub enum Posting {
+    /// Nothing is outstanding for this service.
+    Quiet(Name),
+    /// This one goes next.
+    Next(PostName),
+    /// Something came back of this one.
+    Ended { name: PostName, posted: Posted },
+}
+
+/// What a worker asked that was neither committed nor begun, and what the service answered or why it refused.
+#[derive(Drop)]
+pub struct Gave {
+    pub asked: NodeEvent,
+    pub done: NodeDone,
+}
+
+/// A `Gave` or none, which contracts see as an `Option`. It stands behind a pointer, in memory that is taken once, when the
+/// worker's pass is made: so nothing has to wait for memory to note the next one.
+#[derive(Drop)]
+pub struct LastGave {
+    items: Vec<Gave>,
+}
+
+impl Model for LastGave {
+    ghost use Rattle.std.specs.Prelude.{◌<◌, Option, slice_get, vec_capacity};
+    ghost use Rattle.node_core.specs.declared.notes.Gave.{Gave};
+
+    ghost Value = { Option Gave };
+
+    ghost view = { λ last. slice_get last.items.items 0 };
+
+    ghost invariant = { λ last. 0 < vec_capacity last.items };
+}
+
+impl LastGave {
+    /// None yet, with the memory for one.
+    pub(crate) fn none(alloc: Global) -> Result<LastGave, NoMemory>
+        ensures { IfOk result (λ last. last ≡ None) }
+    {
+        let items = Vec::with_capacity(alloc, 1)?;
+        Ok(LastGave { items })
+    }
+
+    /// The one that is kept, if there is one.
+    pub fn get(&self) -> Option<&Gave>
+        ensures { option_copied result ≡ self.now }
+    {
+        self.items.as_slice().first()
+    }
+
+    /// Keeps none any more.
+    pub(crate) fn forget(&mut self)
+        ensures { self.new ≡ None }
+    {
+        self.items.clear();
+    }
+
+    /// Keeps this one in place of the last.
+    pub(crate) fn put(&mut self, gave: Gave)
+        ensures { self.new ≡ Some gave }
+    {
+        self.items.clear();
+        self.items.push_reserved(gave);
+    }
+}
+
+/// What is kept of a worker's last events.
+#[derive(Drop)]
+pub struct Notes {
+    /// Its open flight.
+    pub begun: Option<Begun>,
+    /// How the last event was turned away, if it was.
+    pub turn: Option<Turn>,
+    /// How far its last post is.
+    pub posting: Option<Posting>,
+    /// Its last request, message or order that was neither committed nor begun.
+    pub gave: LastGave,
+    /// How many calls it gave up as lost; the greatest number of 64 bits where it doesn't hold that.
+    pub lost: u64,
+    /// How many calls it gave up as refused, as far as 64 bits hold it.
+    pub refused: u64,
+}
