@@ -8,5 +8,5 @@ mod sending;
 
 pub use console::{console_refusal, console_reply};
 pub use doors::{add_host, notifier_of};
-pub use hearing::{Unheard, hear};
+pub use hearing::{Replied, Unheard, hear, hear_reply};
 pub use sending::{call_bytes, post_bytes, reply_bytes};
