@@ -230,6 +230,16 @@ abbrev pub staying : List DumpService → Next → Stepped
 staying services (Ok stage) = Ok (services, stage)
 staying services (Err why) = Err why
 
+-- the services then, and where it goes on
+abbrev pub stepped : {X : Type 0} → Result X DumpRefused → List DumpService → Stage → Stepped
+stepped (Ok done) services stage = Ok (services, stage)
+stepped (Err why) services stage = Err why
+
+-- the same of a line that is taken, or refused for this reason
+abbrev pub taken : Bool → DumpRefused → List DumpService → Stage → Stepped
+taken true why services stage = Ok (services, stage)
+taken false why services stage = Err why
+
 -- behind `program`, `reply` or `row`, where the service may end
 abbrev pub kept : List DumpService → DumpService → ℕ → Line → Stepped
 kept services s n (Entry line) = staying services (with_entry s n line)
@@ -290,6 +300,11 @@ abbrev pub read_of : List ℕ → Result (List DumpService) DumpRefused
 read_of text = if nat_lt 67108864 (length text) then Err refusal.TooLong else with_lines [] Between 1 (lines_of text)
 
 -- ---- answers
+
+-- the services then, unless a line is refused
+abbrev pub all_read : Bool → DumpRefused → List DumpService → Result (List DumpService) DumpRefused
+all_read true why services = Ok services
+all_read false why services = Err why
 
 abbrev pub is_memory : DumpRefused → Bool
 is_memory refusal.NoMemory = true

@@ -1,4 +1,8 @@
 // What a dump says of services.
+ghost use Rattle.dump_reader.specs.Kept.{AreKept};
+
+use crate::entries::DumpEntries;
+use crate::services::DumpServices;
 use lang_core::{Answers, Calls, Cells, Inputs, Origin, Request, Response, Seq, Setting};
 
 /// The numbers of an entry's calls, in the order of the calls.
@@ -28,9 +32,6 @@ pub struct DumpEntry {
     pub reply: Option<Response>,
 }
 
-/// Entries in logged order.
-pub type DumpEntries = Seq<DumpEntry>;
-
 /// A service: what it is set to do, its entries, and its rows after the last of them.
 #[derive(Drop)]
 pub struct DumpService {
@@ -40,11 +41,10 @@ pub struct DumpService {
     pub rows: Cells,
 }
 
-/// Services, in the order of the dump.
-pub type DumpServices = Seq<DumpService>;
-
-/// What a dump says.
+/// What a dump says. No name of a service stands in it twice, and in a service no number of an entry, no call that an entry
+/// comes from, no number of a call, and no table and key of a row.
 #[derive(Drop)]
 pub struct Dump {
     pub services: DumpServices,
+    ghost kept: { ∥ AreKept services ∥₁ },
 }

@@ -75,3 +75,10 @@ impl From<NoMemory> for DumpRefused {
         DumpRefused::NoMemory
     }
 }
+
+/// The reason alone, without what is refused, which is dropped here so that no caller has to drop it on one of its ways.
+pub(crate) fn without<T: Drop, E>(_: T, why: E) -> E
+    ensures { result ≡ why }
+{
+    why
+}

@@ -1,8 +1,11 @@
 // Where the lines of a dump leave off.
 ghost use Rattle.std.specs.Prelude.{Contains};
 
-use crate::dump::{DumpEntries, DumpEntry, DumpService};
+use crate::dump::{DumpEntry, DumpService};
+use crate::entries::DumpEntries;
 use lang_core::{Name, Names, Setting};
+use lang_lists::HashIndex;
+use std::marker::Model;
 
 /// A service's name and its peers, of which it is none.
 #[derive(Drop)]
@@ -12,12 +15,31 @@ pub struct Head {
     ghost alone: { ¬ Contains peers me },
 }
 
+/// An entry of which calls are told, which contracts see as the entry so far. A call is found without a walk.
+#[derive(Drop)]
+pub struct Calling {
+    pub(crate) entry: DumpEntry,
+    // The numbers of its calls.
+    pub(crate) numbers: HashIndex,
+}
+
+impl Model for Calling {
+    ghost use Rattle.std.specs.Prelude.{◌≡◌};
+    ghost use Rattle.dump_reader.specs.declared.dump.DumpEntry.{DumpEntry};
+
+    ghost Value = { DumpEntry };
+
+    ghost view = { λ calling. calling.entry };
+
+    ghost invariant = { λ calling. calling.numbers.keys ≡ calling.entry.numbers };
+}
+
 /// A service of which an entry's lines go on.
 #[derive(Drop)]
 pub struct Running {
     pub setting: Setting,
     pub entries: DumpEntries,
-    pub entry: DumpEntry,
+    pub entry: Calling,
 }
 
 /// Where the lines so far leave off, which is all that the next one has to fit.

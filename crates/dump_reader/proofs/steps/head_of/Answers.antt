@@ -1,5 +1,5 @@
 use Rattle.dump_reader.specs.Alone.{not_among}
-use Rattle.dump_reader.proofs.reading.head_of.Goals as goal
+use Rattle.dump_reader.proofs.steps.head_of.Goals as goal
 
 pub invariant_of-result : goal.invariant_of-result
 invariant_of-result c = record {

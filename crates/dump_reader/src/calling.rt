@@ -1,0 +1,87 @@
+// An entry whose lines go on.
+ghost use Rattle.std.specs.Prelude.{◌≡◌, OnOk};
+ghost use Rattle.dump_reader.specs.Reading.{all_answered, consuming, entry_of, has_number, replying, with_made};
+
+use crate::dump::{DumpEntry, Numbers};
+use crate::line::EntryLine;
+use crate::stage::Calling;
+use lang_core::{Answers, CallMade, Calls, Names, NoMemory, Response};
+use lang_lists::HashIndex;
+use std::alloc::Global;
+
+fn entry_of(alloc: Global, line: EntryLine) -> DumpEntry
+    ensures { result ≡ entry_of line }
+{
+    DumpEntry {
+        id: line.id,
+        origin: line.origin,
+        version: line.version,
+        wanted: line.wanted,
+        struck: line.struck,
+        inputs: line.inputs,
+        request: line.request,
+        numbers: Numbers::new(alloc),
+        calls: Calls::new(alloc),
+        answers: Answers::new(alloc),
+        reply: None,
+    }
+}
+
+impl Calling {
+    /// An entry, of which no call is told yet.
+    pub(crate) fn of(alloc: Global, line: EntryLine) -> Calling
+        ensures { result ≡ entry_of line }
+    {
+        Calling {
+            entry: entry_of(alloc, line),
+            numbers: HashIndex::new(alloc),
+        }
+    }
+
+    /// The chain of its request.
+    pub(crate) fn chain(&self) -> &Names
+        ensures { result.now ≡ self.now.request.chain }
+    {
+        &self.entry.request.chain
+    }
+
+    /// Whether each call has its answer.
+    pub(crate) fn all_answered(&self) -> bool
+        ensures { result ≡ all_answered self.now }
+    {
+        self.entry.numbers.len() == self.entry.answers.len()
+    }
+
+    /// Whether it has a call of this number.
+    pub(crate) fn has_number(&self, number: u64) -> bool
+        ensures { result ≡ has_number number self.now }
+    {
+        self.numbers.end_of(number) > 0
+    }
+
+    /// Notes a call more, which has no answer yet.
+    pub(crate) fn push_call(&mut self, number: u64, call: CallMade) -> Result<(), NoMemory>
+        ensures { OnOk result (self.new ≡ with_made self.old number call) }
+    {
+        self.numbers.reserve(1)?;
+        self.entry.numbers.push(number)?;
+        self.numbers.push(number);
+        self.entry.calls.push(call)
+    }
+
+    /// Notes what its last call consumed.
+    pub(crate) fn push_answer(&mut self, answer: Response) -> Result<(), NoMemory>
+        ensures { OnOk result (self.new ≡ consuming self.old answer) }
+    {
+        self.entry.answers.push(answer)
+    }
+
+    /// The entry with what it answered.
+    pub(crate) fn replying(self, reply: Option<Response>) -> DumpEntry
+        ensures { result ≡ replying self reply }
+    {
+        let mut entry = self.entry;
+        entry.reply = reply;
+        entry
+    }
+}
