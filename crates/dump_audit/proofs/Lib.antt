@@ -1,5 +1,7 @@
 pub mod Firsts
+pub mod FoundLemmas
+pub mod GroupLemmas
 pub mod LegalLaws
-pub mod OneServes
+pub mod OneLemmas
 pub mod ReplayLaws
 pub mod ServedLaws

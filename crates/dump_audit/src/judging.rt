@@ -1,6 +1,7 @@
 // A dump's verdict.
 ghost use Rattle.std.specs.Prelude.{◌≡◌, ◌↔◌, IfOk};
 ghost use Rattle.execution.specs.Together.{IsLegalTogether};
+ghost use Rattle.dump_reader.specs.Kept.{AreKept};
 ghost use Rattle.dump_audit.specs.Histories.{histories_of};
 ghost use Rattle.dump_audit.specs.Judging.{answer_fault, first_in, judged, judged_together, replay_fault, stray_fault};
 ghost use Rattle.dump_audit.specs.declared.judged.Judged.{Judged};
@@ -10,7 +11,7 @@ use crate::answers::answer_fault;
 use crate::judged::{Fault, Judged};
 use crate::replays::replay_fault;
 use crate::strays::stray_fault;
-use dump_reader::{Dump, DumpService};
+use dump_reader::{Dump, DumpService, DumpServices};
 use lang_core::{Copied, NoMemory};
 use std::alloc::Global;
 
@@ -24,8 +25,8 @@ fn differs(alloc: Global, service: &DumpService, id: u64, what: Fault) -> Result
     })
 }
 
-// The first service that isn't its own replay.
-fn first_replay(alloc: Global, world: &[DumpService]) -> Result<Option<Judged>, NoMemory>
+/// The first service that isn't its own replay.
+pub(crate) fn first_replay(alloc: Global, world: &[DumpService]) -> Result<Option<Judged>, NoMemory>
     ensures { IfOk result (λ found. found ≡ first_in replay_fault world.now) }
 {
     for service in world {
@@ -37,11 +38,12 @@ fn first_replay(alloc: Global, world: &[DumpService]) -> Result<Option<Judged>, 
 }
 
 // The first service with a call that isn't served.
-fn first_answer(alloc: Global, world: &[DumpService]) -> Result<Option<Judged>, NoMemory>
-    ensures { IfOk result (λ found. found ≡ first_in (answer_fault world.now) world.now) }
+fn first_answer(alloc: Global, services: &DumpServices) -> Result<Option<Judged>, NoMemory>
+    requires { ∥ AreKept services.now ∥₁ }
+    ensures { IfOk result (λ found. found ≡ first_in (answer_fault services.now) services.now) }
 {
-    for service in world {
-        if let Some((id, what)) = answer_fault(world, service) {
+    for service in services.as_slice() {
+        if let Some((id, what)) = answer_fault(services, service) {
             return Ok(Some(differs(alloc, service, id, what)?));
         }
     }
@@ -49,25 +51,27 @@ fn first_answer(alloc: Global, world: &[DumpService]) -> Result<Option<Judged>, 
 }
 
 // The first service with an entry that wasn't called for.
-fn first_stray(alloc: Global, world: &[DumpService]) -> Result<Option<Judged>, NoMemory>
-    ensures { IfOk result (λ found. found ≡ first_in (stray_fault world.now) world.now) }
+fn first_stray(alloc: Global, services: &DumpServices) -> Result<Option<Judged>, NoMemory>
+    requires { ∥ AreKept services.now ∥₁ }
+    ensures { IfOk result (λ found. found ≡ first_in (stray_fault services.now) services.now) }
 {
-    for service in world {
-        if let Some((id, what)) = stray_fault(world, service) {
+    for service in services.as_slice() {
+        if let Some((id, what)) = stray_fault(services, service) {
             return Ok(Some(differs(alloc, service, id, what)?));
         }
     }
     Ok(None)
 }
 
-// What services that replay are found to be.
-fn judged_together(alloc: Global, world: &[DumpService]) -> Result<Judged, NoMemory>
-    ensures { IfOk result (λ found. found ≡ judged_together world.now) }
+/// What services that replay are found to be.
+pub(crate) fn judged_together(alloc: Global, services: &DumpServices) -> Result<Judged, NoMemory>
+    requires { ∥ AreKept services.now ∥₁ }
+    ensures { IfOk result (λ found. found ≡ judged_together services.now) }
 {
-    if let Some(found) = first_answer(alloc, world)? {
+    if let Some(found) = first_answer(alloc, services)? {
         return Ok(found);
     }
-    match first_stray(alloc, world)? {
+    match first_stray(alloc, services)? {
         Some(found) => Ok(found),
         None => Ok(Judged::Legal),
     }
@@ -76,11 +80,10 @@ fn judged_together(alloc: Global, world: &[DumpService]) -> Result<Judged, NoMem
 fn judged(alloc: Global, dump: &Dump) -> Result<Judged, NoMemory>
     ensures { IfOk result (λ found. found ≡ judged dump.now.services) }
 {
-    let world = dump.services.as_slice();
-    if let Some(found) = first_replay(alloc, world)? {
+    if let Some(found) = first_replay(alloc, dump.services.as_slice())? {
         return Ok(found);
     }
-    judged_together(alloc, world)
+    judged_together(alloc, &dump.services)
 }
 
 /// What a dump is found to be, by running each of its entries anew.

@@ -6,11 +6,13 @@
 #![tactic(auto)]
 
 mod answers;
+mod beside;
 mod judged;
 mod judging;
 mod replays;
 mod strays;
 
+pub use beside::judge_beside;
 pub use dump_reader::{Dump, DumpEntry, DumpService, DumpServices};
 pub use judged::{Fault, Judged};
 pub use judging::judge;

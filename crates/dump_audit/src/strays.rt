@@ -1,14 +1,13 @@
 // Which entries were called for.
 ghost use Rattle.std.specs.Prelude.{◌≡◌, ◌↔◌, IsTrue};
-ghost use Rattle.std.specs.List.{list_any};
 ghost use Rattle.lang_base.specs.Equal.{equal};
 ghost use Rattle.lang_core.specs.contracts.trace.CallMade as call_made;
-ghost use Rattle.dump_audit.specs.Judging.{is_among, is_called_for, is_made, is_made_by, makes, stray_fault};
+ghost use Rattle.dump_reader.specs.Kept.{AreKept};
+ghost use Rattle.dump_audit.specs.Judging.{is_among, is_called_for, is_made, is_made_by, makes, service_in, stray_fault};
 
-use crate::answers::service_in;
 use crate::judged::Fault;
 use crate::replays::is_alive;
-use dump_reader::{DumpEntry, DumpService};
+use dump_reader::{DumpEntry, DumpService, DumpServices};
 use lang_core::{CallMade, Name, Origin, Request, Same};
 
 // Whether the call goes to this service and asks this.
@@ -60,40 +59,55 @@ fn makes(number: u64, dest: &Name, request: &Request, entry: &DumpEntry) -> bool
         )
 }
 
-fn any_makes(number: u64, dest: &Name, request: &Request, entries: &[DumpEntry]) -> bool
-    ensures { result ≡ list_any (makes number (record { dest = dest.now; request = request.now })) entries.now }
+fn is_made_by(
+    services: &DumpServices,
+    caller: &Name,
+    number: u64,
+    dest: &Name,
+    request: &Request,
+) -> bool
+    requires { ∥ AreKept services.now ∥₁ }
+    ensures { result ≡ is_made_by (service_in caller.now services.now) number (record { dest = dest.now; request = request.now }) }
 {
-    entries.iter().any(|e| makes(number, dest, request, e))
-}
-
-fn is_made(world: &[DumpService], me: &Name, entry: &DumpEntry) -> bool
-    ensures { result ≡ is_made world.now me.now entry.now entry.now.origin }
-{
-    match &entry.origin {
-        Origin::Outside => true,
-        Origin::Call { caller, number } => match service_in(caller, world) {
-            None => false,
-            Some(service) => any_makes(*number, me, &entry.request, service.entries.as_slice()),
-        },
+    let Some(service) = services.named(caller) else {
+        return false;
+    };
+    match service.entries.with_number(number) {
+        None => false,
+        Some(entry) => makes(number, dest, request, entry),
     }
 }
 
-fn is_called_for(world: &[DumpService], me: &Name, entry: &DumpEntry) -> bool
-    ensures { result ≡ is_called_for world.now me.now entry.now }
+fn is_made(services: &DumpServices, me: &Name, entry: &DumpEntry) -> bool
+    requires { ∥ AreKept services.now ∥₁ }
+    ensures { result ≡ is_made services.now me.now entry.now entry.now.origin }
+{
+    match &entry.origin {
+        Origin::Outside => true,
+        Origin::Call { caller, number } => {
+            is_made_by(services, caller, *number, me, &entry.request)
+        }
+    }
+}
+
+fn is_called_for(services: &DumpServices, me: &Name, entry: &DumpEntry) -> bool
+    requires { ∥ AreKept services.now ∥₁ }
+    ensures { result ≡ is_called_for services.now me.now entry.now }
 {
     if entry.wanted {
-        is_made(world, me, entry)
+        is_made(services, me, entry)
     } else {
         true
     }
 }
 
 /// The first entry of a service that is wanted and wasn't called for.
-pub(crate) fn stray_fault(world: &[DumpService], service: &DumpService) -> Option<(u64, Fault)>
-    ensures { result ≡ stray_fault world.now service.now }
+pub(crate) fn stray_fault(services: &DumpServices, service: &DumpService) -> Option<(u64, Fault)>
+    requires { ∥ AreKept services.now ∥₁ }
+    ensures { result ≡ stray_fault services.now service.now }
 {
     for entry in service.entries.as_slice() {
-        if !is_called_for(world, &service.setting.me, entry) {
+        if !is_called_for(services, &service.setting.me, entry) {
             return Some((entry.id, Fault::Stray));
         }
     }

@@ -1,7 +1,8 @@
 // A dump, and what is found of texts.
-use dump_audit::{Fault, Judged, judge};
+use dump_audit::{Dump, Fault, Judged, judge, judge_beside};
 use dump_reader::read_dump;
 use std::process::Abort;
+use std::thread::Threads;
 
 /// A desk whose greetings are noted in a book. The second was cancelled at the desk, and then at the book.
 pub const GREETINGS: &str = r#"service desk
@@ -70,13 +71,32 @@ fn judged_text(rt: &(impl Abort + AllocGlobal), judged: &Judged) -> String {
     }
 }
 
-/// What is found of a text: that it is refused, at which line and by which number, or what it is judged to be.
-pub fn verdict(rt: &(impl Abort + AllocGlobal), bytes: &[u8]) -> String {
+// That so many workers find the same.
+fn is_found_beside<R: Abort + AllocGlobal + Threads + Sync>(
+    rt: &R,
+    dump: &Dump,
+    workers: u64,
+    want: &str,
+) {
+    let judged = judge_beside(rt, rt.alloc(), dump, workers).expect(rt, "memory");
+    let found = judged_text(rt, &judged);
+    same(rt, "several workers", found.as_str(), want);
+}
+
+fn judged_by_all<R: Abort + AllocGlobal + Threads + Sync>(rt: &R, dump: &Dump) -> String {
+    let judged = judge(rt.alloc(), dump).expect(rt, "memory");
+    let text = judged_text(rt, &judged);
+    is_found_beside(rt, dump, 1, text.as_str());
+    is_found_beside(rt, dump, 2, text.as_str());
+    is_found_beside(rt, dump, 8, text.as_str());
+    text
+}
+
+/// What is found of a text: that it is refused, at which line and by which number, or what it is judged to be, in one
+/// thread and in several.
+pub fn verdict<R: Abort + AllocGlobal + Threads + Sync>(rt: &R, bytes: &[u8]) -> String {
     match read_dump(rt.alloc(), bytes) {
-        Ok(dump) => {
-            let judged = judge(rt.alloc(), &dump).expect(rt, "memory");
-            judged_text(rt, &judged)
-        }
+        Ok(dump) => judged_by_all(rt, &dump),
         Err(why) => {
             let line = why.line();
             let number = why.number();
@@ -86,7 +106,7 @@ pub fn verdict(rt: &(impl Abort + AllocGlobal), bytes: &[u8]) -> String {
 }
 
 /// That this is found of a dump where these lines stand in place of one.
-pub fn is_found(rt: &(impl Abort + AllocGlobal), dump: &str, row: &str) {
+pub fn is_found<R: Abort + AllocGlobal + Threads + Sync>(rt: &R, dump: &str, row: &str) {
     let (number, rest) = row.split_once(" => ").expect(rt, row);
     let (lines, want) = rest.rsplit_once(" => ").expect(rt, row);
     let number = number.parse::<u64>().expect(rt, row);

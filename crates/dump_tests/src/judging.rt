@@ -2,6 +2,7 @@
 // found.
 use crate::given::{GREETINGS, edited, is_found, same, verdict};
 use std::process::Abort;
+use std::thread::Threads;
 
 // Two services.
 const ROWS: &str = r#"1 => service desk => legal
@@ -78,7 +79,7 @@ fn faults_are_found(rt: HostRuntime) {
     }
 }
 
-fn comes_to(rt: &(impl Abort + AllocGlobal), text: &str, want: &str) {
+fn comes_to<R: Abort + AllocGlobal + Threads + Sync>(rt: &R, text: &str, want: &str) {
     let found = verdict(rt, text.as_bytes());
     same(rt, want, found.as_str(), want);
 }

@@ -1,6 +1,7 @@
 // Texts that are no dumps. Each row has the number of a line, the lines that stand in its place, and what is found.
 use crate::given::{GREETINGS, edited, is_found, same, verdict};
 use std::process::Abort;
+use std::thread::Threads;
 
 // Refused at a line of the first service.
 const DESK: &str = r#"1 => service desk => legal
@@ -82,7 +83,7 @@ fn refusals_are_told(rt: HostRuntime) {
     }
 }
 
-fn comes_to(rt: &(impl Abort + AllocGlobal), bytes: &[u8], want: &str) {
+fn comes_to<R: Abort + AllocGlobal + Threads + Sync>(rt: &R, bytes: &[u8], want: &str) {
     let found = verdict(rt, bytes);
     same(rt, want, found.as_str(), want);
 }

@@ -1,12 +1,15 @@
-use Rattle.std.proofs.Common.{◌∙◌, Bool, List, Option, filter, ap}
-use Rattle.lang_core.specs.Origins.{is_call}
-use Rattle.dump_reader.specs.declared.dump.DumpEntry.{DumpEntry}
-use Rattle.dump_reader.specs.declared.dump.DumpService.{DumpService}
-use Rattle.dump_audit.specs.Judging.{is_served_by, serves_alone}
+use Rattle.std.proofs.Common.{sym, ◌∙◌}
+use Rattle.dump_audit.proofs.FoundLemmas.{served_by_none, served_by_one, served_nowhere}
 use Rattle.dump_audit.proofs.answers.is_served.Goals as goal
 
-pub returns-in-Some : goal.returns-in-Some
-returns-in-Some c =
-    let among : List DumpEntry → Bool = λ es. serves_alone c.args.call.now c.args.answer.now (filter (λ e. is_call c.args.caller.now c.args.number e.origin) es) in
-    let by : Option DumpService → Bool = λ o. is_served_by o c.args.caller.now c.args.number c.args.call.now c.args.answer.now in
-    c.serves_alone.ensures ∙ ap among c.as_slice.ensures ∙ ap by c.in-Some.ensures
+pub returns-in_default : goal.returns-in_default
+returns-in_default c = sym (served_nowhere c.args.caller.now c.args.number c.args.call.now c.args.answer.now c.args.services.now c.requires c.in_default.ensures)
+
+pub returns-in-None : goal.returns-in-None
+returns-in-None c =
+    sym (served_by_none c.args.caller.now c.args.number c.args.call.now c.args.answer.now c.args.services.now c.in-Some.service.now c.requires c.in-Some.ensures c.in-None.ensures)
+
+pub returns-in-Some-of_call : goal.returns-in-Some-of_call
+returns-in-Some-of_call c =
+    c.serves.ensures
+    ∙ sym (served_by_one c.args.caller.now c.args.number c.args.call.now c.args.answer.now c.args.services.now c.in-Some.service.now c.in-Some-of_call.entry.now c.requires c.in-Some.ensures c.in-Some-of_call.ensures)
