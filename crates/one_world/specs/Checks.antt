@@ -43,6 +43,11 @@ abbrev pub behind_callee : Deeper → List ℕ → List ℕ → ℕ → Option H
 behind_callee deeper name caller n None left = None
 behind_callee deeper name caller n (Some h) left = behind_found deeper name h (callee_in caller n h.acts) left
 
+-- behind the last call, of which no name may be left
+abbrev pub behind_last : List ℕ → List Act → Left
+behind_last [] left = Some left
+behind_last (n ∷ ns) left = None
+
 -- behind these calls of a service
 abbrev pub behind_calls : Deeper → List History → List ℕ → List ℕ → List ℕ → List CallMade → List Act → Left
 behind_calls deeper world name caller [] [] left = Some left

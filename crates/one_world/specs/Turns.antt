@@ -52,6 +52,11 @@ abbrev pub turn_callee : Player → List ℕ → ℕ → World → Request → O
 turn_callee player caller n w q None = None
 turn_callee player caller n w q (Some h) = turn_found player w q h (callee_in caller n h.acts)
 
+-- a request that has made its calls, of which no name may be left
+abbrev pub turn_last : History → Act → Request → List ℕ → List Response → World → Option Turned
+turn_last h a q [] given w = turn_end (name_of h) w (run_of h.setting q a.inputs given (rows_at (name_of h) w))
+turn_last h a q (n ∷ ns) given w = None
+
 -- the call to which a request comes whose first calls gave these responses
 abbrev pub turn_call : Player → List History → History → Act → Request → ℕ → List ℕ → List Response → World → Option Turned
 turn_call player world h a q n dest given w =

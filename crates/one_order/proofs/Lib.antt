@@ -1,0 +1,4 @@
+pub mod Depths
+pub mod OrderLaws
+pub mod Places
+pub mod RunLaws

@@ -1,0 +1,17 @@
+//! One order for a whole world: whether the services of a dump could have run as one program, root by root, each call in
+//! place.
+//!
+//! It stands on the dump and on the meaning of the handler language, and on nothing that repairs.
+#![tactic(auto)]
+
+mod checking;
+mod finding;
+mod orders;
+mod playing;
+mod worlds;
+
+pub use dump_reader::{Dump, DumpEntry, DumpService};
+pub use lang_core::RequestId;
+pub use one_world::Rows;
+pub use orders::{Ids, check_order};
+pub use worlds::one_run;

@@ -1,0 +1,61 @@
+// The last rows of a world that runs as one program.
+ghost use Rattle.std.specs.Prelude.{◌≡◌, IfOk, Some, None, length, if◌then◌else◌};
+ghost use Rattle.std.specs.Option.{option_map};
+ghost use Rattle.execution.specs.Together.{IsLegalTogether};
+ghost use Rattle.dump_audit.specs.Histories.{histories_of};
+ghost use Rattle.one_world.specs.OneWorld.{Run, before_all, one_world};
+ghost use Rattle.one_world.specs.Trees.{AreRoots, Trees};
+ghost use Rattle.one_world.specs.Turns.{turn_roots};
+
+use crate::orders::Ids;
+use crate::playing::turn_id;
+use dump_reader::{Dump, DumpService};
+use lang_core::{Cells, Copied, NoMemory, RequestId};
+use one_world::Rows;
+use std::alloc::Global;
+
+// Each service without rows.
+fn before_all(alloc: Global, services: &[DumpService]) -> Result<Vec<Rows>, NoMemory>
+    ensures { IfOk result (λ world. world.items ≡ before_all (histories_of services.now)) }
+{
+    let mut world = Vec::with_capacity(alloc, services.len())?;
+    for service in services {
+        world.push(Rows {
+            service: service.setting.me.copied(alloc)?,
+            rows: Cells::new(alloc),
+        })?;
+    }
+    Ok(world)
+}
+
+fn turn_roots(
+    alloc: Global,
+    services: &[DumpService],
+    order: &[RequestId],
+    world: &mut [Rows],
+) -> Result<bool, NoMemory>
+    ensures { IfOk result (λ ran. (if ran then Some world.new else None) ≡ turn_roots (length (histories_of services.now)) (histories_of services.now) order.now world.old) }
+{
+    for id in order {
+        if turn_id(alloc, services, id, world)?.is_none() {
+            return Ok(false);
+        }
+    }
+    Ok(true)
+}
+
+/// The last rows of each service, in the dump's order, where the roots of the order run one after the other as one program,
+/// from empty rows on: each call in place, at once, before its caller goes on. None exactly where that fails.
+pub fn one_run(alloc: Global, dump: &Dump, order: &Ids) -> Result<Option<Vec<Rows>>, NoMemory>
+    requires legal { IsLegalTogether (histories_of dump.now.services) }
+    ensures exact { (trees : Trees) → AreRoots trees (histories_of dump.now.services) order.now
+        → IfOk result (λ rows. option_map (λ world. world.items) rows ≡ option_map (λ (run : Run). run.world) (one_world (histories_of dump.now.services) trees)) }
+{
+    let services = dump.services.as_slice();
+    let mut world = before_all(alloc, services)?;
+    if turn_roots(alloc, services, order.as_slice(), &mut world)? {
+        Ok(Some(world))
+    } else {
+        Ok(None)
+    }
+}
