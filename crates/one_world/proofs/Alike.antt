@@ -4,7 +4,7 @@ use Rattle.lang_core.specs.declared.ids.RequestId.{RequestId}
 use Rattle.lang_core.specs.declared.trace.CallMade.{CallMade}
 use Rattle.execution.specs.Executions.{Act, History}
 use Rattle.execution.specs.Together.{name_of}
-use Rattle.one_world.specs.Trees.{AreCalled, AreRoots, IsCallee, IsRoot, Trees, act_in, callee_in, calls_of, none, tree}
+use Rattle.one_world.specs.Trees.{AreCalled, AreRoots, Trees, act_in, callee_in, calls_of, none, tree}
 
 both_some : {X : Type 0} (o : Option X) (x y : X) → o ≡ Some x → o ≡ Some y → x ≡ y
 both_some o x y e f = (let both : Some x ≡ Some y = sym e ∙ f in cc)

@@ -1,5 +1,5 @@
 -- In a legal execution all that a root called is there.
-use Rattle.std.proofs.Common.{◌≡◌, ◌≤◌, ◌<◌, ℕ, zero, suc, Bool, true, false, cond, List, [], ◌∷◌, ◌++◌, Option, Some, None, IsSomeAnd, find, filter, length, ◌⊎◌, inl, inr, refl, sym, ap, ◌∙◌, subst, arith}
+use Rattle.std.proofs.Common.{◌≡◌, ◌≤◌, ◌<◌, ℕ, zero, suc, Bool, true, false, List, [], ◌∷◌, ◌++◌, Option, Some, None, IsSomeAnd, find, filter, length, inl, inr, refl, sym, ap, ◌∙◌, subst, arith}
 use Rattle.std.specs.List.{AllByRecursion}
 use Rattle.std.proofs.lemmas.Bool.{cases_Bool}
 use Rattle.lang_core.specs.declared.ids.RequestId.{RequestId}
@@ -8,9 +8,9 @@ use Rattle.lang_core.specs.declared.request.Response.{Response}
 use Rattle.lang_core.specs.declared.trace.CallMade.{CallMade}
 use Rattle.handler_chains.specs.Onward.{IsOnward, chain_behind, is_among}
 use Rattle.execution.specs.Executions.{Act, History, survives}
-use Rattle.execution.specs.Together.{AreServed, IsLegalTogether, IsOne, IsServed, Serves, comes_from, history_in, name_of}
+use Rattle.execution.specs.Together.{AreServed, IsLegalTogether, IsOne, Serves, comes_from, history_in, name_of}
 use Rattle.one_world.specs.Certificates.{AllRoots}
-use Rattle.one_world.specs.Trees.{AreCalled, AreRoots, IsCallee, Trees, calls_of, callee_in, none, tree}
+use Rattle.one_world.specs.Trees.{AreCalled, AreRoots, IsCallee, Trees, calls_of, none, tree}
 use Rattle.one_world.proofs.Facts.{Lawful, callee_serves, callee_there, dead_calls, dead_numbers, lawful, onward}
 use Rattle.one_world.proofs.Lists.{Has}
 use Rattle.one_world.proofs.Low.{left_all, left_behind, left_by}

@@ -1,20 +1,19 @@
 -- Calls lead down no deeper than there are services.
-use Rattle.std.proofs.Common.{◌≡◌, ◌≤◌, ◌<◌, ℕ, zero, suc, ◌+◌, Bool, true, false, ◌||◌, cond, List, [], ◌∷◌, ◌++◌, length, map, ◌⊎◌, inl, inr, refl, sym, ap, ◌∙◌, subst, arith, nat_eq}
-use Rattle.std.specs.List.{AllByRecursion, list_any}
+use Rattle.std.proofs.Common.{◌≡◌, ◌≤◌, ◌<◌, ℕ, zero, suc, ◌+◌, Bool, true, false, ◌||◌, cond, List, [], ◌∷◌, ◌++◌, length, inl, inr, sym, ap, ◌∙◌, subst, arith}
+use Rattle.std.specs.List.{AllByRecursion}
 use Rattle.std.proofs.lemmas.Bool.{cases_Bool}
 use Rattle.std.proofs.lemmas.List.Folds.{list_any-append}
 use Rattle.lang_base.specs.Texts.{same_text}
-use Rattle.lang_core.specs.declared.ids.RequestId.{RequestId}
 use Rattle.lang_core.specs.declared.request.Request.{Request}
 use Rattle.lang_core.specs.declared.request.Response.{Response}
 use Rattle.lang_core.specs.declared.trace.CallMade.{CallMade}
 use Rattle.handler_chains.specs.Onward.{IsOnward, chain_behind, is_among}
 use Rattle.execution.specs.Executions.{Act, History, survives}
 use Rattle.execution.specs.Together.{AreServed, IsLegalTogether, name_of}
-use Rattle.one_world.specs.Trees.{AreCalled, AreRoots, Trees, none, tree, calls_of}
+use Rattle.one_world.specs.Trees.{AreCalled, Trees, none, tree, calls_of}
 use Rattle.one_world.proofs.Facts.{Lawful, callee_serves, callee_there, dead_numbers, lawful, onward}
 use Rattle.one_world.proofs.Fresh.{nothing_called}
-use Rattle.one_world.proofs.Lists.{Has, has_found, if_false, if_true, same_self}
+use Rattle.one_world.proofs.Lists.{Has, same_self}
 
 -- no tree is higher
 abbrev pub Low : Trees → ℕ → Type 0

@@ -1,5 +1,5 @@
 -- The test of a certificate says what it should.
-use Rattle.std.proofs.Common.{◌≡◌, ◌≤◌, ℕ, zero, suc, Bool, true, false, not, ◌&&◌, ◌||◌, cond, List, [], ◌∷◌, ◌++◌, length, map, filter, Option, Some, None, ◌⊎◌, inl, inr, ◌↔◌, refl, sym, ap, ◌∙◌, subst, append_assoc, append-nil, nat_eq, eqb-true, eq-eqb, true≢false}
+use Rattle.std.proofs.Common.{◌≡◌, ℕ, zero, suc, Bool, true, false, not, ◌&&◌, ◌||◌, cond, List, [], ◌∷◌, ◌++◌, length, map, filter, Option, Some, None, inl, inr, refl, sym, ap, ◌∙◌, subst, append_assoc, append-nil, nat_eq, eqb-true, eq-eqb}
 use Rattle.std.specs.List.{AllByRecursion, list_all, list_any}
 use Rattle.std.proofs.lemmas.Bool.{and_from, and_parts, cases_Bool, or_parts}
 use Rattle.lang_base.specs.Texts.{same_text}
@@ -15,7 +15,7 @@ use Rattle.one_world.specs.Trees.{AreCalled, AreRoots, IsCallee, IsRoot, Trees, 
 use Rattle.one_world.proofs.Alike.{roots_alike}
 use Rattle.one_world.proofs.Facts.{dead_calls, dead_numbers, lawful, onward}
 use Rattle.one_world.proofs.Lists.{Has, has_found, if_false, if_true, numbers_append, numbers_here, numbers_there}
-use Rattle.one_world.proofs.Low.{Low, called_low, left_all, left_by}
+use Rattle.one_world.proofs.Low.{Low, called_low, left_all}
 
 -- ---- one log
 

@@ -1,5 +1,5 @@
 -- The run of a world from its histories is that of its roots' tapes.
-use Rattle.std.proofs.Common.{◌≡◌, ℕ, zero, suc, Bool, true, false, cond, List, [], ◌∷◌, ◌++◌, length, Option, Some, None, refl, sym, ap, ◌∙◌, subst, nat_eq}
+use Rattle.std.proofs.Common.{◌≡◌, ℕ, zero, suc, Bool, true, false, cond, List, [], ◌∷◌, ◌++◌, length, Option, Some, None, refl, sym, ap, ◌∙◌}
 use Rattle.std.specs.Option.{option_map}
 use Rattle.lang_base.specs.Texts.{same_text}
 use Rattle.lang_core.specs.Traces.{dead_trace}
@@ -15,10 +15,9 @@ use Rattle.execution.specs.Executions.{Act, History}
 use Rattle.execution.specs.Together.{IsLegalTogether, history_in, name_of}
 use Rattle.one_world.specs.OneWorld.{Run, and_roots, next_root, one_world, before_all, run_roots, settings_of, tapes_of}
 use Rattle.one_world.specs.Tapes.{Played, World, and_behind, at_call, at_service, ended, go_on, in_place, rows_at, setting_in}
-use Rattle.one_world.specs.Trees.{AreCalled, AreRoots, IsCallee, IsRoot, Trees, act_in, calls_of, none, requests_of, tree}
+use Rattle.one_world.specs.Trees.{AreCalled, AreRoots, IsCallee, Trees, calls_of, none, requests_of, tree}
 use Rattle.one_world.specs.Turns.{Player, Turned, call_to, next_world, turn_act, turn_all, turn_callee, turn_calls, turn_end, turn_found, turn_id, turn_on, turn_root, turn_roots, with_call}
 use Rattle.one_world.proofs.Facts.{callee_there, lawful, onward}
-use Rattle.one_world.proofs.Lists.{has_found}
 use Rattle.one_world.proofs.Low.{Low, called_low, left_all}
 use Rattle.one_world.proofs.OneRun.{root_at}
 use Rattle.one_world.proofs.Stands.{setting_found}
