@@ -2,3 +2,4 @@ pub mod Replies
 pub mod Receipts
 pub mod Closings
 pub mod Notes
+pub mod Doings

@@ -8,15 +8,24 @@
 
 mod asking;
 mod closing;
+mod events;
+mod flying;
+mod live;
 mod nodes;
 mod notes;
+mod noting;
 mod pass;
+mod plain;
 mod receipt;
+mod receipts;
 mod state;
 mod tally;
+mod turns;
+mod waiting;
 
 pub use asking::{NodeDone, NodeEvent};
 pub use closing::{CloseRefused, Closed, close};
+pub use events::event;
 pub use nodes::{Node, Nodes, Opened};
 pub use notes::{Begun, Gave, LastGave, Notes, Posting, Turn, TurnWord};
 pub use pass::Pass;

@@ -1,0 +1,86 @@
+-- What an event of a live request tells of the journal.
+use Rattle.std.proofs.Common.{◌≡◌, ◌+◌, ℕ, List, Option, Some, None, Result, Ok, Err, IsSomeAnd, MatchOption, length, slice_get, sym, ap, ◌∙◌, subst, arith, length-append}
+use Rattle.lang_core.specs.declared.ids.Origin.{Origin}
+use Rattle.lang_core.specs.declared.inputs.Inputs.{Inputs}
+use Rattle.lang_core.specs.declared.request.Request.{Request}
+use Rattle.journal_rows.specs.declared.row.Row.TheVariants.{Answered}
+use Rattle.flights.specs.declared.flight.Flight.{Flight}
+use Rattle.service_events.specs.Commits.{live_rows, live_answer_of, Commits, CommitsFlight}
+use Rattle.service_events.specs.State.{Kept, flight_of}
+use Rattle.service_events.specs.declared.answers.Arrived.{Arrived}
+use Rattle.service_events.specs.declared.answers.Arrived.TheVariants as arrived
+use Rattle.node_core.specs.Doings.{commits_in, GetsReceipt, GetsReceiptOf, HasAnsweredIf, IsGivenReceipt, IsOpen, IsSameFlight, IsThere}
+use Rattle.node_core.specs.declared.notes.Begun.{Begun}
+use Rattle.node_core.specs.declared.receipt.Receipt.{Receipt}
+
+-- as many live answers more as were committed
+pub counts : {E : Type 0} (o : Origin) (q : Request) (i : Inputs) (s t : Kept) (result : Result Arrived E) → Commits o q i s result t
+    → length (live_rows t.journal) ≡ length (live_rows s.journal) + commits_in result
+counts o q i s t (Ok (arrived.Done index id answer)) h =
+    ap length h.alone ∙ length-append (live_rows s.journal) _
+counts o q i s t (Ok (arrived.Call flight set)) h = omega (arith, ap length h.0.lives)
+counts o q i s t (Ok (arrived.Known answer)) h = omega (arith, ap length h.lives)
+counts o q i s t (Err why) h = omega (arith, ap (λ (k : Kept). length (live_rows k.journal)) h)
+
+-- behind a commit the answer stands there
+pub answered : {E : Type 0} (o : Origin) (q : Request) (i : Inputs) (s t : Kept) (result : Result Arrived E) → Commits o q i s result t
+    → HasAnsweredIf t.journal q i result
+answered o q i s t (Ok (arrived.Done index id answer)) h =
+    record { origin = o; response = h.trace.response; there = h.there; asked_so = h.asks }
+answered o q i s t (Ok (arrived.Call flight set)) h = tt
+answered o q i s t (Ok (arrived.Known answer)) h = tt
+answered o q i s t (Err why) h = tt
+
+-- a receipt of the answer there is of the live request that was committed
+pub gets : {E : Type 0} (o : Origin) (q : Request) (i : Inputs) (s t : Kept) (secret : List ℕ) (result : Result Arrived E) (before behind : List Receipt)
+    → Commits o q i s result t → IsGivenReceipt t secret q i result before behind → GetsReceipt t secret o q i result before behind
+gets o q i s t secret (Ok (arrived.Done index id answer)) before behind h given =
+    let r = given.receipt in
+    let row : Some r.row ≡ Some (Answered (live_answer_of id o h.trace.response)) =
+    sym given.so.agrees.there ∙ ap (slice_get t.journal) given.so.index ∙ h.there in
+    record {
+      receipt = r;
+      last = given.last;
+      so = record { is = given.so; response = h.trace.response; row = cc };
+    }
+gets o q i s t secret (Ok (arrived.Call flight set)) before behind h given = given
+gets o q i s t secret (Ok (arrived.Known answer)) before behind h given = given
+gets o q i s t secret (Err why) before behind h given = given
+
+-- ---- of the open flight
+
+commits_found : {E : Type 0} (b : Begun) (s t : Kept) (f : Option Flight) (result : Result Arrived E) → IsSomeAnd f (IsSameFlight b)
+    → MatchOption f (t ≡ s) (λ (g : Flight). Commits g.origin g.request g.inputs s result t) → Commits b.origin b.request b.inputs s result t
+commits_found b s t None result same h = absurd same
+commits_found b s t (Some g) result same h =
+    let P : Origin → Type 0 = λ o. Commits o g.request g.inputs s result t in
+    let Q : Request → Type 0 = λ q. Commits b.origin q g.inputs s result t in
+    let R : Inputs → Type 0 = λ i. Commits b.origin b.request i s result t in
+    subst R same.2 (subst Q same.1 (subst P same.0 h))
+
+-- what the flight of this number does is what the live request does that is open
+pub flies : {E : Type 0} (flight : ℕ) (begun : Option Begun) (s t : Kept) (result : Result Arrived E) → IsOpen flight begun → IsSomeAnd begun (IsThere s)
+    → CommitsFlight flight s result t → IsSomeAnd begun (λ (b : Begun). Commits b.origin b.request b.inputs s result t)
+flies flight None s t result opened there h = absurd opened
+flies flight (Some b) s t result opened there h =
+    let P : ℕ → Type 0 = λ n. CommitsFlight n s result t in
+    commits_found b s t (flight_of b.flight s) result there.flight (subst P (sym opened) h)
+
+pub counts_open : {E : Type 0} (begun : Option Begun) (s t : Kept) (result : Result Arrived E)
+    → IsSomeAnd begun (λ (b : Begun). Commits b.origin b.request b.inputs s result t)
+    → length (live_rows t.journal) ≡ length (live_rows s.journal) + commits_in result
+counts_open None s t result h = absurd h
+counts_open (Some b) s t result h = counts b.origin b.request b.inputs s t result h
+
+pub answered_open : {E : Type 0} (begun : Option Begun) (s t : Kept) (result : Result Arrived E)
+    → IsSomeAnd begun (λ (b : Begun). Commits b.origin b.request b.inputs s result t)
+    → IsSomeAnd begun (λ (b : Begun). HasAnsweredIf t.journal b.request b.inputs result)
+answered_open None s t result h = absurd h
+answered_open (Some b) s t result h = answered b.origin b.request b.inputs s t result h
+
+pub gets_open : {E : Type 0} (begun : Option Begun) (s t : Kept) (secret : List ℕ) (result : Result Arrived E) (before behind : List Receipt)
+    → IsSomeAnd begun (λ (b : Begun). Commits b.origin b.request b.inputs s result t)
+    → IsSomeAnd begun (λ (b : Begun). IsGivenReceipt t secret b.request b.inputs result before behind)
+    → GetsReceiptOf t secret begun result before behind
+gets_open None s t secret result before behind h given = absurd h
+gets_open (Some b) s t secret result before behind h given = gets b.origin b.request b.inputs s t secret result before behind h given
