@@ -3,12 +3,11 @@ use Rattle.std.proofs.Common.{◌≡◌, ◌-◌, ℕ, zero, suc, List, [], ◌�
 use Rattle.lang_core.specs.Traces.{dead_trace}
 use Rattle.lang_core.specs.declared.request.Request.{Request}
 use Rattle.lang_core.specs.declared.request.Response.{Response}
-use Rattle.lang_core.specs.declared.trace.CallMade.{CallMade}
 use Rattle.execution.specs.Executions.{Act, History}
 use Rattle.execution.specs.Together.{name_of}
 use Rattle.dump_reader.specs.declared.dump.DumpService.{DumpService}
-use Rattle.dump_audit.specs.Histories.{histories_of, history_of}
-use Rattle.one_world.specs.Checks.{Left, behind_all, behind_calls}
+use Rattle.dump_audit.specs.Histories.{histories_of}
+use Rattle.one_world.specs.Checks.{behind_all, behind_calls}
 use Rattle.one_world.specs.Tapes.{World}
 use Rattle.one_world.specs.Trees.{calls_of}
 use Rattle.one_world.specs.Turns.{Player, turn_act, turn_all, turn_calls, turn_last}

@@ -1,5 +1,5 @@
 -- Writes at a service that is found by its place.
-use Rattle.std.proofs.Common.{◌≡◌, ◌<◌, ◌≤◌, ◌+◌, ℕ, zero, suc, Bool, true, false, cond, List, [], ◌∷◌, ◌++◌, take, drop, length, slice_index_or, slice_set, refl, sym, ap, ◌∙◌, subst, arith, add-one}
+use Rattle.std.proofs.Common.{◌≡◌, ◌<◌, ◌≤◌, ◌+◌, ℕ, zero, suc, true, false, List, [], ◌∷◌, ◌++◌, take, drop, length, slice_index_or, slice_set, refl, sym, ap, ◌∙◌, subst, arith, add-one}
 use Rattle.lang_base.specs.Texts.{same_text}
 use Rattle.lang_core.specs.Rows.{apply}
 use Rattle.lang_core.specs.declared.cells.Cell.{Cell}
