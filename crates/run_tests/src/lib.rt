@@ -1,5 +1,5 @@
 //! Tests of whole runs over memory: of one service, of services that call one another, and of which requests a repair
-//! runs again; of rules, what they deny, and how services settle.
+//! runs again; of previews, rules, what they deny, and how services settle.
 #![tactic(auto)]
 
 #[cfg(test)]
@@ -10,6 +10,8 @@ mod calls;
 mod late;
 #[cfg(test)]
 mod memory;
+#[cfg(test)]
+mod previews;
 #[cfg(test)]
 mod readers;
 #[cfg(test)]

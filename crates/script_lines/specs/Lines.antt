@@ -16,7 +16,7 @@ use Rattle.journal_rows.specs.declared.orders.Command.TheVariants.{Cancel, Resto
 use Rattle.report_text.specs.Escapes.{unescaped}
 use Rattle.world_events.specs.declared.event.Event.TheVariants as event
 use Rattle.script_lines.specs.declared.line.Line.{Line}
-use Rattle.script_lines.specs.declared.line.Line.TheVariants.{Blank, Event, Ask, Settle, Rows, Log, Notices, Dump, Audit}
+use Rattle.script_lines.specs.declared.line.Line.TheVariants.{Blank, Event, Ask, Settle, Rows, Log, Notices, Preview, Dump, Audit}
 use Rattle.script_lines.specs.declared.line.LineFault.{LineFault}
 use Rattle.script_lines.specs.declared.line.LineFault.TheVariants.{Text, Word, Shape}
 
@@ -188,6 +188,15 @@ post_at rest = with_part (two_words rest) (λ words. where_good (is_name words.0
 unfoldable pub abandon_at : Option (List ℕ) → Option Line
 abandon_at rest = with_part (two_words rest) (λ words. where_good (is_name words.0) (with_part (flight words.1) (λ n. Some (Event (event.Abandon words.0 n)))))
 
+-- the preview of a request of a service by a user, if both may be such
+abbrev pub preview_of : Option (List ℕ) → ℕ → Option (List ℕ) → Option Line
+preview_of service id who = with_part service (λ service. with_part who (λ who. Some (Preview service id who)))
+
+-- `S/N WHO` alone
+unfoldable pub preview_at : Option (List ℕ) → Option Line
+preview_at rest = with_part (two_words rest) (λ words. with_part (numbered words.0) (λ about.
+    preview_of (name_part about.0) about.1 (who_part words.1)))
+
 -- `pK` alone
 unfoldable pub packet_at : Option (List ℕ) → Option ℕ
 packet_at rest = with_word rest (λ word rest. at_end rest (packet word))
@@ -245,9 +254,10 @@ words_at word rest =
     else (if same_text word (codes "rows") then shaped (service_at Rows rest)
     else (if same_text word (codes "log") then shaped (service_at Log rest)
     else (if same_text word (codes "notices") then shaped (service_at Notices rest)
+    else (if same_text word (codes "preview") then shaped (preview_at rest)
     else (if same_text word (codes "dump") then shaped (at_end rest (Some Dump))
     else (if same_text word (codes "audit") then shaped (at_end rest (Some Audit))
-    else Err Word)))))))))))))))))))
+    else Err Word))))))))))))))))))))
 
 -- an empty line or a comment
 abbrev pub is_passed_over : List ℕ → Bool

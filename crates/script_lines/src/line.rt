@@ -2,7 +2,7 @@
 ghost use Rattle.script_lines.specs.Faults.{fault_number};
 ghost use Rattle.std.specs.Prelude.{◌≡◌};
 
-use lang_core::{Name, Request};
+use lang_core::{Name, Request, Text};
 use world_events::Event;
 
 /// Why a line is refused, or the whole script. Tests of a line come in this order.
@@ -61,6 +61,8 @@ pub enum Line {
     Log { service: Name },
     /// `notices S`: the posts that are held.
     Notices { service: Name },
+    /// `preview S/N WHO`: what would come of cancelling the request and stepping until idle, with nothing done.
+    Preview { service: Name, id: u64, who: Text },
     /// `dump`: all services, written down.
     Dump,
     /// `audit`: the verdict over all services.

@@ -2,13 +2,14 @@
 ghost use Rattle.std.specs.Prelude.{◌≡◌, ℕ, List, IfOk, Some};
 ghost use Rattle.std.specs.Option.{option_map};
 ghost use Rattle.world_events.specs.declared.event.Event.{Event};
-ghost use Rattle.script_lines.specs.Lines.{abandon_at, at_end, clock_at, deliver_at, is_passed_over, line_at, lose_at, number_at, packet_at, post_at, seed_at, service_at, settle_at, shaped, two_words, words_at};
+ghost use Rattle.script_lines.specs.Lines.{abandon_at, at_end, clock_at, deliver_at, is_passed_over, line_at, lose_at, number_at, packet_at, post_at, preview_at, preview_of, seed_at, service_at, settle_at, shaped, two_words, words_at};
 
 use crate::asking::{read_ask, read_begin};
 use crate::line::{Line, LineFault};
 use crate::orders::{read_cancel, read_create, read_replace, read_restore, read_retry};
-use crate::parts::{cut_word, flight_part, name_part, packet_part};
-use lang_core::{LAST_MOMENT, Name, NoMemory};
+use crate::parts::{cut_word, flight_part, name_part, numbered_part, packet_part, who_part};
+use lang_base::both;
+use lang_core::{LAST_MOMENT, Name, NoMemory, Text};
 use request_names::read_number;
 use std::alloc::Global;
 use world_events::Event;
@@ -124,6 +125,31 @@ fn read_abandon(alloc: Global, rest: Option<&str>) -> Result<Option<Line>, NoMem
     Ok(Some(Line::Event(Event::Abandon { service, flight })))
 }
 
+// The preview of a request, if its service and its user are both there.
+fn preview_of(service: Option<Name>, id: u64, who: Option<Text>) -> Option<Line>
+    ensures { result ≡ preview_of service id who }
+{
+    match (service, who) {
+        (Some(service), Some(who)) => Some(Line::Preview { service, id, who }),
+        _ => None,
+    }
+}
+
+// `S/N WHO` alone
+#[tactic(auto, unfolding(crate::specs::Lines::preview_at))]
+fn read_preview(alloc: Global, rest: Option<&str>) -> Result<Option<Line>, NoMemory>
+    ensures { IfOk result (λ r. r ≡ preview_at (option_map (λ x. x.now) rest.entry)) }
+{
+    let Some((about, who)) = two_words(rest) else {
+        return Ok(None);
+    };
+    let Some((service, id)) = numbered_part(about) else {
+        return Ok(None);
+    };
+    let (service, who) = both(name_part(alloc, service), who_part(alloc, who))?;
+    Ok(preview_of(service, id, who))
+}
+
 // `pK` alone
 #[tactic(auto, unfolding(crate::specs::Lines::packet_at))]
 fn packet_alone(rest: Option<&str>) -> Option<u64>
@@ -225,6 +251,7 @@ fn read_words(
         "rows" => Ok(shaped(read_rows(alloc, rest)?)),
         "log" => Ok(shaped(read_log(alloc, rest)?)),
         "notices" => Ok(shaped(read_notices(alloc, rest)?)),
+        "preview" => Ok(shaped(read_preview(alloc, rest)?)),
         "dump" => Ok(shaped(alone(rest, Line::Dump))),
         "audit" => Ok(shaped(alone(rest, Line::Audit))),
         _ => Ok(Err(LineFault::Word)),

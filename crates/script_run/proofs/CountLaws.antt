@@ -48,7 +48,7 @@ min_more a b m =
     let high : min (a + b) m ≤ min (min a m + b) m = le-min wide (min-le_right (a + b) m) in
     omega (arith, low, high)
 
-capped_more : (a b : ℕ) → capped (capped a + b) ≡ capped (a + b)
+pub capped_more : (a b : ℕ) → capped (capped a + b) ≡ capped (a + b)
 capped_more a b = min_more a b (2 ^ 64 - 1)
 
 -- what was counted, and more

@@ -1,6 +1,13 @@
 -- Each line comes to one list of events, and one that is refused does nothing.
-use Rattle.std.proofs.Common.{◌≡◌, ℕ, List, [], ◌∷◌, Ok, Err, refl, ap, sym, ◌∙◌, subst}
+use Rattle.std.proofs.Common.{◌≡◌, ℕ, List, [], ◌∷◌, Option, Some, None, Result, Ok, Err, refl, ap, sym, ◌∙◌, subst}
 use Rattle.lang_core.specs.declared.request.Request.{Request}
+use Rattle.service_events.specs.State.{Kept}
+use Rattle.preview_core.specs.declared.refused.PreviewRefused.{PreviewRefused}
+use Rattle.preview_core.specs.declared.told.Preview.{Preview as Shown}
+use Rattle.preview_core.specs.declared.trial.Trial.TheVariants.{Cancel}
+use Rattle.preview_core.proofs.AloneLemmas.{preview_alone}
+use Rattle.preview_core.proofs.MadeLemmas.{has_preview}
+use Rattle.world_agreement.specs.Partners.{service_of}
 use Rattle.world_events.specs.Events.{Answer, after_event, after_events, answer_to}
 use Rattle.world_events.specs.Live.{AllLiveEvents}
 use Rattle.world_events.specs.Worlds.{World}
@@ -14,8 +21,11 @@ use Rattle.world_settle.specs.declared.settled.Settled.{Settled}
 use Rattle.world_settle.proofs.ComeToEnd.{settled}
 use Rattle.script_lines.specs.Lines.{Read}
 use Rattle.script_lines.specs.declared.line.Line.{Line}
-use Rattle.script_lines.specs.declared.line.Line.TheVariants.{Blank, Event as One, Ask, Settle, Rows, Log, Notices, Dump, Audit}
+use Rattle.script_lines.specs.declared.line.Line.TheVariants.{Blank, Event as One, Ask, Settle, Rows, Log, Notices, Preview, Dump, Audit}
 use Rattle.script_lines.specs.declared.line.LineFault.{LineFault}
+use Rattle.script_lines.specs.declared.line.LineFault.TheVariants.{Service}
+use Rattle.script_run.specs.Counting.{printed}
+use Rattle.script_run.specs.Previewing.{SaysPreview, preview_text}
 use Rattle.script_run.specs.Settling.{settled_said}
 use Rattle.script_run.specs.Told.{LineAnswer, last_line, said_of, events_said}
 use Rattle.script_run.specs.declared.counts.Said.{Said}
@@ -32,6 +42,7 @@ has_events w (Settle n) = let s = settled w n in (s.events, (s.counts, s.are))
 has_events w (Rows service) = ([], refl)
 has_events w (Log service) = ([], refl)
 has_events w (Notices service) = ([], refl)
+has_events w (Preview service id who) = ([], refl)
 has_events w Dump = ([], refl)
 has_events w Audit = ([], refl)
 
@@ -48,6 +59,7 @@ one_list w (Settle n) xs ys a b = let s = settled w n in (s.alone xs a.0 a.1).0 
 one_list w (Rows service) xs ys a b = a ∙ sym b
 one_list w (Log service) xs ys a b = a ∙ sym b
 one_list w (Notices service) xs ys a b = a ∙ sym b
+one_list w (Preview service id who) xs ys a b = a ∙ sym b
 one_list w Dump xs ys a b = a ∙ sym b
 one_list w Audit xs ys a b = a ∙ sym b
 
@@ -56,6 +68,19 @@ one_for w (Ok line) xs ys a b = one_list w line xs ys a b
 one_for w (Err fault) xs ys a b = a ∙ sym b
 
 -- ---- what a line says
+
+preview_said : (id : ℕ) (who : List ℕ) (o : Option Kept) → (said : LineAnswer) × SaysPreview id who o said
+preview_said id who None = (Err Service, refl)
+preview_said id who (Some s) = let r = has_preview s (Cancel id ∷ []) who in (Ok (printed (preview_text s r.0)), (preview_text s r.0, (r.0, r.1, refl), refl))
+
+one_preview : (id : ℕ) (who : List ℕ) (o : Option Kept) (a b : LineAnswer) → SaysPreview id who o a → SaysPreview id who o b → a ≡ b
+one_preview id who None a b x y = x ∙ sym y
+one_preview id who (Some s) a b x y =
+    let P : Result Shown PreviewRefused → List ℕ = λ r. preview_text s r in
+    let text : x.0 ≡ y.0 =
+    (x.1).2 ∙ ap P (preview_alone s (Cancel id ∷ []) who (x.1).0 (y.1).0 (x.1).1 (y.1).1) ∙ sym (y.1).2 in
+    let S : List ℕ → LineAnswer = λ t. Ok (printed t) in
+    x.2 ∙ ap S text ∙ sym y.2
 
 -- there is something that it says
 has_said : (w : World) (line : Line) (events : List Event) → AreEventsOf w line events → (said : LineAnswer) × Says w line events said
@@ -66,6 +91,7 @@ has_said w (Settle n) events are = (Ok (settled_said are.0), (are.0, are.1, refl
 has_said w (Rows service) events are = (_, refl)
 has_said w (Log service) events are = (_, refl)
 has_said w (Notices service) events are = (_, refl)
+has_said w (Preview service id who) events are = preview_said id who (service_of service w.services)
 has_said w Dump events are = (_, refl)
 has_said w Audit events are = (_, refl)
 
@@ -86,6 +112,7 @@ one_said w (Settle n) events a b x y =
 one_said w (Rows service) events a b x y = x ∙ sym y
 one_said w (Log service) events a b x y = x ∙ sym y
 one_said w (Notices service) events a b x y = x ∙ sym y
+one_said w (Preview service id who) events a b x y = one_preview id who (service_of service w.services) a b x y
 one_said w Dump events a b x y = x ∙ sym y
 one_said w Audit events a b x y = x ∙ sym y
 
@@ -127,6 +154,7 @@ line_still w (Settle n) events fault are e = let no : ⊥ = ok_is_no_fault fault
 line_still w (Rows service) events fault are e = none_still w events are
 line_still w (Log service) events fault are e = none_still w events are
 line_still w (Notices service) events fault are e = none_still w events are
+line_still w (Preview service id who) events fault are e = none_still w events are
 line_still w Dump events fault are e = none_still w events are
 line_still w Audit events fault are e = none_still w events are
 
@@ -148,6 +176,7 @@ line_live w (Settle n) events live are = absurd live
 line_live w (Rows service) events live are = same_live events _ are tt
 line_live w (Log service) events live are = same_live events _ are tt
 line_live w (Notices service) events live are = same_live events _ are tt
+line_live w (Preview service id who) events live are = same_live events _ are tt
 line_live w Dump events live are = same_live events _ are tt
 line_live w Audit events live are = same_live events _ are tt
 

@@ -16,12 +16,13 @@ use Rattle.world_settle.specs.Doing.{AreOfSettling}
 use Rattle.script_lines.specs.Faults.{fault_number}
 use Rattle.script_lines.specs.Lines.{Read, line_at}
 use Rattle.script_lines.specs.declared.line.Line.{Line}
-use Rattle.script_lines.specs.declared.line.Line.TheVariants.{Blank, Event as One, Ask, Settle, Rows, Log, Notices, Dump, Audit}
+use Rattle.script_lines.specs.declared.line.Line.TheVariants.{Blank, Event as One, Ask, Settle, Rows, Log, Notices, Preview, Dump, Audit}
 use Rattle.script_lines.specs.declared.line.LineFault.{LineFault}
 use Rattle.script_lines.specs.declared.line.LineFault.TheVariants.{Service, TooLong}
 use Rattle.script_run.specs.Audits.{verdict}
 use Rattle.script_run.specs.Counting.{nothing_said, printed, said_then}
 use Rattle.script_run.specs.Dumps.{dump_text}
+use Rattle.script_run.specs.Previewing.{SaysPreview}
 use Rattle.script_run.specs.Settling.{SaysSettled}
 use Rattle.script_run.specs.Told.{LineAnswer, events_said}
 use Rattle.script_run.specs.declared.counts.Said.{Said}
@@ -37,6 +38,7 @@ AreEventsOf w (Settle n) events = AreOfSettling n w events
 AreEventsOf w (Rows service) events = events ≡ []
 AreEventsOf w (Log service) events = events ≡ []
 AreEventsOf w (Notices service) events = events ≡ []
+AreEventsOf w (Preview service id who) events = events ≡ []
 AreEventsOf w Dump events = events ≡ []
 AreEventsOf w Audit events = events ≡ []
 
@@ -66,6 +68,7 @@ Says w (Settle n) events said = SaysSettled n w events said
 Says w (Rows service) events said = said ≡ report_of rows_of_service (service_of service w.services)
 Says w (Log service) events said = said ≡ report_of log_of_service (service_of service w.services)
 Says w (Notices service) events said = said ≡ report_of notices_of_service (service_of service w.services)
+Says w (Preview service id who) events said = SaysPreview id who (service_of service w.services) said
 Says w Dump events said = said ≡ Ok (printed (dump_text w.services))
 Says w Audit events said = said ≡ Ok (printed (audit_text w.services))
 Says w other events said = said ≡ events_said w events

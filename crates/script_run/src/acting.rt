@@ -6,6 +6,7 @@ ghost use Rattle.script_run.specs.Stops.{Does, DoesFirst};
 
 use crate::asking::ask;
 use crate::counts::Said;
+use crate::previews::previewed;
 use crate::reports::{dump, log, notices, rows, verdict_over};
 use crate::settling::settle_all;
 use crate::telling::happen;
@@ -40,6 +41,7 @@ pub fn act(
         Line::Rows { service } => rows(alloc, world, &service),
         Line::Log { service } => log(alloc, world, &service),
         Line::Notices { service } => notices(alloc, world, &service),
+        Line::Preview { service, id, who } => previewed(alloc, world, &service, id, &who),
         Line::Dump => dump(alloc, world),
         Line::Audit => verdict_over(alloc, world),
     }

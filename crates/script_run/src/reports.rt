@@ -118,10 +118,17 @@ pub fn judge(world: &World) -> Verdict
     audit(services)
 }
 
-/// The verdict over all services of a world.
+/// The verdict over all services of a world, as a line.
+pub fn verdict_line(alloc: Global, world: &World) -> Result<Text, NoMemory>
+    ensures { IfOk result (λ text. text ≡ audit_text world.now.services) }
+{
+    let names = names_of(alloc, world.services())?;
+    verdict_text(alloc, &names, &judge(world))
+}
+
+/// The verdict over all services of a world, printed.
 pub fn verdict_over(alloc: Global, world: &World) -> Result<Result<Said, LineFault>, NoMemory>
     ensures { IfOk result (λ said. said ≡ Ok (printed (audit_text world.now.services))) }
 {
-    let names = names_of(alloc, world.services())?;
-    Ok(Ok(Said::printed(verdict_text(alloc, &names, &judge(world))?)))
+    Ok(Ok(Said::printed(verdict_line(alloc, world)?)))
 }

@@ -29,6 +29,12 @@ fn request(rt: &(impl Abort + AllocGlobal), request: &Request) -> String {
     format!(in rt.alloc(); "[{who}]{asked}{chain}").expect(rt, "memory")
 }
 
+fn previewing(rt: &(impl Abort + AllocGlobal), service: &Name, id: u64, who: &Text) -> String {
+    let service = service.as_str();
+    let who = who.as_str();
+    format!(in rt.alloc(); "preview[{service}][{id}][{who}]").expect(rt, "memory")
+}
+
 fn asking(rt: &(impl Abort + AllocGlobal), word: &str, service: &Name, asked: &Request) -> String {
     let service = service.as_str();
     let request = request(rt, asked);
@@ -154,6 +160,7 @@ fn spelled(rt: &(impl Abort + AllocGlobal), line: &Line) -> String {
         Line::Rows { service } => named(rt, "rows", service),
         Line::Log { service } => named(rt, "log", service),
         Line::Notices { service } => named(rt, "notices", service),
+        Line::Preview { service, id, who } => previewing(rt, service, *id, who),
         Line::Dump => alone(rt, "dump"),
         Line::Audit => alone(rt, "audit"),
     }
@@ -202,6 +209,18 @@ notices[shop]|notices shop|
 3|notices shop |
 3|notices shop call:1|
 2|notice shop|
+preview[shop][1][ann]|preview shop/1 ann|
+preview[shop][0][ann]|preview shop/0 ann|
+3|preview|
+3|preview shop/1|
+3|preview shop/1 |
+3|preview shop ann|
+3|preview shop/01 ann|
+3|preview Shop/1 ann|
+3|preview shop/1 ann |
+3|preview shop/1 ann t1|
+3|preview  shop/1 ann|
+2|previews shop/1 ann|
 dump|dump|
 3|dump notes|
 3|dump |

@@ -13,6 +13,9 @@ returns-in-Log-clause-early c = on_err _ (act_none c.args.world.now c.args.line)
 pub returns-in-Notices-clause-early : goal.returns-in-Notices-clause-early
 returns-in-Notices-clause-early c = on_err _ (act_none c.args.world.now c.args.line)
 
+pub returns-in-Preview-clause-early : goal.returns-in-Preview-clause-early
+returns-in-Preview-clause-early c = on_err _ (act_none c.args.world.now c.args.line)
+
 pub returns-in-Dump-clause-early : goal.returns-in-Dump-clause-early
 returns-in-Dump-clause-early c = on_err _ (act_none c.args.world.now c.args.line)
 

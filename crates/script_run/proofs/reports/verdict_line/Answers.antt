@@ -2,7 +2,7 @@ use Rattle.std.proofs.Common.{ap, length, sym, subst, ◌∙◌}
 use Rattle.std.proofs.lemmas.List.{length-map}
 use Rattle.report_text.specs.Reports.{IsVerdictOver}
 use Rattle.service_events.specs.State.{me}
-use Rattle.script_run.proofs.reports.verdict_over.Goals as goal
+use Rattle.script_run.proofs.reports.verdict_line.Goals as goal
 
 pub verdict_text-requires : goal.verdict_text-requires
 verdict_text-requires c =
