@@ -59,7 +59,7 @@ fn main(rt: HostRuntime) -> ExitCode {
         Ok(words) => {
             let mut files = RealFiles::new(alloc, &rt);
             let mut input = Reading::new(rt.reader());
-            let ended = aire(alloc, &words, &mut files, &mut input, &mut out);
+            let ended = aire(&rt, alloc, &words, &mut files, &mut input, &mut out);
             let status = ended.status;
             // Its memory goes with the process.
             mem::forget(ended);

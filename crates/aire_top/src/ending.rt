@@ -25,8 +25,8 @@ pub struct Ended {
     pub verdict: Option<Verdict>,
 }
 
-// The end of a run without services.
-fn without(alloc: Global, status: u8) -> Ended
+/// The end of a run without services.
+pub fn without(alloc: Global, status: u8) -> Ended
     ensures answer { answer result.status result.services.items result.verdict ≡ nothing status }
     ensures legal { result.verdict ≡ Some Legal → AreLegal result.services.items }
     ensures joined { IfSome result.verdict (λ v. ¬ (SaysForged v)) }

@@ -8,19 +8,22 @@ ghost use Rattle.script_run.specs.Audits.{SaysForged};
 ghost use Rattle.world_agreement.specs.Legal.{AreLegal};
 ghost use Rattle.world_file.specs.Worlds.{KnowEachOther};
 ghost use Rattle.aire_top.specs.Closings.{ClosesWorldless};
+ghost use Rattle.aire_top.specs.Commands.{Ends, HasAudited, IsGoodCommand};
 ghost use Rattle.aire_top.specs.Endings.{IsGoodRun, RunEnds, ScriptEnds, answer, outside};
 ghost use Rattle.aire_top.specs.Top.{fitting, fresh, fresh_service, words_of};
 
 use crate::ending::{
-    Ended, lacking, misused, refusal, standing, unread, world_refused, world_too_long,
+    Ended, lacking, misused, refusal, standing, unread, without, world_refused, world_too_long,
 };
 use crate::loading::{NoWorld, load_script, load_world};
-use crate::words::named;
+use crate::words::{Command, command_of, named};
+use audit_command::audit;
 use io_edge::{Files, ReadRefused, Sink, Source};
 use lang_base::both;
 use lang_core::{Copied, NoMemory};
 use script_run::{ScriptRefused, Service, World, run_script};
 use std::alloc::Global;
+use std::thread::Threads;
 use world_file::Setup;
 
 // The end of a run that has no world.
@@ -114,12 +117,13 @@ fn run<F: Files, S: Source, K: Sink>(
     }
 }
 
-/// What the program does. The words are those after its name. The only row of them is `run WORLD SCRIPT`: WORLD is
-/// `@notes`, `@shops`, `@posts` or a world file, SCRIPT a file or `-` for the input, and the script is run in a new world.
+/// What the program does for words that ask for no other command than a run: `run WORLD SCRIPT`, where WORLD is `@notes`,
+/// `@shops`, `@posts` or a world file, SCRIPT a file or `-` for the input, and the script is run in a new world. It starts
+/// no thread.
 ///
 /// A run ends in one of five ways: the script was run (status 0, 3, 5 or 6), the words don't fit (2), the world is
 /// refused (3), a file or the input can't be read (4), or memory is wanting (6).
-pub fn aire<F: Files, S: Source, K: Sink>(
+pub fn offline<F: Files, S: Source, K: Sink>(
     alloc: Global,
     words: &[String],
     files: &mut F,
@@ -152,5 +156,62 @@ pub fn aire<F: Files, S: Source, K: Sink>(
     match named(words) {
         Ok((world, script)) => run(alloc, world, script, files, input, out),
         Err(place) => misused(alloc, out, place),
+    }
+}
+
+// Judges the services of a dump.
+fn audited<R: Threads + Sync, F: Files, K: Sink>(
+    rt: &R,
+    alloc: Global,
+    words: &[String],
+    files: &mut F,
+    out: &mut K,
+) -> Ended
+    ensures ends { (reads : _) → HasAudited (map string_bytes words.now)
+        (outside (F.loads files.old) reads (K.writes out.old))
+        (outside (F.loads files.new) reads (K.writes out.new))
+        (answer result.status result.services.items result.verdict) }
+    ensures legal { result.verdict ≡ Some Legal → AreLegal result.services.items }
+    ensures joined { IfSome result.verdict (λ v. ¬ (SaysForged v)) }
+    ensures allowed { IfSome result.verdict (λ v. All IsAllowed result.services.items) }
+{
+    let status = audit(rt, alloc, words, files, out);
+    without(alloc, status)
+}
+
+/// What the program does. The words are those after its name: `audit DUMP WORKERS`, where DUMP is a file, and the services
+/// that it writes down are judged by it alone, in at most WORKERS threads; else they are those of `offline`.
+///
+/// An audit ends in one of five ways: the dump was judged (status 0 or 5), it is refused (3), the words don't fit (2), the
+/// file can't be read (4), or memory is wanting (6).
+pub fn aire<R: Threads + Sync, F: Files, S: Source, K: Sink>(
+    rt: &R,
+    alloc: Global,
+    words: &[String],
+    files: &mut F,
+    input: &mut S,
+    out: &mut K,
+) -> Ended
+    // How it ends, by the command that the first word asks for: what was asked for, read and written, the status, the
+    // services and the verdict over them.
+    ensures ends { Ends (map string_bytes words.now)
+        (outside (F.loads files.old) (S.reads input.old) (K.writes out.old))
+        (outside (F.loads files.new) (S.reads input.new) (K.writes out.new))
+        (answer result.status result.services.items result.verdict) }
+
+    // It doesn't give up by itself.
+    ensures complete { IsGoodCommand (map string_bytes words.now)
+        (outside (F.loads files.old) (S.reads input.old) (K.writes out.old))
+        (outside (F.loads files.new) (S.reads input.new) (K.writes out.new))
+        → (result.status ≡ 0) ⊎ (result.status ≡ 6) }
+
+    // What `offline` says of a verdict over services.
+    ensures legal { result.verdict ≡ Some Legal → AreLegal result.services.items }
+    ensures joined { IfSome result.verdict (λ v. ¬ (SaysForged v)) }
+    ensures allowed { IfSome result.verdict (λ v. All IsAllowed result.services.items) }
+{
+    match command_of(words) {
+        Command::Run => offline(alloc, words, files, input, out),
+        Command::Audit => audited(rt, alloc, words, files, out),
     }
 }

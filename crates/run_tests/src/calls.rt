@@ -3,7 +3,7 @@ use crate::memory::{ran, ran_in};
 use std::process::Abort;
 
 // What `examples/undo-a-purchase.script` holds.
-const UNDONE: &str =
+pub(super) const UNDONE: &str =
     "# Ann buys x, which the shop has paid at the bank: one call, all of whose messages are delivered.\n\
     ask shop ann POST /buy/x 5\n\
     \n\
@@ -38,7 +38,7 @@ const UNDONE_TOLD: &str = "shop/1 = 200 ok 5\n\
     legal\n";
 
 // What another service asked is its caller's to change, also once it is undone.
-const OUTSIDE: &str = "ask shop ann POST /buy/x 5\n\
+pub(super) const OUTSIDE: &str = "ask shop ann POST /buy/x 5\n\
     cancel shop/1 t1 ann\n\
     step shop\n\
     post shop bank\n\
@@ -57,7 +57,7 @@ const OUTSIDE_TOLD: &str = "shop/1 = 200 ok 5\n\
     bank refused notoutside 1\n";
 
 // The bank undoes a payment, and says so to the shop.
-const RETRACTED: &str = "ask shop ann POST /buy/x 5\n\
+pub(super) const RETRACTED: &str = "ask shop ann POST /buy/x 5\n\
     cancel bank/1 t1 root\n\
     step bank\n\
     post bank shop\n\
@@ -80,7 +80,7 @@ const RETRACTED_TOLD: &str = "shop/1 = 200 ok 5\n\
     legal\n";
 
 // A past request calls with another body: its call gets another version, and the same answer.
-const CHANGED: &str = "ask shop ann POST /ping/1 one\n\
+pub(super) const CHANGED: &str = "ask shop ann POST /ping/1 one\n\
     replace shop/1 t1 ann POST /ping/1 two\n\
     step shop\n\
     log shop\n\
@@ -111,7 +111,8 @@ const CHANGED_TOLD: &str = "shop/1 = 200 pong\n\
     legal\n";
 
 // What `examples/lose-a-reply.script` holds.
-const LOST: &str = "# Ann buys x. The bank takes the payment, and its answer to the shop is lost.\n\
+pub(super) const LOST: &str =
+    "# Ann buys x. The bank takes the payment, and its answer to the shop is lost.\n\
     begin shop ann POST /buy/x 5\n\
     deliver p1\n\
     lose p2\n\
@@ -153,7 +154,7 @@ const LOST_TOLD: &str = "shop f1 -> p1\n\
     legal\n";
 
 // A call that was deleted before it came: it is gone, and makes no entry.
-const GONE: &str = "begin shop ann POST /buy/x 5\n\
+pub(super) const GONE: &str = "begin shop ann POST /buy/x 5\n\
     lose p1\n\
     cancel shop/1 t1 ann\n\
     step shop\n\
@@ -178,7 +179,7 @@ const GONE_TOLD: &str = "shop f1 -> p1\n\
     legal\n";
 
 // One answer, five times, and what comes back of it in the other order.
-const REPEATED: &str = "ask shop ann POST /buy/x 5\n\
+pub(super) const REPEATED: &str = "ask shop ann POST /buy/x 5\n\
     cancel bank/1 t1 root\n\
     step bank\n\
     post bank shop\n\
@@ -223,7 +224,7 @@ const REPEATED_TOLD: &str = "shop/1 = 200 ok 5\n\
     legal\n";
 
 // A live call that comes twice runs once; its answer that comes late finds no flight.
-const TWICE: &str = "begin shop ann POST /buy/x 5\n\
+pub(super) const TWICE: &str = "begin shop ann POST /buy/x 5\n\
     deliver p1\n\
     deliver p1\n\
     deliver p3\n\
@@ -267,7 +268,7 @@ pub(super) const HURRIED_TOLD: &str = "shop/1 = 200\n\
     shop/6 = 504\n";
 
 // A call into its own chain, and one to no peer, take no number.
-const SENT_NOWHERE: &str = "ask shop ann POST /loop\n\
+pub(super) const SENT_NOWHERE: &str = "ask shop ann POST /loop\n\
     ask shop ann POST /lost\n\
     begin shop ann POST /buy/x 5\n";
 
@@ -276,7 +277,7 @@ const SENT_NOWHERE_TOLD: &str = "shop/1 = 200 508\n\
     shop f1 -> p3\n";
 
 // A handler that faults answers 500 and writes nothing; what it called stays called.
-const FAULTED: &str = "ask shop ann POST /over\n\
+pub(super) const FAULTED: &str = "ask shop ann POST /over\n\
     ask shop ann POST /rand\n\
     rows shop\n\
     log bank\n\

@@ -55,7 +55,7 @@ const EARLY_TOLD: &str = "front f1 -> p1\n\
 
 // A call is lost, and changed before it is said again: its second version makes the request at the bank. The first, which
 // comes later, is refused while that request never ran, and then gets an answer to another version than it asked.
-const OVERTAKEN: &str = "begin shop ann POST /ping/1 one\n\
+pub(super) const OVERTAKEN: &str = "begin shop ann POST /ping/1 one\n\
     lose p1\n\
     replace shop/1 t1 root POST /ping/1 two\n\
     step shop\n\
@@ -96,7 +96,7 @@ const OVERTAKEN_TOLD: &str = "shop f1 -> p1\n\
     legal\n";
 
 // An answer is confirmed, and then the confirmation of an older one comes: the bank says its last answer once more.
-const CONFIRMED_LATE: &str = "ask shop ann POST /buy/x 5\n\
+pub(super) const CONFIRMED_LATE: &str = "ask shop ann POST /buy/x 5\n\
     cancel bank/1 t1 root\n\
     step bank\n\
     post bank shop\n\
@@ -135,7 +135,7 @@ const CONFIRMED_LATE_TOLD: &str = "shop/1 = 200 ok 5\n\
     legal\n";
 
 // A live request is given up, and the next gets its number: what belongs to the first does nothing to the second.
-const NUMBERED_AGAIN: &str = "begin shop ann POST /buy/x 1\n\
+pub(super) const NUMBERED_AGAIN: &str = "begin shop ann POST /buy/x 1\n\
     begin shop ann POST /buy/y 2\n\
     abandon shop f1\n\
     begin shop ann POST /buy/z 3\n\

@@ -1,9 +1,11 @@
 //! Tests of whole runs over memory: of one service, of services that call one another, and of which requests a repair
-//! runs again; of previews, rules, what they deny, and how services settle.
+//! runs again; of previews, rules, what they deny, and how services settle; and of audits of what runs write down.
 #![tactic(auto)]
 
 #[cfg(test)]
 mod at_once;
+#[cfg(test)]
+mod audits;
 #[cfg(test)]
 mod calls;
 #[cfg(test)]

@@ -1,5 +1,5 @@
 // Runs over memory.
-use aire_top::aire;
+use aire_top::offline;
 use io_edge::{MemoryFile, MemoryFiles, MemorySink, MemorySource};
 use lang_core::{Bytes, NoMemory, Seq, Text};
 use std::alloc::{AllocError, Global};
@@ -28,7 +28,7 @@ pub fn ran_over(
     }
     let (mut files, mut input) = (files, input);
     let mut out = MemorySink::new(alloc, vec![in alloc; write_fails]?);
-    let ended = aire(alloc, &owned, &mut files, &mut input, &mut out);
+    let ended = offline(alloc, &owned, &mut files, &mut input, &mut out);
     Ok((ended.status, out))
 }
 

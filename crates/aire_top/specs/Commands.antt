@@ -1,0 +1,39 @@
+-- How the program ends, by the command that its first word asks for.
+use Rattle.std.specs.Prelude.{◌≡◌, ℕ, List, [], ◌∷◌, codes, if◌then◌else◌}
+use Rattle.lang_base.specs.Texts.{same_text}
+use Rattle.audit_command.specs.Audits.{AuditEnds, IsGood}
+use Rattle.aire_top.specs.Endings.{Answer, IsGoodRun, Outside, RunEnds, Untouched, nothing}
+use Rattle.aire_top.specs.Top.{words_of}
+use Rattle.aire_top.specs.declared.words.Command.{Command}
+use Rattle.aire_top.specs.declared.words.Command.TheVariants.{Run, Audit}
+
+-- a word that names no other command is one of a run, or doesn't fit
+abbrev pub command_named : List ℕ → Command
+command_named word = if same_text word (codes "audit") then Audit else Run
+
+abbrev pub command_of : List (List ℕ) → Command
+command_of [] = Run
+command_of (word ∷ words) = command_named word
+
+-- a dump is judged: there are no services and no verdict, and the input is as it was
+pub record HasAudited (words : List (List ℕ)) (before now : Outside) (a : Answer) : Type 0 where
+  pub status : ℕ
+  pub answered : a ≡ nothing status
+  pub ends : AuditEnds words before.loads now.loads before.writes now.writes status
+  pub input : Untouched before.reads now.reads
+
+-- how each command ends
+abbrev pub EndsBy : Command → List (List ℕ) → Outside → Outside → Answer → Type 0
+EndsBy Run words before now a = RunEnds (words_of words) before now a
+EndsBy Audit words before now a = HasAudited words before now a
+
+abbrev pub Ends : List (List ℕ) → Outside → Outside → Answer → Type 0
+Ends words before now a = EndsBy (command_of words) words before now a
+
+-- the words fit, all that they name is there and can be read, nothing of it is refused, and no count rose
+abbrev pub IsGoodBy : Command → List (List ℕ) → Outside → Outside → Type 0
+IsGoodBy Run words before now = IsGoodRun (words_of words) before now
+IsGoodBy Audit words before now = IsGood words before.loads now.loads before.writes now.writes
+
+abbrev pub IsGoodCommand : List (List ℕ) → Outside → Outside → Type 0
+IsGoodCommand words before now = IsGoodBy (command_of words) words before now
