@@ -1,9 +1,9 @@
 // What scripts write down by `dump`, judged by the command `audit`: legal where the world has settled.
 use crate::calls::{
-    CHANGED, FAULTED, GIVEN_UP, GONE, HURRIED, LOST, OUTSIDE, PLACED, REPEATED, RETRACTED,
-    SENT_NOWHERE, TWICE, UNDONE,
+    CHANGED, FAULTED, GIVEN_UP, GONE, HURRIED, LOST, OUTSIDE, PLACED, REPEATED, RETRACTED, TWICE,
+    UNDONE,
 };
-use crate::late::{CONFIRMED_LATE, NUMBERED_AGAIN, OVERTAKEN};
+use crate::late::{CONFIRMED_LATE, OVERTAKEN};
 use crate::memory::ran;
 use aire_top::aire;
 use io_edge::{MemoryFile, MemoryFiles, MemorySink, MemorySource};
@@ -91,10 +91,10 @@ fn settled_worlds_are_judged_legal(rt: HostRuntime) -> Result<(), Fail> {
     ] {
         settles_legal(&rt, alloc, "@shops", script);
     }
-    for script in [HURRIED, GIVEN_UP, PLACED, SENT_NOWHERE, FAULTED] {
+    for script in [HURRIED, GIVEN_UP, PLACED, FAULTED] {
         settles_legal(&rt, alloc, "@shops", script);
     }
-    for script in [OVERTAKEN, CONFIRMED_LATE, NUMBERED_AGAIN] {
+    for script in [OVERTAKEN, CONFIRMED_LATE] {
         settles_legal(&rt, alloc, "@shops", script);
     }
     Ok(())

@@ -268,7 +268,7 @@ pub(super) const HURRIED_TOLD: &str = "shop/1 = 200\n\
     shop/6 = 504\n";
 
 // A call into its own chain, and one to no peer, take no number.
-pub(super) const SENT_NOWHERE: &str = "ask shop ann POST /loop\n\
+const SENT_NOWHERE: &str = "ask shop ann POST /loop\n\
     ask shop ann POST /lost\n\
     begin shop ann POST /buy/x 5\n";
 

@@ -135,7 +135,7 @@ const CONFIRMED_LATE_TOLD: &str = "shop/1 = 200 ok 5\n\
     legal\n";
 
 // A live request is given up, and the next gets its number: what belongs to the first does nothing to the second.
-pub(super) const NUMBERED_AGAIN: &str = "begin shop ann POST /buy/x 1\n\
+const NUMBERED_AGAIN: &str = "begin shop ann POST /buy/x 1\n\
     begin shop ann POST /buy/y 2\n\
     abandon shop f1\n\
     begin shop ann POST /buy/z 3\n\
