@@ -1,4 +1,6 @@
 // A dump, and what is found of texts.
+ghost use Rattle.std.specs.Prelude.{◌<◌};
+
 use dump_audit::{Dump, Fault, Judged, judge, judge_beside};
 use dump_reader::read_dump;
 use std::process::Abort;
@@ -77,7 +79,9 @@ fn is_found_beside<R: Abort + AllocGlobal + Threads + Sync>(
     dump: &Dump,
     workers: u64,
     want: &str,
-) {
+)
+    requires { 0 < workers }
+{
     let judged = judge_beside(rt, rt.alloc(), dump, workers).expect(rt, "memory");
     let found = judged_text(rt, &judged);
     same(rt, "several workers", found.as_str(), want);

@@ -6,4 +6,5 @@ pub mod Following
 pub mod SettlingLaws
 pub mod Standing
 pub mod DumpLemmas
+mod PreviewLemmas
 pub mod HandedOn
