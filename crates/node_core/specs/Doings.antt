@@ -26,6 +26,7 @@ use Rattle.service_events.specs.declared.answers.Arrived.{Arrived}
 use Rattle.service_events.specs.declared.answers.Arrived.TheVariants as arrived
 use Rattle.service_events.specs.declared.answers.PostReply.{PostReply}
 use Rattle.service_core.specs.Failures.{IsFailure}
+use Rattle.service_posts.specs.Goes.{GoesTo}
 use Rattle.service_repairs.specs.Answers.{Steps}
 use Rattle.node_core.specs.Receipts.{HasAnswered, IsReceiptAt, IsReceiptOf}
 use Rattle.node_core.specs.declared.asking.NodeDone.{NodeDone}
@@ -106,10 +107,10 @@ abbrev pub Hears : Kept → AnswerMessage → NodeDone → Kept → Type 0
 Hears s a (done.TakeAnswer result) t = Does answer_memory (take_answer_event s a) s result t
 Hears s a answer t = ⊥
 
--- the post that goes next, which has a message
+-- the post that goes next, which has a message to that service
 abbrev pub Tells : Kept → List ℕ → NodeDone → Kept → Type 0
 Tells s dest (done.NextPost name) t =
-    ((name ≡ next_post dest s) × IfSome name (λ n. GoesFirst dest s n × IsSome (write_post s n))) × (t ≡ s)
+    ((name ≡ next_post dest s) × IfSome name (λ n. GoesFirst dest s n × IsSomeAnd (write_post s n) (GoesTo dest))) × (t ≡ s)
 Tells s dest answer t = ⊥
 
 abbrev pub Writes : Kept → PostName → NodeDone → Kept → Type 0
