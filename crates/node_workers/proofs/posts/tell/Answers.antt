@@ -1,0 +1,15 @@
+use Rattle.std.proofs.Common.{subst}
+use Rattle.node_core.specs.declared.asking.NodeDone.{NodeDone}
+use Rattle.node_core.specs.declared.asking.NodeEvent.TheVariants as events
+use Rattle.node_workers.proofs.PostLemmas.{told_so}
+use Rattle.node_workers.specs.Turns.{Made}
+use Rattle.node_workers.proofs.posts.tell.Goals as goal
+
+pub returns-clause-told : goal.returns-clause-told
+returns-clause-told g c =
+    let name = c.args.desk.now.setup.now.setting.me in
+    let before = c.args.pass.now in
+    let now = c.ask.new.pass in
+    let made = subst (λ (d : NodeDone). Made name before.notes now.notes before.receipts.items now.receipts.items (events.Posted c.args.post c.args.reply) d)
+    c.in-Posted.is c.in_ok-posted.ensures.made in
+    told_so name before.notes now.notes before.receipts.items now.receipts.items c.args.post c.args.reply c.in-Posted.posted made
