@@ -2,15 +2,12 @@
 use Rattle.std.proofs.Common.{◌≡◌, ◌-◌, ℕ, zero, suc, List, [], ◌∷◌, length, Some, false, refl, sym, ap, ◌∙◌, arith}
 use Rattle.lang_core.specs.Traces.{dead_trace}
 use Rattle.lang_core.specs.declared.request.Request.{Request}
-use Rattle.lang_core.specs.declared.request.Response.{Response}
 use Rattle.execution.specs.Executions.{Act, History}
-use Rattle.execution.specs.Together.{name_of}
 use Rattle.dump_reader.specs.declared.dump.DumpService.{DumpService}
 use Rattle.dump_audit.specs.Histories.{histories_of}
-use Rattle.one_world.specs.Checks.{behind_all, behind_calls}
 use Rattle.one_world.specs.Tapes.{World}
 use Rattle.one_world.specs.Trees.{calls_of}
-use Rattle.one_world.specs.Turns.{Player, turn_act, turn_all, turn_calls, turn_last}
+use Rattle.one_world.specs.Turns.{turn_act, turn_all, turn_calls}
 use Rattle.one_world.proofs.Lists.{if_false}
 
 pub as_many : (world : List DumpService) → length world ≡ length (histories_of world)
@@ -20,23 +17,11 @@ as_many (s ∷ world) = ap suc (as_many world)
 one_down : (d : ℕ) → d ≡ suc d - 1
 one_down d = omega arith
 
-pub behind_down : (depth : ℕ) (world : List History) (name : List ℕ) (h : History) (a : Act) (left : List Act) → ¬ (depth ≡ 0)
-    → behind_calls (behind_all (depth - 1) world name) world name (name_of h) a.numbers (calls_of a) left ≡ behind_all depth world name h a left
-behind_down zero world name h a left more = absurd (more refl)
-behind_down (suc d) world name h a left more =
-    ap (λ k. behind_calls (behind_all k world name) world name (name_of h) a.numbers (calls_of a) left) (sym (one_down d))
-
 pub turn_down : (depth : ℕ) (world : List History) (h : History) (a : Act) (q : Request) (w : World) → ¬ (depth ≡ 0)
     → turn_calls (turn_all (depth - 1) world) world h a q a.numbers (calls_of a) [] w ≡ turn_all depth world h a q w
 turn_down zero world h a q w more = absurd (more refl)
 turn_down (suc d) world h a q w more =
     ap (λ k. turn_calls (turn_all k world) world h a q a.numbers (calls_of a) [] w) (sym (one_down d))
-
--- behind the last call
-pub last_turn : (player : Player) (world : List History) (h : History) (a : Act) (q : Request) (ns : List ℕ) (given : List Response) (w : World)
-    → turn_last h a q ns given w ≡ turn_calls player world h a q ns [] given w
-last_turn player world h a q [] given w = refl
-last_turn player world h a q (n ∷ ns) given w = refl
 
 -- a root that wasn't struck
 pub root_turn : (depth : ℕ) (world : List History) (h : History) (a : Act) (q : Request) (w : World) → depth ≡ length world → a.struck ≡ false

@@ -1,12 +1,12 @@
 -- Writes at a service that is found by its place.
-use Rattle.std.proofs.Common.{◌≡◌, ◌<◌, ◌≤◌, ◌+◌, ℕ, zero, suc, true, false, List, [], ◌∷◌, ◌++◌, take, drop, length, slice_index_or, slice_set, refl, sym, ap, ◌∙◌, subst, arith, add-one}
+use Rattle.std.proofs.Common.{◌≡◌, ◌<◌, ◌≤◌, ◌+◌, ℕ, zero, suc, true, false, List, [], ◌∷◌, ◌++◌, take, drop, length, slice_index_or, slice_set, refl, sym, ap, ◌∙◌, subst, arith}
 use Rattle.lang_base.specs.Texts.{same_text}
 use Rattle.lang_core.specs.Rows.{apply}
 use Rattle.lang_core.specs.declared.cells.Cell.{Cell}
 use Rattle.lang_core.specs.declared.writes.Write.{Write}
 use Rattle.one_world.specs.Tapes.{World, with_writes}
 use Rattle.one_world.specs.declared.rows.Rows.{Rows}
-use Rattle.one_world.proofs.Lists.{if_false, if_true}
+use Rattle.one_world.proofs.Lists.{if_true}
 
 -- what stands at a place, whatever is asked for past the end
 pub same_place : (world : World) (i : ℕ) (a b : Rows) → i < length world → slice_index_or world i a ≡ slice_index_or world i b
@@ -22,25 +22,12 @@ module _ (name : List ℕ) (ws : List Write) where
   first_here : (r : Rows) (world : World) → same_text r.service name ≡ true → with_writes name ws (r ∷ world) ≡ written r ∷ world
   first_here r world is = if_true (same_text r.service name) (written r ∷ world) (r ∷ with_writes name ws world) is
 
-  first_not : (r : Rows) (world : World) → same_text r.service name ≡ false → with_writes name ws (r ∷ world) ≡ r ∷ with_writes name ws world
-  first_not r world isnt = if_false (same_text r.service name) (written r ∷ world) (r ∷ with_writes name ws world) isnt
-
   pub found_here : (world : World) (i : ℕ) (r : Rows) → i < length world → slice_index_or world i r ≡ r → same_text r.service name ≡ true
       → slice_set world i (written r) ≡ take i world ++ with_writes name ws (drop i world)
   found_here [] i r lt e is = absurd (omega (arith, lt))
   found_here (x ∷ world) zero r lt e is =
       ap (λ y. y ∷ world) (ap written (sym e)) ∙ sym (first_here x world (subst (λ (y : Rows). same_text y.service name ≡ true) (sym e) is))
   found_here (x ∷ world) (suc i) r lt e is = ap (λ ys. x ∷ ys) (found_here world i r (omega (arith, lt)) e is)
-
-  past_suc : (world : World) (i : ℕ) (r : Rows) → i < length world → slice_index_or world i r ≡ r → same_text r.service name ≡ false
-      → take (suc i) world ++ with_writes name ws (drop (suc i) world) ≡ take i world ++ with_writes name ws (drop i world)
-  past_suc [] i r lt e isnt = absurd (omega (arith, lt))
-  past_suc (x ∷ world) zero r lt e isnt = sym (first_not x world (subst (λ (y : Rows). same_text y.service name ≡ false) (sym e) isnt))
-  past_suc (x ∷ world) (suc i) r lt e isnt = ap (λ ys. x ∷ ys) (past_suc world i r (omega (arith, lt)) e isnt)
-
-  pub past_one : (world : World) (i : ℕ) (r : Rows) → i < length world → slice_index_or world i r ≡ r → same_text r.service name ≡ false
-      → take (i + 1) world ++ with_writes name ws (drop (i + 1) world) ≡ take i world ++ with_writes name ws (drop i world)
-  past_one world i r lt e isnt = ap (λ n. take n world ++ with_writes name ws (drop n world)) (add-one i) ∙ past_suc world i r lt e isnt
 
   pub found_none : (world : World) (i : ℕ) → length world ≤ i → world ≡ take i world ++ with_writes name ws (drop i world)
   found_none [] zero le = refl
