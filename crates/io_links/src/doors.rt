@@ -27,6 +27,11 @@ pub trait Ear {
     /// its counts are 0.
     fn accept(&self) -> Accepted<Self::Conn>
         ensures new { GivesNew (λ conn. IsNew (Self.Conn.Source.reads conn) (Self.Conn.Sink.writes conn)) result };
+
+    /// Ends what waits here, for a program that is to stop. From then on `accept` answers `Nobody`, at once, and what a
+    /// connection that was given still waits for fails within a moment, as if its time were up. What else ends with this ear
+    /// is said where doors and links are made. The address stays taken until the ear is dropped.
+    fn close(&self);
 }
 
 /// Opens ears.

@@ -60,7 +60,8 @@ impl<'a, W: Wait + Clock + Sync> Door for MemoryDoor<'a, W> {
     }
 }
 
-/// An ear at an address of a network in memory. Dropped, it closes the address.
+/// An ear at an address of a network in memory. Closed, it refuses the calls that wait at the address and
+/// those that come later. Dropped, it does so too, and the address is free.
 pub struct MemoryEar<'a, W: Wait + Clock> {
     rt: &'a W,
     alloc: Global,
@@ -118,6 +119,10 @@ impl<'a, W: Wait + Clock + Sync> Ear for MemoryEar<'a, W> {
             )),
             None => Accepted::Nobody,
         }
+    }
+
+    fn close(&self) {
+        self.network.shut(self.rt, self.address.as_str());
     }
 }
 

@@ -43,7 +43,7 @@ impl From<Failed> for CallRefused {
 ///
 /// A call waits at its address until an ear there hears it, and its caller until the connection
 /// that was given for it is dropped: what was written to that is the reply. So services that call
-/// each other run over it as over a real one. Where a door closes, the calls that wait there fail.
+/// each other run over it as over a real one. Where an ear closes, the calls that wait there fail.
 #[derive(Drop)]
 pub struct MemoryNetwork {
     patience: Duration,
@@ -114,20 +114,27 @@ impl MemoryNetwork {
         self.traffic.lock(rt).open(alloc, address)
     }
 
-    /// Closes an address: who waits there is refused.
+    /// Hears no call at an address any more: who waits there is refused.
+    pub(crate) fn shut<W: Wait>(&self, rt: &W, address: &str) {
+        self.traffic.lock(rt).shut(address);
+        self.changed.notify_all();
+    }
+
+    /// The same, and the address is free.
     pub(crate) fn close<W: Wait>(&self, rt: &W, address: &str) {
         self.traffic.lock(rt).close(address);
         self.changed.notify_all();
     }
 
-    /// The next call to this address, by its number, and its bytes; None where none came in a while.
+    /// The next call to this address, by its number, and its bytes; None where none came in a while, or
+    /// calls aren't heard there any more.
     pub(crate) fn hear<W: Wait + Clock>(&self, rt: &W, address: &str) -> Option<(u64, Vec<u8>)> {
         let traffic = self.traffic.lock(rt);
         let (mut traffic, _) = self.changed.wait_timeout_while(
             rt,
             traffic,
             Duration::from_millis(LOOK),
-            |traffic| !traffic.has_call_to(address),
+            |traffic| traffic.is_quiet(address),
         );
         traffic.hear(address)
     }
@@ -143,7 +150,22 @@ impl MemoryNetwork {
 #[derive(Drop)]
 struct Place {
     address: Text,
+    // An ear is there.
+    taken: bool,
+    // It hears calls.
     open: bool,
+}
+
+impl Place {
+    // Another ear is there, unless one is.
+    fn open(&mut self) -> Result<(), Failed> {
+        if self.taken {
+            return Err(Failed);
+        }
+        self.taken = true;
+        self.open = true;
+        Ok(())
+    }
 }
 
 // How far a call came.
@@ -207,20 +229,30 @@ impl Traffic {
 
     fn open(&mut self, alloc: Global, address: &str) -> Result<(), Failed> {
         if let Some(at) = self.place(address) {
-            let was_open = mem::replace(&mut self.places[at].open, true);
-            return if was_open { Err(Failed) } else { Ok(()) };
+            return self.places[at].open();
         }
         let Ok(address) = Text::of(alloc, address) else {
             return Err(Failed);
         };
-        let open = true;
-        match self.places.push(Place { address, open }) {
+        let place = Place {
+            address,
+            taken: true,
+            open: true,
+        };
+        match self.places.push(place) {
             Ok(()) => Ok(()),
             Err(_) => Err(Failed),
         }
     }
 
     fn close(&mut self, address: &str) {
+        self.shut(address);
+        if let Some(at) = self.place(address) {
+            self.places[at].taken = false;
+        }
+    }
+
+    fn shut(&mut self, address: &str) {
         if let Some(at) = self.place(address) {
             self.places[at].open = false;
         }
@@ -259,8 +291,9 @@ impl Traffic {
             .any(|call| call.number == number && call.is_under_way())
     }
 
-    fn has_call_to(&self, address: &str) -> bool {
-        self.calls.iter().any(|call| call.waits_at(address))
+    // Whether a call may come to this address, and none waits there.
+    fn is_quiet(&self, address: &str) -> bool {
+        !self.is_closed(address) && !self.calls.iter().any(|call| call.waits_at(address))
     }
 
     fn hear(&mut self, address: &str) -> Option<(u64, Vec<u8>)> {

@@ -11,7 +11,7 @@ use std::process::Abort;
 use std::sync::Wait;
 use std::sync::atomic::{AtomicBool, Ordering};
 use std::thread::{self, Scope, Threads};
-use tcp_links::{TcpDoor, TcpLink};
+use tcp_links::{StopSignal, TcpDoor, TcpLink};
 
 // A worker of a service. It serves until it is stopped, and passes on to the next service what it
 // is sent, if there is a next one.
@@ -185,8 +185,9 @@ fn serves_over_memory(rt: HostRuntime) {
 
 #[test]
 fn serves_over_loopback(rt: HostRuntime) {
-    let mut doors = TcpDoor::new(&rt, rt.alloc());
-    let links = TcpLink::new(&rt);
+    let stop = StopSignal::new();
+    let mut doors = TcpDoor::new(&rt, rt.alloc(), &stop);
+    let links = TcpLink::new(&rt, &stop);
     let mut spawner = SystemSpawner::new();
     let (shop, bank) = ("127.0.31.6:18431", "127.0.31.6:18432");
     let (first, second, served) = run(&rt, &mut doors, &links, &mut spawner, shop, bank);

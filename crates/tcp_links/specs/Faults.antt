@@ -9,5 +9,5 @@ abbrev pub door_faults : {R Stream Listener : Type 0} → TcpDoor R Stream Liste
 door_faults d = d.faults
 
 -- how many exchanges of a link have failed; it tells none
-abbrev pub tcp_exchanges : {R Listener : Type 0} → TcpLink R Listener → Exchanges
+abbrev pub tcp_exchanges : {R Stream Listener : Type 0} → TcpLink R Stream Listener → Exchanges
 tcp_exchanges l = record { made = None; faults = l.faults }

@@ -7,11 +7,12 @@ ghost use Rattle.io_links.specs.Connections.{IsNew};
 
 use crate::clocked::Clocked;
 use crate::closing::{Kept, linger};
+use crate::deadline::Deadline;
 use io_edge::{Connection, Failed, Sink, Source};
 use std::alloc::Global;
 use std::net::TcpStream;
 use std::sync::{Arc, Mutex, Wait};
-use std::time::{Clock, Duration, Instant};
+use std::time::Clock;
 
 /// The most bytes that one read of the socket asks for.
 const PIECE: usize = 4096;
@@ -20,6 +21,7 @@ const PIECE: usize = 4096;
 pub type ClosingDoor = Arc<Mutex<Kept>, Global>;
 
 /// A connection over TCP. Reads and writes all end by one moment: what isn't done by then fails.
+/// Once the program stops a read beyond what came fails, and so does a write that finds no room.
 /// It tells no bytes.
 ///
 /// Dropped, its write half is shut, and where it came through a door the ear goes on to take what
@@ -38,26 +40,17 @@ pub struct TcpConnection<'a, R: Clock + Wait> {
 impl<'a, R: Clock + Wait> TcpConnection<'a, R> {
     ghost use Rattle.tcp_links.specs.Connections.{tcp_reads, tcp_writes};
 
-    /// A connection over a socket, of which these bytes came already. All that it does ends by
-    /// `most` after `since`.
+    /// A connection over a socket, of which these bytes came already.
     pub(crate) fn new(
-        rt: &'a R,
+        deadline: Deadline<'a, R>,
         stream: TcpStream,
         bytes: Vec<u8>,
-        since: Instant,
-        most: Duration,
         door: Option<ClosingDoor>,
     ) -> Self
         ensures { IsNew (tcp_reads result) (tcp_writes result) }
     {
-        let socket = Clocked {
-            rt,
-            stream,
-            since,
-            most,
-        };
         TcpConnection {
-            socket,
+            socket: Clocked { stream, deadline },
             bytes,
             at: 0,
             read_faults: 0,
@@ -98,14 +91,9 @@ impl<'a, R: Clock + Wait> Drop for TcpConnection<'a, R> {
             write_faults: _,
             door,
         } = self;
-        let Clocked {
-            rt,
-            stream,
-            since: _,
-            most: _,
-        } = socket;
+        let Clocked { stream, deadline } = socket;
         if let Some(door) = door {
-            linger(rt, &door, stream);
+            linger(deadline.rt, &door, stream);
         }
     }
 }

@@ -9,7 +9,9 @@ ghost use Rattle.tcp_links.specs.Faults.{door_faults};
 use crate::ClosingDoor;
 use crate::closing::{Kept, sweep};
 use crate::connection::TcpConnection;
+use crate::deadline::Deadline;
 use crate::guests::{Guest, Guests};
+use crate::stopping::StopSignal;
 use io_edge::Failed;
 use io_links::{Accepted, Door, Ear};
 use mio::Poll;
@@ -32,26 +34,29 @@ const PATIENCE: u64 = 10_000;
 pub struct TcpDoor<'a, R: Net + Clock + Wait> {
     rt: &'a R,
     alloc: Global,
+    stop: &'a StopSignal,
     patience: Duration,
     faults: u64,
 }
 
 impl<'a, R: Net + Clock + Wait> TcpDoor<'a, R> {
-    /// A door that listened nowhere so far, whose connections have 10 seconds.
-    pub fn new(rt: &'a R, alloc: Global) -> Self
+    /// A door that listened nowhere so far, whose connections have 10 seconds. Its ears and their
+    /// connections end where this signal is raised, and closing one of its ears raises it.
+    pub fn new(rt: &'a R, alloc: Global, stop: &'a StopSignal) -> Self
         ensures { door_faults result ≡ 0 }
     {
-        TcpDoor::with_patience(rt, alloc, Duration::from_millis(PATIENCE))
+        TcpDoor::with_patience(rt, alloc, stop, Duration::from_millis(PATIENCE))
     }
 
     /// A door whose connections have so long to send their heads, and then as long again for all
     /// that they do.
-    pub fn with_patience(rt: &'a R, alloc: Global, patience: Duration) -> Self
+    pub fn with_patience(rt: &'a R, alloc: Global, stop: &'a StopSignal, patience: Duration) -> Self
         ensures { door_faults result ≡ 0 }
     {
         TcpDoor {
             rt,
             alloc,
+            stop,
             patience,
             faults: 0,
         }
@@ -70,7 +75,7 @@ impl<'a, R: Net + Clock + Wait + Sync> Door for TcpDoor<'a, R> {
         ensures one { OnErr result (door_faults self.new ≡ count_after (door_faults self.old)) }
         ensures none_else { OnOk result (door_faults self.new ≡ door_faults self.old) }
     {
-        match TcpEar::at(self.rt, self.alloc, self.patience, address) {
+        match TcpEar::at(self.rt, self.alloc, self.stop, self.patience, address) {
             Ok(ear) => Ok(ear),
             Err(_) => {
                 self.faults = self.faults.saturating_add(1);
@@ -86,6 +91,7 @@ impl<'a, R: Net + Clock + Wait + Sync> Door for TcpDoor<'a, R> {
 #[derive(Drop)]
 pub struct TcpEar<'a, R: Clock + Wait> {
     rt: &'a R,
+    stop: &'a StopSignal,
     patience: Duration,
     guests: Mutex<Guests>,
     door: ClosingDoor,
@@ -104,12 +110,19 @@ fn bound<R: Net>(rt: &R, address: &str) -> io::Result<TcpListener> {
 }
 
 impl<'a, R: Net + Clock + Wait> TcpEar<'a, R> {
-    fn at(rt: &'a R, alloc: Global, patience: Duration, address: &str) -> io::Result<Self> {
+    fn at(
+        rt: &'a R,
+        alloc: Global,
+        stop: &'a StopSignal,
+        patience: Duration,
+        address: &str,
+    ) -> io::Result<Self> {
         let listener = bound(rt, address)?;
         let guests = Guests::new(alloc, Poll::new(rt)?, listener)?;
         match Arc::new(alloc, Mutex::new(Kept::new(alloc))) {
             Ok(door) => Ok(TcpEar {
                 rt,
+                stop,
                 patience,
                 guests: Mutex::new(guests),
                 door,
@@ -119,26 +132,23 @@ impl<'a, R: Net + Clock + Wait> TcpEar<'a, R> {
     }
 }
 
-// From a guest a connection that may take `patience` from now on, if it hasn't waited too long.
+// From a guest a connection, which ends by this deadline, or at once if it has waited that long already.
 fn connection<'a, R: Clock + Wait>(
-    rt: &'a R,
+    deadline: Deadline<'a, R>,
     guest: Guest,
-    patience: Duration,
     door: ClosingDoor,
 ) -> io::Result<TcpConnection<'a, R>>
     ensures { IfOk result (λ conn. IsNew (tcp_reads conn) (tcp_writes conn)) }
 {
-    let now = Instant::now(rt)?;
-    let since = if now.duration_since(guest.since) >= patience {
-        guest.since
-    } else {
-        now
-    };
+    let mut deadline = deadline;
+    if deadline.since.duration_since(guest.since) >= deadline.most {
+        deadline.since = guest.since;
+    }
     let (stream, bytes) = guest.into_parts();
     let stream = TcpStream::from(stream);
     stream.set_nonblocking(false)?;
     stream.set_nodelay(true)?;
-    Ok(TcpConnection::new(rt, stream, bytes, since, patience, Some(door)))
+    Ok(TcpConnection::new(deadline, stream, bytes, Some(door)))
 }
 
 impl<'a, R: Clock + Wait + Sync> Ear for TcpEar<'a, R> {
@@ -155,20 +165,41 @@ impl<'a, R: Clock + Wait + Sync> Ear for TcpEar<'a, R> {
         let Some(guest) = guest else {
             return Accepted::Nobody;
         };
-        let Ok(door) = Arc::try_clone(&self.door) else {
-            return Accepted::Failed;
-        };
-        match connection(self.rt, guest, self.patience, door) {
+        match self.connection(guest) {
             Ok(conn) => Accepted::Conn(conn),
             Err(_) => Accepted::Failed,
         }
     }
+
+    fn close(&self) {
+        self.stop.raise();
+    }
 }
 
 impl<'a, R: Clock + Wait> TcpEar<'a, R> {
-    // The next that is ready, if one is within a look.
+    // The next that is ready, if one is within a look. None from when the ear is closed: who waited
+    // for the lock meanwhile finds out here, and who looked meanwhile behind the look.
     fn guest(&self) -> io::Result<Option<Guest>> {
         let mut guests = self.guests.lock(self.rt);
-        guests.look(self.rt, Duration::from_millis(LOOK), self.patience)
+        if self.stop.is_raised() {
+            return Ok(None);
+        }
+        let guest = guests.look(self.rt, Duration::from_millis(LOOK), self.patience)?;
+        if self.stop.is_raised() {
+            return Ok(None);
+        }
+        Ok(guest)
+    }
+
+    // A connection that may take as long as the door says from now on.
+    fn connection(&self, guest: Guest) -> io::Result<TcpConnection<'a, R>>
+        ensures { IfOk result (λ conn. IsNew (tcp_reads conn) (tcp_writes conn)) }
+    {
+        let door = Arc::try_clone(&self.door)?;
+        connection(
+            Deadline::within(self.rt, self.stop, self.patience)?,
+            guest,
+            door,
+        )
     }
 }

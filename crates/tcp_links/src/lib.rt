@@ -6,15 +6,19 @@
 
 mod clocked;
 mod closing;
+mod connecting;
 mod connection;
+mod deadline;
 mod ears;
 mod exchanges;
 mod guests;
 mod heads;
 mod links;
+mod stopping;
 
 pub(crate) use connection::ClosingDoor;
 pub use connection::TcpConnection;
 pub use ears::{TcpDoor, TcpEar};
 pub use exchanges::{exchange_over, read_up_to};
 pub use links::TcpLink;
+pub use stopping::StopSignal;

@@ -4,15 +4,18 @@ ghost use Rattle.io_edge.specs.Told.{count_after};
 ghost use Rattle.io_links.specs.Exchanges.{IsAnother, IsFailure, Leaves, Notes};
 ghost use Rattle.tcp_links.specs.Faults.{tcp_exchanges};
 
+use crate::connecting::connect;
 use crate::connection::TcpConnection;
+use crate::deadline::Deadline;
 use crate::exchanges::exchange_over;
+use crate::stopping::StopSignal;
 use io_links::{Exchange, Link};
 use lang_core::FaultNote;
 use std::alloc::Global;
 use std::io;
-use std::net::{Net, TcpStream, ToSocketAddrs};
+use std::net::{Net, ToSocketAddrs};
 use std::sync::Wait;
-use std::time::{Clock, Duration, Instant};
+use std::time::{Clock, Duration};
 
 /// How long an exchange may take, in milliseconds.
 const PATIENCE: u64 = 10_000;
@@ -21,31 +24,43 @@ const PATIENCE: u64 = 10_000;
 const LONGEST_REPLY: u64 = 81_921;
 
 /// A link over TCP: each exchange is made on a connection of its own, and fails where it isn't done
-/// within its time. It tells no exchanges.
+/// within its time, or before the program stops. It tells no exchanges.
 #[derive(Drop)]
-pub struct TcpLink<'a, R: Net<Stream = TcpStream> + Clock + Wait> {
+pub struct TcpLink<'a, R: Net + Clock + Wait> {
     rt: &'a R,
+    stop: &'a StopSignal,
     patience: Duration,
     faults: u64,
 }
 
-impl<'a, R: Net<Stream = TcpStream> + Clock + Wait> TcpLink<'a, R> {
-    /// A link that made no exchange so far, each of which has 10 seconds.
-    pub fn new(rt: &'a R) -> Self
+impl<'a, R: Net + Clock + Wait> TcpLink<'a, R> {
+    /// A link that made no exchange so far, each of which has 10 seconds, and fails where this signal
+    /// is raised.
+    pub fn new(rt: &'a R, stop: &'a StopSignal) -> Self
         ensures { (tcp_exchanges result).faults ≡ 0 }
     {
-        TcpLink::with_patience(rt, Duration::from_millis(PATIENCE))
+        TcpLink::with_patience(rt, stop, Duration::from_millis(PATIENCE))
     }
 
     /// A link of which each exchange has so long.
-    pub fn with_patience(rt: &'a R, patience: Duration) -> Self
+    pub fn with_patience(rt: &'a R, stop: &'a StopSignal, patience: Duration) -> Self
         ensures { (tcp_exchanges result).faults ≡ 0 }
     {
         TcpLink {
             rt,
+            stop,
             patience,
             faults: 0,
         }
+    }
+
+    // A connection for one exchange, which ends in its time.
+    fn connected(&self, alloc: Global, address: &str) -> io::Result<TcpConnection<'a, R>> {
+        connected(
+            Deadline::within(self.rt, self.stop, self.patience)?,
+            alloc,
+            address,
+        )
     }
 
     // Counts a failed exchange.
@@ -61,23 +76,17 @@ impl<'a, R: Net<Stream = TcpStream> + Clock + Wait> TcpLink<'a, R> {
     }
 }
 
-// A connection to the first of the addresses that answers. All that it does ends by `patience` from
-// now.
-fn connected<'a, R: Net<Stream = TcpStream> + Clock + Wait>(
-    rt: &'a R,
+// A connection to the first of the addresses that answers. All that it does ends by this deadline.
+fn connected<'a, R: Net + Clock + Wait>(
+    deadline: Deadline<'a, R>,
     alloc: Global,
-    patience: Duration,
     address: &str,
 ) -> io::Result<TcpConnection<'a, R>> {
-    let since = Instant::now(rt)?;
     let mut last = io::Error::from(io::ErrorKind::InvalidInput);
-    for addr in address.to_socket_addrs(rt)? {
-        let left = patience.saturating_sub(since.elapsed(rt)?);
-        match TcpStream::connect_timeout(rt, &addr, left) {
+    for addr in address.to_socket_addrs(deadline.rt)? {
+        match connect(&deadline, alloc, addr) {
             Ok(stream) => {
-                stream.set_nodelay(true)?;
-                let none = Vec::new(alloc);
-                return Ok(TcpConnection::new(rt, stream, none, since, patience, None));
+                return Ok(TcpConnection::new(deadline, stream, Vec::new(alloc), None));
             }
             Err(error) => last = error,
         }
@@ -85,13 +94,13 @@ fn connected<'a, R: Net<Stream = TcpStream> + Clock + Wait>(
     Err(last)
 }
 
-impl<'a, R: Net<Stream = TcpStream> + Clock + Wait> Link for TcpLink<'a, R> {
+impl<'a, R: Net + Clock + Wait> Link for TcpLink<'a, R> {
     ghost exchanges = { λ l. tcp_exchanges l };
 
     fn another(&self) -> Self
         ensures { IsAnother (tcp_exchanges self.now) (tcp_exchanges result) }
     {
-        TcpLink::with_patience(self.rt, self.patience)
+        TcpLink::with_patience(self.rt, self.stop, self.patience)
     }
 
     fn exchange(&mut self, alloc: Global, address: &str, bytes: &[u8]) -> Exchange
@@ -100,7 +109,7 @@ impl<'a, R: Net<Stream = TcpStream> + Clock + Wait> Link for TcpLink<'a, R> {
         ensures counted { (tcp_exchanges self.old).faults ≤ (tcp_exchanges self.new).faults }
         ensures failed { Notes (tcp_exchanges self.old) (tcp_exchanges self.new) result }
     {
-        let Ok(mut conn) = connected(self.rt, alloc, self.patience, address) else {
+        let Ok(mut conn) = self.connected(alloc, address) else {
             return self.failed();
         };
         match exchange_over(alloc, &mut conn, bytes, LONGEST_REPLY) {
