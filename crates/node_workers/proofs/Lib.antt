@@ -1,2 +1,7 @@
 pub mod PostLemmas
 pub mod TurnLemmas
+pub mod CallLemmas
+pub mod SentLemmas
+pub mod FlightLemmas
+pub mod MessageLemmas
+pub mod ServeLemmas

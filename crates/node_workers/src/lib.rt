@@ -1,12 +1,21 @@
-//! What workers do at a node: one turn of posting.
+//! What workers do at a node: one connection served, and one turn of posting.
 //!
 //! A worker has a desk, which lends it a node, how its service is set up, and where its peers are, and a pass of its own. Each
 //! event is made in one hold of the node's lock, which is never held during an exchange with a peer.
 #![tactic(auto)]
 
+mod calls;
 mod desk;
+mod flying;
+mod live;
+mod messages;
 mod posts;
+mod replies;
+mod serve;
+mod served;
 mod turns;
 
 pub use desk::{Desk, Doors};
 pub use posts::{PostedOne, post_one};
+pub use serve::serve_one;
+pub use served::Served;

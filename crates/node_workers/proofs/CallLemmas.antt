@@ -1,0 +1,264 @@
+-- What comes of live calls.
+use Rattle.std.proofs.Common.{◌≡◌, ℕ, ◌+◌, ◌^◌, ◌<◌, ◌≤◌, inl, inr, Bool, true, false, List, [], ◌∷◌, ◌++◌, Option, Some, None, Result, Ok, Err, IfOk, OnOk, All, refl, sym, ap, ◌∙◌, subst, arith, append_assoc}
+use Rattle.std.proofs.lemmas.Bool.{cases_lt}
+use Rattle.std.proofs.lemmas.List.Elements.{All-append, All-cons, All-nil}
+use Rattle.std.proofs.lemmas.List.{append-nil}
+use Rattle.lang_base.specs.declared.memory.NoMemory.{NoMemory as LacksMemory}
+use Rattle.repair_messages.specs.declared.messages.AnswerMessage.{AnswerMessage}
+use Rattle.repair_messages.specs.declared.messages.SetMessage.{SetMessage}
+use Rattle.call_registers.specs.declared.register.Why.{Why}
+use Rattle.call_registers.specs.declared.register.Why.TheVariants as whys
+use Rattle.service_events.specs.declared.refusals.ArriveRefused.{ArriveRefused}
+use Rattle.service_events.specs.declared.refusals.ArriveRefused.TheVariants as arrive
+use Rattle.io_edge.specs.Edge.{Reads, Rose}
+use Rattle.io_links.specs.Exchanges.{Exchanges, Leaves, Notes}
+use Rattle.io_links.specs.declared.links.Exchange.{Exchange}
+use Rattle.io_links.specs.declared.links.Exchange.TheVariants as answers
+use Rattle.io_links.specs.declared.links.Exchanged.{Exchanged}
+use Rattle.http_front.specs.Answers.{interrupts}
+use Rattle.http_front.specs.declared.message.FrontRefused.{FrontRefused}
+use Rattle.wire_fields.specs.Fits.{lacks_memory}
+use Rattle.wire_replies.specs.declared.kinds.Asking.TheVariants as asked
+use Rattle.wire_replies.specs.declared.replies.Outgoing.{Outgoing}
+use Rattle.wire_replies.specs.declared.replies.Outgoing.TheVariants as replies
+use Rattle.wire_words.specs.Failures.{arrive_refused, call_reply, why_failed}
+use Rattle.wire_bytes.specs.Hearing.{IsRepliedFrom}
+use Rattle.wire_bytes.specs.declared.hearing.Replied.{Replied}
+use Rattle.node_core.specs.declared.notes.Notes.{Notes as PassNotes}
+use Rattle.node_workers.specs.Calling.{AreCalls, AtLeast, CallSent, CallsMade, CameOf, CountsCalls, FailsOnly, IsCall, IsLost, IsReadAs, IsRefusal, IsRefused, NotesRise, answers_in, is_answer_to, lost_by_one, refused_by_one, replies_so}
+use Rattle.node_workers.specs.Desks.{Endpoint}
+
+-- ---- how many
+
+pub at_least_none : {X : Type 0} (P : X → Type 0) → (xs : List X) → AtLeast P 0 xs
+at_least_none P [] = refl
+at_least_none P (x ∷ xs) = inl (at_least_none P xs)
+
+at_least_both : {X : Type 0} (P : X → Type 0) → (m n : ℕ) (xs ys : List X) → AtLeast P m xs → AtLeast P n ys → AtLeast P (m + n) (xs ++ ys)
+at_least_both P m n [] ys none h = let same : n ≡ m + n = omega (arith, none) in subst (λ (k : ℕ). AtLeast P k ys) same h
+at_least_both P m n (x ∷ xs) ys (inl later) h = inl (at_least_both P m n xs ys later h)
+at_least_both P m n (x ∷ xs) ys (inr here) h =
+    let one = here.1 in
+    inr (here.0 + n, omega (arith, one), here.2, at_least_both P here.0 n xs ys here.3 h)
+
+at_least_one : {X : Type 0} (P : X → Type 0) → (x : X) → P x → AtLeast P 1 (x ∷ [])
+at_least_one P x h = inr (0, refl, h, refl)
+
+-- ---- exchanges, one after the other
+
+both_calls : (e : Endpoint) (l m r q : ℕ) (xs ys : List Exchanged) → AreCalls e l r xs → AreCalls e m q ys → AreCalls e (l + m) (r + q) (xs ++ ys)
+both_calls e l m r q xs ys one two =
+    record {
+      calls = All-append (IsCall e) xs ys one.calls two.calls;
+      lost_so = at_least_both IsLost l m xs ys one.lost_so two.lost_so;
+      refused_so = at_least_both (IsRefused e) r q xs ys one.refused_so two.refused_so;
+    }
+
+calls_on : (e : Endpoint) (l m r q : ℕ) (a b c : Exchanges) → CallsMade e l r a b → CallsMade e m q b c → CallsMade e (l + m) (r + q) a c
+calls_on e l m r q a b c one two all is =
+    let x = one all is in
+    let y = two (all ++ x.0) x.1 in
+    (x.0 ++ y.0, y.1 ∙ ap Some (append_assoc all x.0 y.0), both_calls e l m r q x.0 y.0 x.2 y.2)
+
+no_calls : (e : Endpoint) → AreCalls e 0 0 []
+no_calls e = record { calls = All-nil (IsCall e); lost_so = refl; refused_so = refl }
+
+-- where no exchange was made
+pub none_made : (e : Endpoint) (a b : Exchanges) → b ≡ a → CallsMade e 0 0 a b
+none_made e a b same all is = ([], ap (λ (x : Exchanges). x.made) same ∙ is ∙ ap Some (sym (append-nil all)), no_calls e)
+
+-- a count that rises in one of two stretches rises in both together
+rose_on : (top a b c x y z : ℕ) → (x < y → b + 1 < top → a < b) → (y < z → c + 1 < top → b < c) → a ≤ b → b ≤ c → x < z → c + 1 < top → a < c
+rose_on top a b c x y z first second up on more room = elim (cases_lt x y) [
+  | inl early ↦ (let rose = first early (omega (arith, room, on)) in omega (arith, rose, on))
+  | inr late ↦ (let rose = second (omega (arith, more, late)) room in omega (arith, rose, up))
+]
+
+-- what is counted in two stretches
+pub counts_on : (e : Endpoint) (n m k : PassNotes) (a b c : Exchanges) → CountsCalls e n m a b → CountsCalls e m k b c → CountsCalls e n k a c
+counts_on e n m k a b c one two =
+    let lost_one = one.lost_at_most in
+    let lost_two = two.lost_at_most in
+    let refused_one = one.refused_at_most in
+    let refused_two = two.refused_at_most in
+    let up = one.counted in
+    let on = two.counted in
+    record {
+      lost = one.lost + two.lost;
+      refused = one.refused + two.refused;
+      lost_at_most = omega (arith, lost_one, lost_two);
+      refused_at_most = omega (arith, refused_one, refused_two);
+      calls = calls_on e one.lost two.lost one.refused two.refused a b c one.calls two.calls;
+      rose = λ more room. rose_on (2 ^ 64) a.faults b.faults c.faults n.lost m.lost k.lost one.rose two.rose up on more room;
+      counted = omega (arith, up, on);
+    }
+
+-- what is counted by one call
+pub counts_one : (e : Endpoint) (n m : PassNotes) (l r : ℕ) (a b : Exchanges) → CallsMade e l r a b → (0 < l → Rose a.faults b.faults) → a.faults ≤ b.faults
+    → m.lost ≤ n.lost + l → m.refused ≤ n.refused + r → CountsCalls e n m a b
+counts_one e n m l r a b calls rose up lost refused =
+    record {
+      lost = l;
+      refused = r;
+      lost_at_most = lost;
+      refused_at_most = refused;
+      calls = calls;
+      rose = λ more. rose (omega (arith, more, lost));
+      counted = up;
+    }
+
+-- where nothing is counted, and no exchange was made
+pub counts_none : (e : Endpoint) (n m : PassNotes) (a b : Exchanges) → m.lost ≡ n.lost → m.refused ≡ n.refused → b ≡ a → CountsCalls e n m a b
+counts_none e n m a b lost refused same =
+    let faults : b.faults ≡ a.faults = ap (λ (x : Exchanges). x.faults) same in
+    record {
+      lost = 0;
+      refused = 0;
+      lost_at_most = omega (arith, lost);
+      refused_at_most = omega (arith, refused);
+      calls = none_made e a b same;
+      rose = λ more. absurd (omega (arith, more, lost));
+      counted = omega (arith, faults);
+    }
+
+-- where no answer was told
+pub counts_untold : (e : Endpoint) (n : PassNotes) (a b : Exchanges) → CallsMade e 0 0 a b → a.faults ≤ b.faults → CountsCalls e n n a b
+counts_untold e n a b calls up =
+    counts_one e n n 0 0 a b calls (λ more. absurd (omega (arith, more))) up (omega arith) (omega arith)
+
+-- ---- one call
+
+-- an answer that was read is the reply's
+pub reads_answer : (set : SetMessage) (reply : Outgoing) (status : ℕ) (a : AnswerMessage) → call_reply reply status ≡ Ok a → replies_so set reply ≡ is_answer_to set a
+reads_answer set (replies.Answered id None response) status a is = absurd (cc is)
+reads_answer set (replies.Answered id (Some b) response) status a is = let same : b ≡ a = cc in ap (is_answer_to set) same
+reads_answer set (replies.Ack ack) status a is = absurd (cc is)
+reads_answer set (replies.Confirm confirm) status a is = absurd (cc is)
+reads_answer set (replies.Refused word n) status a is = absurd (cc is)
+
+failed_so : (refused : Option ArriveRefused) (status : ℕ) → IsRefusal (why_failed refused status)
+failed_so None status = tt
+failed_so (Some arrive.NoMemory) status = tt
+failed_so (Some (arrive.Full n)) status = tt
+failed_so (Some (arrive.NotYet n)) status = tt
+failed_so (Some (arrive.Gone v)) status = tt
+
+refusal_by : (refused : Option ArriveRefused) (status : ℕ) (why : Why) → ◌≡◌ {A = Result AnswerMessage Why} (Err (why_failed refused status)) (Err why) → IsRefusal why
+refusal_by refused status why is = let same : why_failed refused status ≡ why = cc in subst IsRefusal same (failed_so refused status)
+
+-- what isn't read as an answer is a refusal
+pub reads_refusal : (set : SetMessage) (reply : Outgoing) (status : ℕ) (why : Why) → call_reply reply status ≡ Err why → (replies_so set reply ≡ false) × IsRefusal why
+reads_refusal set (replies.Answered id None response) status why is = (refl, refusal_by None status why is)
+reads_refusal set (replies.Answered id (Some b) response) status why is = absurd (cc is)
+reads_refusal set (replies.Ack ack) status why is = (refl, refusal_by None status why is)
+reads_refusal set (replies.Confirm confirm) status why is = (refl, refusal_by None status why is)
+reads_refusal set (replies.Refused word n) status why is = (refl, refusal_by (arrive_refused word n) status why is)
+
+-- a response that may answer the call is read as the answer that it brings, where it brings one
+pub read_as : (set : SetMessage) (reply : Outgoing) (status : ℕ) (a : AnswerMessage) (came : Result AnswerMessage Why) → call_reply reply status ≡ Ok a
+    → IsReadAs set (is_answer_to set a) came → IsReadAs set (replies_so set reply) came
+read_as set reply status a came is so = subst (λ (b : Bool). IsReadAs set b came) (sym (reads_answer set reply status a is)) so
+
+-- ---- its exchange
+
+abbrev Came : Type 0
+Came = Result (Result AnswerMessage Why) LacksMemory
+
+module _ (e : Endpoint) (set : SetMessage) (secret address bytes : List ℕ) (before now : Exchanges) where
+  abbrev exchanged : Exchange → Exchanged
+  exchanged answer = record { address = address; bytes = bytes; answer = answer }
+
+  abbrev Sent : Exchange → Type 0
+  Sent answer = CallSent e set secret (exchanged answer)
+
+  one_made : (answer : Exchange) (lost refused : ℕ) → Sent answer → AtLeast IsLost lost (exchanged answer ∷ []) → AtLeast (IsRefused e) refused (exchanged answer ∷ [])
+      → AreCalls e lost refused (exchanged answer ∷ [])
+  one_made answer lost refused sent lost_so refused_so =
+      record {
+        calls = All-cons (IsCall e) (exchanged answer) [] (record { set = set; secret = secret; sent = sent }) (All-nil (IsCall e));
+        lost_so = lost_so;
+        refused_so = refused_so;
+      }
+
+  not_counted : (answer : Exchange) → Sent answer → AreCalls e 0 0 (exchanged answer ∷ [])
+  not_counted answer sent = one_made answer 0 0 sent (at_least_none IsLost (exchanged answer ∷ [])) (at_least_none (IsRefused e) (exchanged answer ∷ []))
+
+  came_so : (answer : Exchange) (came : Came) → Sent answer → IfOk came (CameOf e set secret answer)
+      → AreCalls e (lost_by_one came) (refused_by_one came) (exchanged answer ∷ [])
+  came_so answer (Err why) sent of = not_counted answer sent
+  came_so answer (Ok (Ok a)) sent of = not_counted answer sent
+  came_so (answers.Reply back) (Ok (Err (whys.Refused word n))) sent of =
+      one_made (answers.Reply back) 0 1 sent (at_least_none IsLost (exchanged (answers.Reply back) ∷ []))
+      (at_least_one (IsRefused e) (exchanged (answers.Reply back)) (record { set = set; secret = secret; sent = sent; bytes = back; reply = refl; no = of }))
+  came_so (answers.Reply back) (Ok (Err (whys.Lost note))) sent of = absurd of
+  came_so (answers.Reply back) (Ok (Err whys.Changes)) sent of = absurd of
+  came_so answers.NoMemory (Ok (Err why)) sent of = absurd of
+  came_so (answers.Failed note) (Ok (Err (whys.Lost fault))) sent of =
+      one_made (answers.Failed note) 1 0 sent (at_least_one IsLost (exchanged (answers.Failed note)) tt) (at_least_none (IsRefused e) (exchanged (answers.Failed note) ∷ []))
+  came_so (answers.Failed note) (Ok (Err (whys.Refused word n))) sent of = absurd of
+  came_so (answers.Failed note) (Ok (Err whys.Changes)) sent of = absurd of
+
+  -- an exchange for which memory was wanting wasn't made, and nothing came of it but an answer that was there
+  unsent : (came : Came) → IfOk came (CameOf e set secret answers.NoMemory) → now ≡ before → CallsMade e (lost_by_one came) (refused_by_one came) before now
+  unsent (Err why) of same = none_made e before now same
+  unsent (Ok (Ok a)) of same = none_made e before now same
+  unsent (Ok (Err why)) of same = absurd of
+
+  -- what a call leaves of its link
+  pub one_call : (answer : Exchange) (came : Came) → Sent answer → Leaves before now address bytes answer → IfOk came (CameOf e set secret answer)
+      → CallsMade e (lost_by_one came) (refused_by_one came) before now
+  one_call (answers.Reply back) came sent made of = λ all is. (exchanged (answers.Reply back) ∷ [], made all is, came_so (answers.Reply back) came sent of)
+  one_call answers.NoMemory came sent same of = unsent came of same
+  one_call (answers.Failed note) came sent made of = λ all is. (exchanged (answers.Failed note) ∷ [], made all is, came_so (answers.Failed note) came sent of)
+
+-- ---- what the bytes of a reply say
+
+module _ (e : Endpoint) (set : SetMessage) (secret bytes : List ℕ) (before now : Reads) (left : before.left ≡ Some bytes) where
+  -- a response
+  pub response_came : (heard : Replied) (came : Came) → IsRepliedFrom e.me set.dest secret asked.Call before now (Ok heard)
+      → IfOk came (IsReadAs set (answers_in set heard.reply)) → OnOk came (lacks_memory heard.reply ≡ false)
+      → IfOk came (CameOf e set secret (answers.Reply bytes))
+  response_came heard (Err why) from is read = tt
+  response_came heard (Ok (Ok a)) from is read = is
+  response_came heard (Ok (Err (whys.Refused word n))) from is read = (let found = from read bytes left in (Ok heard, found.0, found.2, is.0))
+  response_came heard (Ok (Err (whys.Lost note))) from is read = absurd is.1
+  response_came heard (Ok (Err whys.Changes)) from is read = absurd is.1
+
+  -- none
+  pub nothing_came : (why : FrontRefused) (came : Came) → IsRepliedFrom e.me set.dest secret asked.Call before now (Err why)
+      → IfOk came (λ (c : Result AnswerMessage Why). c ≡ Err (why_failed None 0)) → OnOk came (interrupts why ≡ false)
+      → IfOk came (CameOf e set secret (answers.Reply bytes))
+  nothing_came why (Ok came) from is whole =
+      let found = from whole bytes left in
+      subst (CameOf e set secret (answers.Reply bytes)) (sym is) (Err why, found.0, found.2, refl)
+  nothing_came why (Err lacks) from is whole = tt
+
+-- ---- what was lost
+
+-- a reply loses nothing
+pub not_lost : (e : Endpoint) (set : SetMessage) (secret back : List ℕ) (came : Came) → IfOk came (CameOf e set secret (answers.Reply back)) → 0 < lost_by_one came → ⊥
+not_lost e set secret back (Err why) of one = omega (arith, one)
+not_lost e set secret back (Ok (Ok a)) of one = omega (arith, one)
+not_lost e set secret back (Ok (Err (whys.Lost note))) of one = of
+not_lost e set secret back (Ok (Err (whys.Refused word n))) of one = omega (arith, one)
+not_lost e set secret back (Ok (Err whys.Changes)) of one = of
+
+rises_by : (top was stands before now : ℕ) → was ≡ before → stands ≡ now → before ≤ now → (was + 1 < top → was < stands) → now + 1 < top → before < now
+rises_by top was stands before now from to counted rise room = (let up = rise (omega (arith, from, counted, room)) in omega (arith, from, to, up))
+
+-- a failure that was noted raised the count
+pub rises : (before now : Exchanges) (answer : Exchange) → Notes before now answer → before.faults ≤ now.faults → NotesRise answer → Rose before.faults now.faults
+rises before now (answers.Reply back) notes counted rise = absurd rise
+rises before now answers.NoMemory notes counted rise = absurd rise
+rises before now (answers.Failed note) notes counted rise =
+    rises_by (2 ^ 64) note.before note.after before.faults now.faults notes.0 notes.1 counted rise
+
+-- a call fails by its exchange or by its reply
+pub fails_only : (e : Endpoint) (set : SetMessage) (secret : List ℕ) (answer : Exchange) (came : Came) → IfOk came (CameOf e set secret answer) → IfOk came FailsOnly
+fails_only e set secret answer (Err why) of = tt
+fails_only e set secret answer (Ok (Ok a)) of = tt
+fails_only e set secret answer (Ok (Err (whys.Lost note))) of = tt
+fails_only e set secret answer (Ok (Err (whys.Refused word n))) of = tt
+fails_only e set secret (answers.Reply back) (Ok (Err whys.Changes)) of = absurd of
+fails_only e set secret answers.NoMemory (Ok (Err whys.Changes)) of = absurd of
+fails_only e set secret (answers.Failed note) (Ok (Err whys.Changes)) of = absurd of

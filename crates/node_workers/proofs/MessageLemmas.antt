@@ -1,0 +1,102 @@
+-- What a service answers to a version of a call, and to an answer, that a peer sent.
+use Rattle.std.proofs.Common.{◌≡◌, ℕ, Bool, true, false, not, List, [], ◌∷◌, Option, Some, None, Result, Ok, Err, IfOk, if◌then◌else◌, refl, sym, ap, subst}
+use Rattle.lang_base.specs.Texts.{same_text}
+use Rattle.lang_core.specs.declared.inputs.Inputs.{Inputs}
+use Rattle.repair_messages.specs.declared.messages.AnswerMessage.{AnswerMessage}
+use Rattle.repair_messages.specs.declared.messages.SetMessage.{SetMessage}
+use Rattle.call_registers.specs.Registers.{is_newer, register}
+use Rattle.call_registers.specs.declared.register.Register.{Register}
+use Rattle.service_events.specs.Calls.{noted}
+use Rattle.service_events.specs.Messages.{ack_of, acked_again, answer_taken_where, confirm_of, confirmed_row, hear_allowed, hear_decision, hear_denied, hear_new, heard, is_known, is_too_much, origin_of, take_admitted, take_allowed, take_answer_event, take_decision, take_denied, take_event, take_new, taken}
+use Rattle.service_events.specs.Questions.{is_denied}
+use Rattle.service_events.specs.State.{After, Kept, after, is_in_flight}
+use Rattle.service_events.specs.declared.answers.Heard.{Heard}
+use Rattle.service_events.specs.declared.answers.Taken.{Taken}
+use Rattle.service_events.specs.declared.refusals.AnswerRefused.{AnswerRefused}
+use Rattle.service_events.specs.declared.refusals.AnswerRefused.TheVariants.{Unknown}
+use Rattle.service_events.specs.declared.refusals.TakeRefused.{TakeRefused}
+use Rattle.service_events.specs.declared.refusals.TakeRefused.TheVariants.{NotYet}
+use Rattle.node_core.specs.declared.asking.NodeDone.TheVariants as done
+use Rattle.node_core.specs.declared.asking.NodeEvent.TheVariants as events
+use Rattle.node_core.specs.declared.notes.Notes.{Notes}
+use Rattle.node_core.specs.declared.receipt.Receipt.{Receipt}
+use Rattle.node_workers.specs.Messages.{IsHeardSo, IsTakenSo}
+use Rattle.node_workers.specs.Turns.{Made}
+
+-- ---- a version of a call
+
+module _ (s : Kept) (set : SetMessage) (i : Inputs) where
+  -- where it was taken, that version is acknowledged
+  abbrev Acks : After (Result Taken TakeRefused) → Type 0
+  Acks a = IfOk a.answer (λ (t : Taken). t.ack ≡ ack_of set)
+
+  new_acks : (b : Bool) → Acks (if b then take_denied s set else take_allowed s set i)
+  new_acks true = tt
+  new_acks false = refl
+
+  known_acks : (b : Bool) → Acks (if b then after (acked_again s set) (Ok (taken set None)) else take_new s set i)
+  known_acks true = refl
+  known_acks false = new_acks (is_denied (take_decision s set))
+
+  admitted_acks : (much : Option ℕ) → Acks (take_admitted s set i much)
+  admitted_acks (Some n) = tt
+  admitted_acks None = known_acks (is_known s set)
+
+  flying_acks : (b : Bool) → Acks (if b then after s (Err (NotYet set.number)) else take_admitted s set i (is_too_much s set))
+  flying_acks true = tt
+  flying_acks false = admitted_acks (is_too_much s set)
+
+  take_acks : Acks (take_event s set i)
+  take_acks = flying_acks (is_in_flight (origin_of set) s)
+
+-- what a worker was told at its node of a version
+pub taken_so : (name : List ℕ) (before now : Notes) (had have : List Receipt) (set : SetMessage) (i : Inputs) (taken : Result Taken TakeRefused)
+    → Made name before now had have (events.Take set i) (done.Take taken) → IsTakenSo set i now taken
+taken_so name before now had have set i (Ok t) made =
+    record {
+      noted = ap (λ (n : Notes). n.gave) made.notes;
+      turn = ap (λ (n : Notes). n.turn) made.notes;
+      ack = subst (λ (a : After (Result Taken TakeRefused)). IfOk a.answer (λ (x : Taken). x.ack ≡ ack_of set)) (sym made.made) (take_acks made.service set i);
+    }
+taken_so name before now had have set i (Err why) made =
+    record { noted = ap (λ (n : Notes). n.gave) made.notes; turn = ap (λ (n : Notes). n.turn) made.notes; ack = tt }
+
+-- ---- an answer
+
+module _ (s : Kept) (a : AnswerMessage) where
+  -- where it was heard, it is confirmed
+  abbrev Confirms : After (Result Heard AnswerRefused) → Type 0
+  Confirms x = IfOk x.answer (λ (h : Heard). h.confirm ≡ confirm_of a)
+
+  module _ (r : Register) where
+    new_confirms : (b : Bool) → Confirms (if b then hear_denied s a r else hear_allowed s a r)
+    new_confirms true = tt
+    new_confirms false = refl
+
+    newer_confirms : (b : Bool) → Confirms (if b then hear_new s a r else after (noted (confirmed_row a ∷ []) s) (Ok (heard a None)))
+    newer_confirms true = new_confirms (is_denied (hear_decision s a r))
+    newer_confirms false = refl
+
+    other_confirms : (b : Bool)
+        → Confirms (if b then after s (Err (Unknown a.number)) else (if is_newer r.answer a.answer_version then hear_new s a r else after (noted (confirmed_row a ∷ []) s) (Ok (heard a None))))
+    other_confirms true = tt
+    other_confirms false = newer_confirms (is_newer r.answer a.answer_version)
+
+  where_confirms : (o : Option Register) → Confirms (answer_taken_where s a o)
+  where_confirms None = tt
+  where_confirms (Some r) = other_confirms r (not (same_text r.dest a.callee))
+
+  hear_confirms : Confirms (take_answer_event s a)
+  hear_confirms = where_confirms (register a.number s.registers)
+
+-- what a worker was told at its node of an answer
+pub heard_so : (name : List ℕ) (before now : Notes) (had have : List Receipt) (a : AnswerMessage) (heard : Result Heard AnswerRefused)
+    → Made name before now had have (events.TakeAnswer a) (done.TakeAnswer heard) → IsHeardSo a now heard
+heard_so name before now had have a (Ok h) made =
+    record {
+      noted = ap (λ (n : Notes). n.gave) made.notes;
+      turn = ap (λ (n : Notes). n.turn) made.notes;
+      confirm = subst (λ (x : After (Result Heard AnswerRefused)). IfOk x.answer (λ (y : Heard). y.confirm ≡ confirm_of a)) (sym made.made) (hear_confirms made.service a);
+    }
+heard_so name before now had have a (Err why) made =
+    record { noted = ap (λ (n : Notes). n.gave) made.notes; turn = ap (λ (n : Notes). n.turn) made.notes; confirm = tt }

@@ -1,0 +1,15 @@
+use Rattle.std.proofs.Common.{subst}
+use Rattle.node_core.specs.declared.asking.NodeDone.{NodeDone}
+use Rattle.node_core.specs.declared.asking.NodeEvent.TheVariants as events
+use Rattle.node_workers.proofs.MessageLemmas.{taken_so}
+use Rattle.node_workers.specs.Turns.{Made}
+use Rattle.node_workers.proofs.messages.take.Goals as goal
+
+pub returns-clause-taken : goal.returns-clause-taken
+returns-clause-taken g c =
+    let name = c.args.desk.now.setup.now.setting.me in
+    let before = c.args.pass.now in
+    let now = c.ask.new.pass in
+    let made = subst (λ (d : NodeDone). Made name before.notes now.notes before.receipts.items now.receipts.items (events.Take c.args.set c.args.inputs) d)
+    c.in-Take.is c.in_ok-taken.ensures.made in
+    taken_so name before.notes now.notes before.receipts.items now.receipts.items c.args.set c.args.inputs c.in-Take.taken made

@@ -1,0 +1,15 @@
+use Rattle.std.proofs.Common.{subst}
+use Rattle.node_core.specs.declared.asking.NodeDone.{NodeDone}
+use Rattle.node_core.specs.declared.asking.NodeEvent.TheVariants as events
+use Rattle.node_workers.proofs.MessageLemmas.{heard_so}
+use Rattle.node_workers.specs.Turns.{Made}
+use Rattle.node_workers.proofs.messages.take_answer.Goals as goal
+
+pub returns-clause-heard : goal.returns-clause-heard
+returns-clause-heard g c =
+    let name = c.args.desk.now.setup.now.setting.me in
+    let before = c.args.pass.now in
+    let now = c.ask.new.pass in
+    let made = subst (λ (d : NodeDone). Made name before.notes now.notes before.receipts.items now.receipts.items (events.TakeAnswer c.args.answer) d)
+    c.in-TakeAnswer.is c.in_ok-heard.ensures.made in
+    heard_so name before.notes now.notes before.receipts.items now.receipts.items c.args.answer c.in-TakeAnswer.heard made

@@ -1,0 +1,79 @@
+use Rattle.std.proofs.Common.{◌∙◌, ap, refl, sym}
+use Rattle.io_edge.specs.Edge.{Reads}
+use Rattle.node_workers.proofs.CallLemmas.{counts_none}
+use Rattle.node_workers.proofs.ServeLemmas.{fault_counted, refused_well, served_to}
+use Rattle.node_workers.specs.Desks.{at_desk}
+use Rattle.node_workers.proofs.serve.serve_one.Goals as goal
+
+pub returns-in-Err-clause-served : goal.returns-in-Err-clause-served
+returns-in-Err-clause-served g c =
+    let e = at_desk c.args.desk.now in
+    let law = g.met.C.Connection.write_keeps in
+    let mid = c.hear_on.new.conn in
+    let end = c.serve_unheard.new.conn in
+    let notes = c.args.pass.now.notes in
+    let receipts = c.args.pass.now.receipts.items in
+    let answer = c.serve_unheard.result in
+    served_to e c.args.inputs (g.C.Source.reads c.args.conn.now) (g.C.Source.reads mid) (g.C.Source.reads end) (g.C.Sink.writes c.args.conn.now) (g.C.Sink.writes mid)
+    (g.C.Sink.writes end) notes receipts receipts answer (sym (law end) ∙ (c.serve_unheard.ensures.beside ∙ law mid)) c.hear_on.ensures.writes
+    (refused_well e c.args.inputs (g.C.Source.reads c.args.conn.now) (g.C.Source.reads mid) (g.C.Sink.writes mid) (g.C.Sink.writes end) notes receipts receipts c.in-Err.why
+    answer c.in-Err.ensures.heard c.in-Err.ensures.fault refl c.serve_unheard.ensures.served)
+
+pub returns-in-Err-clause-calls : goal.returns-in-Err-clause-calls
+returns-in-Err-clause-calls g c =
+    let notes = c.args.pass.now.notes in
+    let exchanges = g.L.Link.exchanges c.args.link.now in
+    counts_none (at_desk c.args.desk.now) notes notes exchanges exchanges refl refl refl
+
+pub returns-in-Err-clause-fault : goal.returns-in-Err-clause-fault
+returns-in-Err-clause-fault g c =
+    let e = at_desk c.args.desk.now in
+    let law = g.met.C.Connection.write_keeps in
+    let mid = c.hear_on.new.conn in
+    let end = c.serve_unheard.new.conn in
+    let notes = c.args.pass.now.notes in
+    let receipts = c.args.pass.now.receipts.items in
+    let answer = c.serve_unheard.result in
+    fault_counted e c.args.inputs (g.C.Source.reads c.args.conn.now) (g.C.Source.reads end) (g.C.Sink.writes c.args.conn.now) (g.C.Sink.writes end) notes receipts receipts answer
+    (served_to e c.args.inputs (g.C.Source.reads c.args.conn.now) (g.C.Source.reads mid) (g.C.Source.reads end) (g.C.Sink.writes c.args.conn.now) (g.C.Sink.writes mid)
+    (g.C.Sink.writes end) notes receipts receipts answer (sym (law end) ∙ (c.serve_unheard.ensures.beside ∙ law mid)) c.hear_on.ensures.writes
+    (refused_well e c.args.inputs (g.C.Source.reads c.args.conn.now) (g.C.Source.reads mid) (g.C.Sink.writes mid) (g.C.Sink.writes end) notes receipts receipts c.in-Err.why
+    answer c.in-Err.ensures.heard c.in-Err.ensures.fault refl c.serve_unheard.ensures.served))
+
+pub returns-in-Err-clause-whole : goal.returns-in-Err-clause-whole
+returns-in-Err-clause-whole g c =
+    let law = g.met.C.Connection.write_keeps in
+    let mid = c.hear_on.new.conn in
+    let end = c.serve_unheard.new.conn in
+    ap (λ (r : Reads). r.whole) (sym (law end) ∙ (c.serve_unheard.ensures.beside ∙ law mid)) ∙ c.hear_on.ensures.whole
+
+pub returns-in-Ok-clause-served : goal.returns-in-Ok-clause-served
+returns-in-Ok-clause-served g c =
+    let law = g.met.C.Connection.write_keeps in
+    let mid = c.hear_on.new.conn in
+    let end = c.serve.new.conn in
+    served_to (at_desk c.args.desk.now) c.args.inputs (g.C.Source.reads c.args.conn.now) (g.C.Source.reads mid) (g.C.Source.reads end) (g.C.Sink.writes c.args.conn.now)
+    (g.C.Sink.writes mid) (g.C.Sink.writes end) c.serve.new.pass.notes c.args.pass.now.receipts.items c.serve.new.pass.receipts.items c.serve.result
+    (sym (law end) ∙ (c.serve.ensures.beside ∙ law mid)) c.hear_on.ensures.writes
+    (c.serve.ensures.served (g.C.Source.reads c.args.conn.now) (c.in-Ok.ensures.heard, c.in-Ok.ensures.alone))
+
+pub returns-in-Ok-clause-fault : goal.returns-in-Ok-clause-fault
+returns-in-Ok-clause-fault g c =
+    let e = at_desk c.args.desk.now in
+    let law = g.met.C.Connection.write_keeps in
+    let mid = c.hear_on.new.conn in
+    let end = c.serve.new.conn in
+    let notes = c.serve.new.pass.notes in
+    let had = c.args.pass.now.receipts.items in
+    let have = c.serve.new.pass.receipts.items in
+    fault_counted e c.args.inputs (g.C.Source.reads c.args.conn.now) (g.C.Source.reads end) (g.C.Sink.writes c.args.conn.now) (g.C.Sink.writes end) notes had have c.serve.result
+    (served_to e c.args.inputs (g.C.Source.reads c.args.conn.now) (g.C.Source.reads mid) (g.C.Source.reads end) (g.C.Sink.writes c.args.conn.now) (g.C.Sink.writes mid)
+    (g.C.Sink.writes end) notes had have c.serve.result (sym (law end) ∙ (c.serve.ensures.beside ∙ law mid)) c.hear_on.ensures.writes
+    (c.serve.ensures.served (g.C.Source.reads c.args.conn.now) (c.in-Ok.ensures.heard, c.in-Ok.ensures.alone)))
+
+pub returns-in-Ok-clause-whole : goal.returns-in-Ok-clause-whole
+returns-in-Ok-clause-whole g c =
+    let law = g.met.C.Connection.write_keeps in
+    let mid = c.hear_on.new.conn in
+    let end = c.serve.new.conn in
+    ap (λ (r : Reads). r.whole) (sym (law end) ∙ (c.serve.ensures.beside ∙ law mid)) ∙ c.hear_on.ensures.whole

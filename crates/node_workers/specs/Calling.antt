@@ -1,0 +1,173 @@
+-- The calls that a worker makes to peers for a live request.
+use Rattle.std.specs.Prelude.{ℕ, ◌≡◌, ◌≤◌, ◌<◌, ◌+◌, ◌^◌, ◌++◌, ◌⊎◌, ◌&&◌, Bool, true, false, List, [], ◌∷◌, Option, Some, None, Result, Ok, Err, All, nat_eq}
+use Rattle.std.specs.Option.{ForSome}
+use Rattle.lang_base.specs.declared.memory.NoMemory.{NoMemory as LacksMemory}
+use Rattle.repair_messages.specs.declared.messages.AnswerMessage.{AnswerMessage}
+use Rattle.repair_messages.specs.declared.messages.SetMessage.{SetMessage}
+use Rattle.call_registers.specs.declared.register.Why.{Why}
+use Rattle.call_registers.specs.declared.register.Why.TheVariants as whys
+use Rattle.service_core.specs.Failures.{IsFailure as CallFails}
+use Rattle.io_edge.specs.Edge.{Rose}
+use Rattle.io_links.specs.Exchanges.{Exchanges, IsFailure}
+use Rattle.io_links.specs.declared.links.Exchange.{Exchange}
+use Rattle.io_links.specs.declared.links.Exchange.TheVariants as answers
+use Rattle.io_links.specs.declared.links.Exchanged.{Exchanged}
+use Rattle.http_front.specs.declared.message.FrontRefused.{FrontRefused}
+use Rattle.wire_fields.specs.Named.{value_of}
+use Rattle.wire_fields.specs.declared.refused.WireRefused.{WireRefused}
+use Rattle.wire_replies.specs.declared.kinds.Asking.TheVariants as asked
+use Rattle.wire_replies.specs.declared.replies.Outgoing.{Outgoing}
+use Rattle.wire_replies.specs.declared.replies.Outgoing.TheVariants as replies
+use Rattle.wire_bytes.specs.Hearing.{IsReplied}
+use Rattle.wire_bytes.specs.Sending.{SendsCall}
+use Rattle.wire_bytes.specs.declared.hearing.Replied.{Replied}
+use Rattle.node_core.specs.declared.notes.Notes.{Notes}
+use Rattle.node_workers.specs.Desks.{Endpoint}
+
+-- ---- how many
+
+-- so many of the list are so, or more
+abbrev pub AtLeast : {X : Type 0} → (X → Type 0) → ℕ → List X → Type 0
+AtLeast P n [] = n ≡ 0
+AtLeast P n (x ∷ xs) = AtLeast P n xs ⊎ ((m : ℕ) × (n ≡ m + 1) × P x × AtLeast P m xs)
+
+-- ---- one exchange
+
+-- in this exchange the call was sent to its callee, which has this secret
+pub record CallSent (e : Endpoint) (set : SetMessage) (secret : List ℕ) (x : Exchanged) : Type 0 where
+  pub door : value_of set.dest e.doors ≡ Some x.address
+  pub peer : value_of set.dest e.secrets ≡ Some secret
+  pub sends : SendsCall e.me set.dest x.address e.door e.secret set x.bytes
+
+-- a call of this service to a peer
+pub record IsCall (e : Endpoint) (x : Exchanged) : Type 0 where
+  pub set : SetMessage
+  pub secret : List ℕ
+  pub sent : CallSent e set secret x
+
+-- its exchange failed
+abbrev pub IsLost : Exchanged → Type 0
+IsLost x = IsFailure x.answer
+
+-- the answer is one of version 1 to the call
+abbrev pub is_answer_to : SetMessage → AnswerMessage → Bool
+is_answer_to set a = nat_eq a.number set.number && nat_eq a.version 1
+
+abbrev pub is_answer_if : SetMessage → Option AnswerMessage → Bool
+is_answer_if set None = false
+is_answer_if set (Some a) = is_answer_to set a
+
+abbrev pub replies_so : SetMessage → Outgoing → Bool
+replies_so set (replies.Answered id answer response) = is_answer_if set answer
+replies_so set (replies.Ack ack) = false
+replies_so set (replies.Confirm confirm) = false
+replies_so set (replies.Refused word number) = false
+
+abbrev pub answers_in : SetMessage → Result Outgoing WireRefused → Bool
+answers_in set (Ok reply) = replies_so set reply
+answers_in set (Err why) = false
+
+-- the response is such an answer
+abbrev pub answers_call : SetMessage → Result Replied FrontRefused → Bool
+answers_call set (Ok replied) = answers_in set replied.reply
+answers_call set (Err why) = false
+
+-- the bytes of this reply spell no answer of version 1 to the call
+abbrev pub SpellsNoAnswer : Endpoint → SetMessage → List ℕ → List ℕ → Type 0
+SpellsNoAnswer e set secret bytes =
+    (read : Result Replied FrontRefused) × (left : List ℕ) × IsReplied e.me set.dest secret asked.Call bytes read left × (answers_call set read ≡ false)
+
+-- a call, and its reply isn't an answer of version 1 to it
+pub record IsRefused (e : Endpoint) (x : Exchanged) : Type 0 where
+  pub set : SetMessage
+  pub secret : List ℕ
+  pub sent : CallSent e set secret x
+  pub bytes : List ℕ
+  pub reply : x.answer ≡ answers.Reply bytes
+  pub no : SpellsNoAnswer e set secret bytes
+
+-- ---- the exchanges of a worker
+
+-- calls to peers, of which so many were lost, or more, and so many were refused, or more
+pub record AreCalls (e : Endpoint) (lost refused : ℕ) (made : List Exchanged) : Type 0 where
+  pub calls : All (IsCall e) made
+  pub lost_so : AtLeast IsLost lost made
+  pub refused_so : AtLeast (IsRefused e) refused made
+
+-- where the link tells its exchanges, such calls were made
+abbrev pub CallsMade : Endpoint → ℕ → ℕ → Exchanges → Exchanges → Type 0
+CallsMade e lost refused before now =
+    ForSome before.made (λ all. (made : List Exchanged) × (now.made ≡ Some (all ++ made)) × AreCalls e lost refused made)
+
+-- What a worker counts as lost and as refused rests on exchanges: each of them was a call of its service to a peer. As lost it counted no more
+-- calls than had exchanges that failed, and none unless the link's count of faults rose; as refused no more than had replies that are no
+-- answers of version 1 to them.
+pub record CountsCalls (e : Endpoint) (before now : Notes) (had have : Exchanges) : Type 0 where
+  pub lost : ℕ
+  pub refused : ℕ
+  pub lost_at_most : now.lost ≤ before.lost + lost
+  pub refused_at_most : now.refused ≤ before.refused + refused
+  pub calls : CallsMade e lost refused had have
+  pub rose : before.lost < now.lost → Rose had.faults have.faults
+  pub counted : had.faults ≤ have.faults
+
+-- ---- one call
+
+abbrev pub one_if_lost : Why → ℕ
+one_if_lost (whys.Lost note) = 1
+one_if_lost (whys.Refused word number) = 0
+one_if_lost whys.Changes = 0
+
+abbrev pub one_if_refused : Why → ℕ
+one_if_refused (whys.Lost note) = 0
+one_if_refused (whys.Refused word number) = 1
+one_if_refused whys.Changes = 0
+
+abbrev pub lost_in : Result AnswerMessage Why → ℕ
+lost_in (Ok answer) = 0
+lost_in (Err why) = one_if_lost why
+
+abbrev pub refused_in : Result AnswerMessage Why → ℕ
+refused_in (Ok answer) = 0
+refused_in (Err why) = one_if_refused why
+
+-- how many calls were lost, and refused, by what came of one
+abbrev pub lost_by_one : Result (Result AnswerMessage Why) LacksMemory → ℕ
+lost_by_one (Ok came) = lost_in came
+lost_by_one (Err why) = 0
+
+abbrev pub refused_by_one : Result (Result AnswerMessage Why) LacksMemory → ℕ
+refused_by_one (Ok came) = refused_in came
+refused_by_one (Err why) = 0
+
+-- the call failed for a reason that an exchange can have
+abbrev pub FailedSo : Endpoint → SetMessage → List ℕ → Exchange → Why → Type 0
+FailedSo e set secret (answers.Reply bytes) (whys.Refused word number) = SpellsNoAnswer e set secret bytes
+FailedSo e set secret (answers.Failed note) (whys.Lost fault) = fault ≡ note
+FailedSo e set secret answer why = ⊥
+
+-- it was refused
+abbrev pub IsRefusal : Why → Type 0
+IsRefusal (whys.Refused word number) = Unit {0}
+IsRefusal why = ⊥
+
+-- what a response that may answer the call comes to: an answer of version 1, or else a refusal
+abbrev pub IsReadAs : SetMessage → Bool → Result AnswerMessage Why → Type 0
+IsReadAs set answers (Ok came) = is_answer_to set came ≡ true
+IsReadAs set answers (Err why) = (answers ≡ false) × IsRefusal why
+
+-- where it failed, it was lost or refused
+abbrev pub FailsOnly : Result AnswerMessage Why → Type 0
+FailsOnly (Ok came) = Unit {0}
+FailsOnly (Err why) = CallFails why
+
+-- the exchange failed, and its note says that the link's count rose, unless that stood at its end
+abbrev pub NotesRise : Exchange → Type 0
+NotesRise (answers.Reply bytes) = ⊥
+NotesRise answers.NoMemory = ⊥
+NotesRise (answers.Failed note) = note.before + 1 < 2 ^ 64 → note.before < note.after
+
+-- what came of an exchange with this answer
+abbrev pub CameOf : Endpoint → SetMessage → List ℕ → Exchange → Result AnswerMessage Why → Type 0
+CameOf e set secret answer (Ok came) = is_answer_to set came ≡ true
+CameOf e set secret answer (Err why) = FailedSo e set secret answer why

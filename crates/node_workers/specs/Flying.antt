@@ -1,0 +1,147 @@
+-- A live request from its arrival to its end.
+use Rattle.std.specs.Prelude.{ℕ, ◌≡◌, ◌≤◌, ◌+◌, ◌⊎◌, List, Option, Some, None, Result, Ok, Err}
+use Rattle.lang_base.specs.declared.memory.NoMemory.{NoMemory as LacksMemory}
+use Rattle.lang_core.specs.declared.ids.Origin.{Origin}
+use Rattle.lang_core.specs.declared.ids.Origin.TheVariants.{Outside, Call}
+use Rattle.lang_core.specs.declared.inputs.Inputs.{Inputs}
+use Rattle.lang_core.specs.declared.request.Request.{Request}
+use Rattle.repair_messages.specs.declared.messages.AnswerMessage.{AnswerMessage}
+use Rattle.repair_messages.specs.declared.messages.SetMessage.{SetMessage}
+use Rattle.call_registers.specs.declared.register.Why.{Why}
+use Rattle.service_events.specs.declared.answers.Arrived.{Arrived}
+use Rattle.service_events.specs.declared.answers.Arrived.TheVariants as arrived
+use Rattle.service_events.specs.declared.refusals.ArriveRefused.{ArriveRefused}
+use Rattle.service_events.specs.declared.refusals.ArriveRefused.TheVariants as refusals
+use Rattle.node_core.specs.Doings.{IsOpen}
+use Rattle.node_core.specs.Notes.{arrive_turn}
+use Rattle.node_core.specs.declared.asking.NodeDone.{NodeDone}
+use Rattle.node_core.specs.declared.asking.NodeDone.TheVariants as done
+use Rattle.node_core.specs.declared.asking.NodeEvent.{NodeEvent}
+use Rattle.node_core.specs.declared.asking.NodeEvent.TheVariants as events
+use Rattle.node_core.specs.declared.notes.Begun.{Begun}
+use Rattle.node_core.specs.declared.notes.Notes.{Notes}
+use Rattle.node_core.specs.declared.notes.Turn.TheVariants as turns
+use Rattle.node_core.specs.declared.receipt.Receipt.{Receipt}
+use Rattle.node_workers.specs.Desks.{Endpoint}
+use Rattle.node_workers.specs.Serving.{OneReceipt}
+use Rattle.node_workers.specs.declared.flying.Went.{Went}
+use Rattle.node_workers.specs.declared.flying.Went.TheVariants as went
+use Rattle.node_workers.specs.declared.live.Ending.{Ending}
+use Rattle.node_workers.specs.declared.live.Ending.TheVariants as ends
+use Rattle.node_workers.specs.declared.live.Began.{Began}
+use Rattle.node_workers.specs.declared.live.Began.TheVariants as begins
+
+-- ---- the open flight
+
+-- it is of this request, and waits for this call
+pub record IsWaiting (e : Endpoint) (origin : Origin) (request : Request) (i : Inputs) (begun : Option Begun) (flight : ℕ) (set : SetMessage) : Type 0 where
+  pub waiting : Begun
+  pub is : begun ≡ Some waiting
+  pub flight_so : waiting.flight ≡ flight
+  pub number : waiting.number ≡ set.number
+  pub of : waiting.origin ≡ origin
+  pub asked : waiting.request ≡ request
+  pub inputs : waiting.inputs ≡ i
+  pub from : set.caller ≡ e.me
+
+-- what the service answered when it was told what came of a call
+abbrev pub went_by : {E : Type 0} → Result Arrived E → Went
+went_by (Ok (arrived.Done index id answer)) = went.Committed index
+went_by (Ok (arrived.Call flight set)) = went.Call flight set
+went_by result = went.NoMemory
+
+abbrev pub went_with : NodeDone → Went
+went_with (done.CallAnswered result) = went_by result
+went_with (done.CallFailed result) = went_by result
+went_with done.Gone = went.Gone
+went_with other = went.NoMemory
+
+abbrev pub went_of : Result NodeDone LacksMemory → Went
+went_of (Ok answer) = went_with answer
+went_of (Err why) = went.NoMemory
+
+-- the event that ends a call, by what came of it
+abbrev pub end_of_call : ℕ → ℕ → Result AnswerMessage Why → NodeEvent
+end_of_call flight number (Ok answer) = events.CallAnswered flight answer
+end_of_call flight number (Err why) = events.CallFailed flight number why
+
+-- no more is counted as lost and as refused than this
+pub record NotesAtMost (before now : Notes) (lost refused : ℕ) : Type 0 where
+  pub lost_at_most : now.lost ≤ before.lost + lost
+  pub refused_at_most : now.refused ≤ before.refused + refused
+
+-- nothing but the open flight, which is none, and how the last event was turned away
+pub record IsGivenUp (before now : Notes) : Type 0 where
+  pub closed : now.begun ≡ None
+  pub lost : now.lost ≡ before.lost
+  pub refused : now.refused ≡ before.refused
+
+-- how the flight of this number went on
+abbrev pub GoesOn : Endpoint → Origin → Request → Inputs → ℕ → Notes → List Receipt → List Receipt → Went → Type 0
+GoesOn e o q i flight now had have (went.Committed index) = (now.begun ≡ None) × OneReceipt o q i index had have
+GoesOn e o q i flight now had have (went.Call next set) = IsWaiting e o q i now.begun next set × (have ≡ had)
+GoesOn e o q i flight now had have went.Gone = (now.begun ≡ None) × (now.turn ≡ Some turns.Gone) × (have ≡ had)
+GoesOn e o q i flight now had have went.NoMemory = IsOpen flight now.begun × (have ≡ had)
+
+-- ---- the end
+
+-- the caller of a call
+abbrev pub IsCaller : List ℕ → Origin → Type 0
+IsCaller name Outside = ⊥
+IsCaller name (Call caller number) = name ≡ caller
+
+-- the notes have this answer to the arrival
+abbrev pub IsNoted : Origin → Request → Inputs → Notes → NodeDone → Type 0
+IsNoted o q i now answer = now.gave ≡ Some (record { asked = events.Arrive o q i; done = answer })
+
+-- where it wasn't refused, this holds of what it was answered
+abbrev pub IfAccepted : {E : Type 0} → (Arrived → Type 0) → Result Arrived E → Type 0
+IfAccepted P (Ok a) = P a
+IfAccepted P (Err why) = Unit {0}
+
+-- a call that is sent is the service's own; a flight that goes on isn't known
+abbrev pub SentBy : List ℕ → Arrived → Type 0
+SentBy name (arrived.Done index id answer) = Unit {0}
+SentBy name (arrived.Call flight set) = set.caller ≡ name
+SentBy name (arrived.Known a) = ⊥
+
+-- likewise at an arrival, where an answer that is known is the service's to the caller
+abbrev pub ArrivesAs : List ℕ → Origin → Arrived → Type 0
+ArrivesAs name o (arrived.Done index id answer) = Unit {0}
+ArrivesAs name o (arrived.Call flight set) = set.caller ≡ name
+ArrivesAs name o (arrived.Known a) = (a.callee ≡ name) × IsCaller a.caller o
+
+-- a request from outside is refused for what there is too much of, or for memory
+abbrev pub RefusesAs : Origin → ArriveRefused → Type 0
+RefusesAs Outside why = ((n : ℕ) × (why ≡ refusals.Full n)) ⊎ (why ≡ refusals.NoMemory)
+RefusesAs (Call caller number) why = Unit {0}
+
+-- how a live request ended
+abbrev pub EndsSo : Endpoint → Origin → Request → Inputs → Notes → List Receipt → List Receipt → Ending → Type 0
+EndsSo e o q i now had have (ends.Committed index) = OneReceipt o q i index had have
+EndsSo e o q i now had have (ends.Known a) =
+    IsNoted o q i now (done.Arrive (Ok (arrived.Known a))) × (a.callee ≡ e.me) × IsCaller a.caller o × (have ≡ had)
+EndsSo e o q i now had have (ends.Refused why) =
+    IsNoted o q i now (done.Arrive (Err why)) × (now.turn ≡ Some (arrive_turn why)) × RefusesAs o why × (have ≡ had)
+EndsSo e o q i now had have ends.Gone = (now.turn ≡ Some turns.Gone) × (have ≡ had)
+EndsSo e o q i now had have ends.NoMemory = have ≡ had
+
+-- what an arrival was answered
+abbrev pub began_by : Result Arrived ArriveRefused → Began
+began_by (Ok (arrived.Done index id answer)) = begins.Ended (ends.Committed index)
+began_by (Ok (arrived.Call flight set)) = begins.Call flight set
+began_by (Ok (arrived.Known a)) = begins.Ended (ends.Known a)
+began_by (Err why) = begins.Ended (ends.Refused why)
+
+abbrev pub began_with : NodeDone → Began
+began_with (done.Arrive result) = began_by result
+began_with other = begins.Ended ends.NoMemory
+
+abbrev pub began_of : Result NodeDone LacksMemory → Began
+began_of (Ok answer) = began_with answer
+began_of (Err why) = begins.Ended ends.NoMemory
+
+-- it has ended so, or waits for this call
+abbrev pub BeginsSo : Endpoint → Origin → Request → Inputs → Notes → List Receipt → List Receipt → Began → Type 0
+BeginsSo e o q i now had have (begins.Ended ending) = EndsSo e o q i now had have ending × (now.begun ≡ None)
+BeginsSo e o q i now had have (begins.Call flight set) = IsWaiting e o q i now.begun flight set × (have ≡ had)

@@ -1,0 +1,240 @@
+-- One connection served.
+use Rattle.std.specs.Prelude.{ℕ, ◌≡◌, ◌++◌, ◌∷◌, ◌⊎◌, List, [], Option, Some, None, Result, Ok, Err, codes}
+use Rattle.std.specs.Option.{ForSome}
+use Rattle.lang_core.specs.declared.ids.Origin.{Origin}
+use Rattle.lang_core.specs.declared.ids.Origin.TheVariants as origins
+use Rattle.lang_core.specs.declared.inputs.Inputs.{Inputs}
+use Rattle.lang_core.specs.declared.request.Request.{Request}
+use Rattle.repair_messages.specs.declared.messages.AnswerMessage.{AnswerMessage}
+use Rattle.journal_rows.specs.declared.callee.AnsweredRow.{AnsweredRow}
+use Rattle.journal_rows.specs.declared.row.Row.TheVariants as rows
+use Rattle.service_events.specs.declared.answers.Arrived.{Arrived}
+use Rattle.service_events.specs.declared.answers.Arrived.TheVariants as arrived
+use Rattle.service_events.specs.declared.answers.Heard.{Heard}
+use Rattle.service_events.specs.declared.answers.Taken.{Taken}
+use Rattle.io_edge.specs.Edge.{Reads, ReadFails, Writes, Wrote, WroteShort, WriteFails}
+use Rattle.http_front.specs.Writing.{response_bytes}
+use Rattle.http_front.specs.declared.message.FrontRefused.{FrontRefused}
+use Rattle.http_front.specs.declared.message.FrontRefused.TheVariants as front
+use Rattle.http_front.specs.declared.message.WireResponse.{WireResponse}
+use Rattle.wire_fields.specs.declared.console.ConsoleWord.{ConsoleWord}
+use Rattle.wire_fields.specs.declared.console.ConsoleWord.TheVariants as console
+use Rattle.wire_replies.specs.Writing.{written}
+use Rattle.wire_replies.specs.declared.replies.Outgoing.{Outgoing}
+use Rattle.wire_replies.specs.declared.replies.Outgoing.TheVariants as replies
+use Rattle.wire_words.specs.Words.{front_word, wire_word}
+use Rattle.aire_wire.specs.declared.incoming.Incoming.{Incoming}
+use Rattle.aire_wire.specs.declared.incoming.Incoming.TheVariants as said
+use Rattle.wire_bytes.specs.Hearing.{IsHeardFrom, TakenSays}
+use Rattle.wire_bytes.specs.declared.hearing.Unheard.TheVariants as unheard
+use Rattle.node_core.specs.declared.asking.NodeDone.{NodeDone}
+use Rattle.node_core.specs.declared.asking.NodeDone.TheVariants as done
+use Rattle.node_core.specs.declared.asking.NodeEvent.{NodeEvent}
+use Rattle.node_core.specs.declared.asking.NodeEvent.TheVariants as events
+use Rattle.node_core.specs.declared.notes.Gave.{Gave}
+use Rattle.node_core.specs.declared.notes.Notes.{Notes}
+use Rattle.node_core.specs.declared.notes.Turn.{Turn}
+use Rattle.node_core.specs.declared.notes.Turn.TheVariants as turns
+use Rattle.node_core.specs.declared.notes.TurnWord.{TurnWord}
+use Rattle.node_core.specs.declared.notes.TurnWord.TheVariants as words
+use Rattle.node_core.specs.declared.receipt.Receipt.{Receipt}
+use Rattle.node_workers.specs.Desks.{Endpoint}
+use Rattle.node_workers.specs.declared.served.Served.{Served}
+use Rattle.node_workers.specs.declared.served.Served.TheVariants as served
+
+-- ---- the message read
+
+-- what was taken from the connection says this to the service
+abbrev pub Hears : Endpoint → Reads → Reads → Incoming → Type 0
+Hears e before now message =
+    IsHeardFrom e.me e.secrets e.console before now (Ok message) × TakenSays e.me e.secrets e.console before now message
+
+-- the service that sent it, where one did
+abbrev pub sender : Incoming → Option (List ℕ)
+sender (said.Outside q) = None
+sender (said.Live set) = Some set.caller
+sender (said.Set set) = Some set.caller
+sender (said.Answer a) = Some a.callee
+sender (said.Console asked) = None
+
+-- it is a live request, of this origin
+abbrev pub IsLiveRequest : Incoming → Origin → Request → Type 0
+IsLiveRequest (said.Outside q) origin request = (origin ≡ origins.Outside) × (request ≡ q)
+IsLiveRequest (said.Live set) origin request = (origin ≡ origins.Call set.caller set.number) × (set.desired ≡ Some request)
+IsLiveRequest message origin request = ⊥
+
+-- the event that it asks for: its arrival, or that it is taken
+abbrev pub AsksFor : Incoming → Inputs → NodeEvent → Type 0
+AsksFor message i (events.Arrive origin request inputs) = IsLiveRequest message origin request × (inputs ≡ i)
+AsksFor (said.Set set) i (events.Take taken inputs) = (taken ≡ set) × (inputs ≡ i)
+AsksFor (said.Answer a) i (events.TakeAnswer taken) = taken ≡ a
+AsksFor message i event = ⊥
+
+-- ---- what it is answered
+
+-- the receipt of a request of this origin, whose answer stands at this index
+pub record IsReceiptFor (origin : Origin) (request : Request) (i : Inputs) (index : ℕ) (r : Receipt) : Type 0 where
+  pub answer : AnsweredRow
+  pub row : r.row ≡ rows.Answered answer
+  pub of : answer.origin ≡ origin
+  pub asked : r.request ≡ request
+  pub inputs : r.inputs ≡ i
+  pub at : r.index ≡ index
+
+-- one receipt more, which is that
+pub record OneReceipt (origin : Origin) (request : Request) (i : Inputs) (index : ℕ) (had have : List Receipt) : Type 0 where
+  pub receipt : Receipt
+  pub last : have ≡ had ++ receipt ∷ []
+  pub of : IsReceiptFor origin request i index receipt
+
+-- the message is a live request that was committed: one receipt more, of it, whose reply these bytes are
+pub record Commits (e : Endpoint) (i : Inputs) (before now : Reads) (had have : List Receipt) (index : ℕ) (bytes : List ℕ) : Type 0 where
+  pub message : Incoming
+  pub heard : Hears e before now message
+  pub origin : Origin
+  pub request : Request
+  pub is : IsLiveRequest message origin request
+  pub one : OneReceipt origin request i index had have
+  pub reply : bytes ≡ one.receipt.reply
+
+-- the word of a refusal; NoFlight and Foreign are told to no client
+abbrev pub word_of : TurnWord → List ℕ
+word_of words.NoMemory = codes "nomemory"
+word_of words.Full = codes "full"
+word_of words.NotYet = codes "notyet"
+word_of words.Gone = codes "gone"
+word_of words.NoFlight = codes "noflight"
+word_of words.Denied = codes "denied"
+word_of words.Unknown = codes "unknown"
+word_of words.Foreign = codes "foreign"
+word_of words.NoSuchRequest = codes "nosuchrequest"
+word_of words.NotOutside = codes "notoutside"
+word_of words.NotHeld = codes "notheld"
+
+-- the reply tells how the event was turned away
+abbrev pub TellsTurn : Turn → Outgoing → Type 0
+TellsTurn (turns.Refused word n) reply = reply ≡ replies.Refused (word_of word) n
+TellsTurn turns.Gone reply = ⊥
+
+abbrev pub known_reply : AnswerMessage → Outgoing
+known_reply a = replies.Answered (record { service = a.callee; number = a.id }) (Some a) a.response
+
+abbrev pub arrived_reply : {E : Type 0} → Result Arrived E → Option Outgoing
+arrived_reply (Ok (arrived.Known a)) = Some (known_reply a)
+arrived_reply result = None
+
+abbrev pub taken_reply : {E : Type 0} → Result Taken E → Option Outgoing
+taken_reply (Ok taken) = Some (replies.Ack taken.ack)
+taken_reply (Err why) = None
+
+abbrev pub heard_reply : {E : Type 0} → Result Heard E → Option Outgoing
+heard_reply (Ok heard) = Some (replies.Confirm heard.confirm)
+heard_reply (Err why) = None
+
+-- what an event's answer is replied as, where it refuses nothing
+abbrev pub answer_reply : NodeDone → Option Outgoing
+answer_reply (done.Arrive result) = arrived_reply result
+answer_reply (done.Take result) = taken_reply result
+answer_reply (done.TakeAnswer result) = heard_reply result
+answer_reply other = None
+
+-- who isn't a service is refused for want of room or of memory alone
+abbrev pub IsPlainly : Incoming → Outgoing → Type 0
+IsPlainly (said.Outside q) (replies.Refused word n) = (word ≡ codes "full") ⊎ (word ≡ codes "nomemory")
+IsPlainly message reply = Unit {0}
+
+-- The reply is what came of the message's own event, as the worker's notes have it: how it was turned away, or what was answered.
+pub record IsToldOf (i : Inputs) (message : Incoming) (notes : Notes) (reply : Outgoing) : Type 0 where
+  pub gave : Gave
+  pub noted : notes.gave ≡ Some gave
+  pub of : AsksFor message i gave.asked
+  pub so : ((turn : Turn) × (notes.turn ≡ Some turn) × TellsTurn turn reply) ⊎ (answer_reply gave.done ≡ Some reply)
+  pub plainly : IsPlainly message reply
+
+-- memory was wanting
+abbrev pub WantsMemory : Outgoing → Type 0
+WantsMemory reply = reply ≡ replies.Refused (codes "nomemory") 0
+
+-- the word is one that workers answer
+abbrev pub IsForWorkers : ConsoleWord → Type 0
+IsForWorkers console.Audit = Unit {0}
+IsForWorkers console.Stop = Unit {0}
+IsForWorkers word = ⊥
+
+-- an operator's word that no service answers yet is refused as if it were none
+abbrev pub IsNoWord : Incoming → Outgoing → Type 0
+IsNoWord (said.Console asked) reply = (¬ IsForWorkers asked.word) × (reply ≡ replies.Refused (codes "kind") 0)
+IsNoWord message reply = ⊥
+
+-- the response, without a commit, to the message read
+pub record Tells (e : Endpoint) (i : Inputs) (before now : Reads) (notes : Notes) (response : WireResponse) : Type 0 where
+  pub message : Incoming
+  pub heard : Hears e before now message
+  pub reply : Outgoing
+  pub spelled : response ≡ written e.me (sender message) reply e.secret
+  pub so : IsToldOf i message notes reply ⊎ (WantsMemory reply ⊎ IsNoWord message reply)
+
+-- a refusal to a client that is no service; no bytes where there is no word
+abbrev pub refusal_bytes : Option (List ℕ) → List ℕ
+refusal_bytes None = []
+refusal_bytes (Some word) = response_bytes (written [] None (replies.Refused word 0) [])
+
+-- a fault is said to be one only where the source counted it
+abbrev pub IsCounted : FrontRefused → Reads → Reads → Type 0
+IsCounted front.ReadFault before now = ReadFails before now
+IsCounted why before now = Unit {0}
+
+-- ---- a connection
+
+-- what is to be written on it, by the answer
+abbrev pub Owes : Endpoint → Inputs → Reads → Reads → Notes → List Receipt → List Receipt → Served → List ℕ → Type 0
+Owes e i before now notes had have (served.Committed index) bytes = Commits e i before now had have index bytes
+Owes e i before now notes had have (served.Said response) bytes =
+    Tells e i before now notes response × (have ≡ had) × (bytes ≡ response_bytes response)
+Owes e i before now notes had have (served.Console asked) bytes =
+    Hears e before now (said.Console asked) × IsForWorkers asked.word × (have ≡ had) × (bytes ≡ [])
+Owes e i before now notes had have (served.FrontRefused why) bytes =
+    IsHeardFrom e.me e.secrets e.console before now (Err (unheard.Front why)) × IsCounted why before now × (have ≡ had)
+    × (bytes ≡ refusal_bytes (front_word why))
+Owes e i before now notes had have (served.WireRefused why) bytes =
+    IsHeardFrom e.me e.secrets e.console before now (Err (unheard.Wire why)) × (have ≡ had) × (bytes ≡ refusal_bytes (Some (wire_word why)))
+Owes e i before now notes had have served.Gone bytes = (notes.turn ≡ Some turns.Gone) × (have ≡ had) × (bytes ≡ [])
+Owes e i before now notes had have served.WriteFault bytes = ⊥
+Owes e i before now notes had have served.NoMemory bytes = ⊥
+
+-- it was written
+pub record Serves (e : Endpoint) (i : Inputs) (before now : Reads) (written written_now : Writes) (notes : Notes) (had have : List Receipt) (answer : Served) : Type 0 where
+  pub bytes : List ℕ
+  pub owed : Owes e i before now notes had have answer bytes
+  pub wrote : Wrote written written_now bytes
+
+-- a write of it failed: a front of it was written, and not all
+pub record FallsShort (e : Endpoint) (i : Inputs) (before now : Reads) (written written_now : Writes) (notes : Notes) (had have : List Receipt) : Type 0 where
+  pub answer : Served
+  pub bytes : List ℕ
+  pub owed : Owes e i before now notes had have answer bytes
+  pub short : WroteShort written written_now bytes
+  pub fails : WriteFails written written_now
+
+-- how a connection was served, by the answer
+abbrev pub IsServed : Endpoint → Inputs → Reads → Reads → Writes → Writes → Notes → List Receipt → List Receipt → Served → Type 0
+IsServed e i before now written written_now notes had have served.WriteFault = FallsShort e i before now written written_now notes had have
+IsServed e i before now written written_now notes had have served.NoMemory = (have ≡ had) × (written_now ≡ written)
+IsServed e i before now written written_now notes had have answer = Serves e i before now written written_now notes had have answer
+
+-- ---- once the message is read, up to here
+
+-- the message, wherever it began, is served so
+abbrev pub ServesMessage : Endpoint → Inputs → Incoming → Reads → Writes → Writes → Notes → List Receipt → List Receipt → Served → Type 0
+ServesMessage e i message now written written_now notes had have answer =
+    (before : Reads) → Hears e before now message → IsServed e i before now written written_now notes had have answer
+
+-- likewise each message that is this live request
+abbrev pub ServesRequest : Endpoint → Inputs → Origin → Request → Reads → Writes → Writes → Notes → List Receipt → List Receipt → Served → Type 0
+ServesRequest e i origin request now written written_now notes had have answer =
+    (message : Incoming) → IsLiveRequest message origin request → ServesMessage e i message now written written_now notes had have answer
+
+-- the client of a request of this origin, where it is a service
+abbrev pub client : Origin → Option (List ℕ)
+client origins.Outside = None
+client (origins.Call caller number) = Some caller

@@ -1,0 +1,176 @@
+// A flight, from its first call to its end.
+ghost use Rattle.std.specs.Prelude.{◌≡◌, None, IsSomeAnd};
+ghost use Rattle.node_core.specs.Doings.{IsOpen};
+ghost use Rattle.node_workers.specs.Calling.{lost_in, refused_in, CountsCalls, FailsOnly};
+ghost use Rattle.node_workers.specs.Desks.{at_desk};
+ghost use Rattle.node_workers.specs.Flying.{end_of_call, went_by, went_of, went_with, EndsSo, GoesOn, IsGivenUp, IsWaiting, NotesAtMost};
+
+use crate::calls::call;
+use crate::desk::Desk;
+use crate::live::Ending;
+use crate::turns::ask;
+use call_registers::Why;
+use io_links::{Gate, Link};
+use lang_core::NoMemory;
+use node_core::{NodeDone, NodeEvent, Pass, event};
+use repair_messages::{AnswerMessage, SetMessage};
+use service_events::{Arrived, CallRefused};
+use std::alloc::Global;
+use std::sync::Wait;
+use std::sync::ledger::Ledger;
+
+/// How a flight goes on when its call came to an end.
+#[derive(Drop)]
+pub(crate) enum Went {
+    /// It was committed, and its answer stands at this index of the journal.
+    Committed(u64),
+    /// This call is to be sent next.
+    Call { flight: u64, set: SetMessage },
+    /// It isn't there any more.
+    Gone,
+    /// No memory for it. It waits as before.
+    NoMemory,
+}
+
+fn went_by(arrived: Result<Arrived, CallRefused>) -> Went
+    ensures { result ≡ went_by arrived }
+{
+    match arrived {
+        Ok(Arrived::Done { index, .. }) => Went::Committed(index),
+        Ok(Arrived::Call { flight, set }) => Went::Call { flight, set },
+        _ => Went::NoMemory,
+    }
+}
+
+fn went_with(done: NodeDone) -> Went
+    ensures { result ≡ went_with done }
+{
+    match done {
+        NodeDone::CallAnswered(arrived) => went_by(arrived),
+        NodeDone::CallFailed(arrived) => went_by(arrived),
+        NodeDone::Gone => Went::Gone,
+        _ => Went::NoMemory,
+    }
+}
+
+fn went_of(done: Result<NodeDone, NoMemory>) -> Went
+    ensures { result ≡ went_of done }
+{
+    match done {
+        Ok(done) => went_with(done),
+        Err(_) => Went::NoMemory,
+    }
+}
+
+fn end_of_call(flight: u64, number: u64, came: Result<AnswerMessage, Why>) -> NodeEvent
+    ensures { result ≡ end_of_call flight number came }
+{
+    match came {
+        Ok(answer) => NodeEvent::CallAnswered { flight, answer },
+        Err(why) => NodeEvent::CallFailed {
+            flight,
+            number,
+            why,
+        },
+    }
+}
+
+// The service is told what came of the call for which the flight waits.
+fn tell<R: Ledger, Q: Ledger, W: Wait>(
+    rt: &W,
+    alloc: Global,
+    desk: &Desk<R, Q>,
+    pass: &mut Pass<Q>,
+    flight: u64,
+    number: u64,
+    came: Result<AnswerMessage, Why>,
+) -> Went
+    requires open { IsSomeAnd pass.old.notes.begun (λ b. (b.flight ≡ flight) × (b.number ≡ number)) }
+    requires failure { FailsOnly came }
+    ensures went { IsSomeAnd pass.old.notes.begun (λ b.
+        GoesOn (at_desk desk.now) b.origin b.request b.inputs flight pass.new.notes pass.old.receipts.items pass.new.receipts.items result) }
+    ensures counts { NotesAtMost pass.old.notes pass.new.notes (lost_in came) (refused_in came) }
+{
+    let told = end_of_call(flight, number, came);
+    went_of(ask(rt, alloc, desk, pass, told))
+}
+
+// The call is made, and the service is told what came of it.
+fn send<R: Ledger, Q: Ledger, W: Wait, L: Link, G: Gate>(
+    rt: &W,
+    alloc: Global,
+    desk: &Desk<R, Q>,
+    pass: &mut Pass<Q>,
+    link: &mut L,
+    gate: &G,
+    flight: u64,
+    set: &SetMessage,
+) -> Went
+    requires waits { IsSomeAnd pass.old.notes.begun (λ b. IsWaiting (at_desk desk.now) b.origin b.request b.inputs pass.old.notes.begun flight set.now) }
+    ensures went { IsSomeAnd pass.old.notes.begun (λ b.
+        GoesOn (at_desk desk.now) b.origin b.request b.inputs flight pass.new.notes pass.old.receipts.items pass.new.receipts.items result) }
+    ensures counts { CountsCalls (at_desk desk.now) pass.old.notes pass.new.notes (L.exchanges link.old) (L.exchanges link.new) }
+{
+    match call(alloc, desk, set, link, gate) {
+        Ok(came) => tell(rt, alloc, desk, pass, flight, set.number, came),
+        Err(_) => Went::NoMemory,
+    }
+}
+
+// For this no memory is needed.
+fn give_up<R: Ledger, Q: Ledger, W: Wait>(
+    rt: &W,
+    alloc: Global,
+    desk: &Desk<R, Q>,
+    pass: &mut Pass<Q>,
+    flight: u64,
+)
+    requires open { IsOpen flight pass.old.notes.begun }
+    ensures up { IsGivenUp pass.old.notes pass.new.notes }
+    ensures receipts { pass.new.receipts.items ≡ pass.old.receipts.items }
+{
+    let mut state = desk.node.state.lock(rt);
+    let asked = NodeEvent::Abandon { flight };
+    let Ok(_) = event(rt, alloc, desk.tally, &mut *state, pass, asked) else {
+        unreachable!()
+    };
+}
+
+/// Makes the flight's calls, one after the other, until it ends.
+pub(crate) fn fly<R: Ledger, Q: Ledger, W: Wait, L: Link, G: Gate>(
+    rt: &W,
+    alloc: Global,
+    desk: &Desk<R, Q>,
+    pass: &mut Pass<Q>,
+    link: &mut L,
+    gate: &G,
+    flight: u64,
+    set: SetMessage,
+) -> Ending
+    requires waits { IsSomeAnd pass.old.notes.begun (λ b. IsWaiting (at_desk desk.now) b.origin b.request b.inputs pass.old.notes.begun flight set) }
+    ensures ends { IsSomeAnd pass.old.notes.begun (λ b.
+        EndsSo (at_desk desk.now) b.origin b.request b.inputs pass.new.notes pass.old.receipts.items pass.new.receipts.items result) }
+    ensures closed { pass.new.notes.begun ≡ None }
+    ensures counts { CountsCalls (at_desk desk.now) pass.old.notes pass.new.notes (L.exchanges link.old) (L.exchanges link.new) }
+{
+    let mut flight = flight;
+    let mut set = set;
+    for _ in rt.forever() {
+        match send(rt, alloc, desk, pass, link, gate, flight, &set) {
+            Went::Committed(index) => return Ending::Committed(index),
+            Went::Call {
+                flight: next,
+                set: then,
+            } => {
+                flight = next;
+                set = then;
+            }
+            Went::Gone => return Ending::Gone,
+            Went::NoMemory => {
+                give_up(rt, alloc, desk, pass, flight);
+                return Ending::NoMemory;
+            }
+        }
+    }
+    unreachable!()
+}

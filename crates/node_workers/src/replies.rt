@@ -1,0 +1,141 @@
+// What is written on a connection.
+ghost use Rattle.std.specs.Prelude.{◌≡◌, codes, IfOk, IsSome, IsSomeAnd, OnErr, OnOk, Some};
+ghost use Rattle.std.specs.Option.{option_copied};
+ghost use Rattle.io_edge.specs.Edge.{Wrote};
+ghost use Rattle.wire_replies.specs.Writing.{IsFor};
+ghost use Rattle.wire_replies.specs.declared.replies.Outgoing.TheVariants.{Refused as RefusedBy};
+ghost use Rattle.node_workers.specs.Desks.{at_desk};
+ghost use Rattle.node_workers.specs.Serving.{known_reply};
+ghost use Rattle.node_workers.specs.Written.{last_of, IsCommitWritten, IsCutShort, IsSaid, SaysIt};
+
+use crate::desk::Desk;
+use crate::served::Served;
+use http_front::{WireResponse, WriteRefused, write_response};
+use io_edge::{Connection, Failed, write_all};
+use lang_core::{Name, NoMemory, RequestId};
+use node_core::Pass;
+use repair_messages::{AnswerMessage, copied_pair};
+use std::alloc::Global;
+use std::sync::ledger::Ledger;
+use wire_replies::{Outgoing, write_reply};
+use wire_words::refusal;
+
+/// Writes these bytes.
+pub(crate) fn write_bytes<C: Connection>(conn: &mut C, bytes: &[u8]) -> Result<(), Failed>
+    ensures ok { OnOk result (Wrote (C.Sink.writes conn.old) (C.Sink.writes conn.new) bytes.now) }
+    ensures err { OnErr result (IsCutShort (C.Sink.writes conn.old) (C.Sink.writes conn.new) bytes.now) }
+    ensures beside { C.Sink.beside conn.new ≡ C.Sink.beside conn.old }
+{
+    write_all(conn, bytes)
+}
+
+fn write<C: Connection>(alloc: Global, conn: &mut C, response: WireResponse) -> Served
+    ensures written { IsSaid response (C.Sink.writes conn.old) (C.Sink.writes conn.new) result }
+    ensures beside { C.Sink.beside conn.new ≡ C.Sink.beside conn.old }
+{
+    match write_response(alloc, conn, &response) {
+        Ok(()) => Served::Said(response),
+        Err(WriteRefused::WriteFault) => Served::WriteFault,
+        Err(WriteRefused::NoMemory) => Served::NoMemory,
+    }
+}
+
+/// Says this to the client, a peer or, where it is none, another one.
+pub(crate) fn say<R: Ledger, Q: Ledger, C: Connection>(
+    alloc: Global,
+    desk: &Desk<R, Q>,
+    conn: &mut C,
+    to: Option<&Name>,
+    reply: &Outgoing,
+) -> Served
+    requires { IsFor (at_desk desk.now).me (option_copied to) reply.now }
+    ensures said { SaysIt (at_desk desk.now) (option_copied to.entry) reply.now (C.Sink.writes conn.old) (C.Sink.writes conn.new) result }
+    ensures beside { C.Sink.beside conn.new ≡ C.Sink.beside conn.old }
+{
+    let setup = desk.setup;
+    match write_reply(alloc, &setup.setting.me, to, reply, &setup.secret) {
+        Ok(response) => write(alloc, conn, response),
+        Err(_) => Served::NoMemory,
+    }
+}
+
+/// Says this word to the client, and its number.
+pub(crate) fn refuse<R: Ledger, Q: Ledger, C: Connection>(
+    alloc: Global,
+    desk: &Desk<R, Q>,
+    conn: &mut C,
+    to: Option<&Name>,
+    word: &str,
+    number: u64,
+) -> Served
+    ensures said { SaysIt (at_desk desk.now) (option_copied to.entry) (RefusedBy word.now number) (C.Sink.writes conn.old) (C.Sink.writes conn.new) result }
+    ensures beside { C.Sink.beside conn.new ≡ C.Sink.beside conn.old }
+{
+    match refusal(alloc, word, number) {
+        Ok(reply) => say(alloc, desk, conn, to, &reply),
+        Err(_) => Served::NoMemory,
+    }
+}
+
+/// Says to the client that memory is wanting.
+pub(crate) fn say_no_memory<R: Ledger, Q: Ledger, C: Connection>(
+    alloc: Global,
+    desk: &Desk<R, Q>,
+    conn: &mut C,
+    to: Option<&Name>,
+) -> Served
+    ensures said { SaysIt (at_desk desk.now) (option_copied to.entry) (RefusedBy (codes "nomemory") 0) (C.Sink.writes conn.old) (C.Sink.writes conn.new) result }
+    ensures beside { C.Sink.beside conn.new ≡ C.Sink.beside conn.old }
+{
+    refuse(alloc, desk, conn, to, "nomemory", 0)
+}
+
+fn known_reply(alloc: Global, answer: AnswerMessage) -> Result<Outgoing, NoMemory>
+    ensures { IfOk result (λ reply. reply ≡ known_reply answer) }
+{
+    let (service, response) = copied_pair(alloc, &answer.callee, &answer.response)?;
+    let number = answer.id;
+    Ok(Outgoing::Answered {
+        id: RequestId { service, number },
+        answer: Some(answer),
+        response,
+    })
+}
+
+/// Says to a peer what its call was answered before.
+pub(crate) fn say_known<R: Ledger, Q: Ledger, C: Connection>(
+    alloc: Global,
+    desk: &Desk<R, Q>,
+    conn: &mut C,
+    to: Option<&Name>,
+    answer: AnswerMessage,
+) -> Served
+    requires from { answer.callee ≡ (at_desk desk.now).me }
+    requires to { option_copied to ≡ Some answer.caller }
+    ensures said { SaysIt (at_desk desk.now) (option_copied to.entry) (known_reply answer) (C.Sink.writes conn.old) (C.Sink.writes conn.new) result }
+    ensures beside { C.Sink.beside conn.new ≡ C.Sink.beside conn.old }
+{
+    match known_reply(alloc, answer) {
+        Ok(reply) => say(alloc, desk, conn, to, &reply),
+        Err(_) => Served::NoMemory,
+    }
+}
+
+/// Writes the reply of the worker's last receipt, whose answer stands at this index.
+pub(crate) fn write_last<Q: Ledger, C: Connection>(
+    pass: &Pass<Q>,
+    conn: &mut C,
+    index: u64,
+) -> Served
+    requires some { IsSome (last_of pass.now.receipts.items) }
+    ensures wrote { IsSomeAnd (last_of pass.now.receipts.items) (λ r. IsCommitWritten index r.reply (C.Sink.writes conn.old) (C.Sink.writes conn.new) result) }
+    ensures beside { C.Sink.beside conn.new ≡ C.Sink.beside conn.old }
+{
+    let Some(receipt) = pass.receipts().last() else {
+        unreachable!()
+    };
+    match write_bytes(conn, receipt.reply.as_slice()) {
+        Ok(()) => Served::Committed(index),
+        Err(Failed) => Served::WriteFault,
+    }
+}

@@ -1,0 +1,359 @@
+// One connection served.
+ghost use Rattle.std.specs.Prelude.{◌≡◌, None, Some, IfOk, IsErrOf, IsSome};
+ghost use Rattle.std.specs.Option.{option_copied};
+ghost use Rattle.http_front.specs.declared.message.FrontRefused.TheVariants.{ReadFault};
+ghost use Rattle.io_edge.specs.Edge.{ReadFails};
+ghost use Rattle.wire_bytes.specs.Hearing.{IsHeardFrom, IsKnownMessage, TakenSays};
+ghost use Rattle.wire_bytes.specs.declared.hearing.Unheard.TheVariants.{Front as FrontUnheard, Wire as WireUnheard};
+ghost use Rattle.aire_wire.specs.declared.incoming.Incoming.TheVariants.{Answer as AnswerSaid, Live as LiveSaid, Set as SetSaid};
+ghost use Rattle.node_workers.specs.Calling.{CountsCalls};
+ghost use Rattle.node_workers.specs.Desks.{at_desk};
+ghost use Rattle.node_workers.specs.Posting.{Keeps};
+ghost use Rattle.node_workers.specs.Serving.{client, IsServed, ServesMessage, ServesRequest};
+ghost use Rattle.node_workers.specs.Written.{instead, IsConsoleSo, IsRefusedSo};
+
+use crate::desk::Desk;
+use crate::live::{Ending, live};
+use crate::messages::{take, take_answer};
+use crate::replies::{refuse, say, say_known, say_no_memory, write_last};
+use crate::served::Served;
+use aire_wire::Incoming;
+use http_front::FrontRefused;
+use io_edge::Connection;
+use io_links::{Gate, Link};
+use lang_core::{Copied, Inputs, Name, Origin, Request};
+use node_core::Pass;
+use repair_messages::{AnswerMessage, SetMessage};
+use std::alloc::Global;
+use std::sync::Wait;
+use std::sync::ledger::Ledger;
+use wire_bytes::{Unheard, hear};
+use wire_fields::{ConsoleRequest, ConsoleWord, WireRefused};
+use wire_replies::Outgoing;
+use wire_words::{answer_told, arrive_told, front_word, take_told, wire_word};
+
+// ---- live requests
+
+fn serve_live<R: Ledger, Q: Ledger, W: Wait, C: Connection, L: Link, G: Gate>(
+    rt: &W,
+    alloc: Global,
+    desk: &Desk<R, Q>,
+    pass: &mut Pass<Q>,
+    conn: &mut C,
+    link: &mut L,
+    gate: &G,
+    to: Option<&Name>,
+    origin: Origin,
+    request: Request,
+    inputs: Inputs,
+) -> Served
+    requires none { pass.old.notes.begun ≡ None }
+    requires to { option_copied to ≡ client origin }
+    ensures served { ServesRequest (at_desk desk.now) inputs origin request (C.Source.reads conn.old) (C.Sink.writes conn.old) (C.Sink.writes conn.new) pass.new.notes pass.old.receipts.items pass.new.receipts.items result }
+    ensures beside { C.Sink.beside conn.new ≡ C.Sink.beside conn.old }
+    ensures closed { pass.new.notes.begun ≡ None }
+    ensures counts { CountsCalls (at_desk desk.now) pass.old.notes pass.new.notes (L.exchanges link.old) (L.exchanges link.new) }
+{
+    match live(rt, alloc, desk, pass, link, gate, origin, request, inputs) {
+        Ending::Committed(index) => write_last(pass, conn, index),
+        Ending::Known(answer) => say_known(alloc, desk, conn, to, answer),
+        Ending::Refused(why) => {
+            let (word, number) = arrive_told(why);
+            refuse(alloc, desk, conn, to, word, number)
+        }
+        Ending::Gone => Served::Gone,
+        Ending::NoMemory => say_no_memory(alloc, desk, conn, to),
+    }
+}
+
+// The caller, the number and the request of a live call.
+fn parts_of(set: SetMessage) -> (Name, u64, Request)
+    requires { IsSome set.desired }
+    ensures caller { result.0 ≡ set.caller }
+    ensures number { result.1 ≡ set.number }
+    ensures request { set.desired ≡ Some result.2 }
+{
+    let SetMessage {
+        caller,
+        dest: _,
+        number,
+        version: _,
+        desired,
+        before: _,
+        after: _,
+        who: _,
+    } = set;
+    match desired {
+        Some(request) => (caller, number, request),
+        None => unreachable!(),
+    }
+}
+
+fn serve_call<R: Ledger, Q: Ledger, W: Wait, C: Connection, L: Link, G: Gate>(
+    rt: &W,
+    alloc: Global,
+    desk: &Desk<R, Q>,
+    pass: &mut Pass<Q>,
+    conn: &mut C,
+    link: &mut L,
+    gate: &G,
+    set: SetMessage,
+    inputs: Inputs,
+) -> Served
+    requires none { pass.old.notes.begun ≡ None }
+    requires asks { IsSome set.desired }
+    ensures served { ServesMessage (at_desk desk.now) inputs (LiveSaid set) (C.Source.reads conn.old) (C.Sink.writes conn.old) (C.Sink.writes conn.new) pass.new.notes pass.old.receipts.items pass.new.receipts.items result }
+    ensures beside { C.Sink.beside conn.new ≡ C.Sink.beside conn.old }
+    ensures closed { pass.new.notes.begun ≡ None }
+    ensures counts { CountsCalls (at_desk desk.now) pass.old.notes pass.new.notes (L.exchanges link.old) (L.exchanges link.new) }
+{
+    let Ok(to) = set.caller.copied(alloc) else {
+        return Served::NoMemory;
+    };
+    let (caller, number, request) = parts_of(set);
+    let origin = Origin::Call { caller, number };
+    serve_live(
+        rt,
+        alloc,
+        desk,
+        pass,
+        conn,
+        link,
+        gate,
+        Some(&to),
+        origin,
+        request,
+        inputs,
+    )
+}
+
+// ---- other messages of peers
+
+fn serve_set<R: Ledger, Q: Ledger, W: Wait, C: Connection>(
+    rt: &W,
+    alloc: Global,
+    desk: &Desk<R, Q>,
+    pass: &mut Pass<Q>,
+    conn: &mut C,
+    set: SetMessage,
+    inputs: Inputs,
+) -> Served
+    requires dest { set.dest ≡ (at_desk desk.now).me }
+    ensures served { ServesMessage (at_desk desk.now) inputs (SetSaid set) (C.Source.reads conn.old) (C.Sink.writes conn.old) (C.Sink.writes conn.new) pass.new.notes pass.old.receipts.items pass.new.receipts.items result }
+    ensures beside { C.Sink.beside conn.new ≡ C.Sink.beside conn.old }
+    ensures keeps { Keeps pass.old.notes pass.new.notes pass.old.receipts.items pass.new.receipts.items }
+{
+    let Ok(to) = set.caller.copied(alloc) else {
+        return Served::NoMemory;
+    };
+    match take(rt, alloc, desk, pass, set, inputs) {
+        Ok(Ok(taken)) => say(alloc, desk, conn, Some(&to), &Outgoing::Ack(taken.ack)),
+        Ok(Err(why)) => {
+            let (word, number) = take_told(why);
+            refuse(alloc, desk, conn, Some(&to), word, number)
+        }
+        Err(_) => say_no_memory(alloc, desk, conn, Some(&to)),
+    }
+}
+
+fn serve_answer<R: Ledger, Q: Ledger, W: Wait, C: Connection>(
+    rt: &W,
+    alloc: Global,
+    desk: &Desk<R, Q>,
+    pass: &mut Pass<Q>,
+    conn: &mut C,
+    answer: AnswerMessage,
+    inputs: Inputs,
+) -> Served
+    requires caller { answer.caller ≡ (at_desk desk.now).me }
+    ensures served { ServesMessage (at_desk desk.now) inputs (AnswerSaid answer) (C.Source.reads conn.old) (C.Sink.writes conn.old) (C.Sink.writes conn.new) pass.new.notes pass.old.receipts.items pass.new.receipts.items result }
+    ensures beside { C.Sink.beside conn.new ≡ C.Sink.beside conn.old }
+    ensures keeps { Keeps pass.old.notes pass.new.notes pass.old.receipts.items pass.new.receipts.items }
+{
+    let Ok(to) = answer.callee.copied(alloc) else {
+        return Served::NoMemory;
+    };
+    match take_answer(rt, alloc, desk, pass, answer) {
+        Ok(Ok(heard)) => say(
+            alloc,
+            desk,
+            conn,
+            Some(&to),
+            &Outgoing::Confirm(heard.confirm),
+        ),
+        Ok(Err(why)) => {
+            let (word, number) = answer_told(why);
+            refuse(alloc, desk, conn, Some(&to), word, number)
+        }
+        Err(_) => say_no_memory(alloc, desk, conn, Some(&to)),
+    }
+}
+
+// ---- what no service is asked
+
+// An audit and the end are for the workers; no other word is built yet.
+fn serve_console<R: Ledger, Q: Ledger, C: Connection>(
+    alloc: Global,
+    desk: &Desk<R, Q>,
+    conn: &mut C,
+    asked: ConsoleRequest,
+) -> Served
+    ensures served { IsConsoleSo (at_desk desk.now) asked (C.Sink.writes conn.old) (C.Sink.writes conn.new) result }
+    ensures beside { C.Sink.beside conn.new ≡ C.Sink.beside conn.old }
+{
+    match asked.word {
+        ConsoleWord::Audit | ConsoleWord::Stop => Served::Console(asked),
+        _ => refuse(alloc, desk, conn, None, "kind", 0),
+    }
+}
+
+fn instead(said: Served, answer: Served) -> Served
+    ensures { result ≡ instead said answer }
+{
+    match said {
+        Served::Said(_) => answer,
+        other => other,
+    }
+}
+
+// The word that tells why the bytes are no HTTP request, where there is one, goes to whoever sent them.
+fn refuse_bytes<R: Ledger, Q: Ledger, C: Connection>(
+    alloc: Global,
+    desk: &Desk<R, Q>,
+    conn: &mut C,
+    why: FrontRefused,
+) -> Served
+    ensures served { IsRefusedSo (FrontUnheard why) (C.Sink.writes conn.old) (C.Sink.writes conn.new) result }
+    ensures beside { C.Sink.beside conn.new ≡ C.Sink.beside conn.old }
+{
+    match front_word(why) {
+        None => Served::FrontRefused(why),
+        Some(word) => instead(
+            refuse(alloc, desk, conn, None, word, 0),
+            Served::FrontRefused(why),
+        ),
+    }
+}
+
+// Likewise where the request is no message.
+fn refuse_request<R: Ledger, Q: Ledger, C: Connection>(
+    alloc: Global,
+    desk: &Desk<R, Q>,
+    conn: &mut C,
+    why: WireRefused,
+) -> Served
+    ensures served { IsRefusedSo (WireUnheard why) (C.Sink.writes conn.old) (C.Sink.writes conn.new) result }
+    ensures beside { C.Sink.beside conn.new ≡ C.Sink.beside conn.old }
+{
+    let said = refuse(alloc, desk, conn, None, wire_word(why), 0);
+    instead(said, Served::WireRefused(why))
+}
+
+fn serve_unheard<R: Ledger, Q: Ledger, C: Connection>(
+    alloc: Global,
+    desk: &Desk<R, Q>,
+    conn: &mut C,
+    why: Unheard,
+) -> Served
+    ensures served { IsRefusedSo why (C.Sink.writes conn.old) (C.Sink.writes conn.new) result }
+    ensures beside { C.Sink.beside conn.new ≡ C.Sink.beside conn.old }
+{
+    match why {
+        Unheard::Front(why) => refuse_bytes(alloc, desk, conn, why),
+        Unheard::Wire(why) => refuse_request(alloc, desk, conn, why),
+    }
+}
+
+// ---- all of it
+
+fn hear_on<R: Ledger, Q: Ledger, C: Connection>(
+    alloc: Global,
+    desk: &Desk<R, Q>,
+    conn: &mut C,
+) -> Result<Incoming, Unheard>
+    ensures heard { IsHeardFrom (at_desk desk.now).me (at_desk desk.now).secrets (at_desk desk.now).console (C.Source.reads conn.old) (C.Source.reads conn.new) result }
+    ensures alone { IfOk result (TakenSays (at_desk desk.now).me (at_desk desk.now).secrets (at_desk desk.now).console (C.Source.reads conn.old) (C.Source.reads conn.new)) }
+    ensures known { IfOk result (IsKnownMessage (at_desk desk.now).me (at_desk desk.now).secrets (at_desk desk.now).console) }
+    ensures fault { IsErrOf result (FrontUnheard ReadFault) → ReadFails (C.Source.reads conn.old) (C.Source.reads conn.new) }
+    ensures whole { (C.Source.reads conn.new).whole ≡ (C.Source.reads conn.old).whole }
+    ensures writes { C.Sink.writes conn.new ≡ C.Sink.writes conn.old }
+{
+    let setup = desk.setup;
+    hear(
+        alloc,
+        conn,
+        &setup.setting.me,
+        &desk.secrets,
+        &setup.console,
+    )
+}
+
+// One message of those that a service hears, with what is known of it.
+fn serve<R: Ledger, Q: Ledger, W: Wait, C: Connection, L: Link, G: Gate>(
+    rt: &W,
+    alloc: Global,
+    desk: &Desk<R, Q>,
+    pass: &mut Pass<Q>,
+    conn: &mut C,
+    link: &mut L,
+    gate: &G,
+    message: Incoming,
+    inputs: Inputs,
+) -> Served
+    requires none { pass.old.notes.begun ≡ None }
+    requires known { IsKnownMessage (at_desk desk.now).me (at_desk desk.now).secrets (at_desk desk.now).console message }
+    ensures served { ServesMessage (at_desk desk.now) inputs message (C.Source.reads conn.old) (C.Sink.writes conn.old) (C.Sink.writes conn.new) pass.new.notes pass.old.receipts.items pass.new.receipts.items result }
+    ensures beside { C.Sink.beside conn.new ≡ C.Sink.beside conn.old }
+    ensures closed { pass.new.notes.begun ≡ None }
+    ensures counts { CountsCalls (at_desk desk.now) pass.old.notes pass.new.notes (L.exchanges link.old) (L.exchanges link.new) }
+{
+    match message {
+        Incoming::Outside(request) => serve_live(
+            rt,
+            alloc,
+            desk,
+            pass,
+            conn,
+            link,
+            gate,
+            None,
+            Origin::Outside,
+            request,
+            inputs,
+        ),
+        Incoming::Live(set) => serve_call(rt, alloc, desk, pass, conn, link, gate, set, inputs),
+        Incoming::Set(set) => serve_set(rt, alloc, desk, pass, conn, set, inputs),
+        Incoming::Answer(answer) => serve_answer(rt, alloc, desk, pass, conn, answer, inputs),
+        Incoming::Console(asked) => serve_console(alloc, desk, conn, asked),
+    }
+}
+
+/// Serves one connection: reads one message, does what it asks, and writes what came of it.
+///
+/// A live request is run, and its calls are made over the link, each between two events and without the node's lock; the
+/// gate is told of each. What is answered is said of the message that was read alone: behind a commit its receipt's reply,
+/// else what the service answered to the message's own event, or why it didn't. A flight that can't go on for want of memory
+/// is given up, and none is open afterwards. A service that isn't set up as the desk says, and a peer that the desk doesn't
+/// know, are answered as memory that lacks. It may wait.
+pub fn serve_one<R: Ledger, Q: Ledger, W: Wait, C: Connection, L: Link, G: Gate>(
+    rt: &W,
+    alloc: Global,
+    desk: &Desk<R, Q>,
+    pass: &mut Pass<Q>,
+    conn: &mut C,
+    link: &mut L,
+    inputs: Inputs,
+    gate: &G,
+) -> Served
+    requires none { pass.old.notes.begun ≡ None }
+    ensures served { IsServed (at_desk desk.now) inputs (C.Source.reads conn.old) (C.Source.reads conn.new) (C.Sink.writes conn.old) (C.Sink.writes conn.new) pass.new.notes pass.old.receipts.items pass.new.receipts.items result }
+    ensures calls { CountsCalls (at_desk desk.now) pass.old.notes pass.new.notes (L.exchanges link.old) (L.exchanges link.new) }
+    ensures closed { pass.new.notes.begun ≡ None }
+    ensures fault { result ≡ Served.FrontRefused ReadFault → ReadFails (C.Source.reads conn.old) (C.Source.reads conn.new) }
+    ensures whole { (C.Source.reads conn.new).whole ≡ (C.Source.reads conn.old).whole }
+{
+    match hear_on(alloc, desk, conn) {
+        Err(why) => serve_unheard(alloc, desk, conn, why),
+        Ok(message) => serve(rt, alloc, desk, pass, conn, link, gate, message, inputs),
+    }
+}
