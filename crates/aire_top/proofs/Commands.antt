@@ -1,11 +1,13 @@
 -- What follows for a command.
-use Rattle.std.proofs.Common.{◌≡◌, ◌⊎◌, ◌∙◌, ℕ, List, ap, inl, inr, subst, sym}
+use Rattle.std.proofs.Common.{◌≡◌, ◌⊎◌, ◌∙◌, ℕ, Bool, true, false, cond, List, [], ◌∷◌, ap, codes, inl, inr, refl, subst, sym}
+use Rattle.lang_base.specs.Texts.{same_text}
 use Rattle.audit_command.proofs.Ends.{ends_well as audit_well}
-use Rattle.aire_top.specs.Commands.{Ends, EndsBy, HasAudited, IsGoodBy, IsGoodCommand, command_of}
-use Rattle.aire_top.specs.Endings.{Answer, Outside, RunEnds}
+use Rattle.aire_top.specs.Commands.{Ends, EndsBy, EndsOffline, HasAudited, IsGoodBy, IsGoodCommand, IsGoodOffline, command_of, is_make, offline_command}
+use Rattle.aire_top.specs.Endings.{Answer, Outside}
 use Rattle.aire_top.specs.Top.{words_of}
 use Rattle.aire_top.specs.declared.words.Command.{Command}
-use Rattle.aire_top.specs.declared.words.Command.TheVariants.{Run, Audit}
+use Rattle.aire_top.specs.declared.words.Command.TheVariants.{Run, Make, Audit}
+use Rattle.aire_top.proofs.MadeWell.{made_well}
 use Rattle.aire_top.proofs.Runs.{ends_well}
 
 -- it ends as the command does that its words ask for
@@ -20,8 +22,38 @@ audited_well words before now ans good has = elim (audit_well words before.loads
 
 well_by : (command : Command) (words : List (List ℕ)) (before now : Outside) (ans : Answer) → IsGoodBy command words before now → EndsBy command words before now ans → (ans.status ≡ 0) ⊎ (ans.status ≡ 6)
 well_by Run words before now ans good ends = ends_well (words_of words) before now ans good ends
+well_by Make words before now ans good ends = made_well words before now ans good ends
 well_by Audit words before now ans good ends = audited_well words before now ans good ends
 
 -- a good command ends well
 pub command_well : (words : List (List ℕ)) (before now : Outside) (ans : Answer) → IsGoodCommand words before now → Ends words before now ans → (ans.status ≡ 0) ⊎ (ans.status ≡ 6)
 command_well words before now ans good ends = well_by (command_of words) words before now ans good ends
+
+-- ---- without threads
+
+pub offline_well : (words : List (List ℕ)) (before now : Outside) (ans : Answer) → IsGoodOffline words before now → EndsOffline words before now ans → (ans.status ≡ 0) ⊎ (ans.status ≡ 6)
+offline_well words before now ans good ends = well_by (offline_command words) words before now ans good ends
+
+make_by : (b : Bool) → b ≡ true → cond b Make Run ≡ Make
+make_by b is = rw is refl
+
+run_by : (b : Bool) → b ≡ false → cond b Make Run ≡ Run
+run_by b is = rw is refl
+
+pub offline_make : (words : List (List ℕ)) → is_make words ≡ true → offline_command words ≡ Make
+offline_make words is = make_by (is_make words) is
+
+pub offline_run : (words : List (List ℕ)) → is_make words ≡ false → offline_command words ≡ Run
+offline_run words is = run_by (is_make words) is
+
+unless_audit : (audits makes : Bool) → (cond audits Audit (cond makes Make Run) ≡ Audit → ⊥) → cond audits Audit (cond makes Make Run) ≡ cond makes Make Run
+unless_audit true makes other = absurd (other refl)
+unless_audit false makes other = refl
+
+without_audit : (words : List (List ℕ)) → (command_of words ≡ Audit → ⊥) → command_of words ≡ offline_command words
+without_audit [] other = refl
+without_audit (word ∷ words) other = unless_audit (same_text word (codes "audit")) (same_text word (codes "make")) other
+
+-- words that ask for a command without threads ask `offline` for the same
+pub without_threads : (words : List (List ℕ)) (command : Command) → command_of words ≡ command → (command ≡ Audit → ⊥) → command_of words ≡ offline_command words
+without_threads words command is other = without_audit words (λ audits. other (sym is ∙ audits))

@@ -20,7 +20,7 @@ use Rattle.aire_top.specs.Fresh.{fresh, fresh_service}
 
 -- ---- names
 
-fresh_names : (setups : List Setup) → map me (map fresh_service setups) ≡ map name_of setups
+pub fresh_names : (setups : List Setup) → map me (map fresh_service setups) ≡ map name_of setups
 fresh_names [] = refl
 fresh_names (setup ∷ setups) = ap (λ (names : List (List ℕ)). name_of setup ∷ names) (fresh_names setups)
 

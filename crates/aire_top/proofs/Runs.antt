@@ -238,7 +238,7 @@ run_fits words world script before now ans fit w s ends =
 
 -- ---- a good run ends well
 
-some_none : {X : Type 0} (o : Option X) (x : X) → o ≡ None → o ≡ Some x → ⊥
+pub some_none : {X : Type 0} (o : Option X) (x : X) → o ≡ None → o ≡ Some x → ⊥
 some_none o x a b = let e : None ≡ Some x = sym a ∙ b in cc
 
 neither : (input : Bool) (a c : Loads) (reads now : Reads) → ¬ (LoadFails a c) → ¬ (ReadFails reads now) → ByScript input (ReadFails reads now) (LoadFails a c × Untouched reads now) → ⊥

@@ -1,30 +1,28 @@
 // The top call.
-ghost use Rattle.std.specs.Prelude.{◌≡◌, ◌⊎◌, ◌≤◌, IfOk, All, IfSome, Some, map, string_bytes};
+ghost use Rattle.std.specs.Prelude.{◌≡◌, ◌⊎◌, All, IfSome, Some, map, string_bytes};
 ghost use Rattle.journal_rows.specs.declared.verdict.Verdict.TheVariants.{Legal};
 ghost use Rattle.world_events.specs.Live.{IsLiveWorld};
 ghost use Rattle.service_events.specs.Allowed.{IsAllowed};
 ghost use Rattle.world_events.specs.Sound.{IsSound};
 ghost use Rattle.script_run.specs.Audits.{SaysForged};
 ghost use Rattle.world_agreement.specs.Legal.{AreLegal};
-ghost use Rattle.world_file.specs.Worlds.{KnowEachOther};
 ghost use Rattle.aire_top.specs.Closings.{ClosesWorldless};
-ghost use Rattle.aire_top.specs.Commands.{Ends, HasAudited, IsGoodCommand};
-ghost use Rattle.aire_top.specs.Endings.{IsGoodRun, RunEnds, ScriptEnds, answer, outside};
-ghost use Rattle.aire_top.specs.Top.{fitting, fresh, fresh_service, words_of};
+ghost use Rattle.aire_top.specs.Commands.{Ends, EndsOffline, HasAudited, IsGoodCommand, IsGoodOffline};
+ghost use Rattle.aire_top.specs.Endings.{RunEnds, ScriptEnds, answer, outside};
+ghost use Rattle.aire_top.specs.Top.{fitting, words_of};
 
 use crate::ending::{
     Ended, lacking, misused, refusal, standing, unread, without, world_refused, world_too_long,
 };
 use crate::loading::{NoWorld, load_script, load_world};
-use crate::words::{Command, command_of, named};
+use crate::making::make;
+use crate::starting::started;
+use crate::words::{Command, command_of, is_make, named};
 use audit_command::audit;
 use io_edge::{Files, ReadRefused, Sink, Source};
-use lang_base::both;
-use lang_core::{Copied, NoMemory};
-use script_run::{ScriptRefused, Service, World, run_script};
+use script_run::{ScriptRefused, World, run_script};
 use std::alloc::Global;
 use std::thread::Threads;
-use world_file::Setup;
 
 // The end of a run that has no world.
 fn worldless<K: Sink>(alloc: Global, why: NoWorld, out: &mut K) -> Ended
@@ -61,30 +59,6 @@ fn play<K: Sink>(alloc: Global, world: World, script: &[u8], out: &mut K) -> End
     }
 }
 
-// New services that are set up so.
-fn services_of(alloc: Global, setups: &[Setup]) -> Result<Vec<Service>, NoMemory>
-    ensures { IfOk result (λ services. services.items ≡ map fresh_service setups.now) }
-{
-    let mut services = Vec::new(alloc);
-    for setup in setups {
-        let (setting, rules) = both(setup.setting.copied(alloc), setup.rules.copied(alloc))?;
-        services.push(Service::new(alloc, setting, rules))?;
-    }
-    Ok(services)
-}
-
-// A new world of services that are set up so.
-#[tactic(auto, using(crate::proofs::FreshLaws::names_differ, crate::proofs::FreshLaws::peered, crate::proofs::FreshLaws::setups_sound, crate::proofs::FreshLaws::setups_live))]
-fn started(alloc: Global, setups: &[Setup]) -> Result<World, NoMemory>
-    requires { KnowEachOther setups.now }
-    ensures fresh { IfOk result (λ world. world ≡ fresh setups.now) }
-    ensures sound { IfOk result (λ world. IsSound world) }
-    ensures live { IfOk result (λ world. IsLiveWorld world) }
-{
-    let services = services_of(alloc, setups)?;
-    Ok(World::new(alloc, services))
-}
-
 // Runs a script in a new world, each named by a word.
 fn run<F: Files, S: Source, K: Sink>(
     alloc: Global,
@@ -117,12 +91,36 @@ fn run<F: Files, S: Source, K: Sink>(
     }
 }
 
-/// What the program does for words that ask for no other command than a run: `run WORLD SCRIPT`, where WORLD is `@notes`,
-/// `@shops`, `@posts` or a world file, SCRIPT a file or `-` for the input, and the script is run in a new world. It starts
-/// no thread.
+// Runs what words ask for that ask for no other command than a run.
+fn run_words<F: Files, S: Source, K: Sink>(
+    alloc: Global,
+    words: &[String],
+    files: &mut F,
+    input: &mut S,
+    out: &mut K,
+) -> Ended
+    ensures ends { RunEnds (words_of (map string_bytes words.now))
+        (outside (F.loads files.old) (S.reads input.old) (K.writes out.old))
+        (outside (F.loads files.new) (S.reads input.new) (K.writes out.new))
+        (answer result.status result.services.items result.verdict) }
+    ensures legal { result.verdict ≡ Some Legal → AreLegal result.services.items }
+    ensures joined { IfSome result.verdict (λ v. ¬ (SaysForged v)) }
+    ensures allowed { IfSome result.verdict (λ v. All IsAllowed result.services.items) }
+{
+    match named(words) {
+        Ok((world, script)) => run(alloc, world, script, files, input, out),
+        Err(place) => misused(alloc, out, place),
+    }
+}
+
+/// What the program does for words that ask for a command without threads, or for none: `run WORLD SCRIPT`, where WORLD is
+/// `@notes`, `@shops`, `@posts` or a world file, SCRIPT a file or `-` for the input, and the script is run in a new world; or
+/// `make SEED N`, where a script of N requests is made of a number and run in a new world of the services of `@posts`, and
+/// what it comes to is written in one line. It starts no thread.
 ///
 /// A run ends in one of five ways: the script was run (status 0, 3, 5 or 6), the words don't fit (2), the world is
-/// refused (3), a file or the input can't be read (4), or memory is wanting (6).
+/// refused (3), a file or the input can't be read (4), or memory is wanting (6). So does a script that is made, which asks
+/// for no file and reads nothing.
 pub fn offline<F: Files, S: Source, K: Sink>(
     alloc: Global,
     words: &[String],
@@ -131,13 +129,13 @@ pub fn offline<F: Files, S: Source, K: Sink>(
     out: &mut K,
 ) -> Ended
     // How it ends: what was asked for, read and written, the status, the services and the verdict over them.
-    ensures ends { RunEnds (words_of (map string_bytes words.now))
+    ensures ends { EndsOffline (map string_bytes words.now)
         (outside (F.loads files.old) (S.reads input.old) (K.writes out.old))
         (outside (F.loads files.new) (S.reads input.new) (K.writes out.new))
         (answer result.status result.services.items result.verdict) }
 
     // It doesn't give up by itself.
-    ensures complete { IsGoodRun (words_of (map string_bytes words.now))
+    ensures complete { IsGoodOffline (map string_bytes words.now)
         (outside (F.loads files.old) (S.reads input.old) (K.writes out.old))
         (outside (F.loads files.new) (S.reads input.new) (K.writes out.new))
         → (result.status ≡ 0) ⊎ (result.status ≡ 6) }
@@ -153,9 +151,10 @@ pub fn offline<F: Files, S: Source, K: Sink>(
     // Where there is a verdict, Legal or not, each repair that a service applied was allowed by its rules, as things stood before it.
     ensures allowed { IfSome result.verdict (λ v. All IsAllowed result.services.items) }
 {
-    match named(words) {
-        Ok((world, script)) => run(alloc, world, script, files, input, out),
-        Err(place) => misused(alloc, out, place),
+    if is_make(words) {
+        make(alloc, words, out)
+    } else {
+        run_words(alloc, words, files, input, out)
     }
 }
 
@@ -212,6 +211,7 @@ pub fn aire<R: Threads + Sync, F: Files, S: Source, K: Sink>(
 {
     match command_of(words) {
         Command::Run => offline(alloc, words, files, input, out),
+        Command::Make => offline(alloc, words, files, input, out),
         Command::Audit => audited(rt, alloc, words, files, out),
     }
 }

@@ -11,6 +11,8 @@ mod calls;
 #[cfg(test)]
 mod late;
 #[cfg(test)]
+mod made;
+#[cfg(test)]
 mod memory;
 #[cfg(test)]
 mod previews;

@@ -3,7 +3,7 @@ use Rattle.service_events.specs.State.{Kept}
 use Rattle.world_events.specs.Live.{IsLiveWorld}
 use Rattle.world_events.specs.Worlds.{fresh_world}
 use Rattle.aire_top.proofs.FreshLaws.{setups_live}
-use Rattle.aire_top.proofs.top.started.Goals as goal
+use Rattle.aire_top.proofs.starting.started.Goals as goal
 
 pub returns-clause-live : goal.returns-clause-live
 returns-clause-live c =

@@ -1,0 +1,43 @@
+-- What a script that is made comes to, step by step.
+use Rattle.std.proofs.Common.{◌≡◌, ◌⊎◌, ℕ, ◌+◌, ◌<◌, List, take, length, get_or, Some, None, inl, inr, ap, sym, subst, ◌∙◌}
+use Rattle.std.proofs.lemmas.List.Sums.{sum_by_more}
+use Rattle.io_edge.specs.Edge.{Writes}
+use Rattle.service_events.specs.State.{Kept}
+use Rattle.world_events.specs.Worlds.{World}
+use Rattle.script_run.specs.Counting.{capped}
+use Rattle.script_run.specs.Stops.{AreCountsOf, DoesAll}
+use Rattle.script_run.specs.declared.counts.Counts.{Counts}
+use Rattle.script_run.proofs.CountLaws.{capped_more}
+use Rattle.script_run.proofs.PlayLaws.{one_run}
+use Rattle.aire_top.specs.Closings.{Closes}
+use Rattle.aire_top.specs.Endings.{Answer, LacksMemory, refused_line, standing}
+use Rattle.aire_top.specs.Making.{Prints, ScriptTold, counts_of, entries_of, made_line}
+
+abbrev entries_in : Kept → ℕ
+entries_in s = length s.entries
+
+-- with the entries of one service more
+pub one_service : (services : List Kept) (i : ℕ) (s : Kept) (so now : ℕ) → i < length services → so ≡ capped (entries_of (take i services)) → now ≡ capped (so + length (get_or services i s).entries)
+    → now ≡ capped (entries_of (take (i + 1) services))
+one_service services i s so now inside is added =
+    added ∙ ap (λ (n : ℕ). capped (n + length (get_or services i s).entries)) is
+    ∙ capped_more (entries_of (take i services)) (length (get_or services i s).entries)
+    ∙ ap capped (sym (sum_by_more entries_in services i s inside))
+
+-- each line is done, and what they come to is printed
+pub has_made : (start : World) (script : List ℕ) (n : ℕ) (world : World) (counts : Counts) (nowhere gone before now : Writes) (ans : Answer) → DoesAll start script None world nowhere gone → AreCountsOf start script counts
+    → Prints before now (made_line n counts world.services) world ans ⊎ LacksMemory before now ans → ScriptTold start script n before now ans
+has_made start script n world counts nowhere gone before now ans does are (inl prints) =
+    let same : counts ≡ counts_of does.p = are.are ∙ ap counts_of (one_run start script are.p does.p are.run does.run) in
+    let P : World → Type 0 = λ w. Prints before now (made_line n (counts_of does.p) w.services) w ans in
+    let Q : Counts → Type 0 = λ c. Prints before now (made_line n c world.services) world ans in
+    inl (record { p = does.p; run = does.run; not_refused = does.ends; prints = subst P does.same_world (subst Q same prints) })
+has_made start script n world counts nowhere gone before now ans does are (inr lacks) = inr (inr lacks)
+
+-- a line is refused
+pub made_refused : (start : World) (script : List ℕ) (n line fault number : ℕ) (world : World) (nowhere gone before now : Writes) (ans : Answer) → number ≡ fault
+    → DoesAll start script (Some (line, fault)) world nowhere gone → Closes before now (standing 3 world) (refused_line line number) ans → ScriptTold start script n before now ans
+made_refused start script n line fault number world nowhere gone before now ans is does (inl good) =
+    let at_line = does.ends ∙ ap (λ (k : ℕ). Some (line, k)) (sym is) in
+    inr (inl (record { p = does.p; run = does.run; line = line; number = number; at_line = at_line; answered = good.0 ∙ ap (standing 3) does.same_world; ends = good.1 }))
+made_refused start script n line fault number world nowhere gone before now ans is does (inr lacks) = inr (inr lacks)
