@@ -6,8 +6,8 @@ use Rattle.service_events.specs.State.{fresh}
 use Rattle.service_events.specs.Allowed.{IsAllowed}
 use Rattle.service_events.specs.Fits.{Fits}
 use Rattle.service_events.proofs.StartLaw.{fits_start, allowed_start}
-use Rattle.service_laws.proofs.AgeLaws.{AgesOf}
-use Rattle.service_laws.proofs.AgeLemmas.{IsAged, IsMarked}
+use Rattle.service_parts.proofs.AgeLaws.{AgesOf}
+use Rattle.service_parts.proofs.AgeLemmas.{IsAged, IsMarked}
 use Rattle.service_parts.specs.Parts.{kept}
 use Rattle.service_parts.specs.Rooms.{aloft}
 use Rattle.service_parts.specs.Services.{IsService}

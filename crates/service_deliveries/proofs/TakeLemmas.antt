@@ -25,15 +25,15 @@ use Rattle.service_events.proofs.FreshLemmas.{unfound, below_next}
 use Rattle.service_events.proofs.PartLemmas.{logged}
 use Rattle.service_events.proofs.ReplyLemmas.{above_all}
 use Rattle.service_events.proofs.SearchLemmas.{some_and}
-use Rattle.service_laws.proofs.FitLaws.{take_fits}
-use Rattle.service_laws.proofs.MessageAges.{take_ages}
-use Rattle.service_laws.proofs.MessageBounds.{take_bounded}
-use Rattle.service_laws.proofs.AllowedLaws.{take_stays_allowed}
+use Rattle.service_parts.proofs.FitLaws.{take_fits}
+use Rattle.service_parts.proofs.MessageAges.{take_ages}
+use Rattle.service_parts.proofs.MessageBounds.{take_bounded}
+use Rattle.service_parts.proofs.AllowedLaws.{take_stays_allowed}
 use Rattle.service_parts.specs.Parts.{kept}
 use Rattle.service_parts.specs.Services.{HasRoom, IsService}
 use Rattle.service_parts.specs.declared.parts.Parts.{Parts}
 use Rattle.service_parts.specs.Drafts.{TellNoCall}
-use Rattle.service_laws.proofs.ServiceLaws.{next_service, same_service}
+use Rattle.service_parts.proofs.ServiceLaws.{next_service, same_service}
 use Rattle.service_deliveries.specs.TakeChanges.{admission, allowance, changed_by, left_by, unless_much, CanChange, CanCreate, Leaves}
 use Rattle.service_deliveries.specs.declared.take_changes.Taking.{Taking}
 

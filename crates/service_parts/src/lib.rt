@@ -1,5 +1,9 @@
 //! What a service with calls keeps, part by part; what its rules decide of a repair; rows that are drafted beside it, with what they
 //! change of the registers; and how such a draft is put in place.
+//!
+//! Beside them the laws of a service's events: a service that fits its journal fits it after each event; a repair step takes the
+//! first stale entry, so that steps come to their end, and then the service is the replay of its requests. The type that keeps a
+//! service is checked with them.
 #![tactic(auto)]
 
 mod answers;

@@ -23,8 +23,8 @@ use Rattle.service_events.proofs.EntryLemmas.{found_itself}
 use Rattle.service_events.proofs.PartLemmas.{logged}
 use Rattle.service_events.proofs.PostedLaw.{of_entry}
 use Rattle.service_events.proofs.SearchLemmas.{text_is, found_all, contains_here, contains_cases}
-use Rattle.service_laws.proofs.AgeLaws.{AgesOf}
-use Rattle.service_laws.proofs.PostAges.{posts_aged}
+use Rattle.service_parts.proofs.AgeLaws.{AgesOf}
+use Rattle.service_parts.proofs.PostAges.{posts_aged}
 use Rattle.repair_queue.specs.Queue.{IsOldest}
 use Rattle.service_posts.specs.Goes.{GoesTo}
 

@@ -11,8 +11,8 @@ use Rattle.call_registers.specs.declared.reply.Reply.{Reply}
 use Rattle.service_events.specs.Fits.{calls_of_entry}
 use Rattle.service_events.proofs.CallRowLemmas.{Each, IsPlain}
 use Rattle.service_events.proofs.FittingLemmas.{Book, HasRoom, Fitting}
-use Rattle.service_laws.proofs.SettledLaws.{change, settled_is, settled_timely}
-use Rattle.service_laws.proofs.StepLaws.{answer_plain}
+use Rattle.service_parts.proofs.SettledLaws.{change, settled_is, settled_timely}
+use Rattle.service_parts.proofs.StepLaws.{answer_plain}
 use Rattle.service_repairs.specs.Books.{KeptBook, answers, answer_rows, new_numbers, sent_rows, entered, settled, Settles, IsOwn}
 
 -- ---- what settling leaves

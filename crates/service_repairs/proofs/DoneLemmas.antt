@@ -11,10 +11,10 @@ use Rattle.service_events.specs.Progress.{Counts, GoesFurther, IsLocalStep}
 use Rattle.service_events.specs.RunsOn.{IsStep}
 use Rattle.service_events.specs.Steps.{step_event}
 use Rattle.service_events.proofs.CallLaws.{IsFew}
-use Rattle.service_laws.proofs.RunsOnLaws.{step_runs_through}
-use Rattle.service_laws.proofs.SilentLaws.{step_answers_none}
-use Rattle.service_laws.proofs.StepLaws.{step_steps, step_counts, step_goes}
-use Rattle.service_laws.proofs.UntoldLaws.{TellsNone, same_tells_none, step_untold}
+use Rattle.service_parts.proofs.RunsOnLaws.{step_runs_through}
+use Rattle.service_parts.proofs.SilentLaws.{step_answers_none}
+use Rattle.service_parts.proofs.StepLaws.{step_steps, step_counts, step_goes}
+use Rattle.service_parts.proofs.UntoldLaws.{TellsNone, same_tells_none, step_untold}
 use Rattle.service_repairs.specs.Answers.{Steps}
 
 few_after : (s t : Kept) (stepped : Stepped) → after t stepped ≡ step_event s → IsFew t → IsFew (step_event s).service

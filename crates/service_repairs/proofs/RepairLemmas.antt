@@ -18,17 +18,17 @@ use Rattle.service_events.specs.declared.answers.Ordered.{Ordered}
 use Rattle.service_events.specs.declared.refusals.OrderRefused.{OrderRefused}
 use Rattle.service_events.proofs.FreshLemmas.{unfound}
 use Rattle.service_events.proofs.PartLemmas.{logged}
-use Rattle.service_laws.proofs.AgeLaws.{step_ages}
-use Rattle.service_laws.proofs.AllowedLaws.{step_stays_allowed, order_stays_allowed}
-use Rattle.service_laws.proofs.FitLaws.{step_fits, order_fits}
-use Rattle.service_laws.proofs.MessageAges.{order_ages}
+use Rattle.service_parts.proofs.AgeLaws.{step_ages}
+use Rattle.service_parts.proofs.AllowedLaws.{step_stays_allowed, order_stays_allowed}
+use Rattle.service_parts.proofs.FitLaws.{step_fits, order_fits}
+use Rattle.service_parts.proofs.MessageAges.{order_ages}
 use Rattle.service_parts.specs.Parts.{kept}
 use Rattle.service_parts.specs.declared.parts.Parts.{Parts}
-use Rattle.service_laws.proofs.StepBoundLaws.{accepted_named, step_bounded, order_bounded}
+use Rattle.service_parts.proofs.StepBoundLaws.{accepted_named, step_bounded, order_bounded}
 use Rattle.service_repairs.specs.Ordering.{admission, admitted, unless_carried, MayOrder}
 use Rattle.service_parts.specs.Services.{HasRoom, IsService}
 use Rattle.service_repairs.specs.Answers.{Steps}
-use Rattle.service_laws.proofs.ServiceLaws.{same_service, next_service}
+use Rattle.service_parts.proofs.ServiceLaws.{same_service, next_service}
 
 -- ---- a step
 

@@ -19,8 +19,8 @@ use Rattle.service_events.specs.Fits.{Fits, FitsPlaces, calls_of_entry, calls_of
 use Rattle.service_events.specs.Steps.{new_record, new_numbers, stepped, step_by, step_event}
 use Rattle.service_events.proofs.StepForms.{new_trace_is, run_again, step_entries}
 use Rattle.service_events.proofs.EntryPlaces.{others, entry_to_head}
-use Rattle.service_laws.proofs.ApartLaws.{stands_at}
-use Rattle.service_laws.proofs.StaleLaws.{none_stale, found_first}
+use Rattle.service_parts.proofs.ApartLaws.{stands_at}
+use Rattle.service_parts.proofs.StaleLaws.{none_stale, found_first}
 use Rattle.service_repairs.specs.Books.{KeptBook, answers as answers_in, settled, Settles, IsOwn, book_of, with_book}
 
 -- ---- what a step asks

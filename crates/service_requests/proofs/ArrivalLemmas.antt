@@ -15,7 +15,7 @@ use Rattle.service_events.specs.Flying.{goes_on}
 use Rattle.service_events.specs.declared.answers.Arrived.{Arrived}
 use Rattle.service_events.specs.declared.refusals.ArriveRefused.{ArriveRefused}
 use Rattle.service_events.specs.declared.refusals.ArriveRefused.TheVariants.{NotYet}
-use Rattle.service_laws.proofs.BoundLaws.{uncrowded}
+use Rattle.service_parts.proofs.BoundLaws.{uncrowded}
 use Rattle.service_requests.specs.Arrivals.{Early, by_made, by_entry, deletion_of, deletion_in, unless_deleted, known, too_much, refusal, before_run}
 
 -- what is left where it is answered early, or not

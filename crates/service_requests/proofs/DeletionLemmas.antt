@@ -11,15 +11,15 @@ use Rattle.service_events.specs.State.{Kept, After, after, flight_of}
 use Rattle.service_events.specs.Calls.{all_deleted, deleted, noted}
 use Rattle.service_events.specs.Arriving.{abandoned, abandon_event}
 use Rattle.service_events.proofs.SearchLemmas.{splits}
-use Rattle.service_laws.proofs.AgeLaws.{abandon_ages}
-use Rattle.service_laws.proofs.AllowedLaws.{abandon_stays_allowed}
-use Rattle.service_laws.proofs.BoundLaws.{abandon_bounded}
-use Rattle.service_laws.proofs.FitLaws.{abandon_fits}
+use Rattle.service_parts.proofs.AgeLaws.{abandon_ages}
+use Rattle.service_parts.proofs.AllowedLaws.{abandon_stays_allowed}
+use Rattle.service_parts.proofs.BoundLaws.{abandon_bounded}
+use Rattle.service_parts.proofs.FitLaws.{abandon_fits}
 use Rattle.service_parts.specs.Parts.{kept}
 use Rattle.service_parts.specs.Services.{HasRoom, IsService}
 use Rattle.service_parts.specs.declared.parts.Parts.{Parts}
 use Rattle.service_requests.specs.Deletions.{IsDeletion}
-use Rattle.service_laws.proofs.ServiceLaws.{next_service}
+use Rattle.service_parts.proofs.ServiceLaws.{next_service}
 
 -- ---- rows of deletions
 

@@ -18,14 +18,14 @@ use Rattle.service_events.proofs.ReplyLemmas.{above_all}
 use Rattle.service_events.proofs.SearchLemmas.{found_all}
 use Rattle.service_events.proofs.CallLaws.{IsFew}
 use Rattle.service_events.proofs.FlightLemmas.{flies_from, free_number}
-use Rattle.service_laws.proofs.AgeLaws.{AgesOf}
-use Rattle.service_laws.proofs.BoundLaws.{IsBounded}
+use Rattle.service_parts.proofs.AgeLaws.{AgesOf}
+use Rattle.service_parts.proofs.BoundLaws.{IsBounded}
 use Rattle.service_requests.specs.Endings.{MayEnd}
 use Rattle.service_parts.specs.Parts.{kept}
 use Rattle.service_parts.specs.declared.parts.Parts.{Parts}
 use Rattle.service_requests.specs.Arrivals.{before_run}
 use Rattle.service_parts.specs.Services.{HasRoom, IsService}
-use Rattle.service_laws.proofs.ServiceLaws.{same_service, next_service}
+use Rattle.service_parts.proofs.ServiceLaws.{same_service, next_service}
 use Rattle.service_requests.proofs.ArrivalLemmas.{may_run}
 
 -- ---- the end of a flight

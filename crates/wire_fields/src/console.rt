@@ -17,6 +17,7 @@ pub enum ConsoleWord {
     Notices,
     Log,
     Rows,
+    Preview,
     Audit,
     Stop,
 }
@@ -41,7 +42,7 @@ impl Copied for ConsoleRequest {
     }
 }
 
-/// What the word asks for; None exactly where it is none of the ten.
+/// What the word asks for; None exactly where it is none of the eleven.
 #[tactic(auto, unfolding(crate::specs::Kinds::console_word))]
 pub fn console_word(word: &[u8]) -> Option<ConsoleWord>
     ensures { result ≡ console_word word.now }
@@ -62,6 +63,8 @@ pub fn console_word(word: &[u8]) -> Option<ConsoleWord>
         Some(ConsoleWord::Log)
     } else if word == b"rows".as_slice() {
         Some(ConsoleWord::Rows)
+    } else if word == b"preview".as_slice() {
+        Some(ConsoleWord::Preview)
     } else if word == b"audit".as_slice() {
         Some(ConsoleWord::Audit)
     } else if word == b"stop".as_slice() {

@@ -14,7 +14,7 @@ use Rattle.service_events.specs.Posts.{next_post}
 use Rattle.service_events.specs.State.{Kept, flight_of}
 use Rattle.service_events.specs.declared.answers.PostReply.TheVariants.{Lost as PostIsLost}
 use Rattle.service_events.proofs.SearchLemmas.{found_all}
-use Rattle.service_laws.proofs.AllowedLaws.{arrive_stays_allowed, call_answered_stays_allowed, call_failed_stays_allowed, abandon_stays_allowed, step_stays_allowed, take_stays_allowed, take_answer_stays_allowed, posted_stays_allowed, order_stays_allowed}
+use Rattle.service_parts.proofs.AllowedLaws.{arrive_stays_allowed, call_answered_stays_allowed, call_failed_stays_allowed, abandon_stays_allowed, step_stays_allowed, take_stays_allowed, take_answer_stays_allowed, posted_stays_allowed, order_stays_allowed}
 use Rattle.world_agreement.specs.Partners.{has_name, service_of}
 use Rattle.world_events.specs.Worlds.{World, with_service, packet_of, next_inputs, once_drawn, once_lost, loss_note}
 use Rattle.world_events.specs.Events.{Served, refused, turned, if_there, turn_at, at_service, arrive_served, call_arrive_served, call_answered_served, call_failed_served, sender, take_served, take_answer_served, posted_served, next_post_written, next_post_served, repair_step_served, abandon_served, order_served, call_delivered, reply_delivered, post_delivered, delivered, call_lost, post_lost, lost, if_flying, turn, after_event, after_events}

@@ -38,7 +38,7 @@ use Rattle.service_events.specs.declared.refusals.TakeRefused.{TakeRefused}
 use Rattle.service_events.specs.declared.refusals.TakeRefused.TheVariants as take
 use Rattle.service_events.proofs.CallLaws.{IsFew}
 use Rattle.service_events.proofs.SearchLemmas.{text_is, found_all}
-use Rattle.service_laws.proofs.FitLaws.{arrive_fits, call_answered_fits, call_failed_fits, abandon_fits, step_fits, take_fits, take_answer_fits, posted_fits, order_fits}
+use Rattle.service_parts.proofs.FitLaws.{arrive_fits, call_answered_fits, call_failed_fits, abandon_fits, step_fits, take_fits, take_answer_fits, posted_fits, order_fits}
 use Rattle.world_agreement.specs.Partners.{has_name, service_of, NamesDiffer, IsJoined, JournalOf, HasSent, HasAcked, HasAnswered, HasConfirmed}
 use Rattle.world_agreement.proofs.ListLemmas.{found_in, found_passes}
 use Rattle.world_agreement.proofs.NameLemmas.{name_is}

@@ -12,8 +12,8 @@ use Rattle.service_events.specs.Progress.{changes}
 use Rattle.service_events.specs.State.{Kept, answers, base, me}
 use Rattle.service_events.specs.Steps.{Stale, stale_in, step_by, step_event}
 use Rattle.service_events.proofs.SearchLemmas.{found_all}
-use Rattle.service_laws.proofs.FitLaws.{step_fits}
-use Rattle.service_laws.proofs.StepLaws.{step_as_many, step_further, step_steps, step_timely}
+use Rattle.service_parts.proofs.FitLaws.{step_fits}
+use Rattle.service_parts.proofs.StepLaws.{step_as_many, step_further, step_steps, step_timely}
 use Rattle.world_agreement.specs.Partners.{has_name, service_of}
 use Rattle.world_agreement.proofs.TimelyLaws.{joined_timely}
 use Rattle.world_events.specs.Events.{Turn, after_events, at_service, if_there, refused, repair_step_served, turn, turned}

@@ -1,11 +1,11 @@
 use Rattle.service_events.specs.Doing.{answer_memory}
 use Rattle.service_events.specs.Messages.{take_answer_event}
-use Rattle.service_laws.proofs.FitLaws.{take_answer_fits}
-use Rattle.service_laws.proofs.MessageAges.{take_answer_ages}
-use Rattle.service_laws.proofs.MessageBounds.{take_answer_bounded}
-use Rattle.service_laws.proofs.AllowedLaws.{take_answer_stays_allowed}
+use Rattle.service_parts.proofs.FitLaws.{take_answer_fits}
+use Rattle.service_parts.proofs.MessageAges.{take_answer_ages}
+use Rattle.service_parts.proofs.MessageBounds.{take_answer_bounded}
+use Rattle.service_parts.proofs.AllowedLaws.{take_answer_stays_allowed}
 use Rattle.service_parts.specs.Parts.{kept}
-use Rattle.service_laws.proofs.ServiceLaws.{done_service}
+use Rattle.service_parts.proofs.ServiceLaws.{done_service}
 use Rattle.service_deliveries.proofs.hearing.take_answer.Goals as goal
 
 pub returns-clause-service : goal.returns-clause-service

@@ -1,11 +1,11 @@
 use Rattle.service_events.specs.Doing.{post_memory}
 use Rattle.service_events.specs.Messages.{posted_event}
-use Rattle.service_laws.proofs.FitLaws.{posted_fits}
-use Rattle.service_laws.proofs.MessageAges.{posted_ages}
-use Rattle.service_laws.proofs.MessageBounds.{posted_bounded}
-use Rattle.service_laws.proofs.AllowedLaws.{posted_stays_allowed}
+use Rattle.service_parts.proofs.FitLaws.{posted_fits}
+use Rattle.service_parts.proofs.MessageAges.{posted_ages}
+use Rattle.service_parts.proofs.MessageBounds.{posted_bounded}
+use Rattle.service_parts.proofs.AllowedLaws.{posted_stays_allowed}
 use Rattle.service_parts.specs.Parts.{kept}
-use Rattle.service_laws.proofs.ServiceLaws.{done_service}
+use Rattle.service_parts.proofs.ServiceLaws.{done_service}
 use Rattle.service_deliveries.proofs.posting.posted.Goals as goal
 
 pub returns-clause-service : goal.returns-clause-service

@@ -9,7 +9,7 @@ use Rattle.call_registers.specs.declared.register.Register.{Register}
 use Rattle.service_events.specs.Fits.{calls_of_flight}
 use Rattle.service_events.specs.State.{Kept}
 use Rattle.service_parts.specs.Parts.{kept}
-use Rattle.service_laws.proofs.ApartLaws.{own_slots, all_apart}
+use Rattle.service_parts.proofs.ApartLaws.{own_slots, all_apart}
 use Rattle.service_repairs.specs.Answers.{IsChecked}
 use Rattle.service_repairs.specs.Books.{KeptBook, answers, IsOwn}
 use Rattle.service_repairs.proofs.StepDraftLemmas.{all_settle, repaired}

@@ -2,8 +2,8 @@ use Rattle.std.proofs.Common.{sym, ap, true, arith}
 use Rattle.service_parts.specs.Parts.{kept}
 use Rattle.service_parts.specs.Rooms.{aloft}
 use Rattle.service_requests.proofs.DeletionLemmas.{abandon_service, flight_abandoned, none_gone, nothing_abandoned}
-use Rattle.service_laws.proofs.RoomLemmas.{aloft_removed, aloft_without}
-use Rattle.service_laws.proofs.ServiceLaws.{same_service}
+use Rattle.service_parts.proofs.RoomLemmas.{aloft_removed, aloft_without}
+use Rattle.service_parts.proofs.ServiceLaws.{same_service}
 use Rattle.service_requests.proofs.abandoning.abandon.Goals as goal
 
 pub delete_calls-requires : goal.delete_calls-requires

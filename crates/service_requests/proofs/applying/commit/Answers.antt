@@ -1,7 +1,7 @@
 use Rattle.std.proofs.Common.{ap, arith}
 use Rattle.service_events.specs.State.{Kept}
 use Rattle.service_parts.specs.Rooms.{aloft}
-use Rattle.service_laws.proofs.RoomLemmas.{aloft_without}
+use Rattle.service_parts.proofs.RoomLemmas.{aloft_without}
 use Rattle.service_requests.proofs.applying.commit.Goals as goal
 
 pub returns-clause-room : goal.returns-clause-room

@@ -4,7 +4,7 @@ use Rattle.flights.specs.Numbers.{with_flight}
 use Rattle.service_events.specs.State.{Kept, after}
 use Rattle.service_events.specs.declared.answers.Arrived.TheVariants.{Call}
 use Rattle.service_parts.specs.Rooms.{aloft}
-use Rattle.service_laws.proofs.RoomLemmas.{aloft_with, on_ok}
+use Rattle.service_parts.proofs.RoomLemmas.{aloft_with, on_ok}
 use Rattle.service_requests.proofs.applying.wait.Goals as goal
 
 pub returns-clause-ok : goal.returns-clause-ok

@@ -3,10 +3,10 @@ use Rattle.std.proofs.lemmas.Result.{IfOk-weaker}
 use Rattle.service_events.specs.State.{Kept}
 use Rattle.service_events.specs.Arriving.{accepted, arrive_event, new_flight}
 use Rattle.service_events.specs.declared.refusals.ArriveRefused.{ArriveRefused}
-use Rattle.service_laws.proofs.AgeLaws.{arrive_ages}
-use Rattle.service_laws.proofs.AllowedLaws.{arrive_stays_allowed}
-use Rattle.service_laws.proofs.BoundLaws.{arrive_bounded}
-use Rattle.service_laws.proofs.FitLaws.{arrive_fits}
+use Rattle.service_parts.proofs.AgeLaws.{arrive_ages}
+use Rattle.service_parts.proofs.AllowedLaws.{arrive_stays_allowed}
+use Rattle.service_parts.proofs.BoundLaws.{arrive_bounded}
+use Rattle.service_parts.proofs.FitLaws.{arrive_fits}
 use Rattle.service_parts.specs.Drafts.{with_draft}
 use Rattle.service_parts.specs.Parts.{kept}
 use Rattle.service_requests.specs.Changes.{leaves}

@@ -1,10 +1,10 @@
 use Rattle.std.proofs.Common.{Ok}
 use Rattle.service_events.specs.State.{Kept}
 use Rattle.service_events.specs.Arriving.{call_failed_event}
-use Rattle.service_laws.proofs.AgeLaws.{call_failed_ages}
-use Rattle.service_laws.proofs.AllowedLaws.{call_failed_stays_allowed}
-use Rattle.service_laws.proofs.BoundLaws.{call_failed_bounded}
-use Rattle.service_laws.proofs.FitLaws.{call_failed_fits}
+use Rattle.service_parts.proofs.AgeLaws.{call_failed_ages}
+use Rattle.service_parts.proofs.AllowedLaws.{call_failed_stays_allowed}
+use Rattle.service_parts.proofs.BoundLaws.{call_failed_bounded}
+use Rattle.service_parts.proofs.FitLaws.{call_failed_fits}
 use Rattle.service_parts.specs.Parts.{kept}
 use Rattle.service_requests.specs.Changes.{leaves}
 use Rattle.service_requests.proofs.ServiceLemmas.{event_service}

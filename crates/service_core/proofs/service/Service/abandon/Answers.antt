@@ -3,8 +3,8 @@ use Rattle.service_events.specs.State.{Kept, After}
 use Rattle.service_events.specs.Causes.{causes, AddsCauses}
 use Rattle.service_events.specs.Commits.{live_rows}
 use Rattle.service_parts.specs.Parts.{kept}
-use Rattle.service_laws.proofs.SilentLaws.{abandon_answers_none}
-use Rattle.service_laws.proofs.UntoldLaws.{TellsNone, abandon_untold}
+use Rattle.service_parts.proofs.SilentLaws.{abandon_answers_none}
+use Rattle.service_parts.proofs.UntoldLaws.{TellsNone, abandon_untold}
 use Rattle.service_core.proofs.service.Service.abandon.Goals as goal
 
 pub returns-clause-silent : goal.returns-clause-silent

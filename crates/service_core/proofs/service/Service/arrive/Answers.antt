@@ -5,10 +5,10 @@ use Rattle.service_events.specs.Commits.{Commits}
 use Rattle.service_events.specs.RunsOn.{Begins}
 use Rattle.service_events.specs.State.{Kept}
 use Rattle.service_parts.specs.Parts.{kept}
-use Rattle.service_laws.proofs.ServiceLaws.{rows_few}
-use Rattle.service_laws.proofs.CauseLaws.{begins_adds}
-use Rattle.service_laws.proofs.DoneLaws.{arrive_done}
-use Rattle.service_laws.proofs.RunsOnLaws.{does_arrive}
+use Rattle.service_parts.proofs.ServiceLaws.{rows_few}
+use Rattle.service_parts.proofs.CauseLaws.{begins_adds}
+use Rattle.service_parts.proofs.DoneLaws.{arrive_done}
+use Rattle.service_parts.proofs.RunsOnLaws.{does_arrive}
 use Rattle.service_core.proofs.service.Service.arrive.Goals as goal
 
 pub returns-clause-commits : goal.returns-clause-commits

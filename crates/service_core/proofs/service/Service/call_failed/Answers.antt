@@ -5,10 +5,10 @@ use Rattle.service_events.specs.Commits.{CommitsFlight}
 use Rattle.service_events.specs.RunsOn.{GoesOnTo}
 use Rattle.service_events.specs.State.{after, flight_of}
 use Rattle.service_parts.specs.Parts.{kept}
-use Rattle.service_laws.proofs.ServiceLaws.{rows_few}
-use Rattle.service_laws.proofs.CauseLaws.{failed_adds}
-use Rattle.service_laws.proofs.DoneLaws.{call_failed_done}
-use Rattle.service_laws.proofs.RunsOnLaws.{does_failed}
+use Rattle.service_parts.proofs.ServiceLaws.{rows_few}
+use Rattle.service_parts.proofs.CauseLaws.{failed_adds}
+use Rattle.service_parts.proofs.DoneLaws.{call_failed_done}
+use Rattle.service_parts.proofs.RunsOnLaws.{does_failed}
 use Rattle.service_core.proofs.service.Service.call_failed.Goals as goal
 
 pub returns-clause-commits : goal.returns-clause-commits

@@ -5,9 +5,9 @@ use Rattle.service_events.specs.Commits.{live_rows}
 use Rattle.service_events.specs.Doing.{order_memory}
 use Rattle.service_events.specs.Orders.{order_event}
 use Rattle.service_parts.specs.Parts.{kept}
-use Rattle.service_laws.proofs.SilentLaws.{order_answers_none}
-use Rattle.service_laws.proofs.DoneLaws.{silent_done, untold_done}
-use Rattle.service_laws.proofs.UntoldLaws.{order_untold}
+use Rattle.service_parts.proofs.SilentLaws.{order_answers_none}
+use Rattle.service_parts.proofs.DoneLaws.{silent_done, untold_done}
+use Rattle.service_parts.proofs.UntoldLaws.{order_untold}
 use Rattle.service_core.proofs.service.Service.order.Goals as goal
 
 pub returns-clause-silent : goal.returns-clause-silent

@@ -6,7 +6,7 @@ use Rattle.service_events.specs.Commits.{live_rows}
 use Rattle.service_events.specs.Progress.{Counts, GoesFurther, IsLocalStep}
 use Rattle.service_events.specs.RunsOn.{IsStep}
 use Rattle.service_parts.specs.Parts.{kept}
-use Rattle.service_laws.proofs.ServiceLaws.{rows_few}
+use Rattle.service_parts.proofs.ServiceLaws.{rows_few}
 use Rattle.service_repairs.proofs.DoneLemmas.{step_local, step_runs, step_further, step_silent, step_tells_none, step_through}
 use Rattle.service_core.proofs.service.Service.repair_step.Goals as goal
 

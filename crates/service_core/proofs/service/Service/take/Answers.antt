@@ -5,9 +5,9 @@ use Rattle.service_events.specs.Commits.{live_rows}
 use Rattle.service_events.specs.Doing.{take_memory}
 use Rattle.service_events.specs.Messages.{take_event}
 use Rattle.service_parts.specs.Parts.{kept}
-use Rattle.service_laws.proofs.SilentLaws.{take_answers_none}
-use Rattle.service_laws.proofs.DoneLaws.{silent_done, untold_done}
-use Rattle.service_laws.proofs.UntoldLaws.{take_untold}
+use Rattle.service_parts.proofs.SilentLaws.{take_answers_none}
+use Rattle.service_parts.proofs.DoneLaws.{silent_done, untold_done}
+use Rattle.service_parts.proofs.UntoldLaws.{take_untold}
 use Rattle.service_core.proofs.service.Service.take.Goals as goal
 
 pub returns-clause-silent : goal.returns-clause-silent

@@ -38,7 +38,7 @@ use Rattle.service_events.specs.declared.refusals.OrderRefused.{OrderRefused}
 use Rattle.service_events.specs.declared.refusals.PostRefused.TheVariants.{Foreign}
 use Rattle.service_events.specs.declared.refusals.TakeRefused.TheVariants.{NotYet}
 use Rattle.service_events.proofs.AskedLemmas.{take_either, hear_either}
-use Rattle.service_laws.proofs.CauseLaws.{same_causes, row_tells, causes_push}
+use Rattle.service_parts.proofs.CauseLaws.{same_causes, row_tells, causes_push}
 
 -- ---- rows tell nothing of why
 

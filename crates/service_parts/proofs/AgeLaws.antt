@@ -48,8 +48,8 @@ use Rattle.service_events.proofs.FlightLaws.{sends_change}
 use Rattle.service_events.proofs.KindLemmas.{sends_deleted, sends_settled}
 use Rattle.service_events.proofs.RegisterLemmas.{flip_false}
 use Rattle.service_events.proofs.CallRowLemmas.{Each, each_append, each_weaker, each_of_all, all_of_each, IsSending}
-use Rattle.service_laws.proofs.AgeLemmas.{Ages, ages, ages_stay, ages_noted, ages_then, ages_same, KeepsAge, calls_aged, IsAged, IsMarked, IsUnmarked, MarksNone, all_unmarked, unmarked, unmarked-append, replies_stay, reply_marked, none_any, last_here}
-use Rattle.service_laws.proofs.FitLaws.{arrive_fits, call_answered_fits, call_failed_fits, abandon_fits, step_fits}
+use Rattle.service_parts.proofs.AgeLemmas.{Ages, ages, ages_stay, ages_noted, ages_then, ages_same, KeepsAge, calls_aged, IsAged, IsMarked, IsUnmarked, MarksNone, all_unmarked, unmarked, unmarked-append, replies_stay, reply_marked, none_any, last_here}
+use Rattle.service_parts.proofs.FitLaws.{arrive_fits, call_answered_fits, call_failed_fits, abandon_fits, step_fits}
 
 abbrev pub AllMarked : Kept → Type 0
 AllMarked s = Each (IsMarked s.journal) s.replies

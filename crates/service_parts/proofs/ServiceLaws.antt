@@ -6,8 +6,8 @@ use Rattle.service_events.specs.Allowed.{IsAllowed}
 use Rattle.service_events.specs.Doing.{Does}
 use Rattle.service_events.specs.Fits.{Fits}
 use Rattle.service_events.proofs.CallLaws.{IsFew}
-use Rattle.service_laws.proofs.AgeLaws.{AgesOf}
-use Rattle.service_laws.proofs.BoundLaws.{IsBounded}
+use Rattle.service_parts.proofs.AgeLaws.{AgesOf}
+use Rattle.service_parts.proofs.BoundLaws.{IsBounded}
 use Rattle.service_parts.specs.Parts.{kept}
 use Rattle.service_parts.specs.declared.parts.Parts.{Parts}
 use Rattle.service_parts.specs.Services.{HasRoom, IsService}

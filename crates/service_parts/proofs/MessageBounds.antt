@@ -27,7 +27,7 @@ use Rattle.service_events.specs.declared.refusals.PostRefused.TheVariants.{Forei
 use Rattle.service_events.specs.declared.refusals.TakeRefused.TheVariants.{NotYet}
 use Rattle.service_events.proofs.AskedLemmas.{take_either, hear_either}
 use Rattle.service_events.proofs.SearchLemmas.{length_insert}
-use Rattle.service_laws.proofs.BoundLaws.{IsBounded, uncrowded}
+use Rattle.service_parts.proofs.BoundLaws.{IsBounded, uncrowded}
 
 -- ---- a version of a call
 

@@ -30,11 +30,11 @@ use Rattle.service_events.proofs.CallRowLemmas.{Each, IsPlain}
 use Rattle.service_events.proofs.FittingLemmas.{HasRoom, Fitting}
 use Rattle.service_events.proofs.CallLaws.{IsFew, book}
 use Rattle.service_events.proofs.EntryPlaces.{Stands, others, entry_to_head}
-use Rattle.service_laws.proofs.FitLaws.{step_fits}
-use Rattle.service_laws.proofs.TraceLaws.{new_is_rerun}
-use Rattle.service_laws.proofs.SettledLaws.{settled_is, settled_timely}
-use Rattle.service_laws.proofs.ApartLaws.{own_slots, all_apart, stands_at}
-use Rattle.service_laws.proofs.StaleLaws.{all_current, StaleAt, stale_at, first_of, fewer_current, some_current}
+use Rattle.service_parts.proofs.FitLaws.{step_fits}
+use Rattle.service_parts.proofs.TraceLaws.{new_is_rerun}
+use Rattle.service_parts.proofs.SettledLaws.{settled_is, settled_timely}
+use Rattle.service_parts.proofs.ApartLaws.{own_slots, all_apart, stands_at}
+use Rattle.service_parts.proofs.StaleLaws.{all_current, StaleAt, stale_at, first_of, fewer_current, some_current}
 
 -- ---- one step
 

@@ -43,10 +43,10 @@ use Rattle.service_events.proofs.SearchLemmas.{some_or_none, splits, text_is}
 use Rattle.service_events.proofs.CallLaws.{IsFew}
 use Rattle.service_events.proofs.FlightLemmas.{each_found}
 use Rattle.service_events.proofs.CallRowLemmas.{Each, each_append, each_weaker}
-use Rattle.service_laws.proofs.AgeLaws.{AgesOf, AllMarked, keeps_ages, IsStep, step_noted, step_marked}
-use Rattle.service_laws.proofs.AgeLemmas.{Ages, ages_stay, ages_noted, ages_then, ages_same, KeepsAge, IsMarked, IsUnmarked, MarksNone, unmarked, unmarked-append, replies_stay, reply_marked, replies_kept, none_any, last_here}
-use Rattle.service_laws.proofs.FitLaws.{take_fits, take_answer_fits, posted_fits, order_fits}
-use Rattle.service_laws.proofs.OwnedLemmas.{is_to, owned, to_its, to_none, to_others, to_own}
+use Rattle.service_parts.proofs.AgeLaws.{AgesOf, AllMarked, keeps_ages, IsStep, step_noted, step_marked}
+use Rattle.service_parts.proofs.AgeLemmas.{Ages, ages_stay, ages_noted, ages_then, ages_same, KeepsAge, IsMarked, IsUnmarked, MarksNone, unmarked, unmarked-append, replies_stay, reply_marked, replies_kept, none_any, last_here}
+use Rattle.service_parts.proofs.FitLaws.{take_fits, take_answer_fits, posted_fits, order_fits}
+use Rattle.service_parts.proofs.OwnedLemmas.{is_to, owned, to_its, to_none, to_others, to_own}
 
 -- what an event leaves has its ages
 abbrev LeavesAged : {A : Type 0} → Kept → After A → Type 0

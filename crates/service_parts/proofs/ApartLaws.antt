@@ -10,7 +10,7 @@ use Rattle.service_events.specs.Fits.{NumberedCalls, FitsPlaces, WantsItsCalls, 
 use Rattle.service_events.proofs.CallRowLemmas.{Each, each_of_all, each_front, all_of_each}
 use Rattle.service_events.proofs.PlaceLemmas.{lengths, times_held-append}
 use Rattle.service_events.proofs.EntryPlaces.{Stands}
-use Rattle.service_laws.proofs.SettledLaws.{counted, once_each, one_most, wanted_within}
+use Rattle.service_parts.proofs.SettledLaws.{counted, once_each, one_most, wanted_within}
 
 -- what stands in an entry stands in no other one
 each_away : (e : Entry) (es : List Entry) → ((n : ℕ) → count n e.slots + times_held n (map calls_of_entry es) ≤ 1) → Each (λ (f : Entry). (n : ℕ) → Contains e.slots n → Contains f.slots n → ⊥) es

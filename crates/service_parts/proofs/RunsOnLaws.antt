@@ -53,7 +53,7 @@ use Rattle.service_events.proofs.LiveRuns as live
 use Rattle.service_events.proofs.LiveRuns.{runs_of, answers_given, grows, changed_aloft, name_completes, change_completes}
 use Rattle.service_events.proofs.CallLaws.{calls_of_fits}
 use Rattle.service_events.proofs.GoingLaws.{is_other}
-use Rattle.service_laws.proofs.CommitLaws.{with_call}
+use Rattle.service_parts.proofs.CommitLaws.{with_call}
 use Rattle.service_events.specs.RunsOn.{Ends, TakesUnsent, Completes, Changes, Moves, GoesOn, GoesOnTo, Begins, TakesAnswer, RunsThrough, RunsAgain, IsRecord, StepsBy, IsStep}
 
 -- ---- a flight is completed

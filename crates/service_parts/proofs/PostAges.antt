@@ -11,9 +11,9 @@ use Rattle.service_events.specs.Flying.{awaited}
 use Rattle.service_events.specs.Posts.{Aged, aged_call, aged_reply, is_unacknowledged, is_owed, outstanding}
 use Rattle.service_events.specs.State.{Kept}
 use Rattle.service_events.proofs.CallRowLemmas.{Each, each_of_all, all_of_each}
-use Rattle.service_laws.proofs.AgeLaws.{AgesOf}
-use Rattle.service_laws.proofs.AgeLemmas.{IsAged, IsMarked, each_both}
-use Rattle.service_laws.proofs.OwnedLemmas.{found_itself}
+use Rattle.service_parts.proofs.AgeLaws.{AgesOf}
+use Rattle.service_parts.proofs.AgeLemmas.{IsAged, IsMarked, each_both}
+use Rattle.service_parts.proofs.OwnedLemmas.{found_itself}
 
 -- of those that pass, what each becomes
 each_passed : {X Y : Type 0} (P : X → Type 0) (Q : Y → Type 0) (p : X → Bool) (f : X → Y) → ((x : X) → P x → Q (f x)) → (xs : List X) → Each P xs

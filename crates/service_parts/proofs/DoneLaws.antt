@@ -16,8 +16,8 @@ use Rattle.service_events.specs.declared.answers.Arrived.{Arrived}
 use Rattle.service_events.specs.declared.refusals.ArriveRefused.{ArriveRefused}
 use Rattle.service_events.specs.declared.refusals.CallRefused.{CallRefused}
 use Rattle.service_events.proofs.CallLaws.{IsFew}
-use Rattle.service_laws.proofs.CommitLaws.{arrive_commits, call_answered_commits, call_failed_commits}
-use Rattle.service_laws.proofs.UntoldLaws.{TellsNone, same_tells_none}
+use Rattle.service_parts.proofs.CommitLaws.{arrive_commits, call_answered_commits, call_failed_commits}
+use Rattle.service_parts.proofs.UntoldLaws.{TellsNone, same_tells_none}
 
 -- what holds of an event and of a refusal for want of memory holds of a call
 pub does_holds : {A E : Type 0} (P : Result A E → Kept → Type 0) (is_memory : E → Bool) (event : After (Result A E)) (s t : Kept) (r : Result A E)

@@ -16,7 +16,7 @@ use Rattle.service_events.proofs.LogLemmas.{call_is, itself, found_call}
 use Rattle.service_events.proofs.PartLemmas.{logged}
 use Rattle.service_events.proofs.PostedLaw.{IsOfEntry, of_entry}
 use Rattle.service_events.proofs.SearchLemmas.{text_is, some_none, splits, found_all}
-use Rattle.service_laws.proofs.AgeLemmas.{each_both}
+use Rattle.service_parts.proofs.AgeLemmas.{each_both}
 
 -- ---- the reply of a number
 
