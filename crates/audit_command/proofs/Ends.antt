@@ -6,10 +6,10 @@ use Rattle.dump_reader.specs.declared.dump.DumpService.{DumpService}
 use Rattle.dump_reader.specs.declared.refused.DumpRefused.{DumpRefused}
 use Rattle.audit_command.specs.Audits.{AuditEnds, IsGood}
 
-some_none : {X : Type 0} (o : Option X) (x : X) → o ≡ None → o ≡ Some x → ⊥
+pub some_none : {X : Type 0} (o : Option X) (x : X) → o ≡ None → o ≡ Some x → ⊥
 some_none o x a b = let e : None ≡ Some x = sym a ∙ b in cc
 
-read_refused : (a : List DumpService) (why : DumpRefused) (x y : Result (List DumpService) DumpRefused) → x ≡ Ok a → y ≡ Err why → Some x ≡ Some y → ⊥
+pub read_refused : (a : List DumpService) (why : DumpRefused) (x y : Result (List DumpService) DumpRefused) → x ≡ Ok a → y ≡ Err why → Some x ≡ Some y → ⊥
 read_refused a why x y is other e = let same : x ≡ y = cc in cc
 
 pub ends_well : (words : List (List ℕ)) (files files_now : Loads) (out out_now : Writes) (status : ℕ) → IsGood words files files_now out out_now → AuditEnds words files files_now out out_now status

@@ -1,3 +1,3 @@
 pub mod Dumps
 pub mod Ends
-pub mod Told
+pub mod Endings

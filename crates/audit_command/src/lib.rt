@@ -1,4 +1,5 @@
-//! The command `audit DUMP WORKERS`: services judged by their dump alone, over any files and output.
+//! The command `audit DUMP WORKERS`: services judged by their dump alone, over any files and output; and what it shares
+//! with other commands over a dump.
 #![tactic(auto)]
 
 mod auditing;
@@ -7,3 +8,6 @@ mod telling;
 mod words;
 
 pub use auditing::audit;
+pub use loading::{NoDump, load_dump};
+pub use telling::{lacking, misused, print, refused, told, unread};
+pub use words::is_file_word;

@@ -12,7 +12,7 @@ use std::alloc::Global;
 
 /// Why there is no dump.
 #[derive(Clone, Copy)]
-pub(crate) enum NoDump {
+pub enum NoDump {
     /// Memory ran out.
     NoMemory,
     /// The file wasn't loaded, and the count of faults rose.
@@ -35,7 +35,7 @@ fn dump_from(alloc: Global, bytes: &[u8]) -> Result<Dump, NoDump>
 
 /// The dump of a file.
 #[tactic(auto, using(crate::proofs::Dumps::file_read, crate::proofs::Dumps::file_refused, crate::proofs::Dumps::long_file))]
-pub(crate) fn load_dump<F: Files>(alloc: Global, path: &str, files: &mut F) -> Result<Dump, NoDump>
+pub fn load_dump<F: Files>(alloc: Global, path: &str, files: &mut F) -> Result<Dump, NoDump>
     ensures dump { IfOk result (λ dump. Is (dump_told (F.loads files.old).files path.now) (Ok dump.services)) }
     ensures refused { IfErr result (λ why. ForSome (refusal_of why) (λ refused. Is (dump_told (F.loads files.old).files path.now) (Err refused))) }
     ensures asked { ¬ (IsErrOf result NoDump.NoMemory) → Asked (F.loads files.old) (F.loads files.new) path.now }

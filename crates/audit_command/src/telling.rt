@@ -14,7 +14,7 @@ fn write_last<K: Sink>(out: &mut K, line: &str)
 }
 
 /// The end for want of memory: 6.
-pub(crate) fn lacking<K: Sink>(out: &mut K) -> u8
+pub fn lacking<K: Sink>(out: &mut K) -> u8
     ensures { LacksMemory (K.writes out.old) (K.writes out.new) result }
 {
     write_last(out, "no memory\n");
@@ -22,7 +22,7 @@ pub(crate) fn lacking<K: Sink>(out: &mut K) -> u8
 }
 
 /// The end where the file can't be loaded: 4.
-pub(crate) fn unread<K: Sink>(out: &mut K) -> u8
+pub fn unread<K: Sink>(out: &mut K) -> u8
     ensures status { result ≡ 4 }
     ensures ends { EndsIn (K.writes out.old) (K.writes out.new) (codes "read fault\n") }
 {
@@ -31,7 +31,7 @@ pub(crate) fn unread<K: Sink>(out: &mut K) -> u8
 }
 
 /// The end where the words don't fit: 2.
-pub(crate) fn misused<K: Sink>(alloc: Global, out: &mut K, place: u64) -> u8
+pub fn misused<K: Sink>(alloc: Global, out: &mut K, place: u64) -> u8
     ensures { ((result ≡ 2) × EndsIn (K.writes out.old) (K.writes out.new) (usage_line place)) ⊎ LacksMemory (K.writes out.old) (K.writes out.new) result }
 {
     match format!(in alloc; "usage: word {place}\n") {
@@ -44,7 +44,7 @@ pub(crate) fn misused<K: Sink>(alloc: Global, out: &mut K, place: u64) -> u8
 }
 
 /// The end where the dump is refused: 3.
-pub(crate) fn refused<K: Sink>(alloc: Global, out: &mut K, why: DumpRefused) -> u8
+pub fn refused<K: Sink>(alloc: Global, out: &mut K, why: DumpRefused) -> u8
     ensures { ((result ≡ 3) × EndsIn (K.writes out.old) (K.writes out.new) (refused_line why)) ⊎ LacksMemory (K.writes out.old) (K.writes out.new) result }
 {
     let line = why.line();
@@ -83,7 +83,8 @@ fn judged_line(alloc: Global, judged: &Judged) -> Result<String, AllocError>
     }
 }
 
-fn print<K: Sink>(out: &mut K, line: &str) -> u8
+/// The end where this is written: 0, or 5 where a write failed.
+pub fn print<K: Sink>(out: &mut K, line: &str) -> u8
     ensures { Prints (K.writes out.old) (K.writes out.new) line.now result }
 {
     match write_all(out, line.as_bytes()) {
@@ -93,7 +94,7 @@ fn print<K: Sink>(out: &mut K, line: &str) -> u8
 }
 
 /// The end where it is told what the dump is found to be: 0, or 5 where a write failed.
-pub(crate) fn told<K: Sink>(alloc: Global, out: &mut K, judged: &Judged) -> u8
+pub fn told<K: Sink>(alloc: Global, out: &mut K, judged: &Judged) -> u8
     ensures { Prints (K.writes out.old) (K.writes out.new) (judged_line judged.now) result ⊎ LacksMemory (K.writes out.old) (K.writes out.new) result }
 {
     match judged_line(alloc, judged) {

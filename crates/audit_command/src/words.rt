@@ -8,7 +8,8 @@ use request_names::read_number;
 /// The most workers.
 const MOST_WORKERS: u64 = 64;
 
-fn is_file_word(word: &str) -> bool
+/// Whether a word names a file: one that begins with `-` is `-` alone.
+pub fn is_file_word(word: &str) -> bool
     ensures { result ≡ is_file_word word.now }
 {
     !word.starts_with("-") || word == "-"

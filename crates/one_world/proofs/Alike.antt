@@ -6,7 +6,7 @@ use Rattle.execution.specs.Executions.{Act, History}
 use Rattle.execution.specs.Together.{name_of}
 use Rattle.one_world.specs.Trees.{AreCalled, AreRoots, Trees, act_in, callee_in, calls_of, none, tree}
 
-both_some : {X : Type 0} (o : Option X) (x y : X) → o ≡ Some x → o ≡ Some y → x ≡ y
+pub both_some : {X : Type 0} (o : Option X) (x y : X) → o ≡ Some x → o ≡ Some y → x ≡ y
 both_some o x y e f = (let both : Some x ≡ Some y = sym e ∙ f in cc)
 
 tree_is : (h g : History) (a b : Act) (t u v w : Trees) → h ≡ g → a ≡ b → t ≡ u → v ≡ w → tree h a t v ≡ tree g b u w

@@ -10,3 +10,5 @@ pub mod Prefixes
 pub mod Stands
 pub mod Turning
 pub mod Existing
+pub mod Searching
+pub mod Stuck

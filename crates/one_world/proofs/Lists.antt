@@ -94,6 +94,9 @@ pub if_false : {X : Type 0} (b : Bool) (x y : X) → b ≡ false → cond b x y 
 if_false true x y h = absurd cc
 if_false false x y h = refl
 
+pub same_is : (a b : List ℕ) → same_text a b ≡ true → a ≡ b
+same_is a b is = text_is a b is
+
 pub same_self : (a : List ℕ) → same_text a a ≡ true
 same_self a = nat_list_eq_equiv.refl a
 

@@ -19,10 +19,10 @@ use Rattle.one_world.proofs.Low.{Low, called_low, left_all}
 
 -- ---- one log
 
-alive_first : (a : Act) (left : List Act) → survives a ≡ true → survivors (a ∷ left) ≡ a.id ∷ survivors left
+pub alive_first : (a : Act) (left : List Act) → survives a ≡ true → survivors (a ∷ left) ≡ a.id ∷ survivors left
 alive_first a left e = ap (λ xs. map (λ (b : Act). b.id) xs) (if_true (survives a) (a ∷ filter survives left) (filter survives left) e)
 
-dead_first : (a : Act) (left : List Act) → survives a ≡ false → survivors (a ∷ left) ≡ survivors left
+pub dead_first : (a : Act) (left : List Act) → survives a ≡ false → survivors (a ∷ left) ≡ survivors left
 dead_first a left e = ap (λ xs. map (λ (b : Act). b.id) xs) (if_false (survives a) (a ∷ filter survives left) (filter survives left) e)
 
 next_alive : (id : ℕ) (a : Act) (left : List Act) → survives a ≡ true → behind_next id (a ∷ left) ≡ cond (nat_eq a.id id) (Some left) None
@@ -322,6 +322,25 @@ module _ (world : List History) (legal : IsLegalTogether world) (name : List ℕ
         is = joins (behind_id depth world name i.number (history_in i.service world) left) (λ later. behind_roots depth world name order later) under.later one ∙ more.is;
         survive = more.survive;
       }
+
+-- ---- one root
+
+-- what a log loses behind a root is what survives of the root's tree
+pub root_passed : (world : List History) → IsLegalTogether world → (name : List ℕ) (i : RequestId) (left later : List Act)
+    → behind_id (length world) world name i.number (history_in i.service world) left ≡ Some later
+    → (t : Trees) × AreRoots t world (i ∷ []) × (survivors left ≡ numbers_at name (call_order t) ++ survivors later)
+root_passed world legal name i left later e =
+    let f = roots_sound world legal name (length world) (i ∷ []) left later (joins (behind_id (length world) world name i.number (history_in i.service world) left) (λ x. Some x) later e) in
+    (f.trees, f.are, f.passes)
+
+-- a log that goes on with a root's tree
+pub root_passes : (world : List History) → IsLegalTogether world → (name : List ℕ) (i : RequestId) (t : Trees) (left : List Act) (rest : List ℕ) → AreRoots t world (i ∷ [])
+    → survivors left ≡ numbers_at name (call_order t) ++ rest → Goes (behind_id (length world) world name i.number (history_in i.service world) left) rest
+root_passes world legal name i t left rest roots e =
+    let g = roots_complete world legal name t (i ∷ []) left rest roots e in
+    let s = split (behind_id (length world) world name i.number (history_in i.service world) left) (λ x. Some x) g.later g.is in
+    let same : s.mid ≡ g.later = (let both : Some s.mid ≡ Some g.later = s.then in cc) in
+    record { later = s.mid; is = s.first; survive = ap survivors same ∙ g.survive }
 
 -- ---- whole worlds
 

@@ -1,5 +1,5 @@
 use Rattle.std.proofs.Common.{refl}
-use Rattle.audit_command.proofs.Told.{refused_ends, told_ends}
+use Rattle.audit_command.proofs.Endings.{refused_ends, told_ends}
 use Rattle.audit_command.proofs.auditing.audit_file.Goals as goal
 
 pub returns-in-Ok-judge_beside : goal.returns-in-Ok-judge_beside
