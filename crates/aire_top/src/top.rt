@@ -7,7 +7,7 @@ ghost use Rattle.world_events.specs.Sound.{IsSound};
 ghost use Rattle.script_run.specs.Audits.{SaysForged};
 ghost use Rattle.world_agreement.specs.Legal.{AreLegal};
 ghost use Rattle.aire_top.specs.Closings.{ClosesWorldless};
-ghost use Rattle.aire_top.specs.Commands.{Ends, EndsOffline, HasAudited, IsGoodCommand, IsGoodOffline};
+ghost use Rattle.aire_top.specs.Commands.{Ends, EndsOffline, HasAudited, HasOrdered, IsGoodCommand, IsGoodOffline};
 ghost use Rattle.aire_top.specs.Endings.{RunEnds, ScriptEnds, answer, outside};
 ghost use Rattle.aire_top.specs.Top.{fitting, words_of};
 
@@ -20,6 +20,7 @@ use crate::starting::started;
 use crate::words::{Command, command_of, is_make, named};
 use audit_command::audit;
 use io_edge::{Files, ReadRefused, Sink, Source};
+use order_command::order;
 use script_run::{ScriptRefused, World, run_script};
 use std::alloc::Global;
 use std::thread::Threads;
@@ -178,11 +179,26 @@ fn audited<R: Threads + Sync, F: Files, K: Sink>(
     without(alloc, status)
 }
 
+// Looks for one order of the roots of a dump.
+fn ordered<F: Files, K: Sink>(alloc: Global, words: &[String], files: &mut F, out: &mut K) -> Ended
+    ensures ends { (reads : _) → HasOrdered (map string_bytes words.now)
+        (outside (F.loads files.old) reads (K.writes out.old))
+        (outside (F.loads files.new) reads (K.writes out.new))
+        (answer result.status result.services.items result.verdict) }
+    ensures legal { result.verdict ≡ Some Legal → AreLegal result.services.items }
+    ensures joined { IfSome result.verdict (λ v. ¬ (SaysForged v)) }
+    ensures allowed { IfSome result.verdict (λ v. All IsAllowed result.services.items) }
+{
+    let status = order(alloc, words, files, out);
+    without(alloc, status)
+}
+
 /// What the program does. The words are those after its name: `audit DUMP WORKERS`, where DUMP is a file, and the services
-/// that it writes down are judged by it alone, in at most WORKERS threads; else they are those of `offline`.
+/// that it writes down are judged by it alone, in at most WORKERS threads; `order DUMP`, and one order of their requests is looked
+/// for in which all of them could have run as one program; else they are those of `offline`.
 ///
 /// An audit ends in one of five ways: the dump was judged (status 0 or 5), it is refused (3), the words don't fit (2), the
-/// file can't be read (4), or memory is wanting (6).
+/// file can't be read (4), or memory is wanting (6). So does a search for an order, where it is told, or that there is none.
 pub fn aire<R: Threads + Sync, F: Files, S: Source, K: Sink>(
     rt: &R,
     alloc: Global,
@@ -213,5 +229,6 @@ pub fn aire<R: Threads + Sync, F: Files, S: Source, K: Sink>(
         Command::Run => offline(alloc, words, files, input, out),
         Command::Make => offline(alloc, words, files, input, out),
         Command::Audit => audited(rt, alloc, words, files, out),
+        Command::Order => ordered(alloc, words, files, out),
     }
 }
