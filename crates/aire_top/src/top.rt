@@ -9,7 +9,7 @@ ghost use Rattle.world_agreement.specs.Legal.{AreLegal};
 ghost use Rattle.aire_top.specs.Closings.{ClosesWorldless};
 ghost use Rattle.aire_top.specs.Commands.{Ends, EndsOffline, HasAudited, HasOrdered, IsGoodCommand, IsGoodOffline};
 ghost use Rattle.aire_top.specs.Endings.{RunEnds, ScriptEnds, answer, outside};
-ghost use Rattle.aire_top.specs.Top.{fitting, words_of};
+ghost use Rattle.aire_top.specs.Top.{fitting};
 
 use crate::ending::{
     Ended, lacking, misused, refusal, standing, unread, without, world_refused, world_too_long,
@@ -92,28 +92,6 @@ fn run<F: Files, S: Source, K: Sink>(
     }
 }
 
-// Runs what words ask for that ask for no other command than a run.
-fn run_words<F: Files, S: Source, K: Sink>(
-    alloc: Global,
-    words: &[String],
-    files: &mut F,
-    input: &mut S,
-    out: &mut K,
-) -> Ended
-    ensures ends { RunEnds (words_of (map string_bytes words.now))
-        (outside (F.loads files.old) (S.reads input.old) (K.writes out.old))
-        (outside (F.loads files.new) (S.reads input.new) (K.writes out.new))
-        (answer result.status result.services.items result.verdict) }
-    ensures legal { result.verdict ≡ Some Legal → AreLegal result.services.items }
-    ensures joined { IfSome result.verdict (λ v. ¬ (SaysForged v)) }
-    ensures allowed { IfSome result.verdict (λ v. All IsAllowed result.services.items) }
-{
-    match named(words) {
-        Ok((world, script)) => run(alloc, world, script, files, input, out),
-        Err(place) => misused(alloc, out, place),
-    }
-}
-
 /// What the program does for words that ask for a command without threads, or for none: `run WORLD SCRIPT`, where WORLD is
 /// `@notes`, `@shops`, `@posts` or a world file, SCRIPT a file or `-` for the input, and the script is run in a new world; or
 /// `make SEED N`, where a script of N requests is made of a number and run in a new world of the services of `@posts`, and
@@ -153,9 +131,11 @@ pub fn offline<F: Files, S: Source, K: Sink>(
     ensures allowed { IfSome result.verdict (λ v. All IsAllowed result.services.items) }
 {
     if is_make(words) {
-        make(alloc, words, out)
-    } else {
-        run_words(alloc, words, files, input, out)
+        return make(alloc, words, out);
+    }
+    match named(words) {
+        Ok((world, script)) => run(alloc, world, script, files, input, out),
+        Err(place) => misused(alloc, out, place),
     }
 }
 

@@ -2,8 +2,10 @@ use Rattle.std.proofs.Common.{map, refl, sym, ◌∙◌}
 use Rattle.std.specs.String.{string_bytes}
 use Rattle.aire_top.specs.Commands.{offline_command}
 use Rattle.aire_top.specs.Endings.{outside}
+use Rattle.aire_top.specs.Top.{words_of}
 use Rattle.aire_top.specs.declared.words.Command.TheVariants.{Make, Run}
 use Rattle.aire_top.proofs.Commands.{ends_as, offline_make, offline_run, offline_well}
+use Rattle.aire_top.proofs.Runs.{not_fitting, run_fits}
 use Rattle.aire_top.proofs.top.offline.Goals as goal
 
 pub returns-then-is_make-clause-ends : goal.returns-then-is_make-clause-ends
@@ -21,15 +23,36 @@ returns-then-is_make-clause-complete g c = λ good.
     (ends_as (offline_command words) Make (offline_make words (sym c.is_make.ensures ∙ c.if-is_make.true)) words before now _
     (record { ended = c.make.ensures.ends; files = refl; input = refl }))
 
-pub returns-else-is_make-clause-ends : goal.returns-else-is_make-clause-ends
-returns-else-is_make-clause-ends g c =
-    let words = map string_bytes c.args.words.now in
-    ends_as (offline_command words) Run (offline_run words (sym c.is_make.ensures ∙ c.if-is_make.false)) words _ _ _ c.run_words.ensures.ends
-
-pub returns-else-is_make-clause-complete : goal.returns-else-is_make-clause-complete
-returns-else-is_make-clause-complete g c = λ good.
+pub returns-in-Ok-clause-ends : goal.returns-in-Ok-clause-ends
+returns-in-Ok-clause-ends g c =
     let words = map string_bytes c.args.words.now in
     let before = outside (g.F.Files.loads c.args.files.now) (g.S.Source.reads c.args.input.now) (g.K.Sink.writes c.args.out.now) in
-    let now = outside (g.F.Files.loads c.run_words.new.files) (g.S.Source.reads c.run_words.new.input) (g.K.Sink.writes c.run_words.new.out) in
+    let now = outside (g.F.Files.loads c.run.new.files) (g.S.Source.reads c.run.new.input) (g.K.Sink.writes c.run.new.out) in
+    ends_as (offline_command words) Run (offline_run words (sym c.is_make.ensures ∙ c.if-is_make.false)) words before now _
+    (run_fits words _ _ before now _ c.in-Ok.ensures.fit c.in-Ok.ensures.world c.in-Ok.ensures.script c.run.ensures.ends)
+
+pub returns-in-Ok-clause-complete : goal.returns-in-Ok-clause-complete
+returns-in-Ok-clause-complete g c = λ good.
+    let words = map string_bytes c.args.words.now in
+    let before = outside (g.F.Files.loads c.args.files.now) (g.S.Source.reads c.args.input.now) (g.K.Sink.writes c.args.out.now) in
+    let now = outside (g.F.Files.loads c.run.new.files) (g.S.Source.reads c.run.new.input) (g.K.Sink.writes c.run.new.out) in
     offline_well words before now _ good
-    (ends_as (offline_command words) Run (offline_run words (sym c.is_make.ensures ∙ c.if-is_make.false)) words before now _ c.run_words.ensures.ends)
+    (ends_as (offline_command words) Run (offline_run words (sym c.is_make.ensures ∙ c.if-is_make.false)) words before now _
+    (run_fits words _ _ before now _ c.in-Ok.ensures.fit c.in-Ok.ensures.world c.in-Ok.ensures.script c.run.ensures.ends))
+
+pub returns-in-Err-clause-ends : goal.returns-in-Err-clause-ends
+returns-in-Err-clause-ends g c =
+    let words = map string_bytes c.args.words.now in
+    ends_as (offline_command words) Run (offline_run words (sym c.is_make.ensures ∙ c.if-is_make.false)) words _ _ _
+    (not_fitting (words_of words) c.in-Err.place (g.F.Files.loads c.args.files.now) (g.S.Source.reads c.args.input.now) (g.K.Sink.writes c.args.out.now) (g.K.Sink.writes c.misused.new.out) _
+    c.in-Err.ensures.misfit c.misused.ensures.ends)
+
+pub returns-in-Err-clause-complete : goal.returns-in-Err-clause-complete
+returns-in-Err-clause-complete g c = λ good.
+    let words = map string_bytes c.args.words.now in
+    let before = outside (g.F.Files.loads c.args.files.now) (g.S.Source.reads c.args.input.now) (g.K.Sink.writes c.args.out.now) in
+    let now = outside (g.F.Files.loads c.args.files.now) (g.S.Source.reads c.args.input.now) (g.K.Sink.writes c.misused.new.out) in
+    offline_well words before now _ good
+    (ends_as (offline_command words) Run (offline_run words (sym c.is_make.ensures ∙ c.if-is_make.false)) words before now _
+    (not_fitting (words_of words) c.in-Err.place (g.F.Files.loads c.args.files.now) (g.S.Source.reads c.args.input.now) (g.K.Sink.writes c.args.out.now) (g.K.Sink.writes c.misused.new.out) _
+    c.in-Err.ensures.misfit c.misused.ensures.ends))
