@@ -13,6 +13,6 @@ pub exact_so : (world : List History) → IsLegalTogether world → (order : Lis
 exact_so world legal order b is =
     (λ so. certificate_passes world legal order (sym is ∙ so), λ passes. is ∙ passes_certificate world legal order passes)
 
-pub one_world_so : (world : List History) → IsLegalTogether world → (order : List RequestId) → (b : Bool) → b ≡ is_certificate world order → AreNamed world → b ≡ true
+pub one_world_so : (world : List History) → IsLegalTogether world → AreNamed world → (order : List RequestId) → (b : Bool) → b ≡ is_certificate world order → b ≡ true
     → RunsAsOne world order
-one_world_so world legal order b is named so = runs_as_one world legal named order (certificate_passes world legal order (sym is ∙ so))
+one_world_so world legal named order b is so = runs_as_one world legal named order (certificate_passes world legal order (sym is ∙ so))

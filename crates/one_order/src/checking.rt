@@ -131,8 +131,8 @@ fn behind_calls<'a>(
     behind_last(numbers, left)
 }
 
-// Behind a root of this name, and all that it calls.
-fn behind_id<'a>(
+/// Behind a root of this name, and all that it calls.
+pub(crate) fn behind_id<'a>(
     world: &[DumpService],
     name: &Name,
     id: &RequestId,

@@ -4,12 +4,19 @@
 //! It stands on the dump and on the meaning of the handler language, and on nothing that repairs.
 #![tactic(auto)]
 
+mod certificates;
 mod checking;
+mod cycles;
 mod finding;
+mod logs;
 mod orders;
 mod playing;
+mod searching;
+mod ways;
 mod worlds;
 
+pub use certificates::{Certificate, OneRefused, find_order};
+pub use dump_audit::Judged;
 pub use dump_reader::{Dump, DumpEntry, DumpService};
 pub use lang_core::RequestId;
 pub use one_world::Rows;

@@ -3,7 +3,7 @@ ghost use Rattle.std.specs.Prelude.{◌≡◌, ◌↔◌, true};
 ghost use Rattle.std.specs.List.{list_all};
 ghost use Rattle.execution.specs.Together.{IsLegalTogether};
 ghost use Rattle.dump_audit.specs.Histories.{histories_of};
-ghost use Rattle.one_world.specs.Certificates.{AreNamed, Passes};
+ghost use Rattle.one_world.specs.Certificates.{Passes};
 ghost use Rattle.one_world.specs.Checks.{is_certificate, is_empty, stands_in};
 ghost use Rattle.one_world.specs.OneWorld.{RunsAsOne};
 
@@ -52,7 +52,7 @@ pub fn check_order(dump: &Dump, order: &Ids) -> bool
     ensures exact { (result ≡ true) ↔ Passes (histories_of dump.now.services) order.now }
     // Then the run of the roots as one program, in this order, doesn't fail, ends with the dump's rows, and each request in
     // it responds as the dump says.
-    ensures one_world { AreNamed (histories_of dump.now.services) → result ≡ true → RunsAsOne (histories_of dump.now.services) order.now }
+    ensures one_world { result ≡ true → RunsAsOne (histories_of dump.now.services) order.now }
 {
     is_certificate(dump.services.as_slice(), order.as_slice())
 }

@@ -1,0 +1,93 @@
+// One order for a whole world, or that there is none.
+ghost use Rattle.std.specs.Prelude.{◌≡◌, None, IfErr, IfOk, IfSome};
+ghost use Rattle.execution.specs.Together.{IsLegalTogether};
+ghost use Rattle.dump_audit.specs.Histories.{histories_of};
+ghost use Rattle.dump_audit.specs.Judging.{judged};
+ghost use Rattle.dump_audit.specs.declared.judged.Judged.TheVariants.{Legal};
+ghost use Rattle.one_order.specs.Certificates.{AreFirst, found_ill, order_in};
+ghost use Rattle.one_world.specs.Certificates.{Passes};
+ghost use Rattle.one_world.specs.OneWorld.{RunsAsOne};
+ghost use Rattle.one_world.specs.Searches.{logs_of};
+
+use crate::cycles::cycle_in;
+use crate::logs::first_left;
+use crate::orders::Ids;
+use crate::searching::search;
+use dump_audit::{Judged, judge};
+use dump_reader::Dump;
+use lang_core::{NoMemory, RequestId};
+use std::alloc::Global;
+
+/// Whether the services of a dump could have run as one program, root by root.
+#[derive(Drop)]
+pub enum Certificate {
+    /// They could, with their roots in this order: of those with none left before them always the first goes next, by service in
+    /// the dump's order and then by place.
+    Order(Ids),
+    /// They couldn't: no order of the roots passes. These are the first two neighbouring entries that survive, by service and
+    /// place, which show it. Either both are of one root that comes to the second first, and the way back is empty; or the way
+    /// back leads from the second's root to the first's, each root before the next.
+    Cycle {
+        first: RequestId,
+        second: RequestId,
+        back: Ids,
+    },
+}
+
+/// Why there is no certificate.
+#[derive(Drop)]
+pub enum OneRefused {
+    /// Memory ran out.
+    NoMemory,
+    /// The dump isn't legal, for this.
+    NotLegal(Judged),
+}
+
+impl From<NoMemory> for OneRefused {
+    ghost use Rattle.one_order.specs.declared.certificates.OneRefused.{OneRefused};
+
+    ghost from_gives = { λ _ why. why ≡ OneRefused.NoMemory };
+
+    fn from(_: NoMemory) -> OneRefused {
+        OneRefused::NoMemory
+    }
+}
+
+fn certificate_of(alloc: Global, dump: &Dump) -> Result<Certificate, NoMemory>
+    requires legal { IsLegalTogether (histories_of dump.now.services) }
+    ensures order { IfOk result (λ found. IfSome (order_in found) (λ order. Passes (histories_of dump.now.services) order)) }
+    ensures first { IfOk result (λ found. IfSome (order_in found) (λ order. AreFirst (histories_of dump.now.services) (logs_of (histories_of dump.now.services)) order)) }
+    ensures cycle { IfOk result (λ found. order_in found ≡ None → (order : _) → ¬ (Passes (histories_of dump.now.services) order)) }
+    ensures one_world { IfOk result (λ found. IfSome (order_in found) (λ order. RunsAsOne (histories_of dump.now.services) order)) }
+{
+    let found = search(alloc, &dump.services)?;
+    match first_left(&found.logs) {
+        None => Ok(Certificate::Order(found.order)),
+        Some((service, number)) => { cycle_in(alloc, &dump.services, &found.logs, service, number) }
+    }
+}
+
+/// An order of the roots in which the whole world could have run as one program, or two entries that show that there is none.
+pub fn find_order(alloc: Global, dump: &Dump) -> Result<Certificate, OneRefused>
+    // The order that is found passes.
+    ensures order { IfOk result (λ found. IfSome (order_in found) (λ order. Passes (histories_of dump.now.services) order)) }
+    // Behind those before it, each root of it is the first, by service, that comes next in all logs.
+    ensures first { IfOk result (λ found. IfSome (order_in found) (λ order. AreFirst (histories_of dump.now.services) (logs_of (histories_of dump.now.services)) order)) }
+    // Where none is found, no order passes.
+    ensures cycle { IfOk result (λ found. order_in found ≡ None → (order : _) → ¬ (Passes (histories_of dump.now.services) order)) }
+    // The run of the roots as one program, in the order that is found, doesn't fail, ends with the dump's rows, and each request
+    // in it responds as the dump says.
+    ensures one_world { IfOk result (λ found. IfSome (order_in found) (λ order. RunsAsOne (histories_of dump.now.services) order)) }
+    // The dump is legal then.
+    ensures legal { IfOk result (λ found. IsLegalTogether (histories_of dump.now.services)) }
+    // A dump is refused for what it is found to be, where that isn't legal.
+    ensures refused { IfErr result (λ why. IfSome (found_ill why) (λ found. (found ≡ judged dump.now.services) × ¬ (found ≡ Legal))) }
+{
+    match judge(alloc, dump) {
+        Ok(Judged::Legal) => Ok(certificate_of(alloc, dump)?),
+        Ok(Judged::Differs { service, id, what }) => {
+            Err(OneRefused::NotLegal(Judged::Differs { service, id, what }))
+        }
+        Err(_) => Err(OneRefused::NoMemory),
+    }
+}
