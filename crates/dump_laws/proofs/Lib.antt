@@ -1,0 +1,12 @@
+pub mod Words
+pub mod Texts
+pub mod Names
+pub mod Parts
+pub mod Lines
+pub mod Spelling
+pub mod Histories
+pub mod Keeping
+pub mod RunLimits
+pub mod Numbered
+pub mod Recorded
+pub mod ReadAndJudged

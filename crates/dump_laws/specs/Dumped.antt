@@ -1,0 +1,46 @@
+-- What a dump of services says of them.
+use Rattle.std.specs.Prelude.{List, Option, map}
+use Rattle.std.specs.Option.{option_map}
+use Rattle.lang_core.specs.declared.request.Response.{Response}
+use Rattle.lang_core.specs.declared.setting.Setting.{Setting}
+use Rattle.request_log.specs.Records.{Record, record_of, recorded_calls}
+use Rattle.request_log.specs.declared.entry.Entry.{Entry}
+use Rattle.local_repair.specs.Current.{Consumed, rows_after}
+use Rattle.service_events.specs.State.{Kept, answers, base}
+use Rattle.dump_reader.specs.declared.dump.DumpEntry.{DumpEntry}
+use Rattle.dump_reader.specs.declared.dump.DumpService.{DumpService}
+
+-- what a record's entry answered
+abbrev pub reply_in : Option Record → Option Response
+reply_in made = option_map (λ (r : Record). r.response) made
+
+-- an entry with its request as it is now, its calls, what each of them consumes now, and its reply
+abbrev pub dumped_entry : Consumed → Entry → DumpEntry
+dumped_entry consumed e = record {
+  id = e.id;
+  origin = e.origin;
+  version = e.version;
+  wanted = e.wanted;
+  struck = e.struck;
+  inputs = e.inputs;
+  request = e.request;
+  numbers = e.slots;
+  calls = recorded_calls (record_of e);
+  answers = map consumed e.slots;
+  reply = reply_in (record_of e);
+}
+
+-- the same setting, but for how heavy the journal may grow, which a dump doesn't tell
+abbrev pub weightless : Setting → Setting
+weightless s = record { me = s.me; peers = s.peers; program = s.program; weight = 0; alone = s.alone }
+
+-- a service's entries in logged order, and the rows after them
+abbrev pub dumped : Kept → DumpService
+dumped s = record {
+  setting = weightless s.setting;
+  entries = map (dumped_entry (answers s)) s.entries;
+  rows = rows_after (base s) s.entries;
+}
+
+abbrev pub dumped_all : List Kept → List DumpService
+dumped_all services = map dumped services
