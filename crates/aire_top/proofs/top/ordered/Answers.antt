@@ -3,8 +3,8 @@ use Rattle.aire_top.proofs.top.ordered.Goals as goal
 
 pub returns-clause-ends : goal.returns-clause-ends
 returns-clause-ends g c = λ reads. record {
-  status = c.audit-status.result;
+  status = c.order-status.result;
   answered = c.without.ensures.answer;
-  ends = c.audit-status.ensures.ends;
+  ends = c.order-status.ensures.ends;
   input = refl;
 }
