@@ -1,7 +1,7 @@
 // Dumps, and what is found of orders of their roots.
 use dump_audit::{Dump, Judged, judge};
 use dump_reader::read_dump;
-use one_order::{Ids, Rows, check_order, one_run};
+use one_order::{Certificate, Ids, OneRefused, RequestId, Rows, check_order, find_order, one_run};
 use request_names::read_request_id;
 use std::process::Abort;
 
@@ -81,6 +81,56 @@ row paid y 2
 end
 "#;
 
+/// A purchase that pays twice, of which the bank has the second payment first.
+pub const TWICE: &str = r#"service shop
+peers bank
+program route POST "/buy/*" {\ncall s , a = "bank" POST "/pay/a" body ;\ncall t , b = "bank" POST "/pay/b" body ;\nreply 200 "" ;\n}\n
+entry 1 out 0 1 0 0 1 2 3 4 5 6 7 8 POST /buy/x ann - 1
+call 1 bank POST /pay/a 1
+answer 200 ok 1
+call 2 bank POST /pay/b 1
+answer 200 ok 1
+reply 200
+end
+service bank
+peers shop
+program route POST "/pay/*" {\nput paid path ( 2 ) = body ;\nreply 200 ( "ok " ++ body ) ;\n}\n
+entry 1 shop/2 1 1 0 0 1 2 3 4 5 6 7 8 POST /pay/b shop shop 1
+reply 200 ok 1
+entry 2 shop/1 1 1 0 0 1 2 3 4 5 6 7 8 POST /pay/a shop shop 1
+reply 200 ok 1
+row paid a 1
+row paid b 1
+end
+"#;
+
+/// A payment that the bank has before the two purchases of the shop, the first of which pays.
+pub const EARLIER: &str = r#"service shop
+peers bank
+program route POST "/buy/*" {\ncall s , b = "bank" POST ( "/pay/" ++ path ( 2 ) ) body ;\nput orders path ( 2 ) = b ;\nreply s b ;\n}\nroute GET "/buy/*" {\nreply 200 "" ;\n}\n
+entry 1 out 0 1 0 0 1 2 3 4 5 6 7 8 POST /buy/y ann - 2
+call 1 bank POST /pay/y 2
+answer 200 ok 2
+reply 200 ok 2
+entry 2 out 0 1 0 0 1 2 3 4 5 6 7 8 GET /buy/x ann -
+reply 200
+row orders y ok 2
+end
+service bank
+peers shop
+program route POST "/pay/*" {\nput paid path ( 2 ) = body ;\nreply 200 ( "ok " ++ body ) ;\n}\n
+entry 1 out 0 1 0 0 1 2 3 4 5 6 7 8 POST /pay/x ann - 1
+reply 200 ok 1
+entry 2 shop/1 1 1 0 0 1 2 3 4 5 6 7 8 POST /pay/y shop shop 2
+reply 200 ok 2
+entry 3 out 0 1 0 0 1 2 3 4 5 6 7 8 POST /pay/z ann - 3
+reply 200 ok 3
+row paid x 1
+row paid y 2
+row paid z 3
+end
+"#;
+
 fn ids_of(rt: &(impl Abort + AllocGlobal), text: &str) -> Ids {
     let mut ids = Ids::new(rt.alloc());
     for word in text.split(' ') {
@@ -150,4 +200,45 @@ pub fn ran(rt: &(impl Abort + AllocGlobal), text: &str, order: &str, want: &str)
     let dump = read_dump(rt.alloc(), text.as_bytes()).expect(rt, "a dump");
     let found = rows_of(rt, &dump, order);
     assert_eq!(rt; found.as_str(), want, "at {order}");
+}
+
+fn push_id(rt: &(impl Abort + AllocGlobal), text: &mut String, id: &RequestId) {
+    let (name, number) = (id.service.as_str(), id.number);
+    let word = format!(in rt.alloc(); " {name}/{number}").expect(rt, "memory");
+    text.push_str(&word).expect(rt, "memory");
+}
+
+fn push_word(rt: &(impl Abort + AllocGlobal), text: &mut String, word: &str, ids: &Ids) {
+    text.push_str(word).expect(rt, "memory");
+    for id in ids.as_slice() {
+        push_id(rt, text, id);
+    }
+}
+
+fn push_certificate(rt: &(impl Abort + AllocGlobal), text: &mut String, certificate: &Certificate) {
+    match certificate {
+        Certificate::Order(order) => push_word(rt, text, "order", order),
+        Certificate::Cycle {
+            first,
+            second,
+            back,
+        } => {
+            text.push_str("cycle").expect(rt, "memory");
+            push_id(rt, text, first);
+            push_id(rt, text, second);
+            push_word(rt, text, " by", back);
+        }
+    }
+}
+
+/// Finds the order of a dump's roots, or that there is none.
+pub fn found(rt: &(impl Abort + AllocGlobal), text: &str, want: &str) {
+    let dump = read_dump(rt.alloc(), text.as_bytes()).expect(rt, "a dump");
+    let mut told = String::new(rt.alloc());
+    match find_order(rt.alloc(), &dump) {
+        Ok(certificate) => push_certificate(rt, &mut told, &certificate),
+        Err(OneRefused::NotLegal(_why)) => told.push_str("not legal").expect(rt, "memory"),
+        Err(OneRefused::NoMemory) => told.push_str("no memory").expect(rt, "memory"),
+    }
+    assert_eq!(rt; told.as_str(), want);
 }
