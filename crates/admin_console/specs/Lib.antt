@@ -1,0 +1,5 @@
+pub mod Answers
+pub mod Asking
+pub mod Fields
+pub mod Replies
+pub mod Reports

@@ -1,0 +1,82 @@
+// What operators are answered.
+ghost use Rattle.std.specs.Prelude.{◌≡◌, false, Some, IfOk, OnErr};
+ghost use Rattle.service_events.specs.Commits.{live_rows};
+ghost use Rattle.admin_console.specs.Answers.{IsAnswered, IsDone, IsLeft, IsUnanswered, MakesOrder};
+ghost use Rattle.admin_console.specs.Asking.{is_for_workers};
+ghost use Rattle.admin_console.specs.declared.asking.Asked.TheVariants.{Order};
+
+use crate::asking::{Asked, asked_in};
+use crate::desk::Orders;
+use crate::replies::{bad, order_reply};
+use crate::reports::service_report;
+use http_front::WireResponse;
+use journal_rows::Command;
+use lang_core::{Copied, Inputs, NoMemory, Text};
+use std::alloc::Global;
+use wire_fields::ConsoleRequest;
+
+// Makes an order, and then tells its answer.
+fn make_order<O: Orders>(
+    alloc: Global,
+    desk: &mut O,
+    token: Text,
+    command: Command,
+    who: Text,
+    inputs: Inputs,
+) -> Result<WireResponse, NoMemory>
+    ensures desk { IfOk result (λ response. IsDone O.kept O.made desk.old (Some (Order token command)) who inputs response desk.new) }
+    ensures service { IfOk result (λ response. IsDone (λ s. s) MakesOrder (O.kept desk.old) (Some (Order token command)) who inputs response (O.kept desk.new)) }
+    ensures desk_err { OnErr result (IsLeft O.made desk.old (Some (Order token command)) who inputs desk.new) }
+    ensures service_err { OnErr result (IsLeft MakesOrder (O.kept desk.old) (Some (Order token command)) who inputs (O.kept desk.new)) }
+    ensures silent { live_rows (O.kept desk.new).journal ≡ live_rows (O.kept desk.old).journal }
+{
+    let answer = desk.order(alloc, command, token, who, inputs);
+    order_reply(alloc, &desk.service().setting().me, answer)
+}
+
+// Does what is asked, if the body was no ill one.
+#[tactic(auto, using(crate::proofs::AnswerLemmas::told_report, crate::proofs::AnswerLemmas::told_ill))]
+fn carry_out<O: Orders>(
+    alloc: Global,
+    desk: &mut O,
+    asked: Option<Asked>,
+    who: Text,
+    inputs: Inputs,
+) -> Result<WireResponse, NoMemory>
+    ensures desk { IfOk result (λ response. IsDone O.kept O.made desk.old asked who inputs response desk.new) }
+    ensures service { IfOk result (λ response. IsDone (λ s. s) MakesOrder (O.kept desk.old) asked who inputs response (O.kept desk.new)) }
+    ensures desk_err { OnErr result (IsLeft O.made desk.old asked who inputs desk.new) }
+    ensures service_err { OnErr result (IsLeft MakesOrder (O.kept desk.old) asked who inputs (O.kept desk.new)) }
+    ensures silent { live_rows (O.kept desk.new).journal ≡ live_rows (O.kept desk.old).journal }
+{
+    match asked {
+        Some(Asked::Order { token, command }) => make_order(
+            alloc, desk, token, command, who, inputs,
+        ),
+        Some(Asked::Report(which)) => service_report(alloc, desk.service(), which),
+        None => bad(alloc),
+    }
+}
+
+/// Answers an operator's request, whose word isn't one that workers answer. An order is made, once, and then its answer is
+/// told; a report is of the service as it is; a body that is ill is told so, and changes nothing. Where there is no memory
+/// nothing changed, or an order was made and couldn't be told: asked again under its token, it is answered as then. No live
+/// answer is made.
+#[tactic(auto, using(crate::proofs::AnswerLemmas::answered, crate::proofs::AnswerLemmas::unanswered, crate::proofs::AnswerLemmas::left_as_it_was))]
+pub fn answer<O: Orders>(
+    alloc: Global,
+    desk: &mut O,
+    request: &ConsoleRequest,
+    inputs: Inputs,
+) -> Result<WireResponse, NoMemory>
+    requires word { is_for_workers request.now.word ≡ false }
+    ensures desk { IfOk result (λ response. IsAnswered O.kept O.made desk.old request.now inputs response desk.new) }
+    ensures service { IfOk result (λ response. IsAnswered (λ s. s) MakesOrder (O.kept desk.old) request.now inputs response (O.kept desk.new)) }
+    ensures desk_err { OnErr result (IsUnanswered O.made desk.old request.now inputs desk.new) }
+    ensures service_err { OnErr result (IsUnanswered MakesOrder (O.kept desk.old) request.now inputs (O.kept desk.new)) }
+    ensures silent { live_rows (O.kept desk.new).journal ≡ live_rows (O.kept desk.old).journal }
+{
+    let who = request.who.copied(alloc)?;
+    let asked = asked_in(alloc, request)?;
+    carry_out(alloc, desk, asked, who, inputs)
+}

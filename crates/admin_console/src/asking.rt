@@ -1,0 +1,208 @@
+// What an operator asks of a service.
+ghost use Rattle.std.specs.Prelude.{◌≡◌, IfOk};
+ghost use Rattle.serde_json.specs.View.{view};
+ghost use Rattle.admin_console.specs.Asking.{asked_at, asked_in, call_at, cancel_at, command_at, create_at, is_for_workers, neighbours_at, order_at, replace_at, report_named, request_at, restore_at, retry_at};
+
+use crate::fields::{
+    body_at, method_at, neighbour_at, number_at, object_in, path_at, post_at, who_at,
+};
+use journal_rows::Command;
+use lang_core::{Method, NoMemory, Request, Seq, Text};
+use serde_json::Value;
+use std::alloc::Global;
+use wire_fields::{ConsoleRequest, ConsoleWord};
+
+/// Which report.
+#[derive(Clone, Copy)]
+pub enum Report {
+    /// What the service has held.
+    Notices,
+    /// Its log.
+    Log,
+    /// Its rows.
+    Rows,
+}
+
+/// What an operator asks of one service.
+#[derive(Drop)]
+pub enum Asked {
+    /// An order: its token, from 1 to 64 visible characters, and the command.
+    Order { token: Text, command: Command },
+    /// A report.
+    Report(Report),
+}
+
+/// Whether the word is one that workers answer, over all services.
+pub fn is_for_workers(word: ConsoleWord) -> bool
+    ensures { result ≡ is_for_workers word }
+{
+    matches!(
+        word,
+        ConsoleWord::Preview | ConsoleWord::Audit | ConsoleWord::Stop
+    )
+}
+
+// ---- orders
+
+fn cancel_at(object: &Value) -> Option<Command>
+    ensures { result ≡ cancel_at (view object.now) }
+{
+    let id = number_at(object, "id")?;
+    Some(Command::Cancel(id))
+}
+
+fn restore_at(object: &Value) -> Option<Command>
+    ensures { result ≡ restore_at (view object.now) }
+{
+    let id = number_at(object, "id")?;
+    Some(Command::Restore(id))
+}
+
+fn retry_at(object: &Value) -> Option<Command>
+    ensures { result ≡ retry_at (view object.now) }
+{
+    let name = post_at(object)?;
+    Some(Command::Retry(name))
+}
+
+// Method, path and body.
+fn call_at(alloc: Global, object: &Value) -> Result<Option<(Method, Text, Text)>, NoMemory>
+    ensures { IfOk result (λ call. call ≡ call_at (view object.now)) }
+{
+    let Some(method) = method_at(object) else {
+        return Ok(None);
+    };
+    let Some(path) = path_at(alloc, object)? else {
+        return Ok(None);
+    };
+    let Some(body) = body_at(alloc, object)? else {
+        return Ok(None);
+    };
+    Ok(Some((method, path, body)))
+}
+
+fn replace_at(alloc: Global, object: &Value) -> Result<Option<Command>, NoMemory>
+    ensures { IfOk result (λ command. command ≡ replace_at (view object.now)) }
+{
+    let Some(id) = number_at(object, "id") else {
+        return Ok(None);
+    };
+    let Some((method, path, body)) = call_at(alloc, object)? else {
+        return Ok(None);
+    };
+    Ok(Some(Command::Replace {
+        id,
+        method,
+        path,
+        body,
+    }))
+}
+
+// A request of a user, from outside.
+fn request_at(alloc: Global, object: &Value) -> Result<Option<Request>, NoMemory>
+    ensures { IfOk result (λ request. request ≡ request_at (view object.now)) }
+{
+    let Some(who) = who_at(alloc, object, "who")? else {
+        return Ok(None);
+    };
+    let Some((method, path, body)) = call_at(alloc, object)? else {
+        return Ok(None);
+    };
+    Ok(Some(Request {
+        method,
+        path,
+        body,
+        who,
+        chain: Seq::new(alloc),
+    }))
+}
+
+fn neighbours_at(object: &Value) -> Option<(Option<u64>, Option<u64>)>
+    ensures { result ≡ neighbours_at (view object.now) }
+{
+    let before = neighbour_at(object, "before")?;
+    let after = neighbour_at(object, "after")?;
+    Some((before, after))
+}
+
+fn create_at(alloc: Global, object: &Value) -> Result<Option<Command>, NoMemory>
+    ensures { IfOk result (λ command. command ≡ create_at (view object.now)) }
+{
+    let Some((before, after)) = neighbours_at(object) else {
+        return Ok(None);
+    };
+    let Some(request) = request_at(alloc, object)? else {
+        return Ok(None);
+    };
+    Ok(Some(Command::Create {
+        before,
+        after,
+        request,
+    }))
+}
+
+#[tactic(auto, unfolding(crate::specs::Asking::command_at))]
+fn command_at(alloc: Global, word: ConsoleWord, object: &Value) -> Result<Option<Command>, NoMemory>
+    ensures { IfOk result (λ command. command ≡ command_at word (view object.now)) }
+{
+    match word {
+        ConsoleWord::Cancel => Ok(cancel_at(object)),
+        ConsoleWord::Restore => Ok(restore_at(object)),
+        ConsoleWord::Replace => replace_at(alloc, object),
+        ConsoleWord::Create => create_at(alloc, object),
+        ConsoleWord::Retry => Ok(retry_at(object)),
+        _ => Ok(None),
+    }
+}
+
+fn order_at(alloc: Global, word: ConsoleWord, object: &Value) -> Result<Option<Asked>, NoMemory>
+    ensures { IfOk result (λ asked. asked ≡ order_at word (view object.now)) }
+{
+    let Some(token) = who_at(alloc, object, "token")? else {
+        return Ok(None);
+    };
+    match command_at(alloc, word, object)? {
+        Some(command) => Ok(Some(Asked::Order { token, command })),
+        None => Ok(None),
+    }
+}
+
+// ---- all words
+
+fn report_named(word: ConsoleWord) -> Option<Report>
+    ensures { result ≡ report_named word }
+{
+    match word {
+        ConsoleWord::Notices => Some(Report::Notices),
+        ConsoleWord::Log => Some(Report::Log),
+        ConsoleWord::Rows => Some(Report::Rows),
+        _ => None,
+    }
+}
+
+fn asked_at(alloc: Global, word: ConsoleWord, object: &Value) -> Result<Option<Asked>, NoMemory>
+    ensures { IfOk result (λ asked. asked ≡ asked_at word (view object.now)) }
+{
+    match report_named(word) {
+        Some(which) => Ok(Some(Asked::Report(which))),
+        None => order_at(alloc, word, object),
+    }
+}
+
+/// What is asked, by the word and by the body, which is a JSON object that has these fields and may have others:
+///
+/// - `cancel` and `restore`: `token` and `id`, a number;
+/// - `replace`: these, `method`, `path` and `body`;
+/// - `create`: `token`, `before` and `after`, each the number of a request or null, `who`, `method`, `path` and `body`;
+/// - `retry`: `token` and `name`, `call:N` or `reply:N`;
+/// - `notices`, `log` and `rows`: none.
+///
+/// None exactly where the body is no such object, or the word is one that workers answer.
+pub fn asked_in(alloc: Global, request: &ConsoleRequest) -> Result<Option<Asked>, NoMemory>
+    ensures { IfOk result (λ asked. asked ≡ asked_in request.now) }
+{
+    match object_in(alloc, request.body.as_str())? {
+        Some(object) => asked_at(alloc, request.word, &object),
+        None => Ok(None),
+    }
+}

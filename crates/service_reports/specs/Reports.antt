@@ -1,0 +1,16 @@
+-- Reports of a service.
+use Rattle.std.specs.Prelude.{ℕ, List}
+use Rattle.local_repair.specs.Current.{rows_after}
+use Rattle.repair_queue.specs.Held.{notices}
+use Rattle.report_text.specs.Notices.{notices_text}
+use Rattle.report_text.specs.Reports.{log_text, rows_text}
+use Rattle.service_events.specs.State.{Kept, base, me}
+
+abbrev pub rows_of_service : Kept → List ℕ
+rows_of_service s = rows_text (rows_after (base s) s.entries)
+
+abbrev pub log_of_service : Kept → List ℕ
+log_of_service s = log_text (me s) s.entries
+
+abbrev pub notices_of_service : Kept → List ℕ
+notices_of_service s = notices_text (notices s.registers s.replies)

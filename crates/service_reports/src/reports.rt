@@ -1,0 +1,33 @@
+// Reports of a service.
+ghost use Rattle.std.specs.Prelude.{◌≡◌, IfOk};
+ghost use Rattle.service_reports.specs.Reports.{log_of_service, notices_of_service, rows_of_service};
+
+use lang_core::{NoMemory, Text};
+use repair_queue::notices;
+use report_text::{log_text, notices_text, rows_text};
+use service_core::Service;
+use std::alloc::Global;
+
+/// Its rows.
+pub fn rows_of(alloc: Global, service: &Service) -> Result<Text, NoMemory>
+    ensures { IfOk result (λ text. text ≡ rows_of_service service.now) }
+{
+    rows_text(alloc, &service.rows(alloc)?)
+}
+
+/// Its log.
+pub fn log_of(alloc: Global, service: &Service) -> Result<Text, NoMemory>
+    ensures { IfOk result (λ text. text ≡ log_of_service service.now) }
+{
+    log_text(alloc, &service.setting().me, service.entries())
+}
+
+/// What it has held.
+pub fn notices_of(alloc: Global, service: &Service) -> Result<Text, NoMemory>
+    ensures { IfOk result (λ text. text ≡ notices_of_service service.now) }
+{
+    notices_text(
+        alloc,
+        &notices(alloc, service.registers(), service.replies())?,
+    )
+}
