@@ -1,0 +1,87 @@
+// The verdict over services that are being served.
+ghost use Rattle.std.specs.Prelude.{◌≡◌, IfOk, map};
+ghost use Rattle.world_file.specs.Worlds.{name_of};
+ghost use Rattle.node_run.specs.Looking.{IsLiveVerdict};
+
+use lang_core::{Copied, Names, NoMemory, Text};
+use node_core::Node;
+use node_ends::{are_set_so, judge};
+use report_text::verdict_text;
+use service_core::Service;
+use std::alloc::Global;
+use std::cmp::Ordering;
+use std::sync::Wait;
+use std::sync::ledger::Ledger;
+use world_file::Setup;
+
+// How many services have lesser names.
+fn rank_of(setups: &[Setup], setup: &Setup) -> usize {
+    let name = setup.setting.me.text();
+    let lesser = |other: &&Setup| other.setting.me.text().order(name) == Ordering::Less;
+    setups.iter().filter(lesser).count()
+}
+
+// The node whose service's name comes so far in the order of names.
+fn node_of_rank<'a, R: Ledger>(
+    setups: &[Setup],
+    nodes: &'a [Node<R>],
+    rank: usize,
+) -> Option<&'a Node<R>> {
+    let place = setups
+        .iter()
+        .position(|setup| rank_of(setups, setup) == rank)?;
+    nodes.get(place)
+}
+
+// Copies of all services as they are at one moment. The locks are taken in the order of names, as everybody does who takes
+// several, so nobody waits for one that waits for him.
+fn copies<R: Ledger, W: Wait>(
+    rt: &W,
+    alloc: Global,
+    setups: &[Setup],
+    nodes: &[Node<R>],
+) -> Result<Vec<Service>, NoMemory> {
+    let mut held = Vec::with_capacity(alloc, setups.len())?;
+    for rank in 0..setups.len() {
+        let Some(node) = node_of_rank(setups, nodes, rank) else {
+            return Err(NoMemory);
+        };
+        held.push(node.state.lock(rt))?;
+    }
+    let mut copies = Vec::with_capacity(alloc, setups.len())?;
+    for setup in setups {
+        let Some(state) = held.get(rank_of(setups, setup)) else {
+            return Err(NoMemory);
+        };
+        copies.push(state.service().copied(alloc)?)?;
+    }
+    Ok(copies)
+}
+
+fn names_of(alloc: Global, setups: &[Setup]) -> Result<Names, NoMemory>
+    ensures { IfOk result (λ names. names ≡ map name_of setups.now) }
+{
+    let mut names = Names::new(alloc);
+    for setup in setups {
+        names.push(setup.setting.me.copied(alloc)?)?;
+    }
+    Ok(names)
+}
+
+/// The line of the verdict over all services as they are at one moment.
+#[tactic(auto, using(crate::proofs::EndingLemmas::live_line, crate::proofs::EndingLemmas::over_names))]
+pub fn verdict_now<R: Ledger, W: Wait>(
+    rt: &W,
+    alloc: Global,
+    setups: &[Setup],
+    nodes: &[Node<R>],
+) -> Result<Text, NoMemory>
+    ensures { IfOk result (λ line. IsLiveVerdict setups.now line) }
+{
+    let services = copies(rt, alloc, setups, nodes)?;
+    if !are_set_so(alloc, &services, setups)? {
+        return Err(NoMemory);
+    }
+    let names = names_of(alloc, setups)?;
+    verdict_text(alloc, &names, &judge(&services))
+}

@@ -1,0 +1,11 @@
+//! Tests of runs of nodes over memory, with clients in threads.
+#![tactic(auto)]
+
+#[cfg(test)]
+mod clients;
+#[cfg(test)]
+mod ends;
+#[cfg(test)]
+mod given;
+#[cfg(test)]
+mod runs;
