@@ -1,15 +1,18 @@
-//! Runs a script over the files and standard streams of the machine.
+//! The program, over the files, standard streams, network, clock and threads of the machine.
 #![tactic(auto)]
 
 ghost use Rattle.std.specs.Prelude.{◌≡◌, IfOk, codes, string_bytes};
 ghost use Rattle.std.specs.Str.{IsUtf8};
 
-use aire_top::{aire, lacking_status};
-use io_edge::{Reading, RealFiles, Writing};
+use aire_top::{Ended, TellingDoor, aire, lacking_status};
+use io_edge::{Connection, Reading, RealFiles, Writing};
+use io_links::SystemSpawner;
 use std::alloc::{AllocError, Global};
 use std::env::{Env, FillError};
 use std::process::ExitCode;
 use std::{io, mem};
+use system_inputs::{SystemClock, SystemWords};
+use tcp_links::{StopSignal, TcpDoor, TcpLink};
 
 // The most bytes of a word and a zero behind it: the system hands over no longer one.
 const LONGEST_WORD: usize = 131072;
@@ -52,19 +55,43 @@ fn words_of(rt: &impl Env, alloc: Global) -> Result<Vec<String>, AllocError> {
     Ok(words)
 }
 
+// Leaves what a command answered, but closes the connection on which an operator asked to stop. Memory goes with the process.
+fn leave<C: Connection + Drop>(ended: Ended<C>) -> u8
+    ensures { result ≡ ended.status }
+{
+    let Ended {
+        status,
+        services,
+        verdict: _,
+        receipts,
+        last,
+    } = ended;
+    mem::forget(services);
+    mem::forget(receipts);
+    drop(last);
+    status
+}
+
 fn main(rt: HostRuntime) -> ExitCode {
     let alloc = rt.alloc();
     let mut out = Writing::new(io::writer(&rt));
-    match words_of(&rt, alloc) {
-        Ok(words) => {
-            let mut files = RealFiles::new(alloc, &rt);
-            let mut input = Reading::new(rt.reader());
-            let ended = aire(&rt, alloc, &words, &mut files, &mut input, &mut out);
-            let status = ended.status;
-            // Its memory goes with the process.
-            mem::forget(ended);
-            ExitCode::from(status)
-        }
-        Err(_) => ExitCode::from(lacking_status(&mut out)),
-    }
+    let Ok(words) = words_of(&rt, alloc) else {
+        return ExitCode::from(lacking_status(&mut out));
+    };
+    let stop = StopSignal::new();
+    let doors = TcpDoor::new(&rt, alloc, &stop);
+    let ended = aire(
+        &rt,
+        alloc,
+        &words,
+        &mut RealFiles::new(alloc, &rt),
+        &mut Reading::new(rt.reader()),
+        &mut out,
+        &mut TellingDoor::new(alloc, doors, Writing::new(rt.stderr())),
+        &mut TcpLink::new(&rt, &stop),
+        &mut SystemClock::new(&rt),
+        &mut SystemWords::new(&rt),
+        &mut SystemSpawner::new(),
+    );
+    ExitCode::from(leave(ended))
 }

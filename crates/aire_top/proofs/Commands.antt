@@ -1,46 +1,103 @@
 -- What follows for a command.
-use Rattle.std.proofs.Common.{◌≡◌, ◌⊎◌, ◌∙◌, ℕ, Bool, true, false, cond, List, [], ◌∷◌, ap, codes, inl, inr, refl, subst, sym}
+use Rattle.std.proofs.Common.{◌≡◌, ◌∙◌, ℕ, All, Bool, true, false, cond, List, [], ◌∷◌, Option, Some, None, IfSome, ap, codes, inl, inr, refl, subst, sym}
 use Rattle.lang_base.specs.Texts.{same_text}
+use Rattle.journal_rows.specs.declared.verdict.Verdict.{Verdict}
+use Rattle.journal_rows.specs.declared.verdict.Verdict.TheVariants.{Legal}
+use Rattle.service_events.specs.Allowed.{IsAllowed}
+use Rattle.service_events.specs.State.{Kept}
+use Rattle.world_agreement.specs.Legal.{AreLegal}
+use Rattle.script_run.specs.Audits.{SaysForged}
+use Rattle.node_core.specs.Closings.{IsWhole}
+use Rattle.node_core.specs.declared.receipt.Receipt.{Receipt}
 use Rattle.audit_command.proofs.Ends.{ends_well as audit_well}
 use Rattle.order_command.proofs.Ends.{ends_well as order_well}
-use Rattle.aire_top.specs.Commands.{Ends, EndsBy, EndsOffline, HasAudited, HasOrdered, IsGoodBy, IsGoodCommand, IsGoodOffline, command_of, is_make, offline_command}
+use Rattle.aire_top.specs.Commands.{AnswersBy, Ends, EndsBy, EndsOffline, EndsPlainly, HasAudited, HasOrdered, IsDone, IsDoneAs, IsDoneBy, IsGoodBy, IsGoodCommand, IsGoodOffline, IsGoodPlain, command_of, is_make, offline_command}
+use Rattle.aire_top.specs.Ended.{Ending, Faults, Whose, ending, last_of, plain}
 use Rattle.aire_top.specs.Endings.{Answer, Outside}
 use Rattle.aire_top.specs.Top.{words_of}
 use Rattle.aire_top.specs.declared.words.Command.{Command}
-use Rattle.aire_top.specs.declared.words.Command.TheVariants.{Run, Make, Audit, Order}
+use Rattle.aire_top.specs.declared.words.Command.TheVariants.{Run, Make, Audit, Order, Serve}
 use Rattle.aire_top.proofs.MadeWell.{made_well}
-use Rattle.aire_top.proofs.Runs.{ends_well}
+use Rattle.aire_top.proofs.Runs.{ends_well, some_none}
+use Rattle.aire_top.proofs.ServingLaws.{serving_well, serving_whole}
+
+-- ---- commands that serve nobody
+
+-- it answers as the command does that its words ask for
+pub answers_as : (asked command : Command) → asked ≡ command → (words : List (List ℕ)) (before now : Outside) (a : Answer) → AnswersBy command words before now a → AnswersBy asked words before now a
+answers_as asked command is words before now a answers = subst (λ (c : Command). AnswersBy c words before now a) (sym is) answers
+
+audited_well : (words : List (List ℕ)) (before now : Outside) (a : Answer) → IsGoodPlain Audit words before now → HasAudited words before now a → IsDone a.status
+audited_well words before now a good has = elim (audit_well words before.loads now.loads before.writes now.writes has.status good has.ends) as (λ _. IsDone a.status) [
+  | inl well ↦ inl (ap (λ (x : Answer). x.status) has.answered ∙ well)
+  | inr lacks ↦ inr (ap (λ (x : Answer). x.status) has.answered ∙ lacks)
+]
+
+ordered_well : (words : List (List ℕ)) (before now : Outside) (a : Answer) → IsGoodPlain Order words before now → HasOrdered words before now a → IsDone a.status
+ordered_well words before now a good has = elim (order_well words before.loads now.loads before.writes now.writes has.status good has.ends) as (λ _. IsDone a.status) [
+  | inl well ↦ inl (ap (λ (x : Answer). x.status) has.answered ∙ well)
+  | inr lacks ↦ inr (ap (λ (x : Answer). x.status) has.answered ∙ lacks)
+]
+
+answers_well : (command : Command) (words : List (List ℕ)) (before now : Outside) (a : Answer) → IsGoodPlain command words before now → AnswersBy command words before now a → IsDone a.status
+answers_well Run words before now a good answers = ends_well (words_of words) before now a good answers
+answers_well Make words before now a good answers = made_well words before now a good answers
+answers_well Audit words before now a good answers = audited_well words before now a good answers
+answers_well Order words before now a good answers = ordered_well words before now a good answers
+answers_well Serve words before now a good answers = absurd good
+
+pub plain_well : (command : Command) (words : List (List ℕ)) (before now : Outside) (e : Ending) → IsGoodPlain command words before now → EndsPlainly command words before now e → IsDone e.status
+plain_well command words before now e good ends = subst IsDone (sym (ap (λ (x : Ending). x.status) ends.1)) (answers_well command words before now ends.0 good ends.2)
+
+-- what is said of a verdict over services that a command answers holds as the command ends
+
+pub plain_legal : (e : Ending) (a : Answer) → e ≡ plain a → (a.verdict ≡ Some Legal → AreLegal a.services) → e.verdict ≡ Some Legal → AreLegal e.services
+plain_legal e a is legal = subst (λ (x : Ending). x.verdict ≡ Some Legal → AreLegal x.services) (sym is) legal
+
+pub plain_joined : (e : Ending) (a : Answer) → e ≡ plain a → IfSome a.verdict (λ v. ¬ (SaysForged v)) → IfSome e.verdict (λ v. ¬ (SaysForged v))
+plain_joined e a is joined = subst (λ (x : Ending). IfSome x.verdict (λ v. ¬ (SaysForged v))) (sym is) joined
+
+pub plain_allowed : (e : Ending) (a : Answer) → e ≡ plain a → IfSome a.verdict (λ v. All IsAllowed a.services) → IfSome e.verdict (λ v. All IsAllowed e.services)
+plain_allowed e a is allowed = subst (λ (x : Ending). IfSome x.verdict (λ v. All IsAllowed x.services)) (sym is) allowed
+
+-- ---- each command
 
 -- it ends as the command does that its words ask for
-pub ends_as : (asked command : Command) → asked ≡ command → (words : List (List ℕ)) (before now : Outside) (ans : Answer) → EndsBy command words before now ans → EndsBy asked words before now ans
-ends_as asked command is words before now ans ends = subst (λ (c : Command). EndsBy c words before now ans) (sym is) ends
+pub ends_as : (asked command : Command) → asked ≡ command → (words : List (List ℕ)) (earlier later : Faults) (before now : Outside) (e : Ending) → EndsBy command words earlier later before now e → EndsBy asked words earlier later before now e
+ends_as asked command is words earlier later before now e ends = subst (λ (c : Command). EndsBy c words earlier later before now e) (sym is) ends
 
-audited_well : (words : List (List ℕ)) (before now : Outside) (ans : Answer) → IsGoodBy Audit words before now → HasAudited words before now ans → (ans.status ≡ 0) ⊎ (ans.status ≡ 6)
-audited_well words before now ans good has = elim (audit_well words before.loads now.loads before.writes now.writes has.status good has.ends) as (λ _. (ans.status ≡ 0) ⊎ (ans.status ≡ 6)) [
-  | inl well ↦ inl (ap (λ (a : Answer). a.status) has.answered ∙ well)
-  | inr lacks ↦ inr (ap (λ (a : Answer). a.status) has.answered ∙ lacks)
-]
-
-ordered_well : (words : List (List ℕ)) (before now : Outside) (ans : Answer) → IsGoodBy Order words before now → HasOrdered words before now ans → (ans.status ≡ 0) ⊎ (ans.status ≡ 6)
-ordered_well words before now ans good has = elim (order_well words before.loads now.loads before.writes now.writes has.status good has.ends) as (λ _. (ans.status ≡ 0) ⊎ (ans.status ≡ 6)) [
-  | inl well ↦ inl (ap (λ (a : Answer). a.status) has.answered ∙ well)
-  | inr lacks ↦ inr (ap (λ (a : Answer). a.status) has.answered ∙ lacks)
-]
-
-well_by : (command : Command) (words : List (List ℕ)) (before now : Outside) (ans : Answer) → IsGoodBy command words before now → EndsBy command words before now ans → (ans.status ≡ 0) ⊎ (ans.status ≡ 6)
-well_by Run words before now ans good ends = ends_well (words_of words) before now ans good ends
-well_by Make words before now ans good ends = made_well words before now ans good ends
-well_by Audit words before now ans good ends = audited_well words before now ans good ends
-well_by Order words before now ans good ends = ordered_well words before now ans good ends
+well_by : (command : Command) (words : List (List ℕ)) (earlier later : Faults) (before now : Outside) (e : Ending) → IsGoodBy command words earlier later before now → EndsBy command words earlier later before now e → IsDoneBy command e.status
+well_by Run words earlier later before now e good ends = plain_well Run words before now e good ends
+well_by Make words earlier later before now e good ends = plain_well Make words before now e good ends
+well_by Audit words earlier later before now e good ends = plain_well Audit words before now e good ends
+well_by Order words earlier later before now e good ends = plain_well Order words before now e good ends
+well_by Serve words earlier later before now e good ends = serving_well words earlier later before now e good ends
 
 -- a good command ends well
-pub command_well : (words : List (List ℕ)) (before now : Outside) (ans : Answer) → IsGoodCommand words before now → Ends words before now ans → (ans.status ≡ 0) ⊎ (ans.status ≡ 6)
-command_well words before now ans good ends = well_by (command_of words) words before now ans good ends
+pub command_well : (words : List (List ℕ)) (earlier later : Faults) (before now : Outside) (e : Ending) → IsGoodCommand words earlier later before now → Ends words earlier later before now e → IsDoneAs words e.status
+command_well words earlier later before now e good ends = well_by (command_of words) words earlier later before now e good ends
+
+plain_whole : (command : Command) (words : List (List ℕ)) (before now : Outside) (e : Ending) → EndsPlainly command words before now e → (w : Whose) → e.last ≡ Some w → IsWhole e.services e.receipts
+plain_whole command words before now e ends w is = absurd (some_none e.last w (ap (λ (x : Ending). x.last) ends.1) is)
+
+whole_by : (command : Command) (words : List (List ℕ)) (earlier later : Faults) (before now : Outside) (e : Ending) → EndsBy command words earlier later before now e → (w : Whose) → e.last ≡ Some w → IsWhole e.services e.receipts
+whole_by Run words earlier later before now e ends w is = plain_whole Run words before now e ends w is
+whole_by Make words earlier later before now e ends w is = plain_whole Make words before now e ends w is
+whole_by Audit words earlier later before now e ends w is = plain_whole Audit words before now e ends w is
+whole_by Order words earlier later before now e ends w is = plain_whole Order words before now e ends w is
+whole_by Serve words earlier later before now e ends w is = serving_whole words earlier later before now e ends w is
+
+-- where an operator asked to stop, receipts and live answers are one to one
+pub command_whole : {X : Type 0} (words : List (List ℕ)) (earlier later : Faults) (before now : Outside) (status : ℕ) (services : List Kept) (verdict : Option Verdict) (receipts : List Receipt) (last : Option X) (f : X → Whose)
+    → Ends words earlier later before now (ending status services verdict receipts (last_of last f)) → IfSome last (λ _. IsWhole services receipts)
+command_whole words earlier later before now status services verdict receipts None f ends = tt
+command_whole words earlier later before now status services verdict receipts (Some last) f ends =
+    whole_by (command_of words) words earlier later before now (ending status services verdict receipts (Some (f last))) ends (f last) refl
 
 -- ---- without threads
 
-pub offline_well : (words : List (List ℕ)) (before now : Outside) (ans : Answer) → IsGoodOffline words before now → EndsOffline words before now ans → (ans.status ≡ 0) ⊎ (ans.status ≡ 6)
-offline_well words before now ans good ends = well_by (offline_command words) words before now ans good ends
+pub offline_well : (words : List (List ℕ)) (before now : Outside) (e : Ending) → IsGoodOffline words before now → EndsOffline words before now e → IsDone e.status
+offline_well words before now e good ends = plain_well (offline_command words) words before now e good ends
 
 make_by : (b : Bool) → b ≡ true → cond b Make Run ≡ Make
 make_by b is = rw is refl
@@ -54,16 +111,35 @@ offline_make words is = make_by (is_make words) is
 pub offline_run : (words : List (List ℕ)) → is_make words ≡ false → offline_command words ≡ Run
 offline_run words is = run_by (is_make words) is
 
-unless_other : (audits orders makes : Bool) → (cond audits Audit (cond orders Order (cond makes Make Run)) ≡ Audit → ⊥)
-    → (cond audits Audit (cond orders Order (cond makes Make Run)) ≡ Order → ⊥) → cond audits Audit (cond orders Order (cond makes Make Run)) ≡ cond makes Make Run
-unless_other true orders makes no_audit no_order = absurd (no_audit refl)
-unless_other false true makes no_audit no_order = absurd (no_order refl)
-unless_other false false makes no_audit no_order = refl
+abbrev chosen : Bool → Bool → Bool → Bool → Command
+chosen audits orders serves makes = cond audits Audit (cond orders Order (cond serves Serve (cond makes Make Run)))
 
-without_other : (words : List (List ℕ)) → (command_of words ≡ Audit → ⊥) → (command_of words ≡ Order → ⊥) → command_of words ≡ offline_command words
-without_other [] no_audit no_order = refl
-without_other (word ∷ words) no_audit no_order = unless_other (same_text word (codes "audit")) (same_text word (codes "order")) (same_text word (codes "make")) no_audit no_order
+unless_other : (audits orders serves makes : Bool) → (chosen audits orders serves makes ≡ Audit → ⊥) → (chosen audits orders serves makes ≡ Order → ⊥)
+    → (chosen audits orders serves makes ≡ Serve → ⊥) → chosen audits orders serves makes ≡ cond makes Make Run
+unless_other true orders serves makes no_audit no_order no_serve = absurd (no_audit refl)
+unless_other false true serves makes no_audit no_order no_serve = absurd (no_order refl)
+unless_other false false true makes no_audit no_order no_serve = absurd (no_serve refl)
+unless_other false false false makes no_audit no_order no_serve = refl
+
+without_other : (words : List (List ℕ)) → (command_of words ≡ Audit → ⊥) → (command_of words ≡ Order → ⊥) → (command_of words ≡ Serve → ⊥) → command_of words ≡ offline_command words
+without_other [] no_audit no_order no_serve = refl
+without_other (word ∷ words) no_audit no_order no_serve =
+    unless_other (same_text word (codes "audit")) (same_text word (codes "order")) (same_text word (codes "serve")) (same_text word (codes "make")) no_audit no_order no_serve
 
 -- words that ask for a command without threads ask `offline` for the same
-pub without_threads : (words : List (List ℕ)) (command : Command) → command_of words ≡ command → (command ≡ Audit → ⊥) → (command ≡ Order → ⊥) → command_of words ≡ offline_command words
-without_threads words command is no_audit no_order = without_other words (λ audits. no_audit (sym is ∙ audits)) (λ orders. no_order (sym is ∙ orders))
+pub without_threads : (words : List (List ℕ)) (command : Command) → command_of words ≡ command → (command ≡ Audit → ⊥) → (command ≡ Order → ⊥) → (command ≡ Serve → ⊥) → command_of words ≡ offline_command words
+without_threads words command is no_audit no_order no_serve =
+    without_other words (λ audits. no_audit (sym is ∙ audits)) (λ orders. no_order (sym is ∙ orders)) (λ serves. no_serve (sym is ∙ serves))
+
+-- what `offline` ends with is how the program ends
+pub ends_run : (words : List (List ℕ)) → command_of words ≡ Run → (earlier later : Faults) (before now : Outside) (e : Ending) → EndsOffline words before now e → Ends words earlier later before now e
+ends_run words is earlier later before now e ends =
+    let same : offline_command words ≡ Run = sym (without_threads words Run is (λ x. cc) (λ x. cc) (λ x. cc)) ∙ is in
+    let P : Command → Type 0 = λ c. EndsPlainly c words before now e in
+    ends_as (command_of words) Run is words earlier later before now e (subst P same ends)
+
+pub ends_make : (words : List (List ℕ)) → command_of words ≡ Make → (earlier later : Faults) (before now : Outside) (e : Ending) → EndsOffline words before now e → Ends words earlier later before now e
+ends_make words is earlier later before now e ends =
+    let same : offline_command words ≡ Make = sym (without_threads words Make is (λ x. cc) (λ x. cc) (λ x. cc)) ∙ is in
+    let P : Command → Type 0 = λ c. EndsPlainly c words before now e in
+    ends_as (command_of words) Make is words earlier later before now e (subst P same ends)

@@ -5,8 +5,8 @@ use Rattle.service_events.specs.State.{me}
 use Rattle.world_events.specs.Worlds.{World}
 use Rattle.script_make.specs.Making.{made_script}
 use Rattle.aire_top.proofs.WorldsThere.{posts_named}
-use Rattle.aire_top.specs.Endings.{Answer, LacksMemory, Outside, standing}
-use Rattle.aire_top.specs.Making.{IsGoodMake, IsPostsWorld, MakeEnds, MadeRefused, ScriptTold, SeedEnds, StatusOf, WordsEnd, make_misfit}
+use Rattle.aire_top.specs.Endings.{Answer, LacksMemory, Outside, StatusOf, standing}
+use Rattle.aire_top.specs.Making.{IsGoodMake, IsPostsWorld, MakeEnds, MadeRefused, ScriptTold, SeedEnds, WordsEnd, make_misfit}
 use Rattle.aire_top.proofs.FreshLaws.{fresh_names}
 use Rattle.aire_top.proofs.MadeRuns.{made_unrefused, posts_names}
 use Rattle.aire_top.proofs.Runs.{some_none}

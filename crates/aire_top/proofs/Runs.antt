@@ -248,7 +248,7 @@ neither false a c reads now loads rest fails = loads fails.0
 same_setups : (a b : List Setup) (x y : WorldOrRefusal) → x ≡ Ok a → y ≡ Ok b → Some x ≡ Some y → a ≡ b
 same_setups a b x y is other e = let same : x ≡ y = cc in cc
 
-stands_refused : (a : List Setup) (what : List ℕ) (x y : WorldOrRefusal) → x ≡ Ok a → y ≡ Err what → Some x ≡ Some y → ⊥
+pub stands_refused : (a : List Setup) (what : List ℕ) (x y : WorldOrRefusal) → x ≡ Ok a → y ≡ Err what → Some x ≡ Some y → ⊥
 stands_refused a what x y is other e = let same : x ≡ y = cc in cc
 
 script_well : (start : World) (script : List ℕ) (before now : Writes) (ans : Answer) (p : Played) → IsRunOf start script p → p.refused ≡ None → ¬ (WriteFails before now) → ScriptEnds start script before now ans → (ans.status ≡ 0) ⊎ (ans.status ≡ 6)

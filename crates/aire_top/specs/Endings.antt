@@ -1,6 +1,6 @@
 -- How a run of the program ends.
 use Rattle.std.specs.Prelude.{◌≡◌, ◌⊎◌, ℕ, ◌≤◌, Bool, true, false, List, [], ◌++◌, length, Option, Some, None, Ok, Err, codes, decimal}
-use Rattle.io_edge.specs.Edge.{IsAtEnd, IsFront, ReadFails, Reads, WriteFails, Writes, Wrote}
+use Rattle.io_edge.specs.Edge.{IsAtEnd, IsFront, ReadFails, Reads, WriteFails, Writes, Wrote, WroteShort}
 use Rattle.io_edge.specs.Files.{LoadFails, Loads}
 use Rattle.journal_rows.specs.declared.verdict.Verdict.{Verdict}
 use Rattle.service_events.specs.State.{Kept}
@@ -62,6 +62,11 @@ pub record EndsWith (before now : Writes) (text line : List ℕ) : Type 0 where
   pub of_line : IsFront front line
   pub wrote : Wrote before now (text ++ front)
   pub whole : (front ≡ line) ⊎ WriteFails before now
+
+-- 0 where all of a text is written, and 5 where a write failed
+abbrev pub StatusOf : Writes → Writes → List ℕ → ℕ → Type 0
+StatusOf before now text status =
+    ((status ≡ 0) × Wrote before now text) ⊎ ((status ≡ 5) × (WroteShort before now text × WriteFails before now))
 
 -- ---- a script that is run in a world
 

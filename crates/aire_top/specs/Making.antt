@@ -2,7 +2,7 @@
 use Rattle.std.specs.Prelude.{◌≡◌, ◌⊎◌, ℕ, Bool, ◌&&◌, List, [], ◌∷◌, ◌++◌, length, Option, Some, None, option_and_then, if◌then◌else◌, is_some, codes, decimal, nat_le}
 use Rattle.std.specs.List.{sum_by}
 use Rattle.lang_base.specs.Texts.{same_text}
-use Rattle.io_edge.specs.Edge.{WriteFails, Writes, Wrote, WroteShort}
+use Rattle.io_edge.specs.Edge.{WriteFails, Writes}
 use Rattle.request_names.specs.Numbers.{number_of}
 use Rattle.service_events.specs.State.{Kept}
 use Rattle.world_events.specs.Worlds.{World}
@@ -12,7 +12,7 @@ use Rattle.script_run.specs.Plays.{IsRunOf, Played, audit_text}
 use Rattle.script_run.specs.declared.counts.Counts.{Counts}
 use Rattle.world_file.specs.Standard.{built_in}
 use Rattle.world_file.specs.declared.setup.Setup.{Setup}
-use Rattle.aire_top.specs.Endings.{Answer, EndsWith, LacksMemory, Outside, Untouched, nothing, refused_line, standing, usage_line}
+use Rattle.aire_top.specs.Endings.{Answer, EndsWith, LacksMemory, Outside, StatusOf, Untouched, nothing, refused_line, standing, usage_line}
 use Rattle.aire_top.specs.Top.{fresh, misfit_from}
 
 -- ---- the words
@@ -75,11 +75,6 @@ abbrev pub counts_of : Played → Counts
 counts_of p = counted (p.said).counts
 
 -- ---- how it ends
-
--- 0 where all of the line is written, and 5 where a write failed
-abbrev pub StatusOf : Writes → Writes → List ℕ → ℕ → Type 0
-StatusOf before now line status =
-    ((status ≡ 0) × Wrote before now line) ⊎ ((status ≡ 5) × (WroteShort before now line × WriteFails before now))
 
 abbrev pub Prints : Writes → Writes → List ℕ → World → Answer → Type 0
 Prints before now line world a = (status : ℕ) × (a ≡ standing status world) × StatusOf before now line status

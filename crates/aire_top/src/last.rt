@@ -1,6 +1,6 @@
-// The last lines.
+// What a command writes last.
 ghost use Rattle.std.specs.Prelude.{◌≡◌, ◌≤◌, []};
-ghost use Rattle.aire_top.specs.Endings.{EndsWith, lacking_line};
+ghost use Rattle.aire_top.specs.Endings.{EndsWith, StatusOf, lacking_line};
 
 use io_edge::{Sink, write_all};
 
@@ -21,4 +21,14 @@ pub fn lacking_status<K: Sink>(out: &mut K) -> u8
 {
     write_last(out, "no memory\n");
     6
+}
+
+/// Writes all that a command has to say, and answers the status of that: 0, or 5 where a write failed.
+pub fn print<K: Sink>(out: &mut K, text: &str) -> u8
+    ensures { StatusOf (K.writes out.old) (K.writes out.new) text.now result }
+{
+    match write_all(out, text.as_bytes()) {
+        Ok(_) => 0,
+        Err(_) => 5,
+    }
 }

@@ -10,12 +10,13 @@ ghost use Rattle.world_events.specs.Sound.{IsSound};
 ghost use Rattle.world_file.specs.Standard.{built_in};
 ghost use Rattle.world_file.specs.Worlds.{KnowEachOther};
 ghost use Rattle.aire_top.specs.Endings.{LacksMemory, answer};
-ghost use Rattle.aire_top.specs.Making.{IsPostsWorld, Prints, ScriptTold, SeedEnds, StatusOf, WordsEnd, counted_text, entries_of, made_line, numbers_text, settled_text};
+ghost use Rattle.aire_top.specs.Making.{IsPostsWorld, Prints, ScriptTold, SeedEnds, WordsEnd, counted_text, entries_of, made_line, numbers_text, settled_text};
 
-use crate::ending::{Ended, lacking, misused, refusal, standing};
+use crate::ending::{Outcome, lacking, misused, refusal, standing};
+use crate::last::print;
 use crate::starting::started;
 use crate::words::{MOST_REQUESTS, seed_and_count};
-use io_edge::{Failed, Sink, write_all};
+use io_edge::{Failed, Sink};
 use lang_core::NoMemory;
 use script_make::make_script;
 use script_run::{Counts, ScriptRefused, Service, World, run_script, verdict_line};
@@ -98,18 +99,8 @@ fn made_line(alloc: Global, n: u64, counts: Counts, world: &World) -> Result<Str
     Ok(line)
 }
 
-// Prints a line, and answers the status of that.
-fn print<K: Sink>(out: &mut K, line: &str) -> u8
-    ensures { StatusOf (K.writes out.old) (K.writes out.new) line.now result }
-{
-    match write_all(out, line.as_bytes()) {
-        Ok(_) => 0,
-        Err(_) => 5,
-    }
-}
-
 // The end where each line of a script is done.
-fn print_made<K: Sink>(alloc: Global, world: World, n: u64, counts: Counts, out: &mut K) -> Ended
+fn print_made<K: Sink>(alloc: Global, world: World, n: u64, counts: Counts, out: &mut K) -> Outcome
     requires { IsSound world }
     ensures ends { Prints (K.writes out.old) (K.writes out.new) (made_line n counts world.services) world (answer result.status result.services.items result.verdict)
         ⊎ LacksMemory (K.writes out.old) (K.writes out.new) (answer result.status result.services.items result.verdict) }
@@ -124,7 +115,7 @@ fn print_made<K: Sink>(alloc: Global, world: World, n: u64, counts: Counts, out:
 }
 
 // Runs a script of so many requests without its output, and prints what it comes to.
-fn run_made<K: Sink>(alloc: Global, world: World, script: &[u8], n: u64, out: &mut K) -> Ended
+fn run_made<K: Sink>(alloc: Global, world: World, script: &[u8], n: u64, out: &mut K) -> Outcome
     requires { IsSound world }
     ensures ends { ScriptTold world script.now n (K.writes out.old) (K.writes out.new) (answer result.status result.services.items result.verdict) }
     ensures legal { result.verdict ≡ Some Legal → AreLegal result.services.items }
@@ -173,7 +164,7 @@ fn posts_world(alloc: Global) -> Result<World, NoMemory>
 
 // Makes a script of so many requests by a seed, runs it in such a world without its output, and prints in one line what it
 // comes to.
-fn make_of<K: Sink>(alloc: Global, seed: u64, n: u64, out: &mut K) -> Ended
+fn make_of<K: Sink>(alloc: Global, seed: u64, n: u64, out: &mut K) -> Outcome
     requires { n ≤ MOST_REQUESTS }
     ensures ends { SeedEnds seed n (K.writes out.old) (K.writes out.new) (answer result.status result.services.items result.verdict) }
     ensures legal { result.verdict ≡ Some Legal → AreLegal result.services.items }
@@ -191,7 +182,7 @@ fn make_of<K: Sink>(alloc: Global, seed: u64, n: u64, out: &mut K) -> Ended
 
 /// Makes and runs the script for which words ask, without its output, and prints in one line what it comes to; or says which
 /// word doesn't fit.
-pub fn make<K: Sink>(alloc: Global, words: &[String], out: &mut K) -> Ended
+pub fn make<K: Sink>(alloc: Global, words: &[String], out: &mut K) -> Outcome
     ensures ends { WordsEnd (map string_bytes words.now) (K.writes out.old) (K.writes out.new) (answer result.status result.services.items result.verdict) }
     ensures legal { result.verdict ≡ Some Legal → AreLegal result.services.items }
     ensures joined { IfSome result.verdict (λ v. ¬ (SaysForged v)) }

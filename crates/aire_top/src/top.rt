@@ -1,47 +1,40 @@
 // The top call.
-ghost use Rattle.std.specs.Prelude.{◌≡◌, ◌⊎◌, All, IfSome, Some, map, string_bytes};
+ghost use Rattle.std.specs.Prelude.{◌≡◌, All, IfSome, Some, map, string_bytes};
 ghost use Rattle.journal_rows.specs.declared.verdict.Verdict.TheVariants.{Legal};
 ghost use Rattle.world_events.specs.Live.{IsLiveWorld};
 ghost use Rattle.service_events.specs.Allowed.{IsAllowed};
 ghost use Rattle.world_events.specs.Sound.{IsSound};
 ghost use Rattle.script_run.specs.Audits.{SaysForged};
 ghost use Rattle.world_agreement.specs.Legal.{AreLegal};
-ghost use Rattle.aire_top.specs.Closings.{ClosesWorldless};
-ghost use Rattle.aire_top.specs.Commands.{Ends, EndsOffline, HasAudited, HasOrdered, IsGoodCommand, IsGoodOffline};
+ghost use Rattle.node_core.specs.Closings.{IsWhole};
+ghost use Rattle.aire_top.specs.Commands.{Ends, EndsOffline, EndsPlainly, IsDone, IsDoneAs, IsGoodCommand, IsGoodOffline, command_of};
+ghost use Rattle.aire_top.specs.Ended.{ending, faults, last_of, whose};
 ghost use Rattle.aire_top.specs.Endings.{RunEnds, ScriptEnds, answer, outside};
 ghost use Rattle.aire_top.specs.Top.{fitting};
+ghost use Rattle.aire_top.specs.declared.words.Command.TheVariants.{Audit, Order, Serve};
 
+use crate::announcing::AnnouncingDoor;
 use crate::ending::{
-    Ended, lacking, misused, refusal, standing, unread, without, world_refused, world_too_long,
+    Ended, Outcome, lacking, misused, plain, refusal, standing, unread, without, worldless,
 };
-use crate::loading::{NoWorld, load_script, load_world};
+use crate::loading::{load_script, load_world};
 use crate::making::make;
+use crate::served::served;
 use crate::starting::started;
 use crate::words::{Command, command_of, is_make, named};
 use audit_command::audit;
-use io_edge::{Files, ReadRefused, Sink, Source};
+use io_edge::{Connection, Files, ReadRefused, Sink, Source};
+use io_links::{Ear, Link, Spawner};
 use order_command::order;
+use recorded_inputs::{Clock, Words};
 use script_run::{ScriptRefused, World, run_script};
 use std::alloc::Global;
+use std::sync::Wait;
 use std::thread::Threads;
-
-// The end of a run that has no world.
-fn worldless<K: Sink>(alloc: Global, why: NoWorld, out: &mut K) -> Ended
-    ensures ends { ClosesWorldless why (K.writes out.old) (K.writes out.new) (answer result.status result.services.items result.verdict) }
-    ensures legal { result.verdict ≡ Some Legal → AreLegal result.services.items }
-    ensures joined { IfSome result.verdict (λ v. ¬ (SaysForged v)) }
-    ensures allowed { IfSome result.verdict (λ v. All IsAllowed result.services.items) }
-{
-    match why {
-        NoWorld::NoMemory => lacking(alloc, out),
-        NoWorld::Failed => unread(alloc, out),
-        NoWorld::TooLong => world_too_long(alloc, out),
-        NoWorld::Refused(why) => world_refused(alloc, out, &why),
-    }
-}
+use std::time;
 
 // Runs a script in a world.
-fn play<K: Sink>(alloc: Global, world: World, script: &[u8], out: &mut K) -> Ended
+fn play<K: Sink>(alloc: Global, world: World, script: &[u8], out: &mut K) -> Outcome
     requires sound { IsSound world }
     requires live { IsLiveWorld world }
     ensures ends { ScriptEnds world script.now (K.writes out.old) (K.writes out.new) (answer result.status result.services.items result.verdict) }
@@ -68,7 +61,7 @@ fn run<F: Files, S: Source, K: Sink>(
     files: &mut F,
     input: &mut S,
     out: &mut K,
-) -> Ended
+) -> Outcome
     ensures ends { RunEnds (fitting world.now script.now)
         (outside (F.loads files.old) (S.reads input.old) (K.writes out.old))
         (outside (F.loads files.new) (S.reads input.new) (K.writes out.new))
@@ -95,29 +88,30 @@ fn run<F: Files, S: Source, K: Sink>(
 /// What the program does for words that ask for a command without threads, or for none: `run WORLD SCRIPT`, where WORLD is
 /// `@notes`, `@shops`, `@posts` or a world file, SCRIPT a file or `-` for the input, and the script is run in a new world; or
 /// `make SEED N`, where a script of N requests is made of a number and run in a new world of the services of `@posts`, and
-/// what it comes to is written in one line. It starts no thread.
+/// what it comes to is written in one line. It starts no thread and waits for nobody.
 ///
 /// A run ends in one of five ways: the script was run (status 0, 3, 5 or 6), the words don't fit (2), the world is
 /// refused (3), a file or the input can't be read (4), or memory is wanting (6). So does a script that is made, which asks
 /// for no file and reads nothing.
-pub fn offline<F: Files, S: Source, K: Sink>(
+pub fn offline<X: Connection + Drop, F: Files, S: Source, K: Sink>(
     alloc: Global,
     words: &[String],
     files: &mut F,
     input: &mut S,
     out: &mut K,
-) -> Ended
-    // How it ends: what was asked for, read and written, the status, the services and the verdict over them.
+) -> Ended<X>
+    // How it ends: what was asked for, read and written, the status, the services and the verdict over them. No request was
+    // answered over a connection, and nobody asked to stop.
     ensures ends { EndsOffline (map string_bytes words.now)
         (outside (F.loads files.old) (S.reads input.old) (K.writes out.old))
         (outside (F.loads files.new) (S.reads input.new) (K.writes out.new))
-        (answer result.status result.services.items result.verdict) }
+        (ending result.status result.services.items result.verdict result.receipts.items (last_of result.last (λ l. whose l.service l.console))) }
 
     // It doesn't give up by itself.
     ensures complete { IsGoodOffline (map string_bytes words.now)
         (outside (F.loads files.old) (S.reads input.old) (K.writes out.old))
         (outside (F.loads files.new) (S.reads input.new) (K.writes out.new))
-        → (result.status ≡ 0) ⊎ (result.status ≡ 6) }
+        → IsDone result.status }
 
     // Where the verdict is Legal, the logs and rows of all services form one legal execution of the surviving requests,
     // each service in logged order: with each call of one of them there is exactly one request at its destination, whose
@@ -131,84 +125,117 @@ pub fn offline<F: Files, S: Source, K: Sink>(
     ensures allowed { IfSome result.verdict (λ v. All IsAllowed result.services.items) }
 {
     if is_make(words) {
-        return make(alloc, words, out);
+        return plain(alloc, make(alloc, words, out));
     }
     match named(words) {
-        Ok((world, script)) => run(alloc, world, script, files, input, out),
-        Err(place) => misused(alloc, out, place),
+        Ok((world, script)) => plain(alloc, run(alloc, world, script, files, input, out)),
+        Err(place) => plain(alloc, misused(alloc, out, place)),
     }
 }
 
 // Judges the services of a dump.
-fn audited<R: Threads + Sync, F: Files, K: Sink>(
+fn audited<X: Connection + Drop, R: Threads + Sync, F: Files, K: Sink>(
     rt: &R,
     alloc: Global,
     words: &[String],
     files: &mut F,
     out: &mut K,
-) -> Ended
-    ensures ends { (reads : _) → HasAudited (map string_bytes words.now)
+) -> Ended<X>
+    ensures ends { (reads : _) → EndsPlainly Audit (map string_bytes words.now)
         (outside (F.loads files.old) reads (K.writes out.old))
         (outside (F.loads files.new) reads (K.writes out.new))
-        (answer result.status result.services.items result.verdict) }
-    ensures legal { result.verdict ≡ Some Legal → AreLegal result.services.items }
-    ensures joined { IfSome result.verdict (λ v. ¬ (SaysForged v)) }
-    ensures allowed { IfSome result.verdict (λ v. All IsAllowed result.services.items) }
+        (ending result.status result.services.items result.verdict result.receipts.items (last_of result.last (λ l. whose l.service l.console))) }
+    ensures verdict { result.verdict ≡ None }
 {
     let status = audit(rt, alloc, words, files, out);
-    without(alloc, status)
+    plain(alloc, without(alloc, status))
 }
 
 // Looks for one order of the roots of a dump.
-fn ordered<F: Files, K: Sink>(alloc: Global, words: &[String], files: &mut F, out: &mut K) -> Ended
-    ensures ends { (reads : _) → HasOrdered (map string_bytes words.now)
+fn ordered<X: Connection + Drop, F: Files, K: Sink>(
+    alloc: Global,
+    words: &[String],
+    files: &mut F,
+    out: &mut K,
+) -> Ended<X>
+    ensures ends { (reads : _) → EndsPlainly Order (map string_bytes words.now)
         (outside (F.loads files.old) reads (K.writes out.old))
         (outside (F.loads files.new) reads (K.writes out.new))
-        (answer result.status result.services.items result.verdict) }
-    ensures legal { result.verdict ≡ Some Legal → AreLegal result.services.items }
-    ensures joined { IfSome result.verdict (λ v. ¬ (SaysForged v)) }
-    ensures allowed { IfSome result.verdict (λ v. All IsAllowed result.services.items) }
+        (ending result.status result.services.items result.verdict result.receipts.items (last_of result.last (λ l. whose l.service l.console))) }
+    ensures verdict { result.verdict ≡ None }
 {
     let status = order(alloc, words, files, out);
-    without(alloc, status)
+    plain(alloc, without(alloc, status))
 }
 
 /// What the program does. The words are those after its name: `audit DUMP WORKERS`, where DUMP is a file, and the services
 /// that it writes down are judged by it alone, in at most WORKERS threads; `order DUMP`, and one order of their requests is looked
-/// for in which all of them could have run as one program; else they are those of `offline`.
+/// for in which all of them could have run as one program; `serve WORLD`, where WORLD is named as for a run, and its services
+/// listen at their doors, answer requests and are repaired until an operator stops them; else they are those of `offline`. It
+/// may wait.
 ///
 /// An audit ends in one of five ways: the dump was judged (status 0 or 5), it is refused (3), the words don't fit (2), the
-/// file can't be read (4), or memory is wanting (6). So does a search for an order, where it is told, or that there is none.
-pub fn aire<R: Threads + Sync, F: Files, S: Source, K: Sink>(
+/// file can't be read (4), or memory is wanting (6). So does a search for an order, where it is told, or that there is none. So
+/// does serving: an operator stopped the services (0 or 5), the world is refused (3), the words don't fit (2), the world can't
+/// be read (4), or memory is wanting (6); and in three more: a door can't be listened at (7), a worker can't be started
+/// (8), or a receipt isn't that of the journal (9).
+pub fn aire<
+    R: Threads + Wait + time::Clock + Sync,
+    F: Files,
+    S: Source,
+    K: Sink,
+    D: AnnouncingDoor,
+    L: Link + Send,
+    C: Clock + Send,
+    V: Words + Send,
+    P: Spawner,
+>(
     rt: &R,
     alloc: Global,
     words: &[String],
     files: &mut F,
     input: &mut S,
     out: &mut K,
-) -> Ended
+    doors: &mut D,
+    links: &mut L,
+    clock: &mut C,
+    random: &mut V,
+    spawner: &mut P,
+) -> Ended<<D::Ear as Ear>::Conn>
     // How it ends, by the command that the first word asks for: what was asked for, read and written, the status, the
-    // services and the verdict over them.
+    // services and the verdict over them; and where they were served, the receipts of what they answered, and who asked to stop.
     ensures ends { Ends (map string_bytes words.now)
+        (faults (D.faults doors.old) (P.faults spawner.old))
+        (faults (D.faults doors.new) (P.faults spawner.new))
         (outside (F.loads files.old) (S.reads input.old) (K.writes out.old))
         (outside (F.loads files.new) (S.reads input.new) (K.writes out.new))
-        (answer result.status result.services.items result.verdict) }
+        (ending result.status result.services.items result.verdict result.receipts.items (last_of result.last (λ l. whose l.service l.console))) }
 
     // It doesn't give up by itself.
     ensures complete { IsGoodCommand (map string_bytes words.now)
+        (faults (D.faults doors.old) (P.faults spawner.old))
+        (faults (D.faults doors.new) (P.faults spawner.new))
         (outside (F.loads files.old) (S.reads input.old) (K.writes out.old))
         (outside (F.loads files.new) (S.reads input.new) (K.writes out.new))
-        → (result.status ≡ 0) ⊎ (result.status ≡ 6) }
+        → IsDoneAs (map string_bytes words.now) result.status }
 
-    // What `offline` says of a verdict over services.
+    // What `offline` says of a verdict over services. Where they were served it may be Forged: whoever holds a service's secret
+    // can seal what that one never sent.
     ensures legal { result.verdict ≡ Some Legal → AreLegal result.services.items }
-    ensures joined { IfSome result.verdict (λ v. ¬ (SaysForged v)) }
+    ensures joined { ¬ (command_of (map string_bytes words.now) ≡ Serve) → IfSome result.verdict (λ v. ¬ (SaysForged v)) }
     ensures allowed { IfSome result.verdict (λ v. All IsAllowed result.services.items) }
+
+    // Where an operator stopped services, each receipt is that of an answer in a journal, with its request and the bytes of its
+    // reply, and each live request that a journal answers has exactly one.
+    ensures receipts { IfSome result.last (λ _. IsWhole result.services.items result.receipts.items) }
 {
     match command_of(words) {
         Command::Run => offline(alloc, words, files, input, out),
         Command::Make => offline(alloc, words, files, input, out),
         Command::Audit => audited(rt, alloc, words, files, out),
         Command::Order => ordered(alloc, words, files, out),
+        Command::Serve => served(
+            rt, alloc, words, files, out, doors, links, clock, random, spawner,
+        ),
     }
 }

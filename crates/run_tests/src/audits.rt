@@ -4,15 +4,17 @@ use crate::calls::{
     UNDONE,
 };
 use crate::late::{CONFIRMED_LATE, OVERTAKEN};
-use crate::memory::ran;
-use aire_top::aire;
-use io_edge::{MemoryFile, MemoryFiles, MemorySink, MemorySource};
+use crate::memory::{commanded, ran};
+use io_edge::{MemoryFile, MemoryFiles, MemorySink};
+use io_links::MemoryNetwork;
 use lang_core::{Bytes, NoMemory, Seq, Text};
 use std::alloc::Global;
 use std::process::Abort;
 use std::str;
+use std::sync::Wait;
 use std::test::Fail;
 use std::thread::Threads;
+use std::time::{Clock, Duration};
 
 // All rows of a cancelled note are gone, and so are those that stood on it.
 const NOTES: &str = "ask notes ann PUT /n/a hi\n\
@@ -30,7 +32,7 @@ const POSTS: &str = "ask oauth ann PUT /token/ann k1\n\
     cancel oauth/2 t1 root\n";
 
 // An audit with these words over one file: its status, and what it wrote.
-fn audited<R: Threads + Sync>(
+fn audited<R: Threads + Wait + Clock + Sync>(
     rt: &R,
     alloc: Global,
     dump: &str,
@@ -41,19 +43,13 @@ fn audited<R: Threads + Sync>(
         path: Text::of(alloc, "dump")?,
         bytes: Bytes::of(alloc, dump.as_bytes())?,
     })?;
-    let mut owned = Vec::new(alloc);
-    for word in words {
-        owned.push(String::from_str(alloc, word)?)?;
-    }
-    let mut files = MemoryFiles::new(files, Vec::new(alloc));
-    let mut input = MemorySource::new(Vec::new(alloc), Vec::new(alloc));
-    let mut out = MemorySink::new(alloc, Vec::new(alloc));
-    let ended = aire(rt, alloc, &owned, &mut files, &mut input, &mut out);
-    Ok((ended.status, out))
+    let files = MemoryFiles::new(files, Vec::new(alloc));
+    let network = MemoryNetwork::new(alloc, Duration::from_secs(1), Vec::new(alloc));
+    Ok(commanded(rt, alloc, &network, words, files, (0, 0))?)
 }
 
 // That an audit with these words, of this file, ends so.
-fn tells<R: Abort + Threads + Sync>(
+fn tells<R: Abort + Threads + Wait + Clock + Sync>(
     rt: &R,
     alloc: Global,
     dump: &str,
@@ -66,7 +62,12 @@ fn tells<R: Abort + Threads + Sync>(
 }
 
 // That a script whose world settles leaves a dump that is judged legal, for each number of workers.
-fn settles_legal<R: Abort + Threads + Sync>(rt: &R, alloc: Global, world: &str, script: &str) {
+fn settles_legal<R: Abort + Threads + Wait + Clock + Sync>(
+    rt: &R,
+    alloc: Global,
+    world: &str,
+    script: &str,
+) {
     let ran = ran(
         alloc,
         &["run", world, "-"],

@@ -1,5 +1,6 @@
 //! Tests of whole runs over memory: of one service, of services that call one another, and of which requests a repair
-//! runs again; of previews, rules, what they deny, and how services settle; and of audits of what runs write down.
+//! runs again; of previews, rules, what they deny, and how services settle; of audits of what runs write down, and of worlds that
+//! are served.
 #![tactic(auto)]
 
 #[cfg(test)]
@@ -22,6 +23,8 @@ mod readers;
 mod refusals;
 #[cfg(test)]
 mod ruled;
+#[cfg(test)]
+mod serving;
 #[cfg(test)]
 mod settling;
 #[cfg(test)]

@@ -1,8 +1,13 @@
 // Runs over memory.
-use aire_top::offline;
-use io_edge::{MemoryFile, MemoryFiles, MemorySink, MemorySource};
+use aire_top::{Ended, aire, offline};
+use io_edge::{MemoryConnection, MemoryFile, MemoryFiles, MemorySink, MemorySource};
+use io_links::{MemoryDoor, MemoryLink, MemoryNetwork, MemorySpawner};
 use lang_core::{Bytes, NoMemory, Seq, Text};
+use recorded_inputs::{ScriptClock, ScriptWords};
 use std::alloc::{AllocError, Global};
+use std::sync::Wait;
+use std::thread::Threads;
+use std::time::Clock;
 
 /// These texts, one behind the other.
 pub fn joined(alloc: Global, parts: &[&str]) -> Result<Vec<u8>, AllocError> {
@@ -28,7 +33,39 @@ pub fn ran_over(
     }
     let (mut files, mut input) = (files, input);
     let mut out = MemorySink::new(alloc, vec![in alloc; write_fails]?);
-    let ended = offline(alloc, &owned, &mut files, &mut input, &mut out);
+    let ended: Ended<MemoryConnection> = offline(alloc, &owned, &mut files, &mut input, &mut out);
+    Ok((ended.status, out))
+}
+
+/// A command with these words and files, over this network and without input, where the call of the door and the start of a thread
+/// with these numbers, counted from 1, fail, and none where that is 0: its status, and what was written.
+pub fn commanded<R: Threads + Wait + Clock + Sync>(
+    rt: &R,
+    alloc: Global,
+    network: &MemoryNetwork,
+    words: &[&str],
+    files: MemoryFiles,
+    fails: (u64, u64),
+) -> Result<(u8, MemorySink), AllocError> {
+    let mut owned = Vec::new(alloc);
+    for word in words {
+        owned.push(String::from_str(alloc, word)?)?;
+    }
+    let mut files = files;
+    let mut out = MemorySink::new(alloc, Vec::new(alloc));
+    let ended = aire(
+        rt,
+        alloc,
+        &owned,
+        &mut files,
+        &mut MemorySource::new(Vec::new(alloc), Vec::new(alloc)),
+        &mut out,
+        &mut MemoryDoor::new(rt, alloc, network, vec![in alloc; fails.0]?),
+        &mut MemoryLink::new(rt, alloc, network),
+        &mut ScriptClock::new(),
+        &mut ScriptWords::new(),
+        &mut MemorySpawner::new(vec![in alloc; fails.1]?),
+    );
     Ok((ended.status, out))
 }
 

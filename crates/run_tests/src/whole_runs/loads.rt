@@ -1,7 +1,7 @@
 // In which order a run loads, and what it leaves of the input.
 use super::{PUT, files_of};
-use aire_top::offline;
-use io_edge::{MemorySink, MemorySource};
+use aire_top::{Ended, offline};
+use io_edge::{MemoryConnection, MemorySink, MemorySource};
 use std::alloc::Global;
 use std::test::Fail;
 
@@ -14,7 +14,7 @@ fn asked_for(alloc: Global, words: &[&str], fails: u64) -> Result<(String, bool)
     let mut files = files_of(alloc, fails)?;
     let mut input = MemorySource::new(PUT.as_bytes().to_vec(alloc)?, Vec::new(alloc));
     let mut out = MemorySink::new(alloc, Vec::new(alloc));
-    let _ = offline(alloc, &owned, &mut files, &mut input, &mut out);
+    let _: Ended<MemoryConnection> = offline(alloc, &owned, &mut files, &mut input, &mut out);
     let mut paths = String::new(alloc);
     for path in files.asked() {
         paths.push_str(path.as_str())?;

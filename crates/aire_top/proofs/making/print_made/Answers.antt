@@ -1,6 +1,6 @@
 use Rattle.std.proofs.Common.{◌∙◌, ℕ, List, inl, subst}
 use Rattle.io_edge.specs.Edge.{Writes}
-use Rattle.aire_top.specs.Making.{StatusOf}
+use Rattle.aire_top.specs.Endings.{StatusOf}
 use Rattle.aire_top.proofs.making.print_made.Goals as goal
 
 pub returns-in-Ok-clause-ends : goal.returns-in-Ok-clause-ends
