@@ -9,6 +9,7 @@ mod desk;
 mod flying;
 mod live;
 mod messages;
+mod operators;
 mod posts;
 mod replies;
 mod serve;
