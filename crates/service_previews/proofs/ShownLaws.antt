@@ -23,7 +23,7 @@ never_shows s (Err why) shows = absurd (cc shows)
 -- that memory was wanting is no preview
 never_lacks : (s : Kept) (trials : List Trial) (who : List ℕ) (busy : Option Outstanding) (early : Option ℕ)
     → MatchOption (or_else (option_map refused.NotIdle busy) (option_map refused.Untimely early)) (ShowsTrials HaveRunAtMost s trials who (Err refused.NoMemory))
-    (λ (why : PreviewRefused). Err refused.NoMemory ≡ Err why)
+    (λ (why : PreviewRefused). ◌≡◌ {A = Result Preview PreviewRefused} (Err refused.NoMemory) (Err why))
     → ⊥
 never_lacks s trials who (Some what) early is = absurd (cc is)
 never_lacks s trials who None (Some number) is = absurd (cc is)
@@ -44,5 +44,5 @@ has_shown id who s =
 
 pub one_shown : (id : ℕ) (who : List ℕ) (s : Kept) (a b : Result (List ℕ) Unshown) → IsShownOf id who s a → IsShownOf id who s b → a ≡ b
 one_shown id who s a b x y =
-    let same : Some a ≡ Some b = sym ((x.1).1) ∙ ap (shown_of s) (preview_alone s (Cancel id ∷ []) who x.0 y.0 ((x.1).0) ((y.1).0)) ∙ (y.1).1 in
+    let same : Some a ≡ Some b = sym x.2 ∙ ap (shown_of s) (preview_alone s (Cancel id ∷ []) who x.0 y.0 x.1 y.1) ∙ y.2 in
     cc same
