@@ -1,8 +1,7 @@
 // The service `notes`, and what an operator `ann` is replied there.
-use admin_console::{Service, answer, is_for_workers};
+use admin_console::{Service, answer, is_for_workers, preview_reply};
 use http_front::WireResponse;
 use lang_core::{Inputs, Text};
-use node_previews::preview_reply;
 use std::alloc::Global;
 use std::process::Abort;
 use wire_fields::{ConsoleRequest, console_word};

@@ -1,5 +1,5 @@
 -- What an operator is told.
-use Rattle.std.proofs.Common.{◌≡◌, ℕ, List, Option, Some, Result, Ok, Err, IfOk, subst, inl, inr}
+use Rattle.std.proofs.Common.{◌≡◌, ℕ, List, Option, Some, Result, Ok, Err, IfOk, subst, ap, ◌∙◌, inl, inr}
 use Rattle.lang_base.specs.declared.memory.NoMemory.{NoMemory as LacksMemory}
 use Rattle.lang_core.specs.declared.inputs.Inputs.{Inputs}
 use Rattle.journal_rows.specs.declared.orders.Command.{Command}
@@ -8,7 +8,9 @@ use Rattle.service_events.specs.declared.answers.Ordered.{Ordered}
 use Rattle.service_events.specs.declared.refusals.OrderRefused.{OrderRefused}
 use Rattle.http_front.specs.declared.message.WireResponse.{WireResponse}
 use Rattle.wire_fields.specs.declared.console.ConsoleRequest.{ConsoleRequest}
+use Rattle.io_edge.specs.Edge.{Writes}
 use Rattle.admin_console.specs.Asking.{asked_in}
+use Rattle.admin_console.specs.Previews.{IsPreviewReply}
 use Rattle.admin_console.specs.Replies.{order_reply, report_reply}
 use Rattle.admin_console.specs.Reports.{report_of}
 use Rattle.admin_console.specs.declared.asking.Asked.{Asked}
@@ -17,7 +19,10 @@ use Rattle.admin_console.specs.declared.asking.Report.{Report}
 use Rattle.node_core.specs.declared.notes.Notes.{Notes}
 use Rattle.node_workers.specs.Desks.{Endpoint}
 use Rattle.node_workers.specs.Messages.{IsOrderedSo}
-use Rattle.node_workers.specs.Serving.{IsDoneSo, IsOperatorTold, IsReportOf, IsWantTold}
+use Rattle.node_workers.specs.Serving.{IsDoneSo, IsOperatorTold, IsPreviewTold, IsReportOf, IsWantTold}
+use Rattle.node_workers.specs.Written.{IsPreviewSo, IsSaid}
+use Rattle.node_workers.specs.declared.served.Served.{Served}
+use Rattle.node_workers.specs.declared.served.Served.TheVariants as served
 
 -- the reply, or that memory was wanting
 abbrev pub Reply : Type 0
@@ -52,3 +57,28 @@ module _ (e : Endpoint) (i : Inputs) (notes : Notes) where
       → IfOk reply (λ (response : WireResponse). IsOperatorTold e i request notes response)
   want_told request (Ok response) told = inr told
   want_told request (Err lacks) told = tt
+
+-- ---- previews
+
+-- a copy has the name
+pub copy_so : (name : List ℕ) (s : Kept) (copied : Result Kept LacksMemory) → me s ≡ name → IfOk copied (λ (copy : Kept). copy ≡ s) → IfOk copied (λ (copy : Kept). me copy ≡ name)
+copy_so name s (Ok copy) named same = ap (λ (k : Kept). me k) same ∙ named
+copy_so name s (Err lacks) named same = tt
+
+pub preview_so : (name : List ℕ) (request : ConsoleRequest) (body : List ℕ) (s : Kept) (reply : Reply) → me s ≡ name → body ≡ request.body
+    → IfOk reply (λ (response : WireResponse). IsPreviewReply body request.who s response) → IfOk reply (λ (response : WireResponse). IsPreviewTold name request response)
+preview_so name request body s (Ok response) named read told =
+    (s, named, subst (λ (b : List ℕ). IsPreviewReply b request.who s response) read told)
+preview_so name request body s (Err lacks) named read told = tt
+
+-- what is told is written, or its write fails, or memory is wanting for that
+pub preview_said : (name : List ℕ) (request : ConsoleRequest) (before now : Writes) (response : WireResponse) (answer : Served) → IsPreviewTold name request response
+    → IsSaid response before now answer → IsPreviewSo name request before now answer
+preview_said name request before now response (served.Said said) told says = (response, told, says)
+preview_said name request before now response served.WriteFault told says = (response, told, says)
+preview_said name request before now response served.NoMemory told says = says
+preview_said name request before now response (served.Committed index) told says = absurd says
+preview_said name request before now response (served.Console given) told says = absurd says
+preview_said name request before now response (served.FrontRefused why) told says = absurd says
+preview_said name request before now response (served.WireRefused why) told says = absurd says
+preview_said name request before now response served.Gone told says = absurd says

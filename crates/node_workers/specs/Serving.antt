@@ -33,6 +33,7 @@ use Rattle.wire_bytes.specs.Console.{console_refusal}
 use Rattle.wire_bytes.specs.Hearing.{IsHeardFrom, TakenSays}
 use Rattle.wire_bytes.specs.declared.hearing.Unheard.TheVariants as unheard
 use Rattle.admin_console.specs.Asking.{asked_in, is_for_workers}
+use Rattle.admin_console.specs.Previews.{IsPreviewReply}
 use Rattle.admin_console.specs.Replies.{bad, order_reply, report_reply}
 use Rattle.admin_console.specs.Reports.{report_of}
 use Rattle.admin_console.specs.declared.asking.Asked.{Asked}
@@ -204,6 +205,10 @@ IsWantTold response = response ≡ console_refusal (codes "nomemory") 0
 
 abbrev pub IsOperatorTold : Endpoint → Inputs → ConsoleRequest → Notes → WireResponse → Type 0
 IsOperatorTold e i asked notes response = IsDoneSo e i notes asked.who (asked_in asked) response ⊎ IsWantTold response
+
+-- what is shown of the cancellation that is asked for, of a service of this name, as it stood behind the lock at some moment
+abbrev pub IsPreviewTold : List ℕ → ConsoleRequest → WireResponse → Type 0
+IsPreviewTold name request response = (service : Kept) × (me service ≡ name) × IsPreviewReply request.body request.who service response
 
 -- the response to an operator's request read, whose word isn't one that workers answer
 pub record TellsOperator (e : Endpoint) (i : Inputs) (before now : Reads) (notes : Notes) (response : WireResponse) : Type 0 where

@@ -14,7 +14,7 @@ use Rattle.wire_bytes.specs.declared.hearing.Unheard.TheVariants as unheard
 use Rattle.node_core.specs.declared.notes.Notes.{Notes}
 use Rattle.node_core.specs.declared.receipt.Receipt.{Receipt}
 use Rattle.node_workers.specs.Desks.{Endpoint}
-use Rattle.node_workers.specs.Serving.{refusal_bytes, IsForWorkers, IsOperatorTold}
+use Rattle.node_workers.specs.Serving.{refusal_bytes, IsForWorkers, IsOperatorTold, IsPreviewTold}
 use Rattle.node_workers.specs.declared.served.Served.{Served}
 use Rattle.node_workers.specs.declared.served.Served.TheVariants as served
 
@@ -49,6 +49,11 @@ IsConsoleSo e i asked notes before now (served.Console given) = (given ≡ asked
 IsConsoleSo e i asked notes before now served.NoMemory = now ≡ before
 IsConsoleSo e i asked notes before now answer =
     (¬ IsForWorkers asked.word) × ((response : WireResponse) × IsOperatorTold e i asked notes response × IsSaid response before now answer)
+
+-- what an operator who asks for a preview is written
+abbrev pub IsPreviewSo : List ℕ → ConsoleRequest → Writes → Writes → Served → Type 0
+IsPreviewSo name request before now served.NoMemory = now ≡ before
+IsPreviewSo name request before now answer = (response : WireResponse) × IsPreviewTold name request response × IsSaid response before now answer
 
 -- this answer, once something was said
 abbrev pub instead : Served → Served → Served

@@ -1,24 +1,26 @@
 // What operators ask of a node's service.
 ghost use Rattle.std.specs.Prelude.{◌≡◌, IfOk, Some};
+ghost use Rattle.service_events.specs.State.{me};
 ghost use Rattle.admin_console.specs.Asking.{asked_in};
 ghost use Rattle.admin_console.specs.declared.asking.Asked.TheVariants.{Order};
 ghost use Rattle.node_workers.specs.Desks.{at_desk};
 ghost use Rattle.node_workers.specs.Messages.{IsOrderedSo};
 ghost use Rattle.node_workers.specs.Posting.{Keeps};
-ghost use Rattle.node_workers.specs.Serving.{IsDoneSo, IsForWorkers, IsOperatorTold, IsReportOf};
-ghost use Rattle.node_workers.specs.Written.{IsConsoleSo};
+ghost use Rattle.node_workers.specs.Serving.{IsDoneSo, IsForWorkers, IsOperatorTold, IsPreviewTold, IsReportOf};
+ghost use Rattle.node_workers.specs.Written.{IsConsoleSo, IsPreviewSo};
 
 use crate::desk::{Desk, is_set_up};
 use crate::replies::write;
 use crate::served::Served;
 use crate::turns::ask;
-use admin_console::{Asked, Report, asked_in, bad, order_reply, service_report};
+use admin_console::{
+    Asked, Report, Service, asked_in, bad, order_reply, preview_reply, service_report,
+};
 use http_front::WireResponse;
 use io_edge::Connection;
 use journal_rows::Command;
 use lang_core::{Copied, Inputs, NoMemory, Text};
 use node_core::{NodeDone, NodeEvent, Pass};
-use service_core::Service;
 use service_events::{OrderRefused, Ordered};
 use std::alloc::Global;
 use std::sync::Wait;
@@ -175,6 +177,63 @@ pub(crate) fn tell<R: Ledger, Q: Ledger, W: Wait, C: Connection>(
     ensures keeps { Keeps pass.old.notes pass.new.notes pass.old.receipts.items pass.new.receipts.items }
 {
     match reply_or_want(rt, alloc, desk, pass, request, inputs) {
+        Ok(response) => write(alloc, conn, response),
+        Err(_) => Served::NoMemory,
+    }
+}
+
+// ---- previews
+
+// A copy of a service. One that isn't set up so is answered as memory that lacks.
+fn copy_under_lock<R: Ledger, Q: Ledger>(
+    alloc: Global,
+    desk: &Desk<R, Q>,
+    service: &Service,
+) -> Result<Service, NoMemory>
+    ensures { IfOk result (λ copy. me copy ≡ (at_desk desk.now).me) }
+{
+    if !is_set_up(service, desk.setup) {
+        return Err(NoMemory);
+    }
+    service.copied(alloc)
+}
+
+fn service_now<R: Ledger, Q: Ledger, W: Wait>(
+    rt: &W,
+    alloc: Global,
+    desk: &Desk<R, Q>,
+) -> Result<Service, NoMemory>
+    ensures { IfOk result (λ copy. me copy ≡ (at_desk desk.now).me) }
+{
+    let state = desk.node.state.lock(rt);
+    copy_under_lock(alloc, desk, state.service())
+}
+
+fn preview_of<R: Ledger, Q: Ledger, W: Wait>(
+    rt: &W,
+    alloc: Global,
+    desk: &Desk<R, Q>,
+    request: &ConsoleRequest,
+) -> Result<WireResponse, NoMemory>
+    ensures { IfOk result (IsPreviewTold (at_desk desk.now).me request.now) }
+{
+    let service = service_now(rt, alloc, desk)?;
+    preview_reply(alloc, &service, &request.who, request.body.as_str())
+}
+
+/// Tells an operator who asks for a preview what the cancellation would come to, or why that isn't shown. It is tried on a copy,
+/// without the lock. Where there is no memory nothing is written.
+pub fn tell_preview<R: Ledger, Q: Ledger, W: Wait, C: Connection>(
+    rt: &W,
+    alloc: Global,
+    desk: &Desk<R, Q>,
+    conn: &mut C,
+    request: &ConsoleRequest,
+) -> Served
+    ensures served { IsPreviewSo (at_desk desk.now).me request.now (C.Sink.writes conn.old) (C.Sink.writes conn.new) result }
+    ensures beside { C.Sink.beside conn.new ≡ C.Sink.beside conn.old }
+{
+    match preview_of(rt, alloc, desk, request) {
         Ok(response) => write(alloc, conn, response),
         Err(_) => Served::NoMemory,
     }
