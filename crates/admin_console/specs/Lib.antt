@@ -1,5 +1,6 @@
 pub mod Answers
 pub mod Asking
 pub mod Fields
+pub mod Previews
 pub mod Replies
 pub mod Reports

@@ -7,8 +7,7 @@ use Rattle.service_events.specs.Allowed.{IsAllowed}
 use Rattle.service_events.specs.State.{Kept}
 use Rattle.world_agreement.specs.Legal.{AreLegal}
 use Rattle.script_run.specs.Audits.{SaysForged}
-use Rattle.node_core.specs.Closings.{IsWhole}
-use Rattle.node_core.specs.declared.receipt.Receipt.{Receipt}
+use Rattle.node_run.specs.HandedOn.{IsWhole, Receipt}
 use Rattle.audit_command.proofs.Ends.{ends_well as audit_well}
 use Rattle.order_command.proofs.Ends.{ends_well as order_well}
 use Rattle.aire_top.specs.Commands.{AnswersBy, Ends, EndsBy, EndsOffline, EndsPlainly, HasAudited, HasOrdered, IsDone, IsDoneAs, IsDoneBy, IsGoodBy, IsGoodCommand, IsGoodOffline, IsGoodPlain, command_of, is_make, offline_command}

@@ -9,8 +9,7 @@ use Rattle.service_events.specs.Allowed.{IsAllowed}
 use Rattle.service_events.specs.State.{Kept}
 use Rattle.world_agreement.specs.Legal.{AreLegal}
 use Rattle.world_file.specs.declared.setup.Setup.{Setup}
-use Rattle.node_core.specs.Closings.{Agrees, IsWhole, SamePlace}
-use Rattle.node_core.specs.declared.receipt.Receipt.{Receipt}
+use Rattle.node_run.specs.HandedOn.{Agrees, IsWhole, Receipt, SamePlace}
 use Rattle.node_run.specs.Ends.{IsGoodEnd}
 use Rattle.node_run.specs.Stopping.{IsOfOne}
 use Rattle.node_run.specs.declared.refused.RunRefused.{RunRefused}

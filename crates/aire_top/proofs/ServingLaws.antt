@@ -10,7 +10,7 @@ use Rattle.service_events.specs.Allowed.{IsAllowed}
 use Rattle.world_agreement.specs.Legal.{AreLegal}
 use Rattle.world_file.specs.Numbers.{refusal_text}
 use Rattle.world_file.specs.declared.setup.Setup.{Setup}
-use Rattle.node_core.specs.Closings.{IsWhole}
+use Rattle.node_run.specs.HandedOn.{IsWhole}
 use Rattle.aire_top.specs.Causes.{what_of}
 use Rattle.aire_top.specs.Closings.{Closes, ClosesWorldless}
 use Rattle.aire_top.specs.Commands.{IsDone}

@@ -2,7 +2,7 @@
 use Rattle.std.specs.Prelude.{ℕ, List, [], Option, Some, None}
 use Rattle.journal_rows.specs.declared.verdict.Verdict.{Verdict}
 use Rattle.service_events.specs.State.{Kept}
-use Rattle.node_core.specs.declared.receipt.Receipt.{Receipt}
+use Rattle.node_run.specs.HandedOn.{Receipt}
 use Rattle.aire_top.specs.Endings.{Answer}
 
 -- where an operator asked to stop: at which service, and with which console secret

@@ -7,8 +7,7 @@ use Rattle.journal_rows.specs.declared.verdict.Verdict.{Verdict}
 use Rattle.report_text.specs.Reports.{verdict_text}
 use Rattle.service_events.specs.State.{Kept, me}
 use Rattle.world_file.specs.declared.setup.Setup.{Setup}
-use Rattle.node_core.specs.Closings.{Agrees, SamePlace}
-use Rattle.node_core.specs.declared.receipt.Receipt.{Receipt}
+use Rattle.node_run.specs.HandedOn.{Agrees, Receipt, SamePlace}
 use Rattle.node_run.specs.Ends.{IsGoodEnd}
 use Rattle.node_run.specs.Stopping.{IsOfOne}
 use Rattle.node_run.specs.declared.refused.RunRefused.{RunRefused}

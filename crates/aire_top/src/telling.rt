@@ -7,7 +7,7 @@ ghost use Rattle.aire_top.specs.Serves.{end_text, receipt_line, receipts_line, r
 
 use journal_rows::Verdict;
 use lang_core::{Copied, Name, Names, NoMemory, Same};
-use node_core::Receipt;
+use node_run::Receipt;
 use report_text::verdict_text;
 use script_run::Service;
 use std::alloc::Global;

@@ -6,7 +6,7 @@ ghost use Rattle.service_events.specs.Allowed.{IsAllowed};
 ghost use Rattle.world_events.specs.Sound.{IsSound};
 ghost use Rattle.script_run.specs.Audits.{SaysForged};
 ghost use Rattle.world_agreement.specs.Legal.{AreLegal};
-ghost use Rattle.node_core.specs.Closings.{IsWhole};
+ghost use Rattle.node_run.specs.HandedOn.{IsWhole};
 ghost use Rattle.aire_top.specs.Commands.{Ends, EndsOffline, EndsPlainly, IsDone, IsDoneAs, IsGoodCommand, IsGoodOffline, command_of};
 ghost use Rattle.aire_top.specs.Ended.{ending, faults, last_of, whose};
 ghost use Rattle.aire_top.specs.Endings.{RunEnds, ScriptEnds, answer, outside};

@@ -20,7 +20,7 @@ use Rattle.request_names.specs.Numbers.{number_of}
 use Rattle.handler_lang.specs.Reading.{read_of}
 use Rattle.report_text.specs.Reports as report
 use Rattle.report_text.specs.Reports.{escaped_key, key_byte}
-use Rattle.script_run.specs.Dumps.{digit_of, names_text, origin_text}
+use Rattle.dump_lines.specs.Dumps.{digit_of, names_text, origin_text}
 use Rattle.dump_reader.specs.Lines.{answer_at, call_at, call_of, cut_call, cut_inputs, cut_request, cut_standing, entry_at, entry_of, is_none, peers_at, program_at, program_of, programmed, reply_at, request_at, request_of, response_at, row_at, row_of, service_at, shaped, words_at}
 use Rattle.dump_reader.specs.Parts.{alone, at_end, body_behind, cut_at, in_u16, key_part, name_part, names_part, origin_part, path_part, table_part, who_part, with_part, with_word}
 use Rattle.dump_reader.specs.Spelled.{call_line, entry_line}

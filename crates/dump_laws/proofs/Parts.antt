@@ -7,7 +7,7 @@ use Rattle.lang_tree.specs.declared.method.Method.{Method}
 use Rattle.lang_core.specs.declared.inputs.Inputs.{Inputs}
 use Rattle.request_names.specs.Numbers.{number_of}
 use Rattle.report_text.specs.Reports as report
-use Rattle.script_run.specs.Dumps.{digit_of}
+use Rattle.dump_lines.specs.Dumps.{digit_of}
 use Rattle.dump_reader.specs.Lines.{cut_asked, cut_call, cut_four, cut_inputs, cut_number, cut_request, cut_standing, cut_two, inputs_of}
 use Rattle.dump_reader.specs.Parts.{flag_part, from_one, moment_of, with_part, with_word}
 use Rattle.dump_laws.specs.Forms.{AreInputs, IsFromOne, IsNumber}

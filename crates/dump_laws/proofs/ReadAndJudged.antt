@@ -24,7 +24,7 @@ use Rattle.world_agreement.specs.Quiet.{AreQuiet}
 use Rattle.world_agreement.proofs.LegalLaws.{legal_together}
 use Rattle.dump_reader.specs.Kept.{IsSent}
 use Rattle.dump_reader.proofs.OnlyLemmas.{read_only}
-use Rattle.script_run.specs.Dumps.{dump_text}
+use Rattle.dump_lines.specs.Dumps.{dump_text}
 use Rattle.dump_audit.proofs.LegalLaws.{so_legal}
 use Rattle.dump_laws.specs.Dumped.{dumped, dumped_all, dumped_entry}
 use Rattle.dump_laws.specs.Forms.{IsCallMade, IsDumpEntry, IsDumpService, IsFromOne, IsNumber, IsOrigin, IsResponse, IsSetting, IsWritten, IsWrittenEntry, IsWrittenOrigin}

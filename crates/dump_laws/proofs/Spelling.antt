@@ -20,8 +20,8 @@ use Rattle.request_log.specs.Records.{Record, record_of, recorded_calls}
 use Rattle.request_log.specs.declared.entry.Entry.{Entry}
 use Rattle.local_repair.specs.Current.{Consumed, rows_after}
 use Rattle.service_events.specs.State.{Kept, answers, base, me}
-use Rattle.script_run.specs.Dumps as dump
-use Rattle.script_run.specs.Dumps.{digit_of, dump_text, names_text, origin_text}
+use Rattle.dump_lines.specs.Dumps as dump
+use Rattle.dump_lines.specs.Dumps.{digit_of, dump_text, names_text, origin_text}
 use Rattle.dump_reader.specs.Lines.{line_at}
 use Rattle.dump_reader.specs.Reading.{lines_of}
 use Rattle.dump_reader.specs.Spelled as spelled

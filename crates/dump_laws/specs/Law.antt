@@ -5,7 +5,7 @@ use Rattle.std.specs.Str.{IsUtf8}
 use Rattle.service_events.specs.Fits.{Fits}
 use Rattle.service_events.specs.State.{Kept}
 use Rattle.world_agreement.specs.Partners.{NamesDiffer}
-use Rattle.script_run.specs.Dumps.{dump_text}
+use Rattle.dump_lines.specs.Dumps.{dump_text}
 use Rattle.dump_reader.specs.Reading.{read_of}
 use Rattle.dump_audit.specs.Judging.{judged}
 use Rattle.dump_audit.specs.declared.judged.Judged.TheVariants.{Legal}

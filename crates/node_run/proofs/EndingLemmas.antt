@@ -16,8 +16,8 @@ use Rattle.service_core.proofs.ReplayLemmas.{replayed}
 use Rattle.world_agreement.specs.Partners.{NamesDiffer}
 use Rattle.world_file.specs.Worlds.{KnowEachOther, name_of}
 use Rattle.world_file.specs.declared.setup.Setup.{Setup}
-use Rattle.node_ends.specs.SetSo.{AreSetSo, set_by, set_of}
-use Rattle.node_ends.specs.Settled.{HaveSettled}
+use Rattle.node_run.specs.SetSo.{AreSetSo, set_by, set_of}
+use Rattle.node_run.specs.Settled.{HaveSettled}
 use Rattle.journal_rows.specs.declared.verdict.Verdict.{Verdict}
 use Rattle.journal_rows.specs.declared.verdict.Verdict.TheVariants.{Legal}
 use Rattle.report_text.specs.Reports.{IsVerdictOver, verdict_text}

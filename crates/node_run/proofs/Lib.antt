@@ -1,8 +1,11 @@
 pub mod EndingLemmas
 pub mod FreshLemmas
 pub mod JobSends
+pub mod JudgingLemmas
 pub mod PeerLemmas
 pub mod RefusedLemmas
+pub mod SameLemmas
 pub mod ServiceSends
+pub mod SettlingLemmas
 pub mod StoppingLemmas
 pub mod WholeKept

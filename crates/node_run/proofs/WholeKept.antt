@@ -16,7 +16,7 @@ use Rattle.node_core.specs.Closings.{Agrees, HasReceipt, IsWhole, service_of}
 use Rattle.node_core.specs.Receipts.{AgreesWith, WasAskedSo, answered_id}
 use Rattle.node_core.specs.declared.receipt.Receipt.{Receipt}
 use Rattle.node_core.proofs.SearchLemmas.{in_longer}
-use Rattle.node_ends.specs.Settled.{GoesOnFrom, HasSettled, HaveSettled}
+use Rattle.node_run.specs.Settled.{GoesOnFrom, HasSettled, HaveSettled}
 
 -- ---- one journal
 

@@ -11,8 +11,8 @@ use Rattle.world_audit.specs.Verdicts.{IsVerdict}
 use Rattle.world_file.specs.declared.setup.Setup.{Setup}
 use Rattle.node_core.specs.Closings.{IsWhole}
 use Rattle.node_core.specs.declared.receipt.Receipt.{Receipt}
-use Rattle.node_ends.specs.SetSo.{AreSetSo}
-use Rattle.node_ends.specs.Settled.{IsAtRest}
+use Rattle.node_run.specs.SetSo.{AreSetSo}
+use Rattle.node_run.specs.Settled.{IsAtRest}
 
 -- no entry of it is stale, and its records are the replay of the requests that survive
 pub record IsReplayed (s : Kept) : Type 0 where

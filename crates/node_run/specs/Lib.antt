@@ -1,5 +1,9 @@
 pub mod Ends
+pub mod HandedOn
 pub mod Looking
 pub mod Peers
 pub mod Refused
+pub mod SetSo
+pub mod Settled
+pub mod Stepping
 pub mod Stopping

@@ -7,7 +7,7 @@ use Rattle.service_events.specs.State.{Kept}
 use Rattle.world_audit.specs.Verdicts.{IsVerdict}
 use Rattle.world_file.specs.Worlds.{name_of}
 use Rattle.world_file.specs.declared.setup.Setup.{Setup}
-use Rattle.node_ends.specs.SetSo.{AreSetSo}
+use Rattle.node_run.specs.SetSo.{AreSetSo}
 
 -- the line says the audit's verdict over services that are set up so, and that fit their journals
 pub record IsLiveVerdict (setups : List Setup) (line : List ℕ) : Type 0 where

@@ -2,19 +2,21 @@
 ghost use Rattle.std.specs.Prelude.{◌≡◌, flat_map, vec_len, IfErr, IfOk, IsErrOf};
 ghost use Rattle.world_file.specs.Worlds.{KnowEachOther};
 ghost use Rattle.node_core.specs.Closings.{Agrees, IsWhole, SamePlace};
-ghost use Rattle.node_ends.specs.SetSo.{AreSetSo};
-ghost use Rattle.node_ends.specs.Settled.{HaveSettled};
+ghost use Rattle.node_run.specs.SetSo.{AreSetSo};
+ghost use Rattle.node_run.specs.Settled.{HaveSettled};
 ghost use Rattle.node_run.specs.Ends.{IsGoodEnd};
 ghost use Rattle.node_run.specs.Stopping.{IsOfOne};
 ghost use Rattle.node_run.specs.declared.refused.RunRefused.TheVariants as refusals;
 
+use crate::judging::judge;
 use crate::last::Last;
 use crate::refused::{RunRefused, unequal};
+use crate::same::are_set_so;
+use crate::settling::settle_all;
 use io_edge::Connection;
 use journal_rows::Verdict;
 use lang_core::NoMemory;
 use node_core::{Closed, Nodes, Pass, Receipt, close};
-use node_ends::{are_set_so, judge, settle_all};
 use service_core::Service;
 use std::alloc::Global;
 use std::sync::ledger::Ledger;

@@ -3,9 +3,10 @@ ghost use Rattle.std.specs.Prelude.{◌≡◌, IfOk, map};
 ghost use Rattle.world_file.specs.Worlds.{name_of};
 ghost use Rattle.node_run.specs.Looking.{IsLiveVerdict};
 
+use crate::judging::judge;
+use crate::same::are_set_so;
 use lang_core::{Copied, Names, NoMemory, Text};
 use node_core::Node;
-use node_ends::{are_set_so, judge};
 use report_text::verdict_text;
 use service_core::Service;
 use std::alloc::Global;

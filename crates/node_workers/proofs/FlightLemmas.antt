@@ -144,7 +144,9 @@ IsOf flight number b = (b.flight ≡ flight) × (b.number ≡ number)
 may_end : (s : Kept) (begun : Option Begun) (flight number : ℕ) (came : Result AnswerMessage Why) → IsSomeAnd begun (IsOf flight number) → FailsOnly came
     → MayAsk s begun (end_of_call flight number came)
 may_end s begun flight number (Ok a) here fails = map_some begun (IsOf flight number) (λ (b : Begun). b.flight ≡ flight) (λ b h. h.0) here
-may_end s begun flight number (Err why) here fails = (here, fails)
+may_end s begun flight number (Err (whys.Lost note)) here fails = (here, tt)
+may_end s begun flight number (Err (whys.Refused word n)) here fails = (here, tt)
+may_end s begun flight number (Err whys.Changes) here fails = absurd fails
 
 -- what came of the open flight's call may be told
 pub may_tell : (s : Kept) (begun : Option Begun) (flight number : ℕ) (came : Result AnswerMessage Why) (asked : NodeEvent) → asked ≡ end_of_call flight number came

@@ -4,4 +4,5 @@ pub mod CallLemmas
 pub mod SentLemmas
 pub mod FlightLemmas
 pub mod MessageLemmas
+pub mod OperatorLemmas
 pub mod ServeLemmas

@@ -4,6 +4,7 @@ use Rattle.lang_base.specs.Texts.{same_text}
 use Rattle.lang_core.specs.declared.inputs.Inputs.{Inputs}
 use Rattle.repair_messages.specs.declared.messages.AnswerMessage.{AnswerMessage}
 use Rattle.repair_messages.specs.declared.messages.SetMessage.{SetMessage}
+use Rattle.journal_rows.specs.declared.orders.Command.{Command}
 use Rattle.call_registers.specs.Registers.{is_newer, register}
 use Rattle.call_registers.specs.declared.register.Register.{Register}
 use Rattle.service_events.specs.Calls.{noted}
@@ -11,16 +12,18 @@ use Rattle.service_events.specs.Messages.{ack_of, acked_again, answer_taken_wher
 use Rattle.service_events.specs.Questions.{is_denied}
 use Rattle.service_events.specs.State.{After, Kept, after, is_in_flight}
 use Rattle.service_events.specs.declared.answers.Heard.{Heard}
+use Rattle.service_events.specs.declared.answers.Ordered.{Ordered}
 use Rattle.service_events.specs.declared.answers.Taken.{Taken}
 use Rattle.service_events.specs.declared.refusals.AnswerRefused.{AnswerRefused}
 use Rattle.service_events.specs.declared.refusals.AnswerRefused.TheVariants.{Unknown}
+use Rattle.service_events.specs.declared.refusals.OrderRefused.{OrderRefused}
 use Rattle.service_events.specs.declared.refusals.TakeRefused.{TakeRefused}
 use Rattle.service_events.specs.declared.refusals.TakeRefused.TheVariants.{NotYet}
 use Rattle.node_core.specs.declared.asking.NodeDone.TheVariants as done
 use Rattle.node_core.specs.declared.asking.NodeEvent.TheVariants as events
 use Rattle.node_core.specs.declared.notes.Notes.{Notes}
 use Rattle.node_core.specs.declared.receipt.Receipt.{Receipt}
-use Rattle.node_workers.specs.Messages.{IsHeardSo, IsTakenSo}
+use Rattle.node_workers.specs.Messages.{IsHeardSo, IsOrderedSo, IsTakenSo}
 use Rattle.node_workers.specs.Turns.{Made}
 
 -- ---- a version of a call
@@ -60,6 +63,12 @@ taken_so name before now had have set i (Ok t) made =
     }
 taken_so name before now had have set i (Err why) made =
     record { noted = ap (λ (n : Notes). n.gave) made.notes; turn = ap (λ (n : Notes). n.turn) made.notes; ack = tt }
+
+-- what a worker was told at its node of an order
+pub ordered_so : (name : List ℕ) (before now : Notes) (had have : List Receipt) (command : Command) (token who : List ℕ) (i : Inputs) (ordered : Result Ordered OrderRefused)
+    → Made name before now had have (events.Order command token who i) (done.Order ordered) → IsOrderedSo command token who i now ordered
+ordered_so name before now had have command token who i ordered made =
+    record { noted = ap (λ (n : Notes). n.gave) made.notes; turn = ap (λ (n : Notes). n.turn) made.notes }
 
 -- ---- an answer
 

@@ -1,5 +1,5 @@
 -- How what was written on a connection answers the message that was read.
-use Rattle.std.proofs.Common.{◌≡◌, ℕ, ◌-◌, inl, inr, ◌⊎◌, ◌++◌, ◌∷◌, List, [], Option, Some, None, Result, Ok, Err, IsSome, IsSomeAnd, is_some, codes, length, length-append, slice_get, refl, sym, ap, ◌∙◌, subst, arith}
+use Rattle.std.proofs.Common.{◌≡◌, ℕ, ◌-◌, true, false, inl, inr, ◌⊎◌, ◌++◌, ◌∷◌, List, [], Option, Some, None, Result, Ok, Err, IsSome, IsSomeAnd, is_some, codes, length, length-append, slice_get, refl, sym, ap, ◌∙◌, subst, arith}
 use Rattle.std.proofs.lemmas.List.{append-nil}
 use Rattle.lang_core.specs.declared.ids.Origin.{Origin}
 use Rattle.lang_core.specs.declared.ids.Origin.TheVariants.{Call, Outside}
@@ -20,12 +20,13 @@ use Rattle.service_events.specs.declared.refusals.TakeRefused.{TakeRefused}
 use Rattle.service_events.specs.declared.refusals.TakeRefused.TheVariants as take
 use Rattle.io_edge.specs.Edge.{ReadFails, Reads, Writes, Wrote}
 use Rattle.http_front.specs.Writing.{response_bytes}
+use Rattle.http_front.specs.declared.message.WireResponse.{WireResponse}
 use Rattle.http_front.specs.declared.message.FrontRefused.{FrontRefused}
 use Rattle.http_front.specs.declared.message.FrontRefused.TheVariants as front
 use Rattle.wire_fields.specs.Secrets.{Secrets}
 use Rattle.wire_fields.specs.declared.console.ConsoleRequest.{ConsoleRequest}
 use Rattle.wire_fields.specs.declared.console.ConsoleWord.{ConsoleWord}
-use Rattle.wire_fields.specs.declared.console.ConsoleWord.TheVariants as console
+use Rattle.admin_console.specs.Asking.{is_for_workers}
 use Rattle.wire_fields.specs.declared.refused.WireRefused.{WireRefused}
 use Rattle.wire_replies.specs.Writing.{IsFor, written}
 use Rattle.wire_replies.specs.declared.replies.Outgoing.{Outgoing}
@@ -46,8 +47,8 @@ use Rattle.node_core.specs.declared.receipt.Receipt.{Receipt}
 use Rattle.node_workers.specs.Desks.{Endpoint}
 use Rattle.node_workers.specs.Flying.{IsCaller, IsNoted, RefusesAs}
 use Rattle.node_workers.specs.Messages.{IsHeardSo, IsTakenSo}
-use Rattle.node_workers.specs.Serving.{Hears, IsCounted, IsForWorkers, IsLiveRequest, IsNoWord, IsPlainly, IsServed, IsToldOf, OneReceipt, Owes, ServesMessage, ServesRequest, TellsTurn, WantsMemory, client, known_reply, refusal_bytes, sender}
-use Rattle.node_workers.specs.Written.{IsAnsweredBy, IsCommitWritten, IsConsoleSo, IsCutShort, IsRefusedSo, SaysIt, instead, last_of}
+use Rattle.node_workers.specs.Serving.{Hears, IsCounted, IsForWorkers, IsLiveRequest, IsOperatorTold, IsPlainly, IsServed, IsToldOf, OneReceipt, Owes, ServesMessage, ServesRequest, TellsTurn, WantsMemory, client, known_reply, refusal_bytes, sender}
+use Rattle.node_workers.specs.Written.{IsAnsweredBy, IsCommitWritten, IsConsoleSo, IsCutShort, IsRefusedSo, IsSaid, SaysIt, instead, last_of}
 use Rattle.node_workers.specs.declared.served.Served.{Served}
 use Rattle.node_workers.specs.declared.served.Served.TheVariants as served
 
@@ -140,21 +141,21 @@ module _ (e : Endpoint) (word : List ℕ) (before now : Writes) where
 
 -- ---- an operator's word
 
-pub not_for_workers : (word : ConsoleWord) → (word ≡ console.Audit → ⊥) → (word ≡ console.Stop → ⊥) → ¬ IsForWorkers word
-not_for_workers console.Audit audit stop = λ works. audit refl
-not_for_workers console.Stop audit stop = λ works. stop refl
-not_for_workers word audit stop = λ works. absurd works
+pub not_for_workers : (word : ConsoleWord) → is_for_workers word ≡ false → ¬ IsForWorkers word
+not_for_workers word not = λ works. absurd (cc (not, works))
 
-pub console_refused : (e : Endpoint) (asked : ConsoleRequest) (before now : Writes) (answer : Served) → ¬ IsForWorkers asked.word
-    → SaysIt e None (replies.Refused (codes "kind") 0) before now answer → IsConsoleSo e asked before now answer
-console_refused e asked before now (served.Said response) other says = (other, says)
-console_refused e asked before now served.WriteFault other says = (other, says)
-console_refused e asked before now served.NoMemory other says = (other, says)
-console_refused e asked before now (served.Committed index) other says = absurd says
-console_refused e asked before now (served.Console given) other says = absurd says
-console_refused e asked before now (served.FrontRefused why) other says = absurd says
-console_refused e asked before now (served.WireRefused why) other says = absurd says
-console_refused e asked before now served.Gone other says = absurd says
+module _ (e : Endpoint) (i : Inputs) (asked : ConsoleRequest) (notes : Notes) (before now : Writes) (other : ¬ IsForWorkers asked.word) where
+  -- what is told is written, or its write fails, or memory is wanting for that
+  pub operator_told : (response : WireResponse) (answer : Served) → IsOperatorTold e i asked notes response → IsSaid response before now answer
+      → IsConsoleSo e i asked notes before now answer
+  operator_told response (served.Said said) told says = (other, (response, told, says))
+  operator_told response served.WriteFault told says = (other, (response, told, says))
+  operator_told response served.NoMemory told says = says
+  operator_told response (served.Committed index) told says = absurd says
+  operator_told response (served.Console given) told says = absurd says
+  operator_told response (served.FrontRefused why) told says = absurd says
+  operator_told response (served.WireRefused why) told says = absurd says
+  operator_told response served.Gone told says = absurd says
 
 -- ---- a receipt
 
@@ -197,7 +198,7 @@ module _ (e : Endpoint) (i : Inputs) (before now : Reads) (wrote wrote_now : Wri
   Owed answer bytes = Owes e i before now notes had have answer bytes
 
   abbrev Why : Incoming → Outgoing → Type 0
-  Why message reply = IsToldOf i message notes reply ⊎ (WantsMemory reply ⊎ IsNoWord message reply)
+  Why message reply = IsToldOf i message notes reply ⊎ WantsMemory reply
 
   cut_short : (answer : Served) (bytes : List ℕ) → Owed answer bytes → IsCutShort wrote wrote_now bytes → Well served.WriteFault
   cut_short answer bytes owed cut = record { answer = answer; bytes = bytes; owed = owed; short = cut.0; fails = cut.1 }
@@ -208,12 +209,12 @@ module _ (e : Endpoint) (i : Inputs) (before now : Reads) (wrote wrote_now : Wri
   said_well message to reply (served.Said response) heard whom so same says =
       record {
         bytes = response_bytes (written e.me to reply e.secret);
-        owed = (record { message = message; heard = heard; reply = reply; spelled = says.0 ∙ ap (λ (t : Option (List ℕ)). written e.me t reply e.secret) whom; so = so }, same, sym (ap response_bytes says.0));
+        owed = (inl (record { message = message; heard = heard; reply = reply; spelled = says.0 ∙ ap (λ (t : Option (List ℕ)). written e.me t reply e.secret) whom; so = so }), same, sym (ap response_bytes says.0));
         wrote = says.1;
       }
   said_well message to reply served.WriteFault heard whom so same says =
       cut_short (served.Said (written e.me to reply e.secret)) (response_bytes (written e.me to reply e.secret))
-      (record { message = message; heard = heard; reply = reply; spelled = ap (λ (t : Option (List ℕ)). written e.me t reply e.secret) whom; so = so }, same, refl) says
+      (inl (record { message = message; heard = heard; reply = reply; spelled = ap (λ (t : Option (List ℕ)). written e.me t reply e.secret) whom; so = so }), same, refl) says
   said_well message to reply served.NoMemory heard whom so same says = (same, says)
   said_well message to reply (served.Committed index) heard whom so same says = absurd says
   said_well message to reply (served.Console asked) heard whom so same says = absurd says
@@ -251,20 +252,31 @@ module _ (e : Endpoint) (i : Inputs) (before now : Reads) (wrote wrote_now : Wri
   committed_well message origin request index served.Gone heard live one commit = absurd commit
   committed_well message origin request index served.NoMemory heard live one commit = absurd commit
 
-  console_well : (asked : ConsoleRequest) (answer : Served) → Hears e before now (said.Console asked) → have ≡ had → IsConsoleSo e asked wrote wrote_now answer → Well answer
+  operator_owes : (asked : ConsoleRequest) (response : WireResponse) → Hears e before now (said.Console asked) → ¬ IsForWorkers asked.word → IsOperatorTold e i asked notes response
+      → have ≡ had → Owed (served.Said response) (response_bytes response)
+  operator_owes asked response heard other told same = (inr (record { asked = asked; heard = heard; here = other; so = told }), same, refl)
+
+  console_well : (asked : ConsoleRequest) (answer : Served) → Hears e before now (said.Console asked) → have ≡ had → IsConsoleSo e i asked notes wrote wrote_now answer → Well answer
   console_well asked (served.Console given) heard same so =
       record {
         bytes = [];
         owed = (subst (λ (x : ConsoleRequest). Hears e before now (said.Console x)) (sym so.0) heard, subst (λ (x : ConsoleRequest). IsForWorkers x.word) (sym so.0) so.1, same, refl);
         wrote = wrote_nothing wrote wrote_now so.2;
       }
-  console_well asked (served.Said response) heard same so = said_well (said.Console asked) None (replies.Refused (codes "kind") 0) (served.Said response) heard refl (inr (inr (so.0, refl))) same so.1
-  console_well asked served.WriteFault heard same so = said_well (said.Console asked) None (replies.Refused (codes "kind") 0) served.WriteFault heard refl (inr (inr (so.0, refl))) same so.1
-  console_well asked served.NoMemory heard same so = said_well (said.Console asked) None (replies.Refused (codes "kind") 0) served.NoMemory heard refl (inr (inr (so.0, refl))) same so.1
-  console_well asked (served.Committed index) heard same so = absurd so.1
-  console_well asked (served.FrontRefused why) heard same so = absurd so.1
-  console_well asked (served.WireRefused why) heard same so = absurd so.1
-  console_well asked served.Gone heard same so = absurd so.1
+  console_well asked (served.Said response) heard same so =
+      let told = subst (λ (r : WireResponse). IsOperatorTold e i asked notes r) (sym so.1.2.0) so.1.1 in
+      record {
+        bytes = response_bytes response;
+        owed = operator_owes asked response heard so.0 told same;
+        wrote = subst (λ (r : WireResponse). Wrote wrote wrote_now (response_bytes r)) (sym so.1.2.0) so.1.2.1;
+      }
+  console_well asked served.WriteFault heard same so =
+      cut_short (served.Said so.1.0) (response_bytes so.1.0) (operator_owes asked so.1.0 heard so.0 so.1.1 same) so.1.2
+  console_well asked served.NoMemory heard same so = (same, so)
+  console_well asked (served.Committed index) heard same so = absurd so.1.2
+  console_well asked (served.FrontRefused why) heard same so = absurd so.1.2
+  console_well asked (served.WireRefused why) heard same so = absurd so.1.2
+  console_well asked served.Gone heard same so = absurd so.1.2
 
   gone_well : notes.turn ≡ Some turns.Gone → have ≡ had → wrote_now ≡ wrote → Well served.Gone
   gone_well turn same none = record { bytes = []; owed = (turn, same, refl); wrote = wrote_nothing wrote wrote_now none }
@@ -326,7 +338,7 @@ module _ (e : Endpoint) (i : Inputs) (now : Reads) (wrote wrote_now : Writes) (n
       (subst (λ (o : Option Receipt). IsSomeAnd o (λ (r : Receipt). IsCommitWritten index r.reply wrote wrote_now answer)) last commit)
 
   live_said : (origin : Origin) (request : Request) (to : Option (List ℕ)) (reply : Outgoing) (answer : Served) → to ≡ client origin
-      → ((message : Incoming) → IsLiveRequest message origin request → IsToldOf i message notes reply ⊎ (WantsMemory reply ⊎ IsNoWord message reply))
+      → ((message : Incoming) → IsLiveRequest message origin request → IsToldOf i message notes reply ⊎ WantsMemory reply)
       → have ≡ had → SaysIt e to reply wrote wrote_now answer → DoesLive origin request answer
   live_said origin request to reply answer whom so same says message live before heard =
       said_well e i before now wrote wrote_now notes had have message to reply answer heard (whom ∙ client_is message origin request live) (so message live) same says
@@ -350,7 +362,7 @@ module _ (e : Endpoint) (i : Inputs) (now : Reads) (wrote wrote_now : Writes) (n
   pub live_wants : (origin : Origin) (request : Request) (to : Option (List ℕ)) (answer : Served) → to ≡ client origin → have ≡ had
       → SaysIt e to (replies.Refused (codes "nomemory") 0) wrote wrote_now answer → DoesLive origin request answer
   live_wants origin request to answer whom same says =
-      live_said origin request to (replies.Refused (codes "nomemory") 0) answer whom (λ message live. inr (inl refl)) same says
+      live_said origin request to (replies.Refused (codes "nomemory") 0) answer whom (λ message live. inr refl) same says
 
   -- a request from outside, and a peer's live call, is served as the live request that it is
   pub outside_served : (request : Request) (answer : Served) → DoesLive Outside request answer → Does (said.Outside request) answer
@@ -390,13 +402,13 @@ module _ (e : Endpoint) (i : Inputs) (now : Reads) (wrote wrote_now : Writes) (n
   pub message_wants : (message : Incoming) (to : Option (List ℕ)) (answer : Served) → to ≡ sender message → have ≡ had
       → SaysIt e to (replies.Refused (codes "nomemory") 0) wrote wrote_now answer → Does message answer
   message_wants message to answer whom same says before heard =
-      said_well e i before now wrote wrote_now notes had have message to (replies.Refused (codes "nomemory") 0) answer heard whom (inr (inl refl)) same says
+      said_well e i before now wrote wrote_now notes had have message to (replies.Refused (codes "nomemory") 0) answer heard whom (inr refl) same says
 
   -- likewise even for its sender's name
   pub message_dropped : (message : Incoming) → have ≡ had → wrote_now ≡ wrote → Does message served.NoMemory
   message_dropped message same none before heard = (same, none)
 
-  pub console_served : (asked : ConsoleRequest) (answer : Served) → have ≡ had → IsConsoleSo e asked wrote wrote_now answer → Does (said.Console asked) answer
+  pub console_served : (asked : ConsoleRequest) (answer : Served) → have ≡ had → IsConsoleSo e i asked notes wrote wrote_now answer → Does (said.Console asked) answer
   console_served asked answer same so before heard = console_well e i before now wrote wrote_now notes had have asked answer heard same so
 
 -- what stands at the end

@@ -6,7 +6,6 @@ use Rattle.repair_messages.specs.declared.messages.AnswerMessage.{AnswerMessage}
 use Rattle.repair_messages.specs.declared.messages.SetMessage.{SetMessage}
 use Rattle.call_registers.specs.declared.register.Why.{Why}
 use Rattle.call_registers.specs.declared.register.Why.TheVariants as whys
-use Rattle.service_core.specs.Failures.{IsFailure as CallFails}
 use Rattle.io_edge.specs.Edge.{Rose}
 use Rattle.io_links.specs.Exchanges.{Exchanges, IsFailure}
 use Rattle.io_links.specs.declared.links.Exchange.{Exchange}
@@ -158,8 +157,8 @@ IsReadAs set answers (Err why) = (answers ≡ false) × IsRefusal why
 
 -- where it failed, it was lost or refused
 abbrev pub FailsOnly : Result AnswerMessage Why → Type 0
-FailsOnly (Ok came) = Unit {0}
-FailsOnly (Err why) = CallFails why
+FailsOnly (Err whys.Changes) = ⊥
+FailsOnly came = Unit {0}
 
 -- the exchange failed, and its note says that the link's count rose, unless that stood at its end
 abbrev pub NotesRise : Exchange → Type 0

@@ -1,14 +1,17 @@
 -- What became of a version of a call, or of an answer, that a peer sent.
-use Rattle.std.specs.Prelude.{◌≡◌, Some, Result, IfOk}
+use Rattle.std.specs.Prelude.{ℕ, ◌≡◌, List, Some, Result, IfOk}
 use Rattle.lang_core.specs.declared.inputs.Inputs.{Inputs}
 use Rattle.repair_messages.specs.declared.messages.AnswerMessage.{AnswerMessage}
 use Rattle.repair_messages.specs.declared.messages.SetMessage.{SetMessage}
+use Rattle.journal_rows.specs.declared.orders.Command.{Command}
 use Rattle.service_events.specs.Messages.{ack_of, confirm_of}
 use Rattle.service_events.specs.declared.answers.Heard.{Heard}
+use Rattle.service_events.specs.declared.answers.Ordered.{Ordered}
 use Rattle.service_events.specs.declared.answers.Taken.{Taken}
 use Rattle.service_events.specs.declared.refusals.AnswerRefused.{AnswerRefused}
+use Rattle.service_events.specs.declared.refusals.OrderRefused.{OrderRefused}
 use Rattle.service_events.specs.declared.refusals.TakeRefused.{TakeRefused}
-use Rattle.node_core.specs.Notes.{answer_turn, take_turn, turn_if}
+use Rattle.node_core.specs.Notes.{answer_turn, order_turn, take_turn, turn_if}
 use Rattle.node_core.specs.declared.asking.NodeDone.TheVariants as done
 use Rattle.node_core.specs.declared.asking.NodeEvent.TheVariants as events
 use Rattle.node_core.specs.declared.notes.Notes.{Notes}
@@ -18,6 +21,11 @@ pub record IsTakenSo (set : SetMessage) (i : Inputs) (now : Notes) (taken : Resu
   pub noted : now.gave ≡ Some (record { asked = events.Take set i; done = done.Take taken })
   pub turn : now.turn ≡ turn_if take_turn taken
   pub ack : IfOk taken (λ t. t.ack ≡ ack_of set)
+
+-- likewise of an operator's order
+pub record IsOrderedSo (command : Command) (token who : List ℕ) (i : Inputs) (now : Notes) (ordered : Result Ordered OrderRefused) : Type 0 where
+  pub noted : now.gave ≡ Some (record { asked = events.Order command token who i; done = done.Order ordered })
+  pub turn : now.turn ≡ turn_if order_turn ordered
 
 -- likewise of an answer, which it confirms
 pub record IsHeardSo (a : AnswerMessage) (now : Notes) (heard : Result Heard AnswerRefused) : Type 0 where

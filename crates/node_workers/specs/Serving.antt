@@ -1,5 +1,5 @@
 -- One connection served.
-use Rattle.std.specs.Prelude.{ℕ, ◌≡◌, ◌++◌, ◌∷◌, ◌⊎◌, List, [], Option, Some, None, Result, Ok, Err, codes}
+use Rattle.std.specs.Prelude.{ℕ, ◌≡◌, true, ◌++◌, ◌∷◌, ◌⊎◌, List, [], Option, Some, None, Result, Ok, Err, codes}
 use Rattle.std.specs.Option.{ForSome}
 use Rattle.lang_core.specs.declared.ids.Origin.{Origin}
 use Rattle.lang_core.specs.declared.ids.Origin.TheVariants as origins
@@ -7,26 +7,38 @@ use Rattle.lang_core.specs.declared.inputs.Inputs.{Inputs}
 use Rattle.lang_core.specs.declared.request.Request.{Request}
 use Rattle.repair_messages.specs.declared.messages.AnswerMessage.{AnswerMessage}
 use Rattle.journal_rows.specs.declared.callee.AnsweredRow.{AnsweredRow}
+use Rattle.journal_rows.specs.declared.orders.Command.{Command}
 use Rattle.journal_rows.specs.declared.row.Row.TheVariants as rows
+use Rattle.service_events.specs.State.{Kept, me}
 use Rattle.service_events.specs.declared.answers.Arrived.{Arrived}
 use Rattle.service_events.specs.declared.answers.Arrived.TheVariants as arrived
 use Rattle.service_events.specs.declared.answers.Heard.{Heard}
+use Rattle.service_events.specs.declared.answers.Ordered.{Ordered}
 use Rattle.service_events.specs.declared.answers.Taken.{Taken}
+use Rattle.service_events.specs.declared.refusals.OrderRefused.{OrderRefused}
 use Rattle.io_edge.specs.Edge.{Reads, ReadFails, Writes, Wrote, WroteShort, WriteFails}
 use Rattle.http_front.specs.Writing.{response_bytes}
 use Rattle.http_front.specs.declared.message.FrontRefused.{FrontRefused}
 use Rattle.http_front.specs.declared.message.FrontRefused.TheVariants as front
 use Rattle.http_front.specs.declared.message.WireResponse.{WireResponse}
+use Rattle.wire_fields.specs.declared.console.ConsoleRequest.{ConsoleRequest}
 use Rattle.wire_fields.specs.declared.console.ConsoleWord.{ConsoleWord}
-use Rattle.wire_fields.specs.declared.console.ConsoleWord.TheVariants as console
 use Rattle.wire_replies.specs.Writing.{written}
 use Rattle.wire_replies.specs.declared.replies.Outgoing.{Outgoing}
 use Rattle.wire_replies.specs.declared.replies.Outgoing.TheVariants as replies
 use Rattle.wire_words.specs.Words.{front_word, wire_word}
 use Rattle.aire_wire.specs.declared.incoming.Incoming.{Incoming}
 use Rattle.aire_wire.specs.declared.incoming.Incoming.TheVariants as said
+use Rattle.wire_bytes.specs.Console.{console_refusal}
 use Rattle.wire_bytes.specs.Hearing.{IsHeardFrom, TakenSays}
 use Rattle.wire_bytes.specs.declared.hearing.Unheard.TheVariants as unheard
+use Rattle.admin_console.specs.Asking.{asked_in, is_for_workers}
+use Rattle.admin_console.specs.Previews.{IsPreviewReply}
+use Rattle.admin_console.specs.Replies.{bad, order_reply, report_reply}
+use Rattle.admin_console.specs.Reports.{report_of}
+use Rattle.admin_console.specs.declared.asking.Asked.{Asked}
+use Rattle.admin_console.specs.declared.asking.Asked.TheVariants as asks
+use Rattle.admin_console.specs.declared.asking.Report.{Report}
 use Rattle.node_core.specs.declared.asking.NodeDone.{NodeDone}
 use Rattle.node_core.specs.declared.asking.NodeDone.TheVariants as done
 use Rattle.node_core.specs.declared.asking.NodeEvent.{NodeEvent}
@@ -39,6 +51,7 @@ use Rattle.node_core.specs.declared.notes.TurnWord.{TurnWord}
 use Rattle.node_core.specs.declared.notes.TurnWord.TheVariants as words
 use Rattle.node_core.specs.declared.receipt.Receipt.{Receipt}
 use Rattle.node_workers.specs.Desks.{Endpoint}
+use Rattle.node_workers.specs.Messages.{IsOrderedSo}
 use Rattle.node_workers.specs.declared.served.Served.{Served}
 use Rattle.node_workers.specs.declared.served.Served.TheVariants as served
 
@@ -155,24 +168,54 @@ pub record IsToldOf (i : Inputs) (message : Incoming) (notes : Notes) (reply : O
 abbrev pub WantsMemory : Outgoing → Type 0
 WantsMemory reply = reply ≡ replies.Refused (codes "nomemory") 0
 
--- the word is one that workers answer
+-- the word is one that workers answer, over all services
 abbrev pub IsForWorkers : ConsoleWord → Type 0
-IsForWorkers console.Audit = Unit {0}
-IsForWorkers console.Stop = Unit {0}
-IsForWorkers word = ⊥
+IsForWorkers word = is_for_workers word ≡ true
 
--- an operator's word that no service answers yet is refused as if it were none
-abbrev pub IsNoWord : Incoming → Outgoing → Type 0
-IsNoWord (said.Console asked) reply = (¬ IsForWorkers asked.word) × (reply ≡ replies.Refused (codes "kind") 0)
-IsNoWord message reply = ⊥
-
--- the response, without a commit, to the message read
+-- the response, without a commit, to the message of a client read
 pub record Tells (e : Endpoint) (i : Inputs) (before now : Reads) (notes : Notes) (response : WireResponse) : Type 0 where
   pub message : Incoming
   pub heard : Hears e before now message
   pub reply : Outgoing
   pub spelled : response ≡ written e.me (sender message) reply e.secret
-  pub so : IsToldOf i message notes reply ⊎ (WantsMemory reply ⊎ IsNoWord message reply)
+  pub so : IsToldOf i message notes reply ⊎ WantsMemory reply
+
+-- ---- what an operator is told
+
+-- The order is the message's own event: the worker's notes have it with its answer, and how it was turned away, where it was.
+-- That answer is what is told.
+pub record IsOrderTold (name : List ℕ) (command : Command) (token who : List ℕ) (i : Inputs) (notes : Notes) (response : WireResponse) : Type 0 where
+  pub answer : Result Ordered OrderRefused
+  pub so : IsOrderedSo command token who i notes answer
+  pub told : response ≡ order_reply name answer
+
+-- a report of a service of this name, as it stood behind the lock at some moment
+abbrev pub IsReportOf : List ℕ → Report → WireResponse → Type 0
+IsReportOf name report response = (service : Kept) × (me service ≡ name) × (response ≡ report_reply (report_of report service))
+
+-- what was asked is done and told; of a body that was ill it is told that it was
+abbrev pub IsDoneSo : Endpoint → Inputs → Notes → List ℕ → Option Asked → WireResponse → Type 0
+IsDoneSo e i notes who None response = response ≡ bad
+IsDoneSo e i notes who (Some (asks.Order token command)) response = IsOrderTold e.me command token who i notes response
+IsDoneSo e i notes who (Some (asks.Report report)) response = IsReportOf e.me report response
+
+-- memory was wanting
+abbrev pub IsWantTold : WireResponse → Type 0
+IsWantTold response = response ≡ console_refusal (codes "nomemory") 0
+
+abbrev pub IsOperatorTold : Endpoint → Inputs → ConsoleRequest → Notes → WireResponse → Type 0
+IsOperatorTold e i asked notes response = IsDoneSo e i notes asked.who (asked_in asked) response ⊎ IsWantTold response
+
+-- what is shown of the cancellation that is asked for, of a service of this name, as it stood behind the lock at some moment
+abbrev pub IsPreviewTold : List ℕ → ConsoleRequest → WireResponse → Type 0
+IsPreviewTold name request response = (service : Kept) × (me service ≡ name) × IsPreviewReply request.body request.who service response
+
+-- the response to an operator's request read, whose word isn't one that workers answer
+pub record TellsOperator (e : Endpoint) (i : Inputs) (before now : Reads) (notes : Notes) (response : WireResponse) : Type 0 where
+  pub asked : ConsoleRequest
+  pub heard : Hears e before now (said.Console asked)
+  pub here : ¬ IsForWorkers asked.word
+  pub so : IsOperatorTold e i asked notes response
 
 -- a refusal to a client that is no service; no bytes where there is no word
 abbrev pub refusal_bytes : Option (List ℕ) → List ℕ
@@ -190,7 +233,7 @@ IsCounted why before now = Unit {0}
 abbrev pub Owes : Endpoint → Inputs → Reads → Reads → Notes → List Receipt → List Receipt → Served → List ℕ → Type 0
 Owes e i before now notes had have (served.Committed index) bytes = Commits e i before now had have index bytes
 Owes e i before now notes had have (served.Said response) bytes =
-    Tells e i before now notes response × (have ≡ had) × (bytes ≡ response_bytes response)
+    (Tells e i before now notes response ⊎ TellsOperator e i before now notes response) × (have ≡ had) × (bytes ≡ response_bytes response)
 Owes e i before now notes had have (served.Console asked) bytes =
     Hears e before now (said.Console asked) × IsForWorkers asked.word × (have ≡ had) × (bytes ≡ [])
 Owes e i before now notes had have (served.FrontRefused why) bytes =

@@ -1,5 +1,6 @@
 -- What is written on a connection.
-use Rattle.std.specs.Prelude.{ℕ, ◌≡◌, ◌-◌, List, Option, Some, None, codes, length, slice_get}
+use Rattle.std.specs.Prelude.{ℕ, ◌≡◌, ◌-◌, List, Option, Some, None, length, slice_get}
+use Rattle.lang_core.specs.declared.inputs.Inputs.{Inputs}
 use Rattle.io_edge.specs.Edge.{Writes, Wrote, WroteShort, WriteFails}
 use Rattle.http_front.specs.Writing.{response_bytes}
 use Rattle.http_front.specs.declared.message.WireResponse.{WireResponse}
@@ -10,9 +11,10 @@ use Rattle.wire_replies.specs.declared.replies.Outgoing.TheVariants as replies
 use Rattle.wire_words.specs.Words.{front_word, wire_word}
 use Rattle.wire_bytes.specs.declared.hearing.Unheard.{Unheard}
 use Rattle.wire_bytes.specs.declared.hearing.Unheard.TheVariants as unheard
+use Rattle.node_core.specs.declared.notes.Notes.{Notes}
 use Rattle.node_core.specs.declared.receipt.Receipt.{Receipt}
 use Rattle.node_workers.specs.Desks.{Endpoint}
-use Rattle.node_workers.specs.Serving.{refusal_bytes, IsForWorkers}
+use Rattle.node_workers.specs.Serving.{refusal_bytes, IsForWorkers, IsOperatorTold, IsPreviewTold}
 use Rattle.node_workers.specs.declared.served.Served.{Served}
 use Rattle.node_workers.specs.declared.served.Served.TheVariants as served
 
@@ -42,9 +44,16 @@ IsCommitWritten index reply before now served.WriteFault = IsCutShort before now
 IsCommitWritten index reply before now other = ⊥
 
 -- what an operator's request comes to
-abbrev pub IsConsoleSo : Endpoint → ConsoleRequest → Writes → Writes → Served → Type 0
-IsConsoleSo e asked before now (served.Console given) = (given ≡ asked) × IsForWorkers asked.word × (now ≡ before)
-IsConsoleSo e asked before now answer = (¬ IsForWorkers asked.word) × SaysIt e None (replies.Refused (codes "kind") 0) before now answer
+abbrev pub IsConsoleSo : Endpoint → Inputs → ConsoleRequest → Notes → Writes → Writes → Served → Type 0
+IsConsoleSo e i asked notes before now (served.Console given) = (given ≡ asked) × IsForWorkers asked.word × (now ≡ before)
+IsConsoleSo e i asked notes before now served.NoMemory = now ≡ before
+IsConsoleSo e i asked notes before now answer =
+    (¬ IsForWorkers asked.word) × ((response : WireResponse) × IsOperatorTold e i asked notes response × IsSaid response before now answer)
+
+-- what an operator who asks for a preview is written
+abbrev pub IsPreviewSo : List ℕ → ConsoleRequest → Writes → Writes → Served → Type 0
+IsPreviewSo name request before now served.NoMemory = now ≡ before
+IsPreviewSo name request before now answer = (response : WireResponse) × IsPreviewTold name request response × IsSaid response before now answer
 
 -- this answer, once something was said
 abbrev pub instead : Served → Served → Served

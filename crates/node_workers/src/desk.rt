@@ -2,9 +2,9 @@
 ghost use Rattle.std.specs.Prelude.{◌≡◌, ◌↔◌, IsTrue};
 ghost use Rattle.service_events.specs.State.{me};
 
+use admin_console::Service;
 use lang_core::{Same, Text};
 use node_core::{Node, Tally};
-use service_core::Service;
 use std::sync::ledger::Ledger;
 use wire_fields::{ByName, Secrets};
 use world_file::Setup;

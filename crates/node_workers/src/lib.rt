@@ -9,6 +9,7 @@ mod desk;
 mod flying;
 mod live;
 mod messages;
+mod operators;
 mod posts;
 mod replies;
 mod serve;
@@ -16,6 +17,7 @@ mod served;
 mod turns;
 
 pub use desk::{Desk, Doors};
+pub use operators::tell_preview;
 pub use posts::{PostedOne, post_one};
 pub use serve::serve_one;
 pub use served::Served;

@@ -29,7 +29,8 @@ pub(crate) fn write_bytes<C: Connection>(conn: &mut C, bytes: &[u8]) -> Result<(
     write_all(conn, bytes)
 }
 
-fn write<C: Connection>(alloc: Global, conn: &mut C, response: WireResponse) -> Served
+/// Writes this response.
+pub(crate) fn write<C: Connection>(alloc: Global, conn: &mut C, response: WireResponse) -> Served
     ensures written { IsSaid response (C.Sink.writes conn.old) (C.Sink.writes conn.new) result }
     ensures beside { C.Sink.beside conn.new ≡ C.Sink.beside conn.old }
 {

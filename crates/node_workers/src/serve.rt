@@ -15,8 +15,10 @@ ghost use Rattle.node_workers.specs.Written.{instead, IsConsoleSo, IsRefusedSo};
 use crate::desk::Desk;
 use crate::live::{Ending, live};
 use crate::messages::{take, take_answer};
+use crate::operators::tell;
 use crate::replies::{refuse, say, say_known, say_no_memory, write_last};
 use crate::served::Served;
+use admin_console::is_for_workers;
 use aire_wire::Incoming;
 use http_front::FrontRefused;
 use io_edge::Connection;
@@ -28,7 +30,7 @@ use std::alloc::Global;
 use std::sync::Wait;
 use std::sync::ledger::Ledger;
 use wire_bytes::{Unheard, hear};
-use wire_fields::{ConsoleRequest, ConsoleWord, WireRefused};
+use wire_fields::{ConsoleRequest, WireRefused};
 use wire_replies::Outgoing;
 use wire_words::{answer_told, arrive_told, front_word, take_told, wire_word};
 
@@ -191,20 +193,24 @@ fn serve_answer<R: Ledger, Q: Ledger, W: Wait, C: Connection>(
 
 // ---- what no service is asked
 
-// An audit and the end are for the workers; no other word is built yet.
-fn serve_console<R: Ledger, Q: Ledger, C: Connection>(
+// What is asked of all services is for the workers; what else an operator asks is told by this one.
+fn serve_console<R: Ledger, Q: Ledger, W: Wait, C: Connection>(
+    rt: &W,
     alloc: Global,
     desk: &Desk<R, Q>,
+    pass: &mut Pass<Q>,
     conn: &mut C,
     asked: ConsoleRequest,
+    inputs: Inputs,
 ) -> Served
-    ensures served { IsConsoleSo (at_desk desk.now) asked (C.Sink.writes conn.old) (C.Sink.writes conn.new) result }
+    ensures served { IsConsoleSo (at_desk desk.now) inputs asked pass.new.notes (C.Sink.writes conn.old) (C.Sink.writes conn.new) result }
     ensures beside { C.Sink.beside conn.new ≡ C.Sink.beside conn.old }
+    ensures keeps { Keeps pass.old.notes pass.new.notes pass.old.receipts.items pass.new.receipts.items }
 {
-    match asked.word {
-        ConsoleWord::Audit | ConsoleWord::Stop => Served::Console(asked),
-        _ => refuse(alloc, desk, conn, None, "kind", 0),
+    if is_for_workers(asked.word) {
+        return Served::Console(asked);
     }
+    tell(rt, alloc, desk, pass, conn, &asked, inputs)
 }
 
 fn instead(said: Served, answer: Served) -> Served
@@ -324,7 +330,7 @@ fn serve<R: Ledger, Q: Ledger, W: Wait, C: Connection, L: Link, G: Gate>(
         Incoming::Live(set) => serve_call(rt, alloc, desk, pass, conn, link, gate, set, inputs),
         Incoming::Set(set) => serve_set(rt, alloc, desk, pass, conn, set, inputs),
         Incoming::Answer(answer) => serve_answer(rt, alloc, desk, pass, conn, answer, inputs),
-        Incoming::Console(asked) => serve_console(alloc, desk, conn, asked),
+        Incoming::Console(asked) => serve_console(rt, alloc, desk, pass, conn, asked, inputs),
     }
 }
 
@@ -332,8 +338,9 @@ fn serve<R: Ledger, Q: Ledger, W: Wait, C: Connection, L: Link, G: Gate>(
 ///
 /// A live request is run, and its calls are made over the link, each between two events and without the node's lock; the
 /// gate is told of each. What is answered is said of the message that was read alone: behind a commit its receipt's reply,
-/// else what the service answered to the message's own event, or why it didn't. A flight that can't go on for want of memory
-/// is given up, and none is open afterwards. A service that isn't set up as the desk says, and a peer that the desk doesn't
+/// else what the service answered to the message's own event, or why it didn't. An operator is told what came of the order,
+/// gets a report, or is told that the body was ill. A flight that can't go on for want of memory is given up, and none is open
+/// afterwards. A service that isn't set up as the desk says, and a peer that the desk doesn't
 /// know, are answered as memory that lacks. It may wait.
 pub fn serve_one<R: Ledger, Q: Ledger, W: Wait, C: Connection, L: Link, G: Gate>(
     rt: &W,

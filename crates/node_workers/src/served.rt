@@ -7,9 +7,10 @@ use wire_fields::{ConsoleRequest, WireRefused};
 pub enum Served {
     /// A live request was committed, its answer stands at this index of the journal, and the receipt's reply was written.
     Committed(u64),
-    /// This was written, without a commit: a known answer, an acknowledgement, a confirmation or a refusal.
+    /// This was written, without a commit: a known answer, an acknowledgement, a confirmation, a refusal, or a reply to an
+    /// operator.
     Said(WireResponse),
-    /// An operator asks for what the workers answer, an audit or the end. Nothing was written.
+    /// An operator asks for what the workers answer: a preview, an audit or the end. Nothing was written.
     Console(ConsoleRequest),
     /// The bytes are no HTTP request. Its word was written, but for a cut and a fault of the connection.
     FrontRefused(FrontRefused),
@@ -19,6 +20,6 @@ pub enum Served {
     Gone,
     /// A write failed. Of the reply a front was written, perhaps nothing.
     WriteFault,
-    /// No memory for it. Nothing was committed or written.
+    /// No memory for it. Nothing was committed or written, but an operator's order may have been made.
     NoMemory,
 }

@@ -2,11 +2,7 @@
 use Rattle.std.proofs.Common.{◌≡◌, ℕ, List, [], ◌∷◌, Option, Some, None, Result, Ok, Err, refl, ap, sym, ◌∙◌, subst}
 use Rattle.lang_core.specs.declared.request.Request.{Request}
 use Rattle.service_events.specs.State.{Kept}
-use Rattle.preview_core.specs.declared.refused.PreviewRefused.{PreviewRefused}
-use Rattle.preview_core.specs.declared.told.Preview.{Preview as Shown}
-use Rattle.preview_core.specs.declared.trial.Trial.TheVariants.{Cancel}
-use Rattle.preview_core.proofs.AloneLemmas.{preview_alone}
-use Rattle.preview_core.proofs.MadeLemmas.{has_preview}
+use Rattle.service_reports.proofs.ShownLaws.{has_shown, one_shown}
 use Rattle.world_agreement.specs.Partners.{service_of}
 use Rattle.world_events.specs.Events.{Answer, after_event, after_events, answer_to}
 use Rattle.world_events.specs.Live.{AllLiveEvents}
@@ -71,14 +67,12 @@ one_for w (Err fault) xs ys a b = a ∙ sym b
 
 preview_said : (id : ℕ) (who : List ℕ) (o : Option Kept) → (said : LineAnswer) × SaysPreview id who o said
 preview_said id who None = (Err Service, refl)
-preview_said id who (Some s) = let r = has_preview s (Cancel id ∷ []) who in (Ok (printed (preview_text s r.0)), (preview_text s r.0, (r.0, r.1, refl), refl))
+preview_said id who (Some s) = let r = has_shown id who s in (Ok (printed (preview_text s r.0)), (preview_text s r.0, (r.0, r.1, refl), refl))
 
 one_preview : (id : ℕ) (who : List ℕ) (o : Option Kept) (a b : LineAnswer) → SaysPreview id who o a → SaysPreview id who o b → a ≡ b
 one_preview id who None a b x y = x ∙ sym y
 one_preview id who (Some s) a b x y =
-    let P : Result Shown PreviewRefused → List ℕ = λ r. preview_text s r in
-    let text : x.0 ≡ y.0 =
-    (x.1).2 ∙ ap P (preview_alone s (Cancel id ∷ []) who (x.1).0 (y.1).0 (x.1).1 (y.1).1) ∙ sym (y.1).2 in
+    let text : x.0 ≡ y.0 = (x.1).2 ∙ ap (preview_text s) (one_shown id who s (x.1).0 (y.1).0 (x.1).1 (y.1).1) ∙ sym (y.1).2 in
     let S : List ℕ → LineAnswer = λ t. Ok (printed t) in
     x.2 ∙ ap S text ∙ sym y.2
 

@@ -6,4 +6,3 @@ pub mod Settling
 pub mod Previewing
 pub mod Stops
 pub mod Deliveries
-pub mod Dumps

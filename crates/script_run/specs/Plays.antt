@@ -1,11 +1,9 @@
 -- What a script does, and what it says.
 use Rattle.std.specs.Prelude.{ℕ, ◌≡◌, ◌+◌, Bool, true, false, List, [], ◌∷◌, ◌++◌, Option, Some, None, Ok, Err, ◌==◌, length, map, nat_lt, take, drop}
 use Rattle.std.specs.List.{slice_split}
-use Rattle.local_repair.specs.Current.{rows_after}
-use Rattle.repair_queue.specs.Held.{notices}
-use Rattle.report_text.specs.Notices.{notices_text}
-use Rattle.report_text.specs.Reports.{log_text, rows_text, verdict_text}
-use Rattle.service_events.specs.State.{Kept, me, base}
+use Rattle.report_text.specs.Reports.{verdict_text}
+use Rattle.service_events.specs.State.{Kept, me}
+use Rattle.service_reports.specs.Reports.{log_of_service, notices_of_service, rows_of_service}
 use Rattle.world_agreement.specs.Partners.{service_of}
 use Rattle.world_events.specs.Events.{after_events}
 use Rattle.world_events.specs.Live.{IsLiveEvent}
@@ -21,7 +19,7 @@ use Rattle.script_lines.specs.declared.line.LineFault.{LineFault}
 use Rattle.script_lines.specs.declared.line.LineFault.TheVariants.{Service, TooLong}
 use Rattle.script_run.specs.Audits.{verdict}
 use Rattle.script_run.specs.Counting.{nothing_said, printed, said_then}
-use Rattle.script_run.specs.Dumps.{dump_text}
+use Rattle.dump_lines.specs.Dumps.{dump_text}
 use Rattle.script_run.specs.Previewing.{SaysPreview}
 use Rattle.script_run.specs.Settling.{SaysSettled}
 use Rattle.script_run.specs.Told.{LineAnswer, events_said}
@@ -43,15 +41,6 @@ AreEventsOf w Dump events = events ≡ []
 AreEventsOf w Audit events = events ≡ []
 
 -- ---- what a line says
-
-abbrev pub rows_of_service : Kept → List ℕ
-rows_of_service s = rows_text (rows_after (base s) s.entries)
-
-abbrev pub log_of_service : Kept → List ℕ
-log_of_service s = log_text (me s) s.entries
-
-abbrev pub notices_of_service : Kept → List ℕ
-notices_of_service s = notices_text (notices s.registers s.replies)
 
 -- what a report says of a service, if it is there
 abbrev pub report_of : (Kept → List ℕ) → Option Kept → LineAnswer

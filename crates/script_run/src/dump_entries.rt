@@ -5,7 +5,7 @@ ghost use Rattle.request_log.specs.Records.{recorded_calls, record_of, record_in
 ghost use Rattle.std.specs.Option.{option_copied, option_map};
 ghost use Rattle.local_repair.specs.Steps.{answer_or_tentative};
 ghost use Rattle.call_registers.specs.Registers.{consumed};
-ghost use Rattle.script_run.specs.Dumps.{answer_line, call_line, call_lines, entry_line, entry_lines, reply_line, standing_text};
+ghost use Rattle.dump_lines.specs.Dumps.{answer_line, call_line, call_lines, entry_line, entry_lines, reply_line, standing_text};
 
 use crate::dump_words::{digit_of, push_inputs, push_origin, push_request};
 use call_registers::Registers;

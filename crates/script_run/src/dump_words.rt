@@ -1,7 +1,7 @@
 // The words of a line.
 ghost use Rattle.std.specs.Prelude.{◌≡◌, ◌++◌, OnOk, codes, string_bytes};
 ghost use Rattle.std.specs.List.{flat_map};
-ghost use Rattle.script_run.specs.Dumps.{digit_of, inputs_text, names_text, number_behind, origin_text, request_text};
+ghost use Rattle.dump_lines.specs.Dumps.{digit_of, inputs_text, names_text, number_behind, origin_text, request_text};
 
 use lang_core::{Inputs, Name, Names, NoMemory, Origin, Request};
 use report_text::{push_asked, push_body_behind};

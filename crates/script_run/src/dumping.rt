@@ -2,7 +2,7 @@
 ghost use Rattle.std.specs.Prelude.{◌≡◌, ◌++◌, IfOk, OnOk, string_bytes};
 ghost use Rattle.std.specs.List.{flat_map};
 ghost use Rattle.service_events.specs.State.{answers};
-ghost use Rattle.script_run.specs.Dumps.{dump_text, entry_lines, head_lines, row_line, service_lines};
+ghost use Rattle.dump_lines.specs.Dumps.{dump_text, entry_lines, head_lines, row_line, service_lines};
 
 use crate::dump_entries::push_entry;
 use crate::dump_words::push_names;

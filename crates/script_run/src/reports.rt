@@ -10,25 +10,20 @@ ghost use Rattle.world_agreement.specs.Legal.{AreLegal};
 ghost use Rattle.world_agreement.specs.Partners.{IsJoined, service_of};
 ghost use Rattle.script_run.specs.Audits.{SaysForged, verdict};
 ghost use Rattle.script_run.specs.Counting.{printed};
-ghost use Rattle.script_run.specs.Dumps.{dump_text};
-ghost use Rattle.script_run.specs.Plays.{audit_text, log_of_service, notices_of_service, report_of, rows_of_service};
+ghost use Rattle.dump_lines.specs.Dumps.{dump_text};
+ghost use Rattle.service_reports.specs.Reports.{log_of_service, notices_of_service, rows_of_service};
+ghost use Rattle.script_run.specs.Plays.{audit_text, report_of};
 
 use crate::counts::Said;
 use crate::dumping::dump_text;
 use journal_rows::Verdict;
 use lang_core::{Copied, Name, Names, NoMemory, Text};
-use repair_queue::notices as held;
-use report_text::{log_text, notices_text, rows_text, verdict_text};
+use report_text::verdict_text;
 use script_lines::LineFault;
+use service_reports::{log_of, notices_of, rows_of};
 use std::alloc::Global;
 use world_audit::audit;
 use world_settle::{Service, World};
-
-fn rows_of(alloc: Global, service: &Service) -> Result<Text, NoMemory>
-    ensures { IfOk result (λ text. text ≡ rows_of_service service.now) }
-{
-    rows_text(alloc, &service.rows(alloc)?)
-}
 
 /// The rows of the service of this name, if it is there.
 pub fn rows(alloc: Global, world: &World, name: &Name) -> Result<Result<Said, LineFault>, NoMemory>
@@ -45,19 +40,9 @@ pub fn log(alloc: Global, world: &World, name: &Name) -> Result<Result<Said, Lin
     ensures { IfOk result (λ said. said ≡ report_of log_of_service (service_of name.now world.now.services)) }
 {
     match world.service(name) {
-        Some(service) => Ok(Ok(Said::printed(log_text(
-            alloc,
-            &service.setting().me,
-            service.entries(),
-        )?))),
+        Some(service) => Ok(Ok(Said::printed(log_of(alloc, service)?))),
         None => Ok(Err(LineFault::Service)),
     }
-}
-
-fn notices_of(alloc: Global, service: &Service) -> Result<Text, NoMemory>
-    ensures { IfOk result (λ text. text ≡ notices_of_service service.now) }
-{
-    notices_text(alloc, &held(alloc, service.registers(), service.replies())?)
 }
 
 /// What the service of this name has held, if it is there.

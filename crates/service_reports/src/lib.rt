@@ -1,7 +1,10 @@
-//! Reports of a service as texts: its rows, its log, and what it has held.
+//! Reports of a service as texts: its rows, its log, what it has held, and what the cancellation of a request would come to.
 #![tactic(auto)]
 
+mod lines;
+mod previews;
 mod reports;
 
+pub use previews::{Unshown, cancellation_shown};
 pub use reports::{log_of, notices_of, rows_of};
 pub use service_core::Service;

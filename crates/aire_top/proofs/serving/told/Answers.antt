@@ -1,6 +1,6 @@
 use Rattle.std.proofs.Common.{List, ap, inr, ◌∙◌}
 use Rattle.service_events.specs.State.{Kept}
-use Rattle.node_core.specs.declared.receipt.Receipt.{Receipt}
+use Rattle.node_run.specs.HandedOn.{Receipt}
 use Rattle.aire_top.specs.Serves.{end_text}
 use Rattle.aire_top.proofs.ServeLaws.{told_ends}
 use Rattle.aire_top.proofs.serving.told.Goals as goal

@@ -78,13 +78,17 @@ returns-in-Console-clause-served g c =
     let reads = g.C.Source.reads c.args.conn.now in
     let wrote = g.C.Sink.writes c.args.conn.now in
     let now = g.C.Sink.writes c.serve_console.new.conn in
-    let notes = c.args.pass.now.notes in
-    let receipts = c.args.pass.now.receipts.items in
-    subst (λ (m : Incoming). ServesMessage e c.args.inputs m reads wrote now notes receipts receipts c.serve_console.result) (sym c.in-Console.is)
-    (console_served e c.args.inputs reads wrote now notes receipts receipts c.in-Console.asked c.serve_console.result refl c.serve_console.ensures.served)
+    let notes = c.serve_console.new.pass.notes in
+    let had = c.args.pass.now.receipts.items in
+    let have = c.serve_console.new.pass.receipts.items in
+    subst (λ (m : Incoming). ServesMessage e c.args.inputs m reads wrote now notes had have c.serve_console.result) (sym c.in-Console.is)
+    (console_served e c.args.inputs reads wrote now notes had have c.in-Console.asked c.serve_console.result c.serve_console.ensures.keeps.0 c.serve_console.ensures.served)
+
+pub returns-in-Console-clause-closed : goal.returns-in-Console-clause-closed
+returns-in-Console-clause-closed g c = c.serve_console.ensures.keeps.1 ∙ c.requires.none
 
 pub returns-in-Console-clause-counts : goal.returns-in-Console-clause-counts
 returns-in-Console-clause-counts g c =
-    let notes = c.args.pass.now.notes in
     let exchanges = g.L.Link.exchanges c.args.link.now in
-    counts_none (at_desk c.args.desk.now) notes notes exchanges exchanges refl refl refl
+    let keeps = c.serve_console.ensures.keeps in
+    counts_none (at_desk c.args.desk.now) c.args.pass.now.notes c.serve_console.new.pass.notes exchanges exchanges keeps.2 keeps.3 refl

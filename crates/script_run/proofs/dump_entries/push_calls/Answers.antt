@@ -4,7 +4,7 @@ use Rattle.std.proofs.lemmas.Slice.Zip.{either_empty_from_Zip}
 use Rattle.lang_core.specs.declared.trace.CallMade.{CallMade}
 use Rattle.local_repair.specs.Steps.{answer_or_tentative}
 use Rattle.call_registers.specs.Registers.{consumed}
-use Rattle.script_run.specs.Dumps.{call_lines}
+use Rattle.dump_lines.specs.Dumps.{call_lines}
 use Rattle.script_run.proofs.DumpLemmas.{pair_end}
 use Rattle.script_run.proofs.dump_entries.push_calls.Goals as goal
 

@@ -4,7 +4,7 @@ use Rattle.std.specs.Slice.Iter.{iter_rest}
 use Rattle.std.specs.Iterator.Adapters.{zip_first, zip_second}
 use Rattle.local_repair.specs.Steps.{answer_or_tentative}
 use Rattle.call_registers.specs.Registers.{consumed}
-use Rattle.script_run.specs.Dumps.{call_lines}
+use Rattle.dump_lines.specs.Dumps.{call_lines}
 use Rattle.script_run.proofs.dump_entries.push_calls.Given as goal
 
 abbrev pub invariant-loop-number : goal.invariant-loop-number

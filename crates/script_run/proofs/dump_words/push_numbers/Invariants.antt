@@ -1,5 +1,5 @@
 use Rattle.std.proofs.Common.{◌≡◌, ◌++◌, flat_map, string_bytes, take}
-use Rattle.script_run.specs.Dumps.{number_behind}
+use Rattle.dump_lines.specs.Dumps.{number_behind}
 use Rattle.script_run.proofs.dump_words.push_numbers.Given as goal
 
 abbrev pub invariant-loop-number : goal.invariant-loop-number

@@ -1,5 +1,5 @@
 use Rattle.std.proofs.Common.{◌≡◌, flat_map, string_bytes, take}
-use Rattle.script_run.specs.Dumps.{service_lines}
+use Rattle.dump_lines.specs.Dumps.{service_lines}
 use Rattle.script_run.proofs.dumping.dump_text.Given as goal
 
 abbrev pub invariant-loop-service : goal.invariant-loop-service

@@ -1,6 +1,6 @@
 use Rattle.std.proofs.Common.{◌≡◌, ◌++◌, flat_map, string_bytes, take}
 use Rattle.service_events.specs.State.{answers}
-use Rattle.script_run.specs.Dumps.{entry_lines}
+use Rattle.dump_lines.specs.Dumps.{entry_lines}
 use Rattle.script_run.proofs.dumping.push_entries.Given as goal
 
 abbrev pub invariant-loop-entry : goal.invariant-loop-entry

@@ -1,5 +1,5 @@
 use Rattle.std.proofs.Common.{◌≡◌, ◌++◌, flat_map, string_bytes, take}
-use Rattle.script_run.specs.Dumps.{row_line}
+use Rattle.dump_lines.specs.Dumps.{row_line}
 use Rattle.script_run.proofs.dumping.push_rows.Given as goal
 
 abbrev pub invariant-loop-cell : goal.invariant-loop-cell

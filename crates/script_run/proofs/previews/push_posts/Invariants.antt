@@ -1,6 +1,0 @@
-use Rattle.std.proofs.Common.{◌≡◌, ◌++◌, flat_map, string_bytes, take}
-use Rattle.script_run.specs.Previewing.{post_line}
-use Rattle.script_run.proofs.previews.push_posts.Given as goal
-
-abbrev pub invariant-loop-post : goal.invariant-loop-post
-invariant-loop-post l = string_bytes l.text ≡ string_bytes l.initial.text ++ flat_map (post_line l.service) (take l.post-index l.posts)

@@ -1,6 +1,0 @@
-use Rattle.std.proofs.Common.{◌≡◌, ◌++◌, flat_map, string_bytes, take}
-use Rattle.script_run.specs.Previewing.{row_line}
-use Rattle.script_run.proofs.previews.push_rows.Given as goal
-
-abbrev pub invariant-loop-write : goal.invariant-loop-write
-invariant-loop-write l = string_bytes l.text ≡ string_bytes l.initial.text ++ flat_map row_line (take l.write-index l.writes)

@@ -1,0 +1,21 @@
+-- What is shown of a preview.
+use Rattle.std.proofs.Common.{◌≡◌, ℕ, List, Option, Some, Result, Ok, Err, option_map, sym, ap}
+use Rattle.lang_base.specs.Memory.{Unless}
+use Rattle.service_events.specs.State.{Kept}
+use Rattle.preview_core.specs.Previews.{preview_memory}
+use Rattle.preview_core.specs.declared.refused.PreviewRefused.{PreviewRefused}
+use Rattle.preview_core.specs.declared.refused.PreviewRefused.TheVariants as refused
+use Rattle.preview_core.specs.declared.told.Preview.{Preview}
+use Rattle.service_reports.specs.Lines.{or_nothing, shown_text}
+use Rattle.service_reports.specs.Previews.{IsPreviewOf, IsShownOf, reason}
+use Rattle.service_reports.specs.declared.previews.Unshown.{Unshown}
+
+module _ (id : ℕ) (who : List ℕ) (s : Kept) where
+  pub lines_shown : (shown : Preview) (text : List ℕ) → IsPreviewOf id who s (Ok shown) → text ≡ or_nothing (shown_text s shown) → IsShownOf id who s (Ok text)
+  lines_shown shown text is told = (Ok shown, is, ap (λ (t : List ℕ). Some (Ok t)) (sym told))
+
+  pub reason_shown : (why : PreviewRefused) (told : Unshown) → Unless (preview_memory why) (IsPreviewOf id who s (Err why)) Unit → reason why ≡ Some told → IsShownOf id who s (Err told)
+  reason_shown refused.NoMemory told is same = absurd (cc same)
+  reason_shown (refused.NotIdle what) told is same = (Err (refused.NotIdle what), is, ap (option_map Err) same)
+  reason_shown (refused.Order at why) told is same = (Err (refused.Order at why), is, ap (option_map Err) same)
+  reason_shown (refused.Untimely number) told is same = (Err (refused.Untimely number), is, ap (option_map Err) same)
