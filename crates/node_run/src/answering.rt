@@ -12,7 +12,7 @@ use io_edge::Connection;
 use io_links::{Gate, Link};
 use lang_core::{NoMemory, Text};
 use node_core::Pass;
-use node_workers::{Desk, Served, serve_one};
+use node_workers::{Desk, Served, serve_one, tell_preview};
 use std::alloc::Global;
 use std::sync::Wait;
 use std::sync::ledger::Ledger;
@@ -75,6 +75,10 @@ fn answer<R: Ledger, Q: Ledger, W: Wait, C: Connection + Drop, D, G>(
         },
         ConsoleWord::Audit => {
             let _ = tell_verdict(rt, alloc, shared, &mut conn);
+            true
+        }
+        ConsoleWord::Preview => {
+            let _ = tell_preview(rt, alloc, desk, &mut conn, asked);
             true
         }
         _ => true,
