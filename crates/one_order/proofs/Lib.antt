@@ -5,3 +5,4 @@ pub mod RunLaws
 pub mod LogLaws
 pub mod Named
 pub mod SearchLaws
+pub mod Lookups
