@@ -1,3 +1,4 @@
+pub mod CycleLaws
 pub mod Depths
 pub mod OrderLaws
 pub mod Places

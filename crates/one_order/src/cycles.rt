@@ -1,24 +1,22 @@
 // Two entries that show that there is no order.
 //
-// What is found here is tested and not proved: that no order passes doesn't rest on it.
+// Which neighbours are looked at, and in which order, is tested and not proved. What is found here is tried once more, by what the
+// definition says of a cycle, before it is told.
 ghost use Rattle.std.specs.Prelude.{◌≡◌, None, IfOk, IfSome};
+ghost use Rattle.dump_reader.specs.Kept.{AreKept};
+ghost use Rattle.dump_audit.specs.Histories.{histories_of};
 ghost use Rattle.one_order.specs.Certificates.{order_in};
+ghost use Rattle.one_order.specs.Cycles.{IsShown};
 
 use crate::certificates::Certificate;
 use crate::finding::is_alive;
 use crate::logs::{Log, named};
 use crate::orders::Ids;
+use crate::showing::{At, Candidate, Link, Mark, is_earlier, is_same, shown};
 use crate::ways::{Steps, way};
 use dump_reader::{DumpEntry, DumpService, DumpServices};
-use lang_core::{Copied, NoMemory, Origin, RequestId, Same};
+use lang_core::{NoMemory, Origin, Same};
 use std::alloc::Global;
-
-// An entry of a service.
-#[derive(Clone, Copy)]
-struct At<'a> {
-    service: &'a DumpService,
-    entry: &'a DumpEntry,
-}
 
 // An entry that survives, and the place of its root among all roots.
 #[derive(Clone, Copy)]
@@ -32,23 +30,6 @@ struct Rooted<'a> {
 struct Rooteds<'a> {
     entries: Vec<Rooted<'a>>,
     roots: Vec<At<'a>>,
-}
-
-fn is_same(left: At<'_>, right: At<'_>) -> bool {
-    left.entry.id == right.entry.id
-        && left
-            .service
-            .setting
-            .me
-            .text()
-            .is(right.service.setting.me.text())
-}
-
-fn id_of(alloc: Global, at: At<'_>) -> Result<RequestId, NoMemory> {
-    Ok(RequestId {
-        service: at.service.setting.me.copied(alloc)?,
-        number: at.entry.id,
-    })
 }
 
 // The entry that made the call which an entry comes from, if it comes from one.
@@ -98,22 +79,15 @@ fn slots_of(alloc: Global, services: &DumpServices, at: At<'_>) -> Result<Vec<us
     Ok(slots)
 }
 
-// Whether the one comes before the other in call order.
-fn is_before(left: &[usize], right: &[usize]) -> bool {
-    for (i, slot) in left.iter().enumerate() {
-        match right.get(i) {
-            None => return false,
-            Some(other) if *slot != *other => return *slot < *other,
-            Some(_) => {}
-        }
-    }
-    left.len() < right.len()
+fn marked<'a>(alloc: Global, services: &DumpServices, at: At<'a>) -> Result<Mark<'a>, NoMemory> {
+    let slots = slots_of(alloc, services, at)?;
+    Ok(Mark { at, slots })
 }
 
 // The place of a root among these, where it stands last if it is new.
 fn place_of<'a>(roots: &mut Vec<At<'a>>, root: At<'a>) -> Result<usize, NoMemory> {
     for (i, own) in roots.iter().enumerate() {
-        if is_same(*own, root) {
+        if is_same(own, &root) {
             return Ok(i);
         }
     }
@@ -169,52 +143,130 @@ fn steps_of(alloc: Global, all: &Rooteds<'_>) -> Result<Steps, NoMemory> {
     Ok(steps)
 }
 
-fn ids_of(alloc: Global, roots: &[At<'_>], places: &[usize]) -> Result<Ids, NoMemory> {
-    let mut ids = Ids::new(alloc);
-    for place in places {
-        if let Some(root) = roots.get(*place) {
-            ids.push(id_of(alloc, *root)?)?;
+// Two neighbours of which the first is of this root, and the second of that.
+fn step_between<'a>(all: &Rooteds<'a>, from: usize, to: usize) -> Option<(Rooted<'a>, Rooted<'a>)> {
+    let mut last: Option<Rooted<'a>> = None;
+    for entry in &all.entries {
+        if let Some(first) = last {
+            if first.root == from && entry.root == to && are_neighbours(first, *entry) {
+                return Some((first, *entry));
+            }
         }
+        last = Some(*entry);
     }
-    Ok(ids)
+    None
 }
 
-// The way back from the second of two neighbours to the first, if there is one; it is empty where both are of one root.
-fn way_back(
+fn link_between<'a>(
     alloc: Global,
     services: &DumpServices,
-    all: &Rooteds<'_>,
+    all: &Rooteds<'a>,
+    from: usize,
+    to: usize,
+) -> Result<Option<Link<'a>>, NoMemory> {
+    let Some((first, second)) = step_between(all, from, to) else {
+        return Ok(None);
+    };
+    let Some(root) = all.roots.get(to) else {
+        return Ok(None);
+    };
+    let root = *root;
+    let first = marked(alloc, services, first.at)?;
+    let second = marked(alloc, services, second.at)?;
+    Ok(Some(Link {
+        first,
+        second,
+        root,
+    }))
+}
+
+// The links of a way from root to root.
+fn links_of<'a>(
+    alloc: Global,
+    services: &DumpServices,
+    all: &Rooteds<'a>,
+    places: &[usize],
+) -> Result<Vec<Link<'a>>, NoMemory> {
+    let mut links = Vec::new(alloc);
+    let mut last: Option<usize> = None;
+    for place in places {
+        if let Some(from) = last {
+            if let Some(link) = link_between(alloc, services, all, from, *place)? {
+                links.push(link)?;
+            }
+        }
+        last = Some(*place);
+    }
+    Ok(links)
+}
+
+// The way back from the second of two neighbours to the first, if there may be one; it is empty where both are of one root.
+fn back_of<'a>(
+    alloc: Global,
+    services: &DumpServices,
+    all: &Rooteds<'a>,
     steps: &Steps,
-    first: Rooted<'_>,
-    second: Rooted<'_>,
-) -> Result<Option<Ids>, NoMemory> {
+    first: Rooted<'a>,
+    second: Rooted<'a>,
+) -> Result<Option<Vec<Link<'a>>>, NoMemory> {
     if first.root == second.root {
         let earlier = slots_of(alloc, services, second.at)?;
         let later = slots_of(alloc, services, first.at)?;
-        return Ok(if is_before(&earlier, &later) {
-            Some(Ids::new(alloc))
+        return Ok(if is_earlier(earlier.as_slice(), later.as_slice()) {
+            Some(Vec::new(alloc))
         } else {
             None
         });
     }
     match way(alloc, steps, second.root, first.root)? {
         None => Ok(None),
-        Some(places) => Ok(Some(ids_of(alloc, &all.roots, &places)?)),
+        Some(places) => Ok(Some(links_of(alloc, services, all, places.as_slice())?)),
     }
 }
 
-fn cycle(alloc: Global, first: At<'_>, second: At<'_>, back: Ids) -> Result<Certificate, NoMemory>
-    ensures { IfOk result (λ found. order_in found ≡ None) }
-{
-    Ok(Certificate::Cycle {
-        first: id_of(alloc, first)?,
-        second: id_of(alloc, second)?,
+fn pair_of<'a>(
+    alloc: Global,
+    services: &DumpServices,
+    all: &Rooteds<'a>,
+    first: Rooted<'a>,
+    second: Rooted<'a>,
+    back: Vec<Link<'a>>,
+) -> Result<Option<Candidate<'a>>, NoMemory> {
+    let (Some(root), Some(other)) = (all.roots.get(first.root), all.roots.get(second.root)) else {
+        return Ok(None);
+    };
+    let (root, other) = (*root, *other);
+    let first = marked(alloc, services, first.at)?;
+    let second = marked(alloc, services, second.at)?;
+    Ok(Some(Candidate {
+        first,
+        root,
+        second,
+        other,
         back,
-    })
+    }))
 }
 
 // Two entries one after another, if they are neighbours with a way back.
-fn shown(
+fn found_in<'a>(
+    alloc: Global,
+    services: &DumpServices,
+    all: &Rooteds<'a>,
+    steps: &Steps,
+    first: Rooted<'a>,
+    second: Rooted<'a>,
+) -> Result<Option<Candidate<'a>>, NoMemory> {
+    if !are_neighbours(first, second) {
+        return Ok(None);
+    }
+    match back_of(alloc, services, all, steps, first, second)? {
+        None => Ok(None),
+        Some(back) => pair_of(alloc, services, all, first, second, back),
+    }
+}
+
+// These two as a certificate, if they show that there is no order.
+fn tried(
     alloc: Global,
     services: &DumpServices,
     all: &Rooteds<'_>,
@@ -222,14 +274,13 @@ fn shown(
     first: Rooted<'_>,
     second: Rooted<'_>,
 ) -> Result<Option<Certificate>, NoMemory>
-    ensures { IfOk result (λ found. IfSome found (λ certificate. order_in certificate ≡ None)) }
+    requires kept { ∥ AreKept services.now ∥₁ }
+    ensures none { IfOk result (λ found. IfSome found (λ certificate. order_in certificate ≡ None)) }
+    ensures shown { IfOk result (λ found. IfSome found (λ certificate. IsShown (histories_of services.now) certificate)) }
 {
-    if !are_neighbours(first, second) {
-        return Ok(None);
-    }
-    match way_back(alloc, services, all, steps, first, second)? {
+    match found_in(alloc, services, all, steps, first, second)? {
         None => Ok(None),
-        Some(back) => Ok(Some(cycle(alloc, first.at, second.at, back)?)),
+        Some(pair) => shown(alloc, services, &pair),
     }
 }
 
@@ -239,19 +290,35 @@ fn first_cycle(
     services: &DumpServices,
     all: &Rooteds<'_>,
 ) -> Result<Option<Certificate>, NoMemory>
-    ensures { IfOk result (λ found. IfSome found (λ certificate. order_in certificate ≡ None)) }
+    requires kept { ∥ AreKept services.now ∥₁ }
+    ensures none { IfOk result (λ found. IfSome found (λ certificate. order_in certificate ≡ None)) }
+    ensures shown { IfOk result (λ found. IfSome found (λ certificate. IsShown (histories_of services.now) certificate)) }
 {
     let steps = steps_of(alloc, all)?;
     let mut last: Option<Rooted<'_>> = None;
     for entry in &all.entries {
         if let Some(first) = last {
-            if let Some(found) = shown(alloc, services, all, &steps, first, *entry)? {
+            if let Some(found) = tried(alloc, services, all, &steps, first, *entry)? {
                 return Ok(Some(found));
             }
         }
         last = Some(*entry);
     }
     Ok(None)
+}
+
+// An entry twice.
+fn twice(alloc: Global, service: &DumpService, number: u64) -> Result<Certificate, NoMemory>
+    ensures none { IfOk result (λ found. order_in found ≡ None) }
+    ensures shown { (world : _) → IfOk result (λ found. IsShown world found) }
+{
+    let first = named(alloc, service, number)?;
+    let second = named(alloc, service, number)?;
+    Ok(Certificate::Cycle {
+        first,
+        second,
+        back: Ids::new(alloc),
+    })
 }
 
 /// Of the entries that are left where no root comes next, the first two neighbours that show it; or twice the first one left.
@@ -262,15 +329,13 @@ pub(crate) fn cycle_in(
     service: &DumpService,
     number: u64,
 ) -> Result<Certificate, NoMemory>
-    ensures { IfOk result (λ found. order_in found ≡ None) }
+    requires kept { ∥ AreKept services.now ∥₁ }
+    ensures none { IfOk result (λ found. order_in found ≡ None) }
+    ensures shown { IfOk result (λ found. IsShown (histories_of services.now) found) }
 {
     let all = all_rooted(alloc, services, logs)?;
     if let Some(found) = first_cycle(alloc, services, &all)? {
         return Ok(found);
     }
-    Ok(Certificate::Cycle {
-        first: named(alloc, service, number)?,
-        second: named(alloc, service, number)?,
-        back: Ids::new(alloc),
-    })
+    twice(alloc, service, number)
 }

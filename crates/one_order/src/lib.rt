@@ -12,6 +12,7 @@ mod logs;
 mod orders;
 mod playing;
 mod searching;
+mod showing;
 mod ways;
 mod worlds;
 

@@ -46,8 +46,8 @@ pub(crate) fn logs_of(alloc: Global, world: &[DumpService]) -> Result<Vec<Log<'_
     Ok(logs)
 }
 
-// The number of the first entry that survives.
-fn front(left: &[DumpEntry]) -> Option<u64>
+/// The number of the first entry that survives.
+pub(crate) fn front(left: &[DumpEntry]) -> Option<u64>
     ensures { result ≡ front (acts_of left.now) }
 {
     for entry in left {
