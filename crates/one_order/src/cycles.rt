@@ -9,170 +9,90 @@ ghost use Rattle.one_order.specs.Certificates.{order_in};
 ghost use Rattle.one_order.specs.Cycles.{IsShown};
 
 use crate::certificates::Certificate;
-use crate::finding::is_alive;
+use crate::groups::groups;
 use crate::logs::{Log, named};
 use crate::orders::Ids;
-use crate::showing::{At, Candidate, Link, Mark, is_earlier, is_same, shown};
-use crate::ways::{Steps, way};
-use dump_reader::{DumpEntry, DumpService, DumpServices};
-use lang_core::{NoMemory, Origin, Same};
+use crate::rooted::{Rooted, Rooteds, all_rooted, are_neighbours, marked, slots_of, steps_of};
+use crate::showing::{Candidate, Link, is_earlier, shown};
+use crate::ways::{Steps, nones, way};
+use dump_reader::{DumpService, DumpServices};
+use lang_core::NoMemory;
 use std::alloc::Global;
 
-// An entry that survives, and the place of its root among all roots.
-#[derive(Clone, Copy)]
-struct Rooted<'a> {
-    at: At<'a>,
-    root: usize,
-}
-
-// All entries that survive, log by log, with their roots.
+// What is left, the steps from root to root, and for each root its group: those that lead to one another.
 #[derive(Drop)]
-struct Rooteds<'a> {
-    entries: Vec<Rooted<'a>>,
-    roots: Vec<At<'a>>,
+struct Left<'a> {
+    all: Rooteds<'a>,
+    steps: Steps,
+    groups: Vec<usize>,
 }
 
-// The entry that made the call which an entry comes from, if it comes from one.
-fn caller_of<'a>(services: &'a DumpServices, entry: &DumpEntry) -> Option<(At<'a>, u64)> {
-    let Origin::Call { caller, number } = &entry.origin else {
-        return None;
+// Two that stand one after another.
+#[derive(Clone, Copy)]
+struct Pair<'a> {
+    first: Rooted<'a>,
+    second: Rooted<'a>,
+}
+
+// Where a way from root to root goes on from each root that it comes to.
+fn next_on(alloc: Global, count: usize, places: &[usize]) -> Result<Vec<Option<usize>>, NoMemory> {
+    let mut next = nones(alloc, count)?;
+    let mut last: Option<usize> = None;
+    for place in places {
+        if let Some(from) = last {
+            if let Some(own) = next.get_mut(from) {
+                *own = Some(*place);
+            }
+        }
+        last = Some(*place);
+    }
+    Ok(next)
+}
+
+// Keeps a pair for the root of its first, where a way goes on there to the root of its second.
+fn keep<'a>(next: &[Option<usize>], pair: Pair<'a>, kept: &mut [Option<Pair<'a>>]) {
+    let (Some(Some(to)), Some(own)) = (next.get(pair.first.root), kept.get_mut(pair.first.root))
+    else {
+        return;
     };
-    let service = services.named(caller)?;
-    let entry = service.entries.with_number(*number)?;
-    Some((At { service, entry }, *number))
-}
-
-fn root_of<'a>(services: &'a DumpServices, at: At<'a>) -> At<'a> {
-    let mut root = at;
-    for _ in services.as_slice() {
-        match caller_of(services, root.entry) {
-            None => return root,
-            Some((caller, _)) => root = caller,
-        }
+    if *to == pair.second.root && own.is_none() {
+        *own = Some(pair);
     }
-    root
 }
 
-fn slot_of(entry: &DumpEntry, number: u64) -> usize {
-    for (slot, own) in entry.numbers.as_slice().iter().enumerate() {
-        if *own == number {
-            return slot;
-        }
-    }
-    0
-}
-
-// The slots that lead from a root down to an entry.
-fn slots_of(alloc: Global, services: &DumpServices, at: At<'_>) -> Result<Vec<usize>, NoMemory> {
-    let mut slots = Vec::new(alloc);
-    let mut below = at;
-    for _ in services.as_slice() {
-        match caller_of(services, below.entry) {
-            None => break,
-            Some((caller, number)) => {
-                slots.push(slot_of(caller.entry, number))?;
-                below = caller;
-            }
-        }
-    }
-    slots.reverse();
-    Ok(slots)
-}
-
-fn marked<'a>(alloc: Global, services: &DumpServices, at: At<'a>) -> Result<Mark<'a>, NoMemory> {
-    let slots = slots_of(alloc, services, at)?;
-    Ok(Mark { at, slots })
-}
-
-// The place of a root among these, where it stands last if it is new.
-fn place_of<'a>(roots: &mut Vec<At<'a>>, root: At<'a>) -> Result<usize, NoMemory> {
-    for (i, own) in roots.iter().enumerate() {
-        if is_same(own, &root) {
-            return Ok(i);
-        }
-    }
-    let place = roots.len();
-    roots.push(root)?;
-    Ok(place)
-}
-
-fn all_rooted<'a>(
+// For each root that a way goes on from the first two neighbours where it does.
+fn pairs_on<'a>(
     alloc: Global,
-    services: &'a DumpServices,
-    logs: &[Log<'a>],
-) -> Result<Rooteds<'a>, NoMemory> {
-    let mut entries = Vec::new(alloc);
-    let mut roots = Vec::new(alloc);
-    for log in logs {
-        for entry in log.left {
-            if is_alive(entry) {
-                let at = At {
-                    service: log.service,
-                    entry,
-                };
-                let root = place_of(&mut roots, root_of(services, at))?;
-                entries.push(Rooted { at, root })?;
-            }
-        }
-    }
-    Ok(Rooteds { entries, roots })
-}
-
-fn are_neighbours(first: Rooted<'_>, second: Rooted<'_>) -> bool {
-    first
-        .at
-        .service
-        .setting
-        .me
-        .text()
-        .is(second.at.service.setting.me.text())
-}
-
-// Which roots come right before which, in any of the logs.
-fn steps_of(alloc: Global, all: &Rooteds<'_>) -> Result<Steps, NoMemory> {
-    let mut steps = Steps::new(alloc, all.roots.len())?;
-    let mut last: Option<Rooted<'_>> = None;
-    for entry in &all.entries {
-        if let Some(first) = last {
-            if first.root != entry.root && are_neighbours(first, *entry) {
-                steps.push(first.root, entry.root)?;
-            }
-        }
-        last = Some(*entry);
-    }
-    Ok(steps)
-}
-
-// Two neighbours of which the first is of this root, and the second of that.
-fn step_between<'a>(all: &Rooteds<'a>, from: usize, to: usize) -> Option<(Rooted<'a>, Rooted<'a>)> {
+    all: &Rooteds<'a>,
+    places: &[usize],
+) -> Result<Vec<Option<Pair<'a>>>, NoMemory> {
+    let next = next_on(alloc, all.roots.len(), places)?;
+    let mut pairs = nones(alloc, all.roots.len())?;
     let mut last: Option<Rooted<'a>> = None;
-    for entry in &all.entries {
+    for second in &all.entries {
         if let Some(first) = last {
-            if first.root == from && entry.root == to && are_neighbours(first, *entry) {
-                return Some((first, *entry));
+            if are_neighbours(first, *second) {
+                let second = *second;
+                keep(&next, Pair { first, second }, &mut pairs);
             }
         }
-        last = Some(*entry);
+        last = Some(*second);
     }
-    None
+    Ok(pairs)
 }
 
-fn link_between<'a>(
+fn link_of<'a>(
     alloc: Global,
     services: &DumpServices,
     all: &Rooteds<'a>,
-    from: usize,
-    to: usize,
+    pair: Pair<'a>,
 ) -> Result<Option<Link<'a>>, NoMemory> {
-    let Some((first, second)) = step_between(all, from, to) else {
-        return Ok(None);
-    };
-    let Some(root) = all.roots.get(to) else {
+    let Some(root) = all.roots.get(pair.second.root) else {
         return Ok(None);
     };
     let root = *root;
-    let first = marked(alloc, services, first.at)?;
-    let second = marked(alloc, services, second.at)?;
+    let first = marked(alloc, services, pair.first.at)?;
+    let second = marked(alloc, services, pair.second.at)?;
     Ok(Some(Link {
         first,
         second,
@@ -187,25 +107,31 @@ fn links_of<'a>(
     all: &Rooteds<'a>,
     places: &[usize],
 ) -> Result<Vec<Link<'a>>, NoMemory> {
+    let pairs = pairs_on(alloc, all, places)?;
     let mut links = Vec::new(alloc);
-    let mut last: Option<usize> = None;
     for place in places {
-        if let Some(from) = last {
-            if let Some(link) = link_between(alloc, services, all, from, *place)? {
+        if let Some(Some(pair)) = pairs.get(*place) {
+            if let Some(link) = link_of(alloc, services, all, *pair)? {
                 links.push(link)?;
             }
         }
-        last = Some(*place);
     }
     Ok(links)
+}
+
+// Whether the roots of two lead to one another.
+fn are_of_group(left: &Left<'_>, first: Rooted<'_>, second: Rooted<'_>) -> bool {
+    match (left.groups.get(first.root), left.groups.get(second.root)) {
+        (Some(group), Some(other)) => *group == *other,
+        _ => false,
+    }
 }
 
 // The way back from the second of two neighbours to the first, if there may be one; it is empty where both are of one root.
 fn back_of<'a>(
     alloc: Global,
     services: &DumpServices,
-    all: &Rooteds<'a>,
-    steps: &Steps,
+    left: &Left<'a>,
     first: Rooted<'a>,
     second: Rooted<'a>,
 ) -> Result<Option<Vec<Link<'a>>>, NoMemory> {
@@ -218,9 +144,12 @@ fn back_of<'a>(
             None
         });
     }
-    match way(alloc, steps, second.root, first.root)? {
+    if !are_of_group(left, first, second) {
+        return Ok(None);
+    }
+    match way(alloc, &left.steps, second.root, first.root)? {
         None => Ok(None),
-        Some(places) => Ok(Some(links_of(alloc, services, all, places.as_slice())?)),
+        Some(places) => Ok(Some(links_of(alloc, services, &left.all, places.as_slice())?)),
     }
 }
 
@@ -251,17 +180,16 @@ fn pair_of<'a>(
 fn found_in<'a>(
     alloc: Global,
     services: &DumpServices,
-    all: &Rooteds<'a>,
-    steps: &Steps,
+    left: &Left<'a>,
     first: Rooted<'a>,
     second: Rooted<'a>,
 ) -> Result<Option<Candidate<'a>>, NoMemory> {
     if !are_neighbours(first, second) {
         return Ok(None);
     }
-    match back_of(alloc, services, all, steps, first, second)? {
+    match back_of(alloc, services, left, first, second)? {
         None => Ok(None),
-        Some(back) => pair_of(alloc, services, all, first, second, back),
+        Some(back) => pair_of(alloc, services, &left.all, first, second, back),
     }
 }
 
@@ -269,8 +197,7 @@ fn found_in<'a>(
 fn tried(
     alloc: Global,
     services: &DumpServices,
-    all: &Rooteds<'_>,
-    steps: &Steps,
+    left: &Left<'_>,
     first: Rooted<'_>,
     second: Rooted<'_>,
 ) -> Result<Option<Certificate>, NoMemory>
@@ -278,7 +205,7 @@ fn tried(
     ensures none { IfOk result (λ found. IfSome found (λ certificate. order_in certificate ≡ None)) }
     ensures shown { IfOk result (λ found. IfSome found (λ certificate. IsShown (histories_of services.now) certificate)) }
 {
-    match found_in(alloc, services, all, steps, first, second)? {
+    match found_in(alloc, services, left, first, second)? {
         None => Ok(None),
         Some(pair) => shown(alloc, services, &pair),
     }
@@ -288,23 +215,33 @@ fn tried(
 fn first_cycle(
     alloc: Global,
     services: &DumpServices,
-    all: &Rooteds<'_>,
+    left: &Left<'_>,
 ) -> Result<Option<Certificate>, NoMemory>
     requires kept { ∥ AreKept services.now ∥₁ }
     ensures none { IfOk result (λ found. IfSome found (λ certificate. order_in certificate ≡ None)) }
     ensures shown { IfOk result (λ found. IfSome found (λ certificate. IsShown (histories_of services.now) certificate)) }
 {
-    let steps = steps_of(alloc, all)?;
     let mut last: Option<Rooted<'_>> = None;
-    for entry in &all.entries {
+    for entry in &left.all.entries {
         if let Some(first) = last {
-            if let Some(found) = tried(alloc, services, all, &steps, first, *entry)? {
+            if let Some(found) = tried(alloc, services, left, first, *entry)? {
                 return Ok(Some(found));
             }
         }
         last = Some(*entry);
     }
     Ok(None)
+}
+
+fn all_left<'a>(
+    alloc: Global,
+    services: &'a DumpServices,
+    logs: &[Log<'a>],
+) -> Result<Left<'a>, NoMemory> {
+    let all = all_rooted(alloc, services, logs)?;
+    let steps = steps_of(alloc, &all)?;
+    let groups = groups(alloc, &steps)?;
+    Ok(Left { all, steps, groups })
 }
 
 // An entry twice.
@@ -333,8 +270,8 @@ pub(crate) fn cycle_in(
     ensures none { IfOk result (λ found. order_in found ≡ None) }
     ensures shown { IfOk result (λ found. IsShown (histories_of services.now) found) }
 {
-    let all = all_rooted(alloc, services, logs)?;
-    if let Some(found) = first_cycle(alloc, services, &all)? {
+    let left = all_left(alloc, services, logs)?;
+    if let Some(found) = first_cycle(alloc, services, &left)? {
         return Ok(found);
     }
     twice(alloc, service, number)
