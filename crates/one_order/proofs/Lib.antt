@@ -1,3 +1,4 @@
+pub mod CycleLaws
 pub mod Depths
 pub mod OrderLaws
 pub mod Places
@@ -5,3 +6,4 @@ pub mod RunLaws
 pub mod LogLaws
 pub mod Named
 pub mod SearchLaws
+pub mod Lookups

@@ -5,6 +5,7 @@ ghost use Rattle.dump_audit.specs.Histories.{histories_of};
 ghost use Rattle.dump_audit.specs.Judging.{judged};
 ghost use Rattle.dump_audit.specs.declared.judged.Judged.TheVariants.{Legal};
 ghost use Rattle.one_order.specs.Certificates.{AreFirst, found_ill, order_in};
+ghost use Rattle.one_order.specs.Cycles.{IsShown};
 ghost use Rattle.one_world.specs.Certificates.{Passes};
 ghost use Rattle.one_world.specs.OneWorld.{RunsAsOne};
 ghost use Rattle.one_world.specs.Searches.{logs_of};
@@ -58,6 +59,7 @@ fn certificate_of(alloc: Global, dump: &Dump) -> Result<Certificate, NoMemory>
     ensures order { IfOk result (λ found. IfSome (order_in found) (λ order. Passes (histories_of dump.now.services) order)) }
     ensures first { IfOk result (λ found. IfSome (order_in found) (λ order. AreFirst (histories_of dump.now.services) (logs_of (histories_of dump.now.services)) order)) }
     ensures cycle { IfOk result (λ found. order_in found ≡ None → (order : _) → ¬ (Passes (histories_of dump.now.services) order)) }
+    ensures shown { IfOk result (λ found. IsShown (histories_of dump.now.services) found) }
     ensures one_world { IfOk result (λ found. IfSome (order_in found) (λ order. RunsAsOne (histories_of dump.now.services) order)) }
 {
     let found = search(alloc, &dump.services)?;
@@ -75,6 +77,8 @@ pub fn find_order(alloc: Global, dump: &Dump) -> Result<Certificate, OneRefused>
     ensures first { IfOk result (λ found. IfSome (order_in found) (λ order. AreFirst (histories_of dump.now.services) (logs_of (histories_of dump.now.services)) order)) }
     // Where none is found, no order passes.
     ensures cycle { IfOk result (λ found. order_in found ≡ None → (order : _) → ¬ (Passes (histories_of dump.now.services) order)) }
+    // Two entries that are named instead are neighbours of a log, with a way back; unless one is named twice.
+    ensures shown { IfOk result (λ found. IsShown (histories_of dump.now.services) found) }
     // The run of the roots as one program, in the order that is found, doesn't fail, ends with the dump's rows, and each request
     // in it responds as the dump says.
     ensures one_world { IfOk result (λ found. IfSome (order_in found) (λ order. RunsAsOne (histories_of dump.now.services) order)) }

@@ -3,6 +3,7 @@ ghost use Rattle.std.specs.Prelude.{◌≡◌, length};
 ghost use Rattle.std.specs.List.{list_any};
 ghost use Rattle.std.specs.Option.{option_map};
 ghost use Rattle.execution.specs.Executions.{survives};
+ghost use Rattle.dump_reader.specs.Kept.{AreKept};
 ghost use Rattle.dump_audit.specs.Histories.{act_of, histories_of, history_of};
 ghost use Rattle.one_order.specs.Logs.{acts_of};
 ghost use Rattle.one_world.specs.Checks.{behind_all, behind_calls, behind_callee, behind_id, behind_last, behind_next, behind_roots, passed, stands_in};
@@ -10,7 +11,7 @@ ghost use Rattle.one_world.specs.Trees.{calls_of};
 ghost use Rattle.execution.specs.Together.{history_in};
 
 use crate::finding::{callee_in, calls_of, depth_of, entry_in, is_alive, is_outside, service_in};
-use dump_reader::{DumpEntry, DumpService};
+use dump_reader::{DumpEntry, DumpService, DumpServices};
 use lang_core::{Name, RequestId, Same};
 
 // What is left behind the first entry that survives, where that has this number.
@@ -56,7 +57,7 @@ fn behind_last<'a>(numbers: &[u64], left: &'a [DumpEntry]) -> Option<&'a [DumpEn
 // Behind a request that was called, if it survives, and all that it calls.
 #[cycle(calls)]
 fn behind_callee<'a>(
-    world: &[DumpService],
+    world: &DumpServices,
     name: &Name,
     depth: u64,
     caller: &Name,
@@ -64,13 +65,14 @@ fn behind_callee<'a>(
     dest: &Name,
     left: &'a [DumpEntry],
 ) -> Option<&'a [DumpEntry]>
+    requires kept { ∥ AreKept world.now ∥₁ }
     ensures { option_map (λ left. acts_of left.now) result
         ≡ behind_callee (behind_all depth (histories_of world.now) name.now) name.now caller.now number (history_in dest.now (histories_of world.now)) (acts_of left.now) }
 {
     let Some(service) = service_in(dest, world) else {
         return None;
     };
-    let Some(entry) = callee_in(caller, number, service.entries.as_slice()) else {
+    let Some(entry) = callee_in(caller, number, service) else {
         return None;
     };
     if !is_alive(entry) {
@@ -85,13 +87,14 @@ fn behind_callee<'a>(
 // Behind all that an entry calls, so deep at most.
 #[cycle(calls)]
 fn behind_all<'a>(
-    world: &[DumpService],
+    world: &DumpServices,
     name: &Name,
     depth: u64,
     service: &DumpService,
     entry: &DumpEntry,
     left: &'a [DumpEntry],
 ) -> Option<&'a [DumpEntry]>
+    requires kept { ∥ AreKept world.now ∥₁ }
     ensures { option_map (λ left. acts_of left.now) result
         ≡ behind_all depth (histories_of world.now) name.now (history_of service.now) (act_of entry.now) (acts_of left.now) }
 {
@@ -103,13 +106,14 @@ fn behind_all<'a>(
 
 #[cycle(calls)]
 fn behind_calls<'a>(
-    world: &[DumpService],
+    world: &DumpServices,
     name: &Name,
     depth: u64,
     service: &DumpService,
     entry: &DumpEntry,
     left: &'a [DumpEntry],
 ) -> Option<&'a [DumpEntry]>
+    requires kept { ∥ AreKept world.now ∥₁ }
     ensures { option_map (λ left. acts_of left.now) result
         ≡ behind_calls (behind_all depth (histories_of world.now) name.now) (histories_of world.now) name.now service.now.setting.me
         entry.now.numbers (calls_of (act_of entry.now)) (acts_of left.now) }
@@ -133,11 +137,12 @@ fn behind_calls<'a>(
 
 /// Behind a root of this name, and all that it calls.
 pub(crate) fn behind_id<'a>(
-    world: &[DumpService],
+    world: &DumpServices,
     name: &Name,
     id: &RequestId,
     left: &'a [DumpEntry],
 ) -> Option<&'a [DumpEntry]>
+    requires kept { ∥ AreKept world.now ∥₁ }
     ensures { option_map (λ left. acts_of left.now) result
         ≡ behind_id (length (histories_of world.now)) (histories_of world.now) name.now id.now.number (history_in id.now.service (histories_of world.now)) (acts_of left.now) }
 {
@@ -157,11 +162,12 @@ pub(crate) fn behind_id<'a>(
 }
 
 fn behind_roots<'a>(
-    world: &[DumpService],
+    world: &DumpServices,
     name: &Name,
     order: &[RequestId],
     left: &'a [DumpEntry],
 ) -> Option<&'a [DumpEntry]>
+    requires kept { ∥ AreKept world.now ∥₁ }
     ensures { option_map (λ left. acts_of left.now) result ≡ behind_roots (length (histories_of world.now)) (histories_of world.now) name.now order.now (acts_of left.now) }
 {
     let mut left = left;
@@ -186,7 +192,8 @@ fn any_alive(left: &[DumpEntry]) -> bool
 }
 
 // Whether the log of a service stands in the order of these roots.
-pub(crate) fn stands_in(world: &[DumpService], order: &[RequestId], service: &DumpService) -> bool
+pub(crate) fn stands_in(world: &DumpServices, order: &[RequestId], service: &DumpService) -> bool
+    requires kept { ∥ AreKept world.now ∥₁ }
     ensures { result ≡ stands_in (histories_of world.now) order.now (history_of service.now) }
 {
     match behind_roots(

@@ -1,26 +1,24 @@
 // What is found in a dump: services by their names, entries by their numbers and by the calls that they come from.
-ghost use Rattle.std.specs.Prelude.{◌≡◌, length, map};
+ghost use Rattle.std.specs.Prelude.{◌≡◌, IfSome, length, map};
 ghost use Rattle.std.specs.Option.{option_copied, option_map};
 ghost use Rattle.lang_core.specs.declared.trace.CallMade.{CallMade};
 ghost use Rattle.execution.specs.Executions.{survives};
-ghost use Rattle.execution.specs.Together.{comes_from, history_in};
+ghost use Rattle.execution.specs.Together.{history_in};
+ghost use Rattle.dump_reader.specs.Kept.{AreKept, IsKept};
 ghost use Rattle.dump_audit.specs.Histories.{act_of, histories_of, history_of};
 ghost use Rattle.one_world.specs.Checks.{is_outside};
 ghost use Rattle.one_world.specs.Trees.{act_in, callee_in, calls_of};
 
-use dump_reader::{DumpEntry, DumpService};
-use lang_core::{CallMade, Name, Origin, Same};
+use dump_reader::{DumpEntry, DumpService, DumpServices};
+use lang_core::{CallMade, Name, Origin};
 
 /// The service of this name, if it is one of these.
-pub(crate) fn service_in<'a>(name: &Name, world: &'a [DumpService]) -> Option<&'a DumpService>
-    ensures { option_map history_of (option_copied result) ≡ history_in name.now (histories_of world.now) }
+pub(crate) fn service_in<'a>(name: &Name, world: &'a DumpServices) -> Option<&'a DumpService>
+    requires kept { ∥ AreKept world.now ∥₁ }
+    ensures found { option_map history_of (option_copied result) ≡ history_in name.now (histories_of world.now) }
+    ensures kept { IfSome result (λ service. ∥ IsKept service.now ∥₁) }
 {
-    for service in world {
-        if service.setting.me.text().is(name.text()) {
-            return Some(service);
-        }
-    }
-    None
+    world.named(name)
 }
 
 /// The entry of this number, if it is one of these.
@@ -35,32 +33,16 @@ pub(crate) fn entry_in<'a>(id: u64, entries: &'a [DumpEntry]) -> Option<&'a Dump
     None
 }
 
-fn comes_from(caller: &Name, number: u64, entry: &DumpEntry) -> bool
-    ensures { result ≡ comes_from caller.now number (act_of entry.now) }
-{
-    match &entry.origin {
-        Origin::Outside => false,
-        Origin::Call {
-            caller: own_caller,
-            number: own_number,
-        } => own_caller.text().is(caller.text()) && *own_number == number,
-    }
-}
-
-/// The entry of this call, if it is one of these.
+/// The entry of this call at a service, if it has one.
 pub(crate) fn callee_in<'a>(
     caller: &Name,
     number: u64,
-    entries: &'a [DumpEntry],
+    service: &'a DumpService,
 ) -> Option<&'a DumpEntry>
-    ensures { option_map act_of (option_copied result) ≡ callee_in caller.now number (map act_of entries.now) }
+    requires kept { ∥ IsKept service.now ∥₁ }
+    ensures { option_map act_of (option_copied result) ≡ callee_in caller.now number (map act_of service.now.entries) }
 {
-    for entry in entries {
-        if comes_from(caller, number, entry) {
-            return Some(entry);
-        }
-    }
-    None
+    service.entries.of_call(caller, number)
 }
 
 /// Whether an entry survives.
@@ -93,8 +75,8 @@ pub(crate) fn calls_of(entry: &DumpEntry) -> &[CallMade]
 
 /// How deep calls may lead: each goes to a service that none of those that wait for it is.
 #[tactic(auto, using(crate::proofs::Depths::as_many))]
-pub(crate) fn depth_of(world: &[DumpService]) -> u64
+pub(crate) fn depth_of(world: &DumpServices) -> u64
     ensures { result ≡ length (histories_of world.now) }
 {
-    world.len() as u64
+    world.as_slice().len() as u64
 }

@@ -8,10 +8,13 @@ mod certificates;
 mod checking;
 mod cycles;
 mod finding;
+mod groups;
 mod logs;
 mod orders;
 mod playing;
+mod rooted;
 mod searching;
+mod showing;
 mod ways;
 mod worlds;
 

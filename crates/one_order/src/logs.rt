@@ -1,13 +1,14 @@
 // What is left of all logs behind the roots that a search took, and the root that comes next.
 ghost use Rattle.std.specs.Prelude.{◌≡◌, IfOk, map, not};
 ghost use Rattle.std.specs.Option.{is_some, option_map};
+ghost use Rattle.dump_reader.specs.Kept.{AreKept};
 ghost use Rattle.dump_audit.specs.Histories.{histories_of, history_of};
 ghost use Rattle.one_order.specs.Logs.{acts_of, log_of, taken_of};
 ghost use Rattle.one_world.specs.Searches.{all_passed, behind_each, front, logs_of, named, next_root, tried, whole_log};
 
 use crate::checking::behind_id;
 use crate::finding::is_alive;
-use dump_reader::{DumpEntry, DumpService};
+use dump_reader::{DumpEntry, DumpService, DumpServices};
 use lang_core::{Copied, NoMemory, RequestId};
 use std::alloc::Global;
 
@@ -45,8 +46,8 @@ pub(crate) fn logs_of(alloc: Global, world: &[DumpService]) -> Result<Vec<Log<'_
     Ok(logs)
 }
 
-// The number of the first entry that survives.
-fn front(left: &[DumpEntry]) -> Option<u64>
+/// The number of the first entry that survives.
+pub(crate) fn front(left: &[DumpEntry]) -> Option<u64>
     ensures { result ≡ front (acts_of left.now) }
 {
     for entry in left {
@@ -60,10 +61,11 @@ fn front(left: &[DumpEntry]) -> Option<u64>
 // What is left of logs behind a root and all that it calls, where that comes next in each of them.
 fn behind_each<'a>(
     alloc: Global,
-    world: &[DumpService],
+    world: &DumpServices,
     id: &RequestId,
     logs: &[Log<'a>],
 ) -> Result<Option<Vec<Log<'a>>>, NoMemory>
+    requires kept { ∥ AreKept world.now ∥₁ }
     ensures { IfOk result (λ behind. option_map (λ logs. map log_of logs.items) behind ≡ behind_each (histories_of world.now) id.now (map log_of logs.now)) }
 {
     let mut behind = Vec::with_capacity(alloc, logs.len())?;
@@ -96,10 +98,11 @@ pub(crate) fn named(
 // The first entry left of a log, where that is a root which comes next in all logs.
 fn tried<'a>(
     alloc: Global,
-    world: &[DumpService],
+    world: &DumpServices,
     logs: &[Log<'a>],
     log: &Log<'a>,
 ) -> Result<Option<Taken<'a>>, NoMemory>
+    requires kept { ∥ AreKept world.now ∥₁ }
     ensures { IfOk result (λ found. option_map taken_of found ≡ tried (histories_of world.now) (map log_of logs.now) (history_of log.now.service.now) (front (acts_of log.now.left.now))) }
 {
     let Some(number) = front(log.left) else {
@@ -115,9 +118,10 @@ fn tried<'a>(
 /// Of these logs the first that goes on with a root that comes next in all logs.
 pub(crate) fn next_root<'a>(
     alloc: Global,
-    world: &[DumpService],
+    world: &DumpServices,
     logs: &[Log<'a>],
 ) -> Result<Option<Taken<'a>>, NoMemory>
+    requires kept { ∥ AreKept world.now ∥₁ }
     ensures { IfOk result (λ found. option_map taken_of found ≡ next_root (histories_of world.now) (map log_of logs.now) (map log_of logs.now)) }
 {
     for log in logs {

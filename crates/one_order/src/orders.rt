@@ -2,13 +2,14 @@
 ghost use Rattle.std.specs.Prelude.{◌≡◌, ◌↔◌, true};
 ghost use Rattle.std.specs.List.{list_all};
 ghost use Rattle.execution.specs.Together.{IsLegalTogether};
+ghost use Rattle.dump_reader.specs.Kept.{AreKept};
 ghost use Rattle.dump_audit.specs.Histories.{histories_of};
 ghost use Rattle.one_world.specs.Certificates.{Passes};
 ghost use Rattle.one_world.specs.Checks.{is_certificate, is_empty, stands_in};
 ghost use Rattle.one_world.specs.OneWorld.{RunsAsOne};
 
 use crate::checking::stands_in;
-use dump_reader::{Dump, DumpService};
+use dump_reader::{Dump, DumpService, DumpServices};
 use lang_core::{RequestId, Seq};
 
 /// Requests, by their names.
@@ -23,7 +24,8 @@ fn is_empty(order: &[RequestId]) -> bool
     }
 }
 
-fn all_stand(world: &[DumpService], order: &[RequestId], part: &[DumpService]) -> bool
+fn all_stand(world: &DumpServices, order: &[RequestId], part: &[DumpService]) -> bool
+    requires kept { ∥ AreKept world.now ∥₁ }
     ensures { result ≡ list_all (stands_in (histories_of world.now) order.now) (histories_of part.now) }
 {
     for service in part {
@@ -34,12 +36,14 @@ fn all_stand(world: &[DumpService], order: &[RequestId], part: &[DumpService]) -
     true
 }
 
-fn is_certificate(world: &[DumpService], order: &[RequestId]) -> bool
+fn is_certificate(world: &DumpServices, order: &[RequestId]) -> bool
+    requires kept { ∥ AreKept world.now ∥₁ }
     ensures { result ≡ is_certificate (histories_of world.now) order.now }
 {
-    match world {
+    let services = world.as_slice();
+    match services {
         [] => is_empty(order),
-        [_, ..] => all_stand(world, order, world),
+        [_, ..] => all_stand(world, order, services),
     }
 }
 
@@ -54,5 +58,5 @@ pub fn check_order(dump: &Dump, order: &Ids) -> bool
     // it responds as the dump says.
     ensures one_world { result ≡ true → RunsAsOne (histories_of dump.now.services) order.now }
 {
-    is_certificate(dump.services.as_slice(), order.as_slice())
+    is_certificate(&dump.services, order.as_slice())
 }

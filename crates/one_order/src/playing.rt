@@ -5,6 +5,7 @@ ghost use Rattle.lang_base.specs.Texts.{same_text};
 ghost use Rattle.lang_core.specs.Traces.{dead_trace};
 ghost use Rattle.execution.specs.Together.{history_in};
 ghost use Rattle.handler_run.specs.Handlers.{run_of};
+ghost use Rattle.dump_reader.specs.Kept.{AreKept};
 ghost use Rattle.dump_audit.specs.Histories.{act_of, histories_of, history_of};
 ghost use Rattle.one_order.specs.Worlds.{turned};
 ghost use Rattle.one_world.specs.Tapes.{rows_at, with_writes};
@@ -12,7 +13,7 @@ ghost use Rattle.one_world.specs.Trees.{calls_of};
 ghost use Rattle.one_world.specs.Turns.{call_to, turn_act, turn_all, turn_call, turn_callee, turn_calls, turn_end, turn_id, turn_last};
 
 use crate::finding::{callee_in, calls_of, depth_of, entry_in, service_in};
-use dump_reader::{DumpEntry, DumpService};
+use dump_reader::{DumpEntry, DumpService, DumpServices};
 use handler_run::{Ran, RowsView, run};
 use lang_core::{
     Answers, CallMade, Cells, Name, NoMemory, Request, RequestId, Response, Same, Text, Writes,
@@ -143,13 +144,14 @@ fn gone(alloc: Global) -> Result<Response, NoMemory>
 #[cycle(turns)]
 fn turn_act(
     alloc: Global,
-    services: &[DumpService],
+    services: &DumpServices,
     depth: u64,
     request: &Request,
     service: &DumpService,
     entry: &DumpEntry,
     world: &mut [Rows],
 ) -> Result<Option<Response>, NoMemory>
+    requires kept { ∥ AreKept services.now ∥₁ }
     ensures { IfOk result (λ response. turned response world.new
         ≡ turn_act (turn_all depth (histories_of services.now)) world.old request.now (history_of service.now) (act_of entry.now)) }
 {
@@ -162,7 +164,7 @@ fn turn_act(
 #[cycle(turns)]
 fn turn_callee(
     alloc: Global,
-    services: &[DumpService],
+    services: &DumpServices,
     depth: u64,
     caller: &Name,
     number: u64,
@@ -170,13 +172,14 @@ fn turn_callee(
     request: &Request,
     world: &mut [Rows],
 ) -> Result<Option<Response>, NoMemory>
+    requires kept { ∥ AreKept services.now ∥₁ }
     ensures { IfOk result (λ response. turned response world.new
         ≡ turn_callee (turn_all depth (histories_of services.now)) caller.now number world.old request.now (history_in dest.now (histories_of services.now))) }
 {
     let Some(service) = service_in(dest, services) else {
         return Ok(None);
     };
-    let Some(entry) = callee_in(caller, number, service.entries.as_slice()) else {
+    let Some(entry) = callee_in(caller, number, service) else {
         return Ok(None);
     };
     turn_act(alloc, services, depth, request, service, entry, world)
@@ -186,7 +189,7 @@ fn turn_callee(
 #[cycle(turns)]
 fn turn_call(
     alloc: Global,
-    services: &[DumpService],
+    services: &DumpServices,
     depth: u64,
     request: &Request,
     service: &DumpService,
@@ -196,6 +199,7 @@ fn turn_call(
     given: &Answers,
     world: &mut [Rows],
 ) -> Result<Option<Response>, NoMemory>
+    requires kept { ∥ AreKept services.now ∥₁ }
     ensures { IfOk result (λ response. turned response world.new
         ≡ turn_call (turn_all depth (histories_of services.now)) (histories_of services.now) (history_of service.now) (act_of entry.now) request.now number dest.now given.now world.old) }
 {
@@ -220,13 +224,14 @@ fn turn_call(
 #[cycle(turns)]
 fn turn_all(
     alloc: Global,
-    services: &[DumpService],
+    services: &DumpServices,
     depth: u64,
     request: &Request,
     service: &DumpService,
     entry: &DumpEntry,
     world: &mut [Rows],
 ) -> Result<Option<Response>, NoMemory>
+    requires kept { ∥ AreKept services.now ∥₁ }
     ensures { IfOk result (λ response. turned response world.new
         ≡ turn_all depth (histories_of services.now) (history_of service.now) (act_of entry.now) request.now world.old) }
 {
@@ -240,13 +245,14 @@ fn turn_all(
 #[cycle(turns)]
 fn turn_calls(
     alloc: Global,
-    services: &[DumpService],
+    services: &DumpServices,
     depth: u64,
     request: &Request,
     service: &DumpService,
     entry: &DumpEntry,
     world: &mut [Rows],
 ) -> Result<Option<Response>, NoMemory>
+    requires kept { ∥ AreKept services.now ∥₁ }
     ensures { IfOk result (λ response. turned response world.new
         ≡ turn_calls (turn_all depth (histories_of services.now)) (histories_of services.now) (history_of service.now) (act_of entry.now) request.now
         entry.now.numbers (calls_of (act_of entry.now)) [] world.old) }
@@ -272,11 +278,12 @@ fn turn_calls(
 // Plays a root with all that it calls.
 fn turn_root(
     alloc: Global,
-    services: &[DumpService],
+    services: &DumpServices,
     service: &DumpService,
     entry: &DumpEntry,
     world: &mut [Rows],
 ) -> Result<Option<Response>, NoMemory>
+    requires kept { ∥ AreKept services.now ∥₁ }
     ensures { IfOk result (λ response. turned response world.new
         ≡ turn_act (turn_all (suc (length (histories_of services.now))) (histories_of services.now)) world.old entry.now.request (history_of service.now) (act_of entry.now)) }
 {
@@ -291,10 +298,11 @@ fn turn_root(
 /// Plays the root of this name with all that it calls. None where it fails.
 pub(crate) fn turn_id(
     alloc: Global,
-    services: &[DumpService],
+    services: &DumpServices,
     id: &RequestId,
     world: &mut [Rows],
 ) -> Result<Option<Response>, NoMemory>
+    requires kept { ∥ AreKept services.now ∥₁ }
     ensures { IfOk result (λ response. turned response world.new
         ≡ turn_id (length (histories_of services.now)) (histories_of services.now) id.now.number world.old (history_in id.now.service (histories_of services.now))) }
 {

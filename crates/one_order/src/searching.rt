@@ -10,7 +10,7 @@ ghost use Rattle.one_world.specs.Searches.{IsStep, all_passed, logs_of};
 
 use crate::logs::{Log, logs_of, next_root};
 use crate::orders::Ids;
-use dump_reader::{DumpService, DumpServices};
+use dump_reader::DumpServices;
 use lang_core::NoMemory;
 use std::alloc::Global;
 
@@ -22,7 +22,8 @@ pub(crate) struct Found<'a> {
 }
 
 // Takes the next root, if there is one.
-fn step(alloc: Global, world: &[DumpService], found: &mut Found<'_>) -> Result<bool, NoMemory>
+fn step(alloc: Global, world: &DumpServices, found: &mut Found<'_>) -> Result<bool, NoMemory>
+    requires kept { ∥ AreKept world.now ∥₁ }
     ensures { IfOk result (λ more. IsStep (histories_of world.now) found.old.order (map log_of found.old.logs.items) found.new.order (map log_of found.new.logs.items) more) }
 {
     match next_root(alloc, world, &found.logs)? {
@@ -46,14 +47,13 @@ pub(crate) fn search(alloc: Global, services: &DumpServices) -> Result<Found<'_>
     // Where something is left, no order passes.
     ensures stuck { IfOk result (λ found. all_passed (map log_of found.logs.items) ≡ false → (other : _) → ¬ (Passes (histories_of services.now) other)) }
 {
-    let world = services.as_slice();
     let mut found = Found {
         order: Ids::new(alloc),
-        logs: logs_of(alloc, world)?,
+        logs: logs_of(alloc, services.as_slice())?,
     };
     let mut more = true;
     while more {
-        more = step(alloc, world, &mut found)?;
+        more = step(alloc, services, &mut found)?;
     }
     Ok(found)
 }

@@ -2,6 +2,7 @@
 ghost use Rattle.std.specs.Prelude.{◌≡◌, IfOk, Some, None, length, if◌then◌else◌};
 ghost use Rattle.std.specs.Option.{option_map};
 ghost use Rattle.execution.specs.Together.{IsLegalTogether};
+ghost use Rattle.dump_reader.specs.Kept.{AreKept};
 ghost use Rattle.dump_audit.specs.Histories.{histories_of};
 ghost use Rattle.one_world.specs.OneWorld.{Run, before_all, one_world};
 ghost use Rattle.one_world.specs.Trees.{AreRoots, Trees};
@@ -9,7 +10,7 @@ ghost use Rattle.one_world.specs.Turns.{turn_roots};
 
 use crate::orders::Ids;
 use crate::playing::turn_id;
-use dump_reader::{Dump, DumpService};
+use dump_reader::{Dump, DumpService, DumpServices};
 use lang_core::{Cells, Copied, NoMemory, RequestId};
 use one_world::Rows;
 use std::alloc::Global;
@@ -30,10 +31,11 @@ fn before_all(alloc: Global, services: &[DumpService]) -> Result<Vec<Rows>, NoMe
 
 fn turn_roots(
     alloc: Global,
-    services: &[DumpService],
+    services: &DumpServices,
     order: &[RequestId],
     world: &mut [Rows],
 ) -> Result<bool, NoMemory>
+    requires kept { ∥ AreKept services.now ∥₁ }
     ensures { IfOk result (λ ran. (if ran then Some world.new else None) ≡ turn_roots (length (histories_of services.now)) (histories_of services.now) order.now world.old) }
 {
     for id in order {
@@ -51,9 +53,8 @@ pub fn one_run(alloc: Global, dump: &Dump, order: &Ids) -> Result<Option<Vec<Row
     ensures exact { (trees : Trees) → AreRoots trees (histories_of dump.now.services) order.now
         → IfOk result (λ rows. option_map (λ world. world.items) rows ≡ option_map (λ (run : Run). run.world) (one_world (histories_of dump.now.services) trees)) }
 {
-    let services = dump.services.as_slice();
-    let mut world = before_all(alloc, services)?;
-    if turn_roots(alloc, services, order.as_slice(), &mut world)? {
+    let mut world = before_all(alloc, dump.services.as_slice())?;
+    if turn_roots(alloc, &dump.services, order.as_slice(), &mut world)? {
         Ok(Some(world))
     } else {
         Ok(None)

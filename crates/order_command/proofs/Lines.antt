@@ -11,6 +11,7 @@ use Rattle.dump_audit.specs.Judging.{judged}
 use Rattle.dump_audit.specs.declared.judged.Judged.{Judged}
 use Rattle.dump_audit.specs.declared.judged.Judged.TheVariants.{Legal}
 use Rattle.audit_command.specs.Audits.{LacksMemory, Prints, judged_line}
+use Rattle.one_order.specs.Cycles.{ShowsCycle}
 use Rattle.one_world.specs.Certificates.{Passes}
 use Rattle.one_world.specs.OneWorld.{RunsAsOne}
 use Rattle.order_command.specs.Orders.{Tells, cycle_line, id_line, order_lines}
@@ -28,9 +29,9 @@ module _ (services : List DumpService) (out out_now : Writes) (status : ℕ) whe
   order_told order legal passes runs prints = or_lacks (order_lines order) (inl (record { legal = legal; order = order; passes = passes; runs = runs; is = refl })) prints
 
   pub cycle_told : (first second : RequestId) → IsLegalTogether (histories_of services) → ((order : List RequestId) → ¬ (Passes (histories_of services) order))
-      → Prints out out_now (cycle_line first second) status ⊎ LacksMemory out out_now status → IsTold
-  cycle_told first second legal never prints =
-      or_lacks (cycle_line first second) (inr (inl (record { legal = legal; never = never; first = first; second = second; is = refl }))) prints
+      → (¬ (first ≡ second) → (back : List RequestId) × ShowsCycle (histories_of services) first second back) → Prints out out_now (cycle_line first second) status ⊎ LacksMemory out out_now status → IsTold
+  cycle_told first second legal never shown prints =
+      or_lacks (cycle_line first second) (inr (inl (record { legal = legal; never = never; first = first; second = second; shown = shown; is = refl }))) prints
 
   pub fault_told : (found : Judged) → found ≡ judged services → ¬ (found ≡ Legal) → Prints out out_now (judged_line found) status ⊎ LacksMemory out out_now status → IsTold
   fault_told found is ill prints =

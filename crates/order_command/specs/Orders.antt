@@ -12,6 +12,7 @@ use Rattle.dump_audit.specs.Histories.{histories_of}
 use Rattle.dump_audit.specs.Judging.{judged}
 use Rattle.dump_audit.specs.declared.judged.Judged.TheVariants.{Legal}
 use Rattle.audit_command.specs.Audits.{Asked, EndsIn, Is, LacksMemory, Prints, dump_told, dump_word, is_file_word, judged_line, misfit_from, refused_line, usage_line}
+use Rattle.one_order.specs.Cycles.{ShowsCycle}
 use Rattle.one_world.specs.Certificates.{Passes}
 use Rattle.one_world.specs.OneWorld.{RunsAsOne}
 
@@ -47,12 +48,13 @@ pub record TellsOrder (services : List DumpService) (text : List ℕ) : Type 0 w
   pub runs : RunsAsOne (histories_of services) order
   pub is : text ≡ order_lines order
 
--- two entries where there is no such order
+-- two entries where there is no such order, which show it, unless one is told twice
 pub record TellsCycle (services : List DumpService) (text : List ℕ) : Type 0 where
   pub legal : IsLegalTogether (histories_of services)
   pub never : (order : List RequestId) → ¬ (Passes (histories_of services) order)
   pub first : RequestId
   pub second : RequestId
+  pub shown : ¬ (first ≡ second) → (back : List RequestId) × ShowsCycle (histories_of services) first second back
   pub is : text ≡ cycle_line first second
 
 -- what an audit tells of a dump that isn't legal

@@ -131,6 +131,54 @@ row paid z 3
 end
 "#;
 
+/// A till that pays twice behind the two purchases, between whose payments the bank has one of its own.
+pub const BEHIND: &str = r#"service till
+peers bank
+program route POST "/take/*" {\ncall s , b = "bank" POST ( "/pay/" ++ path ( 2 ) ) body ;\nreply s b ;\n}\n
+entry 1 out 0 1 0 0 1 2 3 4 5 6 7 8 POST /take/t ann - 5
+call 1 bank POST /pay/t 5
+answer 200 ok 5
+reply 200 ok 5
+entry 2 out 0 1 0 0 1 2 3 4 5 6 7 8 POST /take/u ann - 6
+call 2 bank POST /pay/u 6
+answer 200 ok 6
+reply 200 ok 6
+end
+service shop
+peers bank
+program route POST "/buy/*" {\ncall s , b = "bank" POST ( "/pay/" ++ path ( 2 ) ) body ;\nput orders path ( 2 ) = b ;\nreply s b ;\n}\n
+entry 1 out 0 1 0 0 1 2 3 4 5 6 7 8 POST /buy/y ann - 2
+call 2 bank POST /pay/y 2
+answer 200 ok 2
+reply 200 ok 2
+entry 2 out 0 1 0 0 1 2 3 4 5 6 7 8 POST /buy/x ann - 1
+call 1 bank POST /pay/x 1
+answer 200 ok 1
+reply 200 ok 1
+row orders x ok 1
+row orders y ok 2
+end
+service bank
+peers shop,till
+program route POST "/pay/*" {\nput paid path ( 2 ) = body ;\nreply 200 ( "ok " ++ body ) ;\n}\n
+entry 1 shop/1 1 1 0 0 1 2 3 4 5 6 7 8 POST /pay/x shop shop 1
+reply 200 ok 1
+entry 2 out 0 1 0 0 1 2 3 4 5 6 7 8 POST /pay/z ann - 3
+reply 200 ok 3
+entry 3 shop/2 1 1 0 0 1 2 3 4 5 6 7 8 POST /pay/y shop shop 2
+reply 200 ok 2
+entry 4 till/1 1 1 0 0 1 2 3 4 5 6 7 8 POST /pay/t till till 5
+reply 200 ok 5
+entry 5 till/2 1 1 0 0 1 2 3 4 5 6 7 8 POST /pay/u till till 6
+reply 200 ok 6
+row paid t 5
+row paid u 6
+row paid x 1
+row paid y 2
+row paid z 3
+end
+"#;
+
 fn ids_of(rt: &(impl Abort + AllocGlobal), text: &str) -> Ids {
     let mut ids = Ids::new(rt.alloc());
     for word in text.split(' ') {

@@ -17,4 +17,4 @@ pub returns-in-Some-clause-cycle : goal.returns-in-Some-clause-cycle
 returns-in-Some-clause-cycle c =
     let logs = ap (λ (ls : List LogLeft). all_passed (map log_of ls)) c.deref.ensures.value in
     let left = sym logs ∙ sym c.first_left.ensures ∙ ap (λ o. not (is_some o)) c.in-Some.is in
-    IfOk-weaker c.cycle_in.result _ _ (λ found is. λ none order. c.in_ok-found.ensures.stuck left order) c.cycle_in.ensures
+    IfOk-weaker c.cycle_in.result _ _ (λ found is. λ none order. c.in_ok-found.ensures.stuck left order) c.cycle_in.ensures.none

@@ -6,10 +6,7 @@ use Rattle.one_order.proofs.OrderLaws.{exact_so, one_world_so}
 use Rattle.one_order.proofs.orders.check_order.Goals as goal
 
 tested : (c : goal.After-is_certificate) → c.is_certificate.result ≡ is_certificate (histories_of c.args.dump.now.services) c.args.order.now
-tested c =
-    c.is_certificate.ensures
-    ∙ ap (λ s. is_certificate (histories_of s) c.as_slice-2.result.now) c.as_slice.ensures
-    ∙ ap (λ o. is_certificate (histories_of c.args.dump.now.services) o) c.as_slice-2.ensures
+tested c = c.is_certificate.ensures ∙ ap (λ o. is_certificate (histories_of c.args.dump.now.services) o) c.as_slice.ensures
 
 pub returns-clause-exact : goal.returns-clause-exact
 returns-clause-exact c = exact_so (histories_of c.args.dump.now.services) c.requires.legal c.args.order.now c.is_certificate.result (tested c)

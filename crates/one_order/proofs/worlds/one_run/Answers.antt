@@ -7,12 +7,10 @@ use Rattle.one_order.proofs.worlds.one_run.Goals as goal
 
 pub returns-then-branch : goal.returns-then-branch
 returns-then-branch c =
-    let S = c.as_slice-services.ensures in
-    let O = c.as_slice.ensures in
     let b = c.in_ok-turn_roots.field-0 in
-    let ran = subst (λ o. cond b (Some c.turn_roots.new.world) None ≡ turn_roots (length (histories_of c.args.dump.now.services)) (histories_of c.args.dump.now.services) o c.deref_mut.result.now) O
-    (subst (λ s. cond b (Some c.turn_roots.new.world) None ≡ turn_roots (length (histories_of s)) (histories_of s) c.as_slice.result.now c.deref_mut.result.now) S c.in_ok-turn_roots.ensures) in
-    let first = subst (λ s. c.in_ok-world.world.items ≡ before_all (histories_of s)) S c.in_ok-world.ensures in
+    let ran = subst (λ o. cond b (Some c.turn_roots.new.world) None ≡ turn_roots (length (histories_of c.args.dump.now.services)) (histories_of c.args.dump.now.services) o c.deref_mut.result.now)
+    c.as_slice-2.ensures c.in_ok-turn_roots.ensures in
+    let first = subst (λ s. c.in_ok-world.world.items ≡ before_all (histories_of s)) c.as_slice.ensures c.in_ok-world.ensures in
     record {
       exact = λ trees roots. ran_so (histories_of c.args.dump.now.services) c.requires.legal c.args.order.now c.turn_roots.new.world c.in_ok-world.world.items c.deref_mut.result.now
           c.in_ok-world.world.len b c.if-branch.true ran c.deref_mut.ensures.value first c.in_ok-world.world.ok.0 c.turn_roots.auto.world trees roots;
@@ -20,12 +18,10 @@ returns-then-branch c =
 
 pub returns-else-branch : goal.returns-else-branch
 returns-else-branch c =
-    let S = c.as_slice-services.ensures in
-    let O = c.as_slice.ensures in
     let b = c.in_ok-turn_roots.field-0 in
-    let ran = subst (λ o. cond b (Some c.turn_roots.new.world) None ≡ turn_roots (length (histories_of c.args.dump.now.services)) (histories_of c.args.dump.now.services) o c.deref_mut.result.now) O
-    (subst (λ s. cond b (Some c.turn_roots.new.world) None ≡ turn_roots (length (histories_of s)) (histories_of s) c.as_slice.result.now c.deref_mut.result.now) S c.in_ok-turn_roots.ensures) in
-    let first = subst (λ s. c.in_ok-world.world.items ≡ before_all (histories_of s)) S c.in_ok-world.ensures in
+    let ran = subst (λ o. cond b (Some c.turn_roots.new.world) None ≡ turn_roots (length (histories_of c.args.dump.now.services)) (histories_of c.args.dump.now.services) o c.deref_mut.result.now)
+    c.as_slice-2.ensures c.in_ok-turn_roots.ensures in
+    let first = subst (λ s. c.in_ok-world.world.items ≡ before_all (histories_of s)) c.as_slice.ensures c.in_ok-world.ensures in
     record {
       exact = λ trees roots. fails_so (histories_of c.args.dump.now.services) c.requires.legal c.args.order.now c.turn_roots.new.world c.in_ok-world.world.items c.deref_mut.result.now
           b c.if-branch.false ran c.deref_mut.ensures.value first trees roots;
