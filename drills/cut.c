@@ -2,22 +2,38 @@
    what is sent or received: from then on the connection fails as one does that was reset. Those that others open to it stay whole.
 
      cc -shared -fPIC -O2 -o cut.so cut.c -ldl
-     CUT_ONE_IN=8 CUT_SEED=1 LD_PRELOAD=./cut.so PROGRAM .. */
+     CUT_ONE_IN=8 CUT_SEED=1 CUT_TOLD=FILE LD_PRELOAD=./cut.so PROGRAM ..
+
+   FILE has two numbers of 64 bits: how many were opened so far, and how many of them were cut. */
 #define _GNU_SOURCE
 #include <dlfcn.h>
 #include <errno.h>
+#include <fcntl.h>
 #include <stdatomic.h>
 #include <stdint.h>
 #include <stdlib.h>
+#include <sys/mman.h>
 #include <sys/socket.h>
 #include <sys/uio.h>
 #include <unistd.h>
 
 #define FILES 65536
 
-// How many bytes a file may still send and receive before it is cut, and one more; 0 where it isn't to be cut.
+// How many bytes a file may still send and receive before it is cut, and one more; 1 where it is cut, 0 where it isn't to be.
 static _Atomic long left[FILES];
 static _Atomic uint64_t drawn;
+
+// Connections that were opened, and that were cut: in the file, since a program may end without a word to its libraries.
+static _Atomic int64_t uncounted[2], *counts = uncounted;
+
+__attribute__((constructor)) static void count_in_file(void) {
+    const char *path = getenv("CUT_TOLD");
+    int fd = path ? open(path, O_RDWR | O_CREAT | O_TRUNC, 0600) : -1;
+    if (fd < 0) return;
+    void *at = ftruncate(fd, sizeof uncounted) == 0 ? mmap(NULL, sizeof uncounted, PROT_READ | PROT_WRITE, MAP_SHARED, fd, 0) : MAP_FAILED;
+    if (at != MAP_FAILED) counts = at;
+    close(fd);
+}
 
 static uint64_t draw(void) {
     static _Atomic int begun;
@@ -45,7 +61,7 @@ static int is_cut(int fd, long bytes) {
         atomic_store(&left[fd], had - bytes);
         return 0;
     }
-    atomic_store(&left[fd], 1);
+    if (atomic_exchange(&left[fd], 1) != 1) atomic_fetch_add(&counts[1], 1);
     shutdown(fd, SHUT_RDWR);
     errno = ECONNRESET;
     return 1;
@@ -55,8 +71,9 @@ static int is_cut(int fd, long bytes) {
 
 int connect(int fd, const struct sockaddr *to, socklen_t length) {
     uint64_t cuts = one_in();
+    if (to->sa_family == AF_INET) atomic_fetch_add(&counts[0], 1);
     if (fd >= 0 && fd < FILES && to->sa_family == AF_INET && cuts && draw() % cuts == 0)
-        atomic_store(&left[fd], 1 + (long)(draw() % 900));
+        atomic_store(&left[fd], 2 + (long)(draw() % 900));
     return NEXT(connect)(fd, to, length);
 }
 

@@ -10,6 +10,8 @@ import subprocess
 TOP = os.path.dirname(os.path.dirname(os.path.abspath(__file__)))
 PROGRAM = f"{TOP}/crates/aire/out/aire"
 PATIENCE = 30
+# Receipts are compared with journals after a stop, which takes long where there are many.
+PATIENCE_AT_END = 600
 
 
 def allow_files(count):
@@ -105,16 +107,16 @@ class Served:
             return int(file.read().split()[1]) * resource.getpagesize()
 
     def ask(self, name, word, fields=None, who="root"):
-        """The status and the JSON of what an operator's request is replied."""
+        """The status and the JSON of what an operator's request is replied, or None and {} where the connection was closed without a reply."""
         secret = next(it["console"] for it in self.services if it["name"] == name).encode()
         sent = console(name, secret, word, json.dumps(fields or {}).encode(), who)
         reply = exchange(self.ports[name], sent, shut=False)
-        return told(reply)[0], json.loads(body_of(reply))
+        return (told(reply)[0], json.loads(body_of(reply))) if reply else (None, {})
 
     def stop(self):
         """The status and the output, once an operator has stopped it."""
         self.ask(self.services[0]["name"], "stop")
-        out, _ = self.running.communicate(timeout=PATIENCE)
+        out, _ = self.running.communicate(timeout=PATIENCE_AT_END)
         return self.running.returncode, out
 
     def kill(self):
