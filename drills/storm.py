@@ -67,14 +67,14 @@ class Storm:
             sent = request("POST", f"/post/u{client}/k{client}/{question}", f"text {place}".encode(), Aire_Who=f"u{client}")
             try:
                 reply = exchange(self.served.ports["askbot"], sent)
-                status, refused = told(reply)
-                number = re.search(rb"Aire-Request-Id: askbot/(\d+)", reply)
-            except (OSError, TypeError) as fault:
+            except OSError as fault:
                 self.faults.append(f"{question}: {fault!r}")
                 continue
+            number = re.search(rb"Aire-Request-Id: askbot/(\d+)", reply)
             if number is None:
-                self.faults.append(f"{question}: {status} {refused}")
+                self.faults.append(f"{question}: {told(reply) or 'no reply'}")
                 continue
+            status, _ = told(reply)
             self.statuses[status] = self.statuses.get(status, 0) + 1
             self.asked[question] = int(number[1])
             if draw.random() < 0.1:
@@ -123,17 +123,21 @@ class Storm:
             time.sleep(0.2)
         return None
 
-    def text(self, service, report):
-        return self.served.ask(service, report)[1].get("text", "no reply")
+    def text(self, service, report, faults):
+        """A report, or nothing where there is no reply within its connection's time, which is a fault."""
+        text = self.served.ask(service, report)[1].get("text")
+        if text is None:
+            faults.append(f"the {report} of {service}: no reply")
+        return text or ""
 
     def differences(self):
         """Where rows or entries that are alive aren't those of the questions that weren't cancelled."""
         differences = []
         wanted = sorted(self.asked.keys() - self.cancelled)
-        alive = {service: [it for it in ENTRY.findall(self.text(service, "log")) if it[1] == "alive"] for service in ("askbot", "dpaste")}
+        alive = {service: [it for it in ENTRY.findall(self.text(service, "log", differences)) if it[1] == "alive"] for service in ("askbot", "dpaste")}
         found = {
-            "rows of askbot": re.findall(r"^posts (\S+) ", self.text("askbot", "rows"), re.M),
-            "rows of dpaste": re.findall(r"^pastes (\S+) ", self.text("dpaste", "rows"), re.M),
+            "rows of askbot": re.findall(r"^posts (\S+) ", self.text("askbot", "rows", differences), re.M),
+            "rows of dpaste": re.findall(r"^pastes (\S+) ", self.text("dpaste", "rows", differences), re.M),
             "entries of askbot": [path.rpartition("/")[2] for _, _, _, path, status in alive["askbot"] if status == "200"],
             "entries of dpaste": [path.rpartition("/")[2] for _, _, _, path, status in alive["dpaste"] if status == "200"],
         }
