@@ -128,6 +128,24 @@ fn gives_up_a_silent_client(rt: HostRuntime) {
     drop(silent);
 }
 
+// A client whose request came whole in time is served, however late somebody takes it.
+#[test]
+fn serves_a_whole_request_late(rt: HostRuntime) {
+    let address = "127.0.31.10:18431";
+    let stop = StopSignal::new();
+    let mut door = TcpDoor::with_patience(&rt, rt.alloc(), &stop, short());
+    let ear = door.listen(address).expect(&rt, "an ear");
+    let mut first = client(&rt, address);
+    send(&rt, &mut first, b"GET /a\n\n");
+    let mut late = client(&rt, address);
+    send(&rt, &mut late, b"GET /b\n\n");
+    holds(&rt, "served", serve(&ear, 1));
+    thread::sleep(&rt, short() + short());
+    holds(&rt, "served", serve(&ear, 1));
+    comes(&rt, &mut first, "ok GET /a\n\n");
+    comes(&rt, &mut late, "ok GET /b\n\n");
+}
+
 // A client whose body isn't read gets its reply to the end, without a reset.
 fn send_more_than_is_read<R: Abort + AllocGlobal + Net<Stream = TcpStream> + Wait + Clock>(
     rt: &R,

@@ -86,8 +86,8 @@ impl<'a, R: Net + Clock + Wait + Sync> Door for TcpDoor<'a, R> {
 }
 
 /// A socket that listens. A connection is given once the head of its request is whole, so that one
-/// that sends nothing, or slowly, keeps no worker; or once it has waited for 10 seconds, and then
-/// it fails at its first read beyond what came.
+/// that sends nothing, or slowly, keeps no worker, and has its own time from then on; or once it has
+/// waited for 10 seconds, and then it fails at its first read beyond what came.
 #[derive(Drop)]
 pub struct TcpEar<'a, R: Clock + Wait> {
     rt: &'a R,
@@ -132,7 +132,7 @@ impl<'a, R: Net + Clock + Wait> TcpEar<'a, R> {
     }
 }
 
-// From a guest a connection, which ends by this deadline, or at once if it has waited that long already.
+// From a guest a connection, which ends by this deadline, or at once if it has waited that long and its head isn't whole.
 fn connection<'a, R: Clock + Wait>(
     deadline: Deadline<'a, R>,
     guest: Guest,
@@ -141,7 +141,7 @@ fn connection<'a, R: Clock + Wait>(
     ensures { IfOk result (λ conn. IsNew (tcp_reads conn) (tcp_writes conn)) }
 {
     let mut deadline = deadline;
-    if deadline.since.duration_since(guest.since) >= deadline.most {
+    if !guest.is_ready() && deadline.since.duration_since(guest.since) >= deadline.most {
         deadline.since = guest.since;
     }
     let (stream, bytes) = guest.into_parts();

@@ -47,8 +47,8 @@ impl Guest {
         (stream, bytes)
     }
 
-    // Whether it waits for nothing more: its head is whole or too long, or it ended or failed.
-    fn is_ready(&self) -> bool {
+    /// Whether it waits for nothing more: its head is whole or too long, or it ended or failed.
+    pub fn is_ready(&self) -> bool {
         self.ended || self.head == Head::Whole || self.bytes.len() >= MOST_HEAD
     }
 
@@ -174,12 +174,16 @@ impl Guests {
         }
     }
 
-    // The first that is ready, or has waited too long. It is no longer waited for.
+    // The first that is ready, or has waited too long. It is no longer waited for. Where nobody looked meanwhile its head may have
+    // come whole, unheard.
     fn ready(&mut self, clock: &impl Clock, patience: Duration) -> Option<Guest> {
         let now = Instant::now(clock).ok()?;
         let at = self.waiting.iter().position(|guest| guest.is_ready()
             || now.duration_since(guest.since) >= patience)?;
         let mut guest = self.waiting.remove(at);
+        if !guest.is_ready() {
+            guest.take();
+        }
         let _ = self.poll.registry().deregister(&mut guest.stream);
         Some(guest)
     }
