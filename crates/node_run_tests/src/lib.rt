@@ -2,6 +2,8 @@
 #![tactic(auto)]
 
 #[cfg(test)]
+mod cancelling;
+#[cfg(test)]
 mod clients;
 #[cfg(test)]
 mod ends;
@@ -9,5 +11,7 @@ mod ends;
 mod given;
 #[cfg(test)]
 mod operators;
+#[cfg(test)]
+mod repaired;
 #[cfg(test)]
 mod runs;
