@@ -10,6 +10,8 @@ mod ends;
 #[cfg(test)]
 mod given;
 #[cfg(test)]
+mod lost_exchanges;
+#[cfg(test)]
 mod operators;
 #[cfg(test)]
 mod repaired;
