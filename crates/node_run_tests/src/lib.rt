@@ -8,6 +8,8 @@ mod clients;
 #[cfg(test)]
 mod ends;
 #[cfg(test)]
+mod forged;
+#[cfg(test)]
 mod given;
 #[cfg(test)]
 mod lost_exchanges;
