@@ -12,7 +12,11 @@ mod forged;
 #[cfg(test)]
 mod given;
 #[cfg(test)]
+mod limits;
+#[cfg(test)]
 mod lost_exchanges;
+#[cfg(test)]
+mod malformed;
 #[cfg(test)]
 mod operators;
 #[cfg(test)]
