@@ -1,5 +1,6 @@
 /* Put before the C library (LD_PRELOAD), this refuses one of a program's allocations: that of the number REFUSED, counted
-   from 1; none where it is 0. At the program's end how many there were is written to the file that ALLOCATIONS names. */
+   from 1, of whatever thread; none where it is 0. At the program's end how many there were is written to the file that
+   ALLOCATIONS names. */
 #include <stdio.h>
 #include <stdlib.h>
 
@@ -30,7 +31,7 @@ __attribute__((destructor)) static void end(void)
 
 static int is_refused(void)
 {
-    return ++count == refused;
+    return __atomic_add_fetch(&count, 1, __ATOMIC_RELAXED) == refused;
 }
 
 void *malloc(size_t size)

@@ -10,12 +10,14 @@ use std::sync::Wait;
 use std::thread::{self, Threads};
 use std::time::Clock;
 
-const FIRST: &str = "127.0.0.1:8101";
+/// Where the first service of a world listens.
+pub const FIRST: &str = "127.0.0.1:8101";
 
-const SECOND: &str = "127.0.0.1:8102";
+/// Where the second does.
+pub const SECOND: &str = "127.0.0.1:8102";
 
-// Asks for the verdict until it is Legal, at most 10,000 times.
-fn wait_legal<R: Abort + AllocGlobal + Wait + Clock>(
+/// Asks for the verdict until it is Legal, at most 10,000 times.
+pub fn wait_legal<R: Abort + AllocGlobal + Wait + Clock>(
     rt: &R,
     network: &MemoryNetwork,
     address: &str,
@@ -110,60 +112,6 @@ fn serves_beside_a_call(rt: HostRuntime) {
     let well = Came::Well {
         services: 3,
         answers: 8,
-    };
-    holds(&rt, "as many receipts as answers", came == well);
-}
-
-// Fifty requests: a token, and 49 posts of its user, each pasted.
-fn ask_fifty<R: Abort + AllocGlobal + Wait + Clock>(rt: &R, network: &MemoryNetwork, user: &str) {
-    let alloc = rt.alloc();
-    let token = format!(in alloc; "PUT /token/{user}").expect(rt, "memory");
-    let token = outside(rt, token.as_str(), "k");
-    holds(
-        rt,
-        "token",
-        is_done(&call(rt, network, FIRST, token.as_str())),
-    );
-    for n in 0..49u32 {
-        let line = format!(in alloc; "POST /post/{user}/k/{user}{n}").expect(rt, "memory");
-        let post = outside(rt, line.as_str(), "text");
-        holds(
-            rt,
-            "posted",
-            is_done(&call(rt, network, SECOND, post.as_str())),
-        );
-    }
-}
-
-fn ask_all<R: Abort + AllocGlobal + Threads + Wait + Clock + Sync>(
-    rt: &R,
-    network: &MemoryNetwork,
-) {
-    let two = |one: &str, other: &str| {
-        thread::join(
-            rt,
-            || ask_fifty(rt, network, one),
-            || ask_fifty(rt, network, other),
-        );
-    };
-    thread::join(rt, || two("ann", "bob"), || two("cid", "dot"));
-    holds(rt, "legal", wait_legal(rt, network, SECOND, AUDIT_ASKBOT));
-    let stopped = call(rt, network, SECOND, STOP_ASKBOT);
-    holds(rt, "stopped", is_reply(&stopped, STOPPED));
-}
-
-// Four clients make 200 requests beside each other, and each answer has its receipt: 4 tokens, and 196 posts with two calls each.
-#[test]
-fn serves_many(rt: HostRuntime) {
-    let network = MemoryNetwork::new(rt.alloc(), patience(), failing(&rt, 0));
-    let (came, _) = thread::join(
-        &rt,
-        || run(&rt, &network, "@posts", &OpenGate, NONE),
-        || ask_all(&rt, &network),
-    );
-    let well = Came::Well {
-        services: 3,
-        answers: 592,
     };
     holds(&rt, "as many receipts as answers", came == well);
 }

@@ -6,9 +6,11 @@ use io_links::MemoryNetwork;
 use journal_rows::{Row, Verdict};
 use lang_core::Bytes;
 use node_run::{Joined, RunRefused};
+use peer_seal::seal_text;
 use service_core::Service;
 use std::alloc::Global;
 use std::process::Abort;
+use std::str;
 use std::sync::Wait;
 use std::time::{Clock, Duration};
 use world_file::{Setup, built_in};
@@ -70,6 +72,19 @@ pub fn outside(rt: &(impl Abort + AllocGlobal), line: &str, body: &str) -> Strin
     ).expect(rt, "memory")
 }
 
+/// What an operator sends to a service of a world that comes with the program.
+pub fn operator(rt: &(impl Abort + AllocGlobal), service: &str, word: &str, body: &str) -> String {
+    let alloc: Global = rt.alloc();
+    let sealed = format!(in alloc;
+        "POST /aire/console/{word}\nAire-Dest: {service}\nAire-Who: root\n\n{body}"
+    ).expect(rt, "memory");
+    let seal = seal_text(alloc, b"c", sealed.as_bytes()).expect(rt, "memory");
+    let (seal, length) = (seal.as_str(), body.len());
+    format!(in alloc;
+        "POST /aire/console/{word} HTTP/1.1\r\nAire-Dest: {service}\r\nAire-Who: root\r\nAire-Seal: {seal}\r\nContent-Length: {length}\r\n\r\n{body}"
+    ).expect(rt, "memory")
+}
+
 /// What comes back to a client that sends this.
 pub fn call<R: Abort + AllocGlobal + Wait + Clock>(
     rt: &R,
@@ -101,6 +116,17 @@ pub fn replies(reply: &Option<Bytes>, status: &str, body: &str) -> bool {
     }
 }
 
+/// The number of the request that a reply answers, in digits, behind the service's name and `/`.
+pub fn number<'a>(reply: &'a Option<Bytes>, service: &str) -> Option<&'a str> {
+    let Some(bytes) = reply else {
+        return None;
+    };
+    let text = str::from_utf8(bytes.as_slice()).ok()?;
+    let (_, named) = text.split_once("Aire-Request-Id: ")?;
+    let (id, _) = named.split_once("\r\n")?;
+    id.strip_prefix(service)
+}
+
 /// Whether what came back is an answer without a body, with status 200.
 pub fn is_done(reply: &Option<Bytes>) -> bool {
     replies(reply, "HTTP/1.1 200 OK\r\n", "\r\n\r\n")
@@ -124,6 +150,8 @@ fn live_answers(service: &Service) -> u64 {
 pub enum Came {
     /// So many services and so many live answers, as many receipts, and a Legal verdict.
     Well { services: u64, answers: u64 },
+    /// As many receipts as live answers, and this row of a service's journal is found forged.
+    Forged { service: u64, row: u64 },
     /// Not as many receipts as live answers, or another verdict.
     Ill,
     NoMemory,
@@ -132,23 +160,31 @@ pub enum Came {
     Unequal,
 }
 
-fn came_well<C: Connection>(joined: &Joined<C>) -> Came {
+fn end_well<C: Connection>(joined: &Joined<C>) -> Came {
     let mut answers = 0u64;
     for service in &joined.services {
         answers = answers.saturating_add(live_answers(service));
     }
-    if joined.receipts.len() as u64 == answers && joined.verdict == Verdict::Legal {
-        let services = joined.services.len() as u64;
-        Came::Well { services, answers }
-    } else {
-        Came::Ill
+    if joined.receipts.len() as u64 != answers {
+        return Came::Ill;
+    }
+    match joined.verdict {
+        Verdict::Legal => Came::Well {
+            services: joined.services.len() as u64,
+            answers,
+        },
+        Verdict::Forged { at, index } => Came::Forged {
+            service: at,
+            row: index,
+        },
+        _ => Came::Ill,
     }
 }
 
 /// What it came to. The last connection is dropped.
-pub fn came<C: Connection + Drop>(ran: Result<Joined<C>, RunRefused>) -> Came {
+pub fn end_of<C: Connection + Drop>(ran: Result<Joined<C>, RunRefused>) -> Came {
     match ran {
-        Ok(joined) => came_well(&joined),
+        Ok(joined) => end_well(&joined),
         Err(RunRefused::NoMemory) => Came::NoMemory,
         Err(RunRefused::DoorFault) => Came::DoorFault,
         Err(RunRefused::NotStarted) => Came::NotStarted,

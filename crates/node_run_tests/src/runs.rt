@@ -1,7 +1,7 @@
 // Runs over a network in memory.
-use crate::given::{Came, came, failing, world};
-use io_links::{Gate, MemoryDoor, MemoryLink, MemoryNetwork, MemorySpawner};
-use node_run::run_nodes;
+use crate::given::{Came, end_of, failing, world};
+use io_links::{Gate, MemoryCall, MemoryDoor, MemoryLink, MemoryNetwork, MemorySpawner};
+use node_run::{Joined, RunRefused, run_nodes};
 use recorded_inputs::{ScriptClock, ScriptWords};
 use std::process::Abort;
 use std::sync::Wait;
@@ -22,20 +22,20 @@ pub const NONE: Failing = Failing {
 };
 
 /// Runs the world of this word until somebody stops it.
-pub fn run<R: Abort + AllocGlobal + Threads + Wait + Clock + Sync, G: Gate + Sync>(
-    rt: &R,
-    network: &MemoryNetwork,
+pub fn joined<'a, R: Abort + AllocGlobal + Threads + Wait + Clock + Sync, G: Gate + Sync>(
+    rt: &'a R,
+    network: &'a MemoryNetwork,
     word: &str,
     gate: &G,
     fails: Failing,
-) -> Came {
+) -> Result<Joined<MemoryCall<'a, R>>, RunRefused> {
     let alloc = rt.alloc();
     let mut doors = MemoryDoor::new(rt, alloc, network, failing(rt, fails.listen));
     let links = MemoryLink::new(rt, alloc, network);
     let mut clock = ScriptClock::new();
     let mut words = ScriptWords::new();
     let mut spawner = MemorySpawner::new(failing(rt, fails.start));
-    came(run_nodes(
+    run_nodes(
         rt,
         alloc,
         world(rt, word),
@@ -45,5 +45,16 @@ pub fn run<R: Abort + AllocGlobal + Threads + Wait + Clock + Sync, G: Gate + Syn
         &mut words,
         &mut spawner,
         gate,
-    ))
+    )
+}
+
+/// What such a run comes to.
+pub fn run<R: Abort + AllocGlobal + Threads + Wait + Clock + Sync, G: Gate + Sync>(
+    rt: &R,
+    network: &MemoryNetwork,
+    word: &str,
+    gate: &G,
+    fails: Failing,
+) -> Came {
+    end_of(joined(rt, network, word, gate, fails))
 }
