@@ -1,8 +1,8 @@
 #!/usr/bin/env bash
 # What a served world costs while nobody asks, how long a request takes beside a thousand clients who say nothing, and how long a stop
 # takes beside them. Then requests by second and their 99th percentile for GET and PUT as `@notes` has them, with 1, 4 and 8 workers,
-# beside nginx that answers a fixed text and beside a small Flask service under gunicorn, each request on a connection of its
-# own, in one run, as ratios; and requests that call another service, with one worker and with two. It wants ab, nginx, flask
+# beside nginx that answers a fixed text and beside a small Flask service under gunicorn with 1 and 4 processes, each request on a
+# connection of its own, in one run, as ratios; and requests that call another service, with one worker and with two. It wants ab, nginx, flask
 # and gunicorn, and installs nothing itself:
 #     apt-get install apache2-utils nginx-light gunicorn python3-flask
 # Where one of them isn't here it says so, and measures the rest. usage: bench/serve.sh [REQUESTS [CLIENTS]]
@@ -48,7 +48,7 @@ measure() { # NAME URL [what ab is told besides]
         /^Requests per second/ { rate = $4 }
         /^Failed requests/ { failed = $3 }
         /^ *99%/ { late = $2 }
-        END { printf "%-12s %9.0f requests a second, 99 of 100 within %s ms, %d failed\n", name, rate, late, failed }' "$folder/ab" | tee -a "$folder/all"
+        END { printf "%-13s %9.0f requests a second, 99 of 100 within %s ms, %d failed\n", name, rate, late, failed }' "$folder/ab" | tee -a "$folder/all"
 }
 
 # A world whose first service listens at port 8181, and the second at 8182.
@@ -160,19 +160,31 @@ def put(key):
 def get(key):
     return notes.get(key, ("hello", 200))
 END
-    (cd "$folder" && exec gunicorn -w 4 -b 127.0.0.1:8184 notes:app >/dev/null 2>&1) &
-    pids+=($!)
-    if listens 8184; then
-        measure flask-put http://127.0.0.1:8184/n/a -u "$folder/body" -T text/plain
-        measure flask-get http://127.0.0.1:8184/n/a
-    fi
+    # Of several processes each has notes of its own: only one process keeps what is put.
+    for workers in 1 4; do
+        port=$((8183 + workers))
+        (cd "$folder" && exec gunicorn -w "$workers" -b "127.0.0.1:$port" notes:app >/dev/null 2>&1) &
+        flask=$!
+        pids+=("$flask")
+        if listens "$port"; then
+            measure "flask-put-$workers" "http://127.0.0.1:$port/n/a" -u "$folder/body" -T text/plain
+            measure "flask-get-$workers" "http://127.0.0.1:$port/n/a"
+        fi
+        kill "$flask"
+        wait "$flask" || true
+    done
 fi
 
 awk '{ rate[$1] = $2 }
     function beside(what, one, other) { if (rate[one] && rate[other]) printf "%s: %.2f\n", what, rate[one] / rate[other] }
     END {
-        beside("get with 4 workers, beside flask with 4", "get-4", "flask-get")
-        beside("put with 4 workers, beside flask with 4", "put-4", "flask-put")
+        beside("get with 1 worker, beside flask with 1", "get-1", "flask-get-1")
+        beside("put with 1 worker, beside flask with 1", "put-1", "flask-put-1")
+        beside("get with 4 workers, beside flask with 1", "get-4", "flask-get-1")
+        beside("put with 4 workers, beside flask with 1", "put-4", "flask-put-1")
+        beside("get with 4 workers, beside flask with 4", "get-4", "flask-get-4")
+        beside("put with 4 workers, beside flask with 4", "put-4", "flask-put-4")
+        beside("get with 1 worker, beside nginx", "get-1", "nginx-get")
         beside("get with 4 workers, beside nginx", "get-4", "nginx-get")
         beside("calls with 2 workers, beside 1", "call-2", "call-1")
     }' "$folder/all"
