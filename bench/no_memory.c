@@ -3,6 +3,8 @@
    ALLOCATIONS names. */
 #include <stdio.h>
 #include <stdlib.h>
+#include <sys/syscall.h>
+#include <unistd.h>
 
 void *__libc_malloc(size_t size);
 void *__libc_calloc(size_t count, size_t size);
@@ -27,6 +29,14 @@ __attribute__((destructor)) static void end(void)
         return;
     fprintf(file, "%lu\n", allocations);
     fclose(file);
+}
+
+/* A program may end by this, which calls no destructor. */
+void _exit(int status)
+{
+    end();
+    for (;;)
+        syscall(SYS_exit_group, status);
 }
 
 static int is_refused(void)

@@ -140,7 +140,7 @@ fn serves_a_whole_request_late(rt: HostRuntime) {
     let mut late = client(&rt, address);
     send(&rt, &mut late, b"GET /b\n\n");
     holds(&rt, "served", serve(&ear, 1));
-    thread::sleep(&rt, short() + short());
+    thread::sleep(&rt, Duration::from_millis(600));
     holds(&rt, "served", serve(&ear, 1));
     comes(&rt, &mut first, "ok GET /a\n\n");
     comes(&rt, &mut late, "ok GET /b\n\n");

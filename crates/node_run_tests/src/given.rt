@@ -1,4 +1,5 @@
 // Assertions, what clients send, and what a run came to.
+ghost use Rattle.std.specs.Prelude.{IfSome};
 ghost use Rattle.world_file.specs.Worlds.{KnowEachOther};
 
 use io_edge::Connection;
@@ -54,13 +55,24 @@ pub fn failing(rt: &(impl Abort + AllocGlobal), call: u64) -> Vec<u64> {
     vec![in rt.alloc(); call].expect(rt, "memory")
 }
 
+// The world that comes with the program under this word.
+fn found(alloc: Global, word: &str) -> Option<Vec<Setup>>
+    ensures { IfSome result (λ setups. KnowEachOther setups.items) }
+{
+    match built_in(alloc, word) {
+        Ok(Some(setups)) => Some(setups),
+        _ => None,
+    }
+}
+
 /// A world that comes with the program.
-#[tactic(auto, using(world_file::proofs::Standards::built_in_knows))]
 pub fn world(rt: &(impl Abort + AllocGlobal), word: &str) -> Vec<Setup>
     ensures { KnowEachOther result.items }
 {
-    let found = built_in(rt.alloc(), word).expect(rt, "memory");
-    found.expect(rt, word)
+    match found(rt.alloc(), word) {
+        Some(setups) => setups,
+        None => panic!(rt; "{word}"),
+    }
 }
 
 /// What an outside client sends.
