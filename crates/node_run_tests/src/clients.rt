@@ -8,7 +8,7 @@ use io_links::{MemoryGate, MemoryNetwork, OpenGate};
 use std::process::Abort;
 use std::sync::Wait;
 use std::thread::{self, Threads};
-use std::time::Clock;
+use std::time::{Clock, Duration};
 
 /// Where the first service of a world listens.
 pub const FIRST: &str = "127.0.0.1:8101";
@@ -16,7 +16,7 @@ pub const FIRST: &str = "127.0.0.1:8101";
 /// Where the second does.
 pub const SECOND: &str = "127.0.0.1:8102";
 
-/// Asks for the verdict until it is Legal, at most 10,000 times.
+/// Asks for the verdict until it is Legal, every five milliseconds and at most 10,000 times.
 pub fn wait_legal<R: Abort + AllocGlobal + Wait + Clock>(
     rt: &R,
     network: &MemoryNetwork,
@@ -27,6 +27,7 @@ pub fn wait_legal<R: Abort + AllocGlobal + Wait + Clock>(
         if is_reply(&call(rt, network, address, audit), LEGAL) {
             return true;
         }
+        thread::sleep(rt, Duration::from_millis(5));
     }
     false
 }

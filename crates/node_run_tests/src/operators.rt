@@ -7,7 +7,7 @@ use lang_core::Bytes;
 use std::process::Abort;
 use std::sync::Wait;
 use std::thread;
-use std::time::Clock;
+use std::time::{Clock, Duration};
 
 fn ask<R: Abort + AllocGlobal + Wait + Clock>(
     rt: &R,
@@ -23,7 +23,7 @@ fn ask<R: Abort + AllocGlobal + Wait + Clock>(
     )
 }
 
-// Asks until it is replied so, at most 10,000 times.
+// Asks until it is replied so, every five milliseconds and at most 10,000 times.
 fn wait_for<R: Abort + AllocGlobal + Wait + Clock>(
     rt: &R,
     network: &MemoryNetwork,
@@ -36,6 +36,7 @@ fn wait_for<R: Abort + AllocGlobal + Wait + Clock>(
         if replies(&reply, "HTTP/1.1 200 OK\r\n", told) {
             return true;
         }
+        thread::sleep(rt, Duration::from_millis(5));
     }
     false
 }
