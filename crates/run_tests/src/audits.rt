@@ -45,7 +45,7 @@ fn audited<R: Threads + Wait + Clock + Sync>(
     })?;
     let files = MemoryFiles::new(files, Vec::new(alloc));
     let network = MemoryNetwork::new(alloc, Duration::from_secs(1), Vec::new(alloc));
-    Ok(commanded(rt, alloc, &network, words, files, (0, 0))?)
+    Ok(commanded(rt, alloc, &network, words, files, (0, 0, 0))?)
 }
 
 // That an audit with these words, of this file, ends so.

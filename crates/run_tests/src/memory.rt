@@ -37,22 +37,22 @@ pub fn ran_over(
     Ok((ended.status, out))
 }
 
-/// A command with these words and files, over this network and without input, where the call of the door and the start of a thread
-/// with these numbers, counted from 1, fail, and none where that is 0: its status, and what was written.
+/// A command with these words and files, over this network and without input, where the call of the door, the start of a thread and
+/// the write with these numbers, counted from 1, fail, and none where that is 0: its status, and what was written.
 pub fn commanded<R: Threads + Wait + Clock + Sync>(
     rt: &R,
     alloc: Global,
     network: &MemoryNetwork,
     words: &[&str],
     files: MemoryFiles,
-    fails: (u64, u64),
+    fails: (u64, u64, u64),
 ) -> Result<(u8, MemorySink), AllocError> {
     let mut owned = Vec::new(alloc);
     for word in words {
         owned.push(String::from_str(alloc, word)?)?;
     }
     let mut files = files;
-    let mut out = MemorySink::new(alloc, Vec::new(alloc));
+    let mut out = MemorySink::new(alloc, vec![in alloc; fails.2]?);
     let ended = aire(
         rt,
         alloc,

@@ -45,7 +45,7 @@ fn is_told<R: Abort>(rt: &R, came: &(u8, MemorySink), status: u8, told: &str) {
 fn ends<R: Abort + AllocGlobal + Threads + Wait + Clock + Sync>(
     rt: &R,
     words: &[&str],
-    fails: (u64, u64),
+    fails: (u64, u64, u64),
     status: u8,
     told: &str,
 ) {
@@ -57,19 +57,31 @@ fn ends<R: Abort + AllocGlobal + Threads + Wait + Clock + Sync>(
 
 #[test]
 fn serves_nothing(rt: HostRuntime) {
-    ends(&rt, &["serve"], (0, 0), 2, "usage: word 1\n");
-    ends(&rt, &["serve", "-x"], (0, 0), 2, "usage: word 1\n");
+    ends(&rt, &["serve"], (0, 0, 0), 2, "usage: word 1\n");
+    ends(&rt, &["serve", "-x"], (0, 0, 0), 2, "usage: word 1\n");
     ends(
         &rt,
         &["serve", "@notes", "again"],
-        (0, 0),
+        (0, 0, 0),
         2,
         "usage: word 2\n",
     );
-    ends(&rt, &["serve", "ill.json"], (0, 0), 3, "world refused 1\n");
-    ends(&rt, &["serve", "none.json"], (0, 0), 4, "read fault\n");
-    ends(&rt, &["serve", "@shops"], (2, 0), 7, "door fault\n");
-    ends(&rt, &["serve", "@shops"], (0, 3), 8, "worker not started\n");
+    ends(
+        &rt,
+        &["serve", "ill.json"],
+        (0, 0, 0),
+        3,
+        "world refused 1\n",
+    );
+    ends(&rt, &["serve", "none.json"], (0, 0, 0), 4, "read fault\n");
+    ends(&rt, &["serve", "@shops"], (2, 0, 0), 7, "door fault\n");
+    ends(
+        &rt,
+        &["serve", "@shops"],
+        (0, 3, 0),
+        8,
+        "worker not started\n",
+    );
 }
 
 // What a door told so far.
@@ -139,21 +151,28 @@ fn visit<R: Abort + AllocGlobal + Wait + Clock>(rt: &R, network: &MemoryNetwork)
     );
 }
 
-// Two requests, each with its receipt, and then an operator's.
-#[test]
-fn serves_until_it_is_stopped(rt: HostRuntime) {
+// What a world that is served comes to once it was visited, where the write of this number fails.
+fn visited<R: Abort + AllocGlobal + Threads + Wait + Clock + Sync>(
+    rt: &R,
+    write_fails: u64,
+    status: u8,
+    told: &str,
+) {
     let alloc = rt.alloc();
     let network = network(alloc);
     let files = MemoryFiles::new(Seq::new(alloc), Vec::new(alloc));
+    let fails = (0, 0, write_fails);
     let (came, ()) = thread::join(
-        &rt,
-        || commanded(&rt, alloc, &network, &["serve", "@notes"], files, (0, 0)),
-        || visit(&rt, &network),
+        rt,
+        || commanded(rt, alloc, &network, &["serve", "@notes"], files, fails),
+        || visit(rt, &network),
     );
-    is_told(
-        &rt,
-        &came.expect(&rt, "memory"),
-        0,
-        "notes receipts 2\nlegal\n",
-    );
+    is_told(rt, &came.expect(rt, "memory"), status, told);
+}
+
+// Two requests, each with its receipt, and then an operator's; and what was served, of which nothing can be written.
+#[test]
+fn serves_until_it_is_stopped(rt: HostRuntime) {
+    visited(&rt, 0, 0, "notes receipts 2\nlegal\n");
+    visited(&rt, 1, 5, "");
 }
