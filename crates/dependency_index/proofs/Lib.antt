@@ -4,3 +4,4 @@ pub mod NumberLemmas
 pub mod PutLemmas
 pub mod RoomLemmas
 pub mod ScanLemmas
+pub mod HandedOn

@@ -1,7 +1,7 @@
 -- The forms of names and of users.
 use Rattle.std.specs.Prelude.{ℕ, Bool, ◌&&◌, ◌||◌, not, List, nat_eq, nat_le, ◌==◌, length}
 use Rattle.std.specs.List.{list_all}
-use Rattle.lang_base.specs.Characters.{is_digit, is_lower, is_visible}
+use Rattle.lang_tree.specs.HandedOn.{is_digit, is_lower, is_visible}
 
 abbrev pub is_name_byte : ℕ → Bool
 is_name_byte b = is_lower b || is_digit b || b == 95

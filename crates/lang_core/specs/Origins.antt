@@ -1,6 +1,6 @@
 -- Where requests come from.
 use Rattle.std.specs.Prelude.{ℕ, Bool, false, ◌&&◌, List, nat_eq}
-use Rattle.lang_base.specs.Texts.{same_text}
+use Rattle.lang_tree.specs.HandedOn.{same_text}
 use Rattle.lang_core.specs.declared.ids.Origin.{Origin}
 use Rattle.lang_core.specs.declared.ids.Origin.TheVariants.{Outside, Call}
 

@@ -3,7 +3,7 @@ use Rattle.std.specs.Prelude.{ℕ, suc, ◌≤◌, ◌<◌, ◌≡◌, Bool, tru
 use Rattle.std.specs.declared.cmp.Ordering.{Ordering}
 use Rattle.std.specs.declared.cmp.Ordering.TheVariants.{Less, Equal, Greater}
 use Rattle.std.specs.Ordering.{ordering_then}
-use Rattle.lang_base.specs.Texts.{same_text, text_order}
+use Rattle.lang_tree.specs.HandedOn.{same_text, text_order}
 
 -- a place in the rows
 pub record Place : Type 0 where

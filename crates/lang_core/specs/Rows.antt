@@ -2,7 +2,7 @@
 use Rattle.std.specs.Prelude.{ℕ, ◌+◌, Bool, ◌&&◌, ◌||◌, List, [], ◌∷◌, Option, Some, None, if◌then◌else◌, nat_lt, length, filter, fold}
 use Rattle.std.specs.Option.{option_map, option_map_or}
 use Rattle.std.specs.List.{find}
-use Rattle.lang_base.specs.Texts.{same_text, begins_with}
+use Rattle.lang_tree.specs.HandedOn.{same_text, begins_with}
 use Rattle.lang_core.specs.Places.{Place, place_of, same_place, set_in, unset_in}
 use Rattle.lang_core.specs.declared.cells.Cell.{Cell}
 use Rattle.lang_core.specs.declared.writes.Write.{Write}

@@ -5,7 +5,7 @@ ghost use Rattle.lang_core.specs.Places.{Place, place_of};
 ghost use Rattle.lang_core.specs.Rows.{get, scan, is_beneath};
 
 use crate::place::{ByPlace, Placed};
-use lang_base::{Copied, NoMemory, Same, Text};
+use lang_tree::{Copied, NoMemory, Same, Text};
 use std::alloc::Global;
 
 /// The most cells that a scan takes before it stops.

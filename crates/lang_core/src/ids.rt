@@ -3,7 +3,7 @@ ghost use Rattle.std.specs.Prelude.{◌≡◌, ◌↔◌, IfOk, IsTrue, if◌the
 ghost use Rattle.std.specs.List.{list_all};
 ghost use Rattle.lang_core.specs.Names.{is_name_byte, is_name};
 
-use lang_base::{Copied, NoMemory, Same, Seq, Text};
+use lang_tree::{Copied, NoMemory, Same, Seq, Text};
 use std::alloc::Global;
 use std::marker::Model;
 

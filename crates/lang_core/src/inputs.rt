@@ -1,7 +1,7 @@
 // What a request draws from outside its rows.
 ghost use Rattle.std.specs.Prelude.{◌≤◌};
 
-use lang_base::{Copied, NoMemory};
+use lang_tree::{Copied, NoMemory};
 use std::alloc::Global;
 
 /// The last moment that a clock tells, the greatest signed number of 64 bits.

@@ -16,11 +16,10 @@ mod writes;
 pub use cells::{Cell, Cells, MOST_SCAN_BYTES, MOST_SCAN_CELLS, row_get, row_scan};
 pub use ids::{CallId, LONGEST_NAME, Name, Names, Origin, RequestId, is_name, is_name_byte};
 pub use inputs::{Inputs, LAST_MOMENT};
-pub use lang_base::{Bytes, Copied, FaultNote, NoMemory, Same, Seq, Text, all_visible};
 pub use lang_tree::{
-    Block, Boxed, Expr, Items, LONGEST_PATH, LONGEST_TEXT, LONGEST_WORD, MOST_DEPTH, MOST_SEGMENTS,
-    Method, Op, Program, Route, Routes, Stmt, is_literal, is_path, is_word, method_named,
-    method_word,
+    Block, Boxed, Bytes, Copied, Expr, FaultNote, Items, LONGEST_PATH, LONGEST_TEXT, LONGEST_WORD,
+    MOST_DEPTH, MOST_SEGMENTS, Method, NoMemory, Op, Program, Route, Routes, Same, Seq, Stmt, Text,
+    all_visible, is_literal, is_path, is_word, method_named, method_word,
 };
 pub use place::{ByPlace, Placed};
 pub use request::{Answers, LONGEST_WHO, Request, Response, is_who};

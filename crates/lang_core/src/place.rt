@@ -3,7 +3,7 @@ ghost use Rattle.std.specs.Prelude.{◌≡◌, ◌↔◌, [], ◌∷◌, ◌++�
 ghost use Rattle.std.specs.Option.{option_copied};
 ghost use Rattle.lang_core.specs.Places.{Place, IsOrdered, IsRank, place_of, place_order, same_place, set_in, unset_in, rank, is_taken, past};
 
-use lang_base::{Copied, NoMemory, Same, Text, all_same, copied_items};
+use lang_tree::{Copied, NoMemory, Same, Text, all_same, copied_items};
 use std::alloc::Global;
 use std::cmp::Ordering;
 use std::marker::Model;

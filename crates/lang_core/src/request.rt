@@ -3,8 +3,7 @@ ghost use Rattle.std.specs.Prelude.{◌≡◌};
 ghost use Rattle.lang_core.specs.Names.{is_who};
 
 use crate::ids::Names;
-use lang_base::{Copied, NoMemory, Same, Seq, Text, all_visible, both};
-use lang_tree::Method;
+use lang_tree::{Copied, Method, NoMemory, Same, Seq, Text, all_visible, both};
 use std::alloc::Global;
 
 /// The most bytes of a user's name or a token.

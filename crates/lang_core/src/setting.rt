@@ -2,8 +2,7 @@
 ghost use Rattle.std.specs.Prelude.{Contains};
 
 use crate::ids::{Name, Names};
-use lang_base::{Copied, NoMemory};
-use lang_tree::Program;
+use lang_tree::{Copied, NoMemory, Program};
 use std::alloc::Global;
 
 /// A service's own name, the services that it may call, its program, and how heavy its journal may grow. Its own

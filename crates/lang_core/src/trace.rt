@@ -6,7 +6,7 @@ use crate::cells::Cells;
 use crate::ids::Name;
 use crate::request::{Answers, Request, Response};
 use crate::writes::Writes;
-use lang_base::{Copied, NoMemory, Same, Seq, Text, both};
+use lang_tree::{Copied, NoMemory, Same, Seq, Text, both};
 use std::alloc::Global;
 
 /// What a run read of its rows, and what it found.

@@ -1,5 +1,5 @@
 // Values of the handler language.
-use lang_base::{Copied, NoMemory, Text};
+use lang_tree::{Copied, NoMemory, Text};
 use std::alloc::Global;
 
 /// A value of the handler language.

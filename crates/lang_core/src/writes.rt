@@ -5,7 +5,7 @@ ghost use Rattle.lang_core.specs.Rows.{after_write, apply, get, written};
 
 use crate::cells::{Cell, Cells};
 use crate::place::{ByPlace, Placed, set_in_room, unset_items};
-use lang_base::{Copied, NoMemory, Same, Text, copied_items};
+use lang_tree::{Copied, NoMemory, Same, Text, copied_items};
 use std::alloc::Global;
 
 /// A text that is to stand at a key of a table, or none.

@@ -14,8 +14,8 @@ use Rattle.lang_core.specs.declared.cells.Cell.{Cell}
 use Rattle.lang_core.specs.declared.writes.Write.{Write}
 use Rattle.lang_core.proofs.ReadLemmas.{find-set_in, find-unset_in, other_place, place_is, place_same}
 use Rattle.lang_core.proofs.RowLemmas.{ordered-apply, ordered-filter, ordered-text}
-use Rattle.versioned_rows.proofs.PrefixLemmas.{same_ordered}
-use Rattle.dependency_index.specs.declared.reads.ReadAt.{ReadAt}
+use Rattle.log_index.proofs.HandedOn.{same_ordered}
+use Rattle.log_index.specs.HandedOn.{ReadAt}
 use Rattle.log_index.specs.Marks.{changes, is_among, lacking, looks_at, sees}
 
 -- the cell at a place

@@ -3,9 +3,9 @@ use Rattle.std.proofs.Common.{◌≡◌, ℕ, suc, ◌+◌, ◌-◌, ◌≤◌, 
 use Rattle.lang_core.specs.declared.request.Response.{Response}
 use Rattle.lang_core.specs.declared.trace.CallMade.{CallMade}
 use Rattle.lang_core.specs.declared.trace.Trace.{Trace}
-use Rattle.handler_run.specs.Laws.{calls_of}
-use Rattle.handler_run.specs.declared.state.Ran.{Ran}
-use Rattle.handler_run.specs.declared.state.Ran.TheVariants.{Done, Wants}
+use Rattle.execution.specs.HandedOn.{calls_of}
+use Rattle.execution.specs.HandedOn.{Ran}
+use Rattle.execution.specs.HandedOn.{Done, Wants}
 use Rattle.local_repair.specs.Current.{Consumed}
 use Rattle.local_repair.specs.Steps.{tentative, same_call, consumed_if_same_call, answer_at, answers_for, ended_or, trace_through}
 use Rattle.local_repair.proofs.HandlerLemmas.{IsSteady}

@@ -11,8 +11,8 @@ use Rattle.request_log.specs.Entries.{changed, has_id, with_entry, KeptLog}
 use Rattle.request_log.specs.Keys.{number_of, entry_key}
 use Rattle.request_log.specs.declared.entry.Entry.{Entry}
 use Rattle.request_log.proofs.ChangeLemmas.{changed_place, not_found, unknown, Leaves}
-use Rattle.versioned_rows.proofs.IndexLemmas.{position_is}
-use Rattle.dependency_index.specs.Reads.{read_at}
+use Rattle.log_index.proofs.HandedOn.{position_is}
+use Rattle.log_index.specs.HandedOn.{read_at}
 use Rattle.log_index.specs.Marks.{KeptMarks, changes, is_marked}
 use Rattle.local_repair.specs.Current.{Consumed, AllCurrent, IsFirstStale, rows_after, writes_of}
 use Rattle.local_repair.specs.Held.{IsHeld, IsIdMarked, IsKept, IsMarkedBehind}

@@ -10,9 +10,9 @@ use Rattle.lang_core.specs.declared.trace.Read.{Read}
 use Rattle.lang_core.specs.declared.trace.Read.TheVariants.{Key, Scan}
 use Rattle.lang_core.specs.declared.writes.Write.{Write}
 use Rattle.lang_core.proofs.RowLemmas.{ordered-apply}
-use Rattle.handler_run.specs.Reads.{Gives, GivesAll}
+use Rattle.execution.specs.HandedOn.{Gives, GivesAll}
 use Rattle.request_log.specs.declared.entry.Entry.{Entry}
-use Rattle.dependency_index.specs.Reads.{read_at}
+use Rattle.log_index.specs.HandedOn.{read_at}
 use Rattle.log_index.specs.Marks.{looks_at, sees}
 use Rattle.local_repair.proofs.AgreeLemmas.{AlikeBut, alike_but_all, get_same, place_same_after, scan_same, key_not_written, scan_not_written, sees_parts, ordered_rows}
 use Rattle.local_repair.specs.Current.{writes_of, after_entry, rows_after}

@@ -7,12 +7,12 @@ use Rattle.lang_core.specs.declared.request.Response.{Response}
 use Rattle.lang_core.specs.declared.setting.Setting.{Setting}
 use Rattle.lang_core.specs.declared.trace.CallMade.{CallMade}
 use Rattle.lang_core.specs.declared.trace.Trace.{Trace}
-use Rattle.handler_run.specs.Handlers.{run_of}
-use Rattle.handler_run.specs.Laws.{calls_of}
-use Rattle.handler_run.specs.Reads.{GivesAll}
-use Rattle.handler_run.specs.declared.state.Ran.{Ran}
-use Rattle.handler_run.specs.declared.state.Ran.TheVariants.{Done, Wants}
-use Rattle.handler_run.proofs.RunLaws.{starts, goes_on_wants, few_wants, takes_done, counts_done, reads_done, same_done}
+use Rattle.execution.specs.HandedOn.{run_of}
+use Rattle.execution.specs.HandedOn.{calls_of}
+use Rattle.execution.specs.HandedOn.{GivesAll}
+use Rattle.execution.specs.HandedOn.{Ran}
+use Rattle.execution.specs.HandedOn.{Done, Wants}
+use Rattle.execution.proofs.HandedOn.{starts, goes_on_wants, few_wants, takes_done, counts_done, reads_done, same_done}
 
 -- a run takes its answers one by one, each for the call that wanted it
 pub record IsSteady (run : List Response → Ran) : Type 0 where

@@ -12,11 +12,11 @@ use Rattle.lang_core.specs.Rows.{cell_place}
 use Rattle.lang_core.specs.declared.cells.Cell.{Cell}
 use Rattle.lang_core.specs.declared.writes.Write.{Write}
 use Rattle.lang_core.proofs.RowLemmas.{ordered-apply}
-use Rattle.handler_run.specs.Reads.{GivesAll}
+use Rattle.execution.specs.HandedOn.{GivesAll}
 use Rattle.request_log.specs.declared.entry.Entry.{Entry}
 use Rattle.request_log.specs.declared.entry.Made.{Made}
-use Rattle.dependency_index.specs.Reads.{read_at}
-use Rattle.dependency_index.specs.declared.reads.ReadAt.{ReadAt}
+use Rattle.log_index.specs.HandedOn.{read_at}
+use Rattle.log_index.specs.HandedOn.{ReadAt}
 use Rattle.log_index.specs.Rows.{rows_made}
 use Rattle.log_index.proofs.EditLemmas.{map_insert}
 use Rattle.log_index.specs.Marks.{KeptMarks, is_marked, sees, sees_behind}

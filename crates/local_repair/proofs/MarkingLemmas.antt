@@ -2,7 +2,7 @@
 use Rattle.std.proofs.Common.{◌≡◌, ℕ, zero, suc, ◌<◌, true, false, ◌||◌, List, [], ◌∷◌, nat_eq, length, get_or, sym, ap, ◌∙◌, subst, inl, inr, arith, eqb-true}
 use Rattle.std.specs.List.{AllByRecursion}
 use Rattle.std.proofs.lemmas.Bool.{cases_Bool}
-use Rattle.dependency_index.specs.Numbers.{Rises}
+use Rattle.log_index.specs.HandedOn.{Rises}
 use Rattle.log_index.specs.Marks.{is_marked}
 
 rest_marked : (q x : ℕ) (xs : List ℕ) → nat_eq q x ≡ false → is_marked q (x ∷ xs) ≡ true → is_marked q xs ≡ true

@@ -7,9 +7,9 @@ use Rattle.lang_core.specs.Rows.{apply}
 use Rattle.lang_core.specs.declared.cells.Cell.{Cell}
 use Rattle.lang_core.specs.declared.setting.Setting.{Setting}
 use Rattle.lang_core.specs.declared.trace.Trace.{Trace}
-use Rattle.handler_run.specs.Handlers.{run_of}
-use Rattle.handler_run.specs.declared.state.Ran.TheVariants.{Done}
-use Rattle.handler_run.proofs.RunLaws.{counts_done}
+use Rattle.execution.specs.HandedOn.{run_of}
+use Rattle.execution.specs.HandedOn.{Done}
+use Rattle.execution.proofs.HandedOn.{counts_done}
 use Rattle.execution.specs.Executions.{IsPlayed, IsReplay, Replays}
 use Rattle.request_log.specs.Entries.{is_alive}
 use Rattle.request_log.specs.Records.{record_in}

@@ -10,9 +10,9 @@ use Rattle.lang_core.specs.declared.request.Request.{Request}
 use Rattle.lang_core.specs.declared.setting.Setting.{Setting}
 use Rattle.lang_core.specs.declared.trace.CallMade.{CallMade}
 use Rattle.lang_core.specs.declared.trace.Trace.{Trace}
-use Rattle.handler_run.specs.Handlers.{run_of}
-use Rattle.handler_run.specs.Reads.{Gives, GivesAll}
-use Rattle.handler_run.specs.declared.state.Ran.TheVariants.{Done}
+use Rattle.execution.specs.HandedOn.{run_of}
+use Rattle.execution.specs.HandedOn.{Gives, GivesAll}
+use Rattle.execution.specs.HandedOn.{Done}
 use Rattle.request_log.specs.Entries.{is_alive, with_run}
 use Rattle.request_log.specs.declared.entry.Entry.{Entry}
 use Rattle.request_log.specs.declared.entry.Made.{Made}

@@ -1,8 +1,8 @@
 -- What a run that ended leaves.
 use Rattle.lang_core.specs.Traces.{dead_trace}
 use Rattle.lang_core.specs.declared.trace.Trace.{Trace}
-use Rattle.handler_run.specs.declared.state.Ran.{Ran}
-use Rattle.handler_run.specs.declared.state.Ran.TheVariants.{Done, Wants}
+use Rattle.execution.specs.HandedOn.{Ran}
+use Rattle.execution.specs.HandedOn.{Done, Wants}
 
 -- the trace of a run that ended
 abbrev pub trace_or_dead : Ran → Trace

@@ -8,9 +8,9 @@ use Rattle.lang_core.specs.declared.inputs.Inputs.{Inputs}
 use Rattle.lang_core.specs.declared.request.Response.{Response}
 use Rattle.lang_core.specs.declared.setting.Setting.{Setting}
 use Rattle.lang_core.specs.declared.writes.Write.{Write}
-use Rattle.handler_run.specs.Handlers.{run_of}
-use Rattle.handler_run.specs.Reads.{GivesAll}
-use Rattle.handler_run.specs.declared.state.Ran.TheVariants.{Done}
+use Rattle.execution.specs.HandedOn.{run_of}
+use Rattle.execution.specs.HandedOn.{GivesAll}
+use Rattle.execution.specs.HandedOn.{Done}
 use Rattle.request_log.specs.Entries.{is_alive}
 use Rattle.request_log.specs.declared.entry.Entry.{Entry}
 use Rattle.request_log.specs.declared.entry.Made.{Made}

@@ -6,12 +6,12 @@ use Rattle.lang_core.specs.Rows.{write_place}
 use Rattle.lang_core.specs.declared.cells.Cell.{Cell}
 use Rattle.lang_core.specs.declared.trace.Read.{Read}
 use Rattle.lang_core.specs.declared.writes.Write.{Write}
-use Rattle.handler_run.specs.Reads.{GivesAll}
+use Rattle.execution.specs.HandedOn.{GivesAll}
 use Rattle.request_log.specs.Entries.{has_id, is_alive, IsLog}
 use Rattle.request_log.specs.declared.entry.Entry.{Entry}
 use Rattle.request_log.specs.declared.entry.Made.{Made}
-use Rattle.dependency_index.specs.Reads.{read_at}
-use Rattle.dependency_index.specs.declared.reads.ReadAt.{ReadAt}
+use Rattle.log_index.specs.HandedOn.{read_at}
+use Rattle.log_index.specs.HandedOn.{ReadAt}
 use Rattle.log_index.specs.Marks.{KeptMarks, changes, is_marked, sees}
 use Rattle.local_repair.specs.Current.{Consumed, IsCurrent, rows_after, base_rows}
 use Rattle.local_repair.specs.Written.{all_written}

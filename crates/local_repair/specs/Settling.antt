@@ -5,8 +5,8 @@ use Rattle.lang_core.specs.declared.cells.Cell.{Cell}
 use Rattle.lang_core.specs.declared.request.Response.{Response}
 use Rattle.lang_core.specs.declared.setting.Setting.{Setting}
 use Rattle.lang_core.specs.declared.trace.Trace.{Trace}
-use Rattle.handler_run.specs.Handlers.{run_of}
-use Rattle.handler_run.specs.declared.state.Ran.TheVariants.{Done}
+use Rattle.execution.specs.HandedOn.{run_of}
+use Rattle.execution.specs.HandedOn.{Done}
 use Rattle.request_log.specs.Entries.{with_run}
 use Rattle.request_log.specs.declared.entry.Entry.{Entry}
 use Rattle.local_repair.specs.Current.{AllCurrent, AllRuns}

@@ -9,9 +9,9 @@ use Rattle.lang_core.specs.declared.request.Response.{Response}
 use Rattle.lang_core.specs.declared.setting.Setting.{Setting}
 use Rattle.lang_core.specs.declared.trace.CallMade.{CallMade}
 use Rattle.lang_core.specs.declared.trace.Trace.{Trace}
-use Rattle.handler_run.specs.Handlers.{run_of}
-use Rattle.handler_run.specs.declared.state.Ran.{Ran as Outcome}
-use Rattle.handler_run.specs.declared.state.Ran.TheVariants.{Done, Wants}
+use Rattle.execution.specs.HandedOn.{run_of}
+use Rattle.execution.specs.HandedOn.{Ran as Outcome}
+use Rattle.execution.specs.HandedOn.{Done, Wants}
 use Rattle.request_log.specs.Entries.{is_alive}
 use Rattle.request_log.specs.Records.{record_in, recorded_calls}
 use Rattle.request_log.specs.declared.entry.Entry.{Entry}

@@ -2,7 +2,7 @@
 ghost use Rattle.std.specs.Prelude.{ℕ, ◌≡◌, ◌↔◌, ◌<◌, ◌≤◌, true, length, map, IsTrue, MatchOption};
 ghost use Rattle.std.specs.List.{HoldsAt};
 ghost use Rattle.std.specs.Option.{option_copied};
-ghost use Rattle.handler_run.specs.Reads.{Gives, GivesAll};
+ghost use Rattle.execution.specs.HandedOn.{Gives, GivesAll};
 ghost use Rattle.log_index.specs.Rows.{rows_before};
 ghost use Rattle.log_index.specs.Marks.{AreMarks};
 ghost use Rattle.local_repair.specs.Current.{AreChecked, IsCurrentRecord, IsCurrent, AllCurrent, IsFirstStale, base_rows};

@@ -1,7 +1,7 @@
 // A log, and its repair.
 ghost use Rattle.std.specs.Prelude.{ℕ, ◌≡◌, ◌↔◌, ◌+◌, ◌<◌, ◌≤◌, ◌&&◌, not, nat_lt, [], ◌∷◌, ◌++◌, All, Err, Ok, IfOk, OnOk, OnErr, MatchOption, insert, length, map, take, slice_set, slice_index_or, find, is_some};
 ghost use Rattle.request_log.specs.Entries.{changed, has_id, mark, replace, IsNew, IsKnown, with_entry};
-ghost use Rattle.dependency_index.specs.Reads.{read_at};
+ghost use Rattle.log_index.specs.HandedOn.{read_at};
 ghost use Rattle.log_index.specs.Marks.{is_marked, IsReadyToSet as IsReadyToMark};
 ghost use Rattle.log_index.specs.Rows.{IsReadyToSet};
 ghost use Rattle.local_repair.specs.Current.{AllCurrent, AreChecked, AllRuns, rows_after, writes_of, base_rows};

@@ -1,14 +1,14 @@
 // A new record of an entry, which its run gives.
 ghost use Rattle.std.specs.Prelude.{◌≡◌, [], IfOk, Some, true, false};
-ghost use Rattle.handler_run.specs.Handlers.{run_of};
-ghost use Rattle.handler_run.specs.declared.state.Ran.{Ran};
+ghost use Rattle.execution.specs.HandedOn.{run_of};
+ghost use Rattle.execution.specs.HandedOn.{Ran};
 ghost use Rattle.lang_core.specs.Traces.{dead_trace};
 ghost use Rattle.request_log.specs.Entries.{is_alive};
 ghost use Rattle.local_repair.specs.Steps.{tentative, answer_at, answers_for, calls_of_made, same_call, is_new_answer, trace_through, trace_again, IsRerun};
 ghost use Rattle.local_repair.specs.Parts.{same_response};
 
 use crate::slots::Slots;
-use handler_run::{Ran, View, run};
+use execution::{Ran, View, run};
 use lang_core::{Answers, CallMade, Copied, NoMemory, Response, Same, Seq, Setting, Text, Trace};
 use request_log::{Entry, Made, dead_trace};
 use std::alloc::Global;

@@ -1,5 +1,5 @@
 // The rows at a place of a log, as a run sees them.
-use handler_run::View;
+use execution::View;
 use lang_core::{Cells, Copied, NoMemory, Text};
 use log_index::EntryRows;
 use std::alloc::Global;

@@ -5,3 +5,4 @@ pub mod ReadyLemmas
 pub mod BehindLemmas
 pub mod MarkLemmas
 pub mod NotedLemmas
+pub mod HandedOn

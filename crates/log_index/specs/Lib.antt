@@ -1,3 +1,4 @@
+pub mod HandedOn
 pub mod Rows
 pub mod Marks
 pub mod Places

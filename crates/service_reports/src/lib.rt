@@ -5,6 +5,6 @@ mod lines;
 mod previews;
 mod reports;
 
+pub use preview_core::Service;
 pub use previews::{Unshown, cancellation_shown};
 pub use reports::{log_of, notices_of, rows_of};
-pub use service_core::Service;

@@ -4,11 +4,10 @@ ghost use Rattle.std.specs.List.{flat_map};
 ghost use Rattle.service_reports.specs.Lines.{call_text, or_nothing, place_text, post_line, row_line, run_line, shown_text};
 
 use lang_core::{Name, NoMemory, Text, Write};
-use preview_core::{PostOne, Preview, RanOne};
+use preview_core::{PostOne, Preview, RanOne, Service};
 use repair_messages::{PostName, kind_word};
 use report_text::{push_body_behind, push_key, push_response};
 use request_names::push_id;
-use service_core::Service;
 use std::alloc::Global;
 
 fn push_run(text: &mut String, me: &Name, one: &RanOne) -> Result<(), NoMemory>

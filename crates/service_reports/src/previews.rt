@@ -7,8 +7,7 @@ ghost use Rattle.service_reports.specs.Previews.{IsPreviewOf, IsShownOf, reason}
 
 use crate::lines::shown_lines;
 use lang_core::{NoMemory, Text};
-use preview_core::{Preview, PreviewRefused, Trial, Trials, preview};
-use service_core::Service;
+use preview_core::{Preview, PreviewRefused, Service, Trial, Trials, preview};
 use service_events::OrderRefused;
 use std::alloc::Global;
 

@@ -3,9 +3,9 @@ ghost use Rattle.std.specs.Prelude.{◌≡◌, IfOk};
 ghost use Rattle.service_reports.specs.Reports.{log_of_service, notices_of_service, rows_of_service};
 
 use lang_core::{NoMemory, Text};
+use preview_core::Service;
 use repair_queue::notices;
 use report_text::{log_text, notices_text, rows_text};
-use service_core::Service;
 use std::alloc::Global;
 
 /// Its rows.

@@ -1,6 +1,6 @@
 use Rattle.std.proofs.Common.{refl, subst}
 use Rattle.std.proofs.lemmas.List.Elements.{All-more}
-use Rattle.handler_run.specs.Reads.{Gives}
+use Rattle.execution.specs.HandedOn.{Gives}
 use Rattle.log_index.specs.Rows.{rows_before}
 use Rattle.local_repair.proofs.current.reads_hold.Goals as goal
 

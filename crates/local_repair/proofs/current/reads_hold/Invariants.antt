@@ -1,5 +1,5 @@
 use Rattle.std.proofs.Common.{take}
-use Rattle.handler_run.specs.Reads.{GivesAll}
+use Rattle.execution.specs.HandedOn.{GivesAll}
 use Rattle.log_index.specs.Rows.{rows_before}
 use Rattle.local_repair.proofs.current.reads_hold.Given as goal
 

@@ -1,7 +1,7 @@
 use Rattle.std.proofs.Common.{◌∙◌, sym, subst, ap, List}
 use Rattle.lang_core.specs.declared.request.Response.{Response}
-use Rattle.handler_run.specs.Handlers.{run_of}
-use Rattle.handler_run.specs.declared.state.Ran.{Ran}
+use Rattle.execution.specs.HandedOn.{run_of}
+use Rattle.execution.specs.HandedOn.{Ran}
 use Rattle.local_repair.specs.Steps.{answer_at}
 use Rattle.local_repair.proofs.HandlerLemmas.{handler}
 use Rattle.local_repair.proofs.CallsLemmas.{IsTurn, first_turn, turn_more, done_runs, done_answers, done_again}

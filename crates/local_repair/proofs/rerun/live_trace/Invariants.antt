@@ -1,4 +1,4 @@
-use Rattle.handler_run.specs.Handlers.{run_of}
+use Rattle.execution.specs.HandedOn.{run_of}
 use Rattle.local_repair.proofs.CallsLemmas.{IsTurn}
 use Rattle.local_repair.proofs.rerun.live_trace.Given as goal
 

@@ -3,7 +3,7 @@ use Rattle.lang_base.specs.declared.memory.NoMemory.{NoMemory}
 use Rattle.lang_core.specs.Traces.{dead_trace}
 use Rattle.lang_core.specs.declared.trace.CallMade.{CallMade}
 use Rattle.lang_core.specs.declared.trace.Trace.{Trace}
-use Rattle.handler_run.specs.Handlers.{run_of}
+use Rattle.execution.specs.HandedOn.{run_of}
 use Rattle.request_log.specs.Entries.{is_alive}
 use Rattle.local_repair.specs.Steps.{answer_at, calls_of_made, trace_through}
 use Rattle.local_repair.proofs.rerun.new_trace.Goals as goal

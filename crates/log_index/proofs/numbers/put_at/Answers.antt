@@ -1,5 +1,5 @@
 use Rattle.std.proofs.Common.{drop, ap, ◌∙◌, arith}
-use Rattle.versioned_rows.proofs.EditLemmas.{ok_is}
+use Rattle.dependency_index.proofs.HandedOn.{ok_is}
 use Rattle.log_index.proofs.MarkLemmas.{put_behind_front}
 use Rattle.log_index.proofs.numbers.put_at.Goals as goal
 

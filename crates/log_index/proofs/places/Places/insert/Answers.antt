@@ -1,6 +1,6 @@
 use Rattle.std.proofs.Common.{◌≡◌, ℕ, List, sym, ap, ◌∙◌, subst, arith}
 use Rattle.std.specs.List.{insert}
-use Rattle.versioned_rows.proofs.EditLemmas.{ok_is}
+use Rattle.dependency_index.proofs.HandedOn.{ok_is}
 use Rattle.place_order.specs.Labels.{IsNew}
 use Rattle.log_index.specs.Rows.{IsApart}
 use Rattle.log_index.proofs.LabelLemmas.{apart_insert}
