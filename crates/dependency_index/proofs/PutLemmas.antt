@@ -7,7 +7,7 @@ use Rattle.versioned_rows.specs.Rows.{row_place, labels_in, spare_of, spare_in}
 use Rattle.versioned_rows.specs.declared.rows.KeyLabels.{KeyLabels}
 use Rattle.versioned_rows.proofs.EditLemmas.{StandsAt, found_row, labels_here, spare_here, set_labels, set_spare}
 use Rattle.lang_core.proofs.ReadLemmas.{place_is}
-use Rattle.versioned_rows.proofs.SeekLemmas.{find_none}
+use Rattle.lang_core.proofs.SeekLemmas.{find_none}
 use Rattle.dependency_index.specs.Numbers.{with_number}
 use Rattle.dependency_index.proofs.NumberLemmas.{not_empty}
 

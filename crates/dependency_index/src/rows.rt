@@ -11,9 +11,9 @@ ghost use Rattle.dependency_index.specs.declared.reads.ReadKind.{ReadKind};
 
 use crate::numbers::seek_number;
 use crate::reads::{ReadAt, ReadKind};
-use lang_core::{NoMemory, Text};
+use lang_core::{NoMemory, Text, seek};
 use std::alloc::Global;
-use versioned_rows::{KeyRow, copied_rows, drop_label, make_row, seek};
+use versioned_rows::{KeyRow, copied_rows, drop_label, make_row};
 
 /// For each key and each prefix that was ever read, the labels that read it now, in the order of their numbers.
 #[derive(Drop)]

@@ -1,3 +1,4 @@
 pub mod PlaceLemmas
 pub mod ReadLemmas
 pub mod RowLemmas
+pub mod SeekLemmas

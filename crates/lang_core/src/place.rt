@@ -1,5 +1,5 @@
 // What stands at a table and a key, in order.
-ghost use Rattle.std.specs.Prelude.{◌≡◌, ◌↔◌, [], ◌∷◌, ◌++◌, length, slice_get, take, drop, find, IfOk, IsOk, OnOk, OnErr, IsTrue, ◌+◌, ◌<◌, ◌≤◌, vec_len, vec_capacity};
+ghost use Rattle.std.specs.Prelude.{◌≡◌, ◌↔◌, [], ◌∷◌, ◌++◌, length, slice_get, take, drop, find, IfOk, IsOk, OnOk, OnErr, IsTrue, ◌+◌, ◌<◌, ◌≤◌, true, vec_len, vec_capacity};
 ghost use Rattle.std.specs.Option.{option_copied};
 ghost use Rattle.lang_core.specs.Places.{Place, IsOrdered, IsRank, place_of, place_order, same_place, set_in, unset_in, rank, is_taken, past};
 
@@ -41,47 +41,81 @@ impl<T: Placed> Model for ByPlace<T> {
     ghost invariant = { λ l. IsOrdered T.place l.items.items };
 }
 
-fn order_of<T: Placed>(item: &T, table: &Text, key: &Text) -> Ordering
+fn order_of<T: Placed>(item: &T, table: &Text, key: &[u8]) -> Ordering
     ensures { result ≡ place_order (place_of table.now key.now) (T.place item.now) }
 {
     match table.order(item.table()) {
         Ordering::Less => Ordering::Less,
-        Ordering::Equal => key.order(item.key()),
+        Ordering::Equal => key.cmp(item.key().as_bytes()),
         Ordering::Greater => Ordering::Greater,
     }
 }
 
-fn is_at<T: Placed>(item: &T, table: &Text, key: &Text) -> bool
-    ensures { result ≡ same_place (T.place item.now) (place_of table.now key.now) }
+// Whether all of a list are below the place. The last one tells.
+fn are_below<T: Placed>(items: &[T], table: &Text, key: &[u8]) -> bool
+    requires { IsOrdered T.place items.now }
+    ensures { result ≡ true → rank T.place (place_of table.now key.now) items.now ≡ length items.now }
 {
-    item.table().is(table) && item.key().is(key)
+    let len = items.len();
+    if len == 0 {
+        return true;
+    }
+    order_of(&items[len - 1], table, key).is_gt()
 }
 
-// How many items are below the place, and whether something stands there.
-fn seek<T: Placed>(items: &[T], table: &Text, key: &Text) -> (usize, bool)
+// How many items are below the place with a key of these bytes: found by halves, and in one step where all are.
+fn count_below<T: Placed>(items: &[T], table: &Text, key: &[u8]) -> usize
+    requires { IsOrdered T.place items.now }
+    ensures rank { result ≡ rank T.place (place_of table.now key.now) items.now }
+    ensures within { result ≤ length items.now }
+{
+    if are_below(items, table, key) {
+        return items.len();
+    }
+    items.partition_point(|item| order_of(item, table, key).is_gt())
+}
+
+// Whether the item at the rank of a place stands at the place.
+fn stands_at<T: Placed>(items: &[T], at: usize, table: &Text, key: &[u8]) -> bool
+    requires rank { at ≡ rank T.place (place_of table.now key.now) items.now }
+    requires within { at ≤ length items.now }
+    ensures taken { result ≡ is_taken T.place (place_of table.now key.now) items.now }
+    ensures there { result ≡ true → at < length items.now }
+{
+    if at == items.len() {
+        return false;
+    }
+    order_of(&items[at], table, key).is_eq()
+}
+
+/// How many items of a list in order are below the place with a key of these bytes, and whether one stands there. Found
+/// by halves.
+pub fn seek_bytes<T: Placed>(items: &[T], table: &Text, key: &[u8]) -> (usize, bool)
+    requires { IsOrdered T.place items.now }
     ensures rank { result.0 ≡ rank T.place (place_of table.now key.now) items.now }
     ensures taken { result.1 ≡ is_taken T.place (place_of table.now key.now) items.now }
     ensures within { IsRank result.0 result.1 (length items.now) }
 {
-    for (i, item) in items.iter().enumerate() {
-        match order_of(item, table, key) {
-            Ordering::Less => return (i, false),
-            Ordering::Equal => return (i, true),
-            Ordering::Greater => {}
-        }
-    }
-    (items.len(), false)
+    let at = count_below(items, table, key);
+    (at, stands_at(items, at, table, key))
+}
+
+/// How many items of a list in order are below the place, and whether one stands there. Found by halves.
+pub fn seek<T: Placed>(items: &[T], table: &Text, key: &Text) -> (usize, bool)
+    requires { IsOrdered T.place items.now }
+    ensures rank { result.0 ≡ rank T.place (place_of table.now key.now) items.now }
+    ensures taken { result.1 ≡ is_taken T.place (place_of table.now key.now) items.now }
+    ensures within { IsRank result.0 result.1 (length items.now) }
+{
+    seek_bytes(items, table, key.as_bytes())
 }
 
 fn item_at<'a, T: Placed>(items: &'a [T], table: &Text, key: &Text) -> Option<&'a T>
+    requires { IsOrdered T.place items.now }
     ensures { option_copied result ≡ find (λ x. same_place (T.place x) (place_of table.now key.now)) items.now }
 {
-    for item in items {
-        if is_at(item, table, key) {
-            return Some(item);
-        }
-    }
-    None
+    let (at, taken) = seek(items, table, key);
+    if taken { Some(&items[at]) } else { None }
 }
 
 // Puts an item at its rank, in place of the one there.
@@ -115,7 +149,8 @@ fn take_at<T: Drop>(items: &mut Vec<T>, at: usize, taken: bool)
 
 /// Puts an item at its place where there is room for one more.
 pub(crate) fn set_in_room<T: Placed + Drop>(items: &mut Vec<T>, item: T)
-    requires { vec_len items.old < vec_capacity items.old }
+    requires room { vec_len items.old < vec_capacity items.old }
+    requires ordered { IsOrdered T.place items.old.items }
     ensures items { items.new.items ≡ set_in T.place item items.old.items }
     ensures len { vec_len items.new ≤ vec_len items.old + 1 }
     ensures capacity { vec_capacity items.old ≤ vec_capacity items.new }
@@ -127,6 +162,7 @@ pub(crate) fn set_in_room<T: Placed + Drop>(items: &mut Vec<T>, item: T)
 /// Takes away what stands at the place.
 #[tactic(auto, using(crate::proofs::PlaceLemmas::unset_edits))]
 pub(crate) fn unset_items<T: Placed + Drop>(items: &mut Vec<T>, table: &Text, key: &Text)
+    requires { IsOrdered T.place items.old.items }
     ensures items { items.new.items ≡ unset_in T.place (place_of table.now key.now) items.old.items }
     ensures len { vec_len items.new ≤ vec_len items.old }
     ensures capacity { vec_capacity items.new ≡ vec_capacity items.old }

@@ -1,7 +1,7 @@
 // Writes, in the order of table and key, and rows with writes applied.
 ghost use Rattle.std.specs.Prelude.{ℕ, List, ◌≡◌, ◌+◌, ◌≤◌, ◌<◌, OnOk, OnErr, vec_len, vec_capacity};
-ghost use Rattle.lang_core.specs.Places.{place_of};
-ghost use Rattle.lang_core.specs.Rows.{after_write, apply, get, written};
+ghost use Rattle.lang_core.specs.Places.{IsOrdered, place_of};
+ghost use Rattle.lang_core.specs.Rows.{after_write, apply, cell_place, get, written};
 
 use crate::cells::{Cell, Cells};
 use crate::place::{ByPlace, Placed, set_in_room, unset_items};
@@ -48,8 +48,10 @@ impl Same for Write {
 }
 
 fn apply_one(cells: &mut Vec<Cell>, write: Write)
-    requires { vec_len cells.old < vec_capacity cells.old }
+    requires room { vec_len cells.old < vec_capacity cells.old }
+    requires ordered { IsOrdered cell_place cells.old.items }
     ensures cells { cells.new.items ≡ after_write cells.old.items write }
+    ensures ordered { IsOrdered cell_place cells.new.items }
     ensures len { vec_len cells.new ≤ vec_len cells.old + 1 }
     ensures capacity { vec_capacity cells.old ≤ vec_capacity cells.new }
 {
@@ -62,7 +64,8 @@ fn apply_one(cells: &mut Vec<Cell>, write: Write)
 
 // Where there is room for each.
 fn apply_all(cells: &mut Vec<Cell>, writes: Vec<Write>)
-    requires { vec_len cells.old + vec_len writes ≤ vec_capacity cells.old }
+    requires room { vec_len cells.old + vec_len writes ≤ vec_capacity cells.old }
+    requires ordered { IsOrdered cell_place cells.old.items }
     ensures { cells.new.items ≡ apply cells.old.items writes.items }
 {
     for write in writes {

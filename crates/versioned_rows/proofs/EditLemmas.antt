@@ -9,7 +9,7 @@ use Rattle.lang_core.proofs.PlaceLemmas.{set_edits, ordered-set}
 use Rattle.lang_core.proofs.ReadLemmas.{find-set_in, place_is, place_same}
 use Rattle.versioned_rows.specs.Rows.{row_place, held, labels_in, spare_of, spare_in, has_row, KeepsRows}
 use Rattle.versioned_rows.specs.declared.rows.KeyLabels.{KeyLabels}
-use Rattle.versioned_rows.proofs.SeekLemmas.{find_some, find_none}
+use Rattle.lang_core.proofs.SeekLemmas.{find_some, find_none}
 
 passes_if : {X : Type 0} (p : X → Bool) (x y : X) (b : Bool) (o : Option X) → p y ≡ b → cond b (Some y) o ≡ Some x → (o ≡ Some x → p x ≡ true) → p x ≡ true
 passes_if p x y true o h e more = let same : y ≡ x = cc in ap p (sym same) ∙ h

@@ -10,5 +10,4 @@ pub mod PrefixLemmas
 pub mod PutLemmas
 pub mod RisingLemmas
 pub mod RoomLemmas
-pub mod SeekLemmas
 pub mod WriteLemmas

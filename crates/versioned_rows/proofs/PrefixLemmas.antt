@@ -12,7 +12,7 @@ use Rattle.std.proofs.lemmas.Map.Text.{is_eq-slice_cmp}
 use Rattle.lang_base.specs.Texts.{same_text, text_order, begins_with}
 use Rattle.lang_core.specs.Places.{Place, place_of, place_order, same_place, IsBelowAll, IsOrdered, by_order, rank}
 use Rattle.lang_core.proofs.PlaceLemmas.{total, below_before}
-use Rattle.versioned_rows.proofs.SeekLemmas.{none_above}
+use Rattle.lang_core.proofs.SeekLemmas.{none_above}
 use Rattle.lang_core.proofs.ReadLemmas.{same-order, place_is, place_same}
 use Rattle.versioned_rows.specs.Scans.{beneath, while}
 

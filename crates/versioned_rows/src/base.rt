@@ -13,8 +13,7 @@ ghost use Rattle.versioned_rows.specs.declared.rows.KeyLabels.{KeyLabels};
 use crate::places::PlaceWrites;
 use crate::room::VersionsCall;
 use crate::rows::{KeyRow, make_rows};
-use crate::seeking::seek;
-use lang_core::{Cell, Cells, Copied, NoMemory, Same, Text};
+use lang_core::{Cell, Cells, Copied, NoMemory, Same, Text, seek};
 use lang_lists::take_room;
 use std::alloc::Global;
 

@@ -9,12 +9,10 @@ mod labels;
 mod places;
 mod room;
 mod rows;
-mod seeking;
 mod versions;
 
 pub use labels::Labelled;
 pub use places::PlaceWrites;
 pub use room::VersionsCall;
 pub use rows::{KeyLabels, KeyRow, copied_rows, drop_label, labels_at, labels_in, make_row};
-pub use seeking::seek;
 pub use versions::Versions;

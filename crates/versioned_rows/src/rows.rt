@@ -8,9 +8,8 @@ ghost use Rattle.versioned_rows.specs.Places.{is_among, is_written, is_other, wi
 ghost use Rattle.versioned_rows.specs.Rows.{row_place, labels_in, spare_of, spare_in, has_row, IsCopy, IsEdited, KeepsRows};
 
 use crate::labels::{count_before, position_in};
-use crate::seeking::{seek, seek_bytes};
 use lang_base::both;
-use lang_core::{Copied, NoMemory, Placed, Text, Write};
+use lang_core::{Copied, NoMemory, Placed, Text, Write, seek, seek_bytes};
 use place_order::Order;
 use std::alloc::Global;
 use std::marker::Model;

@@ -17,10 +17,10 @@ use crate::labels::{count_before, position_in};
 use crate::places::{PlaceWrites, find_place, position_of, put_instead, take_out, text_at};
 use crate::room::{VersionsCall, ready_writes, take_writes};
 use crate::rows::{KeyRow, copied_rows, labels_in};
-use crate::seeking::seek;
 use lang_base::copied_items;
 use lang_core::{
     Cell, Cells, Copied, MOST_SCAN_BYTES, MOST_SCAN_CELLS, NoMemory, Placed, Same, Text, Writes,
+    seek,
 };
 use place_order::Order;
 use std::alloc::Global;

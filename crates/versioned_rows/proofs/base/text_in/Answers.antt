@@ -2,7 +2,7 @@ use Rattle.std.proofs.Common.{◌≡◌, true, false, sym, ap, ◌∙◌, get_or
 use Rattle.lang_core.specs.Places.{place_of, rank, is_taken}
 use Rattle.lang_core.specs.Rows.{cell_place}
 use Rattle.lang_core.specs.declared.cells.Cell.{Cell}
-use Rattle.versioned_rows.proofs.SeekLemmas.{find_some, find_none}
+use Rattle.lang_core.proofs.SeekLemmas.{find_some, find_none}
 use Rattle.versioned_rows.proofs.base.text_in.Goals as goal
 
 pub returns-then-taken : goal.returns-then-taken

@@ -5,7 +5,7 @@ use Rattle.versioned_rows.specs.Rows.{row_place, labels_in}
 use Rattle.versioned_rows.specs.Places.{is_other}
 use Rattle.versioned_rows.specs.declared.rows.KeyLabels.{KeyLabels}
 use Rattle.versioned_rows.proofs.EditLemmas.{StandsAt, found_row, labels_here, set_ordered, set_labels, set_kept, set_rows, edits_nothing}
-use Rattle.versioned_rows.proofs.SeekLemmas.{find_none}
+use Rattle.lang_core.proofs.SeekLemmas.{find_none}
 use Rattle.versioned_rows.proofs.rows.drop_label.Goals as goal
 
 -- the row of the key

@@ -1,5 +1,5 @@
 -- Where a place stands in a list in order, told by one comparison.
-use Rattle.std.proofs.Common.{◌≡◌, ℕ, zero, suc, ◌<◌, ◌≤◌, true, false, List, [], ◌∷◌, length, get_or, Some, None, refl, sym, ap, ◌∙◌, arith}
+use Rattle.std.proofs.Common.{◌≡◌, ℕ, zero, suc, ◌-◌, ◌<◌, ◌≤◌, true, false, List, [], ◌∷◌, length, get_or, Some, None, refl, sym, ap, ◌∙◌, arith}
 use Rattle.std.specs.declared.cmp.Ordering.{Ordering}
 use Rattle.std.specs.declared.cmp.Ordering.TheVariants.{Less, Equal, Greater}
 use Rattle.std.specs.Ordering.{ordering_reverse, is_eq, is_gt}
@@ -113,3 +113,11 @@ module _ {X : Type 0} (place : X → Place) (p : Place) where
   pub find_some : (xs : List X) (x : X) → is_taken place p xs ≡ true → x ≡ get_or xs (rank place p xs) x → find (λ x. same_place (place x) p) xs ≡ Some x
   find_some [] x h is = cc
   find_some (y ∷ ys) x h is = some_by y x ys (place_order p (place y)) refl h is (find_some ys x)
+
+  -- where the last one is below the place, all are
+  pub rank_last : (xs : List X) (x : X) → IsOrdered place xs → 0 < length xs → x ≡ get_or xs (length xs - 1) x → is_gt (place_order p (place x)) ≡ true → rank place p xs ≡ length xs
+  rank_last xs x o some is below =
+      let last : (d : X) → get_or xs (length xs - 1) d ≡ x = λ d. get_or_default xs (length xs - 1) d x (omega (arith, some)) ∙ sym is in
+      let tests : (d : X) → is_gt (place_order p (place (get_or xs (length xs - 1) d))) ≡ true = λ d. ap (λ z. is_gt (place_order p (place z))) (last d) ∙ below in
+      sym (rank_parted xs (length xs) (omega arith)
+      (λ k d from to. parted xs o k (length xs - 1) d (omega (arith, to, some)) (omega (arith, some)) (tests d), λ k d from to. absurd (omega (arith, from, to))))

@@ -1,7 +1,7 @@
 use Rattle.std.proofs.Common.{sym, ◌∙◌, arith}
 use Rattle.lang_core.specs.Places.{place_of}
-use Rattle.versioned_rows.proofs.SeekLemmas.{taken_nowhere, taken_there}
-use Rattle.versioned_rows.proofs.seeking.stands_at.Goals as goal
+use Rattle.lang_core.proofs.SeekLemmas.{taken_nowhere, taken_there}
+use Rattle.lang_core.proofs.place.stands_at.Goals as goal
 
 pub returns-then-at-items-clause-taken : goal.returns-then-at-items-clause-taken
 returns-then-at-items-clause-taken g c =
