@@ -1,5 +1,5 @@
 -- What comes of live calls.
-use Rattle.std.proofs.Common.{◌≡◌, ℕ, ◌+◌, ◌^◌, ◌<◌, ◌≤◌, inl, inr, Bool, true, false, List, [], ◌∷◌, ◌++◌, Option, Some, None, Result, Ok, Err, IfOk, OnOk, All, refl, sym, ap, ◌∙◌, subst, arith, append_assoc}
+use Rattle.std.proofs.Common.{◌≡◌, ℕ, ◌+◌, ◌^◌, ◌<◌, ◌≤◌, inl, inr, Bool, true, false, List, [], ◌∷◌, ◌++◌, Option, Some, None, Result, Ok, Err, IfOk, OnOk, All, refl, sym, ap, ◌∙◌, subst, arith, append_assoc, if◌then◌else◌}
 use Rattle.std.proofs.lemmas.Bool.{cases_lt}
 use Rattle.std.proofs.lemmas.List.Elements.{All-append, All-cons, All-nil}
 use Rattle.std.proofs.lemmas.List.{append-nil}
@@ -18,14 +18,15 @@ use Rattle.io_links.specs.declared.links.Exchanged.{Exchanged}
 use Rattle.http_front.specs.Answers.{interrupts}
 use Rattle.http_front.specs.declared.message.FrontRefused.{FrontRefused}
 use Rattle.wire_fields.specs.Fits.{lacks_memory}
+use Rattle.wire_fields.specs.declared.refused.WireRefused.{WireRefused}
 use Rattle.wire_replies.specs.declared.kinds.Asking.TheVariants as asked
 use Rattle.wire_replies.specs.declared.replies.Outgoing.{Outgoing}
 use Rattle.wire_replies.specs.declared.replies.Outgoing.TheVariants as replies
-use Rattle.wire_words.specs.Failures.{arrive_refused, call_reply, why_failed}
-use Rattle.wire_bytes.specs.Hearing.{IsRepliedFrom}
+use Rattle.wire_words.specs.Failures.{arrive_refused, why_failed}
+use Rattle.wire_bytes.specs.Hearing.{IsReplied, IsRepliedFrom}
 use Rattle.wire_bytes.specs.declared.hearing.Replied.{Replied}
 use Rattle.node_core.specs.declared.notes.Notes.{Notes as PassNotes}
-use Rattle.node_workers.specs.Calling.{AreCalls, AtLeast, CallSent, CallsMade, CameOf, CountsCalls, FailsOnly, IsCall, IsLost, IsReadAs, IsRefusal, IsRefused, NotesRise, answers_in, is_answer_to, lost_by_one, refused_by_one, replies_so}
+use Rattle.node_workers.specs.Calling.{AreCalls, AtLeast, CallSent, CallsIt, CallsMade, CameOf, CountsCalls, FailsOnly, IsCall, IsLost, IsRefused, NotesRise, answers_call, answers_in, came_in, came_of, is_answer_to, lost_by_one, refused_by_one, replies_so}
 use Rattle.node_workers.specs.Desks.{Endpoint}
 
 -- ---- how many
@@ -128,36 +129,43 @@ counts_untold e n a b calls up =
 
 -- ---- one call
 
--- an answer that was read is the reply's
-pub reads_answer : (set : SetMessage) (reply : Outgoing) (status : ℕ) (a : AnswerMessage) → call_reply reply status ≡ Ok a → replies_so set reply ≡ is_answer_to set a
-reads_answer set (replies.Answered id None response) status a is = absurd (cc is)
-reads_answer set (replies.Answered id (Some b) response) status a is = let same : b ≡ a = cc in ap (is_answer_to set) same
-reads_answer set (replies.Ack ack) status a is = absurd (cc is)
-reads_answer set (replies.Confirm confirm) status a is = absurd (cc is)
-reads_answer set (replies.Refused word n) status a is = absurd (cc is)
+-- it is an answer to the call, or else a refusal, where the reply is none
+abbrev IsReadAs : SetMessage → Bool → Result AnswerMessage Why → Type 0
+IsReadAs set answers (Ok came) = is_answer_to set came ≡ true
+IsReadAs set answers (Err (whys.Refused word number)) = answers ≡ false
+IsReadAs set answers (Err why) = ⊥
 
-failed_so : (refused : Option ArriveRefused) (status : ℕ) → IsRefusal (why_failed refused status)
-failed_so None status = tt
-failed_so (Some arrive.NoMemory) status = tt
-failed_so (Some (arrive.Full n)) status = tt
-failed_so (Some (arrive.NotYet n)) status = tt
-failed_so (Some (arrive.Gone v)) status = tt
+reads_answer : (set : SetMessage) (status : ℕ) (a : AnswerMessage) (answers : Bool) → is_answer_to set a ≡ answers
+    → IsReadAs set answers (if answers then Ok a else Err (why_failed None status))
+reads_answer set status a true is = is
+reads_answer set status a false is = refl
 
-refusal_by : (refused : Option ArriveRefused) (status : ℕ) (why : Why) → ◌≡◌ {A = Result AnswerMessage Why} (Err (why_failed refused status)) (Err why) → IsRefusal why
-refusal_by refused status why is = let same : why_failed refused status ≡ why = cc in subst IsRefusal same (failed_so refused status)
+reads_refusal : (set : SetMessage) (refused : Option ArriveRefused) (status : ℕ) → IsReadAs set false (Err (why_failed refused status))
+reads_refusal set None status = refl
+reads_refusal set (Some arrive.NoMemory) status = refl
+reads_refusal set (Some (arrive.Full n)) status = refl
+reads_refusal set (Some (arrive.NotYet n)) status = refl
+reads_refusal set (Some (arrive.Gone v)) status = refl
 
--- what isn't read as an answer is a refusal
-pub reads_refusal : (set : SetMessage) (reply : Outgoing) (status : ℕ) (why : Why) → call_reply reply status ≡ Err why → (replies_so set reply ≡ false) × IsRefusal why
-reads_refusal set (replies.Answered id None response) status why is = (refl, refusal_by None status why is)
-reads_refusal set (replies.Answered id (Some b) response) status why is = absurd (cc is)
-reads_refusal set (replies.Ack ack) status why is = (refl, refusal_by None status why is)
-reads_refusal set (replies.Confirm confirm) status why is = (refl, refusal_by None status why is)
-reads_refusal set (replies.Refused word n) status why is = (refl, refusal_by (arrive_refused word n) status why is)
+reads_reply : (set : SetMessage) (status : ℕ) (reply : Outgoing) → IsReadAs set (replies_so set reply) (came_in set status (Ok reply))
+reads_reply set status (replies.Answered id None response) = refl
+reads_reply set status (replies.Answered id (Some a) response) = reads_answer set status a (is_answer_to set a) refl
+reads_reply set status (replies.Ack ack) = refl
+reads_reply set status (replies.Confirm confirm) = refl
+reads_reply set status (replies.Refused word n) = reads_refusal set (arrive_refused word n) status
 
--- a response that may answer the call is read as the answer that it brings, where it brings one
-pub read_as : (set : SetMessage) (reply : Outgoing) (status : ℕ) (a : AnswerMessage) (came : Result AnswerMessage Why) → call_reply reply status ≡ Ok a
-    → IsReadAs set (is_answer_to set a) came → IsReadAs set (replies_so set reply) came
-read_as set reply status a came is so = subst (λ (b : Bool). IsReadAs set b came) (sym (reads_answer set reply status a is)) so
+reads_in : (set : SetMessage) (status : ℕ) (reply : Result Outgoing WireRefused) → IsReadAs set (answers_in set reply) (came_in set status reply)
+reads_in set status (Ok reply) = reads_reply set status reply
+reads_in set status (Err why) = refl
+
+reads_so : (set : SetMessage) (read : Result Replied FrontRefused) → IsReadAs set (answers_call set read) (came_of set read)
+reads_so set (Ok replied) = reads_in set replied.status replied.reply
+reads_so set (Err why) = refl
+
+-- what came of a call by its reply
+came_by : (e : Endpoint) (set : SetMessage) (secret bytes : List ℕ) (came : Result AnswerMessage Why) → CameOf e set secret (answers.Reply bytes) came
+    → (read : Result Replied FrontRefused) × (left : List ℕ) × IsReplied e.me set.dest secret asked.Call bytes read left × IsReadAs set (answers_call set read) came
+came_by e set secret bytes came of = (of.0, of.1, of.2, subst (IsReadAs set (answers_call set of.0)) (sym of.3) (reads_so set of.0))
 
 -- ---- its exchange
 
@@ -189,20 +197,20 @@ module _ (e : Endpoint) (set : SetMessage) (secret address bytes : List ℕ) (be
   came_so answer (Ok (Ok a)) sent of = not_counted answer sent
   came_so (answers.Reply back) (Ok (Err (whys.Refused word n))) sent of =
       one_made (answers.Reply back) 0 1 sent (at_least_none IsLost (exchanged (answers.Reply back) ∷ []))
-      (at_least_one (IsRefused e) (exchanged (answers.Reply back)) (record { set = set; secret = secret; sent = sent; bytes = back; reply = refl; no = of }))
-  came_so (answers.Reply back) (Ok (Err (whys.Lost note))) sent of = absurd of
-  came_so (answers.Reply back) (Ok (Err whys.Changes)) sent of = absurd of
+      (at_least_one (IsRefused e) (exchanged (answers.Reply back))
+      (record { set = set; secret = secret; sent = sent; bytes = back; reply = refl; no = came_by e set secret back (Err (whys.Refused word n)) of }))
+  came_so (answers.Reply back) (Ok (Err (whys.Lost note))) sent of = absurd (came_by e set secret back (Err (whys.Lost note)) of).3
+  came_so (answers.Reply back) (Ok (Err whys.Changes)) sent of = absurd (came_by e set secret back (Err whys.Changes) of).3
   came_so answers.NoMemory (Ok (Err why)) sent of = absurd of
   came_so (answers.Failed note) (Ok (Err (whys.Lost fault))) sent of =
       one_made (answers.Failed note) 1 0 sent (at_least_one IsLost (exchanged (answers.Failed note)) tt) (at_least_none (IsRefused e) (exchanged (answers.Failed note) ∷ []))
-  came_so (answers.Failed note) (Ok (Err (whys.Refused word n))) sent of = absurd of
-  came_so (answers.Failed note) (Ok (Err whys.Changes)) sent of = absurd of
+  came_so (answers.Failed note) (Ok (Err (whys.Refused word n))) sent of = absurd (cc of)
+  came_so (answers.Failed note) (Ok (Err whys.Changes)) sent of = absurd (cc of)
 
-  -- an exchange for which memory was wanting wasn't made, and nothing came of it but an answer that was there
+  -- an exchange for which memory was wanting wasn't made, and nothing came of it
   unsent : (came : Came) → IfOk came (CameOf e set secret answers.NoMemory) → now ≡ before → CallsMade e (lost_by_one came) (refused_by_one came) before now
   unsent (Err why) of same = none_made e before now same
-  unsent (Ok (Ok a)) of same = none_made e before now same
-  unsent (Ok (Err why)) of same = absurd of
+  unsent (Ok came) of same = absurd of
 
   -- what a call leaves of its link
   pub one_call : (answer : Exchange) (came : Came) → Sent answer → Leaves before now address bytes answer → IfOk came (CameOf e set secret answer)
@@ -211,26 +219,33 @@ module _ (e : Endpoint) (set : SetMessage) (secret address bytes : List ℕ) (be
   one_call answers.NoMemory came sent same of = unsent came of same
   one_call (answers.Failed note) came sent made of = λ all is. (exchanged (answers.Failed note) ∷ [], made all is, came_so (answers.Failed note) came sent of)
 
+  -- where something came of it, it was made
+  call_made : (came : Result AnswerMessage Why) (answer : Exchange) → Sent answer → Leaves before now address bytes answer → CameOf e set secret answer came
+      → CallsIt e set came before now
+  call_made came (answers.Reply back) sent made of = λ all is. (exchanged (answers.Reply back), made all is, record { secret = secret; sent = sent; so = of })
+  call_made came answers.NoMemory sent same of = absurd of
+  call_made came (answers.Failed note) sent made of = λ all is. (exchanged (answers.Failed note), made all is, record { secret = secret; sent = sent; so = of })
+
+  pub calls_it : (answer : Exchange) (came : Came) → Sent answer → Leaves before now address bytes answer → IfOk came (CameOf e set secret answer)
+      → IfOk came (λ (c : Result AnswerMessage Why). CallsIt e set c before now)
+  calls_it answer (Ok came) sent made of = call_made came answer sent made of
+  calls_it answer (Err why) sent made of = tt
+
 -- ---- what the bytes of a reply say
 
 module _ (e : Endpoint) (set : SetMessage) (secret bytes : List ℕ) (before now : Reads) (left : before.left ≡ Some bytes) where
   -- a response
   pub response_came : (heard : Replied) (came : Came) → IsRepliedFrom e.me set.dest secret asked.Call before now (Ok heard)
-      → IfOk came (IsReadAs set (answers_in set heard.reply)) → OnOk came (lacks_memory heard.reply ≡ false)
+      → IfOk came (λ (c : Result AnswerMessage Why). c ≡ came_in set heard.status heard.reply) → OnOk came (lacks_memory heard.reply ≡ false)
       → IfOk came (CameOf e set secret (answers.Reply bytes))
   response_came heard (Err why) from is read = tt
-  response_came heard (Ok (Ok a)) from is read = is
-  response_came heard (Ok (Err (whys.Refused word n))) from is read = (let found = from read bytes left in (Ok heard, found.0, found.2, is.0))
-  response_came heard (Ok (Err (whys.Lost note))) from is read = absurd is.1
-  response_came heard (Ok (Err whys.Changes)) from is read = absurd is.1
+  response_came heard (Ok came) from is read = (let found = from read bytes left in (Ok heard, found.0, found.2, is))
 
   -- none
   pub nothing_came : (why : FrontRefused) (came : Came) → IsRepliedFrom e.me set.dest secret asked.Call before now (Err why)
       → IfOk came (λ (c : Result AnswerMessage Why). c ≡ Err (why_failed None 0)) → OnOk came (interrupts why ≡ false)
       → IfOk came (CameOf e set secret (answers.Reply bytes))
-  nothing_came why (Ok came) from is whole =
-      let found = from whole bytes left in
-      subst (CameOf e set secret (answers.Reply bytes)) (sym is) (Err why, found.0, found.2, refl)
+  nothing_came why (Ok came) from is whole = (let found = from whole bytes left in (Err why, found.0, found.2, is))
   nothing_came why (Err lacks) from is whole = tt
 
 -- ---- what was lost
@@ -239,9 +254,9 @@ module _ (e : Endpoint) (set : SetMessage) (secret bytes : List ℕ) (before now
 pub not_lost : (e : Endpoint) (set : SetMessage) (secret back : List ℕ) (came : Came) → IfOk came (CameOf e set secret (answers.Reply back)) → 0 < lost_by_one came → ⊥
 not_lost e set secret back (Err why) of one = omega (arith, one)
 not_lost e set secret back (Ok (Ok a)) of one = omega (arith, one)
-not_lost e set secret back (Ok (Err (whys.Lost note))) of one = of
+not_lost e set secret back (Ok (Err (whys.Lost note))) of one = (came_by e set secret back (Err (whys.Lost note)) of).3
 not_lost e set secret back (Ok (Err (whys.Refused word n))) of one = omega (arith, one)
-not_lost e set secret back (Ok (Err whys.Changes)) of one = of
+not_lost e set secret back (Ok (Err whys.Changes)) of one = omega (arith, one)
 
 rises_by : (top was stands before now : ℕ) → was ≡ before → stands ≡ now → before ≤ now → (was + 1 < top → was < stands) → now + 1 < top → before < now
 rises_by top was stands before now from to counted rise room = (let up = rise (omega (arith, from, counted, room)) in omega (arith, from, to, up))
@@ -259,6 +274,6 @@ fails_only e set secret answer (Err why) of = tt
 fails_only e set secret answer (Ok (Ok a)) of = tt
 fails_only e set secret answer (Ok (Err (whys.Lost note))) of = tt
 fails_only e set secret answer (Ok (Err (whys.Refused word n))) of = tt
-fails_only e set secret (answers.Reply back) (Ok (Err whys.Changes)) of = absurd of
+fails_only e set secret (answers.Reply back) (Ok (Err whys.Changes)) of = absurd (came_by e set secret back (Err whys.Changes) of).3
 fails_only e set secret answers.NoMemory (Ok (Err whys.Changes)) of = absurd of
-fails_only e set secret (answers.Failed note) (Ok (Err whys.Changes)) of = absurd of
+fails_only e set secret (answers.Failed note) (Ok (Err whys.Changes)) of = absurd (cc of)

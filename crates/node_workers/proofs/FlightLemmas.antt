@@ -29,7 +29,7 @@ use Rattle.node_core.specs.declared.notes.Notes.{Notes}
 use Rattle.node_core.specs.declared.receipt.Receipt.{Receipt}
 use Rattle.node_workers.specs.Calling.{FailsOnly, lost_in, refused_in}
 use Rattle.node_workers.specs.Desks.{Endpoint}
-use Rattle.node_workers.specs.Flying.{ArrivesAs, BeginsSo, EndsSo, GoesOn, IfAccepted, IsGivenUp, IsWaiting, NotesAtMost, RefusesAs, SentBy, began_of, end_of_call, went_by, went_of}
+use Rattle.node_workers.specs.Flying.{ArrivesAs, BeginsSo, EndsSo, GoesOn, IfAccepted, IsGivenUp, IsTold, IsWaiting, NotesAtMost, RefusesAs, SentBy, began_of, end_of_call, went_by, went_of}
 use Rattle.node_workers.specs.Serving.{OneReceipt}
 use Rattle.node_workers.specs.Turns.{Made}
 use Rattle.node_workers.specs.declared.flying.Went.{Went}
@@ -162,7 +162,7 @@ module _ (e : Endpoint) (flight number : ℕ) (before now : Notes) (had have : L
       subst (GoesOn e b.origin b.request b.inputs flight now had have) (sym is) (told_leads e b flight number before now had have at here.0 came answer m same)
 
   -- how the open flight goes on
-  pub goes_so : IsSomeAnd before.begun (λ (b : Begun). (b.flight ≡ flight) × (b.number ≡ number))
+  goes_so : IsSomeAnd before.begun (λ (b : Begun). (b.flight ≡ flight) × (b.number ≡ number))
       → IsSomeAnd before.begun (λ (b : Begun). GoesOn e b.origin b.request b.inputs flight now had have way)
   goes_so here = goes_by before.begun refl here
 
@@ -222,13 +222,124 @@ module _ (before now : Notes) (flight number : ℕ) where
   failed_most why done.Gone how = kept_at (Err why) done.Gone how refl refl
 
   -- no more is counted than came of the call
-  pub told_most : (name : List ℕ) (had have : List Receipt) (came : Result AnswerMessage Why) (answer : Result NodeDone LacksMemory)
+  told_most : (name : List ℕ) (had have : List Receipt) (came : Result AnswerMessage Why) (answer : Result NodeDone LacksMemory)
       → IfOk answer (Made name before now had have (end_of_call flight number came)) → OnErr answer ((now ≡ before) × (have ≡ had))
       → NotesAtMost before now (lost_in came) (refused_in came)
   told_most name had have (Ok a) (Ok answer) m same = kept_at (Ok a) answer (me m.left, m.notes) refl refl
   told_most name had have (Err why) (Ok answer) m same = failed_most why answer (me m.left, m.notes)
   told_most name had have came (Err why) m same =
       at_most before now (lost_in came) (refused_in came) (ap (λ (n : Notes). n.lost) same.0) (ap (λ (n : Notes). n.refused) same.0)
+
+-- ---- in one event, or in two
+
+module _ (e : Endpoint) (flight number : ℕ) (before now : Notes) (had have : List Receipt) where
+  abbrev Told : Result AnswerMessage Why → Went → Type 0
+  Told came way = IsTold e flight number came before now had have way
+
+  -- how the open flight goes on
+  pub goes_told : (came : Result AnswerMessage Why) (way : Went) → Told came way → IsSomeAnd before.begun (λ (b : Begun). (b.flight ≡ flight) × (b.number ≡ number))
+      → IsSomeAnd before.begun (λ (b : Begun). GoesOn e b.origin b.request b.inputs flight now had have way)
+  goes_told came way told here =
+      subst (λ (o : Option Begun). IsSomeAnd o (λ (b : Begun). GoesOn e b.origin b.request b.inputs flight now had have way)) told.begun
+      (goes_so e flight number told.since now had have came told.answer way told.goes told.made told.nothing
+      (subst (λ (o : Option Begun). IsSomeAnd o (IsOf flight number)) (sym told.begun) here))
+
+  -- no more is counted than came of the call
+  pub most_told : (came : Result AnswerMessage Why) (way : Went) → Told came way → NotesAtMost before now (lost_in came) (refused_in came)
+  most_told came way told =
+      let most = told_most told.since now flight number e.me had have came told.answer told.made told.nothing in
+      let l = most.lost_at_most in
+      let r = most.refused_at_most in
+      let lost = told.lost in
+      let refused = told.refused in
+      record { lost_at_most = omega (arith, lost, l); refused_at_most = omega (arith, refused, r) }
+
+-- the open flight, and what is counted
+abbrev IsLeft : Notes → Notes → Type 0
+IsLeft before now = (now.begun ≡ before.begun) × (now.lost ≡ before.lost) × (now.refused ≡ before.refused)
+
+module _ (e : Endpoint) (flight number : ℕ) (before now : Notes) (had have : List Receipt) where
+  abbrev MadeOf : Result AnswerMessage Why → NodeDone → Type 0
+  MadeOf came answer = Made e.me before now had have (end_of_call flight number came) answer
+
+  left_answered : (a : AnswerMessage) (answer : NodeDone) → MadeOf (Ok a) answer → went.NoMemory ≡ went_of (Ok answer) → IsLeft before now
+  left_answered a (done.CallAnswered (Ok (arrived.Done index id sent))) m lacks = absurd (cc lacks)
+  left_answered a (done.CallAnswered (Ok (arrived.Call next set))) m lacks = absurd (cc lacks)
+  left_answered a (done.CallAnswered (Ok (arrived.Known known))) m lacks =
+      (ap (λ (n : Notes). n.begun) m.notes, ap (λ (n : Notes). n.lost) m.notes, ap (λ (n : Notes). n.refused) m.notes)
+  left_answered a (done.CallAnswered (Err why)) m lacks =
+      (ap (λ (n : Notes). n.begun) m.notes, ap (λ (n : Notes). n.lost) m.notes, ap (λ (n : Notes). n.refused) m.notes)
+  left_answered a done.Gone m lacks = absurd (cc lacks)
+  left_answered a (done.Arrive result) m lacks = absurd m.made.1
+  left_answered a (done.CallFailed result) m lacks = absurd m.made.1
+  left_answered a (done.Abandon found) m lacks = absurd m.made.1
+  left_answered a (done.Take result) m lacks = absurd m.made.1
+  left_answered a (done.TakeAnswer result) m lacks = absurd m.made.1
+  left_answered a (done.NextPost name) m lacks = absurd m.made.1
+  left_answered a (done.WritePost result) m lacks = absurd m.made.1
+  left_answered a (done.Posted result) m lacks = absurd m.made.1
+  left_answered a (done.Step result) m lacks = absurd m.made.1
+  left_answered a (done.Order result) m lacks = absurd m.made.1
+
+  left_failed : (why : Why) (answer : NodeDone) → MadeOf (Err why) answer → went.NoMemory ≡ went_of (Ok answer) → IsLeft before now
+  left_failed why (done.CallFailed (Ok (arrived.Done index id sent))) m lacks = absurd (cc lacks)
+  left_failed why (done.CallFailed (Ok (arrived.Call next set))) m lacks = absurd (cc lacks)
+  left_failed why (done.CallFailed (Ok (arrived.Known known))) m lacks =
+      absurd (accepted_by call_memory (SentBy (me m.service)) (call_failed_event m.service flight number why) m.service m.left (Ok (arrived.Known known)) m.made.1.0
+      (failed_sent m.service flight number why))
+  left_failed why (done.CallFailed (Err refused)) m lacks =
+      (ap (λ (n : Notes). n.begun) m.notes, ap (λ (n : Notes). n.lost) m.notes, ap (λ (n : Notes). n.refused) m.notes)
+  left_failed why done.Gone m lacks = absurd (cc lacks)
+  left_failed why (done.Arrive result) m lacks = absurd m.made.1
+  left_failed why (done.CallAnswered result) m lacks = absurd m.made.1
+  left_failed why (done.Abandon found) m lacks = absurd m.made.1
+  left_failed why (done.Take result) m lacks = absurd m.made.1
+  left_failed why (done.TakeAnswer result) m lacks = absurd m.made.1
+  left_failed why (done.NextPost name) m lacks = absurd m.made.1
+  left_failed why (done.WritePost result) m lacks = absurd m.made.1
+  left_failed why (done.Posted result) m lacks = absurd m.made.1
+  left_failed why (done.Step result) m lacks = absurd m.made.1
+  left_failed why (done.Order result) m lacks = absurd m.made.1
+
+  left_by : (came : Result AnswerMessage Why) (answer : Result NodeDone LacksMemory) → IfOk answer (MadeOf came) → OnErr answer ((now ≡ before) × (have ≡ had))
+      → went.NoMemory ≡ went_of answer → IsLeft before now
+  left_by (Ok a) (Ok answer) m same lacks = left_answered a answer m lacks
+  left_by (Err why) (Ok answer) m same lacks = left_failed why answer m lacks
+  left_by came (Err why) m same lacks = (ap (λ (n : Notes). n.begun) same.0, ap (λ (n : Notes). n.lost) same.0, ap (λ (n : Notes). n.refused) same.0)
+
+module _ (e : Endpoint) (flight number : ℕ) (came : Result AnswerMessage Why) (before mid : Notes) (had held : List Receipt)
+    (lacks : IsTold e flight number came before mid had held went.NoMemory) (here : IsSomeAnd before.begun (λ (b : Begun). (b.flight ≡ flight) × (b.number ≡ number))) where
+  left_so : IsLeft before mid
+  left_so =
+      let left = left_by e flight number lacks.since mid had held came lacks.answer lacks.made lacks.nothing lacks.goes in
+      (left.0 ∙ lacks.begun, left.1 ∙ lacks.lost, left.2 ∙ lacks.refused)
+
+  no_receipt : held ≡ had
+  no_receipt =
+      from_some before.begun (λ (b : Begun). GoesOn e b.origin b.request b.inputs flight mid had held went.NoMemory) (held ≡ had) (λ b goes. goes.1)
+      (goes_told e flight number before mid had held came went.NoMemory lacks here)
+
+  -- where memory was wanting, the flight waits for that call as before
+  pub waits_again : IsSomeAnd mid.begun (λ (b : Begun). (b.flight ≡ flight) × (b.number ≡ number))
+  waits_again = subst (λ (o : Option Begun). IsSomeAnd o (IsOf flight number)) (sym left_so.0) here
+
+  -- and then it is told again
+  pub told_again : (copy : Result AnswerMessage Why) (now : Notes) (have : List Receipt) (way : Went) → copy ≡ came
+      → IsTold e flight number copy mid now held have way → IsTold e flight number came before now had have way
+  told_again copy now have way same told =
+      let again : IsTold e flight number came mid now had have way =
+      subst (λ (h : List Receipt). IsTold e flight number came mid now h have way) no_receipt
+      (subst (λ (c : Result AnswerMessage Why). IsTold e flight number c mid now held have way) same told) in
+      record {
+        since = again.since;
+        begun = again.begun ∙ left_so.0;
+        lost = again.lost ∙ left_so.1;
+        refused = again.refused ∙ left_so.2;
+        answer = again.answer;
+        made = again.made;
+        nothing = again.nothing;
+        goes = again.goes;
+      }
 
 -- ---- an arrival
 

@@ -3,6 +3,7 @@ pub mod TurnLemmas
 pub mod CallLemmas
 pub mod SentLemmas
 pub mod FlightLemmas
+pub mod CommitLemmas
 pub mod MessageLemmas
 pub mod OperatorLemmas
 pub mod ServeLemmas

@@ -1,5 +1,5 @@
 -- The calls that a worker makes to peers for a live request.
-use Rattle.std.specs.Prelude.{ℕ, ◌≡◌, ◌≤◌, ◌<◌, ◌+◌, ◌^◌, ◌++◌, ◌⊎◌, ◌&&◌, Bool, true, false, List, [], ◌∷◌, Option, Some, None, Result, Ok, Err, All, nat_eq}
+use Rattle.std.specs.Prelude.{ℕ, ◌≡◌, ◌≤◌, ◌<◌, ◌+◌, ◌^◌, ◌++◌, ◌⊎◌, ◌&&◌, Bool, true, false, List, [], ◌∷◌, Option, Some, None, Result, Ok, Err, All, nat_eq, if◌then◌else◌}
 use Rattle.std.specs.Option.{ForSome}
 use Rattle.lang_base.specs.declared.memory.NoMemory.{NoMemory as LacksMemory}
 use Rattle.repair_messages.specs.declared.messages.AnswerMessage.{AnswerMessage}
@@ -17,6 +17,7 @@ use Rattle.wire_fields.specs.declared.refused.WireRefused.{WireRefused}
 use Rattle.wire_replies.specs.declared.kinds.Asking.TheVariants as asked
 use Rattle.wire_replies.specs.declared.replies.Outgoing.{Outgoing}
 use Rattle.wire_replies.specs.declared.replies.Outgoing.TheVariants as replies
+use Rattle.wire_words.specs.Failures.{call_reply, why_failed}
 use Rattle.wire_bytes.specs.Hearing.{IsReplied}
 use Rattle.wire_bytes.specs.Sending.{SendsCall}
 use Rattle.wire_bytes.specs.declared.hearing.Replied.{Replied}
@@ -139,22 +140,6 @@ abbrev pub refused_by_one : Result (Result AnswerMessage Why) LacksMemory → �
 refused_by_one (Ok came) = refused_in came
 refused_by_one (Err why) = 0
 
--- the call failed for a reason that an exchange can have
-abbrev pub FailedSo : Endpoint → SetMessage → List ℕ → Exchange → Why → Type 0
-FailedSo e set secret (answers.Reply bytes) (whys.Refused word number) = SpellsNoAnswer e set secret bytes
-FailedSo e set secret (answers.Failed note) (whys.Lost fault) = fault ≡ note
-FailedSo e set secret answer why = ⊥
-
--- it was refused
-abbrev pub IsRefusal : Why → Type 0
-IsRefusal (whys.Refused word number) = Unit {0}
-IsRefusal why = ⊥
-
--- what a response that may answer the call comes to: an answer of version 1, or else a refusal
-abbrev pub IsReadAs : SetMessage → Bool → Result AnswerMessage Why → Type 0
-IsReadAs set answers (Ok came) = is_answer_to set came ≡ true
-IsReadAs set answers (Err why) = (answers ≡ false) × IsRefusal why
-
 -- where it failed, it was lost or refused
 abbrev pub FailsOnly : Result AnswerMessage Why → Type 0
 FailsOnly (Err whys.Changes) = ⊥
@@ -166,7 +151,39 @@ NotesRise (answers.Reply bytes) = ⊥
 NotesRise answers.NoMemory = ⊥
 NotesRise (answers.Failed note) = note.before + 1 < 2 ^ 64 → note.before < note.after
 
--- what came of an exchange with this answer
+-- ---- what comes of it
+
+-- an answer, where it is one of version 1 to the call; another one is as good as unread
+abbrev pub if_answer_to : SetMessage → ℕ → AnswerMessage → Result AnswerMessage Why
+if_answer_to set status a = if is_answer_to set a then Ok a else Err (why_failed None status)
+
+abbrev pub answer_if : SetMessage → ℕ → Result AnswerMessage Why → Result AnswerMessage Why
+answer_if set status (Ok a) = if_answer_to set status a
+answer_if set status (Err why) = Err why
+
+-- of a response with this status
+abbrev pub came_in : SetMessage → ℕ → Result Outgoing WireRefused → Result AnswerMessage Why
+came_in set status (Ok reply) = answer_if set status (call_reply reply status)
+came_in set status (Err why) = Err (why_failed None status)
+
+-- what was read of a reply comes to the answer that it spells, or to why there is none
+abbrev pub came_of : SetMessage → Result Replied FrontRefused → Result AnswerMessage Why
+came_of set (Ok replied) = came_in set replied.status replied.reply
+came_of set (Err why) = Err (why_failed None 0)
+
+-- this came of a call whose exchange had this answer: what the bytes of a reply spell, or that the exchange failed
 abbrev pub CameOf : Endpoint → SetMessage → List ℕ → Exchange → Result AnswerMessage Why → Type 0
-CameOf e set secret answer (Ok came) = is_answer_to set came ≡ true
-CameOf e set secret answer (Err why) = FailedSo e set secret answer why
+CameOf e set secret (answers.Reply bytes) came =
+    (read : Result Replied FrontRefused) × (left : List ℕ) × IsReplied e.me set.dest secret asked.Call bytes read left × (came ≡ came_of set read)
+CameOf e set secret answers.NoMemory came = ⊥
+CameOf e set secret (answers.Failed note) came = came ≡ Err (whys.Lost note)
+
+-- an exchange in which the call was made, and this came of it
+pub record IsCallOf (e : Endpoint) (set : SetMessage) (came : Result AnswerMessage Why) (x : Exchanged) : Type 0 where
+  pub secret : List ℕ
+  pub sent : CallSent e set secret x
+  pub so : CameOf e set secret x.answer came
+
+-- where the link tells its exchanges, this one was made, and no other
+abbrev pub CallsIt : Endpoint → SetMessage → Result AnswerMessage Why → Exchanges → Exchanges → Type 0
+CallsIt e set came before now = ForSome before.made (λ all. (x : Exchanged) × (now.made ≡ Some (all ++ x ∷ [])) × IsCallOf e set came x)

@@ -1,5 +1,6 @@
 -- A live request from its arrival to its end.
-use Rattle.std.specs.Prelude.{ℕ, ◌≡◌, ◌≤◌, ◌+◌, ◌⊎◌, List, Option, Some, None, Result, Ok, Err}
+use Rattle.std.specs.Prelude.{ℕ, ◌≡◌, ◌≤◌, ◌+◌, ◌++◌, ◌⊎◌, ◌∷◌, List, [], Option, Some, None, Result, Ok, Err, IfOk, OnErr}
+use Rattle.std.specs.Option.{ForSome}
 use Rattle.lang_base.specs.declared.memory.NoMemory.{NoMemory as LacksMemory}
 use Rattle.lang_core.specs.declared.ids.Origin.{Origin}
 use Rattle.lang_core.specs.declared.ids.Origin.TheVariants.{Outside, Call}
@@ -12,6 +13,8 @@ use Rattle.service_events.specs.declared.answers.Arrived.{Arrived}
 use Rattle.service_events.specs.declared.answers.Arrived.TheVariants as arrived
 use Rattle.service_events.specs.declared.refusals.ArriveRefused.{ArriveRefused}
 use Rattle.service_events.specs.declared.refusals.ArriveRefused.TheVariants as refusals
+use Rattle.io_links.specs.Exchanges.{Exchanges}
+use Rattle.io_links.specs.declared.links.Exchanged.{Exchanged}
 use Rattle.node_core.specs.Doings.{IsOpen}
 use Rattle.node_core.specs.Notes.{arrive_turn}
 use Rattle.node_core.specs.declared.asking.NodeDone.{NodeDone}
@@ -22,8 +25,10 @@ use Rattle.node_core.specs.declared.notes.Begun.{Begun}
 use Rattle.node_core.specs.declared.notes.Notes.{Notes}
 use Rattle.node_core.specs.declared.notes.Turn.TheVariants as turns
 use Rattle.node_core.specs.declared.receipt.Receipt.{Receipt}
+use Rattle.node_workers.specs.Calling.{IsCallOf}
 use Rattle.node_workers.specs.Desks.{Endpoint}
 use Rattle.node_workers.specs.Serving.{OneReceipt}
+use Rattle.node_workers.specs.Turns.{Made}
 use Rattle.node_workers.specs.declared.flying.Went.{Went}
 use Rattle.node_workers.specs.declared.flying.Went.TheVariants as went
 use Rattle.node_workers.specs.declared.live.Ending.{Ending}
@@ -64,6 +69,18 @@ went_of (Err why) = went.NoMemory
 abbrev pub end_of_call : ℕ → ℕ → Result AnswerMessage Why → NodeEvent
 end_of_call flight number (Ok answer) = events.CallAnswered flight answer
 end_of_call flight number (Err why) = events.CallFailed flight number why
+
+-- What came of the open flight's call was told to the service, in one event, and in a second one where memory was wanting for the first,
+-- which changes neither the open flight nor what is counted. By what the last answered, the flight goes on this way.
+pub record IsTold (e : Endpoint) (flight number : ℕ) (came : Result AnswerMessage Why) (before now : Notes) (had have : List Receipt) (way : Went) : Type 0 where
+  pub since : Notes
+  pub begun : since.begun ≡ before.begun
+  pub lost : since.lost ≡ before.lost
+  pub refused : since.refused ≡ before.refused
+  pub answer : Result NodeDone LacksMemory
+  pub made : IfOk answer (Made e.me since now had have (end_of_call flight number came))
+  pub nothing : OnErr answer ((now ≡ since) × (have ≡ had))
+  pub goes : way ≡ went_of answer
 
 -- no more is counted as lost and as refused than this
 pub record NotesAtMost (before now : Notes) (lost refused : ℕ) : Type 0 where
@@ -145,3 +162,66 @@ began_of (Err why) = begins.Ended ends.NoMemory
 abbrev pub BeginsSo : Endpoint → Origin → Request → Inputs → Notes → List Receipt → List Receipt → Began → Type 0
 BeginsSo e o q i now had have (begins.Ended ending) = EndsSo e o q i now had have ending × (now.begun ≡ None)
 BeginsSo e o q i now had have (begins.Call flight set) = IsWaiting e o q i now.begun flight set × (have ≡ had)
+
+-- ---- all its events
+
+-- a call of a flight was made in this exchange, and what came of it was told to the service
+pub record MakesCall (e : Endpoint) (flight : ℕ) (set : SetMessage) (x : Exchanged) (before now : Notes) (had have : List Receipt) (way : Went) : Type 0 where
+  pub came : Result AnswerMessage Why
+  pub of : IsCallOf e set came x
+  pub told : IsTold e flight set.number came before now had have way
+
+-- These exchanges were the calls of a flight, one after the other: each was the call that the service named last, until the flight goes on
+-- this way.
+abbrev pub MakesCalls : Endpoint → List Exchanged → Notes → Notes → List Receipt → List Receipt → Went → Went → Type 0
+MakesCalls e [] before now had have from way = (now ≡ before) × (have ≡ had) × (way ≡ from)
+MakesCalls e (x ∷ made) before now had have (went.Call flight set) way =
+    (mid : Notes) × (held : List Receipt) × (next : Went) × MakesCall e flight set x before mid had held next
+    × MakesCalls e made mid now held have next way
+MakesCalls e (x ∷ made) before now had have from way = ⊥
+
+-- where the link tells its exchanges, those that were made
+abbrev pub FliesOn : Endpoint → Notes → Notes → List Receipt → List Receipt → Exchanges → Exchanges → Went → Went → Type 0
+FliesOn e before now had have was is from way =
+    ForSome was.made (λ all. (made : List Exchanged) × (is.made ≡ Some (all ++ made)) × MakesCalls e made before now had have from way)
+
+-- where memory was wanting, no more is said
+abbrev pub UnlessWanting : Went → Type 0 → Type 0
+UnlessWanting went.NoMemory this = Unit {0}
+UnlessWanting way this = this
+
+-- a flight that was committed flew so
+abbrev pub FliesSo : Endpoint → ℕ → SetMessage → Notes → Notes → List Receipt → List Receipt → Exchanges → Exchanges → Ending → Type 0
+FliesSo e flight set before now had have was is (ends.Committed index) =
+    FliesOn e before now had have was is (went.Call flight set) (went.Committed index)
+FliesSo e flight set before now had have was is other = Unit {0}
+
+-- the arrival was one event, and the live request began by what the service answered
+pub record IsArrival (e : Endpoint) (o : Origin) (q : Request) (i : Inputs) (before now : Notes) (had have : List Receipt) (began : Began) : Type 0 where
+  pub answer : Result NodeDone LacksMemory
+  pub made : IfOk answer (Made e.me before now had have (events.Arrive o q i))
+  pub begins : began ≡ began_of answer
+
+-- how a request goes on that began so
+abbrev pub way_of : Began → Went
+way_of (begins.Ended (ends.Committed index)) = went.Committed index
+way_of (begins.Ended ending) = went.NoMemory
+way_of (begins.Call flight set) = went.Call flight set
+
+-- A live request that was committed, with all its events: its arrival, and for each call that the service named, until it named none, what
+-- came of the exchange in which that call was made.
+pub record IsCommittedBy (e : Endpoint) (o : Origin) (q : Request) (i : Inputs) (before now : Notes) (had have : List Receipt) (was is : Exchanges) (index : ℕ) : Type 0 where
+  pub notes : Notes
+  pub receipts : List Receipt
+  pub began : Began
+  pub arrival : IsArrival e o q i before notes had receipts began
+  pub calls : FliesOn e notes now receipts have was is (way_of began) (went.Committed index)
+
+abbrev pub LivesSo : Endpoint → Origin → Request → Inputs → Notes → Notes → List Receipt → List Receipt → Exchanges → Exchanges → Ending → Type 0
+LivesSo e o q i before now had have was is (ends.Committed index) = IsCommittedBy e o q i before now had have was is index
+LivesSo e o q i before now had have was is other = Unit {0}
+
+-- where a live request was committed, it was by these events
+abbrev pub CommitsBy : Endpoint → Inputs → Notes → Notes → List Receipt → List Receipt → Exchanges → Exchanges → Type 0
+CommitsBy e i before now had have was is =
+    (have ≡ had) ⊎ ((o : Origin) × (q : Request) × (index : ℕ) × IsCommittedBy e o q i before now had have was is index)

@@ -1,11 +1,11 @@
 // A live call to a peer.
-ghost use Rattle.std.specs.Prelude.{◌≡◌, ◌≤◌, ◌<◌, false, None, Err, IfOk, OnOk};
+ghost use Rattle.std.specs.Prelude.{◌≡◌, ◌≤◌, ◌<◌, false, None, Ok, Err, IfOk, OnOk};
 ghost use Rattle.io_edge.specs.Edge.{Rose};
 ghost use Rattle.io_links.specs.declared.links.Exchange.TheVariants.{Reply as RepliedWith};
 ghost use Rattle.http_front.specs.Answers.{interrupts};
 ghost use Rattle.wire_fields.specs.Fits.{lacks_memory};
 ghost use Rattle.wire_words.specs.Failures.{why_failed};
-ghost use Rattle.node_workers.specs.Calling.{answers_in, is_answer_to, lost_by_one, refused_by_one, replies_so, CallsMade, CameOf, FailsOnly, IsReadAs, NotesRise};
+ghost use Rattle.node_workers.specs.Calling.{came_in, if_answer_to, lost_by_one, refused_by_one, CallsIt, CallsMade, CameOf, FailsOnly, NotesRise};
 ghost use Rattle.node_workers.specs.Desks.{at_desk};
 
 use crate::desk::Desk;
@@ -23,7 +23,7 @@ use wire_words::{call_reply, why_unread};
 
 // The answer, where it is one of version 1 to the call; another one is as good as unread.
 fn if_answer_to(set: &SetMessage, answer: AnswerMessage, status: u16) -> Result<AnswerMessage, Why>
-    ensures { IsReadAs set.now (is_answer_to set.now answer) result }
+    ensures { result ≡ if_answer_to set.now status answer }
 {
     if answer.number == set.number && answer.version == 1 {
         Ok(answer)
@@ -33,7 +33,7 @@ fn if_answer_to(set: &SetMessage, answer: AnswerMessage, status: u16) -> Result<
 }
 
 fn answer_in(set: &SetMessage, reply: Outgoing, status: u16) -> Result<AnswerMessage, Why>
-    ensures { IsReadAs set.now (replies_so set.now reply) result }
+    ensures { result ≡ came_in set.now status (Ok reply) }
 {
     match call_reply(reply, status) {
         Ok(answer) => if_answer_to(set, answer, status),
@@ -42,7 +42,7 @@ fn answer_in(set: &SetMessage, reply: Outgoing, status: u16) -> Result<AnswerMes
 }
 
 fn read_reply(set: &SetMessage, replied: Replied) -> Result<Result<AnswerMessage, Why>, NoMemory>
-    ensures read { IfOk result (IsReadAs set.now (answers_in set.now replied.reply)) }
+    ensures read { IfOk result (λ came. came ≡ came_in set.now replied.status replied.reply) }
     ensures whole { OnOk result (lacks_memory replied.reply ≡ false) }
 {
     let Replied { status, reply } = replied;
@@ -107,6 +107,7 @@ pub(crate) fn call<R: Ledger, Q: Ledger, L: Link, G: Gate>(
     gate: &G,
 ) -> Result<Result<AnswerMessage, Why>, NoMemory>
     requires from { set.now.caller ≡ (at_desk desk.now).me }
+    ensures came { IfOk result (λ came. CallsIt (at_desk desk.now) set.now came (L.exchanges link.old) (L.exchanges link.new)) }
     ensures calls { CallsMade (at_desk desk.now) (lost_by_one result) (refused_by_one result) (L.exchanges link.old) (L.exchanges link.new) }
     ensures rose { 0 < lost_by_one result → Rose (L.exchanges link.old).faults (L.exchanges link.new).faults }
     ensures failure { IfOk result FailsOnly }

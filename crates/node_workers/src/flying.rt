@@ -1,9 +1,9 @@
 // A flight, from its first call to its end.
-ghost use Rattle.std.specs.Prelude.{◌≡◌, None, IsSomeAnd};
+ghost use Rattle.std.specs.Prelude.{◌≡◌, None, IfOk, IsSomeAnd};
 ghost use Rattle.node_core.specs.Doings.{IsOpen};
-ghost use Rattle.node_workers.specs.Calling.{lost_in, refused_in, CountsCalls, FailsOnly};
+ghost use Rattle.node_workers.specs.Calling.{CountsCalls, FailsOnly};
 ghost use Rattle.node_workers.specs.Desks.{at_desk};
-ghost use Rattle.node_workers.specs.Flying.{end_of_call, went_by, went_of, went_with, EndsSo, GoesOn, IsGivenUp, IsWaiting, NotesAtMost};
+ghost use Rattle.node_workers.specs.Flying.{end_of_call, went_by, went_of, went_with, EndsSo, FliesOn, FliesSo, GoesOn, IsGivenUp, IsTold, IsWaiting, UnlessWanting};
 
 use crate::calls::call;
 use crate::desk::Desk;
@@ -11,7 +11,7 @@ use crate::live::Ending;
 use crate::turns::ask;
 use call_registers::Why;
 use io_links::{Gate, Link};
-use lang_core::NoMemory;
+use lang_core::{Copied, NoMemory};
 use node_core::{NodeDone, NodeEvent, Pass, event};
 use repair_messages::{AnswerMessage, SetMessage};
 use service_events::{Arrived, CallRefused};
@@ -75,7 +75,38 @@ fn end_of_call(flight: u64, number: u64, came: Result<AnswerMessage, Why>) -> No
     }
 }
 
-// The service is told what came of the call for which the flight waits.
+fn copied(
+    alloc: Global,
+    came: &Result<AnswerMessage, Why>,
+) -> Result<Result<AnswerMessage, Why>, NoMemory>
+    ensures { IfOk result (λ copy. copy ≡ came.now) }
+{
+    match came {
+        Ok(answer) => Ok(Ok(answer.copied(alloc)?)),
+        Err(why) => Ok(Err(*why)),
+    }
+}
+
+// The service is told in one event.
+fn tell_once<R: Ledger, Q: Ledger, W: Wait>(
+    rt: &W,
+    alloc: Global,
+    desk: &Desk<R, Q>,
+    pass: &mut Pass<Q>,
+    flight: u64,
+    number: u64,
+    came: Result<AnswerMessage, Why>,
+) -> Went
+    requires open { IsSomeAnd pass.old.notes.begun (λ b. (b.flight ≡ flight) × (b.number ≡ number)) }
+    requires failure { FailsOnly came }
+    ensures told { IsTold (at_desk desk.now) flight number came pass.old.notes pass.new.notes pass.old.receipts.items pass.new.receipts.items result }
+{
+    let told = end_of_call(flight, number, came);
+    went_of(ask(rt, alloc, desk, pass, told))
+}
+
+// The service is told what came of the call for which the flight waits. Where memory is wanting for that, it is told once more, by a copy
+// that was made before. Where there was no memory for the copy either, the first try was the only one.
 fn tell<R: Ledger, Q: Ledger, W: Wait>(
     rt: &W,
     alloc: Global,
@@ -87,12 +118,16 @@ fn tell<R: Ledger, Q: Ledger, W: Wait>(
 ) -> Went
     requires open { IsSomeAnd pass.old.notes.begun (λ b. (b.flight ≡ flight) × (b.number ≡ number)) }
     requires failure { FailsOnly came }
-    ensures went { IsSomeAnd pass.old.notes.begun (λ b.
-        GoesOn (at_desk desk.now) b.origin b.request b.inputs flight pass.new.notes pass.old.receipts.items pass.new.receipts.items result) }
-    ensures counts { NotesAtMost pass.old.notes pass.new.notes (lost_in came) (refused_in came) }
+    ensures told { IsTold (at_desk desk.now) flight number came pass.old.notes pass.new.notes pass.old.receipts.items pass.new.receipts.items result }
 {
-    let told = end_of_call(flight, number, came);
-    went_of(ask(rt, alloc, desk, pass, told))
+    let again = copied(alloc, &came);
+    match tell_once(rt, alloc, desk, pass, flight, number, came) {
+        Went::NoMemory => match again {
+            Ok(came) => tell_once(rt, alloc, desk, pass, flight, number, came),
+            Err(_) => Went::NoMemory,
+        },
+        went => went,
+    }
 }
 
 // The call is made, and the service is told what came of it.
@@ -109,6 +144,7 @@ fn send<R: Ledger, Q: Ledger, W: Wait, L: Link, G: Gate>(
     requires waits { IsSomeAnd pass.old.notes.begun (λ b. IsWaiting (at_desk desk.now) b.origin b.request b.inputs pass.old.notes.begun flight set.now) }
     ensures went { IsSomeAnd pass.old.notes.begun (λ b.
         GoesOn (at_desk desk.now) b.origin b.request b.inputs flight pass.new.notes pass.old.receipts.items pass.new.receipts.items result) }
+    ensures told { UnlessWanting result (FliesOn (at_desk desk.now) pass.old.notes pass.new.notes pass.old.receipts.items pass.new.receipts.items (L.exchanges link.old) (L.exchanges link.new) (Went.Call flight set.now) result) }
     ensures counts { CountsCalls (at_desk desk.now) pass.old.notes pass.new.notes (L.exchanges link.old) (L.exchanges link.new) }
 {
     match call(alloc, desk, set, link, gate) {
@@ -151,6 +187,7 @@ pub(crate) fn fly<R: Ledger, Q: Ledger, W: Wait, L: Link, G: Gate>(
     ensures ends { IsSomeAnd pass.old.notes.begun (λ b.
         EndsSo (at_desk desk.now) b.origin b.request b.inputs pass.new.notes pass.old.receipts.items pass.new.receipts.items result) }
     ensures closed { pass.new.notes.begun ≡ None }
+    ensures told { FliesSo (at_desk desk.now) flight set pass.old.notes pass.new.notes pass.old.receipts.items pass.new.receipts.items (L.exchanges link.old) (L.exchanges link.new) result }
     ensures counts { CountsCalls (at_desk desk.now) pass.old.notes pass.new.notes (L.exchanges link.old) (L.exchanges link.new) }
 {
     let mut flight = flight;

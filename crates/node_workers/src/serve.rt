@@ -8,6 +8,7 @@ ghost use Rattle.wire_bytes.specs.declared.hearing.Unheard.TheVariants.{Front as
 ghost use Rattle.aire_wire.specs.declared.incoming.Incoming.TheVariants.{Answer as AnswerSaid, Live as LiveSaid, Set as SetSaid};
 ghost use Rattle.node_workers.specs.Calling.{CountsCalls};
 ghost use Rattle.node_workers.specs.Desks.{at_desk};
+ghost use Rattle.node_workers.specs.Flying.{CommitsBy};
 ghost use Rattle.node_workers.specs.Posting.{Keeps};
 ghost use Rattle.node_workers.specs.Serving.{client, IsServed, ServesMessage, ServesRequest};
 ghost use Rattle.node_workers.specs.Written.{instead, IsConsoleSo, IsRefusedSo};
@@ -54,6 +55,7 @@ fn serve_live<R: Ledger, Q: Ledger, W: Wait, C: Connection, L: Link, G: Gate>(
     ensures served { ServesRequest (at_desk desk.now) inputs origin request (C.Source.reads conn.old) (C.Sink.writes conn.old) (C.Sink.writes conn.new) pass.new.notes pass.old.receipts.items pass.new.receipts.items result }
     ensures beside { C.Sink.beside conn.new ≡ C.Sink.beside conn.old }
     ensures closed { pass.new.notes.begun ≡ None }
+    ensures told { CommitsBy (at_desk desk.now) inputs pass.old.notes pass.new.notes pass.old.receipts.items pass.new.receipts.items (L.exchanges link.old) (L.exchanges link.new) }
     ensures counts { CountsCalls (at_desk desk.now) pass.old.notes pass.new.notes (L.exchanges link.old) (L.exchanges link.new) }
 {
     match live(rt, alloc, desk, pass, link, gate, origin, request, inputs) {
@@ -107,6 +109,7 @@ fn serve_call<R: Ledger, Q: Ledger, W: Wait, C: Connection, L: Link, G: Gate>(
     ensures served { ServesMessage (at_desk desk.now) inputs (LiveSaid set) (C.Source.reads conn.old) (C.Sink.writes conn.old) (C.Sink.writes conn.new) pass.new.notes pass.old.receipts.items pass.new.receipts.items result }
     ensures beside { C.Sink.beside conn.new ≡ C.Sink.beside conn.old }
     ensures closed { pass.new.notes.begun ≡ None }
+    ensures told { CommitsBy (at_desk desk.now) inputs pass.old.notes pass.new.notes pass.old.receipts.items pass.new.receipts.items (L.exchanges link.old) (L.exchanges link.new) }
     ensures counts { CountsCalls (at_desk desk.now) pass.old.notes pass.new.notes (L.exchanges link.old) (L.exchanges link.new) }
 {
     let Ok(to) = set.caller.copied(alloc) else {
@@ -311,6 +314,7 @@ fn serve<R: Ledger, Q: Ledger, W: Wait, C: Connection, L: Link, G: Gate>(
     ensures served { ServesMessage (at_desk desk.now) inputs message (C.Source.reads conn.old) (C.Sink.writes conn.old) (C.Sink.writes conn.new) pass.new.notes pass.old.receipts.items pass.new.receipts.items result }
     ensures beside { C.Sink.beside conn.new ≡ C.Sink.beside conn.old }
     ensures closed { pass.new.notes.begun ≡ None }
+    ensures told { CommitsBy (at_desk desk.now) inputs pass.old.notes pass.new.notes pass.old.receipts.items pass.new.receipts.items (L.exchanges link.old) (L.exchanges link.new) }
     ensures counts { CountsCalls (at_desk desk.now) pass.old.notes pass.new.notes (L.exchanges link.old) (L.exchanges link.new) }
 {
     match message {
@@ -337,7 +341,8 @@ fn serve<R: Ledger, Q: Ledger, W: Wait, C: Connection, L: Link, G: Gate>(
 /// Serves one connection: reads one message, does what it asks, and writes what came of it.
 ///
 /// A live request is run, and its calls are made over the link, each between two events and without the node's lock; the
-/// gate is told of each. What is answered is said of the message that was read alone: behind a commit its receipt's reply,
+/// gate is told of each. The service is told of each just what came of it: what the reply's bytes spell, or that the exchange
+/// failed; once more where there is no memory for that, and then its flight is given up. What is answered is said of the message that was read alone: behind a commit its receipt's reply,
 /// else what the service answered to the message's own event, or why it didn't. An operator is told what came of the order,
 /// gets a report, or is told that the body was ill. A flight that can't go on for want of memory is given up, and none is open
 /// afterwards. A service that isn't set up as the desk says, and a peer that the desk doesn't
@@ -354,6 +359,7 @@ pub fn serve_one<R: Ledger, Q: Ledger, W: Wait, C: Connection, L: Link, G: Gate>
 ) -> Served
     requires none { pass.old.notes.begun ≡ None }
     ensures served { IsServed (at_desk desk.now) inputs (C.Source.reads conn.old) (C.Source.reads conn.new) (C.Sink.writes conn.old) (C.Sink.writes conn.new) pass.new.notes pass.old.receipts.items pass.new.receipts.items result }
+    ensures told { CommitsBy (at_desk desk.now) inputs pass.old.notes pass.new.notes pass.old.receipts.items pass.new.receipts.items (L.exchanges link.old) (L.exchanges link.new) }
     ensures calls { CountsCalls (at_desk desk.now) pass.old.notes pass.new.notes (L.exchanges link.old) (L.exchanges link.new) }
     ensures closed { pass.new.notes.begun ≡ None }
     ensures fault { result ≡ Served.FrontRefused ReadFault → ReadFails (C.Source.reads conn.old) (C.Source.reads conn.new) }

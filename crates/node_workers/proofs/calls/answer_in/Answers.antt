@@ -1,10 +1,12 @@
-use Rattle.std.proofs.Common.{sym}
-use Rattle.node_workers.proofs.CallLemmas.{read_as, reads_refusal}
+use Rattle.std.proofs.Common.{Result, ap, ◌∙◌}
+use Rattle.repair_messages.specs.declared.messages.AnswerMessage.{AnswerMessage}
+use Rattle.call_registers.specs.declared.register.Why.{Why}
+use Rattle.node_workers.specs.Calling.{answer_if}
 use Rattle.node_workers.proofs.calls.answer_in.Goals as goal
 
 pub returns-in-Ok : goal.returns-in-Ok
 returns-in-Ok c =
-    read_as c.args.set.now c.args.reply c.args.status c.in-Ok.answer c.if_answer_to.result (sym c.in-Ok.ensures.reply) c.if_answer_to.ensures
+    c.if_answer_to.ensures ∙ ap (λ (r : Result AnswerMessage Why). answer_if c.args.set.now c.args.status r) c.in-Ok.ensures.reply
 
 pub returns-in-Err : goal.returns-in-Err
-returns-in-Err c = reads_refusal c.args.set.now c.args.reply c.args.status c.in-Err.why (sym c.in-Err.ensures.reply)
+returns-in-Err c = ap (λ (r : Result AnswerMessage Why). answer_if c.args.set.now c.args.status r) c.in-Err.ensures.reply

@@ -1,5 +1,6 @@
 use Rattle.std.proofs.Common.{refl, ◌∙◌}
 use Rattle.node_workers.proofs.CallLemmas.{counts_none, counts_on}
+use Rattle.node_workers.proofs.CommitLemmas.{flies_until_commit, flies_not, flies_until_call}
 use Rattle.node_workers.proofs.FlightLemmas.{call_goes_on, commit_ends, flown, gone_ends, memory_ends, open_still, waits_now}
 use Rattle.node_workers.specs.Desks.{at_desk}
 use Rattle.node_workers.specs.declared.flying.Went.TheVariants as went
@@ -12,6 +13,7 @@ loop-init g c =
     record {
       waits = c.requires.waits;
       receipts = refl;
+      told = flies_not (at_desk c.args.desk.now) pass.notes pass.receipts.items link (went.Call c.args.flight c.args.set);
       counts = counts_none (at_desk c.args.desk.now) pass.notes pass.notes link link refl refl refl;
     }
 
@@ -34,6 +36,8 @@ returns-in-Committed g c =
     record {
       ends = end.0;
       closed = end.1;
+      told = flies_until_commit e c.args.flight at.flight c.args.set at.set first.notes at.pass.notes now.notes first.receipts.items at.pass.receipts.items now.receipts.items
+          (g.L.Link.exchanges c.args.link.now) (g.L.Link.exchanges at.link) (g.L.Link.exchanges c.send.new.link) at.invariant.told index made.told;
       counts = counts_on e first.notes at.pass.notes now.notes (g.L.Link.exchanges c.args.link.now) (g.L.Link.exchanges at.link) (g.L.Link.exchanges c.send.new.link)
           at.invariant.counts made.counts;
     }
@@ -51,6 +55,7 @@ returns-in-Gone g c =
     record {
       ends = end.0;
       closed = end.1;
+      told = tt;
       counts = counts_on e first.notes at.pass.notes now.notes (g.L.Link.exchanges c.args.link.now) (g.L.Link.exchanges at.link) (g.L.Link.exchanges c.send.new.link)
           at.invariant.counts made.counts;
     }
@@ -81,6 +86,7 @@ returns-in-NoMemory g c =
     record {
       ends = memory_ends e at.flight first.notes.begun now.notes first.receipts.items now.receipts.items last.notes last.receipts.items goes c.give_up.ensures.receipts;
       closed = up.closed;
+      told = tt;
       counts = counts_on e first.notes now.notes last.notes start link link
           (counts_on e first.notes at.pass.notes now.notes start (g.L.Link.exchanges at.link) link at.invariant.counts made.counts)
           (counts_none e now.notes last.notes link link up.lost up.refused refl);
@@ -101,6 +107,8 @@ loop-preserved g c =
     record {
       waits = on.0;
       receipts = on.1;
+      told = flies_until_call e c.args.flight at.flight c.args.set at.set first.notes at.pass.notes now.notes first.receipts.items at.pass.receipts.items now.receipts.items
+          (g.L.Link.exchanges c.args.link.now) (g.L.Link.exchanges at.link) (g.L.Link.exchanges c.send.new.link) at.invariant.told next set made.told;
       counts = counts_on e first.notes at.pass.notes now.notes (g.L.Link.exchanges c.args.link.now) (g.L.Link.exchanges at.link) (g.L.Link.exchanges c.send.new.link)
           at.invariant.counts made.counts;
     }

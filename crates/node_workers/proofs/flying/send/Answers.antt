@@ -1,5 +1,6 @@
 use Rattle.node_workers.proofs.CallLemmas.{counts_one, counts_untold}
-use Rattle.node_workers.proofs.FlightLemmas.{call_of, caller_of, still_open}
+use Rattle.node_workers.proofs.CommitLemmas.{one_told}
+use Rattle.node_workers.proofs.FlightLemmas.{call_of, caller_of, goes_told, most_told, still_open}
 use Rattle.node_workers.specs.Calling.{lost_in, refused_in}
 use Rattle.node_workers.specs.Desks.{at_desk}
 use Rattle.node_workers.proofs.flying.send.Goals as goal
@@ -17,11 +18,31 @@ tell-requires g c =
       failure = c.in-Ok.ensures.failure;
     }
 
+pub returns-in-Ok-clause-went : goal.returns-in-Ok-clause-went
+returns-in-Ok-clause-went g c =
+    let a = c.args in
+    let e = at_desk a.desk.now in
+    let before = a.pass.now in
+    let now = c.tell.new.pass in
+    goes_told e a.flight a.set.now.number before.notes now.notes before.receipts.items now.receipts.items c.in-Ok.came c.tell.result c.tell.ensures.told
+    (call_of e a.flight a.set.now before.notes.begun before.notes.begun c.requires.waits)
+
+pub returns-in-Ok-clause-told : goal.returns-in-Ok-clause-told
+returns-in-Ok-clause-told g c =
+    let a = c.args in
+    let before = a.pass.now in
+    let now = c.tell.new.pass in
+    one_told (at_desk a.desk.now) a.flight a.set.now before.notes now.notes before.receipts.items now.receipts.items (g.L.Link.exchanges a.link.now)
+    (g.L.Link.exchanges c.call.new.link) c.in-Ok.came c.tell.result c.in-Ok.ensures.came c.tell.ensures.told
+
 pub returns-in-Ok-clause-counts : goal.returns-in-Ok-clause-counts
 returns-in-Ok-clause-counts g c =
     let came = c.in-Ok.came in
     let made = c.in-Ok.ensures in
-    let counts = c.tell.ensures.counts in
+    let before = c.args.pass.now in
+    let now = c.tell.new.pass in
+    let counts = most_told (at_desk c.args.desk.now) c.args.flight c.args.set.now.number before.notes now.notes before.receipts.items now.receipts.items came c.tell.result
+    c.tell.ensures.told in
     counts_one (at_desk c.args.desk.now) c.args.pass.now.notes c.tell.new.pass.notes (lost_in came) (refused_in came) (g.L.Link.exchanges c.args.link.now)
     (g.L.Link.exchanges c.call.new.link) made.calls made.rose made.counted counts.lost_at_most counts.refused_at_most
 

@@ -13,6 +13,9 @@ returns-clause-begins g c =
     subst (BeginsSo e a.origin a.request a.inputs now.notes before.receipts.items now.receipts.items) (sym c.began_of.ensures)
     (begins e a.origin a.request a.inputs before.notes now.notes before.receipts.items now.receipts.items c.requires.none c.ask.result c.ask.ensures.made c.ask.ensures.err)
 
+pub returns-clause-arrival : goal.returns-clause-arrival
+returns-clause-arrival g c = record { answer = c.ask.result; made = c.ask.ensures.made; begins = c.began_of.ensures }
+
 pub returns-clause-lost : goal.returns-clause-lost
 returns-clause-lost g c =
     let a = c.args in

@@ -1,5 +1,6 @@
 use Rattle.std.proofs.Common.{refl}
 use Rattle.node_workers.proofs.CallLemmas.{counts_none, counts_on}
+use Rattle.node_workers.proofs.CommitLemmas.{ends_at_once, ends_flown}
 use Rattle.node_workers.proofs.FlightLemmas.{arrival_ends, waits_on}
 use Rattle.node_workers.specs.Desks.{at_desk}
 use Rattle.node_workers.proofs.live.live.Goals as goal
@@ -10,6 +11,21 @@ fly-requires g c =
     record {
       waits = waits_on (at_desk a.desk.now) a.origin a.request a.inputs c.arrive.new.pass.notes.begun c.in-Call.flight c.in-Call.set c.in-Call.ensures.begins.0;
     }
+
+pub returns-in-Ended-clause-told : goal.returns-in-Ended-clause-told
+returns-in-Ended-clause-told g c =
+    let a = c.args in
+    let now = c.arrive.new.pass in
+    ends_at_once (at_desk a.desk.now) a.origin a.request a.inputs a.pass.now.notes a.pass.now.receipts.items now.notes now.receipts.items (g.L.Link.exchanges a.link.now)
+    c.in-Ended.ending c.in-Ended.ensures.arrival
+
+pub returns-in-Call-clause-told : goal.returns-in-Call-clause-told
+returns-in-Call-clause-told g c =
+    let a = c.args in
+    let mid = c.arrive.new.pass in
+    let now = c.fly.new.pass in
+    ends_flown (at_desk a.desk.now) a.origin a.request a.inputs a.pass.now.notes a.pass.now.receipts.items mid.notes now.notes mid.receipts.items now.receipts.items
+    (g.L.Link.exchanges a.link.now) (g.L.Link.exchanges c.fly.new.link) c.in-Call.flight c.in-Call.set c.fly.result c.in-Call.ensures.arrival c.fly.ensures.told
 
 pub returns-in-Ended-clause-counts : goal.returns-in-Ended-clause-counts
 returns-in-Ended-clause-counts g c =

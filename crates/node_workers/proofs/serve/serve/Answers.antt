@@ -1,4 +1,4 @@
-use Rattle.std.proofs.Common.{◌∙◌, refl, subst, sym}
+use Rattle.std.proofs.Common.{inl, ◌∙◌, refl, subst, sym}
 use Rattle.aire_wire.specs.declared.incoming.Incoming.{Incoming}
 use Rattle.wire_bytes.specs.Hearing.{IsKnownMessage}
 use Rattle.node_workers.proofs.CallLemmas.{counts_none}
@@ -51,6 +51,9 @@ returns-in-Set-clause-served g c =
 pub returns-in-Set-clause-closed : goal.returns-in-Set-clause-closed
 returns-in-Set-clause-closed g c = c.serve_set.ensures.keeps.1 ∙ c.requires.none
 
+pub returns-in-Set-clause-told : goal.returns-in-Set-clause-told
+returns-in-Set-clause-told g c = inl c.serve_set.ensures.keeps.0
+
 pub returns-in-Set-clause-counts : goal.returns-in-Set-clause-counts
 returns-in-Set-clause-counts g c =
     let exchanges = g.L.Link.exchanges c.args.link.now in
@@ -65,6 +68,9 @@ returns-in-Answer-clause-served g c =
 
 pub returns-in-Answer-clause-closed : goal.returns-in-Answer-clause-closed
 returns-in-Answer-clause-closed g c = c.serve_answer.ensures.keeps.1 ∙ c.requires.none
+
+pub returns-in-Answer-clause-told : goal.returns-in-Answer-clause-told
+returns-in-Answer-clause-told g c = inl c.serve_answer.ensures.keeps.0
 
 pub returns-in-Answer-clause-counts : goal.returns-in-Answer-clause-counts
 returns-in-Answer-clause-counts g c =
@@ -86,6 +92,9 @@ returns-in-Console-clause-served g c =
 
 pub returns-in-Console-clause-closed : goal.returns-in-Console-clause-closed
 returns-in-Console-clause-closed g c = c.serve_console.ensures.keeps.1 ∙ c.requires.none
+
+pub returns-in-Console-clause-told : goal.returns-in-Console-clause-told
+returns-in-Console-clause-told g c = inl c.serve_console.ensures.keeps.0
 
 pub returns-in-Console-clause-counts : goal.returns-in-Console-clause-counts
 returns-in-Console-clause-counts g c =

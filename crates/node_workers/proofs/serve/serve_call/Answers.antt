@@ -1,4 +1,4 @@
-use Rattle.std.proofs.Common.{Some, ◌∙◌, ap, refl, sym}
+use Rattle.std.proofs.Common.{inl, Some, ◌∙◌, ap, refl, sym}
 use Rattle.aire_wire.specs.declared.incoming.Incoming.TheVariants.{Live}
 use Rattle.node_workers.proofs.CallLemmas.{counts_none}
 use Rattle.node_workers.proofs.ServeLemmas.{call_served, message_dropped}
@@ -16,6 +16,9 @@ returns-in_default-clause-counts g c =
     let notes = c.args.pass.now.notes in
     let exchanges = g.L.Link.exchanges c.args.link.now in
     counts_none (at_desk c.args.desk.now) notes notes exchanges exchanges refl refl refl
+
+pub returns-in_default-clause-told : goal.returns-in_default-clause-told
+returns-in_default-clause-told g c = inl refl
 
 pub serve_live-requires-clause-to : goal.serve_live-requires-clause-to
 serve_live-requires-clause-to g c = ap Some (c.in-Ok.ensures ∙ sym c.parts_of-caller.ensures.caller)

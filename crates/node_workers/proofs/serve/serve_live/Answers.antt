@@ -1,4 +1,4 @@
-use Rattle.std.proofs.Common.{refl}
+use Rattle.std.proofs.Common.{inl, inr, refl}
 use Rattle.std.specs.Option.{option_copied}
 use Rattle.node_workers.proofs.ServeLemmas.{has_last, known_for, live_committed, live_gone, live_known, live_refused, live_wants}
 use Rattle.node_workers.specs.Desks.{at_desk}
@@ -46,3 +46,18 @@ returns-in-NoMemory-clause-served g c =
     live_wants (at_desk c.args.desk.now) c.args.inputs (g.C.Source.reads c.args.conn.now) (g.C.Sink.writes c.args.conn.now) (g.C.Sink.writes c.say_no_memory.new.conn)
     c.live.new.pass.notes c.args.pass.now.receipts.items c.live.new.pass.receipts.items c.args.origin c.args.request (option_copied c.args.to) c.say_no_memory.result
     c.requires.to c.in-NoMemory.ensures.ends c.say_no_memory.ensures.said
+
+pub returns-in-Committed-clause-told : goal.returns-in-Committed-clause-told
+returns-in-Committed-clause-told g c = inr (c.args.origin, c.args.request, c.in-Committed.index, c.in-Committed.ensures.told)
+
+pub returns-in-Known-clause-told : goal.returns-in-Known-clause-told
+returns-in-Known-clause-told g c = inl c.in-Known.ensures.ends.3
+
+pub returns-in-Refused-clause-told : goal.returns-in-Refused-clause-told
+returns-in-Refused-clause-told g c = inl c.in-Refused.ensures.ends.3
+
+pub returns-in-Gone-clause-told : goal.returns-in-Gone-clause-told
+returns-in-Gone-clause-told g c = inl c.in-Gone.ensures.ends.1
+
+pub returns-in-NoMemory-clause-told : goal.returns-in-NoMemory-clause-told
+returns-in-NoMemory-clause-told g c = inl c.in-NoMemory.ensures.ends

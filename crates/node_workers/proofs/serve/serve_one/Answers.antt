@@ -1,4 +1,4 @@
-use Rattle.std.proofs.Common.{◌∙◌, ap, refl, sym}
+use Rattle.std.proofs.Common.{inl, ◌∙◌, ap, refl, sym}
 use Rattle.io_edge.specs.Edge.{Reads}
 use Rattle.node_workers.proofs.CallLemmas.{counts_none}
 use Rattle.node_workers.proofs.ServeLemmas.{fault_counted, refused_well, served_to}
@@ -18,6 +18,9 @@ returns-in-Err-clause-served g c =
     (g.C.Sink.writes end) notes receipts receipts answer (sym (law end) ∙ (c.serve_unheard.ensures.beside ∙ law mid)) c.hear_on.ensures.writes
     (refused_well e c.args.inputs (g.C.Source.reads c.args.conn.now) (g.C.Source.reads mid) (g.C.Sink.writes mid) (g.C.Sink.writes end) notes receipts receipts c.in-Err.why
     answer c.in-Err.ensures.heard c.in-Err.ensures.fault refl c.serve_unheard.ensures.served)
+
+pub returns-in-Err-clause-told : goal.returns-in-Err-clause-told
+returns-in-Err-clause-told g c = inl refl
 
 pub returns-in-Err-clause-calls : goal.returns-in-Err-clause-calls
 returns-in-Err-clause-calls g c =
