@@ -127,6 +127,13 @@ same_is a b h = text_is a b (sym h)
 pub one_name : (name : List ℕ) (world : List DumpService) → AreApart (map service_name world) → OfOne (λ s. same_text s.setting.me name) world
 one_name name world apart = of_one (λ s. same_text s.setting.me name) service_name name (λ s yes. same_is s.setting.me name yes) world apart
 
+pub one_id : (id : ℕ) (entries : List DumpEntry) → AreApart (map (λ (e : DumpEntry). e.id) entries) → OfOne (λ (e : DumpEntry). nat_eq e.id id) entries
+one_id id entries apart = of_one (λ (e : DumpEntry). nat_eq e.id id) (λ (e : DumpEntry). e.id) id (λ e yes. eqb-true e.id id yes) entries apart
+
+-- the same, as an index asks it
+pub one_end : (id : ℕ) (entries : List DumpEntry) → AreApart (map (λ (e : DumpEntry). e.id) entries) → OfOne (λ (e : DumpEntry). nat_eq id e.id) entries
+one_end id entries apart = of_one (λ (e : DumpEntry). nat_eq id e.id) (λ (e : DumpEntry). e.id) id (λ e yes. sym (eqb-true id e.id yes)) entries apart
+
 -- of things that have several names
 all_left : {X : Type 0} (P : X → Type 0) (xs ys : List X) → AllByRecursion P (xs ++ ys) → AllByRecursion P xs
 all_left P [] ys all = tt

@@ -1,9 +1,10 @@
 -- Keys by which entries and their calls are found.
-use Rattle.std.specs.Prelude.{◌≡◌, ℕ, zero, suc, ◌+◌, List, [], ◌∷◌, ◌++◌, Option, Some, None, map, slice_index}
+use Rattle.std.specs.Prelude.{◌≡◌, ℕ, zero, suc, ◌+◌, List, [], ◌∷◌, ◌++◌, Option, Some, None, drop, map, slice_index}
 use Rattle.std.specs.List.{flat_map}
 use Rattle.lang_core.specs.declared.ids.Origin.{Origin}
 use Rattle.lang_core.specs.declared.ids.Origin.TheVariants.{Outside, Call}
 use Rattle.lang_lists.specs.Keys.{call_key}
+pub use Rattle.lang_lists.specs.Ends.{end_behind, last_end}
 use Rattle.dump_reader.specs.declared.dump.DumpEntry.{DumpEntry}
 
 abbrev pub number_of : DumpEntry → ℕ
@@ -37,3 +38,8 @@ pub record AreIndexed (entries : List DumpEntry) (ids origins calls places : Lis
 abbrev pub place_at : List ℕ → ℕ → Option ℕ
 place_at places zero = None
 place_at places (suc n) = Some (slice_index places n)
+
+-- what stands from the place before this end on; nothing if that is 0
+abbrev pub from_end : {X : Type 0} → ℕ → List X → List X
+from_end zero xs = []
+from_end (suc n) xs = drop n xs

@@ -3,8 +3,9 @@ ghost use Rattle.std.specs.Prelude.{◌≡◌, ◌+◌, ◌++◌, ◌∷◌, ◌
 ghost use Rattle.std.specs.List.{list_any};
 ghost use Rattle.std.specs.Option.{option_copied};
 ghost use Rattle.lang_core.specs.Origins.{is_call};
+ghost use Rattle.lang_lists.specs.Ends.{last_end};
 ghost use Rattle.dump_reader.specs.Found.{IsOneOf};
-ghost use Rattle.dump_reader.specs.Indexed.{origin_key};
+ghost use Rattle.dump_reader.specs.Indexed.{from_end, origin_key};
 ghost use Rattle.dump_reader.specs.Reading.{has_number};
 
 use crate::call_index::CallIndex;
@@ -86,6 +87,13 @@ fn make_room(
     calls.reserve(more)
 }
 
+fn from_end(entries: &[DumpEntry], end: usize) -> &[DumpEntry]
+    requires { end ≤ length entries.now }
+    ensures { result.now ≡ from_end end entries.now }
+{
+    if end == 0 { &[] } else { &entries[end - 1..] }
+}
+
 impl DumpEntries {
     /// No entries.
     pub fn new(alloc: Global) -> DumpEntries
@@ -104,6 +112,20 @@ impl DumpEntries {
         ensures { result.now ≡ self.now }
     {
         self.items.as_slice()
+    }
+
+    /// An entry of this number, if there is one.
+    pub fn with_id(&self, id: u64) -> Option<&DumpEntry>
+        ensures { IsOneOf (λ e. nat_eq e.id id) self.now (option_copied result) }
+    {
+        one_of(self.as_slice(), &self.ids, id, |e| e.id == id)
+    }
+
+    /// The entries from the last of this number on; none where no entry has it.
+    pub fn from_id(&self, id: u64) -> &[DumpEntry]
+        ensures { result.now ≡ from_end (last_end (λ e. nat_eq id e.id) self.now) self.now }
+    {
+        from_end(self.as_slice(), self.ids.end_of(id))
     }
 
     /// Whether an entry has this number.

@@ -7,3 +7,4 @@ pub mod LogLaws
 pub mod Named
 pub mod SearchLaws
 pub mod Lookups
+pub mod Neighbours

@@ -1,23 +1,23 @@
 -- What searches of a dump by its indexes find, as what walks over its histories would.
-use Rattle.std.proofs.Common.{◌≡◌, ℕ, Bool, true, false, cond, List, [], ◌∷◌, Option, Some, None, Bor, IfSome, find, map, refl, sym, ap, ◌∙◌}
+use Rattle.std.proofs.Common.{◌≡◌, ℕ, Bool, true, false, cond, List, [], ◌∷◌, Option, Some, None, Bor, IfSome, find, map, nat_eq, refl, sym, ap, ◌∙◌}
 use Rattle.std.specs.Option.{option_copied, option_map}
 use Rattle.std.proofs.lemmas.List.Elements.{All-contains, All-from_recursion}
 use Rattle.std.proofs.Math.Bool.{Bool-set}
 use Rattle.std.proofs.Math.Logic.{∥∥₁_elim, ∥∥₁_map}
 use Rattle.lang_base.specs.Texts.{same_text}
 use Rattle.lang_core.specs.Origins.{is_call}
-use Rattle.execution.specs.Executions.{History}
+use Rattle.execution.specs.Executions.{Act, History}
 use Rattle.execution.specs.Together.{comes_from, history_in, name_of}
 use Rattle.dump_reader.specs.Found.{IsOneOf}
 use Rattle.dump_reader.specs.Kept.{AreKept, IsKept}
 use Rattle.dump_reader.specs.declared.dump.DumpEntry.{DumpEntry}
 use Rattle.dump_reader.specs.declared.dump.DumpService.{DumpService}
 use Rattle.dump_audit.specs.Histories.{act_of, histories_of, history_of}
-use Rattle.dump_audit.proofs.OneLemmas.{OfOne, is_found, one_caller, one_name}
-use Rattle.one_world.specs.Trees.{callee_in}
+use Rattle.dump_audit.proofs.OneLemmas.{OfOne, is_found, one_caller, one_id, one_name}
+use Rattle.one_world.specs.Trees.{act_in, callee_in}
 
 -- that a test holds of one at most is known or not, and nothing more
-of_one_only : {X : Type 0} (p : X → Bool) (xs : List X) (a b : OfOne p xs) → a ≡ b
+pub of_one_only : {X : Type 0} (p : X → Bool) (xs : List X) (a b : OfOne p xs) → a ≡ b
 of_one_only p [] a b = refl
 of_one_only p (x ∷ xs) a b = λ i. ((λ yes. Bool-set _ _ (a.0 yes) (b.0 yes) i), of_one_only p xs a.1 b.1 i)
 
@@ -58,3 +58,12 @@ callee_found caller number s found kept one =
     let alone : OfOne (is_of caller number) s.entries =
     ∥∥₁_elim kept (of_one_only (is_of caller number) s.entries) (λ k. one_caller caller number s.entries k.callers) in
     ap (option_map act_of) (sym (is_found (is_of caller number) s.entries found alone one)) ∙ find_map act_of (comes_from caller number) s.entries
+
+abbrev has_id : ℕ → DumpEntry → Bool
+has_id id e = nat_eq e.id id
+
+pub entry_found : (id : ℕ) (s : DumpService) (found : Option DumpEntry) → ∥ IsKept s ∥₁ → IsOneOf (has_id id) s.entries found
+    → option_map act_of found ≡ act_in id (map act_of s.entries)
+entry_found id s found kept one =
+    let alone : OfOne (has_id id) s.entries = ∥∥₁_elim kept (of_one_only (has_id id) s.entries) (λ k. one_id id s.entries k.ids) in
+    ap (option_map act_of) (sym (is_found (has_id id) s.entries found alone one)) ∙ find_map act_of (λ (a : Act). nat_eq a.id id) s.entries

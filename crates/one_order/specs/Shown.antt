@@ -4,8 +4,10 @@ use Rattle.lang_base.specs.Texts.{same_text}
 use Rattle.lang_core.specs.declared.ids.RequestId.{RequestId}
 use Rattle.execution.specs.Executions.{Act, History, survives}
 use Rattle.execution.specs.Together.{history_in}
+use Rattle.dump_reader.specs.declared.dump.DumpEntry.{DumpEntry}
 use Rattle.dump_audit.specs.Histories.{act_of, history_of}
 use Rattle.one_order.specs.Cycles.{Place, along, id_at, place_in}
+use Rattle.one_order.specs.Logs.{acts_of}
 use Rattle.one_order.specs.declared.showing.At.{At}
 use Rattle.one_world.specs.Checks.{is_outside}
 use Rattle.one_world.specs.Searches.{front}
@@ -46,6 +48,11 @@ is_front n (Some m) = nat_eq m n
 abbrev pub are_next : ℕ → ℕ → List Act → Bool
 are_next first second [] = false
 are_next first second (a ∷ acts) = if survives a && nat_eq a.id first then is_front second (front acts) else are_next first second acts
+
+-- the same of the first of these, which survives
+abbrev pub next_behind : ℕ → List DumpEntry → Bool
+next_behind second [] = false
+next_behind second (e ∷ later) = survives (act_of e) && is_front second (front (acts_of later))
 
 abbrev pub next_in : ℕ → ℕ → Option History → Bool
 next_in first second None = false

@@ -149,7 +149,7 @@ pub(crate) fn behind_id<'a>(
     let Some(service) = service_in(&id.service, world) else {
         return None;
     };
-    let Some(entry) = entry_in(id.number, service.entries.as_slice()) else {
+    let Some(entry) = entry_in(id.number, service) else {
         return None;
     };
     if !is_outside(entry) || !is_alive(entry) {

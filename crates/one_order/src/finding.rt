@@ -21,16 +21,12 @@ pub(crate) fn service_in<'a>(name: &Name, world: &'a DumpServices) -> Option<&'a
     world.named(name)
 }
 
-/// The entry of this number, if it is one of these.
-pub(crate) fn entry_in<'a>(id: u64, entries: &'a [DumpEntry]) -> Option<&'a DumpEntry>
-    ensures { option_map act_of (option_copied result) ≡ act_in id (map act_of entries.now) }
+/// The entry of this number at a service, if it has one.
+pub(crate) fn entry_in(id: u64, service: &DumpService) -> Option<&DumpEntry>
+    requires kept { ∥ IsKept service.now ∥₁ }
+    ensures { option_map act_of (option_copied result) ≡ act_in id (map act_of service.now.entries) }
 {
-    for entry in entries {
-        if entry.id == id {
-            return Some(entry);
-        }
-    }
-    None
+    service.entries.with_id(id)
 }
 
 /// The entry of this call at a service, if it has one.

@@ -309,7 +309,7 @@ pub(crate) fn turn_id(
     let Some(service) = service_in(&id.service, services) else {
         return Ok(None);
     };
-    let Some(entry) = entry_in(id.number, service.entries.as_slice()) else {
+    let Some(entry) = entry_in(id.number, service) else {
         return Ok(None);
     };
     turn_root(alloc, services, service, entry, world)

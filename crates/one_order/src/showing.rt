@@ -2,12 +2,12 @@
 ghost use Rattle.std.specs.Prelude.{◌≡◌, ◌++◌, ◌∷◌, [], None, IfOk, IfSome, OnOk, slice_get, true};
 ghost use Rattle.std.specs.Option.{option_copied, option_map};
 ghost use Rattle.execution.specs.Together.{history_in};
-ghost use Rattle.dump_reader.specs.Kept.{AreKept};
+ghost use Rattle.dump_reader.specs.Kept.{AreKept, IsKept};
 ghost use Rattle.dump_audit.specs.Histories.{histories_of};
 ghost use Rattle.one_order.specs.Certificates.{order_in};
 ghost use Rattle.one_order.specs.Cycles.{IsShown, IsWay, ShowsCycle, along, in_slot, is_earlier};
 ghost use Rattle.one_order.specs.Logs.{acts_of};
-ghost use Rattle.one_order.specs.Shown.{act_at, are_neighbours, are_next, comes_to, is_before, is_front, is_pair, name_at, place_of, same_ids};
+ghost use Rattle.one_order.specs.Shown.{act_at, are_neighbours, are_next, comes_to, is_before, is_front, is_pair, name_at, next_behind, place_of, same_ids};
 ghost use Rattle.one_order.specs.declared.certificates.Certificate.TheVariants.{Cycle};
 
 use crate::certificates::Certificate;
@@ -122,7 +122,7 @@ fn again<'a>(world: &'a DumpServices, at: &At<'_>) -> Option<At<'a>>
     let Some(service) = service_in(&at.service.setting.me, world) else {
         return None;
     };
-    match entry_in(at.entry.id, service.entries.as_slice()) {
+    match entry_in(at.entry.id, service) {
         Some(entry) => Some(At { service, entry }),
         None => None,
     }
@@ -154,18 +154,22 @@ fn is_front(number: u64, front: Option<u64>) -> bool
     }
 }
 
-// Whether the second stands directly behind the first, among those that survive.
-fn are_next(first: u64, second: u64, entries: &[DumpEntry]) -> bool
-    ensures { result ≡ are_next first second (acts_of entries.now) }
+// Whether this one stands directly behind the first of these, which survives.
+fn next_behind(second: u64, left: &[DumpEntry]) -> bool
+    ensures { result ≡ next_behind second left.now }
 {
-    let mut left = entries;
-    while let [entry, later @ ..] = left {
-        if is_alive(entry) && entry.id == first {
-            return is_front(second, front(later));
-        }
-        left = later;
-    }
-    false
+    let [entry, later @ ..] = left else {
+        return false;
+    };
+    is_alive(entry) && is_front(second, front(later))
+}
+
+// Whether the second stands directly behind the first, among those of a service that survive.
+fn are_next(first: u64, second: u64, service: &DumpService) -> bool
+    requires kept { ∥ IsKept service.now ∥₁ }
+    ensures { result ≡ are_next first second (acts_of service.now.entries) }
+{
+    next_behind(second, service.entries.from_id(first))
 }
 
 fn are_neighbours(world: &DumpServices, first: &At<'_>, second: &At<'_>) -> bool
@@ -182,7 +186,7 @@ fn are_neighbours(world: &DumpServices, first: &At<'_>, second: &At<'_>) -> bool
         return false;
     }
     match service_in(&first.service.setting.me, world) {
-        Some(service) => are_next(first.entry.id, second.entry.id, service.entries.as_slice()),
+        Some(service) => are_next(first.entry.id, second.entry.id, service),
         None => false,
     }
 }
