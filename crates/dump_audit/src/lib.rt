@@ -16,3 +16,4 @@ pub use beside::judge_beside;
 pub use dump_reader::{Dump, DumpEntry, DumpService, DumpServices};
 pub use judged::{Fault, Judged};
 pub use judging::judge;
+pub use lang_rows::RowTree;

@@ -10,11 +10,11 @@ ghost use Rattle.dump_audit.specs.Judging.{after, difference, ended, is_alive, i
 
 use crate::judged::Fault;
 use dump_reader::{DumpEntry, DumpService};
-use handler_run::{Ran, RowsView, run};
+use handler_run::{Ran, run};
 use lang_core::{
     Answers, Calls, Cells, NoMemory, Reads, Response, Same, Setting, Text, Trace, Writes,
-    apply_writes,
 };
+use lang_rows::RowTree;
 use std::alloc::Global;
 
 /// Whether an entry survives.
@@ -50,7 +50,7 @@ fn ended(ran: Ran) -> Option<Trace>
 fn trace_of(
     alloc: Global,
     setting: &Setting,
-    rows: &Cells,
+    rows: &RowTree,
     entry: &DumpEntry,
 ) -> Result<Option<Trace>, NoMemory>
     ensures { IfOk result (λ trace. trace ≡ trace_of setting.now rows.now entry.now) }
@@ -58,14 +58,13 @@ fn trace_of(
     if !is_alive(entry) {
         return Ok(Some(dead_trace(alloc)?));
     }
-    let view = RowsView { cells: rows };
     let ran = run(
         alloc,
         setting,
         &entry.request,
         &entry.inputs,
         &entry.answers,
-        &view,
+        rows,
     )?;
     Ok(ended(ran))
 }
@@ -127,7 +126,7 @@ fn difference(entry: &DumpEntry, trace: &Trace) -> Option<Fault>
 fn step(
     alloc: Global,
     setting: &Setting,
-    rows: &mut Cells,
+    rows: &mut RowTree,
     entry: &DumpEntry,
 ) -> Result<Option<Fault>, NoMemory>
     ensures { IfOk result (λ what. stepped what rows.new ≡ after setting.now rows.old entry.now) }
@@ -138,7 +137,7 @@ fn step(
     if let Some(what) = difference(entry, &trace) {
         return Ok(Some(what));
     }
-    apply_writes(alloc, rows, &trace.writes)?;
+    rows.apply(alloc, &trace.writes)?;
     Ok(None)
 }
 
@@ -155,13 +154,14 @@ pub(crate) fn replay_fault(
 ) -> Result<Option<(u64, Fault)>, NoMemory>
     ensures { IfOk result (λ found. found ≡ replay_fault service.now) }
 {
-    let mut rows = Cells::new(alloc);
+    let mut rows = RowTree::new(alloc);
     for entry in service.entries.as_slice() {
         if let Some(what) = step(alloc, &service.setting, &mut rows, entry)? {
             return Ok(Some((entry.id, what)));
         }
     }
-    if rows_are(&rows, &service.rows) {
+    let last = rows.cells(alloc)?;
+    if rows_are(&last, &service.rows) {
         Ok(None)
     } else {
         Ok(Some((0, Fault::Rows)))

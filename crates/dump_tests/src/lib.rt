@@ -7,3 +7,5 @@ mod given;
 mod judging;
 #[cfg(test)]
 mod reading;
+#[cfg(test)]
+mod rows;

@@ -1,8 +1,7 @@
 -- Writes at a service that is found by its place.
-use Rattle.std.proofs.Common.{◌≡◌, ◌<◌, ◌≤◌, ◌+◌, ℕ, zero, suc, true, false, List, [], ◌∷◌, ◌++◌, take, drop, length, slice_index_or, slice_set, refl, sym, ap, ◌∙◌, subst, arith}
+use Rattle.std.proofs.Common.{◌≡◌, ◌<◌, ◌≤◌, ◌+◌, ℕ, zero, suc, true, List, [], ◌∷◌, ◌++◌, take, drop, length, slice_index_or, slice_set, refl, sym, ap, ◌∙◌, subst, arith}
 use Rattle.lang_base.specs.Texts.{same_text}
 use Rattle.lang_core.specs.Rows.{apply}
-use Rattle.lang_core.specs.declared.cells.Cell.{Cell}
 use Rattle.lang_core.specs.declared.writes.Write.{Write}
 use Rattle.one_world.specs.Tapes.{World, with_writes}
 use Rattle.one_world.specs.declared.rows.Rows.{Rows}
@@ -36,12 +35,11 @@ module _ (name : List ℕ) (ws : List Write) where
   found_none (x ∷ world) (suc i) le = ap (λ ys. x ∷ ys) (found_none world i (omega (arith, le)))
 
 -- the rows at a place, with the writes, in the place of what stood there
-pub placed : (name : List ℕ) (ws : List Write) (world : World) (i : ℕ) (a b : Rows) (cells : List Cell) → i < length world
-    → same_text (slice_index_or world i a).service name ≡ true → cells ≡ apply (slice_index_or world i b).rows ws
-    → slice_set world i (record { service = (slice_index_or world i b).service; rows = cells }) ≡ take i world ++ with_writes name ws (drop i world)
-placed name ws world i a b cells lt named e =
+pub placed : (name : List ℕ) (ws : List Write) (world : World) (i : ℕ) (a b row : Rows) → i < length world
+    → same_text (slice_index_or world i a).service name ≡ true
+    → row ≡ record { service = (slice_index_or world i b).service; rows = apply (slice_index_or world i b).rows ws }
+    → slice_set world i row ≡ take i world ++ with_writes name ws (drop i world)
+placed name ws world i a b row lt named e =
     let r : Rows = slice_index_or world i b in
     let mine : same_text r.service name ≡ true = subst (λ (x : Rows). same_text x.service name ≡ true) (same_place world i a b lt) named in
-    let step : slice_set world i (record { service = r.service; rows = cells }) ≡ slice_set world i (record { service = r.service; rows = apply r.rows ws }) =
-    ap (λ (xs : List Cell). slice_set world i (record { service = r.service; rows = xs })) e in
-    step ∙ found_here name ws world i r lt (same_place world i r b lt) mine
+    ap (λ (x : Rows). slice_set world i x) e ∙ found_here name ws world i r lt (same_place world i r b lt) mine

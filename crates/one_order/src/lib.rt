@@ -11,6 +11,7 @@ mod finding;
 mod groups;
 mod logs;
 mod orders;
+mod played;
 mod playing;
 mod rooted;
 mod searching;

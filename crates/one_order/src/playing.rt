@@ -13,39 +13,44 @@ ghost use Rattle.one_world.specs.Trees.{calls_of};
 ghost use Rattle.one_world.specs.Turns.{call_to, turn_act, turn_all, turn_call, turn_callee, turn_calls, turn_end, turn_id, turn_last};
 
 use crate::finding::{callee_in, calls_of, depth_of, entry_in, service_in};
+use crate::played::PlayedRows;
+use dump_audit::RowTree;
 use dump_reader::{DumpEntry, DumpService, DumpServices};
-use handler_run::{Ran, RowsView, run};
+use handler_run::{Ran, run};
 use lang_core::{
-    Answers, CallMade, Cells, Name, NoMemory, Request, RequestId, Response, Same, Text, Writes,
-    apply_writes,
+    Answers, CallMade, Name, NoMemory, Request, RequestId, Response, Same, Text, Writes,
 };
-use one_world::Rows;
 use std::alloc::Global;
 
-fn rows_at<'a>(name: &Name, world: &'a [Rows]) -> Option<&'a Cells>
+fn rows_at<'a>(name: &Name, world: &'a [PlayedRows]) -> Option<&'a RowTree>
     ensures { unwrap_or (option_copied result) [] ≡ rows_at name.now world.now }
 {
-    for rows in world {
-        if rows.service.text().is(name.text()) {
-            return Some(&rows.rows);
+    for played in world {
+        if is_named(name, played) {
+            return Some(played.rows());
         }
     }
     None
 }
 
-fn is_named(name: &Name, rows: &Rows) -> bool
-    ensures { result ≡ same_text rows.now.service name.now }
+fn is_named(name: &Name, played: &PlayedRows) -> bool
+    ensures { result ≡ same_text played.now.service name.now }
 {
-    rows.service.text().is(name.text())
+    played.service().text().is(name.text())
 }
 
 // Makes writes at a service.
-fn write_at(alloc: Global, name: &Name, writes: &Writes, world: &mut [Rows]) -> Result<(), NoMemory>
+fn write_at(
+    alloc: Global,
+    name: &Name,
+    writes: &Writes,
+    world: &mut [PlayedRows],
+) -> Result<(), NoMemory>
     ensures { OnOk result (world.new ≡ with_writes name.now writes.now world.old) }
 {
     for i in 0..world.len() {
         if is_named(name, &world[i]) {
-            return apply_writes(alloc, &mut world[i].rows, writes);
+            return world[i].apply(alloc, writes);
         }
     }
     Ok(())
@@ -58,24 +63,16 @@ fn run_on(
     entry: &DumpEntry,
     request: &Request,
     given: &Answers,
-    world: &[Rows],
+    world: &[PlayedRows],
 ) -> Result<Ran, NoMemory>
     ensures { IfOk result (λ ran. ran ≡ run_of service.now.setting request.now entry.now.inputs given.now (rows_at service.now.setting.me world.now)) }
 {
-    let none = Cells::new(alloc);
-    let cells = match rows_at(&service.setting.me, world) {
-        Some(cells) => cells,
+    let none = RowTree::new(alloc);
+    let rows = match rows_at(&service.setting.me, world) {
+        Some(rows) => rows,
         None => &none,
     };
-    let view = RowsView { cells };
-    run(
-        alloc,
-        &service.setting,
-        request,
-        &entry.inputs,
-        given,
-        &view,
-    )
+    run(alloc, &service.setting, request, &entry.inputs, given, rows)
 }
 
 // The writes of a run that ends are made.
@@ -83,7 +80,7 @@ fn turn_end(
     alloc: Global,
     me: &Name,
     ran: Ran,
-    world: &mut [Rows],
+    world: &mut [PlayedRows],
 ) -> Result<Option<Response>, NoMemory>
     ensures { IfOk result (λ response. turned response world.new ≡ turn_end me.now world.old ran) }
 {
@@ -104,7 +101,7 @@ fn turn_last(
     request: &Request,
     numbers: &[u64],
     given: &Answers,
-    world: &mut [Rows],
+    world: &mut [PlayedRows],
 ) -> Result<Option<Response>, NoMemory>
     ensures { IfOk result (λ response. turned response world.new
         ≡ turn_last (history_of service.now) (act_of entry.now) request.now numbers.now given.now world.old) }
@@ -149,7 +146,7 @@ fn turn_act(
     request: &Request,
     service: &DumpService,
     entry: &DumpEntry,
-    world: &mut [Rows],
+    world: &mut [PlayedRows],
 ) -> Result<Option<Response>, NoMemory>
     requires kept { ∥ AreKept services.now ∥₁ }
     ensures { IfOk result (λ response. turned response world.new
@@ -170,7 +167,7 @@ fn turn_callee(
     number: u64,
     dest: &Name,
     request: &Request,
-    world: &mut [Rows],
+    world: &mut [PlayedRows],
 ) -> Result<Option<Response>, NoMemory>
     requires kept { ∥ AreKept services.now ∥₁ }
     ensures { IfOk result (λ response. turned response world.new
@@ -197,7 +194,7 @@ fn turn_call(
     number: u64,
     dest: &Name,
     given: &Answers,
-    world: &mut [Rows],
+    world: &mut [PlayedRows],
 ) -> Result<Option<Response>, NoMemory>
     requires kept { ∥ AreKept services.now ∥₁ }
     ensures { IfOk result (λ response. turned response world.new
@@ -229,7 +226,7 @@ fn turn_all(
     request: &Request,
     service: &DumpService,
     entry: &DumpEntry,
-    world: &mut [Rows],
+    world: &mut [PlayedRows],
 ) -> Result<Option<Response>, NoMemory>
     requires kept { ∥ AreKept services.now ∥₁ }
     ensures { IfOk result (λ response. turned response world.new
@@ -250,7 +247,7 @@ fn turn_calls(
     request: &Request,
     service: &DumpService,
     entry: &DumpEntry,
-    world: &mut [Rows],
+    world: &mut [PlayedRows],
 ) -> Result<Option<Response>, NoMemory>
     requires kept { ∥ AreKept services.now ∥₁ }
     ensures { IfOk result (λ response. turned response world.new
@@ -281,7 +278,7 @@ fn turn_root(
     services: &DumpServices,
     service: &DumpService,
     entry: &DumpEntry,
-    world: &mut [Rows],
+    world: &mut [PlayedRows],
 ) -> Result<Option<Response>, NoMemory>
     requires kept { ∥ AreKept services.now ∥₁ }
     ensures { IfOk result (λ response. turned response world.new
@@ -300,7 +297,7 @@ pub(crate) fn turn_id(
     alloc: Global,
     services: &DumpServices,
     id: &RequestId,
-    world: &mut [Rows],
+    world: &mut [PlayedRows],
 ) -> Result<Option<Response>, NoMemory>
     requires kept { ∥ AreKept services.now ∥₁ }
     ensures { IfOk result (λ response. turned response world.new

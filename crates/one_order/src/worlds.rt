@@ -9,22 +9,20 @@ ghost use Rattle.one_world.specs.Trees.{AreRoots, Trees};
 ghost use Rattle.one_world.specs.Turns.{turn_roots};
 
 use crate::orders::Ids;
+use crate::played::PlayedRows;
 use crate::playing::turn_id;
 use dump_reader::{Dump, DumpService, DumpServices};
-use lang_core::{Cells, Copied, NoMemory, RequestId};
+use lang_core::{NoMemory, RequestId};
 use one_world::Rows;
 use std::alloc::Global;
 
 // Each service without rows.
-fn before_all(alloc: Global, services: &[DumpService]) -> Result<Vec<Rows>, NoMemory>
+fn before_all(alloc: Global, services: &[DumpService]) -> Result<Vec<PlayedRows>, NoMemory>
     ensures { IfOk result (λ world. world.items ≡ before_all (histories_of services.now)) }
 {
     let mut world = Vec::with_capacity(alloc, services.len())?;
     for service in services {
-        world.push(Rows {
-            service: service.setting.me.copied(alloc)?,
-            rows: Cells::new(alloc),
-        })?;
+        world.push(PlayedRows::new(alloc, &service.setting.me)?)?;
     }
     Ok(world)
 }
@@ -33,7 +31,7 @@ fn turn_roots(
     alloc: Global,
     services: &DumpServices,
     order: &[RequestId],
-    world: &mut [Rows],
+    world: &mut [PlayedRows],
 ) -> Result<bool, NoMemory>
     requires kept { ∥ AreKept services.now ∥₁ }
     ensures { IfOk result (λ ran. (if ran then Some world.new else None) ≡ turn_roots (length (histories_of services.now)) (histories_of services.now) order.now world.old) }
@@ -46,6 +44,17 @@ fn turn_roots(
     Ok(true)
 }
 
+// The rows of each service, as lists.
+fn told(alloc: Global, world: &[PlayedRows]) -> Result<Vec<Rows>, NoMemory>
+    ensures { IfOk result (λ told. told.items ≡ world.now) }
+{
+    let mut told = Vec::with_capacity(alloc, world.len())?;
+    for played in world {
+        told.push(played.told(alloc)?)?;
+    }
+    Ok(told)
+}
+
 /// The last rows of each service, in the dump's order, where the roots of the order run one after the other as one program,
 /// from empty rows on: each call in place, at once, before its caller goes on. None exactly where that fails.
 pub fn one_run(alloc: Global, dump: &Dump, order: &Ids) -> Result<Option<Vec<Rows>>, NoMemory>
@@ -55,7 +64,7 @@ pub fn one_run(alloc: Global, dump: &Dump, order: &Ids) -> Result<Option<Vec<Row
 {
     let mut world = before_all(alloc, dump.services.as_slice())?;
     if turn_roots(alloc, &dump.services, order.as_slice(), &mut world)? {
-        Ok(Some(world))
+        Ok(Some(told(alloc, &world)?))
     } else {
         Ok(None)
     }

@@ -9,8 +9,8 @@ returns c =
 
 pub returns-then-is_named : goal.returns-then-is_named
 returns-then-is_named c =
-    on_ok_weaker c.apply_writes.result
-    (λ e. placed c.args.name.now c.args.writes.now c.loop-i.world c.loop-i.i c.index-world-i.result c.index-world-i-then-is_named.result c.apply_writes.new.cells
+    on_ok_weaker c.apply.result
+    (λ e. placed c.args.name.now c.args.writes.now c.loop-i.world c.loop-i.i c.index-world-i.result c.index-world-i-then-is_named.result c.apply.new.self
     (let n = c.loop-i.auto.world in let lt = c.loop-i-test.true in omega (arith, n, lt)) (sym c.is_named.ensures ∙ c.if-is_named.true) e
     ∙ c.loop-i.invariant)
-    c.apply_writes.ensures.ok
+    c.apply.ensures

@@ -1,4 +1,4 @@
-use Rattle.std.proofs.Common.{◌≡◌, cond, Some, None, length, subst}
+use Rattle.std.proofs.Common.{◌≡◌, cond, Some, None, length, subst, ap, ◌∙◌}
 use Rattle.dump_audit.specs.Histories.{histories_of}
 use Rattle.one_world.specs.OneWorld.{before_all}
 use Rattle.one_world.specs.Turns.{turn_roots}
@@ -12,12 +12,12 @@ returns-then-branch c =
     c.as_slice-2.ensures c.in_ok-turn_roots.ensures in
     let first = subst (λ s. c.in_ok-world.world.items ≡ before_all (histories_of s)) c.as_slice.ensures c.in_ok-world.ensures in
     record {
-      exact = λ trees roots. ran_so (histories_of c.args.dump.now.services) c.requires.legal c.args.order.now c.turn_roots.new.world c.in_ok-world.world.items c.deref_mut.result.now
+      exact = λ trees roots. ap Some (c.in_ok-told.ensures ∙ c.deref.ensures.value) ∙ ran_so (histories_of c.args.dump.now.services) c.requires.legal c.args.order.now c.turn_roots.new.world c.in_ok-world.world.items c.deref_mut.result.now
           c.in_ok-world.world.len b c.if-branch.true ran c.deref_mut.ensures.value first c.in_ok-world.world.ok.0 c.turn_roots.auto.world trees roots;
     }
 
-pub returns-else-branch : goal.returns-else-branch
-returns-else-branch c =
+pub returns : goal.returns
+returns c =
     let b = c.in_ok-turn_roots.field-0 in
     let ran = subst (λ o. cond b (Some c.turn_roots.new.world) None ≡ turn_roots (length (histories_of c.args.dump.now.services)) (histories_of c.args.dump.now.services) o c.deref_mut.result.now)
     c.as_slice-2.ensures c.in_ok-turn_roots.ensures in
