@@ -11,9 +11,11 @@ use Rattle.dump_audit.specs.Judging.{judged}
 use Rattle.dump_audit.specs.declared.judged.Judged.{Judged}
 use Rattle.dump_audit.specs.declared.judged.Judged.TheVariants.{Legal}
 use Rattle.audit_command.specs.Audits.{LacksMemory, Prints, judged_line}
+use Rattle.one_order.specs.Certificates.{AreFirst}
 use Rattle.one_order.specs.Cycles.{ShowsCycle}
 use Rattle.one_world.specs.Certificates.{Passes}
 use Rattle.one_world.specs.OneWorld.{RunsAsOne}
+use Rattle.one_world.specs.Searches.{logs_of}
 use Rattle.order_command.specs.Orders.{Tells, cycle_line, id_line, order_lines}
 
 module _ (services : List DumpService) (out out_now : Writes) (status : ℕ) where
@@ -24,9 +26,11 @@ module _ (services : List DumpService) (out out_now : Writes) (status : ℕ) whe
   or_lacks text tells (inl prints) = inl (text, tells, prints)
   or_lacks text tells (inr lacks) = inr lacks
 
-  pub order_told : (order : List RequestId) → IsLegalTogether (histories_of services) → Passes (histories_of services) order → RunsAsOne (histories_of services) order
+  pub order_told : (order : List RequestId) → IsLegalTogether (histories_of services) → Passes (histories_of services) order
+      → AreFirst (histories_of services) (logs_of (histories_of services)) order → RunsAsOne (histories_of services) order
       → Prints out out_now (order_lines order) status ⊎ LacksMemory out out_now status → IsTold
-  order_told order legal passes runs prints = or_lacks (order_lines order) (inl (record { legal = legal; order = order; passes = passes; runs = runs; is = refl })) prints
+  order_told order legal passes first runs prints =
+      or_lacks (order_lines order) (inl (record { legal = legal; order = order; passes = passes; first = first; runs = runs; is = refl })) prints
 
   pub cycle_told : (first second : RequestId) → IsLegalTogether (histories_of services) → ((order : List RequestId) → ¬ (Passes (histories_of services) order))
       → (¬ (first ≡ second) → (back : List RequestId) × ShowsCycle (histories_of services) first second back) → Prints out out_now (cycle_line first second) status ⊎ LacksMemory out out_now status → IsTold

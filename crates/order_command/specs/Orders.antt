@@ -12,9 +12,11 @@ use Rattle.dump_audit.specs.Histories.{histories_of}
 use Rattle.dump_audit.specs.Judging.{judged}
 use Rattle.dump_audit.specs.declared.judged.Judged.TheVariants.{Legal}
 use Rattle.audit_command.specs.Audits.{Asked, EndsIn, Is, LacksMemory, Prints, dump_told, dump_word, is_file_word, judged_line, misfit_from, refused_line, usage_line}
+use Rattle.one_order.specs.Certificates.{AreFirst}
 use Rattle.one_order.specs.Cycles.{ShowsCycle}
 use Rattle.one_world.specs.Certificates.{Passes}
 use Rattle.one_world.specs.OneWorld.{RunsAsOne}
+use Rattle.one_world.specs.Searches.{logs_of}
 
 -- ---- the words
 
@@ -40,11 +42,12 @@ abbrev pub cycle_line : RequestId → RequestId → List ℕ
 cycle_line first second =
     codes "cycle " ++ (first.service ++ (codes "/" ++ (decimal first.number ++ (codes " " ++ (second.service ++ (codes "/" ++ (decimal second.number ++ codes "\n")))))))
 
--- the roots in an order in which the world ran as one program, or could have
+-- the roots in an order in which the world ran as one program, or could have: always the first by service that comes next in all logs
 pub record TellsOrder (services : List DumpService) (text : List ℕ) : Type 0 where
   pub legal : IsLegalTogether (histories_of services)
   pub order : List RequestId
   pub passes : Passes (histories_of services) order
+  pub first : AreFirst (histories_of services) (logs_of (histories_of services)) order
   pub runs : RunsAsOne (histories_of services) order
   pub is : text ≡ order_lines order
 

@@ -5,8 +5,9 @@ use Rattle.order_command.proofs.ordering.order_of.Goals as goal
 pub returns-in-Ok-Order : goal.returns-in-Ok-Order
 returns-in-Ok-Order g c =
     let passes = rw c.in-Ok-Order.field-0-is at c.in-Ok-Order.ensures.order in
+    let first = rw c.in-Ok-Order.field-0-is at c.in-Ok-Order.ensures.first in
     let runs = rw c.in-Ok-Order.field-0-is at c.in-Ok-Order.ensures.one_world in
-    order_told c.args.dump.now.services (g.K.Sink.writes c.args.out.now) (g.K.Sink.writes c.ordered.new.out) c.ordered.result c.in-Ok-Order.order c.in-Ok-Order.ensures.legal passes runs c.ordered.ensures
+    order_told c.args.dump.now.services (g.K.Sink.writes c.args.out.now) (g.K.Sink.writes c.ordered.new.out) c.ordered.result c.in-Ok-Order.order c.in-Ok-Order.ensures.legal passes first runs c.ordered.ensures
 
 pub returns-in-Ok-Cycle : goal.returns-in-Ok-Cycle
 returns-in-Ok-Cycle g c =
