@@ -1,6 +1,7 @@
 /* Put before the C library (LD_PRELOAD), this refuses one of a program's allocations: that of the number REFUSED, counted
    from 1, of whatever thread; none where it is 0. At the program's end how many there were is written to the file that
    ALLOCATIONS names. */
+#include <errno.h>
 #include <stdio.h>
 #include <stdlib.h>
 #include <sys/syscall.h>
@@ -41,7 +42,11 @@ void _exit(int status)
 
 static int is_refused(void)
 {
-    return __atomic_add_fetch(&count, 1, __ATOMIC_RELAXED) == refused;
+    if (__atomic_add_fetch(&count, 1, __ATOMIC_RELAXED) != refused)
+        return 0;
+    /* The C library relies on it where it starts a thread. */
+    errno = ENOMEM;
+    return 1;
 }
 
 void *malloc(size_t size)
