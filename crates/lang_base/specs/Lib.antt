@@ -1,4 +1,5 @@
 pub mod Characters
 pub mod Equal
+pub mod Held
 pub mod Memory
 pub mod Texts

@@ -7,6 +7,7 @@
 mod bytes;
 mod characters;
 mod fault;
+mod inline;
 mod memory;
 mod seq;
 mod text;

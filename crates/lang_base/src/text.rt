@@ -1,18 +1,29 @@
 // Text, which contracts see as its bytes.
-ghost use Rattle.std.specs.Prelude.{◌≡◌, ◌↔◌, IfOk, IsTrue, ◌++◌, length};
+ghost use Rattle.std.specs.Prelude.{◌≡◌, ◌↔◌, ◌≤◌, IfOk, IsTrue, ◌++◌, length};
 ghost use Rattle.std.specs.String.{string_bytes};
 ghost use Rattle.lang_base.specs.Texts.{same_text, text_order, begins_with};
 
+use crate::inline::{INLINE_ROOM, InlineText};
 use crate::memory::{Copied, NoMemory, Same};
 use std::alloc::Global;
 use std::cmp::Ordering;
 use std::marker::Model;
-use std::sync::ArcStr;
+use std::sync::Arc;
+
+/// What a text holds: a short one stands where it is, so that it needs one block, and a longer one in a block of its own.
+#[derive(Drop)]
+enum Held {
+    Inline(InlineText),
+    Owned(String),
+}
+
+// With the count of its holders, as much as one block of 48 bytes lends.
+const _: () = prove!(size_of::<Held>() == 32);
 
 /// UTF-8 text, seen as its bytes.
 #[derive(Drop)]
 pub struct Text {
-    inner: ArcStr,
+    held: Arc<Held>,
 }
 
 impl Model for Text {
@@ -20,7 +31,9 @@ impl Model for Text {
 
     ghost Value = { List ℕ };
 
-    ghost view = { λ text. text.inner.text.value.bytes.items };
+    ghost use Rattle.lang_base.specs.Held.{held_bytes};
+
+    ghost view = { λ text. held_bytes text.held.value };
 }
 
 impl Text {
@@ -28,37 +41,67 @@ impl Text {
     pub fn of(alloc: Global, characters: &str) -> Result<Text, NoMemory>
         ensures { IfOk result (λ text. text ≡ characters.now) }
     {
-        let inner = ArcStr::from_str(alloc, characters)?;
-        Ok(Text { inner })
+        if characters.len() <= INLINE_ROOM {
+            Text::inline(alloc, characters)
+        } else {
+            Text::owned(alloc, String::from_str(alloc, characters)?)
+        }
+    }
+
+    // These few characters, in one block.
+    fn inline(alloc: Global, characters: &str) -> Result<Text, NoMemory>
+        requires { length characters.now ≤ 23 }
+        ensures { IfOk result (λ text. text ≡ characters.now) }
+    {
+        let held = Arc::new(alloc, Held::Inline(InlineText::of(characters)))?;
+        Ok(Text { held })
+    }
+
+    // These characters, in the block that they are in.
+    fn owned(alloc: Global, characters: String) -> Result<Text, NoMemory>
+        ensures { IfOk result (λ text. text ≡ string_bytes characters) }
+    {
+        let held = Arc::new(alloc, Held::Owned(characters))?;
+        Ok(Text { held })
     }
 
     /// These characters, which are given up.
     pub fn shared(text: String) -> Result<Text, NoMemory>
         ensures { IfOk result (λ shared. shared ≡ string_bytes text) }
     {
-        let inner = ArcStr::from_string(text)?;
-        Ok(Text { inner })
+        let alloc = *text.allocator();
+        if text.len() <= INLINE_ROOM {
+            Text::inline(alloc, text.as_str())
+        } else {
+            Text::owned(alloc, text)
+        }
     }
 
     /// The characters.
     pub fn as_str(&self) -> &str
         ensures { result.now ≡ self.now }
     {
-        self.inner.as_str()
+        match &*self.held {
+            Held::Inline(text) => text.as_str(),
+            Held::Owned(text) => text.as_str(),
+        }
     }
 
     /// The bytes.
     pub fn as_bytes(&self) -> &[u8]
         ensures { result.now ≡ self.now }
     {
-        self.inner.as_str().as_bytes()
+        match &*self.held {
+            Held::Inline(text) => text.as_bytes(),
+            Held::Owned(text) => text.as_bytes(),
+        }
     }
 
     /// How many bytes it has.
     pub fn len(&self) -> u64
         ensures { result ≡ length self.now }
     {
-        self.inner.len() as u64
+        self.as_bytes().len() as u64
     }
 
     /// The order of the two texts by their bytes.
@@ -78,8 +121,8 @@ impl Text {
 
 impl Copied for Text {
     fn copied(&self, alloc: Global) -> Result<Text, NoMemory> {
-        let inner = self.inner.clone()?;
-        Ok(Text { inner })
+        let held = self.held.clone()?;
+        Ok(Text { held })
     }
 }
 

@@ -1,5 +1,5 @@
 // That calls succeed where memory suffices.
-use crate::given::{equal, holds, same, text};
+use crate::given::{equal, holds, repeated, same, text};
 use lang_base::{Bytes, Copied, FaultNote, Same, Seq};
 use std::cmp::Ordering;
 use std::process::Abort;
@@ -28,6 +28,26 @@ fn texts(rt: &(impl Abort + AllocGlobal)) {
     equal(rt, last.len(), 3);
     same(rt, last.as_str(), "\u{fc}b");
     copies(rt, &texts);
+}
+
+// A text of so many of a character is the same, whichever way it is made, and so is its copy.
+fn long_as(rt: &(impl Abort + AllocGlobal), character: char, times: u64, bytes: u64) {
+    let given = repeated(rt, "", character, times);
+    let made = text(rt, given.as_str());
+    equal(rt, given.len(), bytes);
+    equal(rt, made.len(), bytes);
+    holds(rt, "both", given.is(&made));
+    copies(rt, &made);
+}
+
+// Short texts stand in the block that counts their holders, and longer ones in one of their own.
+fn lengths(rt: &(impl Abort + AllocGlobal)) {
+    long_as(rt, 'x', 0, 0);
+    long_as(rt, 'x', 23, 23);
+    long_as(rt, 'x', 24, 24);
+    long_as(rt, '\u{fc}', 11, 22);
+    long_as(rt, '\u{fc}', 12, 24);
+    long_as(rt, 'x', 1_000, 1_000);
 }
 
 fn bytes(rt: &(impl Abort + AllocGlobal)) {
@@ -63,6 +83,7 @@ fn begins(rt: &(impl Abort + AllocGlobal)) {
 fn copies_and_compares(rt: HostRuntime) {
     numbers(&rt);
     texts(&rt);
+    lengths(&rt);
     bytes(&rt);
     note(&rt);
     copies(&rt, &Some(9u64));
