@@ -93,6 +93,13 @@ module _ {X : Type 0} (label : X → ℕ) (xs : List X) (r : Rises (map label xs
         | inr ge ↦ (let e : i ≡ j = omega arith in let f = ap (λ n. label (get_or xs n d)) e in omega arith)
       ]
 
+  -- what stands on both sides of the one with a label
+  pub lower : (at : ℕ) → at < length xs → (l : ℕ) → ((d : X) → label (get_or xs at d) ≡ l) → (i : ℕ) (d : X) → i < at → label (get_or xs i d) < l
+  lower at within l here i d lt = let a = above i at d lt within in let e = here d in omega arith
+
+  pub higher : (at : ℕ) → at < length xs → (l : ℕ) → ((d : X) → label (get_or xs at d) ≡ l) → (i : ℕ) (d : X) → at ≤ i → i < length xs → l ≤ label (get_or xs i d)
+  higher at within l here i d from inside = let a = not_below at i d from inside in let e = here d in omega arith
+
   -- the rest of the list, behind a place where the label stands or would stand
   pub rest_above : (l at : ℕ) (taken : Bool) → at ≤ length xs
       → ((i : ℕ) (d : X) → i < at → label (get_or xs i d) < l) → ((i : ℕ) (d : X) → at ≤ i → i < length xs → l ≤ label (get_or xs i d))

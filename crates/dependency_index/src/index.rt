@@ -186,6 +186,7 @@ impl Index {
             rows: ReadRows {
                 keys: Vec::new(alloc),
                 scans: Vec::new(alloc),
+                near: 0,
             },
             room: Vec::new(alloc),
         }

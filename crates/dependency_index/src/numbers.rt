@@ -7,6 +7,19 @@ use lang_core::NoMemory;
 use lang_lists::count_front;
 use versioned_rows::Labelled;
 
+// Whether the item at the place of this number has this label. Labels are given from 0 on, so of a list with all labels that were
+// given each item does.
+fn stands_there<T: Labelled>(items: &[T], label: u64) -> bool
+    ensures there { result ≡ true → label < length items.now }
+    ensures is { result ≡ true → (d : T) → T.label (slice_index_or items.now label d) ≡ label }
+{
+    let at = label as usize;
+    if at >= items.len() {
+        return false;
+    }
+    items[at].label() == label
+}
+
 // How many of these have lower labels.
 fn count_below<T: Labelled>(items: &[T], label: u64) -> usize
     requires { Rises (map T.label items.now) }
@@ -14,6 +27,9 @@ fn count_below<T: Labelled>(items: &[T], label: u64) -> usize
     ensures front { (i : ℕ) (d : T) → i < result → T.label (slice_index_or items.now i d) < label }
     ensures rest { (i : ℕ) (d : T) → result ≤ i → i < length items.now → label ≤ T.label (slice_index_or items.now i d) }
 {
+    if stands_there(items, label) {
+        return label as usize;
+    }
     count_front(items, |item| item.label() < label)
 }
 

@@ -11,7 +11,7 @@ ghost use Rattle.dependency_index.specs.declared.reads.ReadKind.{ReadKind};
 
 use crate::numbers::seek_number;
 use crate::reads::{ReadAt, ReadKind};
-use lang_core::{NoMemory, Text, seek};
+use lang_core::{NoMemory, Text, seek_near};
 use std::alloc::Global;
 use versioned_rows::{KeyRow, copied_rows, drop_label, make_row};
 
@@ -20,6 +20,8 @@ use versioned_rows::{KeyRow, copied_rows, drop_label, make_row};
 pub struct ReadRows {
     pub keys: Vec<KeyRow>,
     pub scans: Vec<KeyRow>,
+    /// Where the last row stood that was made or looked for to be made: who makes room for a read puts a label there next.
+    pub near: usize,
 }
 
 /// Rows with the same labels.
@@ -30,7 +32,11 @@ pub(crate) fn copied_reads(alloc: Global, rows: &ReadRows) -> Result<ReadRows, N
 {
     let keys = copied_rows(alloc, &rows.keys)?;
     let scans = copied_rows(alloc, &rows.scans)?;
-    Ok(ReadRows { keys, scans })
+    Ok(ReadRows {
+        keys,
+        scans,
+        near: 0,
+    })
 }
 
 // Puts a label into a row, if it isn't there yet, where there is room for it.
@@ -49,7 +55,7 @@ fn put_in(row: &mut KeyRow, label: u64)
 }
 
 // Puts a label into the row of a key, if it isn't there yet.
-fn put_label(rows: &mut Vec<KeyRow>, table: &Text, key: &Text, label: u64)
+fn put_label(rows: &mut Vec<KeyRow>, near: usize, table: &Text, key: &Text, label: u64)
     requires ordered { IsOrdered row_place rows.old.items }
     requires rising { Rises (labels_in rows.old.items table.now key.now) }
     requires fits { length (with_number label (labels_in rows.old.items table.now key.now))
@@ -59,7 +65,7 @@ fn put_label(rows: &mut Vec<KeyRow>, table: &Text, key: &Text, label: u64)
     ensures places { (t k : List ℕ) → length (labels_in rows.old.items t k) + spare_in rows.old.items t k
         ≤ length (labels_in rows.new.items t k) + spare_in rows.new.items t k }
 {
-    let (at, _) = seek(rows, table, key);
+    let (at, _) = seek_near(rows, near, table, key);
     put_in(&mut rows[at], label);
 }
 
@@ -73,9 +79,10 @@ fn put_read(rows: &mut ReadRows, read: &ReadAt, label: u64)
         ≡ (if is_at kind t k read.now then with_number label (labels_by rows.old kind t k) else labels_by rows.old kind t k) }
     ensures places { (kind : ReadKind) (t k : List ℕ) → places_by rows.old kind t k ≤ places_by rows.new kind t k }
 {
+    let near = rows.near;
     match read.kind {
-        ReadKind::Key => put_label(&mut rows.keys, &read.table, &read.key, label),
-        ReadKind::Scan => put_label(&mut rows.scans, &read.table, &read.key, label),
+        ReadKind::Key => put_label(&mut rows.keys, near, &read.table, &read.key, label),
+        ReadKind::Scan => put_label(&mut rows.scans, near, &read.table, &read.key, label),
     }
 }
 
@@ -134,8 +141,22 @@ fn make_read(
     ensures spare { OnOk result (spare ≤ spare_by rows.new read.now.kind read.now.table read.now.key) }
 {
     match read.kind {
-        ReadKind::Key => make_row(alloc, &mut rows.keys, &read.table, &read.key, spare),
-        ReadKind::Scan => make_row(alloc, &mut rows.scans, &read.table, &read.key, spare),
+        ReadKind::Key => make_row(
+            alloc,
+            &mut rows.keys,
+            &mut rows.near,
+            &read.table,
+            &read.key,
+            spare,
+        ),
+        ReadKind::Scan => make_row(
+            alloc,
+            &mut rows.scans,
+            &mut rows.near,
+            &read.table,
+            &read.key,
+            spare,
+        ),
     }
 }
 

@@ -1,14 +1,37 @@
 -- Where a place stands in a list in order, told by one comparison.
-use Rattle.std.proofs.Common.{◌≡◌, ℕ, zero, suc, ◌-◌, ◌<◌, ◌≤◌, true, false, List, [], ◌∷◌, length, get_or, Some, None, refl, sym, ap, ◌∙◌, arith}
+use Rattle.std.proofs.Common.{◌≡◌, ℕ, zero, suc, ◌+◌, ◌<◌, ◌≤◌, true, false, List, [], ◌∷◌, length, get_or, Some, None, refl, sym, ap, ◌∙◌, subst, inl, inr, arith}
 use Rattle.std.specs.declared.cmp.Ordering.{Ordering}
 use Rattle.std.specs.declared.cmp.Ordering.TheVariants.{Less, Equal, Greater}
-use Rattle.std.specs.Ordering.{ordering_reverse, is_eq, is_gt}
+use Rattle.std.specs.Ordering.{ordering_reverse, ordering_then, is_eq, is_gt}
 use Rattle.std.specs.List.{find}
 use Rattle.std.specs.List.Sorted.{IsPartitionedBy, IsPartitionPoint}
-use Rattle.lang_core.specs.Places.{Place, place_order, same_place, IsBelowAll, IsOrdered, by_order, rank, is_taken}
+use Rattle.lang_core.specs.Places.{Place, place_of, place_order, same_place, IsBelowAll, IsOrdered, by_order, rank, is_taken}
+use Rattle.std.proofs.lemmas.Bool.{cases_lt}
+use Rattle.std.proofs.lemmas.Cmp.{nat_list_eq_equiv}
 use Rattle.std.proofs.lemmas.List.{get_or_default}
+use Rattle.std.proofs.lemmas.Map.Text.{is_eq-slice_cmp}
+use Rattle.lang_tree.specs.HandedOn.{same_text, text_order}
 use Rattle.lang_core.proofs.PlaceLemmas.{total, below_before}
 use Rattle.lang_core.proofs.ReadLemmas.{same-order}
+
+-- in one table keys tell the order, and in two the tables alone
+same_then : (o q : Ordering) → is_eq o ≡ true → q ≡ ordering_then o q
+same_then Less q h = cc
+same_then Equal q h = refl
+same_then Greater q h = cc
+
+other_then : (o q : Ordering) → is_eq o ≡ false → o ≡ ordering_then o q
+other_then Less q h = refl
+other_then Equal q h = cc
+other_then Greater q h = refl
+
+pub in_one : (t u k l : List ℕ) → t ≡ u → text_order k l ≡ place_order (place_of t k) (place_of u l)
+in_one t u k l e =
+    let P : List ℕ → Type 0 = λ v. text_order k l ≡ place_order (place_of t k) (place_of v l) in
+    subst P e (same_then (text_order t t) (text_order k l) (is_eq-slice_cmp t t ∙ nat_list_eq_equiv.refl t))
+
+pub in_two : (t u k l : List ℕ) → same_text t u ≡ false → text_order t u ≡ place_order (place_of t k) (place_of u l)
+in_two t u k l h = other_then (text_order t u) (text_order k l) (is_eq-slice_cmp t u ∙ h)
 
 module _ {X : Type 0} (place : X → Place) (p : Place) where
   below_each : (q : Place) (xs : List X) (i : ℕ) (x : X) → IsBelowAll place q xs → i < length xs → x ≡ get_or xs i x → place_order q (place x) ≡ Less
@@ -114,10 +137,80 @@ module _ {X : Type 0} (place : X → Place) (p : Place) where
   find_some [] x h is = cc
   find_some (y ∷ ys) x h is = some_by y x ys (place_order p (place y)) refl h is (find_some ys x)
 
-  -- where the last one is below the place, all are
-  pub rank_last : (xs : List X) (x : X) → IsOrdered place xs → 0 < length xs → x ≡ get_or xs (length xs - 1) x → is_gt (place_order p (place x)) ≡ true → rank place p xs ≡ length xs
-  rank_last xs x o some is below =
-      let last : (d : X) → get_or xs (length xs - 1) d ≡ x = λ d. get_or_default xs (length xs - 1) d x (omega (arith, some)) ∙ sym is in
-      let tests : (d : X) → is_gt (place_order p (place (get_or xs (length xs - 1) d))) ≡ true = λ d. ap (λ z. is_gt (place_order p (place z))) (last d) ∙ below in
-      sym (rank_parted xs (length xs) (omega arith)
-      (λ k d from to. parted xs o k (length xs - 1) d (omega (arith, to, some)) (omega (arith, some)) (tests d), λ k d from to. absurd (omega (arith, from, to))))
+  -- an earlier item is below a later one
+  pair : (xs : List X) (i j : ℕ) (d : X) → IsOrdered place xs → i < j → j < length xs → place_order (place (get_or xs i d)) (place (get_or xs j d)) ≡ Less
+  pair [] i j d o lt within = absurd (omega (arith, within))
+  pair (y ∷ ys) i zero d o lt within = absurd (omega (arith, lt))
+  pair (y ∷ ys) zero (suc j) d o lt within =
+      let x = get_or ys j d in
+      below_each (place y) ys j x o.0 (omega (arith, within)) (get_or_default ys j d x (omega (arith, within)))
+  pair (y ∷ ys) (suc i) (suc j) d o lt within = pair ys i j d o.1 (omega (arith, lt)) (omega (arith, within))
+
+  -- what is below an earlier item is below a later one
+  below_later : (x y : X) → place_order p (place x) ≡ Less → place_order (place x) (place y) ≡ Less → place_order p (place y) ≡ Less
+  below_later x y h lt = total.trans p (place x) (place y) h lt
+
+  -- so many at the front are below the place, and all from another place on above it
+  pub record IsSought (xs : List X) (low : ℕ) (high : ℕ) : Type 0 where
+    pub front : (k : ℕ) (d : X) → k < low → place_order p (place (get_or xs k d)) ≡ Greater
+    pub rest : (k : ℕ) (d : X) → high ≤ k → k < length xs → place_order p (place (get_or xs k d)) ≡ Less
+
+  module _ (xs : List X) (o : IsOrdered place xs) (m : ℕ) (x : X) (lt : m < length xs) (is : x ≡ get_or xs m x) where
+    at_m : (r : Ordering) → r ≡ place_order p (place x) → (d : X) → place_order p (place (get_or xs m d)) ≡ r
+    at_m r h d = ap (λ z. place_order p (place z)) (get_or_default xs m d x lt ∙ sym is) ∙ sym h
+
+    -- after a comparison with the item there
+    pub sought_front : (low high : ℕ) → Greater ≡ place_order p (place x) → IsSought xs low high → IsSought xs (m + 1) high
+    sought_front low high h sought = record {
+      front = λ k d below. elim (cases_lt k m) [
+        | inl less ↦ above_earlier (get_or xs k d) (get_or xs m d) (pair xs k m d o less lt) (at_m Greater h d)
+        | inr ge ↦ (let e : k ≡ m = omega (arith, below, ge) in ap (λ i. place_order p (place (get_or xs i d))) e ∙ at_m Greater h d)
+      ];
+      rest = sought.rest;
+    }
+
+    pub sought_rest : (low high : ℕ) → Less ≡ place_order p (place x) → IsSought xs low high → IsSought xs low m
+    sought_rest low high h sought = record {
+      front = sought.front;
+      rest = λ k d from to. elim (cases_lt m k) [
+        | inl less ↦ below_later (get_or xs m d) (get_or xs k d) (at_m Less h d) (pair xs m k d o less to)
+        | inr ge ↦ (let e : k ≡ m = omega (arith, from, ge) in ap (λ i. place_order p (place (get_or xs i d))) e ∙ at_m Less h d)
+      ];
+    }
+
+    -- the item at the place itself is at its rank
+    pub found_rank : Equal ≡ place_order p (place x) → m ≡ rank place p xs
+    found_rank h =
+        let before : (k : ℕ) (d : X) → k < m → place_order p (place (get_or xs k d)) ≡ Greater = λ k d less.
+        total.congr p (place (get_or xs m d)) (place (get_or xs k d)) (at_m Equal h d)
+        ∙ total.antisymm (place (get_or xs m d)) (place (get_or xs k d)) ∙ ap ordering_reverse (pair xs k m d o less lt) in
+        let after : (k : ℕ) (d : X) → m < k → k < length xs → place_order p (place (get_or xs k d)) ≡ Less = λ k d less to.
+        total.congr p (place (get_or xs m d)) (place (get_or xs k d)) (at_m Equal h d) ∙ pair xs m k d o less to in
+        rank_parted xs m (omega (arith, lt)) (
+          λ k d from to. ap is_gt (before k d to),
+          λ k d from to. elim (cases_lt m k) [
+            | inl less ↦ ap is_gt (after k d less to)
+            | inr ge ↦ (let e : k ≡ m = omega (arith, from, ge) in ap (λ i. is_gt (place_order p (place (get_or xs i d)))) e ∙ ap is_gt (at_m Equal h d))
+          ],
+        )
+
+    pub found_taken : Equal ≡ place_order p (place x) → is_taken place p xs ≡ true
+    found_taken h = sym (taken_there xs m x (found_rank h) lt is Equal h)
+
+  -- where the front meets the rest nothing stands at the place
+  pub sought_rank : (xs : List X) (n high : ℕ) → n ≤ length xs → high ≤ n → IsSought xs n high → n ≡ rank place p xs
+  sought_rank xs n high le met sought = rank_parted xs n le (λ k d from to. ap is_gt (sought.front k d to), λ k d from to. ap is_gt (sought.rest k d (omega (arith, met, from)) to))
+
+  taken_at : (xs : List X) (n : ℕ) (x : X) → n ≡ rank place p xs → n < length xs → x ≡ get_or xs n x → place_order p (place x) ≡ Less → is_taken place p xs ≡ false
+  taken_at xs n x e lt is h = sym (taken_there xs n x e lt is Less (sym h))
+
+  head : (xs : List X) (n : ℕ) → n < length xs → (x : X) × (x ≡ get_or xs n x)
+  head [] n lt = absurd (omega (arith, lt))
+  head (y ∷ ys) zero lt = (y, refl)
+  head (y ∷ ys) (suc n) lt = head ys n (omega (arith, lt))
+
+  pub sought_taken : (xs : List X) (n high : ℕ) → n ≤ length xs → high ≤ n → IsSought xs n high → is_taken place p xs ≡ false
+  sought_taken xs n high le met sought = elim (cases_lt n (length xs)) [
+    | inl lt ↦ (let x = head xs n lt in taken_at xs n x.0 (sought_rank xs n high le met sought) lt x.1 (ap (λ z. place_order p (place z)) x.1 ∙ sought.rest n x.0 met lt))
+    | inr ge ↦ taken_nowhere xs (sym (sought_rank xs n high le met sought) ∙ (let e : n ≡ length xs = omega (arith, le, ge) in e))
+  ]

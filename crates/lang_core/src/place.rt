@@ -41,51 +41,22 @@ impl<T: Placed> Model for ByPlace<T> {
     ghost invariant = { λ l. IsOrdered T.place l.items.items };
 }
 
+// Most rows that are compared are of one table, which is told sooner than an order.
 fn order_of<T: Placed>(item: &T, table: &Text, key: &[u8]) -> Ordering
     ensures { result ≡ place_order (place_of table.now key.now) (T.place item.now) }
 {
-    match table.order(item.table()) {
-        Ordering::Less => Ordering::Less,
-        Ordering::Equal => key.cmp(item.key().as_bytes()),
-        Ordering::Greater => Ordering::Greater,
+    if table.is(item.table()) {
+        return key.cmp(item.key().as_bytes());
     }
+    table.order(item.table())
 }
 
-// Whether all of a list are below the place. The last one tells.
-fn are_below<T: Placed>(items: &[T], table: &Text, key: &[u8]) -> bool
-    requires { IsOrdered T.place items.now }
-    ensures { result ≡ true → rank T.place (place_of table.now key.now) items.now ≡ length items.now }
+fn halfway(low: usize, high: usize) -> usize
+    requires { low < high }
+    ensures low { low ≤ result }
+    ensures high { result < high }
 {
-    let len = items.len();
-    if len == 0 {
-        return true;
-    }
-    order_of(&items[len - 1], table, key).is_gt()
-}
-
-// How many items are below the place with a key of these bytes: found by halves, and in one step where all are.
-fn count_below<T: Placed>(items: &[T], table: &Text, key: &[u8]) -> usize
-    requires { IsOrdered T.place items.now }
-    ensures rank { result ≡ rank T.place (place_of table.now key.now) items.now }
-    ensures within { result ≤ length items.now }
-{
-    if are_below(items, table, key) {
-        return items.len();
-    }
-    items.partition_point(|item| order_of(item, table, key).is_gt())
-}
-
-// Whether the item at the rank of a place stands at the place.
-fn stands_at<T: Placed>(items: &[T], at: usize, table: &Text, key: &[u8]) -> bool
-    requires rank { at ≡ rank T.place (place_of table.now key.now) items.now }
-    requires within { at ≤ length items.now }
-    ensures taken { result ≡ is_taken T.place (place_of table.now key.now) items.now }
-    ensures there { result ≡ true → at < length items.now }
-{
-    if at == items.len() {
-        return false;
-    }
-    order_of(&items[at], table, key).is_eq()
+    low + (high - low) / 2
 }
 
 /// How many items of a list in order are below the place with a key of these bytes, and whether one stands there. Found
@@ -96,8 +67,17 @@ pub fn seek_bytes<T: Placed>(items: &[T], table: &Text, key: &[u8]) -> (usize, b
     ensures taken { result.1 ≡ is_taken T.place (place_of table.now key.now) items.now }
     ensures within { IsRank result.0 result.1 (length items.now) }
 {
-    let at = count_below(items, table, key);
-    (at, stands_at(items, at, table, key))
+    let mut low = 0;
+    let mut high = items.len();
+    while low < high {
+        let middle = halfway(low, high);
+        match order_of(&items[middle], table, key) {
+            Ordering::Less => high = middle,
+            Ordering::Equal => return (middle, true),
+            Ordering::Greater => low = middle + 1,
+        }
+    }
+    (low, false)
 }
 
 /// How many items of a list in order are below the place, and whether one stands there. Found by halves.
@@ -108,6 +88,32 @@ pub fn seek<T: Placed>(items: &[T], table: &Text, key: &Text) -> (usize, bool)
     ensures within { IsRank result.0 result.1 (length items.now) }
 {
     seek_bytes(items, table, key.as_bytes())
+}
+
+// Whether the item at a place of the list is the one at the table and the key.
+fn is_there<T: Placed>(items: &[T], at: usize, table: &Text, key: &[u8]) -> bool
+    requires { IsOrdered T.place items.now }
+    ensures rank { result ≡ true → at ≡ rank T.place (place_of table.now key.now) items.now }
+    ensures taken { result ≡ true → is_taken T.place (place_of table.now key.now) items.now ≡ true }
+    ensures there { result ≡ true → at < length items.now }
+{
+    if at >= items.len() {
+        return false;
+    }
+    order_of(&items[at], table, key).is_eq()
+}
+
+/// The same, where the item that may stand there is tried first: what was sought once is often sought again.
+pub fn seek_near<T: Placed>(items: &[T], near: usize, table: &Text, key: &Text) -> (usize, bool)
+    requires { IsOrdered T.place items.now }
+    ensures rank { result.0 ≡ rank T.place (place_of table.now key.now) items.now }
+    ensures taken { result.1 ≡ is_taken T.place (place_of table.now key.now) items.now }
+    ensures within { IsRank result.0 result.1 (length items.now) }
+{
+    if is_there(items, near, table, key.as_bytes()) {
+        return (near, true);
+    }
+    seek(items, table, key)
 }
 
 fn item_at<'a, T: Placed>(items: &'a [T], table: &Text, key: &Text) -> Option<&'a T>
@@ -171,6 +177,19 @@ pub(crate) fn unset_items<T: Placed + Drop>(items: &mut Vec<T>, table: &Text, ke
     take_at(items, at, taken);
 }
 
+// Makes room for one more: just that in an empty list, as most stay with one.
+fn make_place<T>(items: &mut Vec<T>) -> Result<(), NoMemory>
+    ensures items { items.new.items ≡ items.old.items }
+    ensures room { OnOk result (vec_len items.new < vec_capacity items.new) }
+{
+    if items.is_empty() {
+        items.reserve_exact(1)?;
+    } else {
+        items.reserve(1)?;
+    }
+    Ok(())
+}
+
 impl<T: Placed> ByPlace<T> {
     /// An empty list.
     pub fn new(alloc: Global) -> ByPlace<T>
@@ -217,7 +236,7 @@ impl<T: Placed + Drop> ByPlace<T> {
         ensures ok { OnOk result (self.new ≡ set_in T.place item self.old) }
         ensures err { OnErr result (self.new ≡ self.old) }
     {
-        self.items.reserve(1)?;
+        make_place(&mut self.items)?;
         set_in_room(&mut self.items, item);
         Ok(())
     }

@@ -1,5 +1,5 @@
 // Places in logged order, each with a label that stays when others come before it.
-ghost use Rattle.std.specs.Prelude.{◌≡◌, ◌+◌, ◌<◌, ◌≤◌, ◌∷◌, [], ◌++◌, IsTrue, IfOk, OnOk, OnErr, insert, length, nat_lt, slice_index, vec_len, vec_capacity};
+ghost use Rattle.std.specs.Prelude.{◌≡◌, ◌+◌, ◌<◌, ◌≤◌, ◌∷◌, [], ◌++◌, true, IsTrue, IfOk, OnOk, OnErr, insert, length, nat_lt, slice_index, vec_len, vec_capacity};
 ghost use Rattle.std.specs.List.{Contains};
 ghost use Rattle.lang_lists.specs.Room.{is_made};
 ghost use Rattle.place_order.specs.Labels.{place_in, IsNew};
@@ -140,12 +140,28 @@ impl Places {
         self.labels[place]
     }
 
-    /// Where a label stands, found by halves.
+    // Whether the label at the place of its number is this one. Labels are given from 0 on, so that each is where none came between
+    // others.
+    fn stands_there(&self, label: u64) -> bool
+        ensures within { result ≡ true → label < length self.now.labels }
+        ensures place { result ≡ true → place_in self.now.labels label ≡ label }
+    {
+        let at = label as usize;
+        if at >= self.labels.len() {
+            return false;
+        }
+        self.label_at(at) == label
+    }
+
+    /// Where a label stands: at the place of its number, or found by halves.
     pub fn place_of(&self, label: u64) -> usize
         requires { Contains self.now.labels label }
         ensures place { result ≡ place_in self.now.labels label }
         ensures within { result < length self.now.labels }
     {
+        if self.stands_there(label) {
+            return label as usize;
+        }
         count_front(&self.labels, |other| is_before(&self.order, *other, label))
     }
 

@@ -1,6 +1,8 @@
 -- What it comes to for all keys that a place is taken out or put in.
 use Rattle.std.proofs.Common.{◌≡◌, ℕ, suc, ◌+◌, ◌<◌, ◌≤◌, Bool, true, false, not, cond, List, [], ◌∷◌, ◌++◌, Option, Some, None, nat_eq, nat_lt, length, get_or, map, position, refl, sym, ap, ◌∙◌, subst, inl, inr, arith, eqb-true}
-use Rattle.std.specs.List.{filter, remove, AllByRecursion, position_or_len}
+use Rattle.std.specs.List.{filter, find, remove, slice_get, AllByRecursion, position_or_len}
+use Rattle.std.proofs.lemmas.List.Folds.{find_at}
+use Rattle.std.proofs.lemmas.Option.{slice_get-get_or, slice_get_past}
 use Rattle.std.proofs.lemmas.Bool.{cases_Bool, ltb-true, ltb-false, ne_eqb, eqb-false, not-true}
 use Rattle.std.proofs.lemmas.List.{map-append}
 use Rattle.std.proofs.lemmas.List.Elements.{filter-append}
@@ -23,6 +25,19 @@ position_is p xs at h = by (nat_lt (position_or_len p xs) (length xs)) refl h
     by : (b : Bool) → nat_lt (position_or_len p xs) (length xs) ≡ b → cond b (Some (position_or_len p xs)) None ≡ Some at → (at ≡ position_or_len p xs) × (at < length xs)
     by true e h = let same : position_or_len p xs ≡ at = cc in let lt = ltb-true (position_or_len p xs) (length xs) e in (sym same, omega arith)
     by false e h = cc
+
+-- what is found, by its position
+pub found_at : {X : Type 0} (p : X → Bool) (xs : List X) (at : ℕ) (x : X) → position p xs ≡ Some at → x ≡ get_or xs at x → find p xs ≡ Some x
+found_at p xs at x h is =
+    let pos = position_is p xs at h in
+    find_at p xs ∙ ap (slice_get xs) (sym pos.0) ∙ slice_get-get_or xs at x pos.1 ∙ ap Some (sym is)
+
+pub found_none : {X : Type 0} (p : X → Bool) (xs : List X) → position p xs ≡ None → find p xs ≡ None
+found_none p xs h = by (nat_lt (position_or_len p xs) (length xs)) refl h
+  where
+    by : (b : Bool) → nat_lt (position_or_len p xs) (length xs) ≡ b → cond b (Some (position_or_len p xs)) None ≡ None → find p xs ≡ None
+    by true e h = cc
+    by false e h = find_at p xs ∙ slice_get_past xs (position_or_len p xs) (ltb-false (position_or_len p xs) (length xs) e)
 
 -- where all are others, nothing goes
 pub all_others : (label : ℕ) (xs : List ℕ) → AllByRecursion (λ y. nat_eq y label ≡ false) xs → filter (is_other label) xs ≡ xs

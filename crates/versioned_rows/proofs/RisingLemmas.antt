@@ -151,3 +151,15 @@ pub not_found_in_rising : {X : Type 0} (label : X → ℕ) (order : List ℕ) (x
     → (at < length xs → (d : X) → label (get_or xs at d) ≢ lab) → None ≡ position (λ x. nat_eq (label x) lab) xs
 not_found_in_rising label order [] r at lab front rest apart = refl
 not_found_in_rising label order (x ∷ xs) r at lab front rest apart = none_from label order (x ∷ xs) r at lab front rest apart x
+
+-- the item of a label is where the label is read
+pub there : {X : Type 0} (label : X → ℕ) (order : List ℕ) (xs : List X) → IsRising order (map label xs) → (at lab : ℕ) → at < length xs
+    → ((d : X) → label (get_or xs at d) ≡ lab) → Some at ≡ position (λ x. nat_eq (label x) lab) xs
+there label order [] r at lab lt here = absurd (omega arith)
+there label order (x ∷ xs) r at lab lt here =
+    somewhere label order (x ∷ xs) r at lab lt
+    (λ i d before.
+    let before_it = rises label order (x ∷ xs) r i at d before lt in
+    let same = ap (place_in order) (here d) in
+    lt-ltb (place_in order (label (get_or (x ∷ xs) i d))) (place_in order lab) (omega arith))
+    x (here x)

@@ -75,7 +75,12 @@ fn spend_base(room: &mut Vec<VersionsCall>, cells: &Cells) -> Option<Cells>
 }
 
 // A copy of these rows, and a row of labels for each of their keys.
-fn new_base(alloc: Global, rows: &mut Vec<KeyRow>, cells: &Cells) -> Result<Cells, NoMemory>
+fn new_base(
+    alloc: Global,
+    rows: &mut Vec<KeyRow>,
+    near: &mut usize,
+    cells: &Cells,
+) -> Result<Cells, NoMemory>
     requires { IsOrdered row_place rows.old.items }
     ensures ordered { IsOrdered row_place rows.new.items }
     ensures each { (t k : List ℕ) → labels_in rows.new.items t k ≡ labels_in rows.old.items t k }
@@ -84,7 +89,7 @@ fn new_base(alloc: Global, rows: &mut Vec<KeyRow>, cells: &Cells) -> Result<Cell
     ensures copy { IfOk result (λ copy. copy ≡ cells.now) }
     ensures based { IfOk result (λ copy. IsBased copy rows.new.items) }
 {
-    make_rows(alloc, rows, cells.as_slice(), 0)?;
+    make_rows(alloc, rows, near, cells.as_slice(), 0)?;
     cells.copied(alloc)
 }
 
@@ -93,6 +98,7 @@ pub(crate) fn ready_base(
     alloc: Global,
     places: &mut Vec<PlaceWrites>,
     rows: &mut Vec<KeyRow>,
+    near: &mut usize,
     room: &mut Vec<VersionsCall>,
     cells: &Cells,
 ) -> Result<(), NoMemory>
@@ -110,7 +116,7 @@ pub(crate) fn ready_base(
 {
     room.reserve(1)?;
     places.reserve(room.len() + 1)?;
-    let cells = new_base(alloc, rows, cells)?;
+    let cells = new_base(alloc, rows, near, cells)?;
     room.push_reserved(VersionsCall::InsertBase { cells });
     Ok(())
 }
@@ -119,6 +125,7 @@ pub(crate) fn ready_base(
 pub(crate) fn take_base(
     alloc: Global,
     rows: &mut Vec<KeyRow>,
+    near: &mut usize,
     room: &mut Vec<VersionsCall>,
     cells: &Cells,
 ) -> Result<Cells, NoMemory>
@@ -136,6 +143,6 @@ pub(crate) fn take_base(
 {
     match spend_base(room, cells) {
         Some(copy) => Ok(copy),
-        None => new_base(alloc, rows, cells),
+        None => new_base(alloc, rows, near, cells),
     }
 }

@@ -53,12 +53,28 @@ pub(crate) fn count_before<T: Labelled>(order: &Order, items: &[T], end: Option<
     )
 }
 
-/// Where the one of a label stands, if it is there, found by halves.
+// Whether the item at the place of this number has this label. Labels are given from 0 on, so of a list with all labels of an order,
+// to which none came between others, each item does.
+fn stands_there<T: Labelled>(items: &[T], label: u64) -> bool
+    ensures there { result ≡ true → label < length items.now }
+    ensures is { result ≡ true → (d : T) → T.label (slice_index_or items.now label d) ≡ label }
+{
+    let at = label as usize;
+    if at >= items.len() {
+        return false;
+    }
+    items[at].label() == label
+}
+
+/// Where the one of a label stands, if it is there: at the place of its number, or found by halves.
 pub(crate) fn position_in<T: Labelled>(order: &Order, items: &[T], label: u64) -> Option<usize>
     requires rising { IsRising order.now.labels (map T.label items.now) }
     requires label { Contains order.now.labels label }
     ensures { result ≡ position (λ x. nat_eq (T.label x) label) items.now }
 {
+    if stands_there(items, label) {
+        return Some(label as usize);
+    }
     let at = count_before(order, items, Some(label));
     if at == items.len() {
         return None;

@@ -9,7 +9,7 @@ ghost use Rattle.versioned_rows.specs.Places.{label_of, keys_of, is_other, is_wr
 ghost use Rattle.versioned_rows.specs.Rows.{spare_in, KeepsRows};
 ghost use Rattle.versioned_rows.specs.Versions.{IsIndexed};
 
-use crate::labels::{Labelled, count_before};
+use crate::labels::{Labelled, count_before, position_in};
 use crate::rows::{KeyRow, drop_labels, drop_labels_in, put_labels};
 use lang_core::{Copied, NoMemory, Same, Text, Write, Writes};
 use place_order::Order;
@@ -50,7 +50,7 @@ pub(crate) fn text_at<'a>(writes: &'a Writes, table: &Text, key: &Text) -> Optio
     }
 }
 
-/// The place of a label, found by halves.
+/// The place of a label.
 pub(crate) fn find_place<'a>(
     order: &Order,
     places: &'a [PlaceWrites],
@@ -60,15 +60,9 @@ pub(crate) fn find_place<'a>(
     requires label { Contains order.now.labels label }
     ensures { option_copied result ≡ find (λ p. nat_eq (label_of p) label) places.now }
 {
-    let at = count_before(order, places, Some(label));
-    if at == places.len() {
-        return None;
-    }
-    let place = &places[at];
-    if place.label == label {
-        Some(place)
-    } else {
-        None
+    match position_in(order, places, label) {
+        None => None,
+        Some(at) => Some(&places[at]),
     }
 }
 
@@ -105,7 +99,13 @@ pub(crate) fn take_out(
 }
 
 // Puts in the place of a label that isn't there, where there is room for it.
-fn put_in(order: &Order, places: &mut Vec<PlaceWrites>, rows: &mut Vec<KeyRow>, place: PlaceWrites)
+fn put_in(
+    order: &Order,
+    places: &mut Vec<PlaceWrites>,
+    rows: &mut Vec<KeyRow>,
+    near: usize,
+    place: PlaceWrites,
+)
     requires indexed { IsIndexed places.old.items rows.old.items }
     requires rising { IsRising order.now.labels (map label_of places.old.items) }
     requires label { Contains order.now.labels place.label }
@@ -122,7 +122,7 @@ fn put_in(order: &Order, places: &mut Vec<PlaceWrites>, rows: &mut Vec<KeyRow>, 
     ensures len { vec_len places.new ≡ vec_len places.old + 1 }
     ensures capacity { vec_capacity places.old ≤ vec_capacity places.new }
 {
-    put_labels(order, rows, place.writes.as_slice(), place.label);
+    put_labels(order, rows, near, place.writes.as_slice(), place.label);
     let at = count_before(order, places, Some(place.label));
     let _ = places.insert(at, place);
 }
@@ -166,6 +166,7 @@ fn put_over(
     order: &Order,
     places: &mut Vec<PlaceWrites>,
     rows: &mut Vec<KeyRow>,
+    near: usize,
     place: PlaceWrites,
     at: usize,
 )
@@ -186,7 +187,7 @@ fn put_over(
     ensures capacity { vec_capacity places.old ≤ vec_capacity places.new }
 {
     drop_labels_in(order, rows, places[at].writes.as_slice(), place.label);
-    put_labels(order, rows, place.writes.as_slice(), place.label);
+    put_labels(order, rows, near, place.writes.as_slice(), place.label);
     places[at] = place;
 }
 
@@ -195,6 +196,7 @@ fn put_anew(
     order: &Order,
     places: &mut Vec<PlaceWrites>,
     rows: &mut Vec<KeyRow>,
+    near: usize,
     place: PlaceWrites,
     stands: Option<usize>,
 )
@@ -216,8 +218,8 @@ fn put_anew(
     ensures capacity { vec_capacity places.old ≤ vec_capacity places.new }
 {
     match stands {
-        Some(at) => put_over(order, places, rows, place, at),
-        None => put_in(order, places, rows, place),
+        Some(at) => put_over(order, places, rows, near, place, at),
+        None => put_in(order, places, rows, near, place),
     }
 }
 
@@ -227,6 +229,7 @@ pub(crate) fn put_instead(
     order: &Order,
     places: &mut Vec<PlaceWrites>,
     rows: &mut Vec<KeyRow>,
+    near: usize,
     place: PlaceWrites,
     stands: Option<usize>,
 )
@@ -248,6 +251,6 @@ pub(crate) fn put_instead(
 {
     match stands_alike(places, stands, &place.writes) {
         Some(at) => places[at] = place,
-        None => put_anew(order, places, rows, place, stands),
+        None => put_anew(order, places, rows, near, place, stands),
     }
 }

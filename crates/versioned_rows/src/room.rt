@@ -78,6 +78,7 @@ fn new_writes(
     alloc: Global,
     places: &mut Vec<PlaceWrites>,
     rows: &mut Vec<KeyRow>,
+    near: &mut usize,
     writes: &Writes,
     more: usize,
 ) -> Result<Writes, NoMemory>
@@ -94,7 +95,7 @@ fn new_writes(
     ensures copy { IfOk result (λ copy. copy ≡ writes.now) }
 {
     places.reserve(more)?;
-    make_rows(alloc, rows, writes.as_slice(), more)?;
+    make_rows(alloc, rows, near, writes.as_slice(), more)?;
     writes.copied(alloc)
 }
 
@@ -103,6 +104,7 @@ pub(crate) fn ready_writes(
     alloc: Global,
     places: &mut Vec<PlaceWrites>,
     rows: &mut Vec<KeyRow>,
+    near: &mut usize,
     room: &mut Vec<VersionsCall>,
     writes: &Writes,
 ) -> Result<(), NoMemory>
@@ -119,7 +121,7 @@ pub(crate) fn ready_writes(
     ensures covered { IsCovered room.new.items rows.new.items }
 {
     room.reserve(1)?;
-    let writes = new_writes(alloc, places, rows, writes, room.len() + 1)?;
+    let writes = new_writes(alloc, places, rows, near, writes, room.len() + 1)?;
     room.push_reserved(VersionsCall::WriteAt { writes });
     Ok(())
 }
@@ -129,6 +131,7 @@ pub(crate) fn take_writes(
     alloc: Global,
     places: &mut Vec<PlaceWrites>,
     rows: &mut Vec<KeyRow>,
+    near: &mut usize,
     room: &mut Vec<VersionsCall>,
     writes: &Writes,
 ) -> Result<Writes, NoMemory>
@@ -149,6 +152,6 @@ pub(crate) fn take_writes(
 {
     match spend_room(room, writes) {
         Some(copy) => Ok(copy),
-        None => new_writes(alloc, places, rows, writes, 1),
+        None => new_writes(alloc, places, rows, near, writes, 1),
     }
 }

@@ -9,7 +9,7 @@ ghost use Rattle.versioned_rows.specs.Rows.{row_place, labels_in, spare_of, spar
 
 use crate::labels::{count_before, position_in};
 use lang_base::both;
-use lang_core::{Copied, NoMemory, Placed, Text, Write, seek, seek_bytes};
+use lang_core::{Copied, NoMemory, Placed, Text, Write, seek, seek_bytes, seek_near};
 use place_order::Order;
 use std::alloc::Global;
 use std::marker::Model;
@@ -142,10 +142,12 @@ fn empty_row(alloc: Global, table: &Text, key: &Text, spare: usize) -> Result<Ke
     row_of(alloc, table, key, labels)
 }
 
-/// Sees to it that a key has a row with places for so many labels more. No label changes.
+/// Sees to it that a key has a row with places for so many labels more. No label changes. The row is looked for first where the
+/// last one stood that was looked for, and where it stands is noted.
 pub fn make_row(
     alloc: Global,
     rows: &mut Vec<KeyRow>,
+    near: &mut usize,
     table: &Text,
     key: &Text,
     spare: usize,
@@ -158,7 +160,8 @@ pub fn make_row(
     ensures spare { OnOk result (spare ≤ spare_in rows.new.items table.now key.now) }
     ensures row { OnOk result (has_row rows.new.items table.now key.now ≡ true) }
 {
-    let (at, taken) = seek(rows, table, key);
+    let (at, taken) = seek_near(rows, *near, table, key);
+    *near = at;
     if taken {
         return rows[at].reserve(spare);
     }
@@ -188,8 +191,15 @@ pub fn copied_rows(alloc: Global, rows: &[KeyRow]) -> Result<Vec<KeyRow>, NoMemo
     Ok(copies)
 }
 
-/// Puts a label into the row of a key, which has a place for it.
-pub(crate) fn put_label(order: &Order, rows: &mut Vec<KeyRow>, table: &Text, key: &Text, label: u64)
+/// Puts a label into the row of a key, which has a place for it. The row is looked for first where one may stand.
+pub(crate) fn put_label(
+    order: &Order,
+    rows: &mut Vec<KeyRow>,
+    near: usize,
+    table: &Text,
+    key: &Text,
+    label: u64,
+)
     requires ordered { IsOrdered row_place rows.old.items }
     requires spare { 0 < spare_in rows.old.items table.now key.now }
     requires rising { IsRising order.now.labels (labels_in rows.old.items table.now key.now) }
@@ -200,7 +210,7 @@ pub(crate) fn put_label(order: &Order, rows: &mut Vec<KeyRow>, table: &Text, key
         ≤ spare_in rows.new.items t k + (if same_place (place_of table.now key.now) (place_of t k) then 1 else 0) }
     ensures rows { KeepsRows rows.old.items rows.new.items }
 {
-    let (at, _) = seek(rows, table, key);
+    let (at, _) = seek_near(rows, near, table, key);
     let n = count_before(order, rows[at].labels(), Some(label));
     rows[at].insert(n, label);
 }
@@ -239,6 +249,7 @@ fn drop_label_in(order: &Order, rows: &mut Vec<KeyRow>, table: &Text, key: &Text
 pub(crate) fn make_rows<T: Placed>(
     alloc: Global,
     rows: &mut Vec<KeyRow>,
+    near: &mut usize,
     items: &[T],
     spare: usize,
 ) -> Result<(), NoMemory>
@@ -251,13 +262,19 @@ pub(crate) fn make_rows<T: Placed>(
     ensures keys { OnOk result ((t k : List ℕ) → is_among T.place t k items.now ≡ true → has_row rows.new.items t k ≡ true) }
 {
     for item in items {
-        make_row(alloc, rows, item.table(), item.key(), spare)?;
+        make_row(alloc, rows, near, item.table(), item.key(), spare)?;
     }
     Ok(())
 }
 
 /// Puts a label into the row of each key that these write, which has a place for it.
-pub(crate) fn put_labels(order: &Order, rows: &mut Vec<KeyRow>, writes: &[Write], label: u64)
+pub(crate) fn put_labels(
+    order: &Order,
+    rows: &mut Vec<KeyRow>,
+    near: usize,
+    writes: &[Write],
+    label: u64,
+)
     requires ordered { IsOrdered row_place rows.old.items }
     requires writes { IsOrdered write_place writes.now }
     requires spare { (t k : List ℕ) → is_written t k writes.now ≡ true → 0 < spare_in rows.old.items t k }
@@ -271,7 +288,7 @@ pub(crate) fn put_labels(order: &Order, rows: &mut Vec<KeyRow>, writes: &[Write]
     ensures rows { KeepsRows rows.old.items rows.new.items }
 {
     for write in writes {
-        put_label(order, rows, &write.table, &write.key, label);
+        put_label(order, rows, near, &write.table, &write.key, label);
     }
 }
 

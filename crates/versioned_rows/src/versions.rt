@@ -36,6 +36,8 @@ pub struct Versions {
     places: Vec<PlaceWrites>,
     // By table and key, those of base rows among them. A row stays when its last label goes.
     rows: Vec<KeyRow>,
+    // Where the last row stood that was made or looked for to be made: who makes room for a key puts a label there next.
+    near: usize,
     room: Vec<VersionsCall>,
 }
 
@@ -113,6 +115,7 @@ impl Versions {
             base: Cells::new(alloc),
             places: Vec::new(alloc),
             rows: Vec::new(alloc),
+            near: 0,
             room: Vec::new(alloc),
         }
     }
@@ -130,6 +133,7 @@ impl Versions {
             base,
             places,
             rows,
+            near: 0,
             room: Vec::new(alloc),
         })
     }
@@ -366,11 +370,19 @@ impl Versions {
             alloc,
             &mut self.places,
             &mut self.rows,
+            &mut self.near,
             &mut self.room,
             writes,
         )?;
         let place = PlaceWrites { label, writes };
-        put_instead(order, &mut self.places, &mut self.rows, place, stands);
+        put_instead(
+            order,
+            &mut self.places,
+            &mut self.rows,
+            self.near,
+            place,
+            stands,
+        );
         Ok(())
     }
 
@@ -385,6 +397,7 @@ impl Versions {
             alloc,
             &mut self.places,
             &mut self.rows,
+            &mut self.near,
             &mut self.room,
             writes,
         )
@@ -397,7 +410,7 @@ impl Versions {
         ensures room { self.new.room ≡ spend call_code (base_call cells.now) self.old.room }
         ensures ready { IsTrue (is_made call_code (base_call cells.now) self.old.room) → IsOk result }
     {
-        self.base = take_base(alloc, &mut self.rows, &mut self.room, cells)?;
+        self.base = take_base(alloc, &mut self.rows, &mut self.near, &mut self.room, cells)?;
         Ok(())
     }
 
@@ -412,6 +425,7 @@ impl Versions {
             alloc,
             &mut self.places,
             &mut self.rows,
+            &mut self.near,
             &mut self.room,
             cells,
         )

@@ -8,18 +8,18 @@ use Rattle.dependency_index.proofs.rows.put_label.Goals as goal
 pub index_mut-requires : goal.index_mut-requires
 index_mut-requires c =
     let long = ap length c.deref.ensures.value in
-    let lt = c.seek-at.ensures.within.there (fits_found c.args.table.now c.args.key.now c.args.label c.deref.ensures.value c.seek-at.ensures.taken c.requires.ordered c.requires.fits) in
+    let lt = c.seek_near-at.ensures.within.there (fits_found c.args.table.now c.args.key.now c.args.label c.deref.ensures.value c.seek_near-at.ensures.taken c.requires.ordered c.requires.fits) in
     omega arith
 
 pub put_in-requires-clause-rising : goal.put_in-requires-clause-rising
 put_in-requires-clause-rising c =
-    let row = fits_row c.args.label c.deref.ensures.value c.seek-at.ensures.rank c.seek-at.ensures.taken c.seek-at.ensures.within c.requires.ordered c.requires.fits c.index_mut.ensures.value in
+    let row = fits_row c.args.label c.deref.ensures.value c.seek_near-at.ensures.rank c.seek_near-at.ensures.taken c.seek_near-at.ensures.within c.requires.ordered c.requires.fits c.index_mut.ensures.value in
     let P : List ℕ → Type 0 = λ l. Rises l in
     subst P (labels_here row) c.requires.rising
 
 pub put_in-requires-clause-fits : goal.put_in-requires-clause-fits
 put_in-requires-clause-fits c =
-    let row = fits_row c.args.label c.deref.ensures.value c.seek-at.ensures.rank c.seek-at.ensures.taken c.seek-at.ensures.within c.requires.ordered c.requires.fits c.index_mut.ensures.value in
+    let row = fits_row c.args.label c.deref.ensures.value c.seek_near-at.ensures.rank c.seek_near-at.ensures.taken c.seek_near-at.ensures.within c.requires.ordered c.requires.fits c.index_mut.ensures.value in
     let labels = labels_here row in
     let spare = spare_here row in
     let long = ap (λ l. length (with_number c.args.label l)) labels in
@@ -28,8 +28,8 @@ put_in-requires-clause-fits c =
     omega arith
 
 -- the row of the key
-stands : (c : goal.After-rows-1) → StandsAt c.args.rows.now.items c.args.table.now c.args.key.now c.seek-at.result.0 c.index_mut.result.now
-stands c = fits_row c.args.label c.deref.ensures.value c.seek-at.ensures.rank c.seek-at.ensures.taken c.seek-at.ensures.within c.requires.ordered c.requires.fits c.index_mut.ensures.value
+stands : (c : goal.After-rows-1) → StandsAt c.args.rows.now.items c.args.table.now c.args.key.now c.seek_near-at.result.0 c.index_mut.result.now
+stands c = fits_row c.args.label c.deref.ensures.value c.seek_near-at.ensures.rank c.seek_near-at.ensures.taken c.seek_near-at.ensures.within c.requires.ordered c.requires.fits c.index_mut.ensures.value
 
 pub returns-clause-ordered : goal.returns-clause-ordered
 returns-clause-ordered c = set_ordered (stands c) c.put_in.new.row c.put_in.ensures.place

@@ -1,7 +1,12 @@
 use Rattle.std.proofs.Common.{sym, ap, ◌∙◌, arith}
 use Rattle.std.proofs.lemmas.List.{get_or_read}
-use Rattle.versioned_rows.proofs.RisingLemmas.{not_found_in_rising, somewhere}
+use Rattle.versioned_rows.proofs.RisingLemmas.{not_found_in_rising, somewhere, there}
 use Rattle.versioned_rows.proofs.labels.position_in.Goals as goal
+
+pub returns-then-stands_there : goal.returns-then-stands_there
+returns-then-stands_there g c =
+    there g.T.Labelled.label c.args.order.now.labels c.args.items.now c.requires.rising c.args.label c.args.label (c.stands_there.ensures.there c.if-stands_there.true)
+    (c.stands_there.ensures.is c.if-stands_there.true)
 
 pub returns-then-at-items : goal.returns-then-at-items
 returns-then-at-items g c =

@@ -6,8 +6,8 @@ use Rattle.versioned_rows.proofs.EditLemmas.{StandsAt, GoesAt, found_row, set_or
 use Rattle.versioned_rows.proofs.rows.make_row.Goals as goal
 
 -- the row of the key
-stands : (c : goal.After-rows-1) → StandsAt c.args.rows.now.items c.args.table.now c.args.key.now c.seek-at.result.0 c.index_mut.result.now
-stands c = found_row c.deref.ensures.value c.seek-at.ensures.rank c.seek-at.ensures.taken c.seek-at.ensures.within c.if-taken.true c.requires c.index_mut.ensures.value
+stands : (c : goal.After-rows-1) → StandsAt c.args.rows.now.items c.args.table.now c.args.key.now c.seek_near-at.result.0 c.index_mut.result.now
+stands c = found_row c.deref.ensures.value c.seek_near-at.ensures.rank c.seek_near-at.ensures.taken c.seek_near-at.ensures.within c.if-taken.true c.requires c.index_mut.ensures.value
 
 pub returns-then-taken-clause-ordered : goal.returns-then-taken-clause-ordered
 returns-then-taken-clause-ordered c = set_ordered (stands c) c.reserve.new.self c.reserve.ensures.place
@@ -28,11 +28,11 @@ pub returns-then-taken-clause-spare : goal.returns-then-taken-clause-spare
 returns-then-taken-clause-spare c = on_ok_weaker c.reserve.result (λ fits. set_made (stands c) c.reserve.new.self c.reserve.ensures.place c.args.spare fits) c.reserve.ensures.spare
 
 -- where there is none, a row goes in
-goes : (c : goal.In_ok-insert) → GoesAt c.args.rows.now.items c.args.table.now c.args.key.now c.seek-at.result.0 c.in_ok-row.row
+goes : (c : goal.In_ok-insert) → GoesAt c.args.rows.now.items c.args.table.now c.args.key.now c.seek_near-at.result.0 c.in_ok-row.row
 goes c = record {
   ordered = c.requires;
-  rank_is = c.seek-at.ensures.rank ∙ ap (rank row_place (place_of c.args.table.now c.args.key.now)) c.deref.ensures.value;
-  free = ap (is_taken row_place (place_of c.args.table.now c.args.key.now)) (sym c.deref.ensures.value) ∙ sym c.seek-at.ensures.taken ∙ c.if-taken.false;
+  rank_is = c.seek_near-at.ensures.rank ∙ ap (rank row_place (place_of c.args.table.now c.args.key.now)) c.deref.ensures.value;
+  free = ap (is_taken row_place (place_of c.args.table.now c.args.key.now)) (sym c.deref.ensures.value) ∙ sym c.seek_near-at.ensures.taken ∙ c.if-taken.false;
   table = c.in_ok-row.ensures.table;
   key = c.in_ok-row.ensures.key;
   empty = c.in_ok-row.ensures.labels;

@@ -10,17 +10,17 @@ use Rattle.versioned_rows.proofs.rows.put_label.Goals as goal
 
 pub index-requires : goal.index-requires
 index-requires c =
-    let lt = spare_within c.args.table.now c.args.key.now c.deref.ensures.value c.seek-at.ensures.taken c.seek-at.ensures.within c.requires.ordered c.requires.spare in
+    let lt = spare_within c.args.table.now c.args.key.now c.deref.ensures.value c.seek_near-at.ensures.taken c.seek_near-at.ensures.within c.requires.ordered c.requires.spare in
     omega arith
 
 pub index_mut-requires : goal.index_mut-requires
 index_mut-requires c =
-    let lt = spare_within c.args.table.now c.args.key.now c.deref.ensures.value c.seek-at.ensures.taken c.seek-at.ensures.within c.requires.ordered c.requires.spare in
+    let lt = spare_within c.args.table.now c.args.key.now c.deref.ensures.value c.seek_near-at.ensures.taken c.seek_near-at.ensures.within c.requires.ordered c.requires.spare in
     omega arith
 
 pub count_before-n-requires-clause-rising : goal.count_before-n-requires-clause-rising
 count_before-n-requires-clause-rising c =
-    let row = spare_row c.deref.ensures.value c.seek-at.ensures.rank c.seek-at.ensures.taken c.seek-at.ensures.within c.requires.ordered c.requires.spare c.index.ensures in
+    let row = spare_row c.deref.ensures.value c.seek_near-at.ensures.rank c.seek_near-at.ensures.taken c.seek_near-at.ensures.within c.requires.ordered c.requires.spare c.index.ensures in
     let P : List ℕ → Type 0 = λ l. IsRising c.args.order.now.labels l in
     rw (map-id, c.labels.ensures) (subst P (labels_here row) c.requires.rising)
 
@@ -31,21 +31,21 @@ counted rows t k at seen row labels stands read are =
 
 pub insert-requires-clause-within : goal.insert-requires-clause-within
 insert-requires-clause-within c =
-    let row = spare_row c.deref.ensures.value c.seek-at.ensures.rank c.seek-at.ensures.taken c.seek-at.ensures.within c.requires.ordered c.requires.spare c.index_mut.ensures.value in
-    let labels = counted c.args.rows.now.items c.args.table.now c.args.key.now c.seek-at.result.0 c.index.result.now c.index_mut.result.now c.labels.result.now row c.index.ensures c.labels.ensures in
+    let row = spare_row c.deref.ensures.value c.seek_near-at.ensures.rank c.seek_near-at.ensures.taken c.seek_near-at.ensures.within c.requires.ordered c.requires.spare c.index_mut.ensures.value in
+    let labels = counted c.args.rows.now.items c.args.table.now c.args.key.now c.seek_near-at.result.0 c.index.result.now c.index_mut.result.now c.labels.result.now row c.index.ensures c.labels.ensures in
     let within = c.count_before-n.ensures.within in
     let e = ap length labels in
     omega arith
 
 pub insert-requires-clause-room : goal.insert-requires-clause-room
 insert-requires-clause-room c =
-    let spare = spare_here (spare_row c.deref.ensures.value c.seek-at.ensures.rank c.seek-at.ensures.taken c.seek-at.ensures.within c.requires.ordered c.requires.spare c.index_mut.ensures.value) in
+    let spare = spare_here (spare_row c.deref.ensures.value c.seek_near-at.ensures.rank c.seek_near-at.ensures.taken c.seek_near-at.ensures.within c.requires.ordered c.requires.spare c.index_mut.ensures.value) in
     let some = c.requires.spare in
     omega arith
 
 -- the row of the key
-stands : (c : goal.After-rows-1) → StandsAt c.args.rows.now.items c.args.table.now c.args.key.now c.seek-at.result.0 c.index_mut.result.now
-stands c = spare_row c.deref.ensures.value c.seek-at.ensures.rank c.seek-at.ensures.taken c.seek-at.ensures.within c.requires.ordered c.requires.spare c.index_mut.ensures.value
+stands : (c : goal.After-rows-1) → StandsAt c.args.rows.now.items c.args.table.now c.args.key.now c.seek_near-at.result.0 c.index_mut.result.now
+stands c = spare_row c.deref.ensures.value c.seek_near-at.ensures.rank c.seek_near-at.ensures.taken c.seek_near-at.ensures.within c.requires.ordered c.requires.spare c.index_mut.ensures.value
 
 pub returns-clause-ordered : goal.returns-clause-ordered
 returns-clause-ordered c = set_ordered (stands c) c.insert.new.self c.insert.ensures.place
@@ -58,7 +58,7 @@ returns-clause-edited c =
     let rows = c.args.rows.now.items in
     let row = c.index_mut.result.now in
     let seen = c.labels.result.now in
-    let labels = counted rows c.args.table.now c.args.key.now c.seek-at.result.0 c.index.result.now row seen (stands c) c.index.ensures c.labels.ensures in
+    let labels = counted rows c.args.table.now c.args.key.now c.seek_near-at.result.0 c.index.result.now row seen (stands c) c.index.ensures c.labels.ensures in
     let now : labels_in rows c.args.table.now c.args.key.now ≡ row.labels.items = labels_here (stands c) in
     let n = c.count_before-n.result in
     let order = c.args.order.now.labels in
