@@ -5,6 +5,9 @@ use Rattle.std.proofs.lemmas.Bool.{cases_order, cases_lt, ne_eqb}
 use Rattle.std.proofs.lemmas.List.{get_or-map, get_or_default, get_or_past, length-map}
 use Rattle.std.proofs.lemmas.List.Elements.{filter-append, recursion_from_All}
 use Rattle.std.proofs.lemmas.List.Folds.{list_any-append}
+use Rattle.lang_base.specs.Equal.{equal}
+use Rattle.lang_base.proofs.EqualLemmas.{equal-true, equal-same}
+use Rattle.lang_core.specs.contracts.writes.Write as write
 use Rattle.lang_core.specs.declared.writes.Write.{Write}
 use Rattle.place_order.specs.Labels.{place_in}
 use Rattle.log_index.specs.Rows.{IsApart}
@@ -16,7 +19,7 @@ use Rattle.dependency_index.specs.declared.reads.ReadAt.{ReadAt}
 use Rattle.dependency_index.specs.declared.reads.ReadKind.TheVariants.{Key}
 use Rattle.dependency_index.proofs.IndexLemmas.{map_if, labels_all}
 use Rattle.dependency_index.proofs.NumberLemmas.{member_kept, member_puts}
-use Rattle.log_index.specs.Marks.{KeptMarks, is_among, is_marked, lacking, looks_at, places_behind, reads_by, reads_under, sees, sees_behind}
+use Rattle.log_index.specs.Marks.{KeptMarks, IsOneKey, changes, is_among, is_marked, lacking, looks_at, places_behind, reads_by, reads_under, sees, sees_behind}
 
 -- ---- where labels stand
 
@@ -163,6 +166,46 @@ lacking_one others w e = lacking_by others w false e
 
 pub lacking_more : (others writes next : List Write) (w : Write) → next ≡ writes ++ w ∷ [] → lacking others next ≡ lacking others writes ++ lacking others (w ∷ [])
 lacking_more others writes next w is = ap (lacking others) is ∙ filter-append (λ v. not (is_among others v)) writes (w ∷ [])
+
+-- ---- one key
+
+twice : (x y : Bool) → x ≡ y → (x || false) ≡ (x || (y || false))
+twice true y e = refl
+twice false true e = cc
+twice false false e = refl
+
+left_true : (x : Bool) → (x || false) ≡ true → x ≡ true
+left_true true e = refl
+left_true false e = cc
+
+never_left : (x : Bool) → x ≡ true → (x || false) ≡ false → ⊥
+never_left true e f = cc
+never_left false e f = cc
+
+among_back : (v w : Write) → is_among (v ∷ []) w ≡ true → is_among (w ∷ []) v ≡ false → ⊥
+among_back v w e f =
+    let same = equal-true write.the_row.coded w v (left_true (equal write.the_row.coded w v) e) in
+    never_left (equal write.the_row.coded v w) (equal-same write.the_row.coded v w (sym same)) f
+
+module _ (w v : Write) (same : (w.table ≡ v.table) × (w.key ≡ v.key)) (reads : List ReadAt) where
+  seen_alike : list_any (looks_at w.table w.key) reads ≡ list_any (looks_at v.table v.key) reads
+  seen_alike = ap (λ t. list_any (looks_at t w.key) reads) same.0 ∙ ap (λ k. list_any (looks_at v.table k) reads) same.1
+
+  by_among : (b c : Bool) → is_among (v ∷ []) w ≡ b → is_among (w ∷ []) v ≡ c → sees (cond b [] (w ∷ [])) reads ≡ sees (cond b [] (w ∷ []) ++ cond c [] (v ∷ [])) reads
+  by_among true true e f = refl
+  by_among true false e f = absurd (among_back v w e f)
+  by_among false true e f = refl
+  by_among false false e f = twice (list_any (looks_at w.table w.key) reads) (list_any (looks_at v.table v.key) reads) seen_alike
+
+-- what looks at the one write of a key looks at the other one of it
+pub one_key : (old new : List Write) → IsOneKey old new → (reads : List ReadAt) → sees (lacking new old) reads ≡ sees (changes old new) reads
+one_key [] new same reads = absurd same
+one_key (w ∷ []) [] same reads = absurd same
+one_key (w ∷ []) (v ∷ []) same reads =
+    rw (lacking_by (v ∷ []) w (is_among (v ∷ []) w) refl, lacking_by (w ∷ []) v (is_among (w ∷ []) v) refl)
+    (by_among w v same reads (is_among (v ∷ []) w) (is_among (w ∷ []) v) refl refl)
+one_key (w ∷ []) (v ∷ u ∷ vs) same reads = absurd same
+one_key (w ∷ u ∷ ws) new same reads = absurd same
 
 -- ---- more writes
 

@@ -1,5 +1,5 @@
 -- Where the reads of entries looked, and which entries are marked.
-use Rattle.std.specs.Prelude.{ℕ, ◌+◌, ◌<◌, Bool, not, ◌&&◌, ◌||◌, List, [], ◌∷◌, ◌++◌, IsTrue, nat_eq, nat_lt, length, map, filter, slice_index_or, if◌then◌else◌}
+use Rattle.std.specs.Prelude.{ℕ, ◌+◌, ◌<◌, ◌≡◌, Bool, not, ◌&&◌, ◌||◌, List, [], ◌∷◌, ◌++◌, IsTrue, nat_eq, nat_lt, length, map, filter, slice_index_or, if◌then◌else◌}
 use Rattle.std.specs.List.{All, Contains, list_any}
 use Rattle.lang_base.specs.Equal.{equal}
 use Rattle.lang_lists.specs.Room.{is_made}
@@ -63,6 +63,11 @@ lacking others writes = filter (λ w. not (is_among others w)) writes
 -- the writes of two lists that only one of them has
 abbrev pub changes : List Write → List Write → List Write
 changes old new = lacking new old ++ lacking old new
+
+-- one write each, of the same key
+abbrev pub IsOneKey : List Write → List Write → Type 0
+IsOneKey (v ∷ []) (w ∷ []) = (v.table ≡ w.table) × (v.key ≡ w.key)
+IsOneKey vs ws = ⊥
 
 -- the entry behind a place looks at a cell of these writes
 abbrev pub sees_behind : ℕ → List Write → List (List ReadAt) → ℕ → Bool

@@ -1,11 +1,11 @@
 // Marks behind a place.
-ghost use Rattle.std.specs.Prelude.{ℕ, ◌≡◌, ◌<◌, ◌≤◌, ◌||◌, ◌∷◌, [], length, IsTrue, OnOk, OnErr};
+ghost use Rattle.std.specs.Prelude.{ℕ, ◌≡◌, ◌<◌, ◌≤◌, ◌||◌, ◌∷◌, [], length, true, IsTrue, OnOk, OnErr};
 ghost use Rattle.std.specs.List.{All, Contains};
 ghost use Rattle.lang_base.specs.Equal.{equal};
 ghost use Rattle.dependency_index.specs.Numbers.{with_numbers};
 ghost use Rattle.lang_core.specs.declared.writes.Write.{Write};
 ghost use Rattle.lang_core.specs.contracts.writes.Write as write;
-ghost use Rattle.log_index.specs.Marks.{is_among, is_marked, lacking, places_behind, reads_by, sees_behind, AreMarks, IsNoted};
+ghost use Rattle.log_index.specs.Marks.{is_among, is_marked, lacking, places_behind, reads_by, sees_behind, AreMarks, IsNoted, IsOneKey};
 
 use crate::numbers::Marks;
 use crate::places::Places;
@@ -79,6 +79,16 @@ fn is_among(write: &Write, others: &[Write]) -> bool
     ensures { result ≡ is_among others.now write.now }
 {
     others.iter().any(|other| same_write(write, other))
+}
+
+/// Whether each of two lists has one write, both of one key. What looks at the one looks at the other then.
+pub(crate) fn write_one_key(left: &[Write], right: &[Write]) -> bool
+    ensures { result ≡ true → IsOneKey left.now right.now }
+{
+    if left.len() != 1 || right.len() != 1 {
+        return false;
+    }
+    left[0].table.is(&right[0].table) && left[0].key.is(&right[0].key)
 }
 
 // Marks the entries behind a place that look at the cell of a write, unless it is among others. Refused, the marks stay.

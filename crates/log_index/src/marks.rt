@@ -3,7 +3,7 @@ ghost use Rattle.std.specs.Prelude.{ℕ, ◌≡◌, ◌+◌, ◌<◌, ◌≤◌,
 ghost use Rattle.dependency_index.specs.Reads.{read_at};
 ghost use Rattle.log_index.specs.Marks.{changes, is_marked, lacking, sees_behind, AreMarks, IsReadyToInsert, IsReadyToSet};
 
-use crate::behind::mark_writes;
+use crate::behind::{mark_writes, write_one_key};
 use crate::numbers::Marks;
 use crate::places::Places;
 use dependency_index::Index;
@@ -182,6 +182,9 @@ impl EntryMarks {
         ensures err { OnErr result ((q : ℕ) → IsTrue (is_marked q self.old.marks) → IsTrue (is_marked q self.new.marks)) }
     {
         self.mark_apart(alloc, place, old, new)?;
+        if write_one_key(old.as_slice(), new.as_slice()) {
+            return Ok(());
+        }
         self.mark_apart(alloc, place, new, old)
     }
 

@@ -1,5 +1,5 @@
 use Rattle.std.proofs.Common.{subst, sym}
-use Rattle.lang_core.specs.Places.{IsOrdered, place_of}
+use Rattle.lang_core.specs.Places.{IsOrdered}
 use Rattle.lang_core.specs.Rows.{cell_place}
 use Rattle.lang_core.proofs.PlaceLemmas.{ordered-set, ordered-unset}
 use Rattle.lang_core.proofs.writes.apply_one.Goals as goal

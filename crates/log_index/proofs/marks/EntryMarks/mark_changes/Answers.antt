@@ -1,7 +1,15 @@
+use Rattle.std.proofs.Common.{◌&&◌, ◌||◌, [], nat_lt, get_or, ap, ◌∙◌}
 use Rattle.std.proofs.lemmas.Result.{on_ok_weaker, on_err_weaker}
-use Rattle.log_index.specs.Marks.{lacking}
-use Rattle.log_index.proofs.BehindLemmas.{marked_both, still_marked}
+use Rattle.log_index.specs.Marks.{is_marked, lacking}
+use Rattle.log_index.proofs.BehindLemmas.{marked_both, one_key, still_marked}
 use Rattle.log_index.proofs.marks.EntryMarks.mark_changes.Goals as goal
+
+pub returns-then-write_one_key-clause-ok : goal.returns-then-write_one_key-clause-ok
+returns-then-write_one_key-clause-ok c = λ q.
+    let m = c.args.self.now in
+    let same = rw (c.as_slice.ensures.items, c.as_slice-2.ensures.items) at (c.write_one_key.ensures c.if-write_one_key.true) in
+    c.in_ok-mark_apart.ensures.ok q
+    ∙ ap (λ b. is_marked q m.marks || (nat_lt c.args.place q && b)) (one_key c.args.old.now c.args.new.now same (get_or m.reads q []))
 
 pub returns-clause-ok : goal.returns-clause-ok
 returns-clause-ok c =
