@@ -1,22 +1,24 @@
 // The index.
 ghost use Rattle.std.specs.Prelude.{◌≡◌, ◌+◌, ◌-◌, ◌<◌, ◌≤◌, [], ◌∷◌, ◌++◌, nat_eq, length, take, insert, slice_index, OnOk, IfOk, IsOk};
 ghost use Rattle.lang_lists.specs.Ends.{last_end};
+ghost use Rattle.lang_lists.specs.Indexes.{most_keys};
 
-use crate::hash_chains::{end_before, end_of, link, link_between, spread};
+use crate::hash_chains::{MOST_KEYS, end_before, end_of, link, link_between, spread};
 use lang_base::NoMemory;
 use std::alloc::Global;
 use std::marker::Model;
 
 /// A list of keys of which each is found where it stands last. Contracts see the keys, and for how many more there is room.
 ///
-/// A place is told by its end, which is one more, so that 0 says nowhere.
+/// A place is told by its end, which is one more, so that 0 says nowhere. Ends are kept as numbers of 32 bits, so that there are
+/// at most 4,294,967,294 keys; beyond them memory counts as lacking.
 #[derive(Drop)]
 pub struct HashIndex {
     keys: Vec<u64>,
     // By place: the end of the key before it in its bucket.
-    before: Vec<usize>,
+    before: Vec<u32>,
     // By bucket: the end of its last key.
-    last: Vec<usize>,
+    last: Vec<u32>,
 }
 
 impl Model for HashIndex {
@@ -28,7 +30,7 @@ impl Model for HashIndex {
 
     ghost view = { λ index. record {
       keys = index.keys.items;
-      spare = spare_of (vec_len index.last) (vec_capacity index.keys - vec_len index.keys) (vec_capacity index.before - vec_len index.before);
+      spare = spare_of (vec_len index.last) (vec_capacity index.keys - vec_len index.keys) (vec_capacity index.before - vec_len index.before) (vec_len index.keys);
     } };
 
     ghost invariant = { λ index. IsLinked index.keys.items index.before.items index.last.items };
@@ -53,7 +55,15 @@ impl HashIndex {
             return 0;
         }
         let keys = self.keys.capacity() - self.keys.len();
-        keys.min(self.before.capacity() - self.before.len())
+        let before = self.before.capacity() - self.before.len();
+        keys.min(before).min(self.left())
+    }
+
+    // How many keys more there may be.
+    fn left(&self) -> usize
+        ensures { result ≡ most_keys - length self.now.keys }
+    {
+        MOST_KEYS.saturating_sub(self.keys.len())
     }
 
     /// Makes room for so many keys more. Refused, there is as much as before, and the keys stay.
@@ -65,6 +75,9 @@ impl HashIndex {
     {
         if more <= self.spare() {
             return Ok(());
+        }
+        if more > self.left() {
+            return Err(NoMemory);
         }
         self.keys.reserve(more)?;
         self.before.reserve(more)?;
