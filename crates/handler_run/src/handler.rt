@@ -125,7 +125,7 @@ fn run_route<V: View>(
     ensures { IfOk result (λ ran. ran ≡ run_route (route_of routes.now given.now.request.method given.now.segments) given.now (V.rows view.now)) }
 {
     let method = given.request().method;
-    let Some(route) = route_of(alloc, routes, method, given.segments())? else {
+    let Some(route) = route_of(routes, method, given.segments()) else {
         return not_found(alloc);
     };
     let mut state = start(alloc);

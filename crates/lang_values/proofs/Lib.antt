@@ -1,3 +1,4 @@
 pub mod BindLemmas
 pub mod CutLemmas
 pub mod PathLemmas
+pub mod PatternLemmas

@@ -1,10 +1,9 @@
--- Paths without their first slash, and patterns of another length.
-use Rattle.std.proofs.Common.{◌≡◌, ◌∙◌, ◌≢◌, ℕ, suc, Bool, true, false, cond, Option, Some, None, option_map, List, [], ◌∷◌, length, map, eqb, refl, sym, ap, arith}
+-- Paths without their first slash, and the pieces of a path as values.
+use Rattle.std.proofs.Common.{◌≡◌, ◌∙◌, ◌≢◌, ℕ, Bool, true, false, cond, Option, Some, None, option_map, List, [], ◌∷◌, map, eqb, refl, sym, ap, arith}
 use Rattle.std.specs.Prelude.{slice_get}
-use Rattle.std.proofs.lemmas.Grind.{common_steps}
 use Rattle.std.proofs.lemmas.Option.{slice_get-map}
 use Rattle.lang_core.specs.declared.value.Value.TheVariants.{Str, Nothing}
-use Rattle.lang_values.specs.Paths.{past_slash, segments_match}
+use Rattle.lang_values.specs.Paths.{past_slash}
 use Rattle.lang_values.specs.Values.{text_or_nothing}
 
 by_test : (t : Bool) (b : ℕ) (bs : List ℕ) → eqb b 47 ≡ t → ((rest : List ℕ) → b ∷ bs ≢ 47 ∷ rest) → cond t bs (b ∷ bs) ≡ b ∷ bs
@@ -17,12 +16,6 @@ past_slash_none (b ∷ bs) h = sym (by_test (eqb b 47) b bs refl h)
 
 pub past_slash_some : (path rest : List ℕ) → path ≡ 47 ∷ rest → rest ≡ past_slash path
 past_slash_some path rest e = rw e refl
-
-pub lengths_differ : {X : Type 0} (text : X → List ℕ) (pattern segments : List X) → length pattern ≢ length segments → false ≡ segments_match (map text pattern) (map text segments)
-lengths_differ text [] [] h = absurd (h refl)
-lengths_differ text [] (s ∷ segments) h = refl
-lengths_differ text (p ∷ pattern) [] h = refl
-lengths_differ text (p ∷ pattern) (s ∷ segments) h = let ih : false ≡ segments_match (map text pattern) (map text segments) = lengths_differ text pattern segments (λ e. h (ap suc e)) in grind (arith, common_steps)
 
 -- a piece of a path as the value of `path`, where pieces are seen as their texts
 

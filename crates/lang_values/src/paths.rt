@@ -49,49 +49,37 @@ fn segment_matches(pattern: &str, segment: &str) -> bool
     pattern == "*" || pattern == segment
 }
 
-#[tactic(auto, using(crate::proofs::PathLemmas::lengths_differ))]
-fn segments_match(pattern: &[&str], segments: &[&str]) -> bool
-    ensures { result ≡ segments_match (map (λ x. x.now) pattern.now) (map (λ x. x.now) segments.now) }
+// The pattern's segments are compared as they are cut, so that a route which is passed over takes no memory.
+fn segments_match(pattern: &str, segments: &[&str]) -> bool
+    ensures { result ≡ segments_match (slice_split (λ b. b == 47) pattern.now) (map (λ x. x.now) segments.now) }
 {
-    if pattern.len() != segments.len() {
-        return false;
-    }
-    for (i, part) in pattern.iter().enumerate() {
-        if !segment_matches(part, segments[i]) {
+    let mut parts = pattern.split('/');
+    for segment in segments {
+        let Some(part) = parts.next() else {
+            return false;
+        };
+        if !segment_matches(part, segment) {
             return false;
         }
     }
-    true
+    parts.next().is_none()
 }
 
-fn route_matches(
-    alloc: Global,
-    method: Method,
-    segments: &[&str],
-    route: &Route,
-) -> Result<bool, NoMemory>
-    ensures { IfOk result (λ matches. matches ≡ route_matches method (map (λ x. x.now) segments.now) route.now) }
+fn route_matches(method: Method, segments: &[&str], route: &Route) -> bool
+    ensures { result ≡ route_matches method (map (λ x. x.now) segments.now) route.now }
 {
-    if !same_method(route.method, method) {
-        return Ok(false);
-    }
-    let pattern = segments_of(alloc, &route.pattern)?;
-    Ok(segments_match(&pattern, segments))
+    same_method(route.method, method)
+        && segments_match(past_slash(route.pattern.as_str()), segments)
 }
 
 /// The first route that takes the method and the segments; None exactly where none does.
-pub fn route_of<'a>(
-    alloc: Global,
-    routes: &'a [Route],
-    method: Method,
-    segments: &[&str],
-) -> Result<Option<&'a Route>, NoMemory>
-    ensures { IfOk result (λ found. option_copied found ≡ route_of routes.now method (map (λ x. x.now) segments.now)) }
+pub fn route_of<'a>(routes: &'a [Route], method: Method, segments: &[&str]) -> Option<&'a Route>
+    ensures { option_copied result ≡ route_of routes.now method (map (λ x. x.now) segments.now) }
 {
     for route in routes {
-        if route_matches(alloc, method, segments, route)? {
-            return Ok(Some(route));
+        if route_matches(method, segments, route) {
+            return Some(route);
         }
     }
-    Ok(None)
+    None
 }

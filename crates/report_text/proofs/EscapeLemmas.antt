@@ -154,3 +154,6 @@ piece_none done rest front behind whole so at escape =
 
 pub piece_last : (done last rest : List ℕ) (whole : Option (List ℕ)) → glued done (unescaped rest) ≡ whole → None ≡ at_backslash rest → last ≡ done ++ rest → Some last ≡ whole
 piece_last done last rest whole so at end = ap Some end ∙ sym (ap (glued done) (at_none rest at)) ∙ so
+
+pub whole_piece : (text body : List ℕ) → None ≡ at_backslash body → text ≡ body → Some text ≡ unescaped body
+whole_piece text body at is = piece_last [] text body (unescaped body) (glue_none (unescaped body)) at is

@@ -31,7 +31,7 @@ fn cut_escape(text: &str) -> Option<(&'static str, &str)>
 }
 
 // Piece by piece.
-fn read_escapes(alloc: Global, body: &str) -> Result<Option<Text>, NoMemory>
+fn read_pieces(alloc: Global, body: &str) -> Result<Option<Text>, NoMemory>
     ensures { IfOk result (λ text. text ≡ unescaped body.now) }
 {
     let mut text = String::new(alloc);
@@ -46,6 +46,17 @@ fn read_escapes(alloc: Global, body: &str) -> Result<Option<Text>, NoMemory>
     }
     text.push_str(rest)?;
     Ok(Some(Text::shared(text)?))
+}
+
+// A body without a backslash, as most are, stands for itself: no string is made on the way to its text.
+#[tactic(auto, using(crate::proofs::EscapeLemmas::whole_piece))]
+fn read_escapes(alloc: Global, body: &str) -> Result<Option<Text>, NoMemory>
+    ensures { IfOk result (λ text. text ≡ unescaped body.now) }
+{
+    match cut_backslash(body) {
+        None => Ok(Some(Text::of(alloc, body)?)),
+        Some(_) => read_pieces(alloc, body),
+    }
 }
 
 /// What a body stands for: `\\`, `\n` and `\r` in it are a backslash, a line feed and a carriage return. None exactly

@@ -14,8 +14,8 @@ use repair_messages::Post;
 use std::alloc::Global;
 use world_events::{Happened, Packet, What};
 
-// As many bytes as nearly every line has, so that it is made in one block.
-const MOST_LINES: usize = 64;
+// Room in which nearly every line fits, so that it needn't grow.
+const LINE_ROOM: usize = 64;
 
 // The packet of this number, which counts from 1.
 fn packet_in(packets: &[Packet], number: u64) -> Option<&Packet>
@@ -115,7 +115,7 @@ pub fn happened_line(
 ) -> Result<Text, NoMemory>
     ensures { IfOk result (λ text. text ≡ happened_line packets.now rows.now detail.now happened.now) }
 {
-    let mut line = String::with_capacity(alloc, MOST_LINES)?;
+    let mut line = String::with_capacity(alloc, LINE_ROOM)?;
     if let Some(service) = &happened.service {
         push_what(
             &mut line,

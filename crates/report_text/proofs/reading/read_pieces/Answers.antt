@@ -2,7 +2,7 @@ use Rattle.std.proofs.Common.{rules, ◌∙◌}
 use Rattle.std.specs.String.{string_bytes}
 use Rattle.report_text.specs.Escapes.{unescaped}
 use Rattle.report_text.proofs.EscapeLemmas.{piece_last, piece_more, piece_none, piece_shorter}
-use Rattle.report_text.proofs.reading.read_escapes.Goals as goal
+use Rattle.report_text.proofs.reading.read_pieces.Goals as goal
 
 pub returns-in_default-cut_escape : goal.returns-in_default-cut_escape
 returns-in_default-cut_escape c =

@@ -2,7 +2,7 @@ use Rattle.std.proofs.Common.{◌≡◌, length}
 use Rattle.std.specs.Str.{IsUtf8}
 use Rattle.std.specs.String.{string_bytes}
 use Rattle.report_text.specs.Escapes.{glued, unescaped}
-use Rattle.report_text.proofs.reading.read_escapes.Given as goal
+use Rattle.report_text.proofs.reading.read_pieces.Given as goal
 
 abbrev pub invariant-loop-front : goal.invariant-loop-front
 invariant-loop-front l = record {
