@@ -12,9 +12,9 @@ use call_registers::Reply;
 use flights::Flight;
 use journal_rows::{AnsweredRow, AskedRow, Row, TookHow, TookRow};
 use lang_base::both;
-use lang_core::{Boxed, Copied, Name, NoMemory, Origin, Request, Seq, Trace};
+use lang_core::{Copied, Name, NoMemory, Origin, Request, Seq, Trace};
 use repair_messages::copied_pair;
-use request_log::{Entry, Made, Numbers};
+use request_log::{Entry, KeptEntry, Made, Numbers};
 use service_parts::{Draft, Parts, drafted, next_id, next_index, note, note_row, push_deleted};
 use std::alloc::Global;
 
@@ -185,7 +185,7 @@ fn committed_entry(
     parts: &Parts,
     flight: Flight,
     trace: Trace,
-) -> Result<Boxed<Entry>, NoMemory>
+) -> Result<KeptEntry, NoMemory>
     ensures { IfOk result (λ entry. entry ≡ committed_entry (kept parts.now) flight trace) }
 {
     let slots = first_numbers(alloc, flight.numbers.as_slice(), trace.calls.len());
@@ -203,7 +203,7 @@ fn committed_entry(
         answer_version: 1,
         runs: 1,
     };
-    Ok(Boxed::new(alloc, entry)?)
+    KeptEntry::of(alloc, entry)
 }
 
 fn reply_to(
