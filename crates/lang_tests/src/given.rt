@@ -2,7 +2,7 @@
 ghost use Rattle.std.specs.Prelude.{◌≡◌};
 
 use lang_core::{Inputs, Method, Name, Names, Origin, Request, Text};
-use request_log::{Entry, Numbers};
+use request_log::{Entry, KeptEntry, Numbers};
 use std::process::Abort;
 
 /// This is so, in a case that has this name.
@@ -75,4 +75,11 @@ pub fn entry(rt: &(impl Abort + AllocGlobal), id: u64, origin: Origin) -> Entry
         answer_version: 0,
         runs: 0,
     }
+}
+
+/// An entry as a log keeps it.
+pub fn kept(rt: &(impl Abort + AllocGlobal), entry: Entry) -> KeptEntry
+    ensures { result ≡ entry }
+{
+    KeptEntry::of(rt.alloc(), entry).expect(rt, "memory")
 }

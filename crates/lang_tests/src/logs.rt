@@ -1,7 +1,7 @@
 ghost use Rattle.std.specs.Prelude.{◌≡◌, IsTrue};
 ghost use Rattle.request_log.specs.Entries.{IsNew, IsKnown};
 
-use crate::given::{entry, equal, holds, name, request};
+use crate::given::{entry, equal, holds, kept, name, request};
 use lang_core::{Copied, Origin, Same};
 use request_log::{Entry, Log, Made, dead_trace};
 use std::process::Abort;
@@ -36,14 +36,14 @@ fn is_known(log: &Log, entry: &Entry) -> bool
 fn append(rt: &(impl Abort + AllocGlobal), log: &mut Log, id: u64, origin: Origin) {
     let entry = entry(rt, id, origin);
     assert!(rt; is_new(log, &entry));
-    holds(rt, "appended", log.append(entry).is_ok());
+    holds(rt, "appended", log.append(kept(rt, entry)).is_ok());
 }
 
 // An entry goes in before what stands there.
 fn insert(rt: &(impl Abort + AllocGlobal), log: &mut Log, at: u64, id: u64, origin: Origin) {
     let entry = entry(rt, id, origin);
     assert!(rt; is_new(log, &entry) && at < log.len());
-    holds(rt, "inserted", log.insert(at, entry).is_ok());
+    holds(rt, "inserted", log.insert(at, kept(rt, entry)).is_ok());
 }
 
 // An entry of this number and origin isn't new.
@@ -102,7 +102,7 @@ fn log_of_struck(rt: &(impl Abort + AllocGlobal)) -> Log {
     entry.struck = true;
     entry.made = Some(struck(rt));
     assert!(rt; is_new(&log, &entry));
-    holds(rt, "appended", log.append(entry).is_ok());
+    holds(rt, "appended", log.append(kept(rt, entry)).is_ok());
     log
 }
 

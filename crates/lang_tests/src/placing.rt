@@ -1,6 +1,6 @@
 ghost use Rattle.std.specs.Prelude.{◌≡◌};
 
-use crate::given::{entry, equal, holds};
+use crate::given::{entry, equal, holds, kept};
 use create_placement::place;
 use lang_core::Origin;
 use request_log::Log;
@@ -9,7 +9,7 @@ use std::process::Abort;
 fn append(rt: &(impl Abort + AllocGlobal), log: &mut Log, id: u64) {
     let entry = entry(rt, id, Origin::Outside);
     assert!(rt; log.find(entry.id).is_none());
-    holds(rt, "appended", log.append(entry).is_ok());
+    holds(rt, "appended", log.append(kept(rt, entry)).is_ok());
 }
 
 fn is_placed(

@@ -208,7 +208,7 @@ impl Repairer {
         }
     }
 
-    fn insert_at(&mut self, at: u64, entry: Entry) -> Result<(), LogFull>
+    fn insert_at(&mut self, at: u64, entry: KeptEntry) -> Result<(), LogFull>
         requires within { at ≤ length self.old.entries }
         requires is_new { IsNew entry self.old.entries }
         ensures ok { OnOk result (self.new.entries ≡ insert self.old.entries at entry) }
@@ -227,7 +227,7 @@ impl Repairer {
     }
 
     /// Puts an entry last. Refused, it is dropped and the log stays.
-    pub fn append(&mut self, entry: Entry) -> Result<(), LogFull>
+    pub fn append(&mut self, entry: KeptEntry) -> Result<(), LogFull>
         requires { IsNew entry self.old.entries }
         ensures ok { OnOk result (self.new.entries ≡ self.old.entries ++ entry ∷ []) }
         ensures full { (result ≡ Err LogFull.Full) ↔ (length self.old.entries ≡ 100000) }
@@ -238,7 +238,7 @@ impl Repairer {
     }
 
     /// Puts an entry at a place, counted from 0, before what stands there. Refused, it is dropped and the log stays.
-    pub fn insert(&mut self, at: u64, entry: Entry) -> Result<(), LogFull>
+    pub fn insert(&mut self, at: u64, entry: KeptEntry) -> Result<(), LogFull>
         requires within { at ≤ length self.old.entries }
         requires is_new { IsNew entry self.old.entries }
         ensures ok { OnOk result (self.new.entries ≡ insert self.old.entries at entry) }

@@ -10,7 +10,7 @@ ghost use Rattle.local_repair.specs.Written.{all_written};
 use crate::current::is_held;
 use lang_core::{NoMemory, Reads, Seq, Writes};
 use log_index::{EntryMarks, EntryRows};
-use request_log::{Entry, Log, LogFull, MOST_ENTRIES, Numbers};
+use request_log::{Entry, KeptEntry, Log, LogFull, MOST_ENTRIES, Numbers};
 use std::alloc::Global;
 
 /// The writes of an entry's record, or none of these.
@@ -40,6 +40,13 @@ pub(crate) fn may_call(calls: bool, slots: &Numbers) -> bool
     ensures { result ≡ false → (calls ≡ false) × (slots.now ≡ []) }
 {
     calls || slots.len() != 0
+}
+
+// Whether some call may be made, once this entry stands in the log.
+fn may_call_with(calls: bool, entry: &KeptEntry) -> bool
+    ensures { result ≡ false → (calls ≡ false) × (entry.now.slots ≡ []) }
+{
+    may_call(calls, &entry.entry().slots)
 }
 
 // Marks what stands from a place on and looks at what an entry that is to come there wrote.
@@ -86,7 +93,7 @@ fn ready_entry(
     rows: &mut EntryRows,
     marks: &mut EntryMarks,
     at: usize,
-    entry: &Entry,
+    entry: &KeptEntry,
     count: usize,
 ) -> Result<(), NoMemory>
     requires { count ≡ length marks.old.reads }
@@ -96,9 +103,10 @@ fn ready_entry(
     ensures ready_rows { OnOk result (IsReadyToInsert at (writes_of entry.now.made) rows.new) }
     ensures ready_marks { OnOk result (IsReadyToMark at (reads_of entry.now.made) marks.new) }
 {
+    let own = entry.entry();
     let none = Writes::new(alloc);
-    mark_from(alloc, marks, at, count, writes_of(entry, &none))?;
-    ready_rows(alloc, rows, marks, at, entry)
+    mark_from(alloc, marks, at, count, writes_of(own, &none))?;
+    ready_rows(alloc, rows, marks, at, own)
 }
 
 // Puts what an entry wrote and where it looked at a place. There is room for both.
@@ -132,7 +140,7 @@ pub(crate) fn insert_entry(
     rows: &mut EntryRows,
     marks: &mut EntryMarks,
     at: u64,
-    entry: Entry,
+    entry: KeptEntry,
     calls: &mut bool,
 ) -> Result<(), LogFull>
     requires within { at ≤ length log.old.entries }
@@ -148,7 +156,7 @@ pub(crate) fn insert_entry(
     }
     let count = log.as_slice().len();
     ready_entry(alloc, rows, marks, at as usize, &entry, count)?;
-    *calls = may_call(*calls, &entry.slots);
+    *calls = may_call_with(*calls, &entry);
     log.insert(at, entry)?;
     let entries = log.as_slice();
     insert_parts(

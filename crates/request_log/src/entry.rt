@@ -50,7 +50,7 @@ pub struct Entry {
 }
 
 /// An entry as a log keeps it, seen as the entry: behind a pointer, so that a log moves few bytes for each when one is put
-/// between others.
+/// between others, and one that is put into a log is handed on as it stands.
 #[derive(Drop)]
 pub struct KeptEntry {
     pub(crate) inner: Box<Entry>,
@@ -66,7 +66,7 @@ impl Model for KeptEntry {
 
 impl KeptEntry {
     /// Keeps an entry. Refused, it is dropped.
-    pub(crate) fn of(alloc: Global, entry: Entry) -> Result<KeptEntry, NoMemory>
+    pub fn of(alloc: Global, entry: Entry) -> Result<KeptEntry, NoMemory>
         ensures { IfOk result (λ kept. kept ≡ entry) }
     {
         let inner = Box::new(alloc, entry)?;

@@ -131,7 +131,7 @@ impl Log {
 
     /// Puts an entry last, whose number no entry has, nor its origin where that is a call. Refused, it is dropped and
     /// the log stays.
-    pub fn append(&mut self, entry: Entry) -> Result<(), LogFull>
+    pub fn append(&mut self, entry: KeptEntry) -> Result<(), LogFull>
         requires { IsNew entry self.old.entries }
         ensures ok { OnOk result (self.new.entries ≡ self.old.entries ++ entry ∷ []) }
         ensures full { (result ≡ Err LogFull.Full) ↔ (length self.old.entries ≡ MOST_ENTRIES) }
@@ -141,10 +141,10 @@ impl Log {
             return Err(LogFull::Full);
         }
         make_room(&mut self.numbers, &mut self.origins)?;
-        let id = entry.id;
-        let key = origin_key(id, &entry.origin);
-        let kept = KeptEntry::of(*self.items.allocator(), entry)?;
-        self.items.push(kept)?;
+        let own = entry.entry();
+        let id = own.id;
+        let key = origin_key(id, &own.origin);
+        self.items.push(entry)?;
         self.numbers.push(id);
         self.origins.push(key);
         Ok(())
@@ -152,7 +152,7 @@ impl Log {
 
     /// Puts an entry, new as for `append`, at a place, counted from 0, before what stands there. Refused, it is
     /// dropped and the log stays. Last it costs as an append does; else with the number of entries.
-    pub fn insert(&mut self, at: u64, entry: Entry) -> Result<(), LogFull>
+    pub fn insert(&mut self, at: u64, entry: KeptEntry) -> Result<(), LogFull>
         requires within { at ≤ length self.old.entries }
         requires is_new { IsNew entry self.old.entries }
         ensures ok { OnOk result (self.new.entries ≡ insert self.old.entries at entry) }
@@ -163,10 +163,10 @@ impl Log {
             return Err(LogFull::Full);
         }
         make_room(&mut self.numbers, &mut self.origins)?;
-        let id = entry.id;
-        let key = origin_key(id, &entry.origin);
-        let kept = KeptEntry::of(*self.items.allocator(), entry)?;
-        self.items.insert(at as usize, kept)?;
+        let own = entry.entry();
+        let id = own.id;
+        let key = origin_key(id, &own.origin);
+        self.items.insert(at as usize, entry)?;
         self.numbers.insert(at as usize, id);
         self.origins.insert(at as usize, key);
         Ok(())

@@ -11,7 +11,7 @@ use journal_rows::{AckedRow, AskedRow, Row, TookHow, TookRow};
 use lang_base::both;
 use lang_core::{Copied, Inputs, Name, NoMemory, Origin, Request};
 use repair_messages::{Ack, SetMessage, copied_pair};
-use request_log::Entry;
+use request_log::{Entry, KeptEntry};
 use service_events::Taken;
 use service_parts::{Parts, created, next_id};
 use std::alloc::Global;
@@ -182,14 +182,14 @@ pub(crate) fn created_entry(
     set: &SetMessage,
     request: &Request,
     inputs: Inputs,
-) -> Result<Entry, NoMemory>
+) -> Result<KeptEntry, NoMemory>
     ensures { IfOk result (λ entry. entry ≡ created_entry (kept parts.now) set.now request.now inputs) }
 {
     let (origin, request) = both(origin_of(alloc, set), request.copied(alloc))?;
     let mut entry = created(alloc, next_id(parts), request, inputs);
     entry.origin = origin;
     entry.version = set.version;
-    Ok(entry)
+    KeptEntry::of(alloc, entry)
 }
 
 /// Its reply, which is due.

@@ -12,7 +12,7 @@ use crate::take_changes::{TakeChange, Taking};
 use call_registers::{Replies, Reply};
 use lang_core::NoMemory;
 use local_repair::Repairer;
-use request_log::Entry;
+use request_log::{Entry, KeptEntry};
 use service_events::Taken;
 use service_parts::{Parts, insert, push_rows, reserve};
 
@@ -51,7 +51,7 @@ fn create(
     repairer: &mut Repairer,
     replies: &mut Replies,
     at: u64,
-    entry: Entry,
+    entry: KeptEntry,
     reply: Reply,
 ) -> Result<(), NoMemory>
     requires within { at ≤ length repairer.old.entries }

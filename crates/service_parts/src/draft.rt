@@ -1,5 +1,5 @@
 // Rows that are drafted, and what they change of the registers.
-ghost use Rattle.std.specs.Prelude.{◌≡◌, ◌++◌, length, OnOk};
+ghost use Rattle.std.specs.Prelude.{◌≡◌, [], ◌∷◌, ◌++◌, length, OnOk};
 ghost use Rattle.call_registers.specs.Registers.{next_number};
 ghost use Rattle.service_events.specs.State.{Kept};
 ghost use Rattle.service_events.specs.Calls.{noted};
@@ -7,7 +7,7 @@ ghost use Rattle.service_events.specs.Arriving.{told};
 ghost use Rattle.service_parts.specs.Drafts.{with_draft};
 ghost use Rattle.service_parts.specs.Parts.{kept};
 
-use crate::noting::note_rows;
+use crate::noting;
 use crate::parts::Parts;
 use call_registers::{RegisterChange, RegisterChanges, Why};
 use journal_rows::Row;
@@ -46,19 +46,35 @@ pub fn next_index(parts: &Parts, draft: &Draft) -> u64
     index_after(parts.journal.as_slice(), &draft.rows)
 }
 
+// Puts rows behind those of a draft. The first are taken over in their own list, with the room that it has.
+fn add_rows(drafted: &mut Vec<Row>, mut rows: Vec<Row>) -> Result<(), NoMemory>
+    ensures { OnOk result (drafted.new.items ≡ drafted.old.items ++ rows.items) }
+{
+    if drafted.is_empty() {
+        *drafted = rows;
+        return Ok(());
+    }
+    drafted.append(&mut rows)?;
+    Ok(())
+}
+
 /// Drafts rows. Refused, the draft is no use any more.
-pub fn note(
-    alloc: Global,
-    parts: &Parts,
-    draft: &mut Draft,
-    mut rows: Vec<Row>,
-) -> Result<(), NoMemory>
+pub fn note(alloc: Global, parts: &Parts, draft: &mut Draft, rows: Vec<Row>) -> Result<(), NoMemory>
     ensures { OnOk result (with_draft draft.new (kept parts.now) ≡ noted rows.items (with_draft draft.old (kept parts.now))) }
 {
     let first = next_index(parts, draft);
-    note_rows(alloc, &parts.registers, &mut draft.changes, first, &rows)?;
-    draft.rows.append(&mut rows)?;
-    Ok(())
+    noting::note_rows(alloc, &parts.registers, &mut draft.changes, first, &rows)?;
+    add_rows(&mut draft.rows, rows)
+}
+
+/// Drafts one row. Refused, the draft is no use any more.
+pub fn note_row(alloc: Global, parts: &Parts, draft: &mut Draft, row: Row) -> Result<(), NoMemory>
+    ensures { OnOk result (with_draft draft.new (kept parts.now) ≡ noted (row ∷ []) (with_draft draft.old (kept parts.now))) }
+{
+    let first = next_index(parts, draft);
+    let noted = noting::note_row(alloc, &parts.registers, &mut draft.changes, first, &row);
+    draft.rows.push(row)?;
+    noted
 }
 
 /// Drafts why the call of a number goes on without an answer. Refused, the draft is no use any more.

@@ -8,7 +8,7 @@ ghost use Rattle.service_parts.specs.Parts.{kept};
 use crate::parts::Parts;
 use lang_core::{Inputs, NoMemory, Origin, Request, Seq};
 use local_repair::Repairer;
-use request_log::{Entry, Log};
+use request_log::{Entry, KeptEntry, Log};
 use std::alloc::Global;
 
 /// The number of the next entry of a log.
@@ -45,7 +45,7 @@ pub fn created(alloc: Global, id: u64, request: Request, inputs: Inputs) -> Entr
 }
 
 /// Puts an entry at a place of a log that isn't full, counted from 0. Refused, the log stays.
-pub fn insert(repairer: &mut Repairer, at: u64, entry: Entry) -> Result<(), NoMemory>
+pub fn insert(repairer: &mut Repairer, at: u64, entry: KeptEntry) -> Result<(), NoMemory>
     requires within { at ≤ length repairer.old.entries }
     requires is_new { IsNew entry repairer.old.entries }
     ensures ok { OnOk result (repairer.new.entries ≡ insert repairer.old.entries at entry) }

@@ -21,7 +21,7 @@ mod view;
 pub use answers::last_answer;
 pub use applying::{note_draft, push_rows, reserve, reserve_draft};
 pub use asking::{decision_by, path_of};
-pub use draft::{Draft, next_index, next_number, note, start, tell};
+pub use draft::{Draft, next_index, next_number, note, note_row, start, tell};
 pub use entries::{created, insert, next_id, next_in};
 pub use limits::{is_crowded, is_heavy};
 pub use noting::note_rows;

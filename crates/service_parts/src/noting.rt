@@ -73,7 +73,8 @@ fn note_answer(
     )
 }
 
-fn note_row(
+/// Changes registers as this row does, which has this index in the journal. Refused, the changes are no use any more.
+pub(crate) fn note_row(
     alloc: Global,
     standing: &Registers,
     changes: &mut RegisterChanges,

@@ -15,7 +15,7 @@ use journal_rows::{About, AskedRow, Command, OrderedRow, Row};
 use lang_core::{Copied, Inputs, Method, NoMemory, Origin, Request, Seq, Text};
 use local_repair::Repairer;
 use repair_messages::{PostName, copied_pair};
-use request_log::{Entry, Log};
+use request_log::{Entry, KeptEntry, Log};
 use service_parts::{Parts, created, insert, next_id, next_in, push_rows, reserve};
 use std::alloc::Global;
 
@@ -241,7 +241,7 @@ fn create(
 {
     let at = place(repairer.log(), before, after);
     let entry = created(alloc, next_in(repairer.log()), request, inputs);
-    insert(repairer, at, entry)
+    insert(repairer, at, KeptEntry::of(alloc, entry)?)
 }
 
 // A held post is sent again, for this user.

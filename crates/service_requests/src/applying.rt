@@ -20,13 +20,13 @@ use flights::{Flight, Flights};
 use lang_core::{NoMemory, Origin};
 use local_repair::Repairer;
 use repair_messages::{AnswerMessage, SetMessage};
-use request_log::Entry;
+use request_log::{Entry, KeptEntry};
 use service_events::Arrived;
 use service_parts::{Draft, Parts, last_answer, note_draft, reserve_draft};
 use std::alloc::Global;
 
 // Puts an entry last in a log that isn't full.
-fn append(repairer: &mut Repairer, entry: Entry) -> Result<(), NoMemory>
+fn append(repairer: &mut Repairer, entry: KeptEntry) -> Result<(), NoMemory>
     requires is_new { IsNew entry repairer.old.entries }
     requires few { length repairer.old.entries < 100000 }
     ensures ok { OnOk result (repairer.new.entries ≡ repairer.old.entries ++ entry ∷ []) }
@@ -87,7 +87,7 @@ fn reserve_for(parts: &mut Parts, draft: &Draft, calls: u64) -> Result<(), NoMem
 fn add_entry(
     parts: &mut Parts,
     draft: &Draft,
-    entry: Entry,
+    entry: KeptEntry,
     reply: &Option<Reply>,
 ) -> Result<(), NoMemory>
     requires is_new { IsNew entry parts.old.repairer.entries }
@@ -101,7 +101,8 @@ fn add_entry(
 {
     reserve_for(parts, draft, 0)?;
     ready_reply(&mut parts.replies, reply)?;
-    parts.registers.place(entry.slots.as_slice(), entry.id);
+    let own = entry.entry();
+    parts.registers.place(own.slots.as_slice(), own.id);
     append(&mut parts.repairer, entry)
 }
 
@@ -134,7 +135,7 @@ fn commit(
     parts: &mut Parts,
     draft: Draft,
     flight: u64,
-    entry: Entry,
+    entry: KeptEntry,
     reply: Option<Reply>,
     index: u64,
     answer: Option<AnswerMessage>,
@@ -146,7 +147,7 @@ fn commit(
     ensures err { OnErr result (kept parts.new ≡ kept parts.old) }
     ensures room { HasRoom parts.new }
 {
-    let id = entry.id;
+    let id = entry.entry().id;
     add_entry(parts, &draft, entry, &reply)?;
     note_draft(&mut parts.journal, &mut parts.registers, draft);
     land(&mut parts.flights, &mut parts.replies, flight, reply);
@@ -209,7 +210,7 @@ fn commit_answering(
     parts: &mut Parts,
     draft: Draft,
     flight: u64,
-    entry: Entry,
+    entry: KeptEntry,
     reply: Option<Reply>,
     index: u64,
 ) -> Result<Arrived, NoMemory>
@@ -219,7 +220,7 @@ fn commit_answering(
     ensures err { OnErr result (kept parts.new ≡ kept parts.old) }
     ensures room { HasRoom parts.new }
 {
-    let answer = answer_to_caller(alloc, parts, &entry)?;
+    let answer = answer_to_caller(alloc, parts, entry.entry())?;
     commit(parts, draft, flight, entry, reply, index, answer)
 }
 
@@ -242,15 +243,7 @@ pub(crate) fn apply(
             entry,
             reply,
             index,
-        } => commit_answering(
-            alloc,
-            parts,
-            draft,
-            flight,
-            entry.into_inner(),
-            reply,
-            index,
-        ),
+        } => commit_answering(alloc, parts, draft, flight, entry, reply, index),
         Ending::Waits { flight, set } => wait(parts, draft, flight.into_inner(), set),
     }
 }

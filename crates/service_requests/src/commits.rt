@@ -8,16 +8,19 @@ ghost use Rattle.service_requests.specs.Endings.{ends, CanEnd, MayEnd, reply_of,
 ghost use Rattle.service_parts.specs.Parts.{kept};
 
 use crate::endings::Ending;
-use crate::noting::one_row;
 use call_registers::Reply;
 use flights::Flight;
 use journal_rows::{AnsweredRow, AskedRow, Row, TookHow, TookRow};
 use lang_base::both;
-use lang_core::{Boxed, Copied, Name, NoMemory, Origin, Request, Seq, Trace};
+use lang_core::{Copied, Name, NoMemory, Origin, Request, Seq, Trace};
 use repair_messages::copied_pair;
-use request_log::{Entry, Made, Numbers};
-use service_parts::{Draft, Parts, drafted, next_id, next_index, note, push_deleted};
+use request_log::{Entry, KeptEntry, Made, Numbers};
+use service_parts::{Draft, Parts, drafted, next_id, next_index, note, note_row, push_deleted};
 use std::alloc::Global;
+
+/// The most rows that a commit drafts beside those of surplus calls: that the request was asked, that it was taken, and its
+/// answer.
+const OWN_ROWS: usize = 3;
 
 fn live_version(origin: &Origin) -> u64
     ensures { result ≡ live_version origin.now }
@@ -81,7 +84,8 @@ fn from_place<T>(items: &[T], place: u64) -> &[T]
     &items[start..]
 }
 
-// The rows of the flight's calls beyond those that its last run made, with room for one more.
+// The rows of the flight's calls beyond those that its last run made, in a list with room for the commit's own rows where
+// there are none.
 fn surplus_rows(
     alloc: Global,
     parts: &Parts,
@@ -91,7 +95,7 @@ fn surplus_rows(
 ) -> Result<Vec<Row>, NoMemory>
     ensures { IfOk result (λ rows. rows.items ≡ surplus_rows (with_draft draft.now (kept parts.now)) flight.now trace.now) }
 {
-    let mut rows = Vec::with_capacity(alloc, 1)?;
+    let mut rows = Vec::with_capacity(alloc, OWN_ROWS)?;
     let calls = trace.calls.len();
     let numbers = from_place(flight.numbers.as_slice(), calls);
     let surplus = from_place(flight.calls.as_slice(), calls);
@@ -181,7 +185,7 @@ fn committed_entry(
     parts: &Parts,
     flight: Flight,
     trace: Trace,
-) -> Result<Boxed<Entry>, NoMemory>
+) -> Result<KeptEntry, NoMemory>
     ensures { IfOk result (λ entry. entry ≡ committed_entry (kept parts.now) flight trace) }
 {
     let slots = first_numbers(alloc, flight.numbers.as_slice(), trace.calls.len());
@@ -199,7 +203,7 @@ fn committed_entry(
         answer_version: 1,
         runs: 1,
     };
-    Ok(Boxed::new(alloc, entry)?)
+    KeptEntry::of(alloc, entry)
 }
 
 fn reply_to(
@@ -277,8 +281,7 @@ fn note_answer(
     ensures { OnOk result (with_draft draft.new (kept parts.now) ≡ noted (live_answer (kept parts.now) flight.now trace.now ∷ []) (with_draft draft.old (kept parts.now))) }
 {
     let row = live_answer(alloc, parts, flight, trace)?;
-    let rows = one_row(alloc, row)?;
-    note(alloc, parts, draft, rows)
+    note_row(alloc, parts, draft, row)
 }
 
 // Drafts the rows of a commit, and answers the index of its answer.

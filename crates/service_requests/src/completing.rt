@@ -1,5 +1,5 @@
 // What a live request does after a run.
-ghost use Rattle.std.specs.Prelude.{◌≡◌, IfOk, OnOk, Some};
+ghost use Rattle.std.specs.Prelude.{◌≡◌, IfOk, OnOk, Some, None};
 ghost use Rattle.std.specs.Option.{option_copied};
 ghost use Rattle.local_repair.specs.Alone.{trace_or_dead};
 ghost use Rattle.call_registers.specs.Registers.{next_number};
@@ -10,20 +10,18 @@ ghost use Rattle.service_events.specs.declared.answers.Arrived.{Arrived};
 ghost use Rattle.service_events.specs.Flying.{live_call, wanted_of, goes_on, changed, committed, completing, completed, moved};
 ghost use Rattle.service_parts.specs.Drafts.{with_draft};
 ghost use Rattle.service_parts.specs.Parts.{kept};
-ghost use Rattle.service_requests.specs.Endings.{ends, follows, CanEnd, CanStep, MayEnd, new_call, slot_of, call_rows, named_service, named_flight, unsent_service, call_sent};
+ghost use Rattle.service_requests.specs.Endings.{ends, follows, CanEnd, CanStep, MayEnd, new_call, slot_of, named_service, named_flight, unsent_service, call_sent};
 
 use crate::commits::commit;
 use crate::endings::{Ending, Step};
 use crate::flying::{live_call, put_call};
-use crate::noting::one_row;
 use crate::runs::run_flight;
 use call_registers::Why;
 use flights::{Flight, Move, advance, call_at};
 use handler_run::Ran;
-use journal_rows::Row;
 use lang_core::{Boxed, CallMade, Copied, NoMemory, Trace};
 use request_log::dead_trace;
-use service_parts::{Draft, Parts, change_rows, drafted, named, next_number, note, tell};
+use service_parts::{Draft, Parts, change_rows, drafted, named, next_number, note, note_row, tell};
 use std::alloc::Global;
 
 /// More than the runs of any flight that is completed, by one.
@@ -55,24 +53,35 @@ fn wait(
     Ok(Ending::Waits { flight, set })
 }
 
-// The rows of a new call: one more, or another one at a slot, whose call is deleted.
-fn call_rows(
+// Drafts the row of one call more.
+fn note_more(
     alloc: Global,
     parts: &Parts,
-    draft: &Draft,
-    flight: &Flight,
-    slot: Option<u64>,
+    draft: &mut Draft,
     call: &CallMade,
-) -> Result<Vec<Row>, NoMemory>
-    ensures { IfOk result (λ rows. rows.items ≡ call_rows (with_draft draft.now (kept parts.now)) flight.now slot call.now) }
+) -> Result<(), NoMemory>
+    ensures { (f : Flight) → OnOk result (with_draft draft.new (kept parts.now) ≡ named_service (with_draft draft.old (kept parts.now)) f None call.now) }
 {
-    match slot {
-        None => one_row(alloc, named(alloc, next_number(parts, draft), call)?),
-        Some(slot) => change_rows(alloc, &drafted(parts, draft), flight, slot, call),
-    }
+    let row = named(alloc, next_number(parts, draft), call)?;
+    note_row(alloc, parts, draft, row)
 }
 
-// Drafts the rows of a new call.
+// Drafts the rows of another call at a slot, whose call is deleted.
+fn note_change(
+    alloc: Global,
+    parts: &Parts,
+    draft: &mut Draft,
+    flight: &Flight,
+    slot: u64,
+    call: &CallMade,
+) -> Result<(), NoMemory>
+    ensures { OnOk result (with_draft draft.new (kept parts.now) ≡ named_service (with_draft draft.old (kept parts.now)) flight.now (Some slot) call.now) }
+{
+    let rows = change_rows(alloc, &drafted(parts, draft), flight, slot, call)?;
+    note(alloc, parts, draft, rows)
+}
+
+// Drafts the rows of a new call: one more, or another one at a slot.
 fn note_call(
     alloc: Global,
     parts: &Parts,
@@ -83,8 +92,10 @@ fn note_call(
 ) -> Result<(), NoMemory>
     ensures { OnOk result (with_draft draft.new (kept parts.now) ≡ named_service (with_draft draft.old (kept parts.now)) flight.now slot call.now) }
 {
-    let rows = call_rows(alloc, parts, draft, flight, slot, call)?;
-    note(alloc, parts, draft, rows)
+    match slot {
+        None => note_more(alloc, parts, draft, call),
+        Some(slot) => note_change(alloc, parts, draft, flight, slot, call),
+    }
 }
 
 // Drafts the rows of a new call of a flight, which then has it, and answers its number.

@@ -3,7 +3,7 @@ use call_registers::Reply;
 use flights::Flight;
 use lang_core::Boxed;
 use repair_messages::SetMessage;
-use request_log::Entry;
+use request_log::KeptEntry;
 
 /// How an event of a live request ends, beside the rows that it notes. It goes through several hands before it is put in
 /// place, so what is large stands apart.
@@ -12,7 +12,7 @@ pub enum Ending {
     /// The flight of this number, if there is one, is the last entry of the log. Its answer has this index in the journal.
     Commits {
         flight: u64,
-        entry: Boxed<Entry>,
+        entry: KeptEntry,
         reply: Option<Reply>,
         index: u64,
     },

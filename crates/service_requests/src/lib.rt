@@ -16,7 +16,6 @@ mod early;
 mod endings;
 mod flying;
 mod going;
-mod noting;
 mod outcome;
 mod runs;
 

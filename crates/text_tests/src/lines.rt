@@ -8,7 +8,7 @@ use lang_core::{
     Cell, Cells, Inputs, Method, Name, Names, NoMemory, Origin, Request, Response, Seq, Text,
 };
 use report_text::{log_text, push_response, rows_text, verdict_text};
-use request_log::{Entry, Log, Made, dead_trace};
+use request_log::{Entry, KeptEntry, Log, Made, dead_trace};
 use std::alloc::Global;
 use std::process::Abort;
 use std::test::Fail;
@@ -116,9 +116,10 @@ fn is_taken(log: &Log, origin: &Origin) -> bool
     }
 }
 
-fn append(rt: &impl Abort, log: &mut Log, entry: Entry) {
-    assert!(rt; log.find(entry.id).is_none());
-    assert!(rt; !is_taken(log, &entry.origin));
+fn append(rt: &impl Abort, log: &mut Log, entry: KeptEntry) {
+    let own = entry.entry();
+    assert!(rt; log.find(own.id).is_none());
+    assert!(rt; !is_taken(log, &own.origin));
     assert!(rt; log.append(entry).is_ok());
 }
 
@@ -148,7 +149,7 @@ fn line_of(
         answer_version: 9,
         runs: 5,
     };
-    append(rt, &mut log, entry);
+    append(rt, &mut log, KeptEntry::of(alloc, entry)?);
     log_text(alloc, &me, &log)
 }
 

@@ -74,8 +74,8 @@ returns-clause-kept c =
     let P : Entry → List Cell → Type 0 = λ e rows. IsPutAt at e rows m1 m2 in
     let Q : Entry → Type 0 = λ e. P e (rows_after [] (take at es)) in
     let put = subst Q is (subst (P c.entry.result.now) (seen_before c.ready_entry.new.rows es at tied) c.insert_parts.ensures.marks) in
-    kept_inserted es c.insert.new.self.entries c.args.rows.now.writes c.insert_parts.new.rows.writes c.args.marks.now m1 m2 at c.args.entry (is_marked at m2.marks) c.args.calls.now c.may_call.result
-    kept c.may_call.ensures c.requires.within c.in_ok-ready_entry.ensures.ok put.held put.reads refl put.front put.behind c.in_ok-insert.ensures.ok
+    kept_inserted es c.insert.new.self.entries c.args.rows.now.writes c.insert_parts.new.rows.writes c.args.marks.now m1 m2 at c.args.entry (is_marked at m2.marks) c.args.calls.now c.may_call_with.result
+    kept c.may_call_with.ensures c.requires.within c.in_ok-ready_entry.ensures.ok put.held put.reads refl put.front put.behind c.in_ok-insert.ensures.ok
     (c.insert_parts.ensures.rows
     ∙ ap (λ w. insert w at (writes_of c.entry.result.now.made)) tied
     ∙ ap (λ (e : Entry). insert (all_written es) at (writes_of e.made)) is
@@ -93,8 +93,8 @@ returns-in_err-insert-clause-kept c =
     let from = c.in_ok-ready_entry.ensures.ok in
     let rows = c.ready_entry.new.rows.writes in
     let m1 = c.ready_entry.new.marks in
-    let P : List Entry → Type 0 = λ l. IsKept l rows m1 c.may_call.result in
+    let P : List Entry → Type 0 = λ l. IsKept l rows m1 c.may_call_with.result in
     subst P (sym (ap (λ (k : KeptLog). k.entries) c.in_err-insert.ensures.err))
-    (kept_calls es rows m1 c.args.calls.now c.may_call.result
+    (kept_calls es rows m1 c.args.calls.now c.may_call_with.result
     (kept_grown es c.args.rows.now.writes rows c.args.marks.now m1 c.args.calls.now c.requires.kept c.in_ok-ready_entry.ensures.writes from.reads from.stays)
-    (λ none. (c.may_call.ensures none).0))
+    (λ none. (c.may_call_with.ensures none).0))
