@@ -158,3 +158,6 @@ piece_none k done rest front behind whole so at escape =
 
 pub piece_last : (k : Bool) (done last rest : List ℕ) (whole : Option (List ℕ)) → glued done (unescaped k rest) ≡ whole → None ≡ at_backslash rest → last ≡ done ++ rest → Some last ≡ whole
 piece_last k done last rest whole so at end = ap Some end ∙ sym (ap (glued done) (at_none k rest at)) ∙ so
+
+pub whole_piece : (k : Bool) (text body : List ℕ) → None ≡ at_backslash body → text ≡ body → Some text ≡ unescaped k body
+whole_piece k text body at is = piece_last k [] text body (unescaped k body) (glue_none (unescaped k body)) at is

@@ -35,9 +35,8 @@ fn cut_escape(in_key: bool, text: &str) -> Option<(&'static str, &str)>
     None
 }
 
-/// What a key, or another text, stands for: `\\`, `\n` and `\r` in it are a backslash, a line feed and a carriage return,
-/// and in a key `\s` is a space. None exactly where it has another use of a backslash.
-pub(crate) fn unescaped(alloc: Global, in_key: bool, body: &str) -> Result<Option<Text>, NoMemory>
+// Piece by piece.
+fn read_pieces(alloc: Global, in_key: bool, body: &str) -> Result<Option<Text>, NoMemory>
     ensures { IfOk result (λ text. text ≡ unescaped in_key body.now) }
 {
     let mut text = String::new(alloc);
@@ -52,4 +51,17 @@ pub(crate) fn unescaped(alloc: Global, in_key: bool, body: &str) -> Result<Optio
     }
     text.push_str(rest)?;
     Ok(Some(Text::shared(text)?))
+}
+
+/// What a key, or another text, stands for: `\\`, `\n` and `\r` in it are a backslash, a line feed and a carriage return,
+/// and in a key `\s` is a space. None exactly where it has another use of a backslash.
+#[tactic(auto, using(crate::proofs::EscapeLemmas::whole_piece))]
+pub(crate) fn unescaped(alloc: Global, in_key: bool, body: &str) -> Result<Option<Text>, NoMemory>
+    ensures { IfOk result (λ text. text ≡ unescaped in_key body.now) }
+{
+    // A text without a backslash, as most are, stands for itself: no string is made on the way to it.
+    match cut_backslash(body) {
+        None => Ok(Some(Text::of(alloc, body)?)),
+        Some(_) => read_pieces(alloc, in_key, body),
+    }
 }

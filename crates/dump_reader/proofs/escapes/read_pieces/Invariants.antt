@@ -2,7 +2,7 @@ use Rattle.std.proofs.Common.{◌≡◌, length}
 use Rattle.std.specs.Str.{IsUtf8}
 use Rattle.std.specs.String.{string_bytes}
 use Rattle.dump_reader.specs.Escapes.{glued, unescaped}
-use Rattle.dump_reader.proofs.escapes.unescaped.Given as goal
+use Rattle.dump_reader.proofs.escapes.read_pieces.Given as goal
 
 abbrev pub invariant-loop-front : goal.invariant-loop-front
 invariant-loop-front l = record {

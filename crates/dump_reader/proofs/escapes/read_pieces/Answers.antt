@@ -2,7 +2,7 @@ use Rattle.std.proofs.Common.{rules, ◌∙◌}
 use Rattle.std.specs.String.{string_bytes}
 use Rattle.dump_reader.specs.Escapes.{unescaped}
 use Rattle.dump_reader.proofs.EscapeLemmas.{piece_last, piece_more, piece_none, piece_shorter}
-use Rattle.dump_reader.proofs.escapes.unescaped.Goals as goal
+use Rattle.dump_reader.proofs.escapes.read_pieces.Goals as goal
 
 pub returns-in_default-cut_escape : goal.returns-in_default-cut_escape
 returns-in_default-cut_escape c =
