@@ -5,20 +5,7 @@ ghost use Rattle.dependency_index.specs.Numbers.{Rises, with_number};
 
 use lang_core::NoMemory;
 use lang_lists::count_front;
-use versioned_rows::Labelled;
-
-// Whether the item at the place of this number has this label. Labels are given from 0 on, so of a list with all labels that were
-// given each item does.
-fn stands_there<T: Labelled>(items: &[T], label: u64) -> bool
-    ensures there { result ≡ true → label < length items.now }
-    ensures is { result ≡ true → (d : T) → T.label (slice_index_or items.now label d) ≡ label }
-{
-    let at = label as usize;
-    if at >= items.len() {
-        return false;
-    }
-    items[at].label() == label
-}
+use versioned_rows::{Labelled, stands_there};
 
 // How many of these have lower labels.
 fn count_below<T: Labelled>(items: &[T], label: u64) -> usize

@@ -53,9 +53,9 @@ pub(crate) fn count_before<T: Labelled>(order: &Order, items: &[T], end: Option<
     )
 }
 
-// Whether the item at the place of this number has this label. Labels are given from 0 on, so of a list with all labels of an order,
-// to which none came between others, each item does.
-fn stands_there<T: Labelled>(items: &[T], label: u64) -> bool
+/// Whether the item at the place of this number has this label. Labels are given from 0 on, so each item of a list does that has all
+/// of them in the order in which they were given.
+pub fn stands_there<T: Labelled>(items: &[T], label: u64) -> bool
     ensures there { result ≡ true → label < length items.now }
     ensures is { result ≡ true → (d : T) → T.label (slice_index_or items.now label d) ≡ label }
 {

@@ -11,7 +11,7 @@ mod room;
 mod rows;
 mod versions;
 
-pub use labels::Labelled;
+pub use labels::{Labelled, stands_there};
 pub use places::PlaceWrites;
 pub use room::VersionsCall;
 pub use rows::{KeyLabels, KeyRow, copied_rows, drop_label, labels_at, labels_in, make_row};
