@@ -8,7 +8,7 @@ use Rattle.service_events.specs.declared.answers.Ordered.{Ordered}
 use Rattle.service_events.specs.declared.refusals.OrderRefused.{OrderRefused}
 use Rattle.http_front.specs.declared.message.WireResponse.{WireResponse}
 use Rattle.wire_fields.specs.declared.console.ConsoleRequest.{ConsoleRequest}
-use Rattle.admin_console.specs.Answers.{IsAnswered, IsDone, IsLeft, IsOrdered, IsUnanswered, Makes}
+use Rattle.admin_console.specs.Answers.{IsAnswered, IsDone, IsLeft, IsUnanswered, Makes}
 use Rattle.admin_console.specs.Asking.{asked_in}
 use Rattle.admin_console.specs.Replies.{bad, order_reply, report_reply}
 use Rattle.admin_console.specs.Reports.{report_of}

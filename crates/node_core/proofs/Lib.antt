@@ -1,6 +1,8 @@
 pub mod Places
 pub mod SearchLemmas
+pub mod AskedLemmas
 pub mod ApartLemmas
+pub mod TwiceLemmas
 pub mod CommitLemmas
 pub mod WholeLemmas
 pub mod PostLemmas

@@ -1,6 +1,7 @@
 -- What services and receipts come to at the end.
 use Rattle.std.specs.Prelude.{ℕ, ◌≡◌, ◌<◌, true, List, Option, Some, IsSomeAnd, find, length, slice_get}
 use Rattle.lang_base.specs.Texts.{same_text}
+use Rattle.lang_lists.specs.Keys.{call_key}
 use Rattle.journal_rows.specs.declared.row.Row.{Row}
 use Rattle.service_events.specs.Commits.{is_live_row, live_rows}
 use Rattle.service_events.specs.State.{Kept, me}
@@ -26,6 +27,10 @@ live_count s = length (live_rows s.journal)
 -- they name one service and index
 abbrev pub SamePlace : Receipt → Receipt → Type 0
 SamePlace r t = (r.service ≡ t.service) × (r.index ≡ t.index)
+
+-- the key under which it is found, by the service's name and the index
+abbrev pub place_key : Receipt → ℕ
+place_key r = call_key r.service r.index
 
 -- no two of them are of one answer
 abbrev pub AreApart : List Receipt → Type 0

@@ -1,10 +1,10 @@
 // Taking nodes and passes apart, and comparing receipts with journals.
-ghost use Rattle.std.specs.Prelude.{◌≡◌, ◌+◌, ◌<◌, ◌↔◌, ◌++◌, ℕ, Some, find, flat_map, length, slice_get, sum_by, vec_len, IfOk, OnOk, IfSome, IfNone, IsErrOf, IsSomeAnd, IsTrue, option_map};
+ghost use Rattle.std.specs.Prelude.{◌≡◌, ◌<◌, ◌↔◌, ℕ, Some, None, find, flat_map, length, slice_get, sum_by, vec_len, IfOk, IfSome, IfNone, IsErrOf, IsTrue, option_map};
 ghost use Rattle.std.specs.Option.{option_copied};
-ghost use Rattle.journal_rows.specs.Words.{asked};
+ghost use Rattle.journal_rows.specs.Words.{asked, asked_step};
 ghost use Rattle.lang_base.specs.Texts.{same_text};
 ghost use Rattle.service_events.specs.State.{me};
-ghost use Rattle.node_core.specs.Closings.{live_count, service_of, Agrees, AllAgree, AreAmong, AreApart, IsAmong, IsWhole, SamePlace};
+ghost use Rattle.node_core.specs.Closings.{live_count, service_of, Agrees, AllAgree, AreAmong, IsAmong, IsWhole, SamePlace};
 ghost use Rattle.node_core.specs.Receipts.{answered_id, AgreesWith, WasAskedSo};
 ghost use Rattle.node_core.specs.declared.closing.CloseRefused.TheVariants as refusals;
 
@@ -13,6 +13,7 @@ use crate::pass::Pass;
 use crate::receipt::Receipt;
 use crate::state::NodeState;
 use crate::tally::{Books, Tally};
+use crate::twice::first_twice;
 use journal_rows::{AskedRow, Row, Rows};
 use lang_core::{Inputs, Name, NoMemory, Request, Same};
 use service_core::Service;
@@ -106,18 +107,28 @@ fn gather_receipts<Q: Ledger>(
     Ok((all, found))
 }
 
-// How the entry of this number was made.
-fn asked(rows: &[Row], id: u64) -> Option<&AskedRow>
-    ensures { option_copied result ≡ asked id rows.now }
+// How a row made the entry of this number, if it did.
+fn asked_in(row: &Row, id: u64) -> Option<&AskedRow>
+    ensures { option_copied result ≡ asked_step id None row.now }
 {
-    for row in rows {
-        if let Row::Asked(asked) = row
-            && asked.id == id
-        {
-            return Some(asked);
-        }
+    match row {
+        Row::Asked(asked) if asked.id == id => Some(asked),
+        _ => None,
     }
-    None
+}
+
+// How the entry of this number was made, looked for among the rows of its key from the last of them back: the first counts.
+fn asked(rows: &Rows, id: u64) -> Option<&AskedRow>
+    ensures { option_copied result ≡ asked id rows.now.rows }
+{
+    let list = rows.as_slice();
+    let mut first = None;
+    let mut end = rows.end_of(id);
+    while end > 0 {
+        first = asked_in(&list[end - 1], id).or(first);
+        end = rows.end_before(end - 1);
+    }
+    first
 }
 
 fn same_inputs(left: &Inputs, right: &Inputs) -> bool
@@ -126,8 +137,8 @@ fn same_inputs(left: &Inputs, right: &Inputs) -> bool
     *left == *right
 }
 
-fn was_asked_so(rows: &[Row], id: u64, request: &Request, inputs: &Inputs) -> bool
-    ensures { IsTrue result ↔ WasAskedSo request.now inputs.now (asked id rows.now) }
+fn was_asked_so(rows: &Rows, id: u64, request: &Request, inputs: &Inputs) -> bool
+    ensures { IsTrue result ↔ WasAskedSo request.now inputs.now (asked id rows.now.rows) }
 {
     match asked(rows, id) {
         None => false,
@@ -159,7 +170,7 @@ fn agrees_with(service: &Service, receipt: &Receipt) -> bool
     let rows = service.journal();
     stands_there(rows, receipt)
         && was_asked_so(
-            rows.as_slice(),
+            rows,
             answered_id(&receipt.row),
             &receipt.request,
             &receipt.inputs,
@@ -200,38 +211,38 @@ fn first_differing(services: &[Service], receipts: &[Receipt]) -> Option<usize>
     None
 }
 
-// Numbers are compared first: they differ more often than names do.
-fn is_same_place(left: &Receipt, right: &Receipt) -> bool
-    ensures { IsTrue result ↔ SamePlace left.now right.now }
+// Compares each receipt with the journals, and all with one another, where there are as many as answers.
+fn compared(
+    alloc: Global,
+    services: Vec<Service>,
+    mut found: Vec<Receipt>,
+) -> Result<Closed, CloseRefused>
+    requires { length found.items ≡ sum_by live_count services.items }
+    ensures whole { IfOk result (λ closed. IsWhole closed.services.items closed.receipts.items) }
+    ensures len { IfOk result (λ closed. vec_len closed.services ≡ vec_len services) }
+    ensures receipts { IfOk result (λ closed. closed.receipts.items ≡ found.items) }
+    ensures differs { (r : _) (kept : _) → IsErrOf result (refusals.Differs r kept) → (¬ Agrees kept.items r) × IsAmong r found.items }
+    ensures twice { (r : _) (t : _) (kept : _) → IsErrOf result (refusals.Twice r t kept)
+        → SamePlace r t × (AreAmong r t found.items × AllAgree kept.items found.items) }
 {
-    left.index == right.index && left.service.is(&right.service)
-}
-
-// Where a receipt among these stands that is of the same answer.
-fn earlier(receipts: &[Receipt], receipt: &Receipt) -> Option<usize>
-    ensures none { IfNone result ((at : ℕ) (r : _) → slice_get receipts.now at ≡ Some r → ¬ SamePlace r receipt.now) }
-    ensures some { IfSome result (λ at. IsSomeAnd (slice_get receipts.now at) (λ r. SamePlace r receipt.now)) }
-{
-    for (at, other) in receipts.iter().enumerate() {
-        if is_same_place(other, receipt) {
-            return Some(at);
-        }
+    if let Some(at) = first_differing(&services, &found) {
+        let receipt = found.swap_remove(at);
+        return Err(CloseRefused::Differs { receipt, services });
     }
-    None
-}
-
-// Where two receipts of one answer stand, the first of them first.
-fn first_twice(receipts: &[Receipt]) -> Option<(usize, usize)>
-    ensures none { IfNone result (AreApart receipts.now) }
-    ensures some { IfSome result (λ p. (p.0 < p.1) × (p.1 < length receipts.now)
-        × ((r : _) (t : _) → slice_get receipts.now p.0 ≡ Some r → slice_get receipts.now p.1 ≡ Some t → SamePlace r t)) }
-{
-    for (at, receipt) in receipts.iter().enumerate() {
-        if let Some(first) = earlier(&receipts[..at], receipt) {
-            return Some((first, at));
-        }
+    let twice = first_twice(alloc, &found)?;
+    if let Some((at, other)) = twice {
+        let second = found.swap_remove(other);
+        let first = found.swap_remove(at);
+        return Err(CloseRefused::Twice {
+            first,
+            second,
+            services,
+        });
     }
-    None
+    Ok(Closed {
+        services,
+        receipts: found,
+    })
 }
 
 /// Takes the nodes and the passes of a run apart, once all its workers have ended, and compares each receipt with the journal of
@@ -265,24 +276,8 @@ pub fn close<R: Ledger, Q: Ledger>(
         no_receipts,
     } = books.into_inner();
     let (mut all_rows, services) = gather_rows(alloc, no_rows, nodes)?;
-    let (mut all_receipts, mut found) = gather_receipts(alloc, no_receipts, passes)?;
+    let (mut all_receipts, found) = gather_receipts(alloc, no_receipts, passes)?;
     rows.audit(&mut all_rows);
     receipts.audit(&mut all_receipts);
-    if let Some(at) = first_differing(&services, &found) {
-        let receipt = found.swap_remove(at);
-        return Err(CloseRefused::Differs { receipt, services });
-    }
-    if let Some((at, other)) = first_twice(&found) {
-        let second = found.swap_remove(other);
-        let first = found.swap_remove(at);
-        return Err(CloseRefused::Twice {
-            first,
-            second,
-            services,
-        });
-    }
-    Ok(Closed {
-        services,
-        receipts: found,
-    })
+    compared(alloc, services, found)
 }

@@ -21,6 +21,7 @@ mod receipts;
 mod state;
 mod tally;
 mod turns;
+mod twice;
 mod waiting;
 
 pub use asking::{NodeDone, NodeEvent};

@@ -1,5 +1,5 @@
 -- By which events a live request is committed.
-use Rattle.std.proofs.Common.{◌≡◌, ℕ, inl, inr, List, [], ◌∷◌, ◌++◌, Some, Result, refl, sym, ap, ◌∙◌, subst, append_assoc}
+use Rattle.std.proofs.Common.{ℕ, List, [], ◌∷◌, ◌++◌, Some, Result, refl, sym, ap, ◌∙◌, subst, append_assoc}
 use Rattle.std.proofs.lemmas.List.{append-nil}
 use Rattle.lang_core.specs.declared.ids.Origin.{Origin}
 use Rattle.lang_core.specs.declared.inputs.Inputs.{Inputs}
@@ -13,7 +13,7 @@ use Rattle.node_core.specs.declared.notes.Notes.{Notes}
 use Rattle.node_core.specs.declared.receipt.Receipt.{Receipt}
 use Rattle.node_workers.specs.Calling.{CallsIt}
 use Rattle.node_workers.specs.Desks.{Endpoint}
-use Rattle.node_workers.specs.Flying.{CommitsBy, FliesOn, FliesSo, IsArrival, IsCommittedBy, IsTold, LivesSo, MakesCalls, UnlessWanting}
+use Rattle.node_workers.specs.Flying.{FliesOn, FliesSo, IsArrival, IsTold, LivesSo, MakesCalls, UnlessWanting}
 use Rattle.node_workers.specs.declared.flying.Went.{Went}
 use Rattle.node_workers.specs.declared.flying.Went.TheVariants as went
 use Rattle.node_workers.specs.declared.live.Began.TheVariants as begins

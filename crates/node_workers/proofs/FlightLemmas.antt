@@ -1,5 +1,5 @@
 -- How a worker's events leave its open flight, its receipts and its counts.
-use Rattle.std.proofs.Common.{◌≡◌, ℕ, inl, inr, ◌+◌, ◌≤◌, ◌<◌, ◌-◌, ◌^◌, Bool, List, Option, Some, None, Result, Ok, Err, IfErr, IfOk, OnErr, IsSomeAnd, min, refl, sym, ap, ◌∙◌, subst, arith}
+use Rattle.std.proofs.Common.{◌≡◌, ℕ, inl, inr, ◌+◌, ◌≤◌, ◌-◌, ◌^◌, Bool, List, Option, Some, None, Result, Ok, Err, IfErr, IfOk, OnErr, IsSomeAnd, min, refl, sym, ap, ◌∙◌, subst, arith}
 use Rattle.lang_base.specs.declared.memory.NoMemory.{NoMemory as LacksMemory}
 use Rattle.lang_core.specs.declared.ids.Origin.{Origin}
 use Rattle.lang_core.specs.declared.ids.Origin.TheVariants.{Outside, Call}

@@ -1,5 +1,5 @@
 -- How what was written on a connection answers the message that was read.
-use Rattle.std.proofs.Common.{◌≡◌, ℕ, ◌-◌, true, false, inl, inr, ◌⊎◌, ◌++◌, ◌∷◌, List, [], Option, Some, None, Result, Ok, Err, IsSome, IsSomeAnd, is_some, codes, length, length-append, slice_get, refl, sym, ap, ◌∙◌, subst, arith}
+use Rattle.std.proofs.Common.{◌≡◌, ℕ, ◌-◌, false, inl, inr, ◌⊎◌, ◌++◌, ◌∷◌, List, [], Option, Some, None, Result, Ok, Err, IsSome, IsSomeAnd, is_some, codes, length, length-append, slice_get, refl, sym, ap, ◌∙◌, subst, arith}
 use Rattle.std.proofs.lemmas.List.{append-nil}
 use Rattle.lang_core.specs.declared.ids.Origin.{Origin}
 use Rattle.lang_core.specs.declared.ids.Origin.TheVariants.{Call, Outside}

@@ -1,6 +1,5 @@
 -- One connection served.
 use Rattle.std.specs.Prelude.{ℕ, ◌≡◌, true, ◌++◌, ◌∷◌, ◌⊎◌, List, [], Option, Some, None, Result, Ok, Err, codes}
-use Rattle.std.specs.Option.{ForSome}
 use Rattle.lang_core.specs.declared.ids.Origin.{Origin}
 use Rattle.lang_core.specs.declared.ids.Origin.TheVariants as origins
 use Rattle.lang_core.specs.declared.inputs.Inputs.{Inputs}

@@ -1,5 +1,5 @@
 -- What is written on a connection.
-use Rattle.std.specs.Prelude.{ℕ, ◌≡◌, ◌-◌, List, Option, Some, None, length, slice_get}
+use Rattle.std.specs.Prelude.{ℕ, ◌≡◌, ◌-◌, List, Option, Some, length, slice_get}
 use Rattle.lang_core.specs.declared.inputs.Inputs.{Inputs}
 use Rattle.io_edge.specs.Edge.{Writes, Wrote, WroteShort, WriteFails}
 use Rattle.http_front.specs.Writing.{response_bytes}
@@ -7,7 +7,6 @@ use Rattle.http_front.specs.declared.message.WireResponse.{WireResponse}
 use Rattle.wire_fields.specs.declared.console.ConsoleRequest.{ConsoleRequest}
 use Rattle.wire_replies.specs.Writing.{written}
 use Rattle.wire_replies.specs.declared.replies.Outgoing.{Outgoing}
-use Rattle.wire_replies.specs.declared.replies.Outgoing.TheVariants as replies
 use Rattle.wire_words.specs.Words.{front_word, wire_word}
 use Rattle.wire_bytes.specs.declared.hearing.Unheard.{Unheard}
 use Rattle.wire_bytes.specs.declared.hearing.Unheard.TheVariants as unheard

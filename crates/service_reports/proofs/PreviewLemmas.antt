@@ -1,5 +1,5 @@
 -- What is shown of a preview.
-use Rattle.std.proofs.Common.{◌≡◌, ℕ, List, Option, Some, Result, Ok, Err, option_map, sym, ap}
+use Rattle.std.proofs.Common.{◌≡◌, ℕ, List, Some, Ok, Err, option_map, sym, ap}
 use Rattle.lang_base.specs.Memory.{Unless}
 use Rattle.service_events.specs.State.{Kept}
 use Rattle.preview_core.specs.Previews.{preview_memory}

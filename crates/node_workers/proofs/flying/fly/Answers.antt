@@ -1,4 +1,4 @@
-use Rattle.std.proofs.Common.{refl, ◌∙◌}
+use Rattle.std.proofs.Common.{refl}
 use Rattle.node_workers.proofs.CallLemmas.{counts_none, counts_on}
 use Rattle.node_workers.proofs.CommitLemmas.{flies_until_commit, flies_not, flies_until_call}
 use Rattle.node_workers.proofs.FlightLemmas.{call_goes_on, commit_ends, flown, gone_ends, memory_ends, open_still, waits_now}

@@ -1,4 +1,4 @@
-use Rattle.std.proofs.Common.{Err, Ok, Result, Some, ap, refl, subst}
+use Rattle.std.proofs.Common.{Result, Some, ap, refl, subst}
 use Rattle.aire_wire.specs.declared.incoming.Incoming.TheVariants.{Answer}
 use Rattle.service_events.specs.declared.answers.Heard.{Heard}
 use Rattle.service_events.specs.declared.refusals.AnswerRefused.{AnswerRefused}

@@ -1,4 +1,4 @@
-use Rattle.std.proofs.Common.{Err, Ok, Result, Some, ap, refl, subst}
+use Rattle.std.proofs.Common.{Result, Some, ap, refl, subst}
 use Rattle.aire_wire.specs.declared.incoming.Incoming.TheVariants.{Set}
 use Rattle.service_events.specs.declared.answers.Taken.{Taken}
 use Rattle.service_events.specs.declared.refusals.TakeRefused.{TakeRefused}

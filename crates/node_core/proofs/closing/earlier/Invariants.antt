@@ -1,7 +1,0 @@
-use Rattle.std.proofs.Common.{◌≡◌, ◌<◌, ℕ, Some, slice_get}
-use Rattle.node_core.specs.Closings.{SamePlace}
-use Rattle.node_core.specs.declared.receipt.Receipt.{Receipt}
-use Rattle.node_core.proofs.closing.earlier.Given as goal
-
-abbrev pub invariant-loop-at : goal.invariant-loop-at
-invariant-loop-at l = (k : ℕ) (r : Receipt) → k < l.at → slice_get l.receipts k ≡ Some r → ¬ SamePlace r l.receipt
