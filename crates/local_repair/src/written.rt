@@ -140,13 +140,13 @@ pub(crate) fn insert_entry(
     rows: &mut EntryRows,
     marks: &mut EntryMarks,
     at: u64,
-    entry: KeptEntry,
+    added: KeptEntry,
     calls: &mut bool,
 ) -> Result<(), LogFull>
     requires within { at ≤ length log.old.entries }
-    requires is_new { IsNew entry log.old.entries }
+    requires is_new { IsNew added log.old.entries }
     requires kept { IsKept log.old.entries rows.old.writes marks.old calls.old }
-    ensures ok { OnOk result (log.new.entries ≡ insert log.old.entries at entry) }
+    ensures ok { OnOk result (log.new.entries ≡ insert log.old.entries at added) }
     ensures full { (result ≡ Err LogFull.Full) ↔ (length log.old.entries ≡ 100000) }
     ensures err { OnErr result (log.new.entries ≡ log.old.entries) }
     ensures kept { IsKept log.new.entries rows.new.writes marks.new calls.new }
@@ -155,9 +155,9 @@ pub(crate) fn insert_entry(
         return Err(LogFull::Full);
     }
     let count = log.as_slice().len();
-    ready_entry(alloc, rows, marks, at as usize, &entry, count)?;
-    *calls = may_call_with(*calls, &entry);
-    log.insert(at, entry)?;
+    ready_entry(alloc, rows, marks, at as usize, &added, count)?;
+    *calls = may_call_with(*calls, &added);
+    log.insert(at, added)?;
     let entries = log.as_slice();
     insert_parts(
         alloc,

@@ -38,7 +38,7 @@ insert_parts-requires-clause-few c =
     let m = length-map c.args.log.now.entries (λ (e : Entry). writes_of e.made) in
     let few = c.as_slice-entries.ensures.log.few in
     let more = ap length c.in_ok-insert.ensures.ok in
-    let k = length-insert c.args.log.now.entries c.args.at c.args.entry c.requires.within in
+    let k = length-insert c.args.log.now.entries c.args.at c.args.added c.requires.within in
     omega arith
 
 pub insert_parts-requires-clause-few_marks : goal.insert_parts-requires-clause-few_marks
@@ -47,18 +47,18 @@ insert_parts-requires-clause-few_marks c =
     let m = length-map c.args.log.now.entries looked in
     let few = c.as_slice-entries.ensures.log.few in
     let more = ap length c.in_ok-insert.ensures.ok in
-    let k = length-insert c.args.log.now.entries c.args.at c.args.entry c.requires.within in
+    let k = length-insert c.args.log.now.entries c.args.at c.args.added c.requires.within in
     omega arith
 
 pub insert_parts-requires-clause-ready_rows : goal.insert_parts-requires-clause-ready_rows
 insert_parts-requires-clause-ready_rows c =
-    let is = c.entry.ensures ∙ read c.args.log.now.entries c.as_slice-entries.result.now c.args.at c.index-entries-at.result c.args.entry (c.as_slice-entries.ensures.entries ∙ c.in_ok-insert.ensures.ok) c.index-entries-at.is c.requires.within in
+    let is = c.entry.ensures ∙ read c.args.log.now.entries c.as_slice-entries.result.now c.args.at c.index-entries-at.result c.args.added (c.as_slice-entries.ensures.entries ∙ c.in_ok-insert.ensures.ok) c.index-entries-at.is c.requires.within in
     let P : Entry → Type 0 = λ e. IsReadyToInsert c.args.at (writes_of e.made) c.ready_entry.new.rows in
     subst P (sym is) c.in_ok-ready_entry.ensures.ready_rows
 
 pub insert_parts-requires-clause-ready_marks : goal.insert_parts-requires-clause-ready_marks
 insert_parts-requires-clause-ready_marks c =
-    let is = c.entry.ensures ∙ read c.args.log.now.entries c.as_slice-entries.result.now c.args.at c.index-entries-at.result c.args.entry (c.as_slice-entries.ensures.entries ∙ c.in_ok-insert.ensures.ok) c.index-entries-at.is c.requires.within in
+    let is = c.entry.ensures ∙ read c.args.log.now.entries c.as_slice-entries.result.now c.args.at c.index-entries-at.result c.args.added (c.as_slice-entries.ensures.entries ∙ c.in_ok-insert.ensures.ok) c.index-entries-at.is c.requires.within in
     let P : Entry → Type 0 = λ e. IsReadyToMark c.args.at (reads_of e.made) c.ready_entry.new.marks in
     subst P (sym is) c.in_ok-ready_entry.ensures.ready_marks
 
@@ -69,17 +69,17 @@ returns-clause-kept c =
     let kept = c.requires.kept in
     let m1 = c.ready_entry.new.marks in
     let m2 = c.insert_parts.new.marks in
-    let is = c.entry.ensures ∙ read es c.as_slice-entries.result.now at c.index-entries-at.result c.args.entry (c.as_slice-entries.ensures.entries ∙ c.in_ok-insert.ensures.ok) c.index-entries-at.is c.requires.within in
+    let is = c.entry.ensures ∙ read es c.as_slice-entries.result.now at c.index-entries-at.result c.args.added (c.as_slice-entries.ensures.entries ∙ c.in_ok-insert.ensures.ok) c.index-entries-at.is c.requires.within in
     let tied = c.in_ok-ready_entry.ensures.writes ∙ kept.tied in
     let P : Entry → List Cell → Type 0 = λ e rows. IsPutAt at e rows m1 m2 in
     let Q : Entry → Type 0 = λ e. P e (rows_after [] (take at es)) in
     let put = subst Q is (subst (P c.entry.result.now) (seen_before c.ready_entry.new.rows es at tied) c.insert_parts.ensures.marks) in
-    kept_inserted es c.insert.new.self.entries c.args.rows.now.writes c.insert_parts.new.rows.writes c.args.marks.now m1 m2 at c.args.entry (is_marked at m2.marks) c.args.calls.now c.may_call_with.result
+    kept_inserted es c.insert.new.self.entries c.args.rows.now.writes c.insert_parts.new.rows.writes c.args.marks.now m1 m2 at c.args.added (is_marked at m2.marks) c.args.calls.now c.may_call_with.result
     kept c.may_call_with.ensures c.requires.within c.in_ok-ready_entry.ensures.ok put.held put.reads refl put.front put.behind c.in_ok-insert.ensures.ok
     (c.insert_parts.ensures.rows
     ∙ ap (λ w. insert w at (writes_of c.entry.result.now.made)) tied
     ∙ ap (λ (e : Entry). insert (all_written es) at (writes_of e.made)) is
-    ∙ sym (ap all_written c.in_ok-insert.ensures.ok ∙ written_insert es at c.args.entry))
+    ∙ sym (ap all_written c.in_ok-insert.ensures.ok ∙ written_insert es at c.args.added))
 
 pub returns-in_err-ready_entry-clause-kept : goal.returns-in_err-ready_entry-clause-kept
 returns-in_err-ready_entry-clause-kept c =
