@@ -1,7 +1,8 @@
 use crate::given::{holds, repeated, text};
-use lang_base::Copied;
+use lang_base::{Copied, Same, Text};
 use lang_tree::{
-    Block, Boxed, Expr, Items, Method, Program, Route, Routes, Stmt, is_literal, is_path, is_word,
+    Block, Boxed, Expr, Items, Method, Program, Route, Routes, Shared, Stmt, is_literal, is_path,
+    is_word,
 };
 use std::process::Abort;
 
@@ -101,4 +102,21 @@ fn keeps_depths(rt: HostRuntime) {
     holds(&rt, "32 blocks, 32 expressions", may_nest(&rt, 32, 32));
     holds(&rt, "33 blocks, 1 expressions", !may_nest(&rt, 33, 1));
     holds(&rt, "1 blocks, 33 expressions", !may_nest(&rt, 1, 33));
+}
+
+fn shared(rt: &(impl Abort + AllocGlobal), value: &str) -> Shared<Text> {
+    let value = text(rt, value);
+    Shared::copy_of(rt.alloc(), &value).expect(rt, "memory")
+}
+
+// A value outlives the holder that it was made for.
+#[test]
+fn holds_values_together(rt: HostRuntime) {
+    let first = shared(&rt, "a");
+    let second = first.copied(rt.alloc()).expect(&rt, "memory");
+    holds(&rt, "equal", second.is(&first));
+    drop(first);
+    holds(&rt, "value", second.get().as_str() == "a");
+    holds(&rt, "equal to another", second.is(&shared(&rt, "a")));
+    holds(&rt, "other", !second.is(&shared(&rt, "b")));
 }

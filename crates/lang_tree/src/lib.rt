@@ -7,6 +7,7 @@ mod expr;
 mod forms;
 mod method;
 mod program;
+mod shared;
 mod stmt;
 
 pub use expr::{Expr, Op};
@@ -16,5 +17,6 @@ pub use lang_base::{
 };
 pub use method::{Method, method_named, method_word};
 pub use program::{MOST_DEPTH, MOST_SEGMENTS, Program, Route, Routes};
+pub use shared::Shared;
 pub use sqlite_items::{Boxed, Items};
 pub use stmt::{Block, Stmt};
