@@ -2,7 +2,7 @@
 ghost use Rattle.std.specs.Prelude.{◌≡◌};
 ghost use Rattle.flights.specs.Numbers.{awaited};
 
-use lang_core::{Calls, Copied, Inputs, NoMemory, Origin, Request, Seq};
+use lang_core::{Calls, Copied, Inputs, NoMemory, Origin, Request, Seq, Shared};
 use lang_lists::Numbered;
 use repair_messages::copied_pair;
 use std::alloc::Global;
@@ -14,7 +14,7 @@ pub struct Flight {
     /// Its number in the service, from 1; of those in flight at one time no two have one number.
     pub id: u64,
     pub origin: Origin,
-    pub request: Request,
+    pub request: Shared<Request>,
     pub inputs: Inputs,
     /// Its calls so far, in the order of its slots.
     pub calls: Calls,

@@ -1,7 +1,7 @@
 // Rows on entries, and on what other services call for.
 ghost use Rattle.std.specs.Prelude.{◌≡◌, ◌↔◌, IsTrue};
 
-use lang_core::{Copied, Inputs, Name, NoMemory, Origin, Request, Response, Same, Text};
+use lang_core::{Copied, Inputs, Name, NoMemory, Origin, Request, Response, Same, Shared, Text};
 use repair_messages::copied_pair;
 use std::alloc::Global;
 
@@ -11,8 +11,8 @@ pub struct AskedRow {
     /// The entry's number: 1, 2, 3 and so on.
     pub id: u64,
     pub origin: Origin,
-    /// What was asked first.
-    pub request: Request,
+    /// What was asked first, which the entry holds too.
+    pub request: Shared<Request>,
     pub inputs: Inputs,
 }
 

@@ -51,7 +51,7 @@ fn row_bytes(row: &Row) -> u64
     ensures { result ≡ capped (row_bytes row.now) }
 {
     match row {
-        Row::Asked(row) => request_bytes(&row.request),
+        Row::Asked(row) => request_bytes(row.request.get()),
         Row::Took(row) => wanted_bytes(&row.desired).saturating_add(row.who.len()),
         Row::Answered(row) => row.response.body.len(),
         Row::Sent(row) => wanted_bytes(&row.desired),

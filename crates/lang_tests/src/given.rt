@@ -1,7 +1,7 @@
 // Assertions, and values that tests are about.
 ghost use Rattle.std.specs.Prelude.{◌≡◌};
 
-use lang_core::{Inputs, Method, Name, Names, Origin, Request, Text};
+use lang_core::{Inputs, Method, Name, Names, Origin, Request, Shared, Text};
 use request_log::{Entry, KeptEntry, Numbers};
 use std::process::Abort;
 
@@ -45,6 +45,11 @@ pub fn request(rt: &(impl Abort + AllocGlobal)) -> Request {
     }
 }
 
+/// The same request, as an entry holds it.
+pub fn shared_request(rt: &(impl Abort + AllocGlobal)) -> Shared<Request> {
+    Shared::new(rt.alloc(), request(rt)).expect(rt, "memory")
+}
+
 const INPUTS: Inputs = Inputs {
     moment: 0,
     w1: 0,
@@ -66,7 +71,7 @@ pub fn entry(rt: &(impl Abort + AllocGlobal), id: u64, origin: Origin) -> Entry
         id,
         origin,
         version: 0,
-        request: request(rt),
+        request: shared_request(rt),
         wanted: true,
         struck: false,
         inputs: INPUTS,

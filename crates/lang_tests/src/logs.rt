@@ -1,7 +1,7 @@
 ghost use Rattle.std.specs.Prelude.{◌≡◌, IsTrue};
 ghost use Rattle.request_log.specs.Entries.{IsNew, IsKnown};
 
-use crate::given::{entry, equal, holds, kept, name, request};
+use crate::given::{entry, equal, holds, kept, name, shared_request};
 use lang_core::{Copied, Origin, Same};
 use request_log::{Entry, Log, Made, dead_trace};
 use std::process::Abort;
@@ -90,7 +90,7 @@ fn struck(rt: &(impl Abort + AllocGlobal)) -> Made {
     Made {
         alive: false,
         version: 0,
-        request: request(rt),
+        request: shared_request(rt),
         trace: dead_trace(rt.alloc()).expect(rt, "memory"),
     }
 }

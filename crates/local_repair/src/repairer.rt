@@ -1,6 +1,6 @@
 // A log, and its repair.
 ghost use Rattle.std.specs.Prelude.{ℕ, ◌≡◌, ◌↔◌, ◌+◌, ◌<◌, ◌≤◌, ◌&&◌, not, nat_lt, [], ◌∷◌, ◌++◌, All, Err, Ok, IfOk, OnOk, OnErr, MatchOption, insert, length, map, take, slice_set, slice_index_or, find, is_some};
-ghost use Rattle.request_log.specs.Entries.{changed, has_id, mark, replace, IsNew, IsKnown, with_entry};
+ghost use Rattle.request_log.specs.Entries.{asking, changed, has_id, mark, AreReplaced, IsNew, IsKnown, with_entry};
 ghost use Rattle.log_index.specs.HandedOn.{read_at};
 ghost use Rattle.log_index.specs.Marks.{is_marked, IsReadyToSet as IsReadyToMark};
 ghost use Rattle.log_index.specs.Rows.{IsReadyToSet};
@@ -20,7 +20,7 @@ use crate::stepped::Stepped;
 use crate::view::RowsBefore;
 use crate::written::{insert_entry, may_call};
 use lang_base::both;
-use lang_core::{Cells, Copied, Method, NoMemory, Setting, Text};
+use lang_core::{Cells, Copied, NoMemory, Request, Setting, Shared};
 use log_index::{EntryMarks, EntryRows};
 use request_log::{Entry, KeptEntry, Log, LogFull};
 use std::alloc::Global;
@@ -267,13 +267,15 @@ impl Repairer {
         self.log.set_struck(id, struck)
     }
 
-    /// Gives the entry of a number another method, path and body; false exactly where there is none.
-    pub fn rewrite(&mut self, id: u64, method: Method, path: Text, body: Text) -> bool
-        ensures entries { self.new.entries ≡ changed id (replace method path body) self.old.entries }
+    /// Gives the entry of a number another request; false exactly where there is none. Where the request is the
+    /// entry's own with another method, path and body, the entry is replaced as an order says.
+    pub fn rewrite(&mut self, id: u64, request: Shared<Request>) -> bool
+        ensures entries { self.new.entries ≡ changed id (asking request) self.old.entries }
+        ensures replaced { AreReplaced id request self.old.entries self.new.entries }
         ensures there { result ≡ is_some (find (has_id id) self.old.entries) }
     {
         mark_id(&self.log, &mut self.marks, id);
-        self.log.rewrite(id, method, path, body)
+        self.log.rewrite(id, request)
     }
 
     /// The number of the first stale entry, where so many of the first entries are known to be current; None exactly where no

@@ -67,6 +67,20 @@ fn old_calls(entry: &Entry) -> &[CallMade]
     }
 }
 
+// One run of an entry, with these answers.
+fn run_entry<V: View>(
+    alloc: Global,
+    setting: &Setting,
+    view: &V,
+    entry: &Entry,
+    answers: &Answers,
+) -> Result<Ran, NoMemory>
+    ensures { IfOk result (λ ran. ran ≡ run_of setting.now entry.now.request entry.now.inputs answers.now (V.rows view.now)) }
+{
+    let request = entry.request.get();
+    run(alloc, setting, request, &entry.inputs, answers, view)
+}
+
 // Runs an entry from its start, with the answers of its old calls.
 fn live_trace<S: Slots, V: View>(
     alloc: Global,
@@ -83,14 +97,7 @@ fn live_trace<S: Slots, V: View>(
 {
     let mut answers: Answers = Seq::new(alloc);
     for turn in 0..MOST_TURNS {
-        match run(
-            alloc,
-            setting,
-            &entry.request,
-            &entry.inputs,
-            &answers,
-            view,
-        )? {
+        match run_entry(alloc, setting, view, entry, &answers)? {
             Ran::Done(trace) => return Ok(trace),
             Ran::Wants {
                 slot: _,

@@ -20,7 +20,7 @@ fn is_same_flight(begun: &Begun, flight: &Flight) -> bool
     ensures { IsTrue result ↔ IsSameFlight begun.now flight.now }
 {
     flight.origin.is(&begun.origin)
-        && flight.request.is(&begun.request)
+        && flight.request.get().is(&begun.request)
         && same_inputs(&flight.inputs, &begun.inputs)
         && flight.awaited() == begun.number
 }

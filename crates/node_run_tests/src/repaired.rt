@@ -38,8 +38,8 @@ fn lost(service: &Service) -> u64 {
 
 // A post's path ends with its name, and so does that of its paste.
 fn is_paste_of(post: &Entry, paste: &Entry) -> bool {
-    match paste.request.path.as_str().strip_prefix("/paste/") {
-        Some(name) => post.request.path.as_str().ends_with(name),
+    match paste.request.get().path.as_str().strip_prefix("/paste/") {
+        Some(name) => post.request.get().path.as_str().ends_with(name),
         None => false,
     }
 }

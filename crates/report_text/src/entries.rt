@@ -86,9 +86,9 @@ fn push_entry(text: &mut String, me: &Name, entry: &Entry) -> Result<(), NoMemor
 {
     push_id(text, me, entry.id)?;
     push_state(text, entry)?;
-    push_origin(text, &entry.origin, &entry.request.who)?;
+    push_origin(text, &entry.origin, &entry.request.get().who)?;
     text.push_str(" ")?;
-    push_asked(text, &entry.request)?;
+    push_asked(text, entry.request.get())?;
     push_outcome(text, &entry.made)
 }
 

@@ -1,8 +1,10 @@
 -- The entry of a number, changed at its place.
-use Rattle.std.proofs.Common.{◌≡◌, ℕ, ◌+◌, suc, Bool, true, false, cond, not, List, [], ◌∷◌, length, set, get_or, Option, Some, None, IsSome, find, is_some, nat_lt, position, refl, sym, ap, ◌∙◌, subst, eqb-true, arith}
+use Rattle.std.proofs.Common.{◌≡◌, ℕ, ◌+◌, suc, Bool, true, false, cond, not, List, [], ◌∷◌, length, set, get_or, Option, Some, None, IsSome, find, is_some, option_map, nat_lt, position, refl, sym, ap, ◌∙◌, subst, eqb-true, arith}
 use Rattle.std.specs.List.{position_or_len}
 use Rattle.request_log.specs.declared.entry.Entry.{Entry}
-use Rattle.request_log.specs.Entries.{has_id, changed, IsDistinct, KeptLog}
+use Rattle.lang_tree.specs.declared.method.Method.{Method}
+use Rattle.lang_core.specs.declared.request.Request.{Request}
+use Rattle.request_log.specs.Entries.{asking, changed, has_id, replace, request_at, with_call, IsDistinct, KeptLog}
 use Rattle.request_log.specs.Keys.{IsIndexed}
 use Rattle.request_log.proofs.EntryLemmas.{at_place, is_found, log-set, placed}
 
@@ -90,3 +92,35 @@ unknown change id k es is none =
     let found : find (has_id id) es ≡ None = not_found id es none in
     let P : KeptLog → Type 0 = λ k. IsUnknown change id k.entries in
     subst P is (record { entries = sym (none_changed change id es found); there = ap is_some (sym found) })
+
+-- the request of an entry, where there is one
+abbrev request_in : Option Entry → Option Request
+request_in o = option_map (λ (e : Entry). e.request) o
+
+-- an entry that asks its own request with another method, path and body is replaced so
+replaced_by : (id : ℕ) (es : List Entry) (m : Method) (p b : List ℕ) (q : Request) (o : Option Entry) → IsDistinct es → find (has_id id) es ≡ o
+    → option_map (with_call m p b) (request_in o) ≡ Some q → changed id (asking q) es ≡ changed id (replace m p b) es
+replaced_by id es m p b q None d is so = cc
+replaced_by id es m p b q (Some e) d is so =
+    let same : with_call m p b e.request ≡ q = cc in
+    sym (changed_at (asking q) id es e d is)
+    ∙ (ap (λ (r : Request). set es (position_or_len (has_id id) es) (asking r e)) (sym same)
+    ∙ changed_at (replace m p b) id es e d is)
+
+pub replaced_so : (id : ℕ) (k : KeptLog) (es : List Entry) (ns os : List ℕ) → (record { entries = es }) ≡ k → IsIndexed es ns os
+    → (m : Method) (p b : List ℕ) (q : Request) → option_map (with_call m p b) (request_at id k.entries) ≡ Some q
+    → changed id (asking q) k.entries ≡ changed id (replace m p b) k.entries
+replaced_so id k es ns os is log m p b q =
+    let P : KeptLog → Type 0 = λ k. option_map (with_call m p b) (request_at id k.entries) ≡ Some q
+    → changed id (asking q) k.entries ≡ changed id (replace m p b) k.entries in
+    subst P is (λ so. replaced_by id es m p b q (find (has_id id) es) log.log.distinct refl so)
+
+not_asked : (id : ℕ) (es : List Entry) (m : Method) (p b : List ℕ) (o : Option Entry) → find (has_id id) es ≡ o
+    → option_map (with_call m p b) (request_in o) ≡ None → es ≡ changed id (replace m p b) es
+not_asked id es m p b None is so = sym (none_changed (replace m p b) id es is)
+not_asked id es m p b (Some e) is so = cc
+
+-- where no entry has the number, none is replaced
+pub none_replaced : (id : ℕ) (es : List Entry) (m : Method) (p b : List ℕ) → option_map (with_call m p b) (request_at id es) ≡ None
+    → es ≡ changed id (replace m p b) es
+none_replaced id es m p b so = not_asked id es m p b (find (has_id id) es) refl so

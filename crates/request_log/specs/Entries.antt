@@ -1,5 +1,5 @@
 -- Entries of a log: which are alive, and which has a number or comes from a call.
-use Rattle.std.specs.Prelude.{ℕ, ◌≡◌, ◌≤◌, Bool, ◌&&◌, not, List, [], ◌∷◌, Option, Some, None, nat_eq, length, find, slice_set, IsSomeAnd, if◌then◌else◌, map}
+use Rattle.std.specs.Prelude.{ℕ, ◌≡◌, ◌≤◌, Bool, ◌&&◌, not, List, [], ◌∷◌, Option, Some, None, nat_eq, length, find, slice_set, option_map, IsSomeAnd, if◌then◌else◌, map}
 use Rattle.std.specs.List.{position_or_len}
 use Rattle.lang_tree.specs.declared.method.Method.{Method}
 use Rattle.lang_core.specs.Origins.{is_call}
@@ -57,12 +57,26 @@ mark struck e = record e { struck = struck }
 abbrev pub with_call : Method → List ℕ → List ℕ → Request → Request
 with_call method path body q = record q { method = method; path = path; body = body }
 
+-- the entry, with another request
+abbrev pub asking : Request → Entry → Entry
+asking q e = record e { request = q }
+
 abbrev pub replace : Method → List ℕ → List ℕ → Entry → Entry
-replace method path body e = record e { request = with_call method path body e.request }
+replace method path body e = asking (with_call method path body e.request) e
 
 -- the entries, where the one of this number is changed so
 abbrev pub changed : ℕ → (Entry → Entry) → List Entry → List Entry
 changed id change entries = map (λ e. if has_id id e then change e else e) entries
+
+-- the request of the entry of a number, if there is one
+abbrev pub request_at : ℕ → List Entry → Option Request
+request_at id entries = option_map (λ (e : Entry). e.request) (find (has_id id) entries)
+
+-- where this request is the entry's own with another method, path and body, the entry of the number is replaced so
+abbrev pub AreReplaced : ℕ → Request → List Entry → List Entry → Type 0
+AreReplaced id q old new = (method : Method) (path body : List ℕ)
+    → option_map (with_call method path body) (request_at id old) ≡ Some q
+    → new ≡ changed id (replace method path body) old
 
 -- a log: its entries in order
 pub record KeptLog : Type 0 where

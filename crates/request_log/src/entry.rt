@@ -1,11 +1,11 @@
 // Entries of a log, and their records.
 ghost use Rattle.std.specs.Prelude.{◌≡◌, IfOk};
 ghost use Rattle.lang_core.specs.Traces.{dead_trace};
-ghost use Rattle.request_log.specs.Entries.{is_alive, mark, replace, with_run};
+ghost use Rattle.request_log.specs.Entries.{asking, is_alive, mark, with_run};
 
 use lang_base::both;
 use lang_core::{
-    Copied, Inputs, Method, NoMemory, Origin, Request, Response, Seq, Text, Trace, Writes,
+    Copied, Inputs, NoMemory, Origin, Request, Response, Seq, Shared, Text, Trace, Writes,
 };
 use std::alloc::Global;
 use std::marker::Model;
@@ -18,7 +18,8 @@ pub type Numbers = Seq<u64>;
 pub struct Made {
     pub alive: bool,
     pub version: u64,
-    pub request: Request,
+    /// Held together with the entry, as long as that asks the same.
+    pub request: Shared<Request>,
     pub trace: Trace,
 }
 
@@ -31,8 +32,8 @@ pub struct Entry {
     pub origin: Origin,
     /// The version of the call that it answers, from 1; 0 where it comes from outside.
     pub version: u64,
-    /// The request as it stands now.
-    pub request: Request,
+    /// The request as it stands now, which the entry's record and a row of the journal hold too.
+    pub request: Shared<Request>,
     /// Whether its origin wants it.
     pub wanted: bool,
     /// Whether an order has struck it.
@@ -106,14 +107,11 @@ impl KeptEntry {
         self.inner.struck = struck;
     }
 
-    /// Gives it another method, path and body.
-    pub(crate) fn rewrite(&mut self, method: Method, path: Text, body: Text)
-        ensures { self.new ≡ replace method path body self.old }
+    /// Gives it another request.
+    pub(crate) fn rewrite(&mut self, request: Shared<Request>)
+        ensures { self.new ≡ asking request self.old }
     {
-        let request = &mut self.inner.request;
-        request.method = method;
-        request.path = path;
-        request.body = body;
+        self.inner.request = request;
     }
 }
 

@@ -1,13 +1,13 @@
 // The log: entries in order.
 ghost use Rattle.std.specs.Prelude.{◌≡◌, ◌↔◌, ◌<◌, ◌≤◌, [], ◌∷◌, ◌++◌, length, find, position, insert, slice_get, slice_set, slice_index_or, OnOk, OnErr, IfOk, IsSome, IsTrue, is_some};
 ghost use Rattle.std.specs.Option.{option_copied};
-ghost use Rattle.request_log.specs.Entries.{changed, has_id, has_origin, mark, replace, IsNew, IsKnown, IsLog, with_entry, with_run};
+ghost use Rattle.request_log.specs.Entries.{asking, changed, has_id, has_origin, mark, AreReplaced, IsNew, IsKnown, IsLog, with_entry, with_run};
 ghost use Rattle.request_log.specs.declared.entry.Entry.{Entry};
 
 use crate::entry::{Entry, KeptEntry, Made, Numbers};
 use crate::finding::{find_origin, make_room, origin_key, place_of};
 use lang_base::{both, copied_items};
-use lang_core::{Copied, Method, Name, NoMemory, Text};
+use lang_core::{Copied, Name, NoMemory, Request, Shared};
 use lang_lists::HashIndex;
 use std::alloc::{AllocFailed, Global};
 use std::marker::Model;
@@ -213,15 +213,17 @@ impl Log {
         }
     }
 
-    /// Gives the entry of a number another method, path and body; false exactly where there is none.
-    pub fn rewrite(&mut self, id: u64, method: Method, path: Text, body: Text) -> bool
-        ensures entries { self.new.entries ≡ changed id (replace method path body) self.old.entries }
+    /// Gives the entry of a number another request; false exactly where there is none. Where the request is the
+    /// entry's own with another method, path and body, the entry is replaced as an order says.
+    pub fn rewrite(&mut self, id: u64, request: Shared<Request>) -> bool
+        ensures entries { self.new.entries ≡ changed id (asking request) self.old.entries }
+        ensures replaced { AreReplaced id request self.old.entries self.new.entries }
         ensures there { result ≡ is_some (find (has_id id) self.old.entries) }
     {
         match place_of(&self.items, &self.numbers, id) {
             None => false,
             Some(place) => {
-                self.items[place].rewrite(method, path, body);
+                self.items[place].rewrite(request);
                 true
             }
         }

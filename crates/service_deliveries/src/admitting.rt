@@ -81,7 +81,7 @@ fn known_request<'a>(parts: &'a Parts, set: &SetMessage) -> Option<&'a Request>
 {
     match parts.repairer.log().find_origin(&set.caller, set.number) {
         None => None,
-        Some(entry) => Some(&entry.request),
+        Some(entry) => Some(entry.request.get()),
     }
 }
 

@@ -9,7 +9,7 @@ use call_registers::Reply;
 use create_placement::place;
 use journal_rows::{AckedRow, AskedRow, Row, TookHow, TookRow};
 use lang_base::both;
-use lang_core::{Copied, Inputs, Name, NoMemory, Origin, Request};
+use lang_core::{Copied, Inputs, Name, NoMemory, Origin, Request, Shared};
 use repair_messages::{Ack, SetMessage, copied_pair};
 use request_log::{Entry, KeptEntry};
 use service_events::Taken;
@@ -94,7 +94,7 @@ fn push_asked(
     alloc: Global,
     parts: &Parts,
     set: &SetMessage,
-    request: &Request,
+    request: &Shared<Request>,
     inputs: Inputs,
     rows: &mut Vec<Row>,
 ) -> Result<(), NoMemory>
@@ -134,7 +134,7 @@ pub(crate) fn created_rows(
     alloc: Global,
     parts: &Parts,
     set: &SetMessage,
-    request: &Request,
+    request: &Shared<Request>,
     inputs: Inputs,
     rule: u32,
 ) -> Result<Vec<Row>, NoMemory>
@@ -152,14 +152,14 @@ pub(crate) fn created_rows(
 // What a version asks, where the one before it asked this.
 fn or_before(
     alloc: Global,
-    before: &Request,
+    before: &Shared<Request>,
     desired: &Option<Request>,
-) -> Result<Request, NoMemory>
+) -> Result<Shared<Request>, NoMemory>
     ensures { IfOk result (λ request. request ≡ or_before before.now desired.now) }
 {
     match desired {
         None => before.copied(alloc),
-        Some(request) => request.copied(alloc),
+        Some(request) => Shared::copy_of(alloc, request),
     }
 }
 
@@ -180,7 +180,7 @@ pub(crate) fn created_entry(
     alloc: Global,
     parts: &Parts,
     set: &SetMessage,
-    request: &Request,
+    request: &Shared<Request>,
     inputs: Inputs,
 ) -> Result<KeptEntry, NoMemory>
     ensures { IfOk result (λ entry. entry ≡ created_entry (kept parts.now) set.now request.now inputs) }

@@ -16,7 +16,7 @@ use crate::making::{
 };
 use crate::take_changes::{TakeChange, Taking};
 use journal_rows::Row;
-use lang_core::{Inputs, NoMemory, Request};
+use lang_core::{Inputs, NoMemory, Request, Shared};
 use repair_messages::SetMessage;
 use request_log::Entry;
 use service_parts::Parts;
@@ -95,7 +95,7 @@ fn create(
     alloc: Global,
     parts: &Parts,
     set: &SetMessage,
-    request: &Request,
+    request: &Shared<Request>,
     inputs: Inputs,
 ) -> Result<TakeChange, NoMemory>
     requires fits { Fits (kept parts.now) }
@@ -109,8 +109,27 @@ fn create(
     Ok(TakeChange::Create { at, entry, reply })
 }
 
-// Its call has no entry, and makes one.
+// Its call has no entry, and makes one, which asks what its row says.
 fn made(
+    alloc: Global,
+    parts: &Parts,
+    set: &SetMessage,
+    request: &Shared<Request>,
+    inputs: Inputs,
+    rule: u32,
+) -> Result<Taking, NoMemory>
+    requires fits { Fits (kept parts.now) }
+    requires none { find_call (origin_of set.now) parts.now.repairer.entries ≡ None }
+    requires rule { rule ≡ take_rule (kept parts.now) set.now }
+    ensures { IfOk result (λ t. Leaves (kept parts.now) t (after (taken_by (kept parts.now) set.now inputs None (Some request.now)) (Ok (taken set.now (Some (take_rule (kept parts.now) set.now)))))) }
+{
+    let rows = created_rows(alloc, parts, set, request, inputs, rule)?;
+    let change = create(alloc, parts, set, request, inputs)?;
+    taking(alloc, set, Some(rule), rows, change)
+}
+
+// The same, where the entry and its row don't hold the request together yet.
+fn made_of(
     alloc: Global,
     parts: &Parts,
     set: &SetMessage,
@@ -123,9 +142,8 @@ fn made(
     requires rule { rule ≡ take_rule (kept parts.now) set.now }
     ensures { IfOk result (λ t. Leaves (kept parts.now) t (after (taken_by (kept parts.now) set.now inputs None (Some request.now)) (Ok (taken set.now (Some (take_rule (kept parts.now) set.now)))))) }
 {
-    let rows = created_rows(alloc, parts, set, request, inputs, rule)?;
-    let change = create(alloc, parts, set, request, inputs)?;
-    taking(alloc, set, Some(rule), rows, change)
+    let held = Shared::copy_of(alloc, request)?;
+    made(alloc, parts, set, &held, inputs, rule)
 }
 
 // Its call has no entry, and is to have no effect.
@@ -151,7 +169,7 @@ fn unknown(
     ensures { IfOk result (λ t. Leaves (kept parts.now) t (after (taken_by (kept parts.now) set.now inputs None set.now.desired) (Ok (taken set.now (Some (take_rule (kept parts.now) set.now)))))) }
 {
     match &set.desired {
-        Some(request) => made(alloc, parts, set, request, inputs, rule),
+        Some(request) => made_of(alloc, parts, set, request, inputs, rule),
         None => unmet(alloc, parts, set, rule),
     }
 }

@@ -6,7 +6,7 @@ ghost use Rattle.service_events.specs.State.{next_id};
 ghost use Rattle.service_parts.specs.Parts.{kept};
 
 use crate::parts::Parts;
-use lang_core::{Inputs, NoMemory, Origin, Request, Seq};
+use lang_core::{Inputs, NoMemory, Origin, Request, Seq, Shared};
 use local_repair::Repairer;
 use request_log::{Entry, KeptEntry, Log};
 use std::alloc::Global;
@@ -26,7 +26,7 @@ pub fn next_id(parts: &Parts) -> u64
 }
 
 /// The entry of a request from outside that never ran.
-pub fn created(alloc: Global, id: u64, request: Request, inputs: Inputs) -> Entry
+pub fn created(alloc: Global, id: u64, request: Shared<Request>, inputs: Inputs) -> Entry
     ensures { result ≡ created id request inputs }
 {
     Entry {

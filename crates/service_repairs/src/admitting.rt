@@ -130,7 +130,7 @@ fn request_of(parts: &Parts, id: u64) -> Option<&Request>
 {
     match parts.repairer.log().find(id) {
         None => None,
-        Some(entry) => Some(&entry.request),
+        Some(entry) => Some(entry.request.get()),
     }
 }
 

@@ -1,6 +1,6 @@
 // The orders of operators.
 ghost use Rattle.std.specs.Prelude.{◌≡◌, ◌+◌, ◌<◌, ◌≤◌, [], ◌∷◌, ◌++◌, None, IfOk, OnOk, OnErr, find, insert, length, option_map};
-ghost use Rattle.request_log.specs.Entries.{has_id, IsNew, with_call};
+ghost use Rattle.request_log.specs.Entries.{changed, has_id, replace, IsNew, with_call};
 ghost use Rattle.create_placement.specs.Placement.{created, place_between};
 ghost use Rattle.service_events.specs.State.{next_id};
 ghost use Rattle.service_events.specs.Calls.{noted};
@@ -12,7 +12,7 @@ ghost use Rattle.service_repairs.specs.Ordering.{MayOrder};
 
 use create_placement::place;
 use journal_rows::{About, AskedRow, Command, OrderedRow, Row};
-use lang_core::{Copied, Inputs, Method, NoMemory, Origin, Request, Seq, Text};
+use lang_core::{Copied, Inputs, Method, NoMemory, Origin, Request, Seq, Shared, Text};
 use local_repair::Repairer;
 use repair_messages::{PostName, copied_pair};
 use request_log::{Entry, KeptEntry, Log};
@@ -41,7 +41,7 @@ fn found_request(alloc: Global, parts: &Parts, id: u64) -> Result<Option<Request
     match parts.repairer.log().find(id) {
         None => Ok(None),
         Some(entry) => {
-            let request = entry.request.copied(alloc)?;
+            let request = entry.request.get().copied(alloc)?;
             Ok(Some(request))
         }
     }
@@ -94,7 +94,7 @@ fn replaced_request(
     match parts.repairer.log().find(id) {
         None => Ok(None),
         Some(entry) => {
-            let request = with_call(alloc, &entry.request, method, path, body)?;
+            let request = with_call(alloc, entry.request.get(), method, path, body)?;
             Ok(Some(request))
         }
     }
@@ -177,7 +177,7 @@ fn asked(alloc: Global, id: u64, request: &Request, inputs: Inputs) -> Result<Ro
     Ok(Row::Asked(AskedRow {
         id,
         origin: Origin::Outside,
-        request: request.copied(alloc)?,
+        request: Shared::copy_of(alloc, request)?,
         inputs,
     }))
 }
@@ -226,6 +226,18 @@ fn order_rows(
 
 // ---- what it does
 
+fn created_entry(
+    alloc: Global,
+    id: u64,
+    request: Request,
+    inputs: Inputs,
+) -> Result<KeptEntry, NoMemory>
+    ensures { IfOk result (λ entry. entry ≡ created id request inputs) }
+{
+    let held = Shared::new(alloc, request)?;
+    KeptEntry::of(alloc, created(alloc, id, held, inputs))
+}
+
 // Makes an entry of a request that is to have been made, at its place among the others. Refused, the log stays.
 fn create(
     alloc: Global,
@@ -240,8 +252,8 @@ fn create(
     ensures err { OnErr result (repairer.new.entries ≡ repairer.old.entries) }
 {
     let at = place(repairer.log(), before, after);
-    let entry = created(alloc, next_in(repairer.log()), request, inputs);
-    insert(repairer, at, KeptEntry::of(alloc, entry)?)
+    let entry = created_entry(alloc, next_in(repairer.log()), request, inputs)?;
+    insert(repairer, at, entry)
 }
 
 // A held post is sent again, for this user.
@@ -254,6 +266,31 @@ fn release(parts: &mut Parts, name: PostName, who: Text)
     match name {
         PostName::Call(number) => parts.registers.release(number, who),
         PostName::Reply(id) => parts.replies.release_reply(id, who),
+    }
+}
+
+// Gives the entry of a number another method, path and body. Refused, nothing changes.
+fn replace(
+    alloc: Global,
+    parts: &mut Parts,
+    id: u64,
+    method: Method,
+    path: &Text,
+    body: &Text,
+) -> Result<(), NoMemory>
+    ensures ok { OnOk result (kept parts.new ≡ record (kept parts.old) { entries = changed id (replace method path.now body.now) parts.old.repairer.entries }) }
+    ensures err { OnErr result (kept parts.new ≡ kept parts.old) }
+    ensures journal { parts.new.journal ≡ parts.old.journal }
+    ensures flights { parts.new.flights ≡ parts.old.flights }
+{
+    let repaired = replaced_request(alloc, parts, id, method, path, body)?;
+    match repaired {
+        None => Ok(()),
+        Some(request) => {
+            let held = Shared::new(alloc, request)?;
+            let _there = parts.repairer.rewrite(id, held);
+            Ok(())
+        }
     }
 }
 
@@ -285,10 +322,7 @@ fn carry_out(
             method,
             path,
             body,
-        } => {
-            let _there = parts.repairer.rewrite(id, method, path, body);
-            Ok(())
-        }
+        } => replace(alloc, parts, id, method, &path, &body),
         Command::Create {
             before,
             after,

@@ -29,7 +29,7 @@ fn enter(
     ensures err { OnErr result (kept parts.new ≡ kept parts.old) }
     ensures service { IsService parts.new }
 {
-    let flight = new_flight(alloc, parts, origin, request, inputs);
+    let flight = new_flight(alloc, parts, origin, request, inputs)?;
     let outcome = follow(alloc, parts, start(alloc), flight)?;
     apply(alloc, parts, outcome)
 }

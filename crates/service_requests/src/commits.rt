@@ -12,7 +12,7 @@ use call_registers::Reply;
 use flights::Flight;
 use journal_rows::{AnsweredRow, AskedRow, Row, TookHow, TookRow};
 use lang_base::both;
-use lang_core::{Copied, Name, NoMemory, Origin, Request, Seq, Trace};
+use lang_core::{Copied, Name, NoMemory, Origin, Request, Seq, Shared, Trace};
 use repair_messages::copied_pair;
 use request_log::{Entry, KeptEntry, Made, Numbers};
 use service_parts::{Draft, Parts, drafted, next_id, next_index, note, note_row, push_deleted};
@@ -31,11 +31,16 @@ fn live_version(origin: &Origin) -> u64
     }
 }
 
-fn took(alloc: Global, caller: &Name, number: u64, request: &Request) -> Result<Row, NoMemory>
+fn took(
+    alloc: Global,
+    caller: &Name,
+    number: u64,
+    request: &Shared<Request>,
+) -> Result<Row, NoMemory>
     ensures { IfOk result (λ row. took_rows (Origin.Call caller.now number) request.now ≡ row ∷ []) }
 {
-    let (caller, desired) = copied_pair(alloc, caller, request)?;
-    let who = request.who.copied(alloc)?;
+    let (caller, desired) = copied_pair(alloc, caller, request.get())?;
+    let who = request.get().who.copied(alloc)?;
     Ok(Row::Took(TookRow {
         caller,
         number,
@@ -50,7 +55,7 @@ fn took(alloc: Global, caller: &Name, number: u64, request: &Request) -> Result<
 fn push_took(
     alloc: Global,
     origin: &Origin,
-    request: &Request,
+    request: &Shared<Request>,
     rows: &mut Vec<Row>,
 ) -> Result<(), NoMemory>
     ensures { OnOk result (rows.new.items ≡ rows.old.items ++ took_rows origin.now request.now) }

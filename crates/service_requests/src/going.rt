@@ -10,7 +10,7 @@ ghost use Rattle.service_requests.specs.Changes.{leaves, CanLeave};
 use crate::completing::go_on;
 use crate::outcome::DraftedEnd;
 use flights::Flight;
-use lang_core::{Inputs, NoMemory, Origin, Request, Seq};
+use lang_core::{Inputs, NoMemory, Origin, Request, Seq, Shared};
 use service_parts::{Draft, Parts};
 use std::alloc::Global;
 
@@ -36,10 +36,11 @@ pub(crate) fn new_flight(
     origin: Origin,
     request: Request,
     inputs: Inputs,
-) -> Flight
-    ensures { result ≡ new_flight (kept parts.now) origin request inputs }
+) -> Result<Flight, NoMemory>
+    ensures { IfOk result (λ flight. flight ≡ new_flight (kept parts.now) origin request inputs) }
 {
-    Flight {
+    let request = Shared::new(alloc, request)?;
+    Ok(Flight {
         id: parts.flights.free_number(),
         origin,
         request,
@@ -47,5 +48,5 @@ pub(crate) fn new_flight(
         calls: Seq::new(alloc),
         numbers: Seq::new(alloc),
         changes: 0,
-    }
+    })
 }

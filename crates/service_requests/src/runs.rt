@@ -48,10 +48,11 @@ pub(crate) fn run_flight(
 {
     let answers = answers_of(alloc, parts, draft, flight.numbers.as_slice())?;
     let rows = parts.repairer.end();
+    let request = flight.request.get();
     run(
         alloc,
         &parts.setting,
-        &flight.request,
+        request,
         &flight.inputs,
         &answers,
         &rows,

@@ -4,7 +4,7 @@ use journal_rows::{
     About, AckHow, AckedRow, AnsweredRow, AskedRow, Command, OrderedRow, Row, Rows, SawAckRow,
     SawAnswerRow, SawHow, SentRow, TookHow, TookRow, WasConfirmedRow, weight,
 };
-use lang_core::{Copied, Inputs, Method, Origin, Same};
+use lang_core::{Copied, Inputs, Method, Origin, Same, Shared};
 use std::process::Abort;
 
 const INPUTS: Inputs = Inputs {
@@ -33,8 +33,12 @@ fn push(rt: &(impl Abort + AllocGlobal), rows: &mut Rows, row: Row, weighs: u64)
     holds(rt, "pushed", pushed);
 }
 
+fn shared<T: Drop>(rt: &(impl Abort + AllocGlobal), value: T) -> Shared<T> {
+    Shared::new(rt.alloc(), value).expect(rt, "memory")
+}
+
 fn asked(rt: &(impl Abort + AllocGlobal)) -> Row {
-    let request = put(rt, "ann", "/n/a", "hi");
+    let request = shared(rt, put(rt, "ann", "/n/a", "hi"));
     Row::Asked(AskedRow {
         id: 1,
         origin: Origin::Outside,

@@ -5,7 +5,8 @@ ghost use Rattle.request_log.specs.Entries.{find_call};
 
 use journal_rows::{Outstanding, Verdict};
 use lang_core::{
-    Cell, Cells, Inputs, Method, Name, Names, NoMemory, Origin, Request, Response, Seq, Text,
+    Cell, Cells, Inputs, Method, Name, Names, NoMemory, Origin, Request, Response, Seq, Shared,
+    Text,
 };
 use report_text::{log_text, push_response, rows_text, verdict_text};
 use request_log::{Entry, KeptEntry, Log, Made, dead_trace};
@@ -79,7 +80,7 @@ fn inputs() -> Inputs {
 
 // The record of an older request.
 fn made(alloc: Global, response: Response) -> Result<Made, NoMemory> {
-    let request = request(alloc, Method::Put, "/old", "old")?;
+    let request = Shared::new(alloc, request(alloc, Method::Put, "/old", "old")?)?;
     let mut trace = dead_trace(alloc)?;
     trace.response = response;
     Ok(Made {
@@ -140,7 +141,7 @@ fn line_of(
         id: 20,
         origin: origin_of(rt, alloc, call)?,
         version: 3,
-        request,
+        request: Shared::new(alloc, request)?,
         wanted,
         struck,
         inputs: inputs(),

@@ -20,7 +20,7 @@ loop-turn-preserved g c =
     ((handler c.args.setting.now).steady c.args.entry.now.request c.args.entry.now.inputs (g.V.View.rows c.args.view.now))
     (g.S.Slots.consumed_of c.args.slots.now) c.args.old.now c.args.entry.now.slots c.loop-turn.answers c.push.new.self c.loop-turn.turn
     c.in_ok-trace.field-0 c.in-Wants.slot c.in-Wants.calls c.in-Wants.call c.in_ok-answer-in-Wants.answer
-    c.in_ok-trace.ensures.meaning c.in-Wants.is
+    c.in_ok-trace.ensures c.in-Wants.is
     (rw c.as_slice.ensures at c.in_ok-answer-in-Wants.ensures ∙ ap (λ k. answer_at (g.S.Slots.consumed_of c.args.slots.now) c.args.old.now c.args.entry.now.slots k c.in-Wants.call) (sym c.loop-turn.invariant.count))
     c.in_ok-push-in-Wants.ensures.ok c.loop-turn.invariant
 
@@ -29,17 +29,17 @@ returns-in-Done-clause-run g c =
     done_runs (λ xs. run_of c.args.setting.now c.args.entry.now.request c.args.entry.now.inputs xs (g.V.View.rows c.args.view.now))
     ((handler c.args.setting.now).steady c.args.entry.now.request c.args.entry.now.inputs (g.V.View.rows c.args.view.now))
     (g.S.Slots.consumed_of c.args.slots.now) c.args.old.now c.args.entry.now.slots c.loop-turn.answers c.loop-turn.turn c.in-Done.trace
-    c.loop-turn.invariant (sym c.in_ok-trace.ensures.meaning ∙ c.in-Done.is)
+    c.loop-turn.invariant (sym c.in_ok-trace.ensures ∙ c.in-Done.is)
 
 pub returns-in-Done-clause-answers : goal.returns-in-Done-clause-answers
 returns-in-Done-clause-answers g c =
     done_answers (λ xs. run_of c.args.setting.now c.args.entry.now.request c.args.entry.now.inputs xs (g.V.View.rows c.args.view.now))
     ((handler c.args.setting.now).steady c.args.entry.now.request c.args.entry.now.inputs (g.V.View.rows c.args.view.now))
     (g.S.Slots.consumed_of c.args.slots.now) c.args.old.now c.args.entry.now.slots c.loop-turn.answers c.loop-turn.turn c.in-Done.trace
-    c.loop-turn.invariant (sym c.in_ok-trace.ensures.meaning ∙ c.in-Done.is)
+    c.loop-turn.invariant (sym c.in_ok-trace.ensures ∙ c.in-Done.is)
 
 pub returns-in-Done-clause-again : goal.returns-in-Done-clause-again
 returns-in-Done-clause-again g c =
     done_again (λ xs. run_of c.args.setting.now c.args.entry.now.request c.args.entry.now.inputs xs (g.V.View.rows c.args.view.now))
     (g.S.Slots.consumed_of c.args.slots.now) c.args.old.now c.args.entry.now.slots c.loop-turn.answers c.loop-turn.turn c.in-Done.trace
-    c.loop-turn.invariant (sym c.in_ok-trace.ensures.meaning ∙ c.in-Done.is)
+    c.loop-turn.invariant (sym c.in_ok-trace.ensures ∙ c.in-Done.is)

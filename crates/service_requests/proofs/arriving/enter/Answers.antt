@@ -16,14 +16,14 @@ use Rattle.service_requests.proofs.arriving.enter.Goals as goal
 
 pub follow-requires : goal.follow-requires
 follow-requires c =
-    same_may_end (kept c.args.parts.now) c.new_flight-flight.result (new_flight (kept c.args.parts.now) c.args.origin c.args.request c.args.inputs) c.new_flight-flight.ensures
+    same_may_end (kept c.args.parts.now) c.in_ok-flight.flight (new_flight (kept c.args.parts.now) c.args.origin c.args.request c.args.inputs) c.in_ok-flight.ensures
     (new_may_end (kept c.args.parts.now) c.args.origin c.args.request c.args.inputs c.requires.service.fits c.requires.runs)
 
 pub returns-clause-ok : goal.returns-clause-ok
 returns-clause-ok c =
     let s : Kept = kept c.args.parts.now in
-    let left = follows_same (with_draft c.start.result s) s c.new_flight-flight.result (new_flight s c.args.origin c.args.request c.args.inputs) (leaves s c.in_ok-outcome.outcome)
-    c.in_ok-outcome.ensures.follows (c.start.ensures s) c.new_flight-flight.ensures in
+    let left = follows_same (with_draft c.start.result s) s c.in_ok-flight.flight (new_flight s c.args.origin c.args.request c.args.inputs) (leaves s c.in_ok-outcome.outcome)
+    c.in_ok-outcome.ensures.follows (c.start.ensures s) c.in_ok-flight.ensures in
     IfOk-weaker c.apply.result _ _
     (λ arrived h. ap (accepted {E = ArriveRefused}) (h ∙ left) ∙ arrive_runs s c.args.request c.args.inputs c.args.origin c.requires.runs)
     c.apply.ensures.ok
@@ -31,8 +31,8 @@ returns-clause-ok c =
 pub returns-clause-service : goal.returns-clause-service
 returns-clause-service c =
     let s : Kept = kept c.args.parts.now in
-    let left = follows_same (with_draft c.start.result s) s c.new_flight-flight.result (new_flight s c.args.origin c.args.request c.args.inputs) (leaves s c.in_ok-outcome.outcome)
-    c.in_ok-outcome.ensures.follows (c.start.ensures s) c.new_flight-flight.ensures in
+    let left = follows_same (with_draft c.start.result s) s c.in_ok-flight.flight (new_flight s c.args.origin c.args.request c.args.inputs) (leaves s c.in_ok-outcome.outcome)
+    c.in_ok-outcome.ensures.follows (c.start.ensures s) c.in_ok-flight.ensures in
     event_service c.args.parts.now c.apply.new.parts c.apply.result (leaves s c.in_ok-outcome.outcome)
     (arrive_event s c.args.origin c.args.request c.args.inputs)
     (ap (accepted {E = ArriveRefused}) left ∙ arrive_runs s c.args.request c.args.inputs c.args.origin c.requires.runs)

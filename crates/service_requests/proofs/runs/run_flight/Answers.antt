@@ -1,6 +1,7 @@
 use Rattle.std.proofs.Common.{◌≡◌, ◌∙◌, ap, map, ℕ, List}
 use Rattle.std.proofs.lemmas.Result.{IfOk-weaker}
 use Rattle.lang_core.specs.declared.cells.Cell.{Cell}
+use Rattle.lang_core.specs.declared.request.Request.{Request}
 use Rattle.lang_core.specs.declared.request.Response.{Response}
 use Rattle.handler_run.specs.Handlers.{run_of}
 use Rattle.local_repair.specs.Steps.{answer_or_tentative}
@@ -16,6 +17,8 @@ returns c =
     let consumes : ℕ → Response = λ n. answer_or_tentative (consumed n (with_draft c.args.draft.now (kept c.args.parts.now)).registers) in
     let given : c.in_ok-answers.answers ≡ map consumes f.numbers = c.in_ok-answers.ensures ∙ ap (map consumes) c.as_slice.ensures in
     IfOk-weaker c.run.result _ _
-    (λ ran h. h ∙ ap (λ (xs : List Response). run_of c.args.parts.now.setting f.request f.inputs xs (rows_seen c.end-rows.result)) given
+    (λ ran h. h
+    ∙ ap (λ (q : Request). run_of c.args.parts.now.setting q f.inputs c.in_ok-answers.answers (rows_seen c.end-rows.result)) c.get-request.ensures
+    ∙ ap (λ (xs : List Response). run_of c.args.parts.now.setting f.request f.inputs xs (rows_seen c.end-rows.result)) given
     ∙ ap (λ (rs : List Cell). run_of c.args.parts.now.setting f.request f.inputs (map consumes f.numbers) rs) c.end-rows.ensures)
     c.run.ensures.meaning

@@ -1,10 +1,10 @@
 use Rattle.std.proofs.Common.{refl}
-use Rattle.request_log.specs.Entries.{replace}
+use Rattle.request_log.specs.Entries.{asking}
 use Rattle.local_repair.proofs.ChangedLemmas.{kept_changed}
 use Rattle.local_repair.proofs.repairer.Repairer.rewrite.Goals as goal
 
 pub invariant_of-self : goal.invariant_of-self
 invariant_of-self c =
     let inside = c.self.inside in
-    kept_changed inside.log.entries c.rewrite.new.self.entries inside.rows.writes inside.marks c.mark_id.new.marks inside.calls c.self.invariant (replace c.args.method c.args.path c.args.body)
+    kept_changed inside.log.entries c.rewrite.new.self.entries inside.rows.writes inside.marks c.mark_id.new.marks inside.calls c.self.invariant (asking c.args.request)
     (record { number = record { id = λ e. refl; origin = λ e. refl }; made = λ e. refl; slots = λ e. refl }) c.args.id c.mark_id.ensures c.rewrite.ensures.entries
