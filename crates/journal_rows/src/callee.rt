@@ -33,7 +33,7 @@ pub struct TookRow {
     pub number: u64,
     pub version: u64,
     /// What the call asks from this version on; None where it is to have no effect.
-    pub desired: Option<Request>,
+    pub desired: Option<Shared<Request>>,
     pub how: TookHow,
     /// For whom the message was sent.
     pub who: Text,

@@ -1,5 +1,5 @@
 // Rows on the calls that a service makes.
-use lang_core::{Copied, Name, NoMemory, Request, Response, Same, Text};
+use lang_core::{Copied, Name, NoMemory, Request, Response, Same, Shared, Text};
 use repair_messages::copied_pair;
 use std::alloc::Global;
 
@@ -30,7 +30,7 @@ pub struct SentRow {
     /// The call's version: 1, 2, 3 and so on.
     pub version: u64,
     /// What the call asks from this version on; None where it is to have no effect, for good.
-    pub desired: Option<Request>,
+    pub desired: Option<Shared<Request>>,
 }
 
 /// A version of a call was seen to be acknowledged.

@@ -33,6 +33,9 @@ pub enum Row {
     Ordered(Boxed<OrderedRow>),
 }
 
+// A journal is never cut, so what stands in each of its rows is paid for good.
+const _: () = prove!(size_of::<Row>() == 120);
+
 impl Row {
     /// The row of an order that was accepted.
     pub fn ordered(alloc: Global, order: OrderedRow) -> Result<Row, NoMemory>

@@ -4,7 +4,7 @@ ghost use Rattle.journal_rows.specs.Weights.{capped, request_bytes, wanted_bytes
 
 use crate::orders::{Command, OrderedRow};
 use crate::row::Row;
-use lang_core::Request;
+use lang_core::{Request, Shared};
 
 /// What a row weighs beside its texts.
 const BARE_ROW: u64 = 64;
@@ -23,6 +23,15 @@ fn wanted_bytes(request: &Option<Request>) -> u64
     match request {
         None => 0,
         Some(request) => request_bytes(request),
+    }
+}
+
+fn desired_bytes(desired: &Option<Shared<Request>>) -> u64
+    ensures { result ≡ capped (wanted_bytes desired.now) }
+{
+    match desired {
+        None => 0,
+        Some(request) => request_bytes(request.get()),
     }
 }
 
@@ -52,9 +61,9 @@ fn row_bytes(row: &Row) -> u64
 {
     match row {
         Row::Asked(row) => request_bytes(row.request.get()),
-        Row::Took(row) => wanted_bytes(&row.desired).saturating_add(row.who.len()),
+        Row::Took(row) => desired_bytes(&row.desired).saturating_add(row.who.len()),
         Row::Answered(row) => row.response.body.len(),
-        Row::Sent(row) => wanted_bytes(&row.desired),
+        Row::Sent(row) => desired_bytes(&row.desired),
         Row::SawAnswer(row) => row.response.body.len().saturating_add(row.who.len()),
         Row::Ordered(row) => order_bytes(row.get()),
         _ => 0,

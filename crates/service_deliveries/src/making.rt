@@ -57,6 +57,16 @@ pub(crate) fn origin_of(alloc: Global, set: &SetMessage) -> Result<Origin, NoMem
 
 // ---- rows
 
+// What a message says that a call asks, as a row keeps it.
+fn desired_of(alloc: Global, desired: &Option<Request>) -> Result<Option<Shared<Request>>, NoMemory>
+    ensures { IfOk result (λ held. held ≡ desired.now) }
+{
+    match desired {
+        None => Ok(None),
+        Some(request) => Ok(Some(Shared::copy_of(alloc, request)?)),
+    }
+}
+
 fn push_took(
     alloc: Global,
     set: &SetMessage,
@@ -66,7 +76,7 @@ fn push_took(
     ensures { OnOk result (rows.new.items ≡ rows.old.items ++ took_by rule set.now ∷ []) }
 {
     let (caller, who) = copied_pair(alloc, &set.caller, &set.who)?;
-    let desired = Copied::copied(&set.desired, alloc)?;
+    let desired = desired_of(alloc, &set.desired)?;
     rows.push(Row::Took(TookRow {
         caller,
         number: set.number,

@@ -1,5 +1,5 @@
 // Rows as changes of registers.
-ghost use Rattle.std.specs.Prelude.{◌≡◌, OnOk, is_some};
+ghost use Rattle.std.specs.Prelude.{◌≡◌, IfOk, OnOk, is_some};
 ghost use Rattle.service_events.specs.Calls.{put_sent, after_row, after_rows};
 ghost use Rattle.call_registers.specs.Registers.{register, with_ack, with_answer, at_number, sent_anew};
 ghost use Rattle.call_registers.specs.Overlays.{overlaid};
@@ -8,7 +8,7 @@ ghost use Rattle.service_events.specs.Calls.{seen_answer};
 use crate::numbers::next_of;
 use call_registers::{Answer, RegisterChange, RegisterChanges, Registers};
 use journal_rows::{Row, SawAnswerRow, SentRow};
-use lang_core::{Copied, NoMemory};
+use lang_core::{Copied, NoMemory, Request, Shared};
 use std::alloc::Global;
 
 // Whether there is a register of this number.
@@ -16,6 +16,16 @@ fn is_there(standing: &Registers, changes: &RegisterChanges, number: u64) -> boo
     ensures { result ≡ is_some (register number (overlaid changes.now standing.now.list)) }
 {
     changes.find(standing, number).is_some()
+}
+
+// What a row says that a call asks, as a register keeps it.
+fn asked(alloc: Global, desired: &Option<Shared<Request>>) -> Result<Option<Request>, NoMemory>
+    ensures { IfOk result (λ request. request ≡ desired.now) }
+{
+    match desired {
+        None => Ok(None),
+        Some(request) => Ok(Some(request.get().copied(alloc)?)),
+    }
 }
 
 // Another version of a call.
@@ -28,7 +38,7 @@ fn note_version(
 ) -> Result<(), NoMemory>
     ensures { OnOk result (overlaid changes.new standing.now.list ≡ at_number sent.now.number (sent_anew sent.now.desired at) (overlaid changes.old standing.now.list)) }
 {
-    let desired = Copied::copied(&sent.desired, alloc)?;
+    let desired = asked(alloc, &sent.desired)?;
     let change = RegisterChange::Send { desired, since: at };
     changes.change(alloc, standing, sent.number, change)
 }
@@ -47,7 +57,7 @@ fn note_sent(
         return note_version(alloc, standing, changes, at, sent);
     }
     match &sent.desired {
-        Some(request) => changes.want(alloc, standing, &sent.dest, request, at),
+        Some(request) => changes.want(alloc, standing, &sent.dest, request.get(), at),
         None => Ok(()),
     }
 }

@@ -8,8 +8,8 @@ ghost use Rattle.service_parts.specs.Drafts.{deletion_in, change_rows_in};
 use crate::view::RegistersView;
 use flights::Flight;
 use journal_rows::{Row, SentRow};
-use lang_core::{CallMade, Copied, Name, NoMemory, Request};
-use repair_messages::copied_pair;
+use lang_base::both;
+use lang_core::{CallMade, Copied, Name, NoMemory, Request, Shared};
 use std::alloc::Global;
 
 /// The row of a call that asks another request.
@@ -22,7 +22,7 @@ pub fn replaced<R: RegistersView>(
 ) -> Result<Row, NoMemory>
     ensures { IfOk result (λ row. row ≡ replaced (R.list registers.now) number dest.now request.now) }
 {
-    let (dest, request) = copied_pair(alloc, dest, request)?;
+    let (dest, request) = both(dest.copied(alloc), Shared::copy_of(alloc, request))?;
     Ok(Row::Sent(SentRow {
         number,
         dest,
@@ -52,7 +52,8 @@ pub fn deleted<R: RegistersView>(
 pub fn named(alloc: Global, number: u64, call: &CallMade) -> Result<Row, NoMemory>
     ensures { IfOk result (λ row. row ≡ named number call.now) }
 {
-    let (dest, request) = copied_pair(alloc, &call.dest, &call.request)?;
+    let request = Shared::copy_of(alloc, &call.request);
+    let (dest, request) = both(call.dest.copied(alloc), request)?;
     Ok(Row::Sent(SentRow {
         number,
         dest,

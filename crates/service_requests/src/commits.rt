@@ -39,7 +39,7 @@ fn took(
 ) -> Result<Row, NoMemory>
     ensures { IfOk result (λ row. took_rows (Origin.Call caller.now number) request.now ≡ row ∷ []) }
 {
-    let (caller, desired) = copied_pair(alloc, caller, request.get())?;
+    let (caller, desired) = copied_pair(alloc, caller, request)?;
     let who = request.get().who.copied(alloc)?;
     Ok(Row::Took(TookRow {
         caller,

@@ -61,7 +61,7 @@ fn answered(rt: &(impl Abort + AllocGlobal), answer_version: u64, body: &str, li
 
 fn took(rt: &(impl Abort + AllocGlobal), version: u64, body: &str) -> Row {
     let caller = name(rt, "shop");
-    let desired = Some(put(rt, "shop", "/pay/x", body));
+    let desired = Some(shared(rt, put(rt, "shop", "/pay/x", body)));
     let who = text(rt, "ann");
     Row::Took(TookRow {
         caller,

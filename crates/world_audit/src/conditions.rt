@@ -6,14 +6,14 @@ ghost use Rattle.lang_core.specs.contracts.request.Response as response;
 ghost use Rattle.world_audit.specs.Conditions.{sends, acknowledges, is_answer, answers, gives, confirms, acknowledges_so};
 
 use journal_rows::{AckHow, AnsweredRow, Row, SentRow};
-use lang_core::{Name, Origin, Request, Response, Same};
+use lang_core::{Name, Origin, Request, Response, Same, Shared};
 
 fn is_version(
     sent: &SentRow,
     number: u64,
     dest: &Name,
     version: u64,
-    desired: &Option<Request>,
+    desired: &Option<Shared<Request>>,
 ) -> bool
     ensures { IsTrue result ↔ (sent.now ≡ record { number = number; dest = dest.now; version = version; desired = desired.now }) }
 {
@@ -24,7 +24,13 @@ fn is_version(
 }
 
 /// Whether a row says that this version of a call was sent.
-pub fn sends(row: &Row, number: u64, dest: &Name, version: u64, desired: &Option<Request>) -> bool
+pub fn sends(
+    row: &Row,
+    number: u64,
+    dest: &Name,
+    version: u64,
+    desired: &Option<Shared<Request>>,
+) -> bool
     ensures { result ≡ sends (record { number = number; dest = dest.now; version = version; desired = desired.now }) row.now }
 {
     match row {
