@@ -2,6 +2,7 @@
 ghost use Rattle.std.specs.Prelude.{◌≡◌};
 ghost use Rattle.flights.specs.Numbers.{awaited};
 
+use lang_base::both;
 use lang_core::{Calls, Copied, Inputs, NoMemory, Origin, Request, Seq, Shared};
 use lang_lists::Numbered;
 use repair_messages::copied_pair;
@@ -15,7 +16,7 @@ pub struct Flight {
     pub id: u64,
     pub origin: Origin,
     pub request: Shared<Request>,
-    pub inputs: Inputs,
+    pub inputs: Shared<Inputs>,
     /// Its calls so far, in the order of its slots.
     pub calls: Calls,
     /// The numbers of its calls.
@@ -57,13 +58,14 @@ impl Numbered for Flight {
 
 impl Copied for Flight {
     fn copied(&self, alloc: Global) -> Result<Flight, NoMemory> {
-        let (origin, request) = copied_pair(alloc, &self.origin, &self.request)?;
+        let asked = both(self.request.copied(alloc), self.inputs.copied(alloc));
+        let (origin, asked) = both(self.origin.copied(alloc), asked)?;
         let (calls, numbers) = copied_pair(alloc, &self.calls, &self.numbers)?;
         Ok(Flight {
             id: self.id,
             origin,
-            request,
-            inputs: self.inputs,
+            request: asked.0,
+            inputs: asked.1,
             calls,
             numbers,
             changes: self.changes,

@@ -1,6 +1,7 @@
 // Rows on entries, and on what other services call for.
 ghost use Rattle.std.specs.Prelude.{◌≡◌, ◌↔◌, IsTrue};
 
+use lang_base::both;
 use lang_core::{Copied, Inputs, Name, NoMemory, Origin, Request, Response, Same, Shared, Text};
 use repair_messages::copied_pair;
 use std::alloc::Global;
@@ -11,9 +12,9 @@ pub struct AskedRow {
     /// The entry's number: 1, 2, 3 and so on.
     pub id: u64,
     pub origin: Origin,
-    /// What was asked first, which the entry holds too.
+    /// What was asked first, and what its runs draw from outside, both of which the entry holds too.
     pub request: Shared<Request>,
-    pub inputs: Inputs,
+    pub inputs: Shared<Inputs>,
 }
 
 /// How a version of a caller's call was taken.
@@ -76,12 +77,13 @@ pub struct WasConfirmedRow {
 
 impl Copied for AskedRow {
     fn copied(&self, alloc: Global) -> Result<AskedRow, NoMemory> {
-        let (origin, request) = copied_pair(alloc, &self.origin, &self.request)?;
+        let asked = both(self.request.copied(alloc), self.inputs.copied(alloc));
+        let (origin, asked) = both(self.origin.copied(alloc), asked)?;
         Ok(AskedRow {
             id: self.id,
             origin,
-            request,
-            inputs: self.inputs,
+            request: asked.0,
+            inputs: asked.1,
         })
     }
 }
@@ -147,7 +149,7 @@ impl Same for AskedRow {
         self.id == other.id
             && self.origin.is(&other.origin)
             && self.request.is(&other.request)
-            && same_inputs(&self.inputs, &other.inputs)
+            && same_inputs(self.inputs.get(), other.inputs.get())
     }
 }
 

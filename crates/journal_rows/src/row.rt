@@ -34,7 +34,7 @@ pub enum Row {
 }
 
 // A journal is never cut, so what stands in each of its rows is paid for good.
-const _: () = prove!(size_of::<Row>() == 120);
+const _: () = prove!(size_of::<Row>() == 80);
 
 impl Row {
     /// The row of an order that was accepted.

@@ -74,7 +74,7 @@ pub fn entry(rt: &(impl Abort + AllocGlobal), id: u64, origin: Origin) -> Entry
         request: shared_request(rt),
         wanted: true,
         struck: false,
-        inputs: INPUTS,
+        inputs: Shared::new(rt.alloc(), INPUTS).expect(rt, "memory"),
         made: None,
         slots: Numbers::new(rt.alloc()),
         answer_version: 0,

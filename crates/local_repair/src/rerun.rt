@@ -78,7 +78,8 @@ fn run_entry<V: View>(
     ensures { IfOk result (λ ran. ran ≡ run_of setting.now entry.now.request entry.now.inputs answers.now (V.rows view.now)) }
 {
     let request = entry.request.get();
-    run(alloc, setting, request, &entry.inputs, answers, view)
+    let inputs = entry.inputs.get();
+    run(alloc, setting, request, inputs, answers, view)
 }
 
 // Runs an entry from its start, with the answers of its old calls.

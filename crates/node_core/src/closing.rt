@@ -142,7 +142,7 @@ fn was_asked_so(rows: &Rows, id: u64, request: &Request, inputs: &Inputs) -> boo
 {
     match asked(rows, id) {
         None => false,
-        Some(row) => row.request.get().is(request) && same_inputs(&row.inputs, inputs),
+        Some(row) => row.request.get().is(request) && same_inputs(row.inputs.get(), inputs),
     }
 }
 

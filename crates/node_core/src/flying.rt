@@ -21,7 +21,7 @@ fn is_same_flight(begun: &Begun, flight: &Flight) -> bool
 {
     flight.origin.is(&begun.origin)
         && flight.request.get().is(&begun.request)
-        && same_inputs(&flight.inputs, &begun.inputs)
+        && same_inputs(flight.inputs.get(), &begun.inputs)
         && flight.awaited() == begun.number
 }
 

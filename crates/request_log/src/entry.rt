@@ -38,8 +38,8 @@ pub struct Entry {
     pub wanted: bool,
     /// Whether an order has struck it.
     pub struck: bool,
-    /// What its runs draw from outside the rows.
-    pub inputs: Inputs,
+    /// What its runs draw from outside the rows, which a row of the journal holds too.
+    pub inputs: Shared<Inputs>,
     /// Its record; None where it never ran.
     pub made: Option<Made>,
     /// The registers of its calls, one for each call of its trace, in order.
@@ -135,17 +135,18 @@ impl Copied for Made {
 
 impl Copied for Entry {
     fn copied(&self, alloc: Global) -> Result<Entry, NoMemory> {
-        let asked = both(self.origin.copied(alloc), self.request.copied(alloc));
+        let given = both(self.request.copied(alloc), self.inputs.copied(alloc));
+        let asked = both(self.origin.copied(alloc), given);
         let ran = both(Copied::copied(&self.made, alloc), self.slots.copied(alloc));
         let (asked, ran) = both(asked, ran)?;
         Ok(Entry {
             id: self.id,
             origin: asked.0,
             version: self.version,
-            request: asked.1,
+            request: asked.1.0,
             wanted: self.wanted,
             struck: self.struck,
-            inputs: self.inputs,
+            inputs: asked.1.1,
             made: ran.0,
             slots: ran.1,
             answer_version: self.answer_version,

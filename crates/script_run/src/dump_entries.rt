@@ -34,7 +34,7 @@ fn push_entry_line(text: &mut String, entry: &Entry) -> Result<(), NoMemory>
     write!(text, "entry {id} ")?;
     push_origin(text, &entry.origin)?;
     push_standing(text, entry)?;
-    push_inputs(text, &entry.inputs)?;
+    push_inputs(text, entry.inputs.get())?;
     push_request(text, entry.request.get())?;
     text.push_str("\n")?;
     Ok(())

@@ -105,17 +105,18 @@ fn push_asked(
     parts: &Parts,
     set: &SetMessage,
     request: &Shared<Request>,
-    inputs: Inputs,
+    inputs: &Shared<Inputs>,
     rows: &mut Vec<Row>,
 ) -> Result<(), NoMemory>
-    ensures { OnOk result (rows.new.items ≡ rows.old.items ++ asked_row (kept parts.now) set.now request.now inputs ∷ []) }
+    ensures { OnOk result (rows.new.items ≡ rows.old.items ++ asked_row (kept parts.now) set.now request.now inputs.now ∷ []) }
 {
-    let (origin, request) = both(origin_of(alloc, set), request.copied(alloc))?;
+    let asked = both(request.copied(alloc), inputs.copied(alloc));
+    let (origin, asked) = both(origin_of(alloc, set), asked)?;
     rows.push(Row::Asked(AskedRow {
         id: next_id(parts),
         origin,
-        request,
-        inputs,
+        request: asked.0,
+        inputs: asked.1,
     }))?;
     Ok(())
 }
@@ -145,10 +146,10 @@ pub(crate) fn created_rows(
     parts: &Parts,
     set: &SetMessage,
     request: &Shared<Request>,
-    inputs: Inputs,
+    inputs: &Shared<Inputs>,
     rule: u32,
 ) -> Result<Vec<Row>, NoMemory>
-    ensures { IfOk result (λ rows. rows.items ≡ created_rows rule (kept parts.now) set.now request.now inputs) }
+    ensures { IfOk result (λ rows. rows.items ≡ created_rows rule (kept parts.now) set.now request.now inputs.now) }
 {
     let mut rows = Vec::new(alloc);
     push_took(alloc, set, rule, &mut rows)?;
@@ -191,12 +192,13 @@ pub(crate) fn created_entry(
     parts: &Parts,
     set: &SetMessage,
     request: &Shared<Request>,
-    inputs: Inputs,
+    inputs: &Shared<Inputs>,
 ) -> Result<KeptEntry, NoMemory>
-    ensures { IfOk result (λ entry. entry ≡ created_entry (kept parts.now) set.now request.now inputs) }
+    ensures { IfOk result (λ entry. entry ≡ created_entry (kept parts.now) set.now request.now inputs.now) }
 {
-    let (origin, request) = both(origin_of(alloc, set), request.copied(alloc))?;
-    let mut entry = created(alloc, next_id(parts), request, inputs);
+    let asked = both(request.copied(alloc), inputs.copied(alloc));
+    let (origin, asked) = both(origin_of(alloc, set), asked)?;
+    let mut entry = created(alloc, next_id(parts), asked.0, asked.1);
     entry.origin = origin;
     entry.version = set.version;
     KeptEntry::of(alloc, entry)

@@ -96,11 +96,11 @@ fn create(
     parts: &Parts,
     set: &SetMessage,
     request: &Shared<Request>,
-    inputs: Inputs,
+    inputs: &Shared<Inputs>,
 ) -> Result<TakeChange, NoMemory>
     requires fits { Fits (kept parts.now) }
     requires none { find_call (origin_of set.now) parts.now.repairer.entries ≡ None }
-    ensures is { IfOk result (λ change. change ≡ TakeChange.Create (created_place (kept parts.now) set.now) (created_entry (kept parts.now) set.now request.now inputs) (created_reply (kept parts.now) set.now)) }
+    ensures is { IfOk result (λ change. change ≡ TakeChange.Create (created_place (kept parts.now) set.now) (created_entry (kept parts.now) set.now request.now inputs.now) (created_reply (kept parts.now) set.now)) }
     ensures can { IfOk result (λ change. CanChange (kept parts.now) change) }
 {
     let at = created_place(parts, set);
@@ -115,20 +115,20 @@ fn made(
     parts: &Parts,
     set: &SetMessage,
     request: &Shared<Request>,
-    inputs: Inputs,
+    inputs: &Shared<Inputs>,
     rule: u32,
 ) -> Result<Taking, NoMemory>
     requires fits { Fits (kept parts.now) }
     requires none { find_call (origin_of set.now) parts.now.repairer.entries ≡ None }
     requires rule { rule ≡ take_rule (kept parts.now) set.now }
-    ensures { IfOk result (λ t. Leaves (kept parts.now) t (after (taken_by (kept parts.now) set.now inputs None (Some request.now)) (Ok (taken set.now (Some (take_rule (kept parts.now) set.now)))))) }
+    ensures { IfOk result (λ t. Leaves (kept parts.now) t (after (taken_by (kept parts.now) set.now inputs.now None (Some request.now)) (Ok (taken set.now (Some (take_rule (kept parts.now) set.now)))))) }
 {
     let rows = created_rows(alloc, parts, set, request, inputs, rule)?;
     let change = create(alloc, parts, set, request, inputs)?;
     taking(alloc, set, Some(rule), rows, change)
 }
 
-// The same, where the entry and its row don't hold the request together yet.
+// The same, where the entry and its row don't hold the request and its inputs together yet.
 fn made_of(
     alloc: Global,
     parts: &Parts,
@@ -143,7 +143,8 @@ fn made_of(
     ensures { IfOk result (λ t. Leaves (kept parts.now) t (after (taken_by (kept parts.now) set.now inputs None (Some request.now)) (Ok (taken set.now (Some (take_rule (kept parts.now) set.now)))))) }
 {
     let held = Shared::copy_of(alloc, request)?;
-    made(alloc, parts, set, &held, inputs, rule)
+    let drawn = Shared::new(alloc, inputs)?;
+    made(alloc, parts, set, &held, &drawn, rule)
 }
 
 // Its call has no entry, and is to have no effect.

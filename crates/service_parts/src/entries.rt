@@ -26,7 +26,7 @@ pub fn next_id(parts: &Parts) -> u64
 }
 
 /// The entry of a request from outside that never ran.
-pub fn created(alloc: Global, id: u64, request: Shared<Request>, inputs: Inputs) -> Entry
+pub fn created(alloc: Global, id: u64, request: Shared<Request>, inputs: Shared<Inputs>) -> Entry
     ensures { result ≡ created id request inputs }
 {
     Entry {

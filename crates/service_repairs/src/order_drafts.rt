@@ -12,6 +12,7 @@ ghost use Rattle.service_repairs.specs.Ordering.{MayOrder};
 
 use create_placement::place;
 use journal_rows::{About, AskedRow, Command, OrderedRow, Row};
+use lang_base::both;
 use lang_core::{Copied, Inputs, Method, NoMemory, Origin, Request, Seq, Shared, Text};
 use local_repair::Repairer;
 use repair_messages::{PostName, copied_pair};
@@ -174,10 +175,12 @@ fn ordered(
 fn asked(alloc: Global, id: u64, request: &Request, inputs: Inputs) -> Result<Row, NoMemory>
     ensures { IfOk result (λ row. row ≡ Row.Asked (record { id = id; origin = Origin.Outside; request = request.now; inputs = inputs })) }
 {
+    let request = Shared::copy_of(alloc, request);
+    let (request, inputs) = both(request, Shared::new(alloc, inputs))?;
     Ok(Row::Asked(AskedRow {
         id,
         origin: Origin::Outside,
-        request: Shared::copy_of(alloc, request)?,
+        request,
         inputs,
     }))
 }
@@ -234,8 +237,9 @@ fn created_entry(
 ) -> Result<KeptEntry, NoMemory>
     ensures { IfOk result (λ entry. entry ≡ created id request inputs) }
 {
-    let held = Shared::new(alloc, request)?;
-    KeptEntry::of(alloc, created(alloc, id, held, inputs))
+    let request = Shared::new(alloc, request);
+    let (request, inputs) = both(request, Shared::new(alloc, inputs))?;
+    KeptEntry::of(alloc, created(alloc, id, request, inputs))
 }
 
 // Makes an entry of a request that is to have been made, at its place among the others. Refused, the log stays.

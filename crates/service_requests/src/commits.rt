@@ -73,12 +73,13 @@ fn push_took(
 fn asked(alloc: Global, id: u64, flight: &Flight) -> Result<Row, NoMemory>
     ensures { IfOk result (λ row. row ≡ Row.Asked (record { id = id; origin = flight.now.origin; request = flight.now.request; inputs = flight.now.inputs })) }
 {
-    let (origin, request) = copied_pair(alloc, &flight.origin, &flight.request)?;
+    let asked = copied_pair(alloc, &flight.request, &flight.inputs);
+    let (origin, asked) = both(flight.origin.copied(alloc), asked)?;
     Ok(Row::Asked(AskedRow {
         id,
         origin,
-        request,
-        inputs: flight.inputs,
+        request: asked.0,
+        inputs: asked.1,
     }))
 }
 

@@ -10,6 +10,7 @@ ghost use Rattle.service_requests.specs.Changes.{leaves, CanLeave};
 use crate::completing::go_on;
 use crate::outcome::DraftedEnd;
 use flights::Flight;
+use lang_base::both;
 use lang_core::{Inputs, NoMemory, Origin, Request, Seq, Shared};
 use service_parts::{Draft, Parts};
 use std::alloc::Global;
@@ -39,7 +40,8 @@ pub(crate) fn new_flight(
 ) -> Result<Flight, NoMemory>
     ensures { IfOk result (λ flight. flight ≡ new_flight (kept parts.now) origin request inputs) }
 {
-    let request = Shared::new(alloc, request)?;
+    let request = Shared::new(alloc, request);
+    let (request, inputs) = both(request, Shared::new(alloc, inputs))?;
     Ok(Flight {
         id: parts.flights.free_number(),
         origin,

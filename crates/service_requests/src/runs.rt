@@ -49,12 +49,6 @@ pub(crate) fn run_flight(
     let answers = answers_of(alloc, parts, draft, flight.numbers.as_slice())?;
     let rows = parts.repairer.end();
     let request = flight.request.get();
-    run(
-        alloc,
-        &parts.setting,
-        request,
-        &flight.inputs,
-        &answers,
-        &rows,
-    )
+    let inputs = flight.inputs.get();
+    run(alloc, &parts.setting, request, inputs, &answers, &rows)
 }

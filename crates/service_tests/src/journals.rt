@@ -43,7 +43,7 @@ fn asked(rt: &(impl Abort + AllocGlobal)) -> Row {
         id: 1,
         origin: Origin::Outside,
         request,
-        inputs: INPUTS,
+        inputs: shared(rt, INPUTS),
     })
 }
 

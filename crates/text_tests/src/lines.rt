@@ -144,7 +144,7 @@ fn line_of(
         request: Shared::new(alloc, request)?,
         wanted,
         struck,
-        inputs: inputs(),
+        inputs: Shared::new(alloc, inputs())?,
         made: made_of(alloc, response)?,
         slots: Seq::new(alloc),
         answer_version: 9,

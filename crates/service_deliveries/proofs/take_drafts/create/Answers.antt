@@ -4,5 +4,5 @@ use Rattle.service_deliveries.proofs.take_drafts.create.Goals as goal
 
 pub returns-clause-can : goal.returns-clause-can
 returns-clause-can c =
-    can_create (kept c.args.parts.now) c.args.set.now c.args.request.now c.args.inputs c.created_place-at.result c.in_ok-entry.entry c.in_ok-reply.reply
+    can_create (kept c.args.parts.now) c.args.set.now c.args.request.now c.args.inputs.now c.created_place-at.result c.in_ok-entry.entry c.in_ok-reply.reply
     c.requires.fits c.requires.none c.created_place-at.ensures.within c.in_ok-entry.ensures c.in_ok-reply.ensures

@@ -14,7 +14,7 @@ returns c =
     let s = kept c.args.parts.now in
     let set = c.args.set.now in
     let q = c.args.request.now in
-    let i = c.args.inputs in
+    let i = c.args.inputs.now in
     IfOk-weaker c.taking.result _ _
     (λ t h.
     let change = ap (λ (t : Taking). t.change) h in

@@ -1,6 +1,7 @@
 use Rattle.std.proofs.Common.{◌≡◌, ◌∙◌, ap, map, ℕ, List}
 use Rattle.std.proofs.lemmas.Result.{IfOk-weaker}
 use Rattle.lang_core.specs.declared.cells.Cell.{Cell}
+use Rattle.lang_core.specs.declared.inputs.Inputs.{Inputs}
 use Rattle.lang_core.specs.declared.request.Request.{Request}
 use Rattle.lang_core.specs.declared.request.Response.{Response}
 use Rattle.handler_run.specs.Handlers.{run_of}
@@ -18,7 +19,8 @@ returns c =
     let given : c.in_ok-answers.answers ≡ map consumes f.numbers = c.in_ok-answers.ensures ∙ ap (map consumes) c.as_slice.ensures in
     IfOk-weaker c.run.result _ _
     (λ ran h. h
-    ∙ ap (λ (q : Request). run_of c.args.parts.now.setting q f.inputs c.in_ok-answers.answers (rows_seen c.end-rows.result)) c.get-request.ensures
+    ∙ ap (λ (q : Request). run_of c.args.parts.now.setting q c.get-inputs.result.now c.in_ok-answers.answers (rows_seen c.end-rows.result)) c.get-request.ensures
+    ∙ ap (λ (i : Inputs). run_of c.args.parts.now.setting f.request i c.in_ok-answers.answers (rows_seen c.end-rows.result)) c.get-inputs.ensures
     ∙ ap (λ (xs : List Response). run_of c.args.parts.now.setting f.request f.inputs xs (rows_seen c.end-rows.result)) given
     ∙ ap (λ (rs : List Cell). run_of c.args.parts.now.setting f.request f.inputs (map consumes f.numbers) rs) c.end-rows.ensures)
     c.run.ensures.meaning
