@@ -11,7 +11,7 @@ use crate::completing::go_on;
 use crate::outcome::DraftedEnd;
 use flights::Flight;
 use lang_base::both;
-use lang_core::{Inputs, NoMemory, Origin, Request, Seq, Shared};
+use lang_core::{Copied, Inputs, NoMemory, Origin, Request, Same, Seq, Shared};
 use service_parts::{Draft, Parts};
 use std::alloc::Global;
 
@@ -30,16 +30,33 @@ pub(crate) fn follow(
     Ok(DraftedEnd { draft, ending })
 }
 
+// Where the last entry came for the same user, its text of the user stands in place of the request's own, which goes: most
+// requests come for the user of the one before. What is asked stays the same.
+fn known_who(alloc: Global, parts: &Parts, request: &mut Request)
+    ensures { request.new ≡ request.old }
+{
+    let Some(last) = parts.repairer.log().as_slice().last() else {
+        return;
+    };
+    let known = &last.entry().request.get().who;
+    if known.is(&request.who) {
+        if let Ok(who) = known.copied(alloc) {
+            request.who = who;
+        }
+    }
+}
+
 /// The flight of a live request that arrives.
 pub(crate) fn new_flight(
     alloc: Global,
     parts: &Parts,
     origin: Origin,
-    request: Request,
+    mut request: Request,
     inputs: Inputs,
 ) -> Result<Flight, NoMemory>
     ensures { IfOk result (λ flight. flight ≡ new_flight (kept parts.now) origin request inputs) }
 {
+    known_who(alloc, parts, &mut request);
     let request = Shared::new(alloc, request);
     let (request, inputs) = both(request, Shared::new(alloc, inputs))?;
     Ok(Flight {
