@@ -7,10 +7,11 @@ ghost use Rattle.script_run.specs.Stops.{Does, DoesFirst};
 use crate::asking::ask;
 use crate::counts::Said;
 use crate::previews::previewed;
+use crate::printed::Printed;
 use crate::reports::{dump, log, notices, rows, verdict_over};
 use crate::settling::settle_all;
 use crate::telling::happen;
-use lang_core::{NoMemory, Text};
+use lang_core::NoMemory;
 use script_lines::{Line, LineFault};
 use std::alloc::Global;
 use world_settle::World;
@@ -19,7 +20,7 @@ use world_settle::World;
 fn silent(alloc: Global) -> Result<Result<Said, LineFault>, NoMemory>
     ensures { IfOk result (λ said. said ≡ Ok (printed [])) }
 {
-    Ok(Ok(Said::printed(Text::of(alloc, "")?)))
+    Ok(Ok(Said::printed(Printed::line(String::new(alloc)))))
 }
 
 /// Does what a line says, and answers what it prints and counts, or which of the things that it names isn't there. For want

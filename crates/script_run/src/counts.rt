@@ -2,7 +2,7 @@
 ghost use Rattle.std.specs.Prelude.{◌≡◌};
 ghost use Rattle.script_run.specs.Counting.{both, counted, line_counts, no_counts, printed};
 
-use lang_core::Text;
+use crate::printed::Printed;
 
 /// What a script counts. A count that stands at the greatest number of 64 bits stays there.
 #[derive(Clone, Copy, PartialEq, Eq)]
@@ -63,13 +63,13 @@ impl Counts {
 /// What a line says: what it prints, and what it counts.
 #[derive(Drop)]
 pub struct Said {
-    pub text: Text,
+    pub text: Printed,
     pub counts: Counts,
 }
 
 impl Said {
     /// What a line prints that counts as a line and as nothing else.
-    pub(crate) fn printed(text: Text) -> Said
+    pub(crate) fn printed(text: Printed) -> Said
         ensures { result ≡ printed text }
     {
         Said {

@@ -4,6 +4,7 @@ ghost use Rattle.world_agreement.specs.Partners.{service_of};
 ghost use Rattle.script_run.specs.Previewing.{PrintsPreview, SaysPreview, preview_text, unshown_refusal};
 
 use crate::counts::Said;
+use crate::printed::Printed;
 use lang_core::{Name, NoMemory, Text};
 use script_lines::LineFault;
 use script_text::{Refusal, order_refusal, push_refused};
@@ -52,7 +53,9 @@ pub fn previewed(
     ensures { IfOk result (λ said. SaysPreview id who.now (service_of name.now world.now.services) said) }
 {
     match world.service(name) {
-        Some(service) => Ok(Ok(Said::printed(preview_lines(alloc, service, id, who)?))),
+        Some(service) => Ok(Ok(Said::printed(Printed::report(preview_lines(
+            alloc, service, id, who,
+        )?)))),
         None => Ok(Err(LineFault::Service)),
     }
 }

@@ -16,6 +16,7 @@ ghost use Rattle.script_run.specs.Plays.{audit_text, report_of};
 
 use crate::counts::Said;
 use crate::dumping::dump_text;
+use crate::printed::Printed;
 use journal_rows::Verdict;
 use lang_core::{Copied, Name, Names, NoMemory, Text};
 use report_text::verdict_text;
@@ -30,7 +31,7 @@ pub fn rows(alloc: Global, world: &World, name: &Name) -> Result<Result<Said, Li
     ensures { IfOk result (λ said. said ≡ report_of rows_of_service (service_of name.now world.now.services)) }
 {
     match world.service(name) {
-        Some(service) => Ok(Ok(Said::printed(rows_of(alloc, service)?))),
+        Some(service) => Ok(Ok(Said::printed(Printed::report(rows_of(alloc, service)?)))),
         None => Ok(Err(LineFault::Service)),
     }
 }
@@ -40,7 +41,7 @@ pub fn log(alloc: Global, world: &World, name: &Name) -> Result<Result<Said, Lin
     ensures { IfOk result (λ said. said ≡ report_of log_of_service (service_of name.now world.now.services)) }
 {
     match world.service(name) {
-        Some(service) => Ok(Ok(Said::printed(log_of(alloc, service)?))),
+        Some(service) => Ok(Ok(Said::printed(Printed::report(log_of(alloc, service)?)))),
         None => Ok(Err(LineFault::Service)),
     }
 }
@@ -54,7 +55,7 @@ pub fn notices(
     ensures { IfOk result (λ said. said ≡ report_of notices_of_service (service_of name.now world.now.services)) }
 {
     match world.service(name) {
-        Some(service) => Ok(Ok(Said::printed(notices_of(alloc, service)?))),
+        Some(service) => Ok(Ok(Said::printed(Printed::report(notices_of(alloc, service)?)))),
         None => Ok(Err(LineFault::Service)),
     }
 }
@@ -63,7 +64,7 @@ pub fn notices(
 pub fn dump(alloc: Global, world: &World) -> Result<Result<Said, LineFault>, NoMemory>
     ensures { IfOk result (λ said. said ≡ Ok (printed (dump_text world.now.services))) }
 {
-    Ok(Ok(Said::printed(dump_text(alloc, world.services())?)))
+    Ok(Ok(Said::printed(Printed::report(dump_text(alloc, world.services())?))))
 }
 
 fn names_of(alloc: Global, services: &[Service]) -> Result<Names, NoMemory>
@@ -115,5 +116,5 @@ pub fn verdict_line(alloc: Global, world: &World) -> Result<Text, NoMemory>
 pub fn verdict_over(alloc: Global, world: &World) -> Result<Result<Said, LineFault>, NoMemory>
     ensures { IfOk result (λ said. said ≡ Ok (printed (audit_text world.now.services))) }
 {
-    Ok(Ok(Said::printed(verdict_line(alloc, world)?)))
+    Ok(Ok(Said::printed(Printed::report(verdict_line(alloc, world)?))))
 }

@@ -5,12 +5,13 @@ ghost use Rattle.script_run.specs.Settling.{SaysSettled, settled_counts, settled
 ghost use Rattle.script_run.specs.Stops.{Does, DoesFirst};
 
 use crate::counts::{Counts, Said};
-use lang_core::{NoMemory, Text};
+use crate::printed::Printed;
+use lang_core::NoMemory;
 use script_lines::LineFault;
 use std::alloc::Global;
 use world_settle::{Settled, World, settle};
 
-fn settled_text(alloc: Global, settled: Settled) -> Result<Text, NoMemory>
+fn settled_text(alloc: Global, settled: Settled) -> Result<Printed, NoMemory>
     ensures { IfOk result (λ text. text ≡ settled_text settled) }
 {
     let rounds = settled.rounds;
@@ -18,7 +19,7 @@ fn settled_text(alloc: Global, settled: Settled) -> Result<Text, NoMemory>
     let posts = settled.posts;
     let mut line = String::new(alloc);
     write!(line, "settled {rounds} {runs} {posts}\n")?;
-    Text::shared(line)
+    Ok(Printed::line(line))
 }
 
 fn settled_counts(settled: Settled) -> Counts

@@ -8,8 +8,9 @@ ghost use Rattle.script_run.specs.Told.{event_counts, events_said, fault_of, hap
 ghost use Rattle.script_run.specs.Stops.{Does, DoesFirst};
 
 use crate::counts::{Counts, Said};
+use crate::printed::Printed;
 use journal_rows::{Command, Row};
-use lang_core::{Name, NoMemory, Text};
+use lang_core::{Name, NoMemory};
 use script_lines::LineFault;
 use script_text::{Detail, happened_line};
 use std::alloc::Global;
@@ -73,11 +74,12 @@ pub fn tell(
     world: &World,
     detail: &Detail,
     happened: &Happened,
-) -> Result<Text, NoMemory>
+) -> Result<Printed, NoMemory>
     ensures { IfOk result (λ text. text ≡ line_of world.now (Some (detail.now, happened.now))) }
 {
     let rows = journal_of(world, &happened.service);
-    happened_line(alloc, world.packets(), rows, detail, happened)
+    let line = happened_line(alloc, world.packets(), rows, detail, happened)?;
+    Ok(Printed::line(line))
 }
 
 // An order to cancel an entry.

@@ -9,7 +9,7 @@ use crate::others::{push_abandoned, push_ordered, push_stepped};
 use crate::posts::{push_answer_taken, push_next, push_posted, push_taken};
 use crate::requests::{push_arrived, push_flown};
 use journal_rows::Row;
-use lang_core::{Name, NoMemory, Text};
+use lang_core::{Name, NoMemory};
 use repair_messages::Post;
 use std::alloc::Global;
 use world_events::{Happened, Packet, What};
@@ -112,8 +112,8 @@ pub fn happened_line(
     rows: &[Row],
     detail: &Detail,
     happened: &Happened,
-) -> Result<Text, NoMemory>
-    ensures { IfOk result (λ text. text ≡ happened_line packets.now rows.now detail.now happened.now) }
+) -> Result<String, NoMemory>
+    ensures { IfOk result (λ line. string_bytes line ≡ happened_line packets.now rows.now detail.now happened.now) }
 {
     let mut line = String::with_capacity(alloc, LINE_ROOM)?;
     if let Some(service) = &happened.service {
@@ -127,5 +127,5 @@ pub fn happened_line(
             happened.packet,
         )?;
     }
-    Text::shared(line)
+    Ok(line)
 }

@@ -113,7 +113,7 @@ fn told(
     detail: &Detail,
     what: What,
     packet: Option<u64>,
-) -> Text {
+) -> String {
     let happened = Happened {
         service,
         what,

@@ -55,6 +55,17 @@ returns-in_err-write_all-clause-sound g c =
     let s = c.loop-bytes.invariant in
     does_sound c.args.world.now c.args.script.now c.loop-bytes.number c.loop-bytes.world c.loop-bytes.counts (g.K.Sink.writes c.args.out.now) (g.K.Sink.writes c.loop-bytes.out) s.stands c.in-Some.bytes.now _ (s.left ∙ c.in-Some.ensures.line) _ c.play_line.new.world c.in_ok-said.ensures.does
 
+pub loop-bytes-preserved-in_ok-write_all : goal.loop-bytes-preserved-in_ok-write_all
+loop-bytes-preserved-in_ok-write_all g c =
+    let s = c.loop-bytes.invariant in
+    let d = s.left ∙ c.in-Some.ensures.line in
+    record {
+      stands = rw c.and-counts.ensures (next_stands c.args.world.now c.args.script.now c.loop-bytes.number c.loop-bytes.world c.loop-bytes.counts (g.K.Sink.writes c.args.out.now) (g.K.Sink.writes c.loop-bytes.out) s.stands c.in-Some.bytes.now _ d c.in-Ok.said c.play_line.new.world (g.K.Sink.writes c.write_all.new.sink) (rw c.in-Ok.is at c.in_ok-said.ensures.does) (rw c.as_bytes.ensures at c.in_ok-write_all.ensures.ok));
+      left = rest_behind _ _ c.loop-bytes.number _ d;
+      room = omega (arith, s.room, c.in-Some.ensures.shorter);
+      counted = omega arith;
+    }
+
 pub loop-bytes-preserved : goal.loop-bytes-preserved
 loop-bytes-preserved g c =
     let s = c.loop-bytes.invariant in
