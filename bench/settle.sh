@@ -39,13 +39,10 @@ script() {
     echo "audit"
 }
 
-# The seconds of a run up to there, the least of five, since other work on the machine adds to them.
+# The seconds of a run up to there.
 until_part() {
     script "$1" "$2" >"$folder/script"
-    for _ in 1 2 3 4 5; do
-        seconds_of @posts "$folder/script"
-        echo
-    done | sort -n | head -n 1
+    least_seconds_of @posts "$folder/script"
 }
 
 # Milliseconds by each run or post of the last settling of a name.

@@ -60,14 +60,14 @@ created() {
     echo "audit"
 }
 
-# The time with half as many requests, with all, and the ratio.
+# The time with half as many requests, with all, each the least of five runs, and the ratio.
 tell() {
     local name=$1 shape=$2 n half whole
     n=$(echo "$3 $part" | awk '{ printf "%d", $1 * $2 }')
     "$shape" $((n / 2)) >"$folder/half"
     "$shape" "$n" >"$folder/whole"
-    half=$(seconds_of @notes "$folder/half")
-    whole=$(seconds_of @notes "$folder/whole")
+    half=$(least_seconds_of @notes "$folder/half")
+    whole=$(least_seconds_of @notes "$folder/whole")
     [ "$(tail -n 2 "$folder/told" | tr '\n' ' ')" = "notes idle legal " ] || exit 1
     echo "$n $name: $whole s, ratio to half as many $(ratio "$whole" "$half")"
 }

@@ -16,6 +16,14 @@ seconds_of() {
     awk '{ printf "%.3f", $1 + $2 }' "$folder/took"
 }
 
+# The same, the least of five runs, since other work on the machine adds to them.
+least_seconds_of() {
+    for _ in 1 2 3 4 5; do
+        seconds_of "$1" "$2"
+        echo
+    done | sort -n | head -n 1
+}
+
 # The first number less the second, at least a millisecond.
 less() {
     echo "$1 $2" | awk '{ d = $1 - $2; printf "%.3f", (d > 0.001 ? d : 0.001) }'
