@@ -193,13 +193,17 @@ fn end_well<C: Connection>(joined: &Joined<C>) -> Came {
     }
 }
 
-/// What it came to. The last connection is dropped.
-pub fn end_of<C: Connection + Drop>(ran: Result<Joined<C>, RunRefused>) -> Came {
+fn came<C: Connection>(ran: &Result<Joined<C>, RunRefused>) -> Came {
     match ran {
-        Ok(joined) => end_well(&joined),
+        Ok(joined) => end_well(joined),
         Err(RunRefused::NoMemory) => Came::NoMemory,
         Err(RunRefused::DoorFault) => Came::DoorFault,
         Err(RunRefused::NotStarted) => Came::NotStarted,
         Err(_) => Came::Unequal,
     }
+}
+
+/// What it came to. The last connection is dropped.
+pub fn end_of<C: Connection + Drop>(ran: Result<Joined<C>, RunRefused>) -> Came {
+    came(&ran)
 }
