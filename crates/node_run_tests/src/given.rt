@@ -193,7 +193,7 @@ fn end_well<C: Connection>(joined: &Joined<C>) -> Came {
     }
 }
 
-fn came<C: Connection>(ran: &Result<Joined<C>, RunRefused>) -> Came {
+fn what_came<C: Connection>(ran: &Result<Joined<C>, RunRefused>) -> Came {
     match ran {
         Ok(joined) => end_well(joined),
         Err(RunRefused::NoMemory) => Came::NoMemory,
@@ -205,5 +205,5 @@ fn came<C: Connection>(ran: &Result<Joined<C>, RunRefused>) -> Came {
 
 /// What it came to. The last connection is dropped.
 pub fn end_of<C: Connection + Drop>(ran: Result<Joined<C>, RunRefused>) -> Came {
-    came(&ran)
+    what_came(&ran)
 }
