@@ -22,7 +22,7 @@ use lang_core::{NoMemory, Reads, Seq, Text};
 use place_order::Order;
 use std::alloc::Global;
 use std::marker::Model;
-use versioned_rows::{KeyRow, labels_at, labels_in};
+use versioned_rows::{KeyRows, labels_at, labels_in};
 
 /// Labels, as a list.
 pub type Labels = Seq<u64>;
@@ -151,12 +151,12 @@ fn put_all(found: &mut Vec<u64>, labels: &[u64]) -> Result<(), NoMemory>
 // The labels in the rows of all prefixes of a key.
 fn labels_under(
     alloc: Global,
-    rows: &[KeyRow],
+    rows: &KeyRows,
     table: &Text,
     key: &[u8],
 ) -> Result<Vec<u64>, NoMemory>
-    requires { IsOrdered row_place rows.now }
-    ensures { IfOk result (λ found. found.items ≡ under rows.now table.now key.now (length key.now + 1)) }
+    requires { IsOrdered row_place rows.now.items }
+    ensures { IfOk result (λ found. found.items ≡ under rows.now.items table.now key.now (length key.now + 1)) }
 {
     let mut found = Vec::new(alloc);
     for end in 0..=key.len() {
@@ -184,8 +184,8 @@ impl Index {
         Index {
             noted: Vec::new(alloc),
             rows: ReadRows {
-                keys: Vec::new(alloc),
-                scans: Vec::new(alloc),
+                keys: KeyRows::new(alloc),
+                scans: KeyRows::new(alloc),
                 near: 0,
             },
             room: Vec::new(alloc),

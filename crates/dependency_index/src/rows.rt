@@ -3,7 +3,7 @@ ghost use Rattle.std.specs.Prelude.{ℕ, List, ◌≡◌, ◌+◌, ◌≤◌, tr
 ghost use Rattle.std.specs.List.{list_any};
 ghost use Rattle.lang_core.specs.Places.{IsOrdered};
 ghost use Rattle.versioned_rows.specs.Places.{is_other};
-ghost use Rattle.versioned_rows.specs.Rows.{row_place, labels_in, spare_of, spare_in, IsEdited};
+ghost use Rattle.versioned_rows.specs.Rows.{row_place, labels_in, spare_in, IsEdited};
 ghost use Rattle.dependency_index.specs.Numbers.{Rises, with_number};
 ghost use Rattle.dependency_index.specs.Reads.{is_at};
 ghost use Rattle.dependency_index.specs.Rows.{AreOrdered, labels_by, spare_by, places_by};
@@ -11,16 +11,16 @@ ghost use Rattle.dependency_index.specs.declared.reads.ReadKind.{ReadKind};
 
 use crate::numbers::seek_number;
 use crate::reads::{ReadAt, ReadKind};
-use lang_core::{NoMemory, Text, seek_near};
+use lang_core::{NoMemory, Text};
 use std::alloc::Global;
-use versioned_rows::{KeyRow, copied_rows, drop_label, make_row};
+use versioned_rows::{KeyRows, copied_rows, drop_label, insert_label, labels_near, make_row};
 
 /// For each key and each prefix that was ever read, the labels that read it now, in the order of their numbers.
 #[derive(Drop)]
 pub struct ReadRows {
-    pub keys: Vec<KeyRow>,
-    pub scans: Vec<KeyRow>,
-    /// Where the last row stood that was made or looked for to be made: who makes room for a read puts a label there next.
+    pub keys: KeyRows,
+    pub scans: KeyRows,
+    /// The slot of the last row that was made or looked for to be made: who makes room for a read puts a label there next.
     pub near: usize,
 }
 
@@ -39,23 +39,8 @@ pub(crate) fn copied_reads(alloc: Global, rows: &ReadRows) -> Result<ReadRows, N
     })
 }
 
-// Puts a label into a row, if it isn't there yet, where there is room for it.
-fn put_in(row: &mut KeyRow, label: u64)
-    requires rising { Rises row.old.labels.items }
-    requires fits { length (with_number label row.old.labels.items) ≤ length row.old.labels.items + spare_of row.old }
-    ensures place { row_place row.new ≡ row_place row.old }
-    ensures labels { row.new.labels.items ≡ with_number label row.old.labels.items }
-    ensures places { length row.old.labels.items + spare_of row.old ≤ length row.new.labels.items + spare_of row.new }
-{
-    let (at, taken) = seek_number(row.labels(), label);
-    if taken {
-        return;
-    }
-    row.insert(at, label);
-}
-
 // Puts a label into the row of a key, if it isn't there yet.
-fn put_label(rows: &mut Vec<KeyRow>, near: usize, table: &Text, key: &Text, label: u64)
+fn put_label(rows: &mut KeyRows, near: usize, table: &Text, key: &Text, label: u64)
     requires ordered { IsOrdered row_place rows.old.items }
     requires rising { Rises (labels_in rows.old.items table.now key.now) }
     requires fits { length (with_number label (labels_in rows.old.items table.now key.now))
@@ -65,8 +50,11 @@ fn put_label(rows: &mut Vec<KeyRow>, near: usize, table: &Text, key: &Text, labe
     ensures places { (t k : List ℕ) → length (labels_in rows.old.items t k) + spare_in rows.old.items t k
         ≤ length (labels_in rows.new.items t k) + spare_in rows.new.items t k }
 {
-    let (at, _) = seek_near(rows, near, table, key);
-    put_in(&mut rows[at], label);
+    let (at, taken) = seek_number(labels_near(rows, near, table, key), label);
+    if taken {
+        return;
+    }
+    insert_label(rows, near, table, key, at, label);
 }
 
 fn put_read(rows: &mut ReadRows, read: &ReadAt, label: u64)

@@ -1,9 +1,10 @@
 -- Rows that have a key for each cell give all cells.
-use Rattle.std.proofs.Common.{◌≡◌, ℕ, zero, suc, ◌+◌, ◌-◌, ◌<◌, ◌≤◌, Bool, true, false, cond, List, [], ◌∷◌, ◌++◌, Option, Some, None, is_some, option_map, length, get_or, take, drop, map, fold, refl, sym, ap, ◌∙◌, subst, inl, inr, arith, add-one, length-append, length-drop, append_assoc}
+use Rattle.std.proofs.Common.{◌≡◌, ℕ, zero, suc, ◌+◌, ◌<◌, ◌≤◌, Bool, true, false, cond, List, [], ◌∷◌, ◌++◌, Option, Some, None, is_some, option_map, length, get_or, drop, map, fold, refl, sym, ap, ◌∙◌, subst, inl, inr, arith, add-one, length-append, append_assoc}
 use Rattle.std.specs.declared.cmp.Ordering.TheVariants.{Less}
 use Rattle.std.specs.List.{filter, find}
 use Rattle.std.specs.Option.{option_map_or}
 use Rattle.std.proofs.lemmas.Bool.{cases_Bool}
+use Rattle.std.proofs.lemmas.List.{append-nil, get_or_at}
 use Rattle.lang_core.specs.Places.{Place, place_of, place_order, same_place, IsBelowAll, IsOrdered, rank}
 use Rattle.lang_core.specs.Rows.{get, apply, cell_place, cell_size, is_beneath, is_over, kept_from, scan}
 use Rattle.lang_core.specs.declared.cells.Cell.{Cell}
@@ -178,6 +179,19 @@ module _ (t prefix : List ℕ) (cells : List Cell) (rows : List KeyLabels) (i : 
   pub goes : is_under t prefix r ≡ true → row_cells cells (while (is_under t prefix) (drop i rows)) ≡ with_cell (cell_at cells r) (row_cells cells (while (is_under t prefix) (drop (i + 1) rows)))
   goes passes = ap (λ l. row_cells cells (while (is_under t prefix) l)) (drop_row rows i r lt is) ∙ ap (λ b. row_cells cells (cond b (r ∷ while (is_under t prefix) (drop (i + 1) rows)) [])) passes
 
+-- where nothing is left, that is all
+pub stopped : (kept total left : List Cell) (bytes : ℕ) → left ≡ [] → kept ++ kept_from (length kept) bytes left ≡ total → kept ≡ total
+stopped kept total left bytes none h = sym (append-nil kept) ∙ sym (ap (λ l. kept ++ kept_from (length kept) bytes l) none) ∙ h
+
+drop_past : (rows : List KeyLabels) (n : ℕ) → length rows ≤ n → drop n rows ≡ []
+drop_past [] zero le = refl
+drop_past [] (suc n) le = refl
+drop_past (r ∷ rs) zero le = absurd (omega (arith, le))
+drop_past (r ∷ rs) (suc n) le = drop_past rs n (omega (arith, le))
+
+pub past_all : (t prefix : List ℕ) (cells : List Cell) (rows : List KeyLabels) (n : ℕ) → length rows ≤ n → row_cells cells (while (is_under t prefix) (drop n rows)) ≡ []
+past_all t prefix cells rows n le = ap (λ l. row_cells cells (while (is_under t prefix) l)) (drop_past rows n le)
+
 -- one more cell, or none, of a scan that holds so much
 module _ (t prefix : List ℕ) (cells : List Cell) (rows : List KeyLabels) (i : ℕ) (r : KeyLabels) (lt : i < length rows) (is : r ≡ get_or rows i r) (under : is_under t prefix r ≡ true)
     (kept total : List Cell) (bytes : ℕ) (h : kept ++ kept_from (length kept) bytes (row_cells cells (while (is_under t prefix) (drop i rows))) ≡ total) where
@@ -205,29 +219,23 @@ module _ (t prefix : List ℕ) (cells : List Cell) (rows : List KeyLabels) (i : 
     pub last_cell : is_over (length kept + 1) (bytes + cell_size c) ≡ true → kept ++ c ∷ [] ≡ total
     last_cell over = ap (λ b. kept ++ c ∷ cond b [] more) (sym over) ∙ added
 
+    -- the cell comes next in all of them
+    pub comes_next : (n : ℕ) → length kept ≡ n → (n < length total) × ((d : Cell) → get_or total n d ≡ c)
+    comes_next n e =
+        let rest = cond (is_over (length kept + 1) (bytes + cell_size c)) [] more in
+        let long = sym (length-append kept (c ∷ rest)) ∙ ap length added in
+        (omega (arith, long, e), λ d. ap (λ l. get_or l n d) (sym added) ∙ get_or_at kept c rest d n e)
+
     pub next_cell : is_over (length kept + 1) (bytes + cell_size c) ≡ false → (kept ++ c ∷ []) ++ kept_from (length (kept ++ c ∷ [])) (bytes + cell_size c) later ≡ total
     next_cell over =
         ap (λ n. (kept ++ c ∷ []) ++ kept_from n (bytes + cell_size c) later) (length-append kept (c ∷ []))
         ∙ append_assoc kept (c ∷ []) more
         ∙ ap (λ b. kept ++ c ∷ cond b [] more) (sym over) ∙ added
 
-take_all : {X : Type 0} (n : ℕ) (xs : List X) → length xs ≤ n → take n xs ≡ xs
-take_all zero [] le = refl
-take_all zero (x ∷ xs) le = absurd (omega arith)
-take_all (suc n) [] le = refl
-take_all (suc n) (x ∷ xs) le = ap (λ l. x ∷ l) (take_all n xs (omega arith))
-
--- the rows from one on, as a slice of them
-pub slice_from : (rows : List KeyLabels) (n : ℕ) → take (length rows - n) (drop n rows) ≡ drop n rows
-slice_from rows n = take_all (length rows - n) (drop n rows) (let e = length-drop n rows in omega arith)
-
-drop_ordered : (rows : List KeyLabels) (n : ℕ) → IsOrdered row_place rows → IsOrdered row_place (drop n rows)
+pub drop_ordered : (rows : List KeyLabels) (n : ℕ) → IsOrdered row_place rows → IsOrdered row_place (drop n rows)
 drop_ordered rows zero o = o
 drop_ordered [] (suc n) o = tt
 drop_ordered (r ∷ rs) (suc n) o = drop_ordered rs n o.1
-
-pub slice_ordered : (rows : List KeyLabels) (n : ℕ) → IsOrdered row_place rows → IsOrdered row_place (take (length rows - n) (drop n rows))
-slice_ordered rows n o = let P : List KeyLabels → Type 0 = λ l. IsOrdered row_place l in subst P (sym (slice_from rows n)) (drop_ordered rows n o)
 
 below_if : (q : Place) (x : KeyLabels) (xs : List KeyLabels) (b : Bool) → place_order q (row_place x) ≡ Less → IsBelowAll row_place q xs → IsBelowAll row_place q (cond b (x ∷ xs) [])
 below_if q x xs true lt all = (lt, all)

@@ -4,7 +4,7 @@ use Rattle.std.specs.List.{find}
 use Rattle.std.specs.Option.{option_map_or}
 use Rattle.std.proofs.lemmas.Bool.{cases_Bool}
 use Rattle.std.proofs.lemmas.List.{set_split}
-use Rattle.lang_core.specs.Places.{Place, place_of, same_place, IsOrdered, IsRank, set_in, rank, is_taken, past}
+use Rattle.lang_core.specs.Places.{Place, place_of, same_place, IsOrdered, set_in, rank, is_taken, past}
 use Rattle.lang_core.proofs.PlaceLemmas.{set_edits, ordered-set}
 use Rattle.lang_core.proofs.ReadLemmas.{find-set_in, place_is, place_same}
 use Rattle.versioned_rows.specs.Rows.{row_place, held, labels_in, spare_of, spare_in, has_row, KeepsRows}
@@ -60,45 +60,12 @@ pub record StandsAt (rows : List KeyLabels) (t k : List ℕ) (at : ℕ) (row : K
   pub is : row ≡ get_or rows at row
   pub within : at < length rows
 
--- the row that a search of these found
-pub found_row : {rows seen : List KeyLabels} {t k : List ℕ} {at : ℕ} {there : Bool} {row : KeyLabels} → seen ≡ rows → at ≡ rank row_place (place_of t k) seen
-    → there ≡ is_taken row_place (place_of t k) seen → IsRank at there (length seen) → there ≡ true → IsOrdered row_place rows → row ≡ get_or rows at row → StandsAt rows t k at row
-found_row {rows} {seen} {t} {k} {at} {there} {row} same rank_is taken_is inside here o is = record {
-  ordered = o;
-  rank_is = rank_is ∙ ap (rank row_place (place_of t k)) same;
-  taken = ap (is_taken row_place (place_of t k)) (sym same) ∙ sym taken_is ∙ here;
-  is = is;
-  within = let long = ap length same in let lt = inside.there here in omega (arith, long, lt);
-}
-
--- a key with a place for a label has a row
-pub spare_stands : (rows : List KeyLabels) (t k : List ℕ) → IsOrdered row_place rows → 0 < spare_in rows t k → is_taken row_place (place_of t k) rows ≡ true
-spare_stands rows t k o spare = elim (cases_Bool (is_taken row_place (place_of t k) rows)) [
-  | inl e ↦ e
-  | inr free ↦ (let none : spare_in rows t k ≡ 0 = ap (λ o. option_map_or spare_of o 0) (find_none row_place (place_of t k) rows o free) in absurd (omega arith))
-]
-
--- the same, where a place for a label tells that the row is there
-pub spare_found : {rows seen : List KeyLabels} (t k : List ℕ) {there : Bool} → seen ≡ rows → there ≡ is_taken row_place (place_of t k) seen → IsOrdered row_place rows → 0 < spare_in rows t k → there ≡ true
-spare_found {rows} t k same taken_is o spare = taken_is ∙ ap (is_taken row_place (place_of t k)) same ∙ spare_stands rows t k o spare
-
-pub spare_row : {rows seen : List KeyLabels} {t k : List ℕ} {at : ℕ} {there : Bool} {row : KeyLabels} → seen ≡ rows → at ≡ rank row_place (place_of t k) seen
-    → there ≡ is_taken row_place (place_of t k) seen → IsRank at there (length seen) → IsOrdered row_place rows → 0 < spare_in rows t k → row ≡ get_or rows at row → StandsAt rows t k at row
-spare_row {t = t} {k = k} same rank_is taken_is inside o spare is = found_row same rank_is taken_is inside (spare_found t k same taken_is o spare) o is
-
-pub spare_within : {rows seen : List KeyLabels} (t k : List ℕ) {at : ℕ} {there : Bool} → seen ≡ rows → there ≡ is_taken row_place (place_of t k) seen → IsRank at there (length seen)
-    → IsOrdered row_place rows → 0 < spare_in rows t k → at < length rows
-spare_within t k same taken_is inside o spare =
-    let long = ap length same in
-    let lt = inside.there (spare_found t k same taken_is o spare) in
-    omega (arith, long, lt)
-
 -- the row of a key, edited where it stands
 module _ {rows : List KeyLabels} {t k : List ℕ} {at : ℕ} {row : KeyLabels} (s : StandsAt rows t k at row) where
   row_found : find (λ r. same_place (row_place r) (place_of t k)) rows ≡ Some row
   row_found = find_some row_place (place_of t k) rows row s.taken (s.is ∙ ap (λ i. get_or rows i row) s.rank_is)
 
-  row_at : row_place row ≡ place_of t k
+  pub row_at : row_place row ≡ place_of t k
   row_at = place_is (row_place row) (place_of t k) (found_passes (λ r. same_place (row_place r) (place_of t k)) rows row row_found)
 
   pub held_here : {X : Type 0} (f : KeyLabels → X) (none : X) → held f none rows t k ≡ f row

@@ -1,9 +1,9 @@
 -- Rows in order have each the labels of the places that write its key.
-use Rattle.std.proofs.Common.{◌≡◌, ℕ, ◌-◌, false, List, [], ◌∷◌, length, take, drop, refl, sym, ap, ◌∙◌, subst}
+use Rattle.std.proofs.Common.{◌≡◌, false, List, [], ◌∷◌, refl, sym, ap, ◌∙◌, subst}
 use Rattle.std.specs.List.{All, AllByRecursion}
 use Rattle.std.specs.Ordering.{is_eq}
 use Rattle.std.specs.declared.cmp.Ordering.TheVariants.{Less}
-use Rattle.std.proofs.lemmas.List.Elements.{All-drop, All-from_recursion, All-take, All-weaker}
+use Rattle.std.proofs.lemmas.List.Elements.{All-from_recursion, All-weaker}
 use Rattle.lang_core.specs.Places.{Place, place_order, same_place, IsBelowAll, IsOrdered}
 use Rattle.lang_core.proofs.ReadLemmas.{place_same, same-order}
 use Rattle.versioned_rows.specs.Rows.{row_place, labels_in}
@@ -26,11 +26,7 @@ own_labels : (rows : List KeyLabels) → IsOrdered row_place rows → AllByRecur
 own_labels [] o = tt
 own_labels (x ∷ xs) o = (let here = place_same (row_place x) (row_place x) refl in rw here refl, behind x xs xs o.0 (own_labels xs o.1))
 
-all_named : (ps : List PlaceWrites) (rows : List KeyLabels) → IsIndexed ps rows → All (NamesWriters ps) rows
-all_named ps rows i = All-weaker (HasOwn rows) (NamesWriters ps) (λ r own. sym own ∙ i.each r.table r.key) rows (All-from_recursion (HasOwn rows) rows (own_labels rows i.ordered))
-
--- and so have those from one on
-pub slice_named : (ps now : List PlaceWrites) (rows : List KeyLabels) (n : ℕ) → ps ≡ now → IsIndexed ps rows → All (NamesWriters now) (take (length rows - n) (drop n rows))
-slice_named ps now rows n same i =
-    let P : List PlaceWrites → Type 0 = λ qs. All (NamesWriters qs) (take (length rows - n) (drop n rows)) in
-    subst P same (All-take (NamesWriters ps) (length rows - n) (drop n rows) (All-drop (NamesWriters ps) n rows (all_named ps rows i)))
+pub all_named : (ps now : List PlaceWrites) (rows : List KeyLabels) → ps ≡ now → IsIndexed ps rows → All (NamesWriters now) rows
+all_named ps now rows same i =
+    let P : List PlaceWrites → Type 0 = λ qs. All (NamesWriters qs) rows in
+    subst P same (All-weaker (HasOwn rows) (NamesWriters ps) (λ r own. sym own ∙ i.each r.table r.key) rows (All-from_recursion (HasOwn rows) rows (own_labels rows i.ordered)))

@@ -1,3 +1,4 @@
+pub mod KeyRows
 pub mod Places
 pub mod Rows
 pub mod Scans

@@ -10,9 +10,10 @@ ghost use Rattle.versioned_rows.specs.Rows.{row_place, labels_in, spare_in, Keep
 ghost use Rattle.versioned_rows.specs.Versions.{call_code, base_call, HaveRows, IsBased, IsCovered};
 ghost use Rattle.versioned_rows.specs.declared.rows.KeyLabels.{KeyLabels};
 
+use crate::key_rows::KeyRows;
 use crate::places::PlaceWrites;
 use crate::room::VersionsCall;
-use crate::rows::{KeyRow, make_rows};
+use crate::rows::make_rows;
 use lang_core::{Cell, Cells, Copied, NoMemory, Same, Text, seek};
 use lang_lists::take_room;
 use std::alloc::Global;
@@ -77,7 +78,7 @@ fn spend_base(room: &mut Vec<VersionsCall>, cells: &Cells) -> Option<Cells>
 // A copy of these rows, and a row of labels for each of their keys.
 fn new_base(
     alloc: Global,
-    rows: &mut Vec<KeyRow>,
+    rows: &mut KeyRows,
     near: &mut usize,
     cells: &Cells,
 ) -> Result<Cells, NoMemory>
@@ -97,7 +98,7 @@ fn new_base(
 pub(crate) fn ready_base(
     alloc: Global,
     places: &mut Vec<PlaceWrites>,
-    rows: &mut Vec<KeyRow>,
+    rows: &mut KeyRows,
     near: &mut usize,
     room: &mut Vec<VersionsCall>,
     cells: &Cells,
@@ -124,7 +125,7 @@ pub(crate) fn ready_base(
 /// A copy of these rows, and a row of labels for each of their keys: those of the room that was made for them, or new ones.
 pub(crate) fn take_base(
     alloc: Global,
-    rows: &mut Vec<KeyRow>,
+    rows: &mut KeyRows,
     near: &mut usize,
     room: &mut Vec<VersionsCall>,
     cells: &Cells,

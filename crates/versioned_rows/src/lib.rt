@@ -5,14 +5,20 @@
 #![tactic(auto)]
 
 mod base;
+mod hints;
+mod key_rows;
 mod labels;
 mod places;
 mod room;
 mod rows;
 mod versions;
 
+pub use key_rows::KeyRows;
 pub use labels::{Labelled, stands_there};
 pub use places::PlaceWrites;
 pub use room::VersionsCall;
-pub use rows::{KeyLabels, KeyRow, copied_rows, drop_label, labels_at, labels_in, make_row};
+pub use rows::{
+    KeyLabels, KeyRow, copied_rows, drop_label, insert_label, labels_at, labels_in, labels_near,
+    make_row,
+};
 pub use versions::Versions;

@@ -9,8 +9,9 @@ ghost use Rattle.versioned_rows.specs.Places.{label_of, keys_of, is_other, is_wr
 ghost use Rattle.versioned_rows.specs.Rows.{spare_in, KeepsRows};
 ghost use Rattle.versioned_rows.specs.Versions.{IsIndexed};
 
+use crate::key_rows::KeyRows;
 use crate::labels::{Labelled, count_before, position_in};
-use crate::rows::{KeyRow, drop_labels, drop_labels_in, put_labels};
+use crate::rows::{drop_labels, drop_labels_in, put_labels};
 use lang_core::{Copied, NoMemory, Same, Text, Write, Writes};
 use place_order::Order;
 use std::alloc::Global;
@@ -76,7 +77,7 @@ pub(crate) fn position_of(places: &[PlaceWrites], label: u64) -> Option<usize>
 /// Takes the place of a label out, which stands there, if it does.
 pub(crate) fn take_out(
     places: &mut Vec<PlaceWrites>,
-    rows: &mut Vec<KeyRow>,
+    rows: &mut KeyRows,
     label: u64,
     stands: Option<usize>,
 )
@@ -102,7 +103,7 @@ pub(crate) fn take_out(
 fn put_in(
     order: &Order,
     places: &mut Vec<PlaceWrites>,
-    rows: &mut Vec<KeyRow>,
+    rows: &mut KeyRows,
     near: usize,
     place: PlaceWrites,
 )
@@ -165,7 +166,7 @@ fn stands_alike(places: &[PlaceWrites], stands: Option<usize>, writes: &Writes) 
 fn put_over(
     order: &Order,
     places: &mut Vec<PlaceWrites>,
-    rows: &mut Vec<KeyRow>,
+    rows: &mut KeyRows,
     near: usize,
     place: PlaceWrites,
     at: usize,
@@ -195,7 +196,7 @@ fn put_over(
 fn put_anew(
     order: &Order,
     places: &mut Vec<PlaceWrites>,
-    rows: &mut Vec<KeyRow>,
+    rows: &mut KeyRows,
     near: usize,
     place: PlaceWrites,
     stands: Option<usize>,
@@ -228,7 +229,7 @@ fn put_anew(
 pub(crate) fn put_instead(
     order: &Order,
     places: &mut Vec<PlaceWrites>,
-    rows: &mut Vec<KeyRow>,
+    rows: &mut KeyRows,
     near: usize,
     place: PlaceWrites,
     stands: Option<usize>,

@@ -9,8 +9,9 @@ ghost use Rattle.versioned_rows.specs.Rows.{row_place, labels_in, spare_in, Keep
 ghost use Rattle.versioned_rows.specs.Versions.{asked, call_code, write_call, IsCovered};
 ghost use Rattle.versioned_rows.specs.declared.rows.KeyLabels.{KeyLabels};
 
+use crate::key_rows::KeyRows;
 use crate::places::PlaceWrites;
-use crate::rows::{KeyRow, make_rows};
+use crate::rows::make_rows;
 use lang_core::{Cells, Copied, NoMemory, Same, Writes};
 use lang_lists::take_room;
 use std::alloc::Global;
@@ -77,7 +78,7 @@ fn spend_room(room: &mut Vec<VersionsCall>, writes: &Writes) -> Option<Writes>
 fn new_writes(
     alloc: Global,
     places: &mut Vec<PlaceWrites>,
-    rows: &mut Vec<KeyRow>,
+    rows: &mut KeyRows,
     near: &mut usize,
     writes: &Writes,
     more: usize,
@@ -103,7 +104,7 @@ fn new_writes(
 pub(crate) fn ready_writes(
     alloc: Global,
     places: &mut Vec<PlaceWrites>,
-    rows: &mut Vec<KeyRow>,
+    rows: &mut KeyRows,
     near: &mut usize,
     room: &mut Vec<VersionsCall>,
     writes: &Writes,
@@ -130,7 +131,7 @@ pub(crate) fn ready_writes(
 pub(crate) fn take_writes(
     alloc: Global,
     places: &mut Vec<PlaceWrites>,
-    rows: &mut Vec<KeyRow>,
+    rows: &mut KeyRows,
     near: &mut usize,
     room: &mut Vec<VersionsCall>,
     writes: &Writes,

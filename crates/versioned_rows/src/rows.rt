@@ -1,15 +1,17 @@
 // For each key that was ever written, the labels of the places that write it.
 ghost use Rattle.std.specs.Prelude.{ℕ, List, ◌≡◌, ◌+◌, ◌<◌, ◌≤◌, [], true, filter, insert, length, IfOk, OnOk, if◌then◌else◌};
-ghost use Rattle.std.specs.List.{Contains};
+ghost use Rattle.std.specs.List.{AllZip, Contains};
 ghost use Rattle.lang_core.specs.Places.{IsOrdered, place_of, same_place};
 ghost use Rattle.lang_core.specs.Rows.{write_place};
 ghost use Rattle.place_order.specs.Rising.{IsRising};
+ghost use Rattle.versioned_rows.specs.KeyRows.{IsFreeAt};
 ghost use Rattle.versioned_rows.specs.Places.{is_among, is_written, is_other, with_writer};
 ghost use Rattle.versioned_rows.specs.Rows.{row_place, labels_in, spare_of, spare_in, has_row, IsCopy, IsEdited, KeepsRows};
 
+use crate::key_rows::{KeyRows, put_new, rank_in, ready_row, row_at, slot_in};
 use crate::labels::{count_before, position_in};
 use lang_base::both;
-use lang_core::{Copied, NoMemory, Placed, Text, Write, seek, seek_bytes, seek_near};
+use lang_core::{Copied, NoMemory, Placed, Text, Write};
 use place_order::Order;
 use std::alloc::Global;
 use std::marker::Model;
@@ -22,7 +24,7 @@ pub struct KeyLabels {
     pub labels: Vec<u64>,
 }
 
-/// The labels at a key behind a pointer, seen as these: a list of rows moves eight bytes for each later one when a key is new.
+/// The labels at a key behind a pointer, seen as these: a list of rows moves eight bytes for each when it grows.
 #[derive(Drop)]
 pub struct KeyRow {
     inner: Box<KeyLabels>,
@@ -105,20 +107,35 @@ impl KeyRow {
 }
 
 /// The labels in the row of a key with these bytes.
-pub fn labels_at<'a>(rows: &'a [KeyRow], table: &Text, key: &[u8]) -> &'a [u64]
-    requires { IsOrdered row_place rows.now }
-    ensures { result.now ≡ labels_in rows.now table.now key.now }
+pub fn labels_at<'a>(rows: &'a KeyRows, table: &Text, key: &[u8]) -> &'a [u64]
+    requires { IsOrdered row_place rows.now.items }
+    ensures { result.now ≡ labels_in rows.now.items table.now key.now }
 {
-    let (at, taken) = seek_bytes(rows, table, key);
-    if taken { rows[at].labels() } else { &[] }
+    let (at, taken) = rank_in(&rows.slots, &rows.order, table, key);
+    if taken {
+        row_at(&rows.slots, &rows.order, at).labels()
+    } else {
+        &[]
+    }
 }
 
 /// The labels in the row of a key.
-pub fn labels_in<'a>(rows: &'a [KeyRow], table: &Text, key: &Text) -> &'a [u64]
-    requires { IsOrdered row_place rows.now }
-    ensures { result.now ≡ labels_in rows.now table.now key.now }
+pub fn labels_in<'a>(rows: &'a KeyRows, table: &Text, key: &Text) -> &'a [u64]
+    requires { IsOrdered row_place rows.now.items }
+    ensures { result.now ≡ labels_in rows.now.items table.now key.now }
 {
-    labels_at(rows, table, key.as_bytes())
+    labels_near(rows, usize::MAX, table, key)
+}
+
+/// The same, where the row is looked for in a slot first.
+pub fn labels_near<'a>(rows: &'a KeyRows, near: usize, table: &Text, key: &Text) -> &'a [u64]
+    requires { IsOrdered row_place rows.now.items }
+    ensures { result.now ≡ labels_in rows.now.items table.now key.now }
+{
+    match slot_in(&rows.slots, &rows.order, &rows.hints, near, table, key) {
+        Ok(slot) => rows.slots[slot].labels(),
+        Err(_) => &[],
+    }
 }
 
 fn row_of(alloc: Global, table: &Text, key: &Text, labels: Vec<u64>) -> Result<KeyRow, NoMemory>
@@ -142,11 +159,42 @@ fn empty_row(alloc: Global, table: &Text, key: &Text, spare: usize) -> Result<Ke
     row_of(alloc, table, key, labels)
 }
 
-/// Sees to it that a key has a row with places for so many labels more. No label changes. The row is looked for first where the
-/// last one stood that was looked for, and where it stands is noted.
+// Puts in a row without labels, which has places for so many.
+fn add_row(
+    alloc: Global,
+    rows: &mut KeyRows,
+    at: usize,
+    table: &Text,
+    key: &Text,
+    spare: usize,
+) -> Result<(), NoMemory>
+    requires ordered { IsOrdered row_place rows.old.items }
+    requires free { IsFreeAt (place_of table.now key.now) rows.old.items at }
+    ensures ordered { IsOrdered row_place rows.new.items }
+    ensures each { (t k : List ℕ) → labels_in rows.new.items t k ≡ labels_in rows.old.items t k }
+    ensures kept { (t k : List ℕ) → spare_in rows.old.items t k ≤ spare_in rows.new.items t k }
+    ensures rows { KeepsRows rows.old.items rows.new.items }
+    ensures spare { OnOk result (spare ≤ spare_in rows.new.items table.now key.now) }
+    ensures row { OnOk result (has_row rows.new.items table.now key.now ≡ true) }
+{
+    let number = ready_row(&mut rows.slots, &mut rows.order)?;
+    let row = empty_row(alloc, table, key, spare)?;
+    put_new(
+        &mut rows.slots,
+        &mut rows.order,
+        &mut rows.hints,
+        at,
+        number,
+        row,
+    );
+    Ok(())
+}
+
+/// Sees to it that a key has a row with places for so many labels more. No label changes. The row is looked for first in the slot
+/// of the last one that was looked for, and its own is noted.
 pub fn make_row(
     alloc: Global,
-    rows: &mut Vec<KeyRow>,
+    rows: &mut KeyRows,
     near: &mut usize,
     table: &Text,
     key: &Text,
@@ -160,14 +208,16 @@ pub fn make_row(
     ensures spare { OnOk result (spare ≤ spare_in rows.new.items table.now key.now) }
     ensures row { OnOk result (has_row rows.new.items table.now key.now ≡ true) }
 {
-    let (at, taken) = seek_near(rows, *near, table, key);
-    *near = at;
-    if taken {
-        return rows[at].reserve(spare);
+    match slot_in(&rows.slots, &rows.order, &rows.hints, *near, table, key) {
+        Ok(slot) => {
+            *near = slot;
+            rows.slots[slot].reserve(spare)
+        }
+        Err(at) => {
+            *near = rows.slots.len();
+            add_row(alloc, rows, at, table, key, spare)
+        }
     }
-    let row = empty_row(alloc, table, key, spare)?;
-    rows.insert(at, row)?;
-    Ok(())
 }
 
 fn copied_row(alloc: Global, row: &KeyRow) -> Result<KeyRow, NoMemory>
@@ -177,24 +227,61 @@ fn copied_row(alloc: Global, row: &KeyRow) -> Result<KeyRow, NoMemory>
     row_of(alloc, row.table(), row.key(), labels)
 }
 
-/// Rows with the same labels.
-pub fn copied_rows(alloc: Global, rows: &[KeyRow]) -> Result<Vec<KeyRow>, NoMemory>
-    requires { IsOrdered row_place rows.now }
-    ensures ordered { IfOk result (λ copies. IsOrdered row_place copies.items) }
-    ensures each { IfOk result (λ copies. (t k : List ℕ) → labels_in copies.items t k ≡ labels_in rows.now t k) }
-    ensures rows { IfOk result (λ copies. KeepsRows rows.now copies.items) }
+fn copied_slots(alloc: Global, slots: &[KeyRow]) -> Result<Vec<KeyRow>, NoMemory>
+    ensures { IfOk result (λ copies. AllZip IsCopy slots.now copies.items) }
 {
     let mut copies = Vec::new(alloc);
-    for row in rows {
+    for row in slots {
         copies.push(copied_row(alloc, row)?)?;
     }
     Ok(copies)
 }
 
-/// Puts a label into the row of a key, which has a place for it. The row is looked for first where one may stand.
+/// Rows with the same labels.
+pub fn copied_rows(alloc: Global, rows: &KeyRows) -> Result<KeyRows, NoMemory>
+    requires { IsOrdered row_place rows.now.items }
+    ensures ordered { IfOk result (λ copies. IsOrdered row_place copies.items) }
+    ensures each { IfOk result (λ copies. (t k : List ℕ) → labels_in copies.items t k ≡ labels_in rows.now.items t k) }
+    ensures rows { IfOk result (λ copies. KeepsRows rows.now.items copies.items) }
+{
+    let order = Vec::from_slice(alloc, &rows.order)?;
+    let hints = Vec::from_slice(alloc, &rows.hints)?;
+    let slots = copied_slots(alloc, &rows.slots)?;
+    Ok(KeyRows {
+        slots,
+        order,
+        hints,
+    })
+}
+
+/// Puts a label into the row of a key at a place of its labels, where there is room for it. The row is looked for in a slot first.
+pub fn insert_label(
+    rows: &mut KeyRows,
+    near: usize,
+    table: &Text,
+    key: &Text,
+    at: usize,
+    label: u64,
+)
+    requires ordered { IsOrdered row_place rows.old.items }
+    requires within { at ≤ length (labels_in rows.old.items table.now key.now) }
+    requires spare { 0 < spare_in rows.old.items table.now key.now }
+    ensures ordered { IsOrdered row_place rows.new.items }
+    ensures edited { IsEdited table.now key.now (insert (labels_in rows.old.items table.now key.now) at label) rows.old.items rows.new.items }
+    ensures spare { (t k : List ℕ) → spare_in rows.old.items t k
+        ≤ spare_in rows.new.items t k + (if same_place (place_of table.now key.now) (place_of t k) then 1 else 0) }
+    ensures rows { KeepsRows rows.old.items rows.new.items }
+{
+    match slot_in(&rows.slots, &rows.order, &rows.hints, near, table, key) {
+        Ok(slot) => rows.slots[slot].insert(at, label),
+        Err(_) => {}
+    }
+}
+
+/// Puts a label into the row of a key, which has a place for it. The row is looked for in a slot first.
 pub(crate) fn put_label(
     order: &Order,
-    rows: &mut Vec<KeyRow>,
+    rows: &mut KeyRows,
     near: usize,
     table: &Text,
     key: &Text,
@@ -210,27 +297,33 @@ pub(crate) fn put_label(
         ≤ spare_in rows.new.items t k + (if same_place (place_of table.now key.now) (place_of t k) then 1 else 0) }
     ensures rows { KeepsRows rows.old.items rows.new.items }
 {
-    let (at, _) = seek_near(rows, near, table, key);
-    let n = count_before(order, rows[at].labels(), Some(label));
-    rows[at].insert(n, label);
+    let n = count_before(order, labels_near(rows, near, table, key), Some(label));
+    insert_label(rows, near, table, key, n, label);
 }
 
 /// Takes a label out of the row of a key, if it is there.
-pub fn drop_label(rows: &mut Vec<KeyRow>, table: &Text, key: &Text, label: u64)
+pub fn drop_label(rows: &mut KeyRows, table: &Text, key: &Text, label: u64)
     requires { IsOrdered row_place rows.old.items }
     ensures ordered { IsOrdered row_place rows.new.items }
     ensures edited { IsEdited table.now key.now (filter (is_other label) (labels_in rows.old.items table.now key.now)) rows.old.items rows.new.items }
     ensures spare { (t k : List ℕ) → spare_in rows.old.items t k ≤ spare_in rows.new.items t k }
     ensures rows { KeepsRows rows.old.items rows.new.items }
 {
-    let (at, taken) = seek(rows, table, key);
-    if taken {
-        rows[at].drop_label(label);
+    match slot_in(
+        &rows.slots,
+        &rows.order,
+        &rows.hints,
+        usize::MAX,
+        table,
+        key,
+    ) {
+        Ok(slot) => rows.slots[slot].drop_label(label),
+        Err(_) => {}
     }
 }
 
 // The same, where the labels of the row rise in an order, in which it is found by halves.
-fn drop_label_in(order: &Order, rows: &mut Vec<KeyRow>, table: &Text, key: &Text, label: u64)
+fn drop_label_in(order: &Order, rows: &mut KeyRows, table: &Text, key: &Text, label: u64)
     requires ordered { IsOrdered row_place rows.old.items }
     requires rising { IsRising order.now.labels (labels_in rows.old.items table.now key.now) }
     requires label { Contains order.now.labels label }
@@ -239,16 +332,23 @@ fn drop_label_in(order: &Order, rows: &mut Vec<KeyRow>, table: &Text, key: &Text
     ensures spare { (t k : List ℕ) → spare_in rows.old.items t k ≤ spare_in rows.new.items t k }
     ensures rows { KeepsRows rows.old.items rows.new.items }
 {
-    let (at, taken) = seek(rows, table, key);
-    if taken {
-        rows[at].drop_in(order, label);
+    match slot_in(
+        &rows.slots,
+        &rows.order,
+        &rows.hints,
+        usize::MAX,
+        table,
+        key,
+    ) {
+        Ok(slot) => rows.slots[slot].drop_in(order, label),
+        Err(_) => {}
     }
 }
 
 /// Sees to it that the key of each of these has a row with places for so many labels more. No label changes.
 pub(crate) fn make_rows<T: Placed>(
     alloc: Global,
-    rows: &mut Vec<KeyRow>,
+    rows: &mut KeyRows,
     near: &mut usize,
     items: &[T],
     spare: usize,
@@ -270,7 +370,7 @@ pub(crate) fn make_rows<T: Placed>(
 /// Puts a label into the row of each key that these write, which has a place for it.
 pub(crate) fn put_labels(
     order: &Order,
-    rows: &mut Vec<KeyRow>,
+    rows: &mut KeyRows,
     near: usize,
     writes: &[Write],
     label: u64,
@@ -293,7 +393,7 @@ pub(crate) fn put_labels(
 }
 
 /// Takes a label out of the row of each key that these write.
-pub(crate) fn drop_labels(rows: &mut Vec<KeyRow>, writes: &[Write], label: u64)
+pub(crate) fn drop_labels(rows: &mut KeyRows, writes: &[Write], label: u64)
     requires ordered { IsOrdered row_place rows.old.items }
     requires writes { IsOrdered write_place writes.now }
     ensures ordered { IsOrdered row_place rows.new.items }
@@ -308,7 +408,7 @@ pub(crate) fn drop_labels(rows: &mut Vec<KeyRow>, writes: &[Write], label: u64)
 }
 
 /// The same, where the labels of each row rise in an order, in which it is found by halves.
-pub(crate) fn drop_labels_in(order: &Order, rows: &mut Vec<KeyRow>, writes: &[Write], label: u64)
+pub(crate) fn drop_labels_in(order: &Order, rows: &mut KeyRows, writes: &[Write], label: u64)
     requires ordered { IsOrdered row_place rows.old.items }
     requires writes { IsOrdered write_place writes.now }
     requires rising { (t k : List ℕ) → IsRising order.now.labels (labels_in rows.old.items t k) }

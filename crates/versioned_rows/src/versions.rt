@@ -1,5 +1,5 @@
 // Versions: what each place wrote, and for each key the places that write it.
-ghost use Rattle.std.specs.Prelude.{ℕ, List, ◌≡◌, ◌↔◌, ◌+◌, ◌<◌, ◌≤◌, slice_index_or, ◌++◌, false, ◌∷◌, [], length, map, IfOk, IsTrue, IsOk, OnOk, OnErr};
+ghost use Rattle.std.specs.Prelude.{ℕ, List, ◌≡◌, ◌↔◌, ◌+◌, ◌<◌, ◌≤◌, slice_index_or, ◌++◌, false, ◌∷◌, [], length, map, drop, IfOk, IsTrue, IsOk, OnOk, OnErr};
 ghost use Rattle.std.specs.List.{All, Contains};
 ghost use Rattle.std.specs.Option.{option_copied, ForSome};
 ghost use Rattle.lang_core.specs.Places.{IsOrdered};
@@ -13,6 +13,7 @@ ghost use Rattle.versioned_rows.specs.Places.{label_of, without, with_place, wri
 ghost use Rattle.versioned_rows.specs.Versions.{call_code, write_call, base_call, rows_before_label, NamesWriters};
 
 use crate::base::{ready_base, take_base, text_in};
+use crate::key_rows::KeyRows;
 use crate::labels::{count_before, position_in};
 use crate::places::{PlaceWrites, find_place, position_of, put_instead, take_out, text_at};
 use crate::room::{VersionsCall, ready_writes, take_writes};
@@ -20,7 +21,6 @@ use crate::rows::{KeyRow, copied_rows, labels_in};
 use lang_base::copied_items;
 use lang_core::{
     Cell, Cells, Copied, MOST_SCAN_BYTES, MOST_SCAN_CELLS, NoMemory, Placed, Same, Text, Writes,
-    seek,
 };
 use place_order::Order;
 use std::alloc::Global;
@@ -35,8 +35,8 @@ pub struct Versions {
     base: Cells,
     places: Vec<PlaceWrites>,
     // By table and key, those of base rows among them. A row stays when its last label goes.
-    rows: Vec<KeyRow>,
-    // Where the last row stood that was made or looked for to be made: who makes room for a key puts a label there next.
+    rows: KeyRows,
+    // The slot of the last row that was made or looked for to be made: who makes room for a key puts a label there next.
     near: usize,
     room: Vec<VersionsCall>,
 }
@@ -114,7 +114,7 @@ impl Versions {
         Versions {
             base: Cells::new(alloc),
             places: Vec::new(alloc),
-            rows: Vec::new(alloc),
+            rows: KeyRows::new(alloc),
             near: 0,
             room: Vec::new(alloc),
         }
@@ -214,7 +214,7 @@ impl Versions {
         }
     }
 
-    // The cells at the keys of these rows, as long as they are under the prefix, and up to the one that is too much.
+    // The cells at the keys of the rows from a place on, as long as they are under the prefix, and up to the one that is too much.
     fn scanned(
         &self,
         alloc: Global,
@@ -222,18 +222,21 @@ impl Versions {
         label: Option<u64>,
         table: &Text,
         prefix: &Text,
-        rows: &[KeyRow],
+        rows: &KeyRows,
+        from: usize,
     ) -> Result<Cells, NoMemory>
         requires rising { IsRising order.now.labels (map label_of self.now.versions) }
         requires label { ForSome label (Contains order.now.labels) }
-        requires rows { IsOrdered row_place rows.now }
-        requires held { All (NamesWriters self.now.versions) rows.now }
+        requires rows { IsOrdered row_place rows.now.items }
+        requires held { All (NamesWriters self.now.versions) rows.now.items }
+        requires from { from ≤ length rows.now.items }
         ensures { IfOk result (λ found. found ≡ kept_from 0 0 (row_cells (rows_before_label order.now.labels label self.now)
-            (while (is_under table.now prefix.now) rows.now))) }
+            (while (is_under table.now prefix.now) (drop from rows.now.items)))) }
     {
         let mut kept = Cells::new(alloc);
         let mut bytes = 0;
-        for row in rows {
+        for place in from..rows.len() {
+            let row = rows.at(place);
             if !is_under(row, table, prefix) {
                 return Ok(kept);
             }
@@ -267,30 +270,33 @@ impl Versions {
         requires label { ForSome label (Contains order.now.labels) }
         ensures { IfOk result (λ found. found ≡ scan (rows_before_label order.now.labels label self.now) table.now prefix.now) }
     {
-        let from = seek(&self.rows, table, prefix).0;
-        self.scanned(alloc, order, label, table, prefix, &self.rows[from..])
+        let from = self.rows.rank(table, prefix);
+        self.scanned(alloc, order, label, table, prefix, &self.rows, from)
     }
 
-    // Whether these are the cells at the keys of these rows, as long as they are under the prefix, and up to the one that is
-    // too much.
+    // Whether these are the cells at the keys of the rows from a place on, as long as they are under the prefix, and up to the one
+    // that is too much.
     fn agrees(
         &self,
         order: &Order,
         label: Option<u64>,
         table: &Text,
         prefix: &Text,
-        rows: &[KeyRow],
+        rows: &KeyRows,
+        from: usize,
         found: &[Cell],
     ) -> bool
         requires rising { IsRising order.now.labels (map label_of self.now.versions) }
         requires label { ForSome label (Contains order.now.labels) }
-        requires held { All (NamesWriters self.now.versions) rows.now }
+        requires held { All (NamesWriters self.now.versions) rows.now.items }
+        requires from { from ≤ length rows.now.items }
         ensures { IsTrue result ↔ (found.now ≡ kept_from 0 0 (row_cells (rows_before_label order.now.labels label self.now)
-            (while (is_under table.now prefix.now) rows.now))) }
+            (while (is_under table.now prefix.now) (drop from rows.now.items)))) }
     {
         let mut n = 0;
         let mut bytes = 0;
-        for row in rows {
+        for place in from..rows.len() {
+            let row = rows.at(place);
             if !is_under(row, table, prefix) {
                 return n == found.len();
             }
@@ -324,13 +330,14 @@ impl Versions {
         requires label { ForSome label (Contains order.now.labels) }
         ensures { IsTrue result ↔ (found.now ≡ scan (rows_before_label order.now.labels label self.now) table.now prefix.now) }
     {
-        let from = seek(&self.rows, table, prefix).0;
+        let from = self.rows.rank(table, prefix);
         self.agrees(
             order,
             label,
             table,
             prefix,
-            &self.rows[from..],
+            &self.rows,
+            from,
             found.as_slice(),
         )
     }

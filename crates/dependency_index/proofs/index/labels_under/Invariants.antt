@@ -6,5 +6,5 @@ use Rattle.dependency_index.proofs.index.labels_under.Given as goal
 abbrev pub invariant-loop-end : goal.invariant-loop-end
 invariant-loop-end l = record {
   rising : Rises l.found.items;
-  all : l.found.items ≡ under l.rows l.table l.key l.end;
+  all : l.found.items ≡ under l.rows.items l.table l.key l.end;
 }

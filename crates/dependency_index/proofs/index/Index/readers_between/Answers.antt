@@ -7,7 +7,7 @@ use Rattle.dependency_index.proofs.IndexLemmas.{labels_all}
 use Rattle.dependency_index.proofs.index.Index.readers_between.Goals as goal
 
 pub labels_in-labels-requires : goal.labels_in-labels-requires
-labels_in-labels-requires c = rw c.deref.ensures.value (c.self.invariant.0.ordered Key)
+labels_in-labels-requires c = c.self.invariant.0.ordered Key
 
 pub labels_between-requires-clause-labels : goal.labels_between-requires-clause-labels
 labels_between-requires-clause-labels c =
@@ -20,5 +20,5 @@ labels_between-requires-clause-labels c =
     let Q : List Noted → Type 0 = λ l. All P (map label_of l) in
     let R : List ℕ → Type 0 = λ l. All P l in
     let known : All P (map label_of ns) = subst Q (sym same) c.requires.labels in
-    let are = (rw c.deref.ensures.value at c.labels_in-labels.ensures) ∙ c.self.invariant.0.each Key t k in
+    let are = c.labels_in-labels.ensures ∙ c.self.invariant.0.each Key t k in
     subst R (sym are) (labels_all (is_at Key t k) P ns known)

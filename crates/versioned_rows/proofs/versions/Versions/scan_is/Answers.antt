@@ -1,4 +1,4 @@
-use Rattle.std.proofs.Common.{◌≡◌, ◌-◌, length, map, take, drop, sym, ap, ◌∙◌}
+use Rattle.std.proofs.Common.{◌≡◌, map, drop, sym, ap, ◌∙◌}
 use Rattle.lang_core.specs.Places.{place_of, rank}
 use Rattle.lang_core.specs.Rows.{kept_from, scan}
 use Rattle.place_order.specs.Rising.{IsRising}
@@ -6,13 +6,12 @@ use Rattle.versioned_rows.specs.Places.{label_of, rows_after, before}
 use Rattle.versioned_rows.specs.Rows.{row_place}
 use Rattle.versioned_rows.specs.Versions.{rows_before_label}
 use Rattle.versioned_rows.specs.Scans.{is_under, while, row_cells}
-use Rattle.versioned_rows.proofs.CellLemmas.{scan_is, slice_from}
-use Rattle.versioned_rows.proofs.HeldLemmas.{slice_named}
+use Rattle.versioned_rows.proofs.CellLemmas.{scan_is}
+use Rattle.versioned_rows.proofs.HeldLemmas.{all_named}
 use Rattle.versioned_rows.proofs.versions.Versions.scan_is.Goals as goal
 
 pub agrees-requires-clause-held : goal.agrees-requires-clause-held
-agrees-requires-clause-held c =
-    rw c.deref-2.ensures.value (slice_named c.self.inside.places.items c.args.self.now.versions c.self.inside.rows.items c.seek-from.result.0 (ap (λ v. v.versions) c.self.view_is) c.self.invariant.0)
+agrees-requires-clause-held c = all_named c.self.inside.places.items c.args.self.now.versions c.self.inside.rows.items (ap (λ v. v.versions) c.self.view_is) c.self.invariant.0
 
 pub returns : goal.returns
 returns c =
@@ -23,17 +22,14 @@ returns c =
     let base = c.self.inside.base in
     let ps = c.self.inside.places.items in
     let rows = c.self.inside.rows.items in
-    let from = c.seek-from.result.0 in
-    let shown = c.deref-2.result.now in
+    let from = c.rank-from.result in
     let same : c.args.self.now.versions ≡ ps = sym (ap (λ v. v.versions) c.self.view_is) in
     let rising : IsRising order (map label_of ps) = rw same at c.requires.rising in
-    let rank_is : from ≡ rank row_place (place_of t prefix) rows = rw c.deref.ensures.value at c.seek-from.ensures.rank in
+    let rank_is : from ≡ rank row_place (place_of t prefix) rows = c.rank-from.ensures.rank in
     let cells = rows_after base (before order end ps) in
     let seen : rows_before_label order end c.args.self.now ≡ cells = sym (ap (rows_before_label order end) c.self.view_is) in
     let is =
-    ap (λ cs. kept_from 0 0 (row_cells cs (while (is_under t prefix) (take (length shown - from) (drop from shown))))) seen
-    ∙ ap (λ rs. kept_from 0 0 (row_cells cells (while (is_under t prefix) (take (length rs - from) (drop from rs))))) c.deref-2.ensures.value
-    ∙ ap (λ rs. kept_from 0 0 (row_cells cells (while (is_under t prefix) rs))) (slice_from rows from)
+    ap (λ cs. kept_from 0 0 (row_cells cs (while (is_under t prefix) (drop from rows)))) seen
     ∙ ap (λ n. kept_from 0 0 (row_cells cells (while (is_under t prefix) (drop n rows)))) rank_is
     ∙ scan_is order end base ps rows c.self.invariant.1 c.self.invariant.0 rising t prefix
     ∙ ap (λ cs. scan cs t prefix) (sym seen) in
