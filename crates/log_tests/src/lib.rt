@@ -10,4 +10,6 @@ mod index;
 #[cfg(test)]
 mod labels;
 #[cfg(test)]
+mod many;
+#[cfg(test)]
 mod versions;
