@@ -90,32 +90,6 @@ pub fn seek<T: Placed>(items: &[T], table: &Text, key: &Text) -> (usize, bool)
     seek_bytes(items, table, key.as_bytes())
 }
 
-// Whether the item at a place of the list is the one at the table and the key.
-fn is_there<T: Placed>(items: &[T], at: usize, table: &Text, key: &[u8]) -> bool
-    requires { IsOrdered T.place items.now }
-    ensures rank { result ≡ true → at ≡ rank T.place (place_of table.now key.now) items.now }
-    ensures taken { result ≡ true → is_taken T.place (place_of table.now key.now) items.now ≡ true }
-    ensures there { result ≡ true → at < length items.now }
-{
-    if at >= items.len() {
-        return false;
-    }
-    order_of(&items[at], table, key).is_eq()
-}
-
-/// The same, where the item that may stand there is tried first: what was sought once is often sought again.
-pub fn seek_near<T: Placed>(items: &[T], near: usize, table: &Text, key: &Text) -> (usize, bool)
-    requires { IsOrdered T.place items.now }
-    ensures rank { result.0 ≡ rank T.place (place_of table.now key.now) items.now }
-    ensures taken { result.1 ≡ is_taken T.place (place_of table.now key.now) items.now }
-    ensures within { IsRank result.0 result.1 (length items.now) }
-{
-    if is_there(items, near, table, key.as_bytes()) {
-        return (near, true);
-    }
-    seek(items, table, key)
-}
-
 fn item_at<'a, T: Placed>(items: &'a [T], table: &Text, key: &Text) -> Option<&'a T>
     requires { IsOrdered T.place items.now }
     ensures { option_copied result ≡ find (λ x. same_place (T.place x) (place_of table.now key.now)) items.now }
