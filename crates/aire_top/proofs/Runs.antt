@@ -1,8 +1,8 @@
 -- What follows for a whole run.
 use Rattle.std.specs.Option.{ForSome}
-use Rattle.std.proofs.Common.{◌≡◌, ◌⊎◌, ℕ, ◌<◌, ◌≤◌, Bool, true, false, inl, inr, List, [], ◌∷◌, ◌++◌, Option, Some, None, Result, Ok, Err, OnOk, OnErr, length, nat_lt, codes, refl, ap, sym, subst, ◌∙◌, append_assoc, arith, rules, tests}
+use Rattle.std.proofs.Common.{◌≡◌, ◌⊎◌, ℕ, ◌<◌, ◌≤◌, Bool, true, false, inl, inr, List, [], ◌∷◌, ◌++◌, Option, Some, None, Result, Ok, Err, OnOk, OnErr, length, codes, refl, ap, sym, subst, ◌∙◌, append_assoc, arith, rules, tests}
 use Rattle.std.proofs.lemmas.List.{append-nil}
-use Rattle.io_edge.specs.Edge.{IsFront, ReadFails, Reads, WriteFails, Writes, Wrote, WroteFront, WroteShort}
+use Rattle.io_edge.specs.Edge.{ReadFails, Reads, WriteFails, Writes, Wrote, WroteFront, WroteShort}
 use Rattle.io_edge.specs.Files.{LoadFails, Loads}
 use Rattle.io_edge.proofs.Pieces.{front_whole, wrote_more}
 use Rattle.journal_rows.specs.declared.verdict.Verdict.{Verdict}

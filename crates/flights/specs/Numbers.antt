@@ -1,5 +1,5 @@
 -- Flights in the order of their numbers.
-use Rattle.std.specs.Prelude.{ℕ, ◌+◌, ◌<◌, ◌≤◌, ◌≡◌, Bool, false, not, List, [], ◌∷◌, Option, Some, None, IsSome, if◌then◌else◌, nat_eq, nat_lt, nat_le, find, filter, fold, max}
+use Rattle.std.specs.Prelude.{ℕ, ◌+◌, ◌<◌, ◌≤◌, ◌≡◌, Bool, false, not, List, [], ◌∷◌, Option, None, IsSome, if◌then◌else◌, nat_eq, nat_lt, find, filter, fold, max}
 use Rattle.std.specs.List.{list_any}
 use Rattle.lang_lists.specs.Numbers.{RisesFrom}
 use Rattle.lang_core.specs.Origins.{is_call}

@@ -1,8 +1,8 @@
 -- A service may go to another thread, and threads may share what it is set up by. The search of a check goes through the parts of
 -- a type each time that it meets it, and a program, whose blocks hold blocks, and what holds one is too large for it.
 use Prim.{tt}
-use denote.Param.Send.{IsSend, IsSync, AllSend, AllSync, sendable, struct_send, struct_sync, recorded_send, recorded_sync, view_send, view_sync}
-use denote.Struct.Declared.{shape, fields}
+use denote.Param.Send.{IsSend, IsSync, sendable, struct_send, struct_sync, recorded_send, recorded_sync, view_send, view_sync}
+use denote.Struct.Declared.{shape}
 use Rattle.std.proofs.Crossing.{crosses}
 use Rattle.sqlite_items.proofs.items.Items.TheSendSync as items
 use Rattle.sqlite_items.proofs.boxed.Boxed.TheSendSync as boxed

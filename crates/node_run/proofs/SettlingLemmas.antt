@@ -14,7 +14,7 @@ use Rattle.call_registers.specs.declared.register.Answer.{Answer}
 use Rattle.call_registers.specs.declared.register.Register.{Register}
 use Rattle.service_events.specs.Commits.{live_rows}
 use Rattle.service_events.specs.Progress.{GoesFurther, IsLocalStep}
-use Rattle.service_events.specs.State.{After, Kept, after, answers, base, me}
+use Rattle.service_events.specs.State.{After, Kept, after, answers, base}
 use Rattle.service_events.specs.Steps.{Stale, answer_rows, new_record, sent_rows, stale_in, step_by, step_event}
 use Rattle.service_events.proofs.SearchLemmas.{none_mid, splits}
 use Rattle.node_run.specs.Settled.{GoesOnFrom, HasSettled, HaveSettled, IsAtRest, is_early}

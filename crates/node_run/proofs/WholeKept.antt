@@ -1,22 +1,22 @@
 -- Receipts and journals stay one to one where journals go on without another live answer.
-use Rattle.std.proofs.Common.{◌≡◌, ◌⊎◌, ℕ, zero, suc, Bool, true, false, List, [], ◌∷◌, ◌++◌, Option, Some, None, IsSomeAnd, cond, find, length, map, slice_get, nat_eq, refl, sym, ap, ◌∙◌, subst, inl, inr}
+use Rattle.std.proofs.Common.{◌≡◌, ◌⊎◌, ℕ, zero, suc, Bool, true, false, List, [], ◌∷◌, ◌++◌, Option, Some, None, slice_get, nat_eq, refl, sym, ap, ◌∙◌, subst, inl, inr}
 use Rattle.std.specs.List.{filter, fold}
 use Rattle.std.proofs.lemmas.Bool.{cases_Bool}
 use Rattle.std.proofs.lemmas.List.{append_cancel_left, append-nil}
 use Rattle.std.proofs.lemmas.List.Elements.{filter-append}
 use Rattle.std.proofs.lemmas.List.Sums.{fold-append}
 use Rattle.lang_base.specs.Texts.{same_text}
-use Rattle.journal_rows.specs.Words.{asked, asked_step, first_asked}
+use Rattle.journal_rows.specs.Words.{asked, asked_step}
 use Rattle.journal_rows.specs.declared.callee.AskedRow.{AskedRow}
 use Rattle.journal_rows.specs.declared.row.Row.{Row}
 use Rattle.journal_rows.specs.declared.row.Row.TheVariants as rows
 use Rattle.service_events.specs.Commits.{is_live_row, live_rows}
 use Rattle.service_events.specs.State.{Kept, me}
-use Rattle.node_core.specs.Closings.{Agrees, HasReceipt, IsWhole, service_of}
+use Rattle.node_core.specs.Closings.{Agrees, HasReceipt, IsWhole}
 use Rattle.node_core.specs.Receipts.{AgreesWith, WasAskedSo, answered_id}
 use Rattle.node_core.specs.declared.receipt.Receipt.{Receipt}
 use Rattle.node_core.proofs.SearchLemmas.{in_longer}
-use Rattle.node_run.specs.Settled.{GoesOnFrom, HasSettled, HaveSettled}
+use Rattle.node_run.specs.Settled.{GoesOnFrom, HaveSettled}
 
 -- ---- one journal
 

@@ -2,7 +2,6 @@
 --
 -- Both are of one root, which comes to the second first; or the root of the second is before that of the first, by a chain of roots.
 use Rattle.std.specs.Prelude.{◌≡◌, ◌⊎◌, ℕ, Bool, true, false, ◌&&◌, List, [], ◌∷◌, ◌++◌, Option, Some, None, nat_eq, nat_lt, slice_get, if◌then◌else◌}
-use Rattle.lang_base.specs.Texts.{same_text}
 use Rattle.lang_core.specs.declared.ids.RequestId.{RequestId}
 use Rattle.lang_core.specs.declared.trace.CallMade.{CallMade}
 use Rattle.execution.specs.Executions.{Act, History, survives}

@@ -1,8 +1,7 @@
 -- Events, one behind another, and what is said of them.
 use Rattle.std.proofs.Common.{◌≡◌, ℕ, suc, List, [], ◌∷◌, ◌++◌, Option, Some, None, Result, Ok, Err, IfOk, OnErr, ◌<◌, length, take, refl, ap, sym, ◌∙◌, subst, append_assoc}
-use Rattle.std.proofs.lemmas.List.{append-nil}
 use Rattle.lang_core.specs.declared.request.Request.{Request}
-use Rattle.world_events.specs.Events.{Answer, after_event, after_events, answer_to}
+use Rattle.world_events.specs.Events.{Answer, after_event, answer_to}
 use Rattle.world_events.specs.Sound.{AreFew}
 use Rattle.world_events.specs.Worlds.{World}
 use Rattle.world_events.specs.declared.event.Event.{Event}

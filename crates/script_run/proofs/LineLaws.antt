@@ -1,10 +1,10 @@
 -- Each line comes to one list of events, and one that is refused does nothing.
-use Rattle.std.proofs.Common.{◌≡◌, ℕ, List, [], ◌∷◌, Option, Some, None, Result, Ok, Err, refl, ap, sym, ◌∙◌, subst}
+use Rattle.std.proofs.Common.{◌≡◌, ℕ, List, [], ◌∷◌, Option, Some, None, Ok, Err, refl, ap, sym, ◌∙◌, subst}
 use Rattle.lang_core.specs.declared.request.Request.{Request}
 use Rattle.service_events.specs.State.{Kept}
 use Rattle.service_reports.proofs.ShownLaws.{has_shown, one_shown}
 use Rattle.world_agreement.specs.Partners.{service_of}
-use Rattle.world_events.specs.Events.{Answer, after_event, after_events, answer_to}
+use Rattle.world_events.specs.Events.{Answer, after_events, answer_to}
 use Rattle.world_events.specs.Live.{AllLiveEvents}
 use Rattle.world_events.specs.Worlds.{World}
 use Rattle.world_events.specs.declared.event.Event.{Event}

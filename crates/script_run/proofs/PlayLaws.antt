@@ -1,5 +1,5 @@
 -- The lines of a script, one after another.
-use Rattle.std.proofs.Common.{◌≡◌, ◌≢◌, ℕ, ◌+◌, ◌-◌, ◌^◌, zero, ◌<◌, ◌≤◌, Bool, true, false, cond, List, [], ◌∷◌, ◌++◌, Option, Some, None, Ok, Err, length, take, drop, ltb, suc, ◌==◌, min, nat_lt, add-zero, length-drop, refl, ap, sym, ◌∙◌, subst, append_assoc, arith, rules, tests}
+use Rattle.std.proofs.Common.{◌≡◌, ◌≢◌, ℕ, ◌+◌, ◌-◌, ◌^◌, zero, ◌<◌, ◌≤◌, Bool, true, false, cond, List, [], ◌∷◌, ◌++◌, Option, Some, None, Ok, Err, length, take, drop, ltb, suc, ◌==◌, add-zero, length-drop, refl, ap, sym, ◌∙◌, subst, append_assoc, arith}
 use Rattle.std.specs.List.{position, position_or_len, slice_split}
 use Rattle.std.proofs.lemmas.List.Splits.{slice_split_first, slice_split_none}
 use Rattle.std.proofs.lemmas.Bool.Decides.{nat_tests}
@@ -7,7 +7,7 @@ use Rattle.std.proofs.lemmas.Bool.{ltb-true}
 use Rattle.std.proofs.lemmas.List.Sums.{fails_before_first}
 use Rattle.std.proofs.Math.Seq.{take-add}
 use Rattle.std.proofs.lemmas.List.{append-nil, drop-drop, length-take, take-append-drop}
-use Rattle.io_edge.specs.Edge.{IsFront, Writes, WroteFront}
+use Rattle.io_edge.specs.Edge.{Writes, WroteFront}
 use Rattle.world_events.specs.Events.{after_event, after_events}
 use Rattle.world_events.specs.Live.{AllLiveEvents}
 use Rattle.world_events.specs.Sound.{AllFew}
@@ -19,8 +19,8 @@ use Rattle.script_lines.specs.Faults.{fault_number}
 use Rattle.script_lines.specs.Lines.{line_at}
 use Rattle.script_run.specs.Counting.{nothing_said, said_then}
 use Rattle.script_run.specs.Told.{LineAnswer}
-use Rattle.script_run.specs.Plays.{AreEventsFor, AreLiveLines, FirstPlay, GoesOn, IsLiveLine, IsPlayed, IsRunOf, Played, Plays, RunsIfLong, SaysFor, played_after, ended, is_long, lines_of, refused_at, unless_empty, with_last}
-use Rattle.script_run.specs.Stops.{AreDone, Does, DoesAll, IsDetermined, StopsEarly}
+use Rattle.script_run.specs.Plays.{AreEventsFor, AreLiveLines, FirstPlay, GoesOn, IsPlayed, IsRunOf, Played, Plays, RunsIfLong, SaysFor, played_after, ended, is_long, lines_of, refused_at, unless_empty, with_last}
+use Rattle.script_run.specs.Stops.{AreDone, Does, IsDetermined, StopsEarly}
 use Rattle.script_run.specs.declared.counts.Said.{Said}
 use Rattle.script_run.proofs.CountLaws.{nothing_then, said_assoc, then_nothing}
 use Rattle.script_run.proofs.LineLaws.{events_for, live_for, one_answer, one_for, said_for}

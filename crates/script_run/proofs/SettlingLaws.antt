@@ -1,5 +1,5 @@
 -- Services that settle, all of it or some first events.
-use Rattle.std.proofs.Common.{◌≡◌, ℕ, List, ◌++◌, Ok, ap, length, sym, subst, take}
+use Rattle.std.proofs.Common.{◌≡◌, ℕ, List, ◌++◌, Ok, ap, length, sym, subst}
 use Rattle.world_events.specs.Worlds.{World}
 use Rattle.world_events.specs.declared.event.Event.{Event}
 use Rattle.world_settle.specs.Doing.{AreOfSettling, Settles, SettlesFirst}

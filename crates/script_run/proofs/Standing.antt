@@ -1,11 +1,10 @@
 -- How a script stands before one of its lines, and where it stops.
-use Rattle.std.proofs.Common.{◌≡◌, ℕ, ◌+◌, true, false, List, [], ◌∷◌, ◌++◌, Option, Some, None, Result, Ok, Err, length, take, drop, refl, ap, sym, ◌∙◌, subst}
+use Rattle.std.proofs.Common.{◌≡◌, ℕ, ◌+◌, true, false, List, [], ◌∷◌, ◌++◌, Some, None, Ok, Err, take, drop, refl, ap, sym, ◌∙◌, subst}
 use Rattle.io_edge.specs.Edge.{Writes, Wrote, WroteShort}
 use Rattle.std.proofs.lemmas.List.{append-nil}
 use Rattle.io_edge.proofs.Pieces.{wrote_more}
-use Rattle.world_events.specs.Events.{after_event, after_events}
 use Rattle.world_events.specs.Live.{AllLiveEvents}
-use Rattle.world_events.specs.Sound.{AllFew, IsSound}
+use Rattle.world_events.specs.Sound.{IsSound}
 use Rattle.world_events.specs.Worlds.{World}
 use Rattle.world_events.specs.declared.event.Event.{Event}
 use Rattle.world_settle.proofs.HandedOn.{events_sound, live_events}
@@ -14,7 +13,7 @@ use Rattle.script_lines.specs.Lines.{line_at}
 use Rattle.script_lines.specs.declared.line.LineFault.{LineFault}
 use Rattle.script_lines.specs.declared.line.LineFault.TheVariants.{TooLong}
 use Rattle.script_run.specs.Counting.{both, counted, no_counts, said_then}
-use Rattle.script_run.specs.Plays.{ended, refused_at, AreEventsFor, AreEventsIn, AreLiveLines, FirstPlay, IsLiveLine, Played, SaysFor, is_long, lines_of}
+use Rattle.script_run.specs.Plays.{ended, refused_at, AreEventsFor, AreEventsIn, AreLiveLines, FirstPlay, Played, SaysFor, is_long, lines_of}
 use Rattle.script_run.specs.Told.{LineAnswer}
 use Rattle.script_run.specs.Stops.{AreCountsOf, AreDone, TellsFrom, Does, DoesAll, DoesFirst, KeepsSound, StopsEarly, StopsInLine}
 use Rattle.script_run.specs.declared.counts.Counts.{Counts}

@@ -1,5 +1,5 @@
 -- What a script does, and what it says.
-use Rattle.std.specs.Prelude.{ℕ, ◌≡◌, ◌+◌, Bool, true, false, List, [], ◌∷◌, ◌++◌, Option, Some, None, Ok, Err, ◌==◌, length, map, nat_lt, take, drop}
+use Rattle.std.specs.Prelude.{ℕ, ◌≡◌, ◌+◌, Bool, true, false, List, [], ◌∷◌, ◌++◌, Option, Some, None, Ok, Err, ◌==◌, length, map, nat_lt, take}
 use Rattle.std.specs.List.{slice_split}
 use Rattle.report_text.specs.Reports.{verdict_text}
 use Rattle.service_events.specs.State.{Kept, me}
@@ -15,7 +15,6 @@ use Rattle.script_lines.specs.Faults.{fault_number}
 use Rattle.script_lines.specs.Lines.{Read, line_at}
 use Rattle.script_lines.specs.declared.line.Line.{Line}
 use Rattle.script_lines.specs.declared.line.Line.TheVariants.{Blank, Event as One, Ask, Settle, Rows, Log, Notices, Preview, Dump, Audit}
-use Rattle.script_lines.specs.declared.line.LineFault.{LineFault}
 use Rattle.script_lines.specs.declared.line.LineFault.TheVariants.{Service, TooLong}
 use Rattle.script_run.specs.Audits.{verdict}
 use Rattle.script_run.specs.Counting.{nothing_said, printed, said_then}

@@ -1,5 +1,5 @@
 -- An answer that comes by a message, taken or refused.
-use Rattle.std.proofs.Common.{◌≡◌, ◌∙◌, sym, ap, refl, ℕ, Bool, true, false, not, if◌then◌else◌, cond, Option, Some, None, Result, Ok, Err}
+use Rattle.std.proofs.Common.{◌≡◌, ◌∙◌, ap, refl, ℕ, Bool, true, false, not, if◌then◌else◌, cond, Option, Some, None, Result, Ok, Err}
 use Rattle.lang_base.specs.Texts.{same_text}
 use Rattle.repair_messages.specs.declared.messages.AnswerMessage.{AnswerMessage}
 use Rattle.authorise_rules.specs.declared.asked.Decision.{Decision}

@@ -19,7 +19,7 @@ use Rattle.service_events.specs.Questions.{is_denied, rule_of}
 use Rattle.service_events.specs.Messages.{acked_again, at_version, created_entry, created_reply, is_known, is_too_much, origin_of, take_admitted, take_allowed, take_decision, take_event, take_rule, taken}
 use Rattle.service_events.specs.declared.answers.Taken.{Taken}
 use Rattle.service_events.specs.declared.refusals.TakeRefused.{TakeRefused}
-use Rattle.service_events.specs.declared.refusals.TakeRefused.TheVariants.{Full, NotYet, Denied}
+use Rattle.service_events.specs.declared.refusals.TakeRefused.TheVariants.{NotYet, Denied}
 use Rattle.service_events.proofs.EntryLemmas.{found_by_call}
 use Rattle.service_events.proofs.FreshLemmas.{unfound, below_next}
 use Rattle.service_events.proofs.PartLemmas.{logged}

@@ -9,7 +9,6 @@ use Rattle.authorise_rules.specs.declared.rule.Rule.{Rule}
 use Rattle.journal_rows.specs.Words.{is_version_of, last_sent}
 use Rattle.journal_rows.specs.declared.callee.TookHow.{TookHow}
 use Rattle.journal_rows.specs.declared.callee.TookHow.TheVariants.{Live, Message}
-use Rattle.journal_rows.specs.declared.callee.TookRow.{TookRow}
 use Rattle.journal_rows.specs.declared.caller.SawHow.{SawHow}
 use Rattle.journal_rows.specs.declared.caller.SawHow.TheVariants.{Live as SeenLive, Message as SeenMessage}
 use Rattle.journal_rows.specs.declared.caller.SentRow.{SentRow}

@@ -1,13 +1,11 @@
 -- What settling the calls of an entry leaves of a book.
-use Rattle.std.proofs.Common.{◌≡◌, ◌∙◌, sym, ap, refl, subst, ℕ, ◌<◌, ◌^◌, Bool, true, false, cond, List, [], ◌∷◌, ◌++◌, Option, Some, None, length, is_some, arith, length-append}
+use Rattle.std.proofs.Common.{◌≡◌, ◌∙◌, sym, ap, subst, ℕ, ◌<◌, ◌^◌, Bool, false, List, ◌∷◌, ◌++◌, length, arith, length-append}
 use Rattle.lang_core.specs.declared.trace.Trace.{Trace}
 use Rattle.request_log.specs.declared.entry.Entry.{Entry}
 use Rattle.local_repair.specs.Settling.{IsSettled}
 use Rattle.local_repair.specs.Steps.{answers_for, calls_of_made, raised}
 use Rattle.journal_rows.specs.declared.row.Row.{Row}
 use Rattle.call_registers.specs.Registers.{IsTimely}
-use Rattle.call_registers.specs.Replies.{has_entry, reply, at_entry}
-use Rattle.call_registers.specs.declared.reply.Reply.{Reply}
 use Rattle.service_events.specs.Fits.{calls_of_entry}
 use Rattle.service_events.proofs.CallRowLemmas.{Each, IsPlain}
 use Rattle.service_events.proofs.FittingLemmas.{Book, HasRoom, Fitting}

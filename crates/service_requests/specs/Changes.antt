@@ -1,19 +1,15 @@
 -- What a draft changes of a service when it is put in place, and the room for it.
-use Rattle.std.specs.Prelude.{ℕ, ◌≡◌, ◌≤◌, true, List, Option, Some, None, Result, Ok, Err}
+use Rattle.std.specs.Prelude.{◌≡◌, ◌≤◌, true, List, Option, Some, None, Result, Ok, Err}
 use Rattle.lang_lists.specs.Room.{is_made}
 use Rattle.request_log.specs.declared.entry.Entry.{Entry}
 use Rattle.call_registers.specs.Replies.{add_call, call_code}
 use Rattle.call_registers.specs.declared.replies.RepliesCall.{RepliesCall}
 use Rattle.call_registers.specs.declared.reply.Reply.{Reply}
-use Rattle.service_events.specs.State.{Kept, After, after, in_all}
+use Rattle.service_events.specs.State.{Kept, After, after}
 use Rattle.service_events.specs.Arriving.{accepted}
-use Rattle.service_events.specs.Fits.{Fits}
 use Rattle.service_events.specs.declared.answers.Arrived.{Arrived}
 use Rattle.service_parts.specs.Drafts.{with_draft}
-use Rattle.service_parts.specs.Rooms.{aloft}
 use Rattle.service_requests.specs.Endings.{ends, CanEnd}
-use Rattle.service_parts.specs.Parts.{kept}
-use Rattle.service_parts.specs.declared.parts.Parts.{Parts}
 use Rattle.service_requests.specs.declared.outcome.DraftedEnd.{DraftedEnd}
 
 -- ---- an outcome

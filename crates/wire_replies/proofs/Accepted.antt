@@ -12,7 +12,7 @@ use Rattle.http_front.specs.declared.header.AireHeader.TheVariants as headers
 use Rattle.http_front.specs.declared.message.WireResponse.{WireResponse}
 use Rattle.peer_seal.specs.Seal.{seal_digits}
 use Rattle.request_names.specs.Ids.{id_text}
-use Rattle.wire_fields.specs.Fits.{bad_unless, dest_refusal, number_in, service_in, side_refusal}
+use Rattle.wire_fields.specs.Fits.{dest_refusal, number_in, service_in, side_refusal}
 use Rattle.wire_fields.specs.Forms.{has_form}
 use Rattle.wire_fields.specs.Rows.{field_refusal, first_of, first_refusal, is_spelt, seal_header, text_at}
 use Rattle.wire_fields.specs.declared.refused.WireRefused.{WireRefused}

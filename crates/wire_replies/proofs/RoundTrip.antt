@@ -14,7 +14,7 @@ use Rattle.request_names.specs.Ids.{id_text}
 use Rattle.request_names.specs.Numbers.{number_of}
 use Rattle.wire_fields.specs.Fits.{number_in, or_zero, side_refusal, version_at}
 use Rattle.wire_fields.specs.Forms.{has_form}
-use Rattle.wire_fields.specs.Rows.{first_of, is_spelt, text_at}
+use Rattle.wire_fields.specs.Rows.{is_spelt, text_at}
 use Rattle.wire_fields.specs.Words.{lone_status, numbered_status, refusal_of, refusal_text}
 use Rattle.wire_fields.specs.declared.refused.WireRefused.{WireRefused}
 use Rattle.wire_fields.proofs.SealLemmas.{seal_form, seal_utf8}

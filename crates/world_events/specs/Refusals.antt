@@ -1,5 +1,5 @@
 -- What was refused at a service.
-use Rattle.std.specs.Prelude.{Bool, true, false, Result, Ok, Err, is_err}
+use Rattle.std.specs.Prelude.{Bool, true, false, Ok, Err, is_err}
 use Rattle.world_events.specs.Events.{Answer}
 use Rattle.world_events.specs.declared.happened.What.{What}
 use Rattle.world_events.specs.declared.happened.What.TheVariants.{Arrive, CallAnswered, CallFailed, Take, TakeAnswer, Posted, Order}

@@ -1,6 +1,6 @@
 use Rattle.std.proofs.Common.{◌≡◌, ℕ, List, sym, subst, ◌∙◌}
 use Rattle.io_edge.specs.Edge.{Reads}
-use Rattle.node_run.specs.Stopping.{stop_bytes, IsUnwritten, WasAskedToStop, WasReplied}
+use Rattle.node_run.specs.Stopping.{stop_bytes, WasAskedToStop, WasReplied}
 use Rattle.node_run.proofs.StoppingLemmas.{replied_with}
 use Rattle.node_run.proofs.stopping.replied.Goals as goal
 

@@ -1,4 +1,4 @@
-use Rattle.std.proofs.Common.{Ok, sym, ◌∙◌}
+use Rattle.std.proofs.Common.{sym, ◌∙◌}
 use Rattle.world_events.specs.Events.{answer_to}
 use Rattle.world_events.specs.declared.event.Event.TheVariants.{Begin}
 use Rattle.script_run.proofs.Following.{asked_all, asked_does, asked_first, asked_hand, heard_ok, on_err, unasked, unasked_does}

@@ -1,6 +1,5 @@
 use Rattle.std.proofs.Common.{Option, Some, Ok, Err, ℕ, sym, subst, ◌∙◌}
 use Rattle.world_events.specs.Events.{answer_to}
-use Rattle.world_events.specs.Worlds.{World}
 use Rattle.world_events.specs.declared.event.Event.TheVariants.{Deliver}
 use Rattle.world_laws.specs.Runs.{IsRun}
 use Rattle.script_run.specs.Stops.{DoesFirst}

@@ -1,4 +1,4 @@
-use Rattle.std.proofs.Common.{◌≡◌, ◌+◌, [], refl, sym, ◌∙◌, arith}
+use Rattle.std.proofs.Common.{◌≡◌, ◌+◌, refl, sym, ◌∙◌, arith}
 use Rattle.script_run.proofs.PlayLaws.{rest_behind}
 use Rattle.script_run.proofs.Standing.{all_counts, all_does, cut_short, does_sound, long_does, next_stands, refused_does, stands_first, stands_sound, stopped, stopped_sound}
 use Rattle.script_lines.specs.declared.line.LineFault.TheVariants.{TooLong}

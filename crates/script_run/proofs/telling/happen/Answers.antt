@@ -1,4 +1,4 @@
-use Rattle.std.proofs.Common.{◌≡◌, Some, [], ◌∷◌, Ok, ap, sym, refl, ◌∙◌}
+use Rattle.std.proofs.Common.{◌≡◌, Some, [], ◌∷◌, ap, sym, refl, ◌∙◌}
 use Rattle.script_run.specs.Told.{line_of}
 use Rattle.script_run.proofs.Following.{does_all_first, does_none, does_not, does_one, done_one, on_err, one_first}
 use Rattle.script_run.proofs.telling.happen.Goals as goal

@@ -1,4 +1,4 @@
-use Rattle.std.proofs.Common.{ℕ, refl}
+use Rattle.std.proofs.Common.{refl}
 use Rattle.world_events.specs.Events.{post_delivered}
 use Rattle.world_core.proofs.ActLemmas.{delivers_answer, delivers_set}
 use Rattle.world_core.proofs.PartLemmas.{lacks_acts}

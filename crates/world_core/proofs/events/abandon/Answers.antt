@@ -1,4 +1,4 @@
-use Rattle.std.proofs.Common.{ℕ, List, Ok, ap, refl}
+use Rattle.std.proofs.Common.{List, Ok, ap, refl}
 use Rattle.world_events.specs.Events.{abandon_turn, turn}
 use Rattle.world_events.specs.declared.event.WorldStepRefused.TheVariants.{NoFlight}
 use Rattle.world_events.specs.declared.packet.Packet.{Packet}

@@ -1,4 +1,4 @@
-use Rattle.std.proofs.Common.{ℕ, List, ◌++◌, Some, None, Ok, ap, option_to_list, set, sym, ◌∙◌, refl, subst}
+use Rattle.std.proofs.Common.{List, ◌++◌, Some, None, Ok, ap, option_to_list, set, sym, ◌∙◌, refl, subst}
 use Rattle.std.proofs.lemmas.List.{set-get_or}
 use Rattle.world_events.specs.Events.{Turn, at_service, next_post_served, turn}
 use Rattle.world_events.specs.Turns.{Turns}

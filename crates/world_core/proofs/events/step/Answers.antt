@@ -1,4 +1,4 @@
-use Rattle.std.proofs.Common.{ℕ, List, Ok, ap, refl}
+use Rattle.std.proofs.Common.{List, Ok, ap, refl}
 use Rattle.world_events.specs.Events.{Turn, at_service, repair_step_served, turn}
 use Rattle.world_events.specs.Worlds.{World}
 use Rattle.world_events.specs.declared.packet.Packet.{Packet}

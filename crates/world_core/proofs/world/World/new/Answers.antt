@@ -1,4 +1,4 @@
-use Rattle.std.proofs.Common.{[], All, sym, subst}
+use Rattle.std.proofs.Common.{All, sym, subst}
 use Rattle.std.proofs.lemmas.List.Elements.{All-nil}
 use Rattle.world_events.specs.Ends.{HasEnds}
 use Rattle.world_core.proofs.world.World.new.Goals as goal
