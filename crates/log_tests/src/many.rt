@@ -1,5 +1,5 @@
 // Rows of so many keys that what finds them by hash grows several times.
-ghost use Rattle.std.specs.Prelude.{map, IfSome, OnOk};
+ghost use Rattle.std.specs.Prelude.{◌<◌, map, IfSome, OnOk};
 ghost use Rattle.std.specs.List.{Contains};
 ghost use Rattle.std.specs.Option.{ForSome};
 ghost use Rattle.place_order.specs.Rising.{IsRising};
