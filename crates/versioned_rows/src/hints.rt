@@ -4,7 +4,7 @@ ghost use Rattle.std.specs.Prelude.{◌≡◌, ◌<◌, true, length, IfSome};
 ghost use Rattle.lang_core.specs.Places.{place_of};
 ghost use Rattle.versioned_rows.specs.KeyRows.{IsSlotOf};
 
-use crate::rows::KeyRow;
+use crate::rows::KeyLabels;
 use lang_core::{Placed, Same, Text};
 use std::hash::{FoldHasher, Hasher};
 
@@ -37,7 +37,7 @@ fn next_cell(hints: &[u32], cell: usize) -> usize
 }
 
 /// Whether the row of a key stands in the slot of a number, which may be any.
-pub(crate) fn stands_in(slots: &Vec<KeyRow>, slot: usize, table: &Text, key: &Text) -> bool
+pub(crate) fn stands_in(slots: &Vec<KeyLabels>, slot: usize, table: &Text, key: &Text) -> bool
     ensures { result ≡ true → IsSlotOf (place_of table.now key.now) slots.now.items slot }
 {
     if slot >= slots.len() {
@@ -48,7 +48,12 @@ pub(crate) fn stands_in(slots: &Vec<KeyRow>, slot: usize, table: &Text, key: &Te
 }
 
 /// The slot of the row of a key, if a hint leads there.
-pub(crate) fn hinted(slots: &Vec<KeyRow>, hints: &[u32], table: &Text, key: &Text) -> Option<usize>
+pub(crate) fn hinted(
+    slots: &Vec<KeyLabels>,
+    hints: &[u32],
+    table: &Text,
+    key: &Text,
+) -> Option<usize>
     ensures { IfSome result (IsSlotOf (place_of table.now key.now) slots.now.items) }
 {
     if hints.is_empty() {
@@ -85,7 +90,7 @@ fn free_cell(hints: &[u32], table: &Text, key: &Text) -> usize
 }
 
 // Names the row in a slot, if one stands there.
-fn note(slots: &Vec<KeyRow>, hints: &mut [u32], slot: u32) {
+fn note(slots: &Vec<KeyLabels>, hints: &mut [u32], slot: u32) {
     if hints.is_empty() || slot as usize >= slots.len() {
         return;
     }
@@ -95,7 +100,7 @@ fn note(slots: &Vec<KeyRow>, hints: &mut [u32], slot: u32) {
 }
 
 // Makes four times as many cells as there are slots, and names all rows in them. Where there is no memory, nothing changes.
-fn spread(slots: &Vec<KeyRow>, order: &Vec<u32>, hints: &mut Vec<u32>) -> bool {
+fn spread(slots: &Vec<KeyLabels>, order: &Vec<u32>, hints: &mut Vec<u32>) -> bool {
     if hints.resize(slots.len().saturating_mul(4), EMPTY).is_err() {
         return false;
     }
@@ -107,7 +112,7 @@ fn spread(slots: &Vec<KeyRow>, order: &Vec<u32>, hints: &mut Vec<u32>) -> bool {
 }
 
 /// Names the row in a slot, which is new. At least twice as many cells as there are slots are made, if there is memory.
-pub(crate) fn note_new(slots: &Vec<KeyRow>, order: &Vec<u32>, hints: &mut Vec<u32>, slot: u32) {
+pub(crate) fn note_new(slots: &Vec<KeyLabels>, order: &Vec<u32>, hints: &mut Vec<u32>, slot: u32) {
     if hints.len() / 2 < slots.len() && spread(slots, order, hints) {
         return;
     }

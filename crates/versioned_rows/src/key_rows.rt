@@ -7,7 +7,7 @@ ghost use Rattle.versioned_rows.specs.KeyRows.{in_order, is_slot_below, IsArrang
 ghost use Rattle.versioned_rows.specs.Rows.{row_place};
 
 use crate::hints::{hinted, note_new, stands_in};
-use crate::rows::KeyRow;
+use crate::rows::KeyLabels;
 use lang_core::{NoMemory, Text, seek_bytes};
 use lang_lists::count_front;
 use std::alloc::Global;
@@ -24,7 +24,7 @@ const MOST_NUMBER: usize = 4_294_967_294;
 #[derive(Drop)]
 pub struct KeyRows {
     // In the order in which they came. None ever goes.
-    pub(crate) slots: Vec<KeyRow>,
+    pub(crate) slots: Vec<KeyLabels>,
     // The numbers of the slots in the order of the list.
     pub(crate) order: Vec<u32>,
     // Numbers of slots by hash, on which nothing rests.
@@ -62,7 +62,7 @@ impl KeyRows {
     }
 
     /// The row at a place of the list, counted from 0.
-    pub fn at(&self, place: usize) -> &KeyRow
+    pub fn at(&self, place: usize) -> &KeyLabels
         requires { place < length self.now.items }
         ensures { result.now ≡ slice_index_or self.now.items place result.now }
     {
@@ -79,7 +79,7 @@ impl KeyRows {
     }
 }
 
-pub(crate) fn row_at<'a>(slots: &'a Vec<KeyRow>, order: &Vec<u32>, place: usize) -> &'a KeyRow
+pub(crate) fn row_at<'a>(slots: &'a Vec<KeyLabels>, order: &Vec<u32>, place: usize) -> &'a KeyLabels
     requires arranged { IsArranged (length slots.now.items) order.now.items }
     requires place { place < length order.now.items }
     ensures { result.now ≡ slice_index_or (in_order order.now.items slots.now.items) place result.now }
@@ -88,19 +88,19 @@ pub(crate) fn row_at<'a>(slots: &'a Vec<KeyRow>, order: &Vec<u32>, place: usize)
 }
 
 // Whether a row stands before the place of a key with these bytes: the order is that in which a list of this one row is searched.
-fn is_below(row: &KeyRow, table: &Text, key: &[u8]) -> bool
+fn is_below(row: &KeyLabels, table: &Text, key: &[u8]) -> bool
     ensures { result ≡ is_gt (place_order (place_of table.now key.now) (row_place row.now)) }
 {
     seek_bytes(from_ref(row), table, key).0 == 1
 }
 
-fn is_at(row: &KeyRow, table: &Text, key: &[u8]) -> bool
+fn is_at(row: &KeyLabels, table: &Text, key: &[u8]) -> bool
     ensures { result ≡ is_eq (place_order (place_of table.now key.now) (row_place row.now)) }
 {
     seek_bytes(from_ref(row), table, key).1
 }
 
-fn is_slot_below(slots: &Vec<KeyRow>, slot: u32, table: &Text, key: &[u8]) -> bool
+fn is_slot_below(slots: &Vec<KeyLabels>, slot: u32, table: &Text, key: &[u8]) -> bool
     requires { slot < length slots.now.items }
     ensures { result ≡ is_slot_below (place_of table.now key.now) slots.now.items slot }
 {
@@ -108,7 +108,7 @@ fn is_slot_below(slots: &Vec<KeyRow>, slot: u32, table: &Text, key: &[u8]) -> bo
 }
 
 // How many of these rows stand before the place of a key with these bytes, in their order.
-fn count_below(slots: &Vec<KeyRow>, order: &Vec<u32>, table: &Text, key: &[u8]) -> usize
+fn count_below(slots: &Vec<KeyLabels>, order: &Vec<u32>, table: &Text, key: &[u8]) -> usize
     requires arranged { IsArranged (length slots.now.items) order.now.items }
     requires ordered { IsOrdered row_place (in_order order.now.items slots.now.items) }
     ensures rank { result ≡ rank row_place (place_of table.now key.now) (in_order order.now.items slots.now.items) }
@@ -124,7 +124,7 @@ fn count_below(slots: &Vec<KeyRow>, order: &Vec<u32>, table: &Text, key: &[u8]) 
 
 /// The same, and whether a row stands at the key.
 pub(crate) fn rank_in(
-    slots: &Vec<KeyRow>,
+    slots: &Vec<KeyLabels>,
     order: &Vec<u32>,
     table: &Text,
     key: &[u8],
@@ -145,7 +145,7 @@ pub(crate) fn rank_in(
 /// The slot of the row of a key, which is looked for in this one first, then by hints and at last by halves; where there is none,
 /// its place in the list.
 pub(crate) fn slot_in(
-    slots: &Vec<KeyRow>,
+    slots: &Vec<KeyLabels>,
     order: &Vec<u32>,
     hints: &Vec<u32>,
     near: usize,
@@ -172,7 +172,7 @@ pub(crate) fn slot_in(
 }
 
 /// Makes room for one row more, and tells the number of its slot.
-pub(crate) fn ready_row(slots: &mut Vec<KeyRow>, order: &mut Vec<u32>) -> Result<u32, NoMemory>
+pub(crate) fn ready_row(slots: &mut Vec<KeyLabels>, order: &mut Vec<u32>) -> Result<u32, NoMemory>
     ensures slots { slots.new.items ≡ slots.old.items }
     ensures order { order.new.items ≡ order.old.items }
     ensures number { IfOk result (λ n. n ≡ length slots.old.items) }
@@ -189,12 +189,12 @@ pub(crate) fn ready_row(slots: &mut Vec<KeyRow>, order: &mut Vec<u32>) -> Result
 
 /// Puts in a row, for which there is room, at its place of the list.
 pub(crate) fn put_new(
-    slots: &mut Vec<KeyRow>,
+    slots: &mut Vec<KeyLabels>,
     order: &mut Vec<u32>,
     hints: &mut Vec<u32>,
     at: usize,
     number: u32,
-    row: KeyRow,
+    row: KeyLabels,
 )
     requires arranged { IsArranged (length slots.old.items) order.old.items }
     requires within { at ≤ length order.old.items }

@@ -18,7 +18,6 @@ pub use labels::{Labelled, stands_there};
 pub use places::PlaceWrites;
 pub use room::VersionsCall;
 pub use rows::{
-    KeyLabels, KeyRow, copied_rows, drop_label, insert_label, labels_at, labels_in, labels_near,
-    make_row,
+    KeyLabels, copied_rows, drop_label, insert_label, labels_at, labels_in, labels_near, make_row,
 };
 pub use versions::Versions;

@@ -14,7 +14,6 @@ use lang_base::both;
 use lang_core::{Copied, NoMemory, Placed, Text, Write};
 use place_order::Order;
 use std::alloc::Global;
-use std::marker::Model;
 
 /// The labels that stand at a key, as those of the places that write it. It may have none.
 #[derive(Drop)]
@@ -24,38 +23,24 @@ pub struct KeyLabels {
     pub labels: Vec<u64>,
 }
 
-/// The labels at a key behind a pointer, seen as these: a list of rows moves eight bytes for each when it grows.
-#[derive(Drop)]
-pub struct KeyRow {
-    inner: Box<KeyLabels>,
-}
-
-impl Model for KeyRow {
-    ghost use Rattle.versioned_rows.specs.declared.rows.KeyLabels.{KeyLabels};
-
-    ghost Value = { KeyLabels };
-
-    ghost view = { λ row. row.inner.value };
-}
-
-impl Placed for KeyRow {
+impl Placed for KeyLabels {
     ghost place = { λ r. place_of r.table r.key };
 
     fn table(&self) -> &Text {
-        &self.inner.table
+        &self.table
     }
 
     fn key(&self) -> &Text {
-        &self.inner.key
+        &self.key
     }
 }
 
-impl KeyRow {
+impl KeyLabels {
     /// The labels.
     pub fn labels(&self) -> &[u64]
         ensures { result.now ≡ self.now.labels.items }
     {
-        &self.inner.labels
+        &self.labels
     }
 
     /// Puts a label in at a place of the labels, where there is room for it.
@@ -66,7 +51,7 @@ impl KeyRow {
         ensures labels { self.new.labels.items ≡ insert self.old.labels.items at label }
         ensures spare { spare_of self.old ≤ spare_of self.new + 1 }
     {
-        let _ = self.inner.labels.insert(at, label);
+        let _ = self.labels.insert(at, label);
     }
 
     // Takes a label out, if it is there.
@@ -75,7 +60,7 @@ impl KeyRow {
         ensures labels { self.new.labels.items ≡ filter (is_other label) self.old.labels.items }
         ensures spare { spare_of self.old ≤ spare_of self.new }
     {
-        self.inner.labels.retain(|other| *other != label);
+        self.labels.retain(|other| *other != label);
     }
 
     // Takes a label out, found by halves in the order in which they rise.
@@ -89,7 +74,7 @@ impl KeyRow {
         match position_in(order, self.labels(), label) {
             None => {}
             Some(at) => {
-                let _ = self.inner.labels.remove(at);
+                let _ = self.labels.remove(at);
             }
         }
     }
@@ -101,7 +86,7 @@ impl KeyRow {
         ensures kept { spare_of self.old ≤ spare_of self.new }
         ensures spare { OnOk result (spare ≤ spare_of self.new) }
     {
-        self.inner.labels.reserve(spare)?;
+        self.labels.reserve(spare)?;
         Ok(())
     }
 }
@@ -138,17 +123,16 @@ pub fn labels_near<'a>(rows: &'a KeyRows, near: usize, table: &Text, key: &Text)
     }
 }
 
-fn row_of(alloc: Global, table: &Text, key: &Text, labels: Vec<u64>) -> Result<KeyRow, NoMemory>
+fn row_of(alloc: Global, table: &Text, key: &Text, labels: Vec<u64>) -> Result<KeyLabels, NoMemory>
     ensures table { IfOk result (λ row. row.table ≡ table.now) }
     ensures key { IfOk result (λ row. row.key ≡ key.now) }
     ensures labels { IfOk result (λ row. row.labels ≡ labels) }
 {
     let (table, key) = both(table.copied(alloc), key.copied(alloc))?;
-    let inner = Box::new(alloc, KeyLabels { table, key, labels })?;
-    Ok(KeyRow { inner })
+    Ok(KeyLabels { table, key, labels })
 }
 
-fn empty_row(alloc: Global, table: &Text, key: &Text, spare: usize) -> Result<KeyRow, NoMemory>
+fn empty_row(alloc: Global, table: &Text, key: &Text, spare: usize) -> Result<KeyLabels, NoMemory>
     ensures table { IfOk result (λ row. row.table ≡ table.now) }
     ensures key { IfOk result (λ row. row.key ≡ key.now) }
     ensures labels { IfOk result (λ row. row.labels.items ≡ []) }
@@ -220,14 +204,14 @@ pub fn make_row(
     }
 }
 
-fn copied_row(alloc: Global, row: &KeyRow) -> Result<KeyRow, NoMemory>
+fn copied_row(alloc: Global, row: &KeyLabels) -> Result<KeyLabels, NoMemory>
     ensures { IfOk result (IsCopy row.now) }
 {
     let labels = Vec::from_slice(alloc, row.labels())?;
     row_of(alloc, row.table(), row.key(), labels)
 }
 
-fn copied_slots(alloc: Global, slots: &[KeyRow]) -> Result<Vec<KeyRow>, NoMemory>
+fn copied_slots(alloc: Global, slots: &[KeyLabels]) -> Result<Vec<KeyLabels>, NoMemory>
     ensures { IfOk result (λ copies. AllZip IsCopy slots.now copies.items) }
 {
     let mut copies = Vec::new(alloc);

@@ -17,7 +17,7 @@ use crate::key_rows::KeyRows;
 use crate::labels::{count_before, position_in};
 use crate::places::{PlaceWrites, find_place, position_of, put_instead, take_out, text_at};
 use crate::room::{VersionsCall, ready_writes, take_writes};
-use crate::rows::{KeyRow, copied_rows, labels_in};
+use crate::rows::{KeyLabels, copied_rows, labels_in};
 use lang_base::copied_items;
 use lang_core::{
     Cell, Cells, Copied, MOST_SCAN_BYTES, MOST_SCAN_CELLS, NoMemory, Placed, Same, Text, Writes,
@@ -56,7 +56,7 @@ impl Model for Versions {
 }
 
 // The cell of this text at the key of a row.
-fn cell_of(alloc: Global, row: &KeyRow, text: &Text) -> Result<Cell, NoMemory>
+fn cell_of(alloc: Global, row: &KeyLabels, text: &Text) -> Result<Cell, NoMemory>
     ensures { IfOk result (λ cell. cell ≡ record { table = row.now.table; key = row.now.key; text = text.now }) }
 {
     let table = row.table().copied(alloc)?;
@@ -65,20 +65,20 @@ fn cell_of(alloc: Global, row: &KeyRow, text: &Text) -> Result<Cell, NoMemory>
     Ok(Cell { table, key, text })
 }
 
-fn is_under(row: &KeyRow, table: &Text, prefix: &Text) -> bool
+fn is_under(row: &KeyLabels, table: &Text, prefix: &Text) -> bool
     ensures { result ≡ is_under table.now prefix.now row.now }
 {
     row.table().is(table) && row.key().begins_with(prefix)
 }
 
-fn is_cell(cell: &Cell, row: &KeyRow, text: &Text) -> bool
+fn is_cell(cell: &Cell, row: &KeyLabels, text: &Text) -> bool
     ensures { IsTrue result ↔ (cell.now ≡ record { table = row.now.table; key = row.now.key; text = text.now }) }
 {
     cell.table.is(row.table()) && cell.key.is(row.key()) && cell.text.is(text)
 }
 
 // Whether the cell at a place is the one with the key of a row and this text.
-fn is_next(cells: &[Cell], at: usize, row: &KeyRow, text: &Text) -> bool
+fn is_next(cells: &[Cell], at: usize, row: &KeyLabels, text: &Text) -> bool
     requires { at ≤ length cells.now }
     ensures { IsTrue result ↔ ((at < length cells.now) × ((d : Cell) → slice_index_or cells.now at d ≡ record { table = row.now.table; key = row.now.key; text = text.now })) }
 {
@@ -88,7 +88,7 @@ fn is_next(cells: &[Cell], at: usize, row: &KeyRow, text: &Text) -> bool
     is_cell(&cells[at], row, text)
 }
 
-fn key_len(row: &KeyRow) -> u64
+fn key_len(row: &KeyLabels) -> u64
     ensures { result ≡ length row.now.key }
 {
     row.key().len()
@@ -187,7 +187,7 @@ impl Versions {
     }
 
     // The text at the key of a row, which isn't looked for.
-    fn text_of_row(&self, order: &Order, label: Option<u64>, row: &KeyRow) -> Option<&Text>
+    fn text_of_row(&self, order: &Order, label: Option<u64>, row: &KeyLabels) -> Option<&Text>
         requires rising { IsRising order.now.labels (map label_of self.now.versions) }
         requires label { ForSome label (Contains order.now.labels) }
         requires held { NamesWriters self.now.versions row.now }
@@ -201,7 +201,7 @@ impl Versions {
         alloc: Global,
         order: &Order,
         label: Option<u64>,
-        row: &KeyRow,
+        row: &KeyLabels,
     ) -> Result<Option<Cell>, NoMemory>
         requires rising { IsRising order.now.labels (map label_of self.now.versions) }
         requires label { ForSome label (Contains order.now.labels) }

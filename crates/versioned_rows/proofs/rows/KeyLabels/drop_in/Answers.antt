@@ -4,7 +4,7 @@ use Rattle.std.proofs.lemmas.List.{map-id}
 use Rattle.versioned_rows.specs.Versions.{IsApart}
 use Rattle.versioned_rows.specs.declared.rows.KeyLabels.{KeyLabels}
 use Rattle.versioned_rows.proofs.IndexLemmas.{not_there, position_is, removed, rising_apart}
-use Rattle.versioned_rows.proofs.rows.KeyRow.drop_in.Goals as goal
+use Rattle.versioned_rows.proofs.rows.KeyLabels.drop_in.Goals as goal
 
 pub position_in-requires-clause-rising : goal.position_in-requires-clause-rising
 position_in-requires-clause-rising c = rw (map-id, c.labels.ensures) c.requires.rising
@@ -19,7 +19,7 @@ returns-in-Some-clause-labels c =
     let xs = c.args.self.now.labels.items in
     let found : position (λ x. nat_eq x c.args.label) xs ≡ Some c.in-Some.at = rw c.labels.ensures at (sym c.position_in.ensures ∙ c.in-Some.is) in
     let P : List ℕ → Type 0 = λ l. IsApart l in
-    c.remove.ensures.items ∙ ap (λ (r : KeyLabels). remove r.labels.items c.in-Some.at) (c.deref_mut.ensures.value ∙ c.self.view_is)
+    c.remove.ensures.items
     ∙ ap (remove xs) (position_is (λ x. nat_eq x c.args.label) xs c.in-Some.at found).0
     ∙ removed (λ x. x) c.args.label xs (subst P (sym (map-id xs)) (rising_apart c.args.order.now.labels xs c.requires.rising))
 
@@ -28,5 +28,4 @@ remove-requires c =
     let xs = c.args.self.now.labels.items in
     let found : position (λ x. nat_eq x c.args.label) xs ≡ Some c.in-Some.at = rw c.labels.ensures at (sym c.position_in.ensures ∙ c.in-Some.is) in
     let within = (position_is (λ x. nat_eq x c.args.label) xs c.in-Some.at found).1 in
-    let long = ap (λ (r : KeyLabels). length r.labels.items) (c.deref_mut.ensures.value ∙ c.self.view_is) in
     omega arith
