@@ -1,5 +1,5 @@
 // For each key that was ever written, the labels of the places that write it.
-ghost use Rattle.std.specs.Prelude.{ℕ, List, ◌≡◌, ◌+◌, ◌<◌, ◌≤◌, [], true, filter, insert, length, IfOk, OnOk, if◌then◌else◌};
+ghost use Rattle.std.specs.Prelude.{ℕ, List, ◌≡◌, ◌+◌, ◌<◌, ◌≤◌, [], true, filter, insert, length, vec_len, vec_capacity, IfOk, OnOk, if◌then◌else◌};
 ghost use Rattle.std.specs.List.{AllZip, Contains};
 ghost use Rattle.lang_core.specs.Places.{IsOrdered, place_of, same_place};
 ghost use Rattle.lang_core.specs.Rows.{write_place};
@@ -33,6 +33,21 @@ impl Placed for KeyLabels {
     fn key(&self) -> &Text {
         &self.key
     }
+}
+
+// Makes places for so many labels more: just these where there is none yet, as most keys have one writer or few.
+fn make_places(labels: &mut Vec<u64>, more: usize) -> Result<(), NoMemory>
+    ensures items { labels.new.items ≡ labels.old.items }
+    ensures len { vec_len labels.new ≡ vec_len labels.old }
+    ensures capacity { vec_capacity labels.old ≤ vec_capacity labels.new }
+    ensures places { OnOk result (vec_len labels.new + more ≤ vec_capacity labels.new) }
+{
+    if labels.is_empty() {
+        labels.reserve_exact(more)?;
+    } else {
+        labels.reserve(more)?;
+    }
+    Ok(())
 }
 
 impl KeyLabels {
@@ -86,8 +101,7 @@ impl KeyLabels {
         ensures kept { spare_of self.old ≤ spare_of self.new }
         ensures spare { OnOk result (spare ≤ spare_of self.new) }
     {
-        self.labels.reserve(spare)?;
-        Ok(())
+        make_places(&mut self.labels, spare)
     }
 }
 
@@ -139,7 +153,7 @@ fn empty_row(alloc: Global, table: &Text, key: &Text, spare: usize) -> Result<Ke
     ensures spare { IfOk result (λ row. spare ≤ spare_of row) }
 {
     let mut labels = Vec::new(alloc);
-    labels.reserve(spare)?;
+    make_places(&mut labels, spare)?;
     row_of(alloc, table, key, labels)
 }
 
