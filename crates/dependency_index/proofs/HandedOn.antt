@@ -1,6 +1,4 @@
--- Laws of versioned rows, for the crates above.
-pub use Rattle.versioned_rows.proofs.AgreeLemmas.{take_next}
-pub use Rattle.versioned_rows.proofs.EditLemmas.{ok_is}
-pub use Rattle.versioned_rows.proofs.IndexLemmas.{position_is}
-pub use Rattle.versioned_rows.proofs.PrefixLemmas.{same_ordered}
-pub use Rattle.versioned_rows.proofs.RisingLemmas.{known, known_at}
+-- Laws of rows of labels, for the crate above.
+pub use Rattle.key_labels.proofs.ApartLemmas.{position_is}
+pub use Rattle.key_labels.proofs.EditLemmas.{ok_is}
+pub use Rattle.key_labels.proofs.RisingLemmas.{known, known_at}

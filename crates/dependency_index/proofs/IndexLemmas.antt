@@ -3,8 +3,8 @@ use Rattle.std.proofs.Common.{◌≡◌, ℕ, suc, ◌<◌, Bool, true, false, c
 use Rattle.std.specs.List.{filter, list_any, All, AllByRecursion}
 use Rattle.std.proofs.lemmas.List.{map-append}
 use Rattle.std.proofs.lemmas.List.Elements.{filter-append, All-append, All-cons, All-filter, All-from_recursion, recursion_from_All}
-use Rattle.versioned_rows.specs.Places.{is_other}
-use Rattle.versioned_rows.proofs.GetLemmas.{filter_filter, filter-map}
+use Rattle.key_labels.specs.Labels.{is_other}
+use Rattle.key_labels.proofs.ListLemmas.{filter_filter, filter-map}
 use Rattle.dependency_index.specs.Numbers.{Rises, with_number}
 use Rattle.dependency_index.specs.Reads.{label_of, labels_with, with_noted, without}
 use Rattle.dependency_index.specs.declared.noted.Noted.{Noted}

@@ -11,7 +11,7 @@ use Rattle.dependency_index.specs.declared.reads.ReadKind.{ReadKind}
 use Rattle.dependency_index.specs.declared.reads.ReadKind.TheVariants.{Key, Scan}
 use Rattle.dependency_index.specs.declared.rows.ReadRows.{ReadRows}
 use Rattle.std.proofs.Math.Bool.{or-false, or-true, or_assoc}
-use Rattle.versioned_rows.proofs.WriteLemmas.{either_by}
+use Rattle.key_labels.proofs.ListLemmas.{either_by}
 
 any_more : {X : Type 0} (p : X → Bool) (xs : List X) (i : ℕ) (d : X) → i < length xs → list_any p (take (suc i) xs) ≡ (list_any p (take i xs) || p (get_or xs i d))
 any_more p [] i d lt = absurd (omega arith)

@@ -6,9 +6,9 @@ use Rattle.std.proofs.lemmas.List.{get_or-map, length-map}
 use Rattle.std.proofs.lemmas.List.Elements.{filter-append}
 use Rattle.std.proofs.lemmas.List.Folds.{list_any-append}
 use Rattle.lang_core.specs.Places.{past}
-use Rattle.versioned_rows.specs.Places.{is_other}
+use Rattle.key_labels.specs.Labels.{is_other}
 use Rattle.dependency_index.specs.Numbers.{Rises, with_number, with_numbers}
-use Rattle.versioned_rows.proofs.GetLemmas.{all_if}
+use Rattle.key_labels.proofs.ListLemmas.{all_if}
 use Rattle.std.proofs.Math.Bool.{or-false}
 use Rattle.lang_lists.proofs.RoomLemmas.{not_less}
 

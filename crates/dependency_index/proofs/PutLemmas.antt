@@ -2,8 +2,8 @@
 use Rattle.std.proofs.Common.{◌≡◌, ℕ, ◌+◌, ◌≤◌, Bool, true, false, cond, List, ◌∷◌, ◌++◌, length, take, drop, ap, arith}
 use Rattle.lang_core.specs.Places.{Place, place_of, same_place}
 use Rattle.lang_core.proofs.ReadLemmas.{place_is}
-use Rattle.versioned_rows.specs.Rows.{labels_in, spare_in, IsEdited}
-use Rattle.versioned_rows.specs.declared.rows.KeyLabels.{KeyLabels}
+use Rattle.key_labels.specs.Rows.{labels_in, spare_in, IsEdited}
+use Rattle.key_labels.specs.declared.rows.KeyLabels.{KeyLabels}
 use Rattle.dependency_index.proofs.NumberLemmas.{longer_by}
 
 kept_if : (b : Bool) (l m : List ℕ) (x y : ℕ) → (b ≡ true → length m ≡ length l + 1) → x ≤ y + cond b 1 0 → length l + x ≤ length (cond b m l) + y

@@ -10,7 +10,7 @@ use Rattle.dependency_index.specs.declared.reads.ReadAt.{ReadAt}
 use Rattle.dependency_index.specs.declared.reads.ReadKind.{ReadKind}
 use Rattle.dependency_index.specs.declared.room.IndexCall.{IndexCall}
 use Rattle.dependency_index.specs.declared.rows.ReadRows.{ReadRows}
-use Rattle.versioned_rows.proofs.RoomLemmas.{covers_by, one_by}
+use Rattle.key_labels.proofs.RoomLemmas.{covers_by, one_by}
 
 plus_none : (n : ℕ) → 0 + n ≡ n
 plus_none n = omega arith

@@ -4,8 +4,8 @@ use Rattle.std.specs.List.{filter, list_any}
 use Rattle.std.proofs.lemmas.Bool.{lt-ltb, le-ltb, ltb-true, ltb-false, and_parts}
 use Rattle.std.proofs.lemmas.List.Elements.{filter_agree}
 use Rattle.lang_base.specs.Texts.{same_text, begins_with}
-use Rattle.versioned_rows.specs.Rows.{labels_in}
-use Rattle.versioned_rows.specs.declared.rows.KeyLabels.{KeyLabels}
+use Rattle.key_labels.specs.Rows.{labels_in}
+use Rattle.key_labels.specs.declared.rows.KeyLabels.{KeyLabels}
 use Rattle.dependency_index.specs.Numbers.{Rises, with_numbers}
 use Rattle.dependency_index.specs.Reads.{is_kind, is_at, is_scan_of, label_of, labels_with, scanners}
 use Rattle.dependency_index.specs.Rows.{under}

@@ -1,8 +1,8 @@
 -- Rows of labels by kind of read, table and key.
 use Rattle.std.specs.Prelude.{ℕ, zero, suc, ◌+◌, List, [], length, take}
 use Rattle.lang_core.specs.Places.{IsOrdered}
-use Rattle.versioned_rows.specs.Rows.{row_place, labels_in, spare_in}
-use Rattle.versioned_rows.specs.declared.rows.KeyLabels.{KeyLabels}
+use Rattle.key_labels.specs.Rows.{row_place, labels_in, spare_in}
+use Rattle.key_labels.specs.declared.rows.KeyLabels.{KeyLabels}
 use Rattle.dependency_index.specs.Numbers.{with_numbers}
 use Rattle.dependency_index.specs.declared.reads.ReadKind.{ReadKind}
 use Rattle.dependency_index.specs.declared.reads.ReadKind.TheVariants.{Key, Scan}

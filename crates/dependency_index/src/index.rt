@@ -4,8 +4,8 @@ ghost use Rattle.std.specs.List.{All, Contains, list_any};
 ghost use Rattle.std.specs.Option.{ForSome};
 ghost use Rattle.lang_lists.specs.Room.{is_made, spend};
 ghost use Rattle.lang_core.specs.Places.{IsOrdered};
-ghost use Rattle.versioned_rows.specs.Places.{is_other};
-ghost use Rattle.versioned_rows.specs.Rows.{row_place};
+ghost use Rattle.key_labels.specs.Labels.{is_other};
+ghost use Rattle.key_labels.specs.Rows.{row_place};
 ghost use Rattle.dependency_index.specs.Index.{call_code, note_call, IsIndexed};
 ghost use Rattle.dependency_index.specs.Numbers.{Rises, with_numbers};
 ghost use Rattle.dependency_index.specs.Reads.{read_at, is_at, is_between, label_of, readers, scanners, with_noted, without};
@@ -17,12 +17,12 @@ use crate::numbers::{put_number, seek_number};
 use crate::reads::ReadsAt;
 use crate::room::{IndexCall, ready_reads, take_reads};
 use crate::rows::{ReadRows, copied_reads, drop_labels, put_labels};
+use key_labels::{KeyRows, labels_at, labels_in};
 use lang_base::copied_items;
 use lang_core::{NoMemory, Reads, Seq, Text};
 use place_order::Order;
 use std::alloc::Global;
 use std::marker::Model;
-use versioned_rows::{KeyRows, labels_at, labels_in};
 
 /// Labels, as a list.
 pub type Labels = Seq<u64>;

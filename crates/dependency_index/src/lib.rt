@@ -13,4 +13,3 @@ pub use noted::Noted;
 pub use numbers::{put_reserved, seek_number};
 pub use reads::{ReadAt, ReadKind, ReadsAt};
 pub use room::IndexCall;
-pub use versioned_rows::{PlaceWrites, Versions};

@@ -5,9 +5,9 @@ ghost use Rattle.dependency_index.specs.Reads.{label_of, with_noted, without};
 
 use crate::numbers::seek_number;
 use crate::reads::ReadsAt;
+use key_labels::Labelled;
 use lang_core::{Copied, NoMemory, Same};
 use std::alloc::Global;
-use versioned_rows::Labelled;
 
 /// Where the reads of a label looked.
 #[derive(Drop)]

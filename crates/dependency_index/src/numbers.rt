@@ -3,9 +3,9 @@ ghost use Rattle.std.specs.Prelude.{ℕ, ◌≡◌, ◌≢◌, ◌<◌, ◌≤�
 ghost use Rattle.lang_core.specs.Places.{IsRank, past};
 ghost use Rattle.dependency_index.specs.Numbers.{Rises, with_number};
 
+use key_labels::{Labelled, stands_there};
 use lang_core::NoMemory;
 use lang_lists::count_front;
-use versioned_rows::{Labelled, stands_there};
 
 // How many of these have lower labels.
 fn count_below<T: Labelled>(items: &[T], label: u64) -> usize

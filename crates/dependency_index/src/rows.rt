@@ -2,8 +2,8 @@
 ghost use Rattle.std.specs.Prelude.{ℕ, List, ◌≡◌, ◌+◌, ◌≤◌, true, filter, length, IfOk, OnOk, if◌then◌else◌};
 ghost use Rattle.std.specs.List.{list_any};
 ghost use Rattle.lang_core.specs.Places.{IsOrdered};
-ghost use Rattle.versioned_rows.specs.Places.{is_other};
-ghost use Rattle.versioned_rows.specs.Rows.{row_place, labels_in, spare_in, IsEdited};
+ghost use Rattle.key_labels.specs.Labels.{is_other};
+ghost use Rattle.key_labels.specs.Rows.{row_place, labels_in, spare_in, IsEdited};
 ghost use Rattle.dependency_index.specs.Numbers.{Rises, with_number};
 ghost use Rattle.dependency_index.specs.Reads.{is_at};
 ghost use Rattle.dependency_index.specs.Rows.{AreOrdered, labels_by, spare_by, places_by};
@@ -11,9 +11,9 @@ ghost use Rattle.dependency_index.specs.declared.reads.ReadKind.{ReadKind};
 
 use crate::numbers::seek_number;
 use crate::reads::{ReadAt, ReadKind};
+use key_labels::{KeyRows, copied_rows, drop_label, insert_label, labels_near, make_row};
 use lang_core::{NoMemory, Text};
 use std::alloc::Global;
-use versioned_rows::{KeyRows, copied_rows, drop_label, insert_label, labels_near, make_row};
 
 /// For each key and each prefix that was ever read, the labels that read it now, in the order of their numbers.
 #[derive(Drop)]

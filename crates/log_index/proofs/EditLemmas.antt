@@ -8,8 +8,8 @@ use Rattle.std.proofs.Math.Seq.{map-set_same, drop-cons}
 use Rattle.lang_core.specs.declared.writes.Write.{Write}
 use Rattle.place_order.specs.Labels.{place_in, IsNew}
 use Rattle.place_order.specs.Rising.{IsRising}
-use Rattle.dependency_index.specs.HandedOn.{label_of, without, with_place}
-use Rattle.dependency_index.specs.HandedOn.{PlaceWrites}
+use Rattle.versioned_rows.specs.Places.{label_of, without, with_place}
+use Rattle.versioned_rows.specs.declared.places.PlaceWrites.{PlaceWrites}
 use Rattle.dependency_index.proofs.HandedOn.{known_at}
 use Rattle.log_index.specs.Rows.{writes_of, label_at, call_before, call_at, place_before, IsPlaced}
 use Rattle.log_index.proofs.LabelLemmas.{rising_self, apart_insert, place_at}

@@ -1,2 +1,3 @@
--- Laws of versioned rows, for the crate above.
-pub use Rattle.dependency_index.proofs.HandedOn.{position_is, same_ordered}
+-- Laws of rows of labels and of versioned rows, for the crate above.
+pub use Rattle.dependency_index.proofs.HandedOn.{position_is}
+pub use Rattle.versioned_rows.proofs.PrefixLemmas.{same_ordered}

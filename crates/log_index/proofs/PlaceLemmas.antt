@@ -8,9 +8,10 @@ use Rattle.std.proofs.lemmas.List.Folds.{fold-map}
 use Rattle.lang_core.specs.Rows.{apply}
 use Rattle.place_order.specs.Labels.{place_in}
 use Rattle.place_order.specs.Rising.{IsBeforeAll, IsRising, is_before}
-use Rattle.dependency_index.specs.HandedOn.{label_of, rows_after, before, is_other, without, with_place}
-use Rattle.dependency_index.specs.HandedOn.{KeptVersions, rows_before_label}
-use Rattle.dependency_index.specs.HandedOn.{PlaceWrites}
+use Rattle.versioned_rows.specs.Places.{label_of, rows_after, before, without, with_place}
+use Rattle.dependency_index.specs.HandedOn.{is_other}
+use Rattle.versioned_rows.specs.Versions.{KeptVersions, rows_before_label}
+use Rattle.versioned_rows.specs.declared.places.PlaceWrites.{PlaceWrites}
 use Rattle.log_index.specs.Rows.{KeptWrites, rows_made, rows_before, writes_of, label_at}
 
 passes_by : {X : Type 0} (p : X → Bool) (x : X) (xs : List X) → p x ≡ true → filter p xs ≡ xs → filter p (x ∷ xs) ≡ x ∷ xs

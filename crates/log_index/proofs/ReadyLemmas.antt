@@ -5,8 +5,8 @@ use Rattle.lang_lists.specs.Room.{is_made}
 use Rattle.lang_lists.proofs.RoomLemmas.{made_last}
 use Rattle.place_order.specs.Rooms.{call_code as label_code}
 use Rattle.place_order.specs.declared.room.OrderCall.{OrderCall}
-use Rattle.dependency_index.specs.HandedOn.{call_code, write_call}
-use Rattle.dependency_index.specs.HandedOn.{VersionsCall}
+use Rattle.versioned_rows.specs.Versions.{call_code, write_call}
+use Rattle.versioned_rows.specs.declared.room.VersionsCall.{VersionsCall}
 use Rattle.log_index.specs.Rows.{KeptWrites, call_at, IsReadyToSet, IsReadyToInsert}
 
 pub ready_set : {T E : Type 0} (r : Result T E) (writes : List Write) (was : List VersionsCall) (kept : KeptWrites) → OnOk r (kept.copies ≡ was ++ write_call writes ∷ []) → OnOk r (IsReadyToSet writes kept)

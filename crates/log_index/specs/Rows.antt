@@ -9,10 +9,10 @@ use Rattle.place_order.specs.Rising.{IsRising}
 use Rattle.place_order.specs.Rooms.{call_code as label_code}
 use Rattle.place_order.specs.declared.room.OrderCall.{OrderCall}
 use Rattle.place_order.specs.declared.room.OrderCall.TheVariants.{Append, InsertBefore}
-use Rattle.dependency_index.specs.HandedOn.{label_of}
-use Rattle.dependency_index.specs.HandedOn.{call_code, write_call}
-use Rattle.dependency_index.specs.HandedOn.{PlaceWrites}
-use Rattle.dependency_index.specs.HandedOn.{VersionsCall}
+use Rattle.versioned_rows.specs.Places.{label_of}
+use Rattle.versioned_rows.specs.Versions.{call_code, write_call}
+use Rattle.versioned_rows.specs.declared.places.PlaceWrites.{PlaceWrites}
+use Rattle.versioned_rows.specs.declared.room.VersionsCall.{VersionsCall}
 
 -- what each entry wrote, in order, and the room that was made: for labels, and for writes
 pub record KeptWrites : Type 0 where

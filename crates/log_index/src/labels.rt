@@ -8,9 +8,9 @@ ghost use Rattle.place_order.specs.Rising.{IsRising};
 ghost use Rattle.place_order.specs.Rooms.{call_code};
 ghost use Rattle.log_index.specs.Rows.{label_at, call_before, place_before};
 
-use dependency_index::PlaceWrites;
 use lang_core::NoMemory;
 use place_order::Order;
+use versioned_rows::PlaceWrites;
 
 /// The label of what stands at a place; None exactly past the end.
 pub(crate) fn label_at(places: &[PlaceWrites], place: usize) -> Option<u64>

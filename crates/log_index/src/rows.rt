@@ -5,12 +5,12 @@ ghost use Rattle.lang_core.specs.Rows.{get, scan};
 ghost use Rattle.log_index.specs.Rows.{rows_before, IsReadyToInsert, IsReadyToSet};
 
 use crate::labels::{label_at, new_label, ready_label};
-use dependency_index::Versions;
 use lang_base::both;
 use lang_core::{Cells, NoMemory, Text, Writes};
 use place_order::Order;
 use std::alloc::Global;
 use std::marker::Model;
+use versioned_rows::Versions;
 
 /// What each entry of a log wrote, which contracts see as a list by the places of the entries, and the room that was made
 /// for calls to come. An entry that wrote nothing has its place too.

@@ -1,12 +1,7 @@
 -- Whether cells are those of a scan, told one after the other.
-use Rattle.std.proofs.Common.{◌≡◌, ◌↔◌, ℕ, zero, suc, ◌+◌, ◌<◌, ◌≤◌, IsTrue, List, [], ◌∷◌, ◌++◌, nat_eq, length, get_or, take, refl, sym, ap, ◌∙◌, arith, eq-eqb, eqb-true, add-one}
+use Rattle.std.proofs.Common.{◌≡◌, ◌↔◌, ℕ, zero, suc, ◌+◌, ◌<◌, ◌≤◌, IsTrue, List, [], ◌∷◌, ◌++◌, nat_eq, length, get_or, take, sym, ap, ◌∙◌, arith, eq-eqb, eqb-true, add-one}
 use Rattle.std.proofs.lemmas.List.{length-take-le}
-
-pub take_whole : {X : Type 0} (xs : List X) (n : ℕ) → n ≡ length xs → take n xs ≡ xs
-take_whole [] zero h = refl
-take_whole [] (suc n) h = refl
-take_whole (x ∷ xs) zero h = absurd (omega arith)
-take_whole (x ∷ xs) (suc n) h = ap (λ l. x ∷ l) (take_whole xs n (omega arith))
+use Rattle.key_labels.proofs.ListLemmas.{take_whole}
 
 next_by : {X : Type 0} (xs : List X) (n : ℕ) (x : X) → n < length xs → get_or xs n x ≡ x → take (suc n) xs ≡ take n xs ++ x ∷ []
 next_by [] n x lt is = absurd (omega arith)

@@ -11,12 +11,12 @@ use Rattle.lang_core.specs.declared.cells.Cell.{Cell}
 use Rattle.lang_core.proofs.RowLemmas.{ordered-kept, ordered-apply}
 use Rattle.place_order.specs.Rising.{IsRising}
 use Rattle.versioned_rows.specs.Places.{label_of, rows_after, before, is_held, writers}
-use Rattle.versioned_rows.specs.Rows.{row_place, labels_in, has_row}
+use Rattle.key_labels.specs.Rows.{row_place, labels_in, has_row}
 use Rattle.versioned_rows.specs.Versions.{IsBased, IsIndexed}
 use Rattle.versioned_rows.specs.Scans.{beneath, is_under, while, cell_at, with_cell, row_cells}
-use Rattle.versioned_rows.specs.declared.rows.KeyLabels.{KeyLabels}
+use Rattle.key_labels.specs.declared.rows.KeyLabels.{KeyLabels}
 use Rattle.versioned_rows.specs.declared.places.PlaceWrites.{PlaceWrites}
-use Rattle.versioned_rows.proofs.EditLemmas.{found_passes}
+use Rattle.key_labels.proofs.EditLemmas.{found_passes}
 use Rattle.lang_core.proofs.ReadLemmas.{place_is}
 use Rattle.versioned_rows.proofs.GetLemmas.{get_nothing}
 use Rattle.versioned_rows.proofs.PrefixLemmas.{under_together, same_ordered}

@@ -12,28 +12,9 @@ use Rattle.lang_core.specs.declared.writes.Write.{Write}
 use Rattle.lang_core.proofs.RowLemmas.{ordered-apply}
 use Rattle.lang_core.proofs.ReadLemmas.{get-apply}
 use Rattle.place_order.specs.Rising.{IsBeforeAll, IsRising, is_before}
+use Rattle.key_labels.proofs.ListLemmas.{filter_filter, filter-map, all_if, all_kept}
 use Rattle.versioned_rows.specs.Places.{label_of, rows_after, before, is_written, writers}
 use Rattle.versioned_rows.specs.declared.places.PlaceWrites.{PlaceWrites}
-
-filter_both : {X : Type 0} (p q : X → Bool) (x : X) (xs : List X) (b c : Bool) → p x ≡ b → q x ≡ c → filter p (filter q xs) ≡ filter q (filter p xs)
-    → filter p (filter q (x ∷ xs)) ≡ filter q (filter p (x ∷ xs))
-filter_both p q x xs true true e f h = rw (e, f, e) (ap (λ l. x ∷ l) h)
-filter_both p q x xs true false e f h = rw (e, f) h
-filter_both p q x xs false true e f h = rw (e, f, e) h
-filter_both p q x xs false false e f h = rw (e, f) h
-
-pub filter_filter : {X : Type 0} (p q : X → Bool) (xs : List X) → filter p (filter q xs) ≡ filter q (filter p xs)
-filter_filter p q [] = refl
-filter_filter p q (x ∷ xs) = filter_both p q x xs (p x) (q x) refl refl (filter_filter p q xs)
-
-filter-map_by : {X Y : Type 0} (f : X → Y) (p : Y → Bool) (x : X) (xs : List X) (b : Bool) → p (f x) ≡ b → filter p (map f xs) ≡ map f (filter (λ x. p (f x)) xs)
-    → filter p (map f (x ∷ xs)) ≡ map f (filter (λ x. p (f x)) (x ∷ xs))
-filter-map_by f p x xs true e h = rw e (ap (λ l. f x ∷ l) h)
-filter-map_by f p x xs false e h = rw e h
-
-pub filter-map : {X Y : Type 0} (f : X → Y) (p : Y → Bool) (xs : List X) → filter p (map f xs) ≡ map f (filter (λ x. p (f x)) xs)
-filter-map f p [] = refl
-filter-map f p (x ∷ xs) = filter-map_by f p x xs (p (f x)) refl (filter-map f p xs)
 
 -- one of these
 abbrev pub In : {X : Type 0} → X → List X → Type 0
@@ -106,17 +87,9 @@ module _ (t k : List ℕ) where
   by_last p [] o all = other (find (λ w. same_place (write_place w) (place_of t k)) p.writes) o None all.0
   by_last p (q ∷ qs) o all = by_last q qs (step o p) all.1
 
-pub all_if : {X : Type 0} (P : X → Type 0) (x : X) (xs : List X) (b : Bool) → (b ≡ true → P x) → AllByRecursion P xs → AllByRecursion P (cond b (x ∷ xs) xs)
-all_if P x xs true here all = (here refl, all)
-all_if P x xs false here all = all
-
 pub all_pass : {X : Type 0} (p : X → Bool) (xs : List X) → AllByRecursion (λ x. p x ≡ true) (filter p xs)
 all_pass p [] = tt
 all_pass p (x ∷ xs) = all_if (λ x. p x ≡ true) x (filter p xs) (p x) (λ e. e) (all_pass p xs)
-
-pub all_kept : {X : Type 0} (P : X → Type 0) (p : X → Bool) (xs : List X) → AllByRecursion P xs → AllByRecursion P (filter p xs)
-all_kept P p [] all = tt
-all_kept P p (x ∷ xs) all = all_if P x (filter p xs) (p x) (λ e. all.0) (all_kept P p xs all.1)
 
 -- a place is found by its label
 below_in : (order : List ℕ) (x : ℕ) (ps : List PlaceWrites) (m : PlaceWrites) → IsBeforeAll order x (map label_of ps) → In m ps → place_in order x < place_in order m.label

@@ -6,9 +6,9 @@ use Rattle.std.specs.declared.cmp.Ordering.TheVariants.{Less}
 use Rattle.std.proofs.lemmas.List.Elements.{All-from_recursion, All-weaker}
 use Rattle.lang_core.specs.Places.{Place, place_order, same_place, IsBelowAll, IsOrdered}
 use Rattle.lang_core.proofs.ReadLemmas.{place_same, same-order}
-use Rattle.versioned_rows.specs.Rows.{row_place, labels_in}
+use Rattle.key_labels.specs.Rows.{row_place, labels_in}
 use Rattle.versioned_rows.specs.Versions.{IsIndexed, NamesWriters}
-use Rattle.versioned_rows.specs.declared.rows.KeyLabels.{KeyLabels}
+use Rattle.key_labels.specs.declared.rows.KeyLabels.{KeyLabels}
 use Rattle.versioned_rows.specs.declared.places.PlaceWrites.{PlaceWrites}
 
 differs : (a b : Place) → place_order a b ≡ Less → same_place a b ≡ false

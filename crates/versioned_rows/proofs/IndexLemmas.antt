@@ -1,30 +1,25 @@
 -- What it comes to for all keys that a place is taken out or put in.
-use Rattle.std.proofs.Common.{◌≡◌, ℕ, suc, ◌+◌, ◌<◌, ◌≤◌, Bool, true, false, not, cond, List, [], ◌∷◌, ◌++◌, Option, Some, None, nat_eq, nat_lt, length, get_or, map, position, refl, sym, ap, ◌∙◌, subst, inl, inr, arith, eqb-true}
-use Rattle.std.specs.List.{filter, find, remove, slice_get, AllByRecursion, position_or_len}
+use Rattle.std.proofs.Common.{◌≡◌, ℕ, suc, ◌+◌, ◌<◌, Bool, true, false, not, cond, List, [], ◌∷◌, ◌++◌, Option, Some, None, nat_eq, nat_lt, length, get_or, map, position, refl, sym, ap, ◌∙◌, subst, inl, inr, arith, eqb-true}
+use Rattle.std.specs.List.{filter, find, slice_get, AllByRecursion, position_or_len}
 use Rattle.std.proofs.lemmas.List.Folds.{find_at}
 use Rattle.std.proofs.lemmas.Option.{slice_get-get_or, slice_get_past}
-use Rattle.std.proofs.lemmas.Bool.{cases_Bool, ltb-true, ltb-false, ne_eqb, eqb-false, not-true}
+use Rattle.std.proofs.lemmas.Bool.{cases_Bool, ltb-false, ne_eqb, eqb-false, not-true}
 use Rattle.std.proofs.lemmas.List.{map-append}
 use Rattle.std.proofs.lemmas.List.Elements.{filter-append}
 use Rattle.lang_core.specs.Places.{IsOrdered}
 use Rattle.lang_core.specs.Rows.{write_place}
-use Rattle.place_order.specs.Labels.{place_in}
 use Rattle.place_order.specs.Rising.{IsBeforeAll, IsRising, is_before}
-use Rattle.versioned_rows.specs.Places.{label_of, is_written, writers, is_other, without, with_writer, with_place}
-use Rattle.versioned_rows.specs.Rows.{labels_in, row_place}
-use Rattle.versioned_rows.specs.Versions.{IsApart, IsIndexed}
-use Rattle.versioned_rows.specs.declared.rows.KeyLabels.{KeyLabels}
+use Rattle.key_labels.specs.Labels.{is_other, with_label}
+use Rattle.versioned_rows.specs.Places.{label_of, is_written, writers, without, with_place}
+use Rattle.key_labels.specs.Rows.{labels_in, row_place}
+use Rattle.key_labels.specs.Labels.{IsApart}
+use Rattle.versioned_rows.specs.Versions.{IsIndexed}
+use Rattle.key_labels.specs.declared.rows.KeyLabels.{KeyLabels}
 use Rattle.versioned_rows.specs.declared.places.PlaceWrites.{PlaceWrites}
-use Rattle.versioned_rows.proofs.RisingLemmas.{not_before_later, rising_kept}
-use Rattle.versioned_rows.proofs.GetLemmas.{In, in_at, filter_filter, filter-map, all_kept}
-
--- a position that was found
-pub position_is : {X : Type 0} (p : X → Bool) (xs : List X) (at : ℕ) → position p xs ≡ Some at → (at ≡ position_or_len p xs) × (at < length xs)
-position_is p xs at h = by (nat_lt (position_or_len p xs) (length xs)) refl h
-  where
-    by : (b : Bool) → nat_lt (position_or_len p xs) (length xs) ≡ b → cond b (Some (position_or_len p xs)) None ≡ Some at → (at ≡ position_or_len p xs) × (at < length xs)
-    by true e h = let same : position_or_len p xs ≡ at = cc in let lt = ltb-true (position_or_len p xs) (length xs) e in (sym same, omega arith)
-    by false e h = cc
+use Rattle.key_labels.proofs.RisingLemmas.{not_before_later, rising_kept}
+use Rattle.key_labels.proofs.ApartLemmas.{position_is, all_others, apart_from}
+use Rattle.key_labels.proofs.ListLemmas.{filter_filter, filter-map, all_kept}
+use Rattle.versioned_rows.proofs.GetLemmas.{In, in_at}
 
 -- what is found, by its position
 pub found_at : {X : Type 0} (p : X → Bool) (xs : List X) (at : ℕ) (x : X) → position p xs ≡ Some at → x ≡ get_or xs at x → find p xs ≡ Some x
@@ -38,60 +33,6 @@ found_none p xs h = by (nat_lt (position_or_len p xs) (length xs)) refl h
     by : (b : Bool) → nat_lt (position_or_len p xs) (length xs) ≡ b → cond b (Some (position_or_len p xs)) None ≡ None → find p xs ≡ None
     by true e h = cc
     by false e h = find_at p xs ∙ slice_get_past xs (position_or_len p xs) (ltb-false (position_or_len p xs) (length xs) e)
-
--- where all are others, nothing goes
-pub all_others : (label : ℕ) (xs : List ℕ) → AllByRecursion (λ y. nat_eq y label ≡ false) xs → filter (is_other label) xs ≡ xs
-all_others label [] all = refl
-all_others label (x ∷ xs) all = let here = all.0 in rw here (ap (λ l. x ∷ l) (all_others label xs all.1))
-
-others_stay : {X : Type 0} (f : X → ℕ) (label : ℕ) (ps : List X) → AllByRecursion (λ y. nat_eq y label ≡ false) (map f ps) → filter (λ p. is_other label (f p)) ps ≡ ps
-others_stay f label [] all = refl
-others_stay f label (p ∷ ps) all = let here = all.0 in rw here (ap (λ l. p ∷ l) (others_stay f label ps all.1))
-
-apart_from : (a b : ℕ) (xs : List ℕ) → a ≡ b → AllByRecursion (λ y. nat_eq y a ≡ false) xs → AllByRecursion (λ y. nat_eq y b ≡ false) xs
-apart_from a b xs e all = let P : ℕ → Type 0 = λ n. AllByRecursion (λ y. nat_eq y n ≡ false) xs in subst P e all
-
-module _ {X : Type 0} (f : X → ℕ) (label : ℕ) where
-  removed_by : (p : X) (ps : List X) (b : Bool) → nat_eq (f p) label ≡ b → IsApart (map f (p ∷ ps))
-      → (b ≡ false → remove ps (position_or_len (λ q. nat_eq (f q) label) ps) ≡ filter (λ q. is_other label (f q)) ps)
-      → remove (p ∷ ps) (cond (not b) (1 + position_or_len (λ q. nat_eq (f q) label) ps) 0) ≡ cond (not b) (p ∷ filter (λ q. is_other label (f q)) ps) (filter (λ q. is_other label (f q)) ps)
-  removed_by p ps true e apart more = sym (others_stay f label ps (apart_from (f p) label (map f ps) (eqb-true (f p) label e) apart.0))
-  removed_by p ps false e apart more =
-      let n : 1 + position_or_len (λ q. nat_eq (f q) label) ps ≡ suc (position_or_len (λ q. nat_eq (f q) label) ps) = omega arith in
-      rw n (ap (λ l. p ∷ l) (more refl))
-
-  -- of what has labels that differ, the one of a label is taken out where it stands
-  pub removed : (ps : List X) → IsApart (map f ps) → remove ps (position_or_len (λ q. nat_eq (f q) label) ps) ≡ filter (λ q. is_other label (f q)) ps
-  removed [] apart = refl
-  removed (p ∷ ps) apart = removed_by p ps (nat_eq (f p) label) refl apart (λ _. removed ps apart.1)
-
-  named_by : (p : X) (ps : List X) (b : Bool) → nat_eq (f p) label ≡ b
-      → suc (length ps) ≤ cond (not b) (1 + position_or_len (λ q. nat_eq (f q) label) ps) 0
-      → (length ps ≤ position_or_len (λ q. nat_eq (f q) label) ps → AllByRecursion (λ y. nat_eq y label ≡ false) (map f ps))
-      → AllByRecursion (λ y. nat_eq y label ≡ false) (map f (p ∷ ps))
-  named_by p ps true e le more = absurd (omega arith)
-  named_by p ps false e le more = (e, more (omega arith))
-
-  none_named : (ps : List X) → length ps ≤ position_or_len (λ q. nat_eq (f q) label) ps → AllByRecursion (λ y. nat_eq y label ≡ false) (map f ps)
-  none_named [] le = tt
-  none_named (p ∷ ps) le = named_by p ps (nat_eq (f p) label) refl le (none_named ps)
-
-  none_by : (ps : List X) (b : Bool) → nat_lt (position_or_len (λ q. nat_eq (f q) label) ps) (length ps) ≡ b → cond b (Some (position_or_len (λ q. nat_eq (f q) label) ps)) None ≡ None
-      → AllByRecursion (λ y. nat_eq y label ≡ false) (map f ps)
-  none_by ps true e h = cc
-  none_by ps false e h = none_named ps (ltb-false (position_or_len (λ q. nat_eq (f q) label) ps) (length ps) e)
-
-  pub not_there : (ps : List X) → position (λ q. nat_eq (f q) label) ps ≡ None → ps ≡ filter (λ q. is_other label (f q)) ps
-  not_there ps h = sym (others_stay f label ps (none_by ps (nat_lt (position_or_len (λ q. nat_eq (f q) label) ps) (length ps)) refl h))
-
-later_apart : (order : List ℕ) (x : ℕ) (ys : List ℕ) → IsBeforeAll order x ys → AllByRecursion (λ y. nat_eq y x ≡ false) ys
-later_apart order x [] all = tt
-later_apart order x (y ∷ ys) all = (ne_eqb y x (λ e. let same = ap (place_in order) e in let lt = all.0 in omega arith), later_apart order x ys all.1)
-
--- labels that rise differ
-pub rising_apart : (order xs : List ℕ) → IsRising order xs → IsApart xs
-rising_apart order [] r = tt
-rising_apart order (x ∷ xs) r = (later_apart order x xs r.1, rising_apart order xs r.2)
 
 at_by : (label : ℕ) (x p : PlaceWrites) (ps : List PlaceWrites) (b : Bool) → nat_eq (label_of p) label ≡ b
     → cond (not b) (1 + position_or_len (λ q. nat_eq (label_of q) label) ps) 0 < suc (length ps)
@@ -226,7 +167,7 @@ put_writers t k p xs ys =
 -- a place is put in
 pub put_indexed : (order : List ℕ) (p : PlaceWrites) (ps : List PlaceWrites) (rows after : List KeyLabels) → IsIndexed ps rows → IsRising order (map label_of ps)
     → AllByRecursion (λ q. is_other p.label (label_of q) ≡ true) ps → IsOrdered write_place p.writes
-    → IsOrdered row_place after → ((t k : List ℕ) → labels_in after t k ≡ cond (is_written t k p.writes) (with_writer order p.label (labels_in rows t k)) (labels_in rows t k))
+    → IsOrdered row_place after → ((t k : List ℕ) → labels_in after t k ≡ cond (is_written t k p.writes) (with_label order p.label (labels_in rows t k)) (labels_in rows t k))
     → IsIndexed (with_place order p ps) after
 put_indexed order p ps rows after was rising others writes ordered each = record {
   apart = (let b = is_before order (Some p.label) in

@@ -9,11 +9,13 @@ use Rattle.lang_core.specs.declared.writes.Write.{Write}
 use Rattle.place_order.specs.Labels.{place_in}
 use Rattle.place_order.specs.Rising.{IsBeforeAll, IsRising, is_before}
 use Rattle.versioned_rows.specs.Places.{label_of, keys_of, is_written, writers, without, with_place}
-use Rattle.versioned_rows.specs.Versions.{IsIndexed, IsApart}
-use Rattle.versioned_rows.specs.declared.rows.KeyLabels.{KeyLabels}
+use Rattle.key_labels.specs.Labels.{IsApart}
+use Rattle.versioned_rows.specs.Versions.{IsIndexed}
+use Rattle.key_labels.specs.declared.rows.KeyLabels.{KeyLabels}
 use Rattle.versioned_rows.specs.declared.places.PlaceWrites.{PlaceWrites}
-use Rattle.versioned_rows.proofs.IndexLemmas.{position_is, labels_at}
-use Rattle.versioned_rows.proofs.RisingLemmas.{each_later}
+use Rattle.key_labels.proofs.ApartLemmas.{position_is}
+use Rattle.versioned_rows.proofs.IndexLemmas.{labels_at}
+use Rattle.key_labels.proofs.RisingLemmas.{each_later}
 
 keys_length : (xs ys : List Write) → keys_of xs ≡ keys_of ys → length xs ≡ length ys
 keys_length xs ys same = sym (length-map xs write_place) ∙ ap length same ∙ length-map ys write_place

@@ -1,15 +1,10 @@
 pub mod AgreeLemmas
 pub mod CellLemmas
-pub mod CopyLemmas
-pub mod EditLemmas
 pub mod GetLemmas
 pub mod HeldLemmas
 pub mod IndexLemmas
 pub mod InsteadLemmas
-pub mod KeyRowLemmas
 pub mod PrefixLemmas
 pub mod PutLemmas
-pub mod RisingLemmas
 pub mod RoomLemmas
-pub mod SlotLemmas
 pub mod WriteLemmas

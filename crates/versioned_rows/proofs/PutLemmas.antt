@@ -5,9 +5,10 @@ use Rattle.std.proofs.lemmas.Bool.{ltb-true, ltb-false}
 use Rattle.std.proofs.lemmas.List.{get_or_default, map-append}
 use Rattle.place_order.specs.Labels.{place_in}
 use Rattle.place_order.specs.Rising.{IsBeforeAll, IsRising, is_before}
-use Rattle.versioned_rows.specs.Places.{label_of, is_other, with_place}
+use Rattle.key_labels.specs.Labels.{is_other}
+use Rattle.versioned_rows.specs.Places.{label_of, with_place}
 use Rattle.versioned_rows.specs.declared.places.PlaceWrites.{PlaceWrites}
-use Rattle.versioned_rows.proofs.RisingLemmas.{before_kept, not_before_later}
+use Rattle.key_labels.proofs.RisingLemmas.{before_kept, not_before_later}
 
 stands_by : (z x : ℕ) (zs : List ℕ) (b : Bool) → nat_eq z x ≡ b → (b ≡ false → get_or zs (place_in zs x) 0 ≡ x) → get_or (z ∷ zs) (cond (not b) (1 + place_in zs x) 0) 0 ≡ x
 stands_by z x zs true e more = eqb-true z x e

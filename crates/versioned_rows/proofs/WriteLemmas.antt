@@ -9,8 +9,9 @@ use Rattle.lang_core.specs.Places.{Place, place_of, place_order, same_place, IsB
 use Rattle.lang_core.specs.Rows.{write_place}
 use Rattle.lang_core.specs.declared.writes.Write.{Write}
 use Rattle.versioned_rows.specs.Places.{is_among, is_written}
-use Rattle.versioned_rows.specs.Rows.{labels_in, spare_in, IsEdited}
-use Rattle.versioned_rows.specs.declared.rows.KeyLabels.{KeyLabels}
+use Rattle.key_labels.specs.Rows.{labels_in, spare_in, IsEdited}
+use Rattle.key_labels.specs.declared.rows.KeyLabels.{KeyLabels}
+use Rattle.key_labels.proofs.ListLemmas.{either_by}
 use Rattle.lang_core.proofs.ReadLemmas.{place_is, place_same, same-order}
 use Rattle.std.proofs.Math.Bool.{or-false, or-true, or_assoc}
 
@@ -24,10 +25,6 @@ order_at [] i j d o lt within = absurd (omega arith)
 order_at (w ∷ ws) i zero d o lt within = absurd (omega arith)
 order_at (w ∷ ws) zero (suc j) d o lt within = below_at (write_place w) ws j d o.0 (omega arith)
 order_at (w ∷ ws) (suc i) (suc j) d o lt within = order_at ws i j d o.1 (omega arith) (omega arith)
-
-pub either_by : (P : Type 0) (a b : Bool) → (a || b) ≡ true → (a ≡ true → P) → (b ≡ true → P) → P
-either_by P true b h f g = f refl
-either_by P false b h f g = g h
 
 -- no two writes are at one place
 pub writes_apart : (ws : List Write) (i j : ℕ) (d : Write) → IsOrdered write_place ws → i < j → j < length ws → same_place (write_place (get_or ws i d)) (write_place (get_or ws j d)) ≡ false

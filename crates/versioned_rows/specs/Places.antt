@@ -1,11 +1,12 @@
 -- Places with their writes, and the rows before a place.
-use Rattle.std.specs.Prelude.{ℕ, Bool, List, ◌∷◌, ◌++◌, Option, Some, not, nat_eq, fold, filter, map, is_some}
+use Rattle.std.specs.Prelude.{ℕ, Bool, List, ◌∷◌, ◌++◌, Option, Some, not, fold, filter, map, is_some}
 use Rattle.std.specs.List.{find}
 use Rattle.lang_core.specs.Places.{Place, place_of, same_place}
 use Rattle.lang_core.specs.Rows.{apply, cell_place, write_place}
 use Rattle.lang_core.specs.declared.cells.Cell.{Cell}
 use Rattle.lang_core.specs.declared.writes.Write.{Write}
 use Rattle.place_order.specs.Rising.{is_before}
+use Rattle.key_labels.specs.Labels.{is_other}
 use Rattle.versioned_rows.specs.declared.places.PlaceWrites.{PlaceWrites}
 
 abbrev pub label_of : PlaceWrites → ℕ
@@ -18,9 +19,6 @@ rows_after base places = fold (λ rows (p : PlaceWrites). apply rows p.writes) b
 -- the places before a label, or all where that is the end
 abbrev pub before : List ℕ → Option ℕ → List PlaceWrites → List PlaceWrites
 before order end places = filter (λ p. is_before order end (label_of p)) places
-
-abbrev pub is_other : ℕ → ℕ → Bool
-is_other x y = not (nat_eq y x)
 
 -- the places without that of a label
 abbrev pub without : ℕ → List PlaceWrites → List PlaceWrites
@@ -51,7 +49,3 @@ is_held t k cells = is_among cell_place t k cells
 -- the labels of the places that write the key
 abbrev pub writers : List ℕ → List ℕ → List PlaceWrites → List ℕ
 writers t k places = map label_of (filter (λ p. is_written t k p.writes) places)
-
--- labels with one more, which isn't there
-abbrev pub with_writer : List ℕ → ℕ → List ℕ → List ℕ
-with_writer order x xs = filter (is_before order (Some x)) xs ++ x ∷ filter (λ y. not (is_before order (Some x) y)) xs

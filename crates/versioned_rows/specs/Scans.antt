@@ -5,8 +5,8 @@ use Rattle.lang_base.specs.Texts.{same_text, begins_with}
 use Rattle.lang_core.specs.Places.{Place}
 use Rattle.lang_core.specs.Rows.{get}
 use Rattle.lang_core.specs.declared.cells.Cell.{Cell}
-use Rattle.versioned_rows.specs.Rows.{row_place}
-use Rattle.versioned_rows.specs.declared.rows.KeyLabels.{KeyLabels}
+use Rattle.key_labels.specs.Rows.{row_place}
+use Rattle.key_labels.specs.declared.rows.KeyLabels.{KeyLabels}
 
 -- a place is in the table, under the prefix
 abbrev pub beneath : List ℕ → List ℕ → Place → Bool

@@ -1,16 +1,17 @@
 -- What contracts see of versions, and what their rows keep.
-use Rattle.std.specs.Prelude.{ℕ, ◌≡◌, ◌<◌, ◌≤◌, List, [], ◌∷◌, Option, true, false, nat_eq, map, count_by}
+use Rattle.std.specs.Prelude.{ℕ, ◌≡◌, ◌<◌, ◌≤◌, List, [], Option, true, map, count_by}
 use Rattle.std.specs.List.{AllByRecursion}
 use Rattle.lang_core.specs.Places.{IsOrdered}
 use Rattle.lang_core.specs.Rows.{cell_place, write_place}
 use Rattle.lang_core.specs.declared.cells.Cell.{Cell}
 use Rattle.lang_core.specs.declared.writes.Write.{Write}
+use Rattle.key_labels.specs.Labels.{IsApart}
+use Rattle.key_labels.specs.Rows.{row_place, labels_in, spare_in, has_row}
+use Rattle.key_labels.specs.declared.rows.KeyLabels.{KeyLabels}
 use Rattle.versioned_rows.specs.Places.{label_of, rows_after, before, is_written, is_held, writers}
-use Rattle.versioned_rows.specs.Rows.{row_place, labels_in, spare_in, has_row}
 use Rattle.versioned_rows.specs.contracts.room.VersionsCall as call
 use Rattle.versioned_rows.specs.declared.room.VersionsCall.{VersionsCall}
 use Rattle.versioned_rows.specs.declared.room.VersionsCall.TheVariants.{WriteAt, InsertBase}
-use Rattle.versioned_rows.specs.declared.rows.KeyLabels.{KeyLabels}
 use Rattle.versioned_rows.specs.declared.places.PlaceWrites.{PlaceWrites}
 use base.Stored.{Coded}
 
@@ -61,11 +62,6 @@ HaveRows cells rows = (t k : List ℕ) → is_held t k cells ≡ true → has_ro
 pub record IsBased (base : List Cell) (rows : List KeyLabels) : Type 0 where
   pub ordered : IsOrdered cell_place base
   pub keys : HaveRows base rows
-
--- no two of these are equal
-abbrev pub IsApart : List ℕ → Type 0
-IsApart [] = Unit {0}
-IsApart (x ∷ xs) = AllByRecursion (λ y. nat_eq y x ≡ false) xs × IsApart xs
 
 -- a row has the labels of the places that write its key
 abbrev pub NamesWriters : List PlaceWrites → KeyLabels → Type 0

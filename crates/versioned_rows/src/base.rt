@@ -6,14 +6,14 @@ ghost use Rattle.lang_lists.specs.Room.{is_made, spend};
 ghost use Rattle.lang_core.specs.Places.{IsOrdered};
 ghost use Rattle.lang_core.specs.Rows.{cell_place, get};
 ghost use Rattle.lang_core.specs.declared.cells.Cell.{Cell};
-ghost use Rattle.versioned_rows.specs.Rows.{row_place, labels_in, spare_in, KeepsRows};
+ghost use Rattle.key_labels.specs.Rows.{row_place, labels_in, spare_in, KeepsRows};
 ghost use Rattle.versioned_rows.specs.Versions.{call_code, base_call, HaveRows, IsBased, IsCovered};
-ghost use Rattle.versioned_rows.specs.declared.rows.KeyLabels.{KeyLabels};
+ghost use Rattle.key_labels.specs.declared.rows.KeyLabels.{KeyLabels};
 
-use crate::key_rows::KeyRows;
 use crate::places::PlaceWrites;
 use crate::room::VersionsCall;
 use crate::rows::make_rows;
+use key_labels::KeyRows;
 use lang_core::{Cell, Cells, Copied, NoMemory, Same, Text, seek};
 use lang_lists::take_room;
 use std::alloc::Global;

@@ -5,13 +5,13 @@ ghost use Rattle.std.specs.Option.{option_copied};
 ghost use Rattle.lang_core.specs.Places.{IsOrdered};
 ghost use Rattle.lang_core.specs.Rows.{written, write_place};
 ghost use Rattle.place_order.specs.Rising.{IsRising};
-ghost use Rattle.versioned_rows.specs.Places.{label_of, keys_of, is_other, is_written, without, with_place};
-ghost use Rattle.versioned_rows.specs.Rows.{spare_in, KeepsRows};
+ghost use Rattle.key_labels.specs.Labels.{is_other};
+ghost use Rattle.versioned_rows.specs.Places.{label_of, keys_of, is_written, without, with_place};
+ghost use Rattle.key_labels.specs.Rows.{spare_in, KeepsRows};
 ghost use Rattle.versioned_rows.specs.Versions.{IsIndexed};
 
-use crate::key_rows::KeyRows;
-use crate::labels::{Labelled, count_before, position_in};
 use crate::rows::{drop_labels, drop_labels_in, put_labels};
+use key_labels::{KeyRows, Labelled, count_before, position_in};
 use lang_core::{Copied, NoMemory, Same, Text, Write, Writes};
 use place_order::Order;
 use std::alloc::Global;

@@ -5,13 +5,13 @@ ghost use Rattle.lang_lists.specs.Room.{is_made, spend};
 ghost use Rattle.lang_core.specs.Places.{IsOrdered};
 ghost use Rattle.lang_core.specs.declared.writes.Write.{Write};
 ghost use Rattle.versioned_rows.specs.Places.{is_written};
-ghost use Rattle.versioned_rows.specs.Rows.{row_place, labels_in, spare_in, KeepsRows};
+ghost use Rattle.key_labels.specs.Rows.{row_place, labels_in, spare_in, KeepsRows};
 ghost use Rattle.versioned_rows.specs.Versions.{asked, call_code, write_call, IsCovered};
-ghost use Rattle.versioned_rows.specs.declared.rows.KeyLabels.{KeyLabels};
+ghost use Rattle.key_labels.specs.declared.rows.KeyLabels.{KeyLabels};
 
-use crate::key_rows::KeyRows;
 use crate::places::PlaceWrites;
 use crate::rows::make_rows;
+use key_labels::KeyRows;
 use lang_core::{Cells, Copied, NoMemory, Same, Writes};
 use lang_lists::take_room;
 use std::alloc::Global;

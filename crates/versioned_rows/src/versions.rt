@@ -5,7 +5,7 @@ ghost use Rattle.std.specs.Option.{option_copied, ForSome};
 ghost use Rattle.lang_core.specs.Places.{IsOrdered};
 ghost use Rattle.lang_core.specs.Rows.{get, scan, kept_from, is_over};
 ghost use Rattle.lang_core.specs.declared.cells.Cell.{Cell};
-ghost use Rattle.versioned_rows.specs.Rows.{row_place};
+ghost use Rattle.key_labels.specs.Rows.{row_place};
 ghost use Rattle.versioned_rows.specs.Scans.{is_under, while, cell_at, row_cells};
 ghost use Rattle.lang_lists.specs.Room.{is_made, spend};
 ghost use Rattle.place_order.specs.Rising.{IsRising};
@@ -13,11 +13,9 @@ ghost use Rattle.versioned_rows.specs.Places.{label_of, without, with_place, wri
 ghost use Rattle.versioned_rows.specs.Versions.{call_code, write_call, base_call, rows_before_label, NamesWriters};
 
 use crate::base::{ready_base, take_base, text_in};
-use crate::key_rows::KeyRows;
-use crate::labels::{count_before, position_in};
 use crate::places::{PlaceWrites, find_place, position_of, put_instead, take_out, text_at};
 use crate::room::{VersionsCall, ready_writes, take_writes};
-use crate::rows::{KeyLabels, copied_rows, labels_in};
+use key_labels::{KeyLabels, KeyRows, copied_rows, count_before, labels_in, position_in};
 use lang_base::copied_items;
 use lang_core::{
     Cell, Cells, Copied, MOST_SCAN_BYTES, MOST_SCAN_CELLS, NoMemory, Placed, Same, Text, Writes,

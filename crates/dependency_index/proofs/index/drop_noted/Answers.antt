@@ -1,6 +1,6 @@
 use Rattle.std.proofs.Common.{◌<◌, cond, length, sym, ap, ◌∙◌, arith}
 use Rattle.std.specs.List.{filter, list_any}
-use Rattle.versioned_rows.specs.Places.{is_other}
+use Rattle.key_labels.specs.Labels.{is_other}
 use Rattle.dependency_index.specs.Reads.{is_at}
 use Rattle.dependency_index.specs.Rows.{labels_by}
 use Rattle.dependency_index.specs.declared.noted.Noted.{Noted}

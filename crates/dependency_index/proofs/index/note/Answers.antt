@@ -1,6 +1,6 @@
 use Rattle.std.proofs.Common.{◌≡◌, ◌+◌, ◌<◌, ◌≤◌, Bool, true, false, cond, ℕ, List, length, map, sym, ap, ◌∙◌, subst, arith}
 use Rattle.std.specs.List.{filter, list_any}
-use Rattle.versioned_rows.specs.Places.{is_other}
+use Rattle.key_labels.specs.Labels.{is_other}
 use Rattle.dependency_index.specs.Numbers.{Rises, with_number}
 use Rattle.dependency_index.specs.Reads.{is_at, label_of, labels_with}
 use Rattle.dependency_index.specs.Rows.{labels_by, spare_by}

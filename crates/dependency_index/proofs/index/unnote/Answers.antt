@@ -1,6 +1,6 @@
 use Rattle.std.proofs.Common.{List, map, sym, ap, ◌∙◌, subst}
 use Rattle.std.specs.List.{filter}
-use Rattle.versioned_rows.specs.Places.{is_other}
+use Rattle.key_labels.specs.Labels.{is_other}
 use Rattle.dependency_index.specs.Numbers.{Rises}
 use Rattle.dependency_index.specs.Reads.{is_at, label_of, labels_with}
 use Rattle.dependency_index.specs.declared.noted.Noted.{Noted}

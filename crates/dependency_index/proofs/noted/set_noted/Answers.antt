@@ -1,7 +1,7 @@
 use Rattle.std.proofs.Common.{◌<◌, suc, length, take, drop, nat_lt, sym, ◌∙◌}
 use Rattle.std.specs.List.{filter}
 use Rattle.std.proofs.lemmas.List.{set_split}
-use Rattle.versioned_rows.proofs.EditLemmas.{ok_is}
+use Rattle.key_labels.proofs.EditLemmas.{ok_is}
 use Rattle.dependency_index.specs.Reads.{label_of}
 use Rattle.dependency_index.proofs.NumberLemmas.{join_ends}
 use Rattle.dependency_index.proofs.noted.set_noted.Goals as goal

@@ -1,6 +1,6 @@
 use Rattle.std.proofs.Common.{◌≡◌, ◌<◌, ◌≤◌, ◌∷◌, ◌++◌, suc, length, take, drop, sym, ap, ◌∙◌, arith}
 use Rattle.std.proofs.lemmas.List.{map-id}
-use Rattle.versioned_rows.proofs.EditLemmas.{ok_is}
+use Rattle.key_labels.proofs.EditLemmas.{ok_is}
 use Rattle.dependency_index.specs.Numbers.{with_number}
 use Rattle.dependency_index.proofs.NumberLemmas.{parted, ends_are, longer_by}
 use Rattle.dependency_index.proofs.numbers.put_reserved.Goals as goal

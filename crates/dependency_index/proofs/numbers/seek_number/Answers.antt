@@ -1,6 +1,6 @@
 use Rattle.std.proofs.Common.{nat_lt}
 use Rattle.std.proofs.lemmas.Bool.{lt-ltb, le-ltb}
-use Rattle.versioned_rows.proofs.RisingLemmas.{filter_front}
+use Rattle.key_labels.proofs.RisingLemmas.{filter_front}
 use Rattle.dependency_index.proofs.NumberLemmas.{rest_above}
 use Rattle.dependency_index.proofs.numbers.seek_number.Goals as goal
 

@@ -1,6 +1,6 @@
 use Rattle.std.proofs.Common.{◌≡◌, ◌∙◌, ◌+◌, sym, ap, refl, cond, map}
 use Rattle.std.specs.List.{list_any, remove}
-use Rattle.versioned_rows.proofs.RoomLemmas.{IsSpent, spent, unmade}
+use Rattle.key_labels.proofs.RoomLemmas.{IsSpent, spent, unmade}
 use Rattle.dependency_index.specs.Index.{asked, call_code, call_reads, note_call}
 use Rattle.dependency_index.specs.Reads.{is_at, read_at}
 use Rattle.dependency_index.proofs.RoomLemmas.{asked_less}

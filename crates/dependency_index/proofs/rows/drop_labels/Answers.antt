@@ -1,6 +1,6 @@
 use Rattle.std.proofs.Common.{◌<◌, length, arith}
 use Rattle.std.specs.List.{filter}
-use Rattle.versioned_rows.specs.Places.{is_other}
+use Rattle.key_labels.specs.Labels.{is_other}
 use Rattle.dependency_index.proofs.LoopLemmas.{edit_more}
 use Rattle.dependency_index.proofs.NumberLemmas.{absorb}
 use Rattle.dependency_index.proofs.rows.drop_labels.Goals as goal

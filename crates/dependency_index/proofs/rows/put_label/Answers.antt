@@ -1,7 +1,7 @@
 use Rattle.std.proofs.Common.{◌≡◌, ◌<◌, ℕ, List, ◌∷◌, ◌++◌, suc, length, take, drop, sym, ap, ◌∙◌, subst, arith}
 use Rattle.std.proofs.lemmas.List.{map-id}
-use Rattle.versioned_rows.specs.Rows.{labels_in, IsEdited}
-use Rattle.versioned_rows.proofs.EditLemmas.{edits_nothing}
+use Rattle.key_labels.specs.Rows.{labels_in, IsEdited}
+use Rattle.key_labels.proofs.EditLemmas.{edits_nothing}
 use Rattle.dependency_index.specs.Numbers.{with_number}
 use Rattle.dependency_index.proofs.NumberLemmas.{parted, ends_are, longer_by}
 use Rattle.dependency_index.proofs.PutLemmas.{places_kept}

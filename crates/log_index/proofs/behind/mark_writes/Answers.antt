@@ -1,5 +1,5 @@
 use Rattle.std.proofs.Common.{◌≡◌, ◌+◌, ◌<◌, ◌++◌, ◌∷◌, [], nat_lt, length, take, sym, arith}
-use Rattle.dependency_index.proofs.HandedOn.{take_next}
+use Rattle.versioned_rows.proofs.AgreeLemmas.{take_next}
 use Rattle.log_index.specs.Marks.{is_marked, lacking, reads_by}
 use Rattle.log_index.proofs.BehindLemmas.{lacking_more, nothing_seen, sees_more}
 use Rattle.log_index.proofs.behind.mark_writes.Goals as goal

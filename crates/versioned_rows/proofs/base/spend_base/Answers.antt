@@ -1,8 +1,9 @@
 use Rattle.std.proofs.Common.{◌≡◌, ◌∙◌, List, sym, ap, refl, subst, Option, Some, IfSome, is_some}
 use Rattle.lang_core.specs.declared.cells.Cell.{Cell}
 use Rattle.versioned_rows.specs.Versions.{call_code, base_call, HaveRows, IsCovered}
-use Rattle.versioned_rows.specs.declared.rows.KeyLabels.{KeyLabels}
-use Rattle.versioned_rows.proofs.RoomLemmas.{IsSpent, spent, unmade, rows_there, covered_less, covered_none}
+use Rattle.key_labels.specs.declared.rows.KeyLabels.{KeyLabels}
+use Rattle.key_labels.proofs.RoomLemmas.{IsSpent, spent, unmade}
+use Rattle.versioned_rows.proofs.RoomLemmas.{rows_there, covered_less, covered_none}
 use Rattle.versioned_rows.proofs.base.spend_base.Goals as goal
 
 -- the call that was found, and the copy in it

@@ -1,9 +1,10 @@
 use Rattle.std.proofs.Common.{◌≡◌, ◌∙◌, List, true, sym, ap, subst}
 use Rattle.std.specs.List.{AllByRecursion}
-use Rattle.versioned_rows.specs.Places.{label_of, is_other, with_place}
+use Rattle.key_labels.specs.Labels.{is_other}
+use Rattle.versioned_rows.specs.Places.{label_of, with_place}
 use Rattle.versioned_rows.specs.declared.places.PlaceWrites.{PlaceWrites}
 use Rattle.versioned_rows.proofs.GetLemmas.{all_pass}
-use Rattle.versioned_rows.proofs.IndexLemmas.{not_there}
+use Rattle.key_labels.proofs.ApartLemmas.{not_there}
 use Rattle.versioned_rows.proofs.places.put_anew.Goals as goal
 
 pub put_in-requires-clause-others : goal.put_in-requires-clause-others

@@ -2,8 +2,8 @@ use Rattle.std.proofs.Common.{map, ◌≡◌, ◌∷◌, ◌++◌, take, drop, S
 use Rattle.place_order.specs.Rising.{IsRising, is_before}
 use Rattle.versioned_rows.specs.Places.{label_of, is_written}
 use Rattle.versioned_rows.specs.Places.{with_place}
-use Rattle.versioned_rows.proofs.RisingLemmas.{filter_rest, rising_kept}
-use Rattle.versioned_rows.proofs.EditLemmas.{ok_is}
+use Rattle.key_labels.proofs.RisingLemmas.{filter_rest, rising_kept}
+use Rattle.key_labels.proofs.EditLemmas.{ok_is}
 use Rattle.versioned_rows.proofs.IndexLemmas.{put_indexed}
 use Rattle.versioned_rows.proofs.PutLemmas.{rising_put}
 use Rattle.versioned_rows.specs.declared.places.PlaceWrites.{PlaceWrites}

@@ -1,11 +1,12 @@
 use Rattle.std.proofs.Common.{ℕ, List, sym, subst}
 use Rattle.place_order.specs.Rising.{IsRising}
-use Rattle.versioned_rows.specs.Places.{label_of, is_other, is_written, without}
+use Rattle.key_labels.specs.Labels.{is_other}
+use Rattle.versioned_rows.specs.Places.{label_of, is_written, without}
 use Rattle.versioned_rows.specs.Versions.{IsIndexed}
 use Rattle.versioned_rows.proofs.GetLemmas.{all_pass}
 use Rattle.versioned_rows.proofs.IndexLemmas.{take_indexed, put_indexed}
 use Rattle.versioned_rows.proofs.InsteadLemmas.{instead, instead_rising}
-use Rattle.versioned_rows.proofs.RisingLemmas.{rising_kept}
+use Rattle.key_labels.proofs.RisingLemmas.{rising_kept}
 use Rattle.versioned_rows.proofs.places.put_over.Goals as goal
 
 pub drop_labels_in-requires-clause-rising : goal.drop_labels_in-requires-clause-rising

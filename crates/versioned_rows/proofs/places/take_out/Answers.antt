@@ -1,7 +1,8 @@
 use Rattle.std.proofs.Common.{◌≡◌, position, Some, nat_eq, sym, ap, ◌∙◌}
 use Rattle.std.specs.List.{remove}
 use Rattle.versioned_rows.specs.Places.{label_of}
-use Rattle.versioned_rows.proofs.IndexLemmas.{position_is, removed, not_there, take_indexed}
+use Rattle.key_labels.proofs.ApartLemmas.{position_is, removed, not_there}
+use Rattle.versioned_rows.proofs.IndexLemmas.{take_indexed}
 use Rattle.versioned_rows.proofs.places.take_out.Goals as goal
 
 pub returns-in-Some-clause-places : goal.returns-in-Some-clause-places

@@ -2,7 +2,8 @@ use Rattle.std.proofs.Common.{◌≡◌, ◌∙◌, ◌+◌, ℕ, List, sym, ap,
 use Rattle.lang_core.specs.declared.writes.Write.{Write}
 use Rattle.versioned_rows.specs.Places.{is_written}
 use Rattle.versioned_rows.specs.Versions.{asked, call_code, write_call}
-use Rattle.versioned_rows.proofs.RoomLemmas.{IsSpent, spent, unmade, asked_less, covered_less, covered_none}
+use Rattle.key_labels.proofs.RoomLemmas.{IsSpent, spent, unmade}
+use Rattle.versioned_rows.proofs.RoomLemmas.{asked_less, covered_less, covered_none}
 use Rattle.versioned_rows.proofs.room.spend_room.Goals as goal
 
 -- the call that was found, and the copy in it

@@ -1,5 +1,5 @@
 use Rattle.std.proofs.Common.{◌<◌, length, filter, arith}
-use Rattle.versioned_rows.specs.Places.{is_other}
+use Rattle.key_labels.specs.Labels.{is_other}
 use Rattle.versioned_rows.proofs.WriteLemmas.{edit_more}
 use Rattle.versioned_rows.proofs.rows.drop_labels.Goals as goal
 

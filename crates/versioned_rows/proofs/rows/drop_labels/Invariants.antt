@@ -1,7 +1,8 @@
 use Rattle.std.proofs.Common.{ℕ, List, ◌≡◌, ◌≤◌, cond, take, filter}
 use Rattle.lang_core.specs.Places.{IsOrdered}
-use Rattle.versioned_rows.specs.Places.{is_written, is_other}
-use Rattle.versioned_rows.specs.Rows.{labels_in, row_place, spare_in, KeepsRows}
+use Rattle.key_labels.specs.Labels.{is_other}
+use Rattle.versioned_rows.specs.Places.{is_written}
+use Rattle.key_labels.specs.Rows.{labels_in, row_place, spare_in, KeepsRows}
 use Rattle.versioned_rows.proofs.rows.drop_labels.Given as goal
 
 abbrev pub invariant-loop-write : goal.invariant-loop-write

@@ -1,6 +1,6 @@
 use Rattle.std.proofs.Common.{◌<◌, ℕ, List, length, filter, sym, subst, arith}
 use Rattle.place_order.specs.Rising.{IsRising}
-use Rattle.versioned_rows.specs.Places.{is_other}
+use Rattle.key_labels.specs.Labels.{is_other}
 use Rattle.versioned_rows.proofs.WriteLemmas.{edit_more, unedited}
 use Rattle.versioned_rows.proofs.rows.drop_labels_in.Goals as goal
 

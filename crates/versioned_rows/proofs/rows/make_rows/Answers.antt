@@ -1,6 +1,6 @@
 use Rattle.std.proofs.Common.{◌≡◌, ◌<◌, ◌≤◌, ◌∙◌, ℕ, List, true, length, subst, arith}
 use Rattle.lang_core.specs.Places.{Place, place_of}
-use Rattle.versioned_rows.specs.Rows.{spare_in, has_row}
+use Rattle.key_labels.specs.Rows.{spare_in, has_row}
 use Rattle.versioned_rows.proofs.WriteLemmas.{keys_more}
 use Rattle.versioned_rows.proofs.rows.make_rows.Goals as goal
 

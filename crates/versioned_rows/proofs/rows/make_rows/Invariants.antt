@@ -1,7 +1,7 @@
 use Rattle.std.proofs.Common.{ℕ, List, ◌≡◌, ◌≤◌, true, take}
 use Rattle.lang_core.specs.Places.{IsOrdered}
 use Rattle.versioned_rows.specs.Places.{is_among}
-use Rattle.versioned_rows.specs.Rows.{labels_in, row_place, spare_in, has_row, KeepsRows}
+use Rattle.key_labels.specs.Rows.{labels_in, row_place, spare_in, has_row, KeepsRows}
 use Rattle.versioned_rows.proofs.rows.make_rows.Given as goal
 
 abbrev pub invariant-loop-item : goal.invariant-loop-item

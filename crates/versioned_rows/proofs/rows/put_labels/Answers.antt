@@ -1,6 +1,6 @@
 use Rattle.std.proofs.Common.{◌<◌, ℕ, List, length, sym, subst, arith}
 use Rattle.place_order.specs.Rising.{IsRising}
-use Rattle.versioned_rows.specs.Places.{with_writer}
+use Rattle.key_labels.specs.Labels.{with_label}
 use Rattle.versioned_rows.proofs.WriteLemmas.{unedited, edit_more, spare_less, spare_left}
 use Rattle.versioned_rows.proofs.rows.put_labels.Goals as goal
 
@@ -15,7 +15,7 @@ put_label-requires-clause-rising c =
     let w = c.write-item.result in
     let lt : c.loop-write.write-index < length c.args.writes.now = omega arith in
     let P : List ℕ → Type 0 = λ l. IsRising c.args.order.now.labels l in
-    subst P (sym (unedited (with_writer c.args.order.now.labels c.args.label) c.args.rows.now.items c.loop-write.rows.items c.loop-write.rows.items c.args.writes.now c.loop-write.write-index w c.requires.writes lt c.write-item.is c.loop-write.invariant.each))
+    subst P (sym (unedited (with_label c.args.order.now.labels c.args.label) c.args.rows.now.items c.loop-write.rows.items c.loop-write.rows.items c.args.writes.now c.loop-write.write-index w c.requires.writes lt c.write-item.is c.loop-write.invariant.each))
     (c.requires.rising w.table w.key)
 
 pub loop-write-preserved : goal.loop-write-preserved
@@ -26,7 +26,7 @@ loop-write-preserved c =
     let lt : i < length ws = omega arith in
     record {
       ordered = c.put_label.ensures.ordered;
-      each = edit_more (with_writer c.args.order.now.labels c.args.label) c.args.rows.now.items c.loop-write.rows.items c.put_label.new.rows.items ws i w c.requires.writes lt c.write-item.is c.loop-write.invariant.each c.put_label.ensures.edited;
+      each = edit_more (with_label c.args.order.now.labels c.args.label) c.args.rows.now.items c.loop-write.rows.items c.put_label.new.rows.items ws i w c.requires.writes lt c.write-item.is c.loop-write.invariant.each c.put_label.ensures.edited;
       spare = spare_less c.args.rows.now.items c.loop-write.rows.items c.put_label.new.rows.items ws i w lt c.write-item.is c.requires.writes c.loop-write.invariant.spare c.put_label.ensures.spare;
       rows = λ t k h. c.put_label.ensures.rows t k (c.loop-write.invariant.rows t k h);
     }

@@ -1,13 +1,14 @@
 use Rattle.std.proofs.Common.{ℕ, List, ◌≡◌, ◌+◌, ◌≤◌, cond, take}
 use Rattle.lang_core.specs.Places.{IsOrdered}
-use Rattle.versioned_rows.specs.Places.{is_written, with_writer}
-use Rattle.versioned_rows.specs.Rows.{labels_in, row_place, spare_in, KeepsRows}
+use Rattle.key_labels.specs.Labels.{with_label}
+use Rattle.versioned_rows.specs.Places.{is_written}
+use Rattle.key_labels.specs.Rows.{labels_in, row_place, spare_in, KeepsRows}
 use Rattle.versioned_rows.proofs.rows.put_labels.Given as goal
 
 abbrev pub invariant-loop-write : goal.invariant-loop-write
 invariant-loop-write l = record {
   ordered : IsOrdered row_place l.rows.items;
-  each : (t k : List ℕ) → labels_in l.rows.items t k ≡ cond (is_written t k (take l.write-index l.writes)) (with_writer l.order.labels l.label (labels_in l.initial.rows.items t k)) (labels_in l.initial.rows.items t k);
+  each : (t k : List ℕ) → labels_in l.rows.items t k ≡ cond (is_written t k (take l.write-index l.writes)) (with_label l.order.labels l.label (labels_in l.initial.rows.items t k)) (labels_in l.initial.rows.items t k);
   spare : (t k : List ℕ) → spare_in l.initial.rows.items t k ≤ spare_in l.rows.items t k + cond (is_written t k (take l.write-index l.writes)) 1 0;
   rows : KeepsRows l.initial.rows.items l.rows.items;
 }

@@ -3,9 +3,9 @@ use Rattle.std.proofs.lemmas.List.{length-map}
 use Rattle.lang_lists.specs.Room.{is_made}
 use Rattle.place_order.specs.Rooms.{call_code as label_code}
 use Rattle.place_order.proofs.InsertLemmas.{put_there}
-use Rattle.dependency_index.specs.HandedOn.{without, with_place}
-use Rattle.dependency_index.specs.HandedOn.{call_code, write_call}
-use Rattle.dependency_index.specs.HandedOn.{PlaceWrites}
+use Rattle.versioned_rows.specs.Places.{without, with_place}
+use Rattle.versioned_rows.specs.Versions.{call_code, write_call}
+use Rattle.versioned_rows.specs.declared.places.PlaceWrites.{PlaceWrites}
 use Rattle.log_index.specs.Rows.{KeptWrites, label_at, call_before, call_at, place_before}
 use Rattle.log_index.proofs.EditLemmas.{call_is, known_label, place_is, inserted_writes, inserted_placed}
 use Rattle.log_index.proofs.ReadyLemmas.{where_ok}

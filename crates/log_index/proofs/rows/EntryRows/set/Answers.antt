@@ -2,9 +2,9 @@ use Rattle.std.proofs.Common.{◌≡◌, ◌<◌, set, get_or, length, sym, ap, 
 use Rattle.std.specs.List.{Contains}
 use Rattle.std.proofs.lemmas.List.{length-map}
 use Rattle.lang_lists.specs.Room.{is_made}
-use Rattle.dependency_index.specs.HandedOn.{label_of, without, with_place}
-use Rattle.dependency_index.specs.HandedOn.{call_code, write_call}
-use Rattle.dependency_index.specs.HandedOn.{PlaceWrites}
+use Rattle.versioned_rows.specs.Places.{label_of, without, with_place}
+use Rattle.versioned_rows.specs.Versions.{call_code, write_call}
+use Rattle.versioned_rows.specs.declared.places.PlaceWrites.{PlaceWrites}
 use Rattle.dependency_index.proofs.HandedOn.{known}
 use Rattle.log_index.specs.Rows.{KeptWrites}
 use Rattle.log_index.proofs.EditLemmas.{replaced_writes, replaced_placed}

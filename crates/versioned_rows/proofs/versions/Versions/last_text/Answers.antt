@@ -6,7 +6,7 @@ use Rattle.lang_core.specs.Rows.{get}
 use Rattle.place_order.specs.Rising.{IsRising}
 use Rattle.versioned_rows.specs.Places.{label_of, writers, is_written}
 use Rattle.versioned_rows.specs.Versions.{rows_before_label}
-use Rattle.versioned_rows.proofs.RisingLemmas.{rising_kept, known_at}
+use Rattle.key_labels.proofs.RisingLemmas.{rising_kept, known_at}
 use Rattle.versioned_rows.proofs.GetLemmas.{get_nothing, get_found, text_of}
 use Rattle.versioned_rows.proofs.versions.Versions.last_text.Goals as goal
 

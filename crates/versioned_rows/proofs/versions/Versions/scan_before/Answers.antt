@@ -4,7 +4,7 @@ use Rattle.lang_core.specs.Places.{place_of, rank}
 use Rattle.lang_core.specs.Rows.{kept_from, scan}
 use Rattle.place_order.specs.Rising.{IsRising}
 use Rattle.versioned_rows.specs.Places.{label_of, rows_after, before}
-use Rattle.versioned_rows.specs.Rows.{row_place}
+use Rattle.key_labels.specs.Rows.{row_place}
 use Rattle.versioned_rows.specs.Versions.{rows_before_label}
 use Rattle.versioned_rows.specs.Scans.{is_under, while, row_cells}
 use Rattle.versioned_rows.proofs.CellLemmas.{scan_is}

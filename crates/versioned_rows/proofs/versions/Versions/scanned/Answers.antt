@@ -3,7 +3,7 @@ use Rattle.std.proofs.lemmas.List.Elements.{All-get_or}
 use Rattle.lang_core.specs.Rows.{is_over, cell_size, kept_from}
 use Rattle.lang_core.specs.declared.cells.Cell.{Cell}
 use Rattle.versioned_rows.specs.Versions.{rows_before_label, NamesWriters}
-use Rattle.versioned_rows.specs.declared.rows.KeyLabels.{KeyLabels}
+use Rattle.key_labels.specs.declared.rows.KeyLabels.{KeyLabels}
 use Rattle.versioned_rows.specs.Scans.{is_under, while, cell_at, row_cells}
 use Rattle.versioned_rows.proofs.CellLemmas.{next_ordered, last_cell, next_cell, no_cell, kept_ordered, drop_ordered, stops, stopped, past_all}
 use Rattle.versioned_rows.proofs.versions.Versions.scanned.Goals as goal

@@ -1,8 +1,9 @@
 use Rattle.std.proofs.Common.{◌≡◌, List, map, sym, ap, subst}
 use Rattle.place_order.specs.Rising.{IsRising}
-use Rattle.versioned_rows.specs.Places.{label_of, is_other}
+use Rattle.key_labels.specs.Labels.{is_other}
+use Rattle.versioned_rows.specs.Places.{label_of}
 use Rattle.versioned_rows.specs.declared.places.PlaceWrites.{PlaceWrites}
-use Rattle.versioned_rows.proofs.RisingLemmas.{rising_kept}
+use Rattle.key_labels.proofs.RisingLemmas.{rising_kept}
 use Rattle.versioned_rows.proofs.versions.Versions.take_back.Goals as goal
 
 pub returns-clause-rising : goal.returns-clause-rising

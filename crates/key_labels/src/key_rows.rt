@@ -1,0 +1,210 @@
+// Rows of labels, each of which is found by its key in a few steps, however many there are.
+ghost use Rattle.std.specs.Prelude.{◌≡◌, ◌<◌, ◌≤◌, [], length, insert, slice_index_or, IfOk, OnOk, vec_len, vec_capacity};
+ghost use Rattle.std.specs.Result.{MatchResult};
+ghost use Rattle.std.specs.Ordering.{is_eq, is_gt};
+ghost use Rattle.lang_core.specs.Places.{IsOrdered, IsRank, place_of, place_order, rank, is_taken};
+ghost use Rattle.key_labels.specs.KeyRows.{in_order, is_slot_below, IsArranged, IsSlotOf, IsFreeAt};
+ghost use Rattle.key_labels.specs.Rows.{row_place};
+
+use crate::hints::{hinted, note_new, stands_in};
+use crate::rows::KeyLabels;
+use lang_core::{NoMemory, Text, seek_bytes};
+use lang_lists::count_front;
+use std::alloc::Global;
+use std::marker::Model;
+use std::slice::from_ref;
+
+/// The last number of a slot, so that each is a number of 32 bits and is none that says that no slot is meant.
+const MOST_NUMBER: usize = 4_294_967_294;
+
+/// Rows of labels, which contracts see as a list. Callers keep it in the order of table and key.
+///
+/// A row stays in the slot in which it came, so that a key that is new moves four bytes for each one behind it, and so that
+/// what names a slot names the same row for ever.
+#[derive(Drop)]
+pub struct KeyRows {
+    // In the order in which they came. None ever goes.
+    pub(crate) slots: Vec<KeyLabels>,
+    // The numbers of the slots in the order of the list.
+    pub(crate) order: Vec<u32>,
+    // Numbers of slots by hash, on which nothing rests.
+    pub(crate) hints: Vec<u32>,
+}
+
+impl Model for KeyRows {
+    ghost use Rattle.std.specs.Prelude.{length};
+    ghost use Rattle.key_labels.specs.KeyRows.{KeptRows, in_order, IsArranged};
+
+    ghost Value = { KeptRows };
+
+    ghost view = { λ r. record { items = in_order r.order.items r.slots.items } };
+
+    ghost invariant = { λ r. IsArranged (length r.slots.items) r.order.items };
+}
+
+impl KeyRows {
+    /// No rows.
+    pub fn new(alloc: Global) -> KeyRows
+        ensures { result.items ≡ [] }
+    {
+        KeyRows {
+            slots: Vec::new(alloc),
+            order: Vec::new(alloc),
+            hints: Vec::new(alloc),
+        }
+    }
+
+    /// How many rows there are.
+    pub fn len(&self) -> usize
+        ensures { result ≡ length self.now.items }
+    {
+        self.order.len()
+    }
+
+    /// The row at a place of the list, counted from 0.
+    pub fn at(&self, place: usize) -> &KeyLabels
+        requires { place < length self.now.items }
+        ensures { result.now ≡ slice_index_or self.now.items place result.now }
+    {
+        row_at(&self.slots, &self.order, place)
+    }
+
+    /// How many rows stand before the place of a key, found by halves.
+    pub fn rank(&self, table: &Text, key: &Text) -> usize
+        requires { IsOrdered row_place self.now.items }
+        ensures rank { result ≡ rank row_place (place_of table.now key.now) self.now.items }
+        ensures within { result ≤ length self.now.items }
+    {
+        rank_in(&self.slots, &self.order, table, key.as_bytes()).0
+    }
+}
+
+pub(crate) fn row_at<'a>(slots: &'a Vec<KeyLabels>, order: &Vec<u32>, place: usize) -> &'a KeyLabels
+    requires arranged { IsArranged (length slots.now.items) order.now.items }
+    requires place { place < length order.now.items }
+    ensures { result.now ≡ slice_index_or (in_order order.now.items slots.now.items) place result.now }
+{
+    &slots[order[place] as usize]
+}
+
+// Whether a row stands before the place of a key with these bytes: the order is that in which a list of this one row is searched.
+fn is_below(row: &KeyLabels, table: &Text, key: &[u8]) -> bool
+    ensures { result ≡ is_gt (place_order (place_of table.now key.now) (row_place row.now)) }
+{
+    seek_bytes(from_ref(row), table, key).0 == 1
+}
+
+fn is_at(row: &KeyLabels, table: &Text, key: &[u8]) -> bool
+    ensures { result ≡ is_eq (place_order (place_of table.now key.now) (row_place row.now)) }
+{
+    seek_bytes(from_ref(row), table, key).1
+}
+
+fn is_slot_below(slots: &Vec<KeyLabels>, slot: u32, table: &Text, key: &[u8]) -> bool
+    requires { slot < length slots.now.items }
+    ensures { result ≡ is_slot_below (place_of table.now key.now) slots.now.items slot }
+{
+    is_below(&slots[slot as usize], table, key)
+}
+
+// How many of these rows stand before the place of a key with these bytes, in their order.
+fn count_below(slots: &Vec<KeyLabels>, order: &Vec<u32>, table: &Text, key: &[u8]) -> usize
+    requires arranged { IsArranged (length slots.now.items) order.now.items }
+    requires ordered { IsOrdered row_place (in_order order.now.items slots.now.items) }
+    ensures rank { result ≡ rank row_place (place_of table.now key.now) (in_order order.now.items slots.now.items) }
+    ensures within { result ≤ length order.now.items }
+{
+    count_front(
+        order,
+        |slot: &u32|
+            requires { slot.now < length slots.now.items }
+        { is_slot_below(slots, *slot, table, key) },
+    )
+}
+
+/// The same, and whether a row stands at the key.
+pub(crate) fn rank_in(
+    slots: &Vec<KeyLabels>,
+    order: &Vec<u32>,
+    table: &Text,
+    key: &[u8],
+) -> (usize, bool)
+    requires arranged { IsArranged (length slots.now.items) order.now.items }
+    requires ordered { IsOrdered row_place (in_order order.now.items slots.now.items) }
+    ensures rank { result.0 ≡ rank row_place (place_of table.now key.now) (in_order order.now.items slots.now.items) }
+    ensures taken { result.1 ≡ is_taken row_place (place_of table.now key.now) (in_order order.now.items slots.now.items) }
+    ensures within { IsRank result.0 result.1 (length order.now.items) }
+{
+    let at = count_below(slots, order, table, key);
+    if at == order.len() {
+        return (at, false);
+    }
+    (at, is_at(row_at(slots, order, at), table, key))
+}
+
+/// The slot of the row of a key, which is looked for in this one first, then by hints and at last by halves; where there is none,
+/// its place in the list.
+pub(crate) fn slot_in(
+    slots: &Vec<KeyLabels>,
+    order: &Vec<u32>,
+    hints: &Vec<u32>,
+    near: usize,
+    table: &Text,
+    key: &Text,
+) -> Result<usize, usize>
+    requires arranged { IsArranged (length slots.now.items) order.now.items }
+    requires ordered { IsOrdered row_place (in_order order.now.items slots.now.items) }
+    ensures { MatchResult result (IsSlotOf (place_of table.now key.now) slots.now.items)
+        (IsFreeAt (place_of table.now key.now) (in_order order.now.items slots.now.items)) }
+{
+    if stands_in(slots, near, table, key) {
+        return Ok(near);
+    }
+    if let Some(slot) = hinted(slots, hints, table, key) {
+        return Ok(slot);
+    }
+    let (at, taken) = rank_in(slots, order, table, key.as_bytes());
+    if taken {
+        Ok(order[at] as usize)
+    } else {
+        Err(at)
+    }
+}
+
+/// Makes room for one row more, and tells the number of its slot.
+pub(crate) fn ready_row(slots: &mut Vec<KeyLabels>, order: &mut Vec<u32>) -> Result<u32, NoMemory>
+    ensures slots { slots.new.items ≡ slots.old.items }
+    ensures order { order.new.items ≡ order.old.items }
+    ensures number { IfOk result (λ n. n ≡ length slots.old.items) }
+    ensures room { OnOk result (vec_len slots.new < vec_capacity slots.new) }
+    ensures places { OnOk result (vec_len order.new < vec_capacity order.new) }
+{
+    if slots.len() > MOST_NUMBER {
+        return Err(NoMemory);
+    }
+    slots.reserve(1)?;
+    order.reserve(1)?;
+    Ok(slots.len() as u32)
+}
+
+/// Puts in a row, for which there is room, at its place of the list.
+pub(crate) fn put_new(
+    slots: &mut Vec<KeyLabels>,
+    order: &mut Vec<u32>,
+    hints: &mut Vec<u32>,
+    at: usize,
+    number: u32,
+    row: KeyLabels,
+)
+    requires arranged { IsArranged (length slots.old.items) order.old.items }
+    requires within { at ≤ length order.old.items }
+    requires number { number ≡ length slots.old.items }
+    requires room { vec_len slots.old < vec_capacity slots.old }
+    requires places { vec_len order.old < vec_capacity order.old }
+    ensures arranged { IsArranged (length slots.new.items) order.new.items }
+    ensures items { in_order order.new.items slots.new.items ≡ insert (in_order order.old.items slots.old.items) at row }
+{
+    let _ = order.insert(at, number);
+    slots.push_reserved(row);
+    note_new(slots, order, hints, number);
+}

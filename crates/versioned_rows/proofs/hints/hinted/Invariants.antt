@@ -1,5 +1,0 @@
-use Rattle.std.proofs.Common.{◌<◌, length}
-use Rattle.versioned_rows.proofs.hints.hinted.Given as goal
-
-abbrev pub invariant-loop : goal.invariant-loop
-invariant-loop l = l.cell < length l.hints

@@ -1,8 +1,0 @@
-use Rattle.std.proofs.Common.{filter, ap, ◌∙◌, rules}
-use Rattle.std.proofs.lemmas.Fn.{filter_same}
-use Rattle.versioned_rows.specs.Places.{is_other}
-use Rattle.versioned_rows.specs.declared.rows.KeyLabels.{KeyLabels}
-use Rattle.versioned_rows.proofs.rows.KeyLabels.drop_label.Goals as goal
-
-pub returns-clause-labels : goal.returns-clause-labels
-returns-clause-labels c = filter_same _ (is_other c.args.label) _ (λ x b f' k. search rules) _ _ c.retain.ensures.filtered
