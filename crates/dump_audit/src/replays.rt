@@ -12,7 +12,7 @@ use crate::judged::Fault;
 use dump_reader::{DumpEntry, DumpService};
 use handler_run::{Ran, run};
 use lang_core::{
-    Answers, Calls, Cells, NoMemory, Reads, Response, Same, Setting, Text, Trace, Writes,
+    Answers, Calls, Cells, NoMemory, Reads, Response, Same, Setting, SharedWrites, Text, Trace,
 };
 use lang_rows::RowTree;
 use std::alloc::Global;
@@ -33,7 +33,7 @@ fn dead_trace(alloc: Global) -> Result<Trace, NoMemory>
         reads: Reads::new(alloc),
         calls: Calls::new(alloc),
         answers: Answers::new(alloc),
-        writes: Writes::new(alloc),
+        writes: SharedWrites::new(),
         response: Response { status: 410, body },
     })
 }

@@ -2,7 +2,7 @@
 // stand there; those of a request stand on one line.
 use dump_audit::RowTree;
 use handler_run::{RowsView, View};
-use lang_core::{Cells, Same, Text, Write, Writes, apply_writes};
+use lang_core::{Cells, Same, SharedWrites, Text, Write, Writes, apply_writes};
 use std::process::Abort;
 
 const WRITES: &str = "names bob 1
@@ -31,13 +31,13 @@ fn write_of(rt: &(impl Abort + AllocGlobal), words: &str) -> Write {
     }
 }
 
-fn writes_of(rt: &(impl Abort + AllocGlobal), line: &str) -> Writes {
+fn writes_of(rt: &(impl Abort + AllocGlobal), line: &str) -> SharedWrites {
     let mut writes = Writes::new(rt.alloc());
     for words in line.split(';') {
         let write = write_of(rt, words);
         writes.set(write).expect(rt, "memory");
     }
-    writes
+    SharedWrites::of(rt.alloc(), writes).expect(rt, "memory")
 }
 
 fn found(rt: &(impl Abort + AllocGlobal), view: &impl View, table: &str, key: &str) -> String {

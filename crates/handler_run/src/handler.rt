@@ -12,7 +12,8 @@ use crate::blocks::run_block;
 use crate::state::{Flow, Ran, State};
 use crate::view::View;
 use lang_core::{
-    Answers, Calls, Inputs, NoMemory, Reads, Request, Response, Route, Setting, Text, Trace, Writes,
+    Answers, Calls, Inputs, NoMemory, Reads, Request, Response, Route, Setting, SharedWrites, Text,
+    Trace, Writes,
 };
 use lang_values::{Fault, Given, Recorded, Variables, route_of, segments_of};
 use std::alloc::Global;
@@ -37,16 +38,17 @@ fn fault_text(alloc: Global, fault: Fault) -> Result<Text, NoMemory>
     Text::shared(text)
 }
 
-fn replied(response: Response, state: State) -> Trace
-    ensures { result ≡ replied response state }
+fn replied(alloc: Global, response: Response, state: State) -> Result<Ran, NoMemory>
+    ensures { IfOk result (λ ran. ran ≡ Done (replied response state)) }
 {
-    Trace {
+    let writes = SharedWrites::of(alloc, state.own)?;
+    Ok(Ran::Done(Trace {
         reads: state.reads.into_reads(),
         calls: state.calls,
         answers: state.answers,
-        writes: state.own,
+        writes,
         response,
-    }
+    }))
 }
 
 fn faulted_trace(alloc: Global, fault: Fault, state: State) -> Result<Trace, NoMemory>
@@ -56,7 +58,7 @@ fn faulted_trace(alloc: Global, fault: Fault, state: State) -> Result<Trace, NoM
         reads: state.reads.into_reads(),
         calls: state.calls,
         answers: state.answers,
-        writes: Writes::new(alloc),
+        writes: SharedWrites::new(),
         response: Response {
             status: 500,
             body: fault_text(alloc, fault)?,
@@ -73,9 +75,9 @@ fn finish(alloc: Global, flow: Flow, state: State) -> Result<Ran, NoMemory>
                 status: 200,
                 body: Text::of(alloc, "")?,
             };
-            Ok(Ran::Done(replied(response, state)))
+            replied(alloc, response, state)
         }
-        Flow::Replied(response) => Ok(Ran::Done(replied(response, state))),
+        Flow::Replied(response) => replied(alloc, response, state),
         Flow::Wants(call) => Ok(Ran::Wants {
             slot: state.calls.len(),
             calls: state.calls,
@@ -107,7 +109,7 @@ fn not_found(alloc: Global) -> Result<Ran, NoMemory>
         reads: Reads::new(alloc),
         calls: Calls::new(alloc),
         answers: Answers::new(alloc),
-        writes: Writes::new(alloc),
+        writes: SharedWrites::new(),
         response: Response {
             status: 404,
             body: Text::of(alloc, "")?,

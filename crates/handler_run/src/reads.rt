@@ -14,8 +14,8 @@ use crate::steps::{key_fits, own, value_in};
 use crate::view::View;
 use lang_base::both;
 use lang_core::{
-    Cell, Cells, Copied, Expr, MOST_SCAN_BYTES, MOST_SCAN_CELLS, NoMemory, Read, Same, Text, Value,
-    Write, Writes, apply_writes,
+    Cell, Cells, Copied, Expr, MOST_SCAN_BYTES, MOST_SCAN_CELLS, NoMemory, Read, Same,
+    SharedWrites, Text, Value, Write, Writes, apply_writes,
 };
 use lang_values::{Fault, Given, text_or_nothing};
 use std::alloc::Global;
@@ -176,7 +176,7 @@ fn own_beneath(
     writes: &[Write],
     table: &Text,
     prefix: &Text,
-) -> Result<Writes, NoMemory>
+) -> Result<SharedWrites, NoMemory>
     requires { IsOrdered write_place writes.now }
     ensures { IfOk result (λ beneath. beneath ≡ own_beneath table.now prefix.now writes.now) }
 {
@@ -186,7 +186,7 @@ fn own_beneath(
             beneath.push(write.copied(alloc)?)?;
         }
     }
-    Ok(beneath)
+    SharedWrites::of(alloc, beneath)
 }
 
 fn laid_over(

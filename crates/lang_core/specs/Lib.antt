@@ -1,3 +1,4 @@
+pub mod Held
 pub mod Names
 pub mod Origins
 pub mod Places

@@ -9,6 +9,7 @@ mod inputs;
 mod place;
 mod request;
 mod setting;
+mod shared_writes;
 mod trace;
 mod value;
 mod writes;
@@ -24,6 +25,7 @@ pub use lang_tree::{
 pub use place::{ByPlace, Placed, seek, seek_bytes};
 pub use request::{Answers, LONGEST_WHO, Request, Response, is_who};
 pub use setting::Setting;
+pub use shared_writes::SharedWrites;
 pub use trace::{CallMade, Calls, Read, Reads, Trace};
 pub use value::Value;
 pub use writes::{Write, Writes, apply_writes};

@@ -90,7 +90,8 @@ pub fn seek<T: Placed>(items: &[T], table: &Text, key: &Text) -> (usize, bool)
     seek_bytes(items, table, key.as_bytes())
 }
 
-fn item_at<'a, T: Placed>(items: &'a [T], table: &Text, key: &Text) -> Option<&'a T>
+/// What stands at the place in a list in order, if something does.
+pub(crate) fn item_at<'a, T: Placed>(items: &'a [T], table: &Text, key: &Text) -> Option<&'a T>
     requires { IsOrdered T.place items.now }
     ensures { option_copied result ≡ find (λ x. same_place (T.place x) (place_of table.now key.now)) items.now }
 {

@@ -5,7 +5,7 @@ ghost use Rattle.lang_core.specs.declared.trace.Read.TheVariants as read;
 use crate::cells::Cells;
 use crate::ids::Name;
 use crate::request::{Answers, Request, Response};
-use crate::writes::Writes;
+use crate::shared_writes::SharedWrites;
 use lang_tree::{Copied, NoMemory, Same, Seq, Text, both};
 use std::alloc::Global;
 
@@ -130,7 +130,7 @@ pub struct Trace {
     pub reads: Reads,
     pub calls: Calls,
     pub answers: Answers,
-    pub writes: Writes,
+    pub writes: SharedWrites,
     pub response: Response,
 }
 

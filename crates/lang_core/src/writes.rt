@@ -5,6 +5,7 @@ ghost use Rattle.lang_core.specs.Rows.{after_write, apply, cell_place, get, writ
 
 use crate::cells::{Cell, Cells};
 use crate::place::{ByPlace, Placed, set_in_room, unset_items};
+use crate::shared_writes::SharedWrites;
 use lang_tree::{Copied, NoMemory, Same, Text, copied_items};
 use std::alloc::Global;
 
@@ -74,13 +75,13 @@ fn apply_all(cells: &mut Vec<Cell>, writes: Vec<Write>)
 }
 
 /// Applies the writes, each at its place: a text stands there afterwards, or nothing does. Refused, the rows stay.
-pub fn apply_writes(alloc: Global, cells: &mut Cells, writes: &Writes) -> Result<(), NoMemory>
+pub fn apply_writes(alloc: Global, cells: &mut Cells, writes: &SharedWrites) -> Result<(), NoMemory>
     ensures ok { OnOk result (cells.new ≡ apply cells.old writes.now) }
     ensures reads { OnOk result ((table key : List ℕ) →
         get cells.new table key ≡ written writes.now table key (get cells.old table key)) }
     ensures err { OnErr result (cells.new ≡ cells.old) }
 {
-    let writes = copied_items(alloc, &writes.items)?;
+    let writes = copied_items(alloc, writes.as_slice())?;
     cells.items.reserve(writes.len())?;
     apply_all(&mut cells.items, writes);
     Ok(())

@@ -7,7 +7,7 @@ ghost use Rattle.lang_rows.specs.RowTrees.{cell_of};
 
 use crate::spot::Spot;
 use handler_run::View;
-use lang_core::{Cell, Cells, Copied, NoMemory, Same, Text, Write, Writes, row_scan};
+use lang_core::{Cell, Cells, Copied, NoMemory, Same, SharedWrites, Text, Write, row_scan};
 use std::alloc::Global;
 use std::collections::BTreeMap;
 use std::marker::Model;
@@ -102,7 +102,7 @@ impl RowTree {
     }
 
     /// Applies the writes, each at its place. Refused, some of them may be applied.
-    pub fn apply(&mut self, alloc: Global, writes: &Writes) -> Result<(), NoMemory>
+    pub fn apply(&mut self, alloc: Global, writes: &SharedWrites) -> Result<(), NoMemory>
         ensures { OnOk result (self.new ≡ apply self.old writes.now) }
     {
         for write in writes.as_slice() {

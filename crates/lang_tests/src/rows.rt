@@ -1,8 +1,8 @@
 use crate::given::{equal, holds, name, repeated, request, same, text};
 use lang_core::{
     Answers, CallId, CallMade, Calls, Cell, Cells, Copied, Name, Names, Origin, Program, Read,
-    Reads, RequestId, Response, Routes, Same, Setting, Text, Trace, Value, Write, Writes,
-    apply_writes, is_who, row_get, row_scan,
+    Reads, RequestId, Response, Routes, Same, Setting, SharedWrites, Text, Trace, Value, Write,
+    Writes, apply_writes, is_who, row_get, row_scan,
 };
 use std::process::Abort;
 
@@ -77,12 +77,12 @@ fn write(rt: &(impl Abort + AllocGlobal), writes: &mut Writes, key: &str, text: 
     writes.set(write).expect(rt, "memory");
 }
 
-fn writes(rt: &(impl Abort + AllocGlobal)) -> Writes {
+fn writes(rt: &(impl Abort + AllocGlobal)) -> SharedWrites {
     let mut writes = Writes::new(rt.alloc());
     write(rt, &mut writes, "l", Some(text(rt, "new")));
     write(rt, &mut writes, "a", Some(text(rt, "first")));
     write(rt, &mut writes, "k0001", None);
-    writes
+    SharedWrites::of(rt.alloc(), writes).expect(rt, "memory")
 }
 
 fn reads_as(rt: &(impl Abort + AllocGlobal), cells: &Cells, key: &str, want: Option<&str>) {

@@ -13,7 +13,7 @@ use crate::rerun::{is_new_answer, run_again};
 use crate::slots::Slots;
 use crate::view::RowsBefore;
 use crate::written::writes_of;
-use lang_core::{NoMemory, Setting, Writes};
+use lang_core::{NoMemory, Setting, SharedWrites};
 use log_index::{EntryMarks, EntryRows};
 use request_log::{Entry, Made, Numbers};
 use std::alloc::Global;
@@ -88,7 +88,7 @@ fn mark_behind(
     ensures ok { OnOk result (IsMarkedBehind place (writes_of entry.now.made) made.now.trace.writes marks.old marks.new) }
     ensures err { OnErr result (IsMarkedFrom (place + 1) [] marks.old marks.new) }
 {
-    let none = Writes::new(alloc);
+    let none = SharedWrites::new();
     let old = writes_of(entry, &none);
     let new = &made.trace.writes;
     // Asked for what they promise alone: no key stands twice.

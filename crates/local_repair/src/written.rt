@@ -8,13 +8,13 @@ ghost use Rattle.local_repair.specs.Held.{reads_of, IsKept, IsMarkedFrom, IsPutA
 ghost use Rattle.local_repair.specs.Written.{all_written};
 
 use crate::current::is_held;
-use lang_core::{NoMemory, Reads, Seq, Writes};
+use lang_core::{NoMemory, Reads, Seq, SharedWrites};
 use log_index::{EntryMarks, EntryRows};
 use request_log::{Entry, KeptEntry, Log, LogFull, MOST_ENTRIES, Numbers};
 use std::alloc::Global;
 
 /// The writes of an entry's record, or none of these.
-pub(crate) fn writes_of<'a>(entry: &'a Entry, none: &'a Writes) -> &'a Writes
+pub(crate) fn writes_of<'a>(entry: &'a Entry, none: &'a SharedWrites) -> &'a SharedWrites
     requires { none.now ≡ [] }
     ensures { result.now ≡ writes_of entry.now.made }
 {
@@ -55,7 +55,7 @@ fn mark_from(
     marks: &mut EntryMarks,
     at: usize,
     count: usize,
-    writes: &Writes,
+    writes: &SharedWrites,
 ) -> Result<(), NoMemory>
     requires { count ≡ length marks.old.reads }
     ensures ok { OnOk result (IsMarkedFrom at writes.now marks.old marks.new) }
@@ -81,7 +81,7 @@ fn ready_rows(
     ensures ready_rows { OnOk result (IsReadyToInsert at (writes_of entry.now.made) rows.new) }
     ensures ready_marks { OnOk result (IsReadyToMark at (reads_of entry.now.made) marks.new) }
 {
-    let no_writes = Writes::new(alloc);
+    let no_writes = SharedWrites::new();
     let no_reads = Seq::new(alloc);
     rows.ready_insert(alloc, at, writes_of(entry, &no_writes))?;
     marks.ready_insert(alloc, at, reads_of(entry, &no_reads))
@@ -104,7 +104,7 @@ fn ready_entry(
     ensures ready_marks { OnOk result (IsReadyToMark at (reads_of entry.now.made) marks.new) }
 {
     let own = entry.entry();
-    let none = Writes::new(alloc);
+    let none = SharedWrites::new();
     mark_from(alloc, marks, at, count, writes_of(own, &none))?;
     ready_rows(alloc, rows, marks, at, own)
 }
@@ -126,7 +126,7 @@ fn insert_parts(
     ensures rows { rows.new.writes ≡ insert rows.old.writes at (writes_of entry.now.made) }
     ensures marks { IsPutAt at entry.now (rows_before at rows.old) marks.old marks.new }
 {
-    let no_writes = Writes::new(alloc);
+    let no_writes = SharedWrites::new();
     let no_reads = Seq::new(alloc);
     let marked = !is_held(rows, at, entry);
     rows.insert(alloc, at, writes_of(entry, &no_writes));

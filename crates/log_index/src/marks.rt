@@ -8,7 +8,7 @@ use crate::numbers::Marks;
 use crate::places::Places;
 use dependency_index::Index;
 use lang_base::both;
-use lang_core::{NoMemory, Reads, Writes};
+use lang_core::{NoMemory, Reads, SharedWrites};
 use std::alloc::Global;
 use std::marker::Model;
 
@@ -154,7 +154,7 @@ impl EntryMarks {
         &mut self,
         alloc: Global,
         place: usize,
-        writes: &Writes,
+        writes: &SharedWrites,
     ) -> Result<(), NoMemory>
         requires { place < length self.old.reads }
         ensures reads { self.new.reads ≡ self.old.reads }
@@ -162,7 +162,7 @@ impl EntryMarks {
             ≡ (is_marked q self.old.marks || sees_behind place writes.now self.old.reads q)) }
         ensures err { OnErr result ((q : ℕ) → IsTrue (is_marked q self.old.marks) → IsTrue (is_marked q self.new.marks)) }
     {
-        let none = Writes::new(alloc);
+        let none = SharedWrites::new();
         self.mark_apart(alloc, place, writes, &none)
     }
 
@@ -172,8 +172,8 @@ impl EntryMarks {
         &mut self,
         alloc: Global,
         place: usize,
-        old: &Writes,
-        new: &Writes,
+        old: &SharedWrites,
+        new: &SharedWrites,
     ) -> Result<(), NoMemory>
         requires { place < length self.old.reads }
         ensures reads { self.new.reads ≡ self.old.reads }
@@ -193,8 +193,8 @@ impl EntryMarks {
         &mut self,
         alloc: Global,
         place: usize,
-        writes: &Writes,
-        others: &Writes,
+        writes: &SharedWrites,
+        others: &SharedWrites,
     ) -> Result<(), NoMemory>
         requires { place < length self.old.reads }
         ensures reads { self.new.reads ≡ self.old.reads }

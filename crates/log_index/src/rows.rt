@@ -6,7 +6,7 @@ ghost use Rattle.log_index.specs.Rows.{rows_before, IsReadyToInsert, IsReadyToSe
 
 use crate::labels::{label_at, new_label, ready_label};
 use lang_base::both;
-use lang_core::{Cells, NoMemory, Text, Writes};
+use lang_core::{Cells, NoMemory, SharedWrites, Text};
 use place_order::Order;
 use std::alloc::Global;
 use std::marker::Model;
@@ -91,7 +91,7 @@ impl EntryRows {
         &mut self,
         alloc: Global,
         place: usize,
-        writes: &Writes,
+        writes: &SharedWrites,
     ) -> Result<(), NoMemory>
         ensures writes { self.new.writes ≡ self.old.writes }
         ensures ok { OnOk result (IsReadyToInsert place writes.now self.new) }
@@ -102,7 +102,7 @@ impl EntryRows {
     }
 
     /// Puts what an entry wrote at a place, before what stands there. There is room for it.
-    pub fn insert(&mut self, alloc: Global, place: usize, writes: &Writes)
+    pub fn insert(&mut self, alloc: Global, place: usize, writes: &SharedWrites)
         requires within { place ≤ length self.old.writes }
         requires few { length self.old.writes < 100000 }
         requires ready { IsReadyToInsert place writes.now self.old }
@@ -116,7 +116,7 @@ impl EntryRows {
     }
 
     /// Makes room for a `set` of these writes, at whichever place.
-    pub fn ready_set(&mut self, alloc: Global, writes: &Writes) -> Result<(), NoMemory>
+    pub fn ready_set(&mut self, alloc: Global, writes: &SharedWrites) -> Result<(), NoMemory>
         ensures writes { self.new.writes ≡ self.old.writes }
         ensures ok { OnOk result (IsReadyToSet writes.now self.new) }
     {
@@ -124,7 +124,7 @@ impl EntryRows {
     }
 
     /// Puts these writes in place of what the entry at a place wrote. There is room for them.
-    pub fn set(&mut self, alloc: Global, place: usize, writes: &Writes)
+    pub fn set(&mut self, alloc: Global, place: usize, writes: &SharedWrites)
         requires within { place < length self.old.writes }
         requires ready { IsReadyToSet writes.now self.old }
         ensures { self.new.writes ≡ slice_set self.old.writes place writes.now }

@@ -5,7 +5,7 @@ ghost use Rattle.place_order.specs.Rising.{IsRising};
 ghost use Rattle.versioned_rows.specs.Places.{label_of};
 
 use crate::versions::{first_of, stands_at, write};
-use lang_core::{Cell, Cells, NoMemory, Text, Writes};
+use lang_core::{Cell, Cells, NoMemory, SharedWrites, Text, Writes};
 use place_order::Order;
 use std::alloc::Global;
 use versioned_rows::Versions;
@@ -112,6 +112,7 @@ fn written(alloc: Global, order: &Order, versions: &mut Versions, a: u64) -> Res
 {
     let mut writes = Writes::new(alloc);
     three_writes(alloc, &mut writes)?;
+    let writes = SharedWrites::of(alloc, writes)?;
     versions.write_at(alloc, order, a, &writes)
 }
 

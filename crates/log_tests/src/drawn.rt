@@ -7,7 +7,8 @@ ghost use Rattle.versioned_rows.specs.Places.{label_of};
 
 use crate::versions::write;
 use lang_core::{
-    Cells, Copied, NoMemory, Same, Text, Write, Writes, apply_writes, row_get, row_scan,
+    Cells, Copied, NoMemory, Same, SharedWrites, Text, Write, Writes, apply_writes, row_get,
+    row_scan,
 };
 use place_order::{Order, OrderFull};
 use std::alloc::Global;
@@ -40,14 +41,14 @@ impl Draws {
 #[derive(Drop)]
 struct Plain {
     base: Cells,
-    places: Vec<Writes>,
+    places: Vec<SharedWrites>,
 }
 
 impl Plain {
     fn new(alloc: Global) -> Result<Plain, NoMemory> {
         let mut places = Vec::new(alloc);
         for _ in 0..PLACES {
-            places.push(Writes::new(alloc))?;
+            places.push(SharedWrites::new())?;
         }
         Ok(Plain {
             base: Cells::new(alloc),
@@ -67,7 +68,7 @@ impl Plain {
         Ok(rows)
     }
 
-    fn put(&mut self, place: u64, writes: Writes) {
+    fn put(&mut self, place: u64, writes: SharedWrites) {
         match self.places.get_mut(place as usize) {
             None => {}
             Some(own) => *own = writes,
@@ -123,12 +124,12 @@ fn drawn_write(alloc: Global, draws: &mut Draws) -> Result<Write, NoMemory> {
 }
 
 // None to three writes.
-fn drawn_writes(alloc: Global, draws: &mut Draws) -> Result<Writes, NoMemory> {
+fn drawn_writes(alloc: Global, draws: &mut Draws) -> Result<SharedWrites, NoMemory> {
     let mut writes = Writes::new(alloc);
     for _ in 0..draws.below(4) {
         writes.set(drawn_write(alloc, draws)?)?;
     }
-    Ok(writes)
+    SharedWrites::of(alloc, writes)
 }
 
 fn write_at(
@@ -185,7 +186,7 @@ fn change(
         }
         1 => {
             versions.take_back(label);
-            plain.put(place, Writes::new(alloc));
+            plain.put(place, SharedWrites::new());
             Ok(())
         }
         _ => write_at(alloc, order, versions, plain, place, label, draws),

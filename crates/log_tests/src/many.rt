@@ -6,7 +6,7 @@ ghost use Rattle.place_order.specs.Rising.{IsRising};
 ghost use Rattle.versioned_rows.specs.Places.{label_of};
 
 use crate::versions::{after, first_of, stands_at, write};
-use lang_core::{NoMemory, Text, Writes};
+use lang_core::{NoMemory, SharedWrites, Text, Writes};
 use place_order::Order;
 use std::alloc::Global;
 use versioned_rows::Versions;
@@ -19,7 +19,7 @@ fn key_of(alloc: Global, n: u64) -> Result<Text, NoMemory>
 }
 
 // That text, written to the keys of these numbers.
-fn written(alloc: Global, from: u64, to: u64, text: &str) -> Result<Writes, NoMemory>
+fn written(alloc: Global, from: u64, to: u64, text: &str) -> Result<SharedWrites, NoMemory>
     requires { to < 1000 }
 {
     let mut writes = Writes::new(alloc);
@@ -27,7 +27,7 @@ fn written(alloc: Global, from: u64, to: u64, text: &str) -> Result<Writes, NoMe
         let key = key_of(alloc, n)?;
         writes.set(write(alloc, key.as_str(), Some(text))?)?;
     }
-    Ok(writes)
+    SharedWrites::of(alloc, writes)
 }
 
 fn put(
@@ -35,7 +35,7 @@ fn put(
     order: &Order,
     versions: &mut Versions,
     label: u64,
-    writes: &Writes,
+    writes: &SharedWrites,
 ) -> Result<(), NoMemory>
     requires rising { IsRising order.now.labels (map label_of versions.old.versions) }
     requires label { Contains order.now.labels label }

@@ -4,7 +4,7 @@ ghost use Rattle.std.specs.Option.{ForSome};
 ghost use Rattle.place_order.specs.Rising.{IsRising};
 ghost use Rattle.versioned_rows.specs.Places.{label_of};
 
-use lang_core::{Copied, NoMemory, Text, Write, Writes};
+use lang_core::{Copied, NoMemory, SharedWrites, Text, Write, Writes};
 use place_order::Order;
 use std::alloc::Global;
 use versioned_rows::Versions;
@@ -20,10 +20,10 @@ pub(crate) fn write(alloc: Global, key: &str, text: Option<&str>) -> Result<Writ
     Ok(Write { table, key, text })
 }
 
-fn one_write(alloc: Global, key: &str, text: Option<&str>) -> Result<Writes, NoMemory> {
+fn one_write(alloc: Global, key: &str, text: Option<&str>) -> Result<SharedWrites, NoMemory> {
     let mut writes = Writes::new(alloc);
     writes.set(write(alloc, key, text)?)?;
-    Ok(writes)
+    SharedWrites::of(alloc, writes)
 }
 
 fn put(

@@ -3,7 +3,7 @@ ghost use Rattle.std.specs.Prelude.{◌≡◌, [], IfOk, OnOk};
 ghost use Rattle.lang_core.specs.Rows.{apply};
 
 use dump_audit::RowTree;
-use lang_core::{Copied, Name, NoMemory, Writes};
+use lang_core::{Copied, Name, NoMemory, SharedWrites};
 use one_world::Rows;
 use std::alloc::Global;
 use std::marker::Model;
@@ -49,7 +49,7 @@ impl PlayedRows {
     }
 
     /// Makes writes.
-    pub(crate) fn apply(&mut self, alloc: Global, writes: &Writes) -> Result<(), NoMemory>
+    pub(crate) fn apply(&mut self, alloc: Global, writes: &SharedWrites) -> Result<(), NoMemory>
         ensures { OnOk result (self.new ≡ record { service = self.old.service; rows = apply self.old.rows writes.now }) }
     {
         self.rows.apply(alloc, writes)

@@ -18,7 +18,7 @@ use dump_audit::RowTree;
 use dump_reader::{DumpEntry, DumpService, DumpServices};
 use handler_run::{Ran, run};
 use lang_core::{
-    Answers, CallMade, Name, NoMemory, Request, RequestId, Response, Same, Text, Writes,
+    Answers, CallMade, Name, NoMemory, Request, RequestId, Response, Same, SharedWrites, Text,
 };
 use std::alloc::Global;
 
@@ -43,7 +43,7 @@ fn is_named(name: &Name, played: &PlayedRows) -> bool
 fn write_at(
     alloc: Global,
     name: &Name,
-    writes: &Writes,
+    writes: &SharedWrites,
     world: &mut [PlayedRows],
 ) -> Result<(), NoMemory>
     ensures { OnOk result (world.new ≡ with_writes name.now writes.now world.old) }

@@ -5,7 +5,7 @@ ghost use Rattle.request_log.specs.Entries.{asking, is_alive, mark, with_run};
 
 use lang_base::both;
 use lang_core::{
-    Copied, Inputs, NoMemory, Origin, Request, Response, Seq, Shared, Text, Trace, Writes,
+    Copied, Inputs, NoMemory, Origin, Request, Response, Seq, Shared, SharedWrites, Text, Trace,
 };
 use std::alloc::Global;
 use std::marker::Model;
@@ -173,7 +173,7 @@ pub fn dead_trace(alloc: Global) -> Result<Trace, NoMemory>
         reads: Seq::new(alloc),
         calls: Seq::new(alloc),
         answers: Seq::new(alloc),
-        writes: Writes::new(alloc),
+        writes: SharedWrites::new(),
         response: Response { status: 410, body },
     })
 }

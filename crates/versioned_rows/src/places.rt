@@ -12,7 +12,7 @@ ghost use Rattle.versioned_rows.specs.Versions.{IsIndexed};
 
 use crate::rows::{drop_labels, drop_labels_in, put_labels};
 use key_labels::{KeyRows, Labelled, count_before, position_in};
-use lang_core::{Copied, NoMemory, Same, Text, Write, Writes};
+use lang_core::{Copied, NoMemory, Same, SharedWrites, Text, Write};
 use place_order::Order;
 use std::alloc::Global;
 
@@ -20,7 +20,7 @@ use std::alloc::Global;
 #[derive(Drop)]
 pub struct PlaceWrites {
     pub label: u64,
-    pub writes: Writes,
+    pub writes: SharedWrites,
 }
 
 impl Copied for PlaceWrites {
@@ -42,7 +42,7 @@ impl Labelled for PlaceWrites {
 }
 
 /// The text that these write to a key; None where they drop it or don't write it.
-pub(crate) fn text_at<'a>(writes: &'a Writes, table: &Text, key: &Text) -> Option<&'a Text>
+pub(crate) fn text_at<'a>(writes: &'a SharedWrites, table: &Text, key: &Text) -> Option<&'a Text>
     ensures { option_copied result ≡ written writes.now table.now key.now None }
 {
     match writes.find(table, key) {
@@ -149,7 +149,11 @@ fn are_at_keys(left: &[Write], right: &[Write]) -> bool
 }
 
 // Where a place stands, if it wrote the same keys as these.
-fn stands_alike(places: &[PlaceWrites], stands: Option<usize>, writes: &Writes) -> Option<usize>
+fn stands_alike(
+    places: &[PlaceWrites],
+    stands: Option<usize>,
+    writes: &SharedWrites,
+) -> Option<usize>
     requires { IfSome stands (λ at. at < length places.now) }
     ensures stands { IfSome result (λ at. stands ≡ Some at) }
     ensures keys { IfSome result (λ at. (d : PlaceWrites) → keys_of (slice_index_or places.now at d).writes ≡ keys_of writes.now) }

@@ -12,7 +12,7 @@ ghost use Rattle.key_labels.specs.declared.rows.KeyLabels.{KeyLabels};
 use crate::places::PlaceWrites;
 use crate::rows::make_rows;
 use key_labels::KeyRows;
-use lang_core::{Cells, Copied, NoMemory, Same, Writes};
+use lang_core::{Cells, Copied, NoMemory, Same, SharedWrites};
 use lang_lists::take_room;
 use std::alloc::Global;
 
@@ -20,12 +20,12 @@ use std::alloc::Global;
 #[derive(Drop)]
 pub enum VersionsCall {
     /// The writes of a place, whichever it is.
-    WriteAt { writes: Writes },
+    WriteAt { writes: SharedWrites },
     /// The rows before all places.
     InsertBase { cells: Cells },
 }
 
-fn is_write(call: &VersionsCall, writes: &Writes) -> bool
+fn is_write(call: &VersionsCall, writes: &SharedWrites) -> bool
     ensures { IsTrue result ↔ (write_call writes.now ≡ call.now) }
 {
     match call {
@@ -34,19 +34,19 @@ fn is_write(call: &VersionsCall, writes: &Writes) -> bool
     }
 }
 
-fn passes(call: &VersionsCall, writes: &Writes) -> bool
+fn passes(call: &VersionsCall, writes: &SharedWrites) -> bool
     ensures { result ≡ equal call_code (write_call writes.now) call.now }
 {
     is_write(call, writes)
 }
 
-fn room_place(room: &[VersionsCall], writes: &Writes) -> Option<usize>
+fn room_place(room: &[VersionsCall], writes: &SharedWrites) -> Option<usize>
     ensures { result ≡ position (equal call_code (write_call writes.now)) room.now }
 {
     room.iter().position(|call| passes(call, writes))
 }
 
-fn writes_of(call: VersionsCall) -> Option<Writes>
+fn writes_of(call: VersionsCall) -> Option<SharedWrites>
     ensures { (writes : List Write) → call ≡ write_call writes → result ≡ Some writes }
 {
     match call {
@@ -56,7 +56,7 @@ fn writes_of(call: VersionsCall) -> Option<Writes>
 }
 
 // Takes the copy out that was made for these writes. Where none was, all room goes.
-fn spend_room(room: &mut Vec<VersionsCall>, writes: &Writes) -> Option<Writes>
+fn spend_room(room: &mut Vec<VersionsCall>, writes: &SharedWrites) -> Option<SharedWrites>
     ensures room { room.new.items ≡ spend call_code (write_call writes.now) room.old.items }
     ensures made { IsSome result ↔ IsTrue (is_made call_code (write_call writes.now) room.old.items) }
     ensures copy { IfSome result (λ copy. copy ≡ writes.now) }
@@ -80,9 +80,9 @@ fn new_writes(
     places: &mut Vec<PlaceWrites>,
     rows: &mut KeyRows,
     near: &mut usize,
-    writes: &Writes,
+    writes: &SharedWrites,
     more: usize,
-) -> Result<Writes, NoMemory>
+) -> Result<SharedWrites, NoMemory>
     requires { IsOrdered row_place rows.old.items }
     ensures items { places.new.items ≡ places.old.items }
     ensures len { vec_len places.new ≡ vec_len places.old }
@@ -107,7 +107,7 @@ pub(crate) fn ready_writes(
     rows: &mut KeyRows,
     near: &mut usize,
     room: &mut Vec<VersionsCall>,
-    writes: &Writes,
+    writes: &SharedWrites,
 ) -> Result<(), NoMemory>
     requires ordered { IsOrdered row_place rows.old.items }
     requires places { vec_len places.old + vec_len room.old ≤ vec_capacity places.old }
@@ -134,8 +134,8 @@ pub(crate) fn take_writes(
     rows: &mut KeyRows,
     near: &mut usize,
     room: &mut Vec<VersionsCall>,
-    writes: &Writes,
-) -> Result<Writes, NoMemory>
+    writes: &SharedWrites,
+) -> Result<SharedWrites, NoMemory>
     requires ordered { IsOrdered row_place rows.old.items }
     requires places { vec_len places.old + vec_len room.old ≤ vec_capacity places.old }
     requires covered { IsCovered room.old.items rows.old.items }

@@ -18,7 +18,8 @@ use crate::room::{VersionsCall, ready_writes, take_writes};
 use key_labels::{KeyLabels, KeyRows, copied_rows, count_before, labels_in, position_in};
 use lang_base::copied_items;
 use lang_core::{
-    Cell, Cells, Copied, MOST_SCAN_BYTES, MOST_SCAN_CELLS, NoMemory, Placed, Same, Text, Writes,
+    Cell, Cells, Copied, MOST_SCAN_BYTES, MOST_SCAN_CELLS, NoMemory, Placed, Same, SharedWrites,
+    Text,
 };
 use place_order::Order;
 use std::alloc::Global;
@@ -358,7 +359,7 @@ impl Versions {
         alloc: Global,
         order: &Order,
         label: u64,
-        writes: &Writes,
+        writes: &SharedWrites,
     ) -> Result<(), NoMemory>
         requires rising { IsRising order.now.labels (map label_of self.old.versions) }
         requires label { Contains order.now.labels label }
@@ -392,7 +393,7 @@ impl Versions {
     }
 
     /// Makes room for a `write_at` of these writes, at whichever place.
-    pub fn ready_write_at(&mut self, alloc: Global, writes: &Writes) -> Result<(), NoMemory>
+    pub fn ready_write_at(&mut self, alloc: Global, writes: &SharedWrites) -> Result<(), NoMemory>
         ensures versions { self.new.versions ≡ self.old.versions }
         ensures base { self.new.base ≡ self.old.base }
         ensures ok { OnOk result (self.new.room ≡ self.old.room ++ write_call writes.now ∷ []) }

@@ -8,5 +8,5 @@ invariant_of-cells-2 c =
 
 pub returns-clause-reads : goal.returns-clause-reads
 returns-clause-reads c t k =
-    rw (c.apply_all.ensures, c.reserve.ensures.items, c.in_ok-writes.ensures, c.deref.ensures.value, ← c.cells.view_is, ← c.writes.view_is)
-    (get-apply c.cells.inside.items.items c.writes.inside.items.items t k c.cells.invariant c.writes.invariant)
+    rw (c.apply_all.ensures, c.reserve.ensures.items, c.in_ok-writes.ensures, c.as_slice.ensures.items, ← c.cells.view_is)
+    (get-apply c.cells.inside.items.items c.args.writes.now t k c.cells.invariant c.as_slice.ensures.ordered)
