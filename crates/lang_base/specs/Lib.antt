@@ -3,3 +3,4 @@ pub mod Equal
 pub mod Held
 pub mod Memory
 pub mod Texts
+pub mod Thin

@@ -11,6 +11,7 @@ mod inline;
 mod memory;
 mod seq;
 mod text;
+mod thin_seq;
 mod values;
 
 pub use bytes::Bytes;
@@ -19,3 +20,4 @@ pub use fault::FaultNote;
 pub use memory::{Copied, NoMemory, Same, both};
 pub use seq::{Seq, all_same, copied_items};
 pub use text::Text;
+pub use thin_seq::ThinSeq;

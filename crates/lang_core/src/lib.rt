@@ -20,7 +20,7 @@ pub use inputs::{Inputs, LAST_MOMENT};
 pub use lang_tree::{
     Block, Boxed, Bytes, Copied, Expr, FaultNote, Items, LONGEST_PATH, LONGEST_TEXT, LONGEST_WORD,
     MOST_DEPTH, MOST_SEGMENTS, Method, NoMemory, Op, Program, Route, Routes, Same, Seq, Shared,
-    Stmt, Text, all_visible, is_literal, is_path, is_word, method_named, method_word,
+    Stmt, Text, ThinSeq, all_visible, is_literal, is_path, is_word, method_named, method_word,
 };
 pub use place::{ByPlace, Placed, seek, seek_bytes};
 pub use request::{Answers, LONGEST_WHO, Request, Response, is_who};

@@ -13,7 +13,8 @@ mod stmt;
 pub use expr::{Expr, Op};
 pub use forms::{LONGEST_PATH, LONGEST_TEXT, LONGEST_WORD, is_literal, is_path, is_word};
 pub use lang_base::{
-    Bytes, Copied, FaultNote, NoMemory, Same, Seq, Text, all_same, all_visible, both, copied_items,
+    Bytes, Copied, FaultNote, NoMemory, Same, Seq, Text, ThinSeq, all_same, all_visible, both,
+    copied_items,
 };
 pub use method::{Method, method_named, method_word};
 pub use program::{MOST_DEPTH, MOST_SEGMENTS, Program, Route, Routes};
