@@ -7,7 +7,7 @@ use crate::fields::{
     body_at, method_at, neighbour_at, number_at, object_in, path_at, post_at, who_at,
 };
 use journal_rows::Command;
-use lang_core::{Method, NoMemory, Request, Seq, Text};
+use lang_core::{Method, NoMemory, Request, Text, ThinSeq};
 use serde_json::Value;
 use std::alloc::Global;
 use wire_fields::{ConsoleRequest, ConsoleWord};
@@ -113,7 +113,7 @@ fn request_at(alloc: Global, object: &Value) -> Result<Option<Request>, NoMemory
         path,
         body,
         who,
-        chain: Seq::new(alloc),
+        chain: ThinSeq::new(alloc),
     }))
 }
 

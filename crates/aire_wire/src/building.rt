@@ -8,7 +8,7 @@ use crate::refusals::is_deletion;
 use crate::texts::{method_in, names_in, number_at, status_in, who_or_anyone};
 use http_front::{AireHeader, WireRequest};
 use http_header::HeaderMap;
-use lang_core::{Copied, Method, Name, Names, NoMemory, Request, Response, Seq, Text};
+use lang_core::{Copied, Method, Name, Names, NoMemory, Request, Response, Text, ThinSeq};
 use repair_messages::{AnswerMessage, SetMessage};
 use std::alloc::Global;
 use wire_fields::{ConsoleRequest, ConsoleWord, name_of, number_in, text_at, version_at};
@@ -79,7 +79,7 @@ pub fn outside_request(alloc: Global, request: &WireRequest) -> Result<Request, 
     ensures { IfOk result (λ made. made ≡ outside_request request.now) }
 {
     let who = who_or_anyone(text_at(&request.head, AireHeader::Who));
-    let chain = Seq::new(alloc);
+    let chain = ThinSeq::new(alloc);
     request_of(
         alloc,
         request.method,

@@ -11,7 +11,7 @@ ghost use Rattle.lang_tree.specs.Methods.{method_named};
 
 use http_front::AireHeader;
 use http_header::HeaderMap;
-use lang_core::{Method, Names, NoMemory, Seq, method_named};
+use lang_core::{Method, Names, NoMemory, ThinSeq, method_named};
 use request_names::read_number;
 use std::alloc::{AllocError, Global};
 use wire_fields::{name_of, status_of, text_at};
@@ -75,7 +75,7 @@ fn names_of(alloc: Global, pieces: &[&str]) -> Result<Names, NoMemory>
     requires { All (λ piece. IsTrue (is_name piece.now)) pieces.now }
     ensures { IfOk result (λ names. names ≡ map (λ x. x.now) pieces.now) }
 {
-    let mut names = Seq::new(alloc);
+    let mut names = ThinSeq::new(alloc);
     for piece in pieces {
         names.push(name_of(alloc, piece)?)?;
     }

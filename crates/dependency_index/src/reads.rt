@@ -2,7 +2,7 @@
 ghost use Rattle.std.specs.Prelude.{◌≡◌, ◌↔◌, IsTrue, IfOk, map};
 ghost use Rattle.dependency_index.specs.Reads.{read_at, is_kind};
 
-use lang_core::{Copied, NoMemory, Read, Same, Seq, Text};
+use lang_core::{Copied, NoMemory, Read, Same, Text, ThinSeq};
 use std::alloc::Global;
 
 /// Of what a read is.
@@ -36,7 +36,7 @@ impl Same for ReadAt {
 }
 
 /// Where reads looked, in the order in which they were made.
-pub type ReadsAt = Seq<ReadAt>;
+pub type ReadsAt = ThinSeq<ReadAt>;
 
 fn is_kind(kind: ReadKind, other: ReadKind) -> bool
     ensures { result ≡ is_kind kind other }
@@ -74,7 +74,7 @@ fn place_read(alloc: Global, read: &Read) -> Result<ReadAt, NoMemory>
 pub(crate) fn places_read(alloc: Global, reads: &[Read]) -> Result<ReadsAt, NoMemory>
     ensures { IfOk result (λ places. places ≡ map read_at reads.now) }
 {
-    let mut places = Seq::new(alloc);
+    let mut places = ThinSeq::new(alloc);
     for read in reads {
         places.push(place_read(alloc, read)?)?;
     }

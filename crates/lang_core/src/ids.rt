@@ -3,7 +3,7 @@ ghost use Rattle.std.specs.Prelude.{◌≡◌, ◌↔◌, IfOk, IsTrue, if◌the
 ghost use Rattle.std.specs.List.{list_all};
 ghost use Rattle.lang_core.specs.Names.{is_name_byte, is_name};
 
-use lang_tree::{Copied, NoMemory, Same, Seq, Text};
+use lang_tree::{Copied, NoMemory, Same, Text, ThinSeq};
 use std::alloc::Global;
 use std::marker::Model;
 
@@ -89,7 +89,7 @@ impl Same for Name {
 }
 
 /// Names of services, in order.
-pub type Names = Seq<Name>;
+pub type Names = ThinSeq<Name>;
 
 /// A request, by the service that logged it and its number there, from 1.
 #[derive(Drop)]

@@ -3,7 +3,7 @@ ghost use Rattle.std.specs.Prelude.{◌≡◌};
 ghost use Rattle.lang_core.specs.Names.{is_who};
 
 use crate::ids::Names;
-use lang_tree::{Copied, Method, NoMemory, Same, Seq, Text, all_visible, both};
+use lang_tree::{Copied, Method, NoMemory, Same, Text, ThinSeq, all_visible, both};
 use std::alloc::Global;
 
 /// The most bytes of a user's name or a token.
@@ -75,4 +75,4 @@ impl Same for Response {
 }
 
 /// The answers of a request's calls, in the order of the calls.
-pub type Answers = Seq<Response>;
+pub type Answers = ThinSeq<Response>;

@@ -6,7 +6,7 @@ use crate::cells::Cells;
 use crate::ids::Name;
 use crate::request::{Answers, Request, Response};
 use crate::shared_writes::SharedWrites;
-use lang_tree::{Copied, NoMemory, Same, Seq, Text, both};
+use lang_tree::{Copied, NoMemory, Same, Text, ThinSeq, both};
 use std::alloc::Global;
 
 /// What a run read of its rows, and what it found.
@@ -27,7 +27,7 @@ pub enum Read {
 }
 
 /// Reads, in the order in which they were made.
-pub type Reads = Seq<Read>;
+pub type Reads = ThinSeq<Read>;
 
 fn copied_key(
     alloc: Global,
@@ -107,7 +107,7 @@ pub struct CallMade {
 }
 
 /// Calls, in the order in which they were made.
-pub type Calls = Seq<CallMade>;
+pub type Calls = ThinSeq<CallMade>;
 
 impl Copied for CallMade {
     fn copied(&self, alloc: Global) -> Result<CallMade, NoMemory> {

@@ -9,7 +9,9 @@ ghost use Rattle.local_repair.specs.Parts.{same_response};
 
 use crate::slots::Slots;
 use execution::{Ran, View, run};
-use lang_core::{Answers, CallMade, Copied, NoMemory, Response, Same, Seq, Setting, Text, Trace};
+use lang_core::{
+    Answers, CallMade, Copied, NoMemory, Response, Same, Setting, Text, ThinSeq, Trace,
+};
 use request_log::{Entry, Made, dead_trace};
 use std::alloc::Global;
 
@@ -96,7 +98,7 @@ fn live_trace<S: Slots, V: View>(
     ensures again { IfOk result (λ t. t ≡ trace_through 17 (λ xs. run_of setting.now entry.now.request entry.now.inputs xs (V.rows view.now))
         (answer_at (S.consumed_of slots.now) old.now entry.now.slots) []) }
 {
-    let mut answers: Answers = Seq::new(alloc);
+    let mut answers: Answers = ThinSeq::new(alloc);
     for turn in 0..MOST_TURNS {
         match run_entry(alloc, setting, view, entry, &answers)? {
             Ran::Done(trace) => return Ok(trace),

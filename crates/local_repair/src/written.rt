@@ -8,7 +8,7 @@ ghost use Rattle.local_repair.specs.Held.{reads_of, IsKept, IsMarkedFrom, IsPutA
 ghost use Rattle.local_repair.specs.Written.{all_written};
 
 use crate::current::is_held;
-use lang_core::{NoMemory, Reads, Seq, SharedWrites};
+use lang_core::{NoMemory, Reads, SharedWrites, ThinSeq};
 use log_index::{EntryMarks, EntryRows};
 use request_log::{Entry, KeptEntry, Log, LogFull, MOST_ENTRIES, Numbers};
 use std::alloc::Global;
@@ -82,7 +82,7 @@ fn ready_rows(
     ensures ready_marks { OnOk result (IsReadyToMark at (reads_of entry.now.made) marks.new) }
 {
     let no_writes = SharedWrites::new();
-    let no_reads = Seq::new(alloc);
+    let no_reads = ThinSeq::new(alloc);
     rows.ready_insert(alloc, at, writes_of(entry, &no_writes))?;
     marks.ready_insert(alloc, at, reads_of(entry, &no_reads))
 }
@@ -127,7 +127,7 @@ fn insert_parts(
     ensures marks { IsPutAt at entry.now (rows_before at rows.old) marks.old marks.new }
 {
     let no_writes = SharedWrites::new();
-    let no_reads = Seq::new(alloc);
+    let no_reads = ThinSeq::new(alloc);
     let marked = !is_held(rows, at, entry);
     rows.insert(alloc, at, writes_of(entry, &no_writes));
     marks.insert(alloc, at, reads_of(entry, &no_reads), marked);

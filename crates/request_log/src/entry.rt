@@ -5,13 +5,13 @@ ghost use Rattle.request_log.specs.Entries.{asking, is_alive, mark, with_run};
 
 use lang_base::both;
 use lang_core::{
-    Copied, Inputs, NoMemory, Origin, Request, Response, Seq, Shared, SharedWrites, Text, Trace,
+    Copied, Inputs, NoMemory, Origin, Request, Response, Shared, SharedWrites, Text, ThinSeq, Trace,
 };
 use std::alloc::Global;
 use std::marker::Model;
 
 /// Numbers, in order.
-pub type Numbers = Seq<u64>;
+pub type Numbers = ThinSeq<u64>;
 
 /// An entry's record: its last trace, and the aliveness, version and request for which it was made.
 #[derive(Drop)]
@@ -49,6 +49,9 @@ pub struct Entry {
     /// How often it ran.
     pub runs: u64,
 }
+
+// An entry of a log is never taken out, so what each of them holds is paid for good.
+const _: () = prove!(size_of::<Entry>() == 216);
 
 /// An entry as a log keeps it, seen as the entry: behind a pointer, so that a log moves few bytes for each when one is put
 /// between others, and one that is put into a log is handed on as it stands.
@@ -170,9 +173,9 @@ pub fn dead_trace(alloc: Global) -> Result<Trace, NoMemory>
 {
     let body = Text::of(alloc, "")?;
     Ok(Trace {
-        reads: Seq::new(alloc),
-        calls: Seq::new(alloc),
-        answers: Seq::new(alloc),
+        reads: ThinSeq::new(alloc),
+        calls: ThinSeq::new(alloc),
+        answers: ThinSeq::new(alloc),
         writes: SharedWrites::new(),
         response: Response { status: 410, body },
     })

@@ -8,7 +8,7 @@ ghost use Rattle.script_lines.specs.declared.line.Line.{Line};
 
 use crate::line::Line;
 use crate::parts::{body_part, cut_word, name_part, path_part, who_part};
-use lang_core::{Method, Name, NoMemory, Request, Seq, Text, method_named};
+use lang_core::{Method, Name, NoMemory, Request, Text, ThinSeq, method_named};
 use std::alloc::Global;
 use world_events::Event;
 
@@ -50,7 +50,7 @@ pub fn request_of(alloc: Global, who: Text, asked: (Method, Text, Text)) -> Requ
         path,
         body,
         who,
-        chain: Seq::new(alloc),
+        chain: ThinSeq::new(alloc),
     }
 }
 

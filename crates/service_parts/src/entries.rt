@@ -6,7 +6,7 @@ ghost use Rattle.service_events.specs.State.{next_id};
 ghost use Rattle.service_parts.specs.Parts.{kept};
 
 use crate::parts::Parts;
-use lang_core::{Inputs, NoMemory, Origin, Request, Seq, Shared};
+use lang_core::{Inputs, NoMemory, Origin, Request, Shared, ThinSeq};
 use local_repair::Repairer;
 use request_log::{Entry, KeptEntry, Log};
 use std::alloc::Global;
@@ -38,7 +38,7 @@ pub fn created(alloc: Global, id: u64, request: Shared<Request>, inputs: Shared<
         struck: false,
         inputs,
         made: None,
-        slots: Seq::new(alloc),
+        slots: ThinSeq::new(alloc),
         answer_version: 0,
         runs: 0,
     }

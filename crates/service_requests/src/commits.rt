@@ -12,7 +12,7 @@ use call_registers::Reply;
 use flights::Flight;
 use journal_rows::{AnsweredRow, AskedRow, Row, TookHow, TookRow};
 use lang_base::both;
-use lang_core::{Copied, Name, NoMemory, Origin, Request, Seq, Shared, Trace};
+use lang_core::{Copied, Name, NoMemory, Origin, Request, Shared, ThinSeq, Trace};
 use repair_messages::copied_pair;
 use request_log::{Entry, KeptEntry, Made, Numbers};
 use service_parts::{Draft, Parts, drafted, next_id, next_index, note, note_row, push_deleted};
@@ -162,7 +162,7 @@ fn live_answer(
 fn first_numbers(alloc: Global, numbers: &[u64], count: u64) -> Result<Numbers, NoMemory>
     ensures { IfOk result (λ first. first ≡ take count numbers.now) }
 {
-    let mut first = Seq::new(alloc);
+    let mut first = ThinSeq::new(alloc);
     for (i, number) in numbers.iter().enumerate() {
         if i as u64 == count {
             return Ok(first);

@@ -5,8 +5,8 @@ ghost use Rattle.request_log.specs.Entries.{find_call};
 
 use journal_rows::{Outstanding, Verdict};
 use lang_core::{
-    Cell, Cells, Inputs, Method, Name, Names, NoMemory, Origin, Request, Response, Seq, Shared,
-    Text,
+    Cell, Cells, Inputs, Method, Name, Names, NoMemory, Origin, Request, Response, Shared, Text,
+    ThinSeq,
 };
 use report_text::{log_text, push_response, rows_text, verdict_text};
 use request_log::{Entry, KeptEntry, Log, Made, dead_trace};
@@ -55,7 +55,7 @@ fn request(alloc: Global, method: Method, path: &str, who: &str) -> Result<Reque
         path: Text::of(alloc, path)?,
         body: Text::of(alloc, "asked")?,
         who: Text::of(alloc, who)?,
-        chain: Seq::new(alloc),
+        chain: ThinSeq::new(alloc),
     })
 }
 
@@ -146,7 +146,7 @@ fn line_of(
         struck,
         inputs: Shared::new(alloc, inputs())?,
         made: made_of(alloc, response)?,
-        slots: Seq::new(alloc),
+        slots: ThinSeq::new(alloc),
         answer_version: 9,
         runs: 5,
     };
