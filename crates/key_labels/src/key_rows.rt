@@ -8,11 +8,10 @@ ghost use Rattle.key_labels.specs.Rows.{row_place};
 
 use crate::hints::{hinted, note_new, stands_in};
 use crate::rows::KeyLabels;
-use lang_core::{NoMemory, Text, seek_bytes};
+use lang_core::{NoMemory, Text, order_of};
 use lang_lists::count_front;
 use std::alloc::Global;
 use std::marker::Model;
-use std::slice::from_ref;
 
 /// The last number of a slot, so that each is a number of 32 bits and is none that says that no slot is meant.
 const MOST_NUMBER: usize = 4_294_967_294;
@@ -87,17 +86,17 @@ pub(crate) fn row_at<'a>(slots: &'a Vec<KeyLabels>, order: &Vec<u32>, place: usi
     &slots[order[place] as usize]
 }
 
-// Whether a row stands before the place of a key with these bytes: the order is that in which a list of this one row is searched.
+// Whether a row stands before the place of a key with these bytes.
 fn is_below(row: &KeyLabels, table: &Text, key: &[u8]) -> bool
     ensures { result ≡ is_gt (place_order (place_of table.now key.now) (row_place row.now)) }
 {
-    seek_bytes(from_ref(row), table, key).0 == 1
+    order_of(row, table, key).is_gt()
 }
 
 fn is_at(row: &KeyLabels, table: &Text, key: &[u8]) -> bool
     ensures { result ≡ is_eq (place_order (place_of table.now key.now) (row_place row.now)) }
 {
-    seek_bytes(from_ref(row), table, key).1
+    order_of(row, table, key).is_eq()
 }
 
 fn is_slot_below(slots: &Vec<KeyLabels>, slot: u32, table: &Text, key: &[u8]) -> bool

@@ -22,7 +22,7 @@ pub use lang_tree::{
     MOST_DEPTH, MOST_SEGMENTS, Method, NoMemory, Op, Program, Route, Routes, Same, Seq, Shared,
     Stmt, Text, ThinSeq, all_visible, is_literal, is_path, is_word, method_named, method_word,
 };
-pub use place::{ByPlace, Placed, seek, seek_bytes};
+pub use place::{ByPlace, Placed, order_of, seek, seek_bytes};
 pub use request::{Answers, LONGEST_WHO, Request, Response, is_who};
 pub use setting::Setting;
 pub use shared_writes::SharedWrites;

@@ -41,8 +41,9 @@ impl<T: Placed> Model for ByPlace<T> {
     ghost invariant = { λ l. IsOrdered T.place l.items.items };
 }
 
-// Most rows that are compared are of one table, which is told sooner than an order.
-fn order_of<T: Placed>(item: &T, table: &Text, key: &[u8]) -> Ordering
+/// How the place at a table, with a key of these bytes, stands to that of an item: `Less` where it comes before it. Most rows
+/// that are compared are of one table, which is told sooner than an order.
+pub fn order_of<T: Placed>(item: &T, table: &Text, key: &[u8]) -> Ordering
     ensures { result ≡ place_order (place_of table.now key.now) (T.place item.now) }
 {
     if table.is(item.table()) {
