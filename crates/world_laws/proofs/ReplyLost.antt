@@ -1,21 +1,27 @@
 -- The same purchase where the bank's reply is lost: the shop answers at once that nothing came, and a post, an answer and a step make good.
-use Rattle.std.proofs.Common.{◌≡◌, ℕ, true, false, List, [], ◌∷◌, ◌++◌, Option, Some, None, Ok, refl, ap, ◌∙◌, arith}
+use Rattle.std.proofs.Common.{◌≡◌, ℕ, Bool, true, false, ◌&&◌, List, [], ◌∷◌, ◌++◌, Option, Some, None, Ok, refl, ap, ◌∙◌, arith, if◌then◌else◌, map, nat_eq}
 use Rattle.std.specs.Coded.{coded_bool, coded_list}
+use Rattle.std.specs.List.{list_all}
 use Rattle.lang_base.specs.Equal.{equal}
 use Rattle.lang_base.proofs.EqualLemmas.{equal-true, equal-same}
 use Rattle.lang_tree.specs.declared.program.Route.{Route}
 use Rattle.lang_core.specs.contracts.request.Request as request
 use Rattle.lang_core.specs.contracts.request.Response as response
 use Rattle.lang_core.specs.contracts.trace.CallMade as call_made
+use Rattle.lang_core.specs.declared.cells.Cell.{Cell}
 use Rattle.lang_core.specs.declared.request.Response.{Response}
 use Rattle.lang_core.specs.declared.trace.CallMade.{CallMade}
 use Rattle.lang_core.specs.declared.trace.Trace.{Trace}
 use Rattle.recorded_inputs.specs.Drawing.{word_after}
 use Rattle.handler_run.specs.Handlers.{run_of}
 use Rattle.handler_run.specs.declared.state.Ran.TheVariants.{Done, Wants}
+use Rattle.request_log.specs.Entries.{is_alive}
 use Rattle.request_log.specs.declared.entry.Entry.{Entry}
 use Rattle.request_log.specs.declared.entry.Made.{Made}
-use Rattle.local_repair.specs.Steps.{tentative, answer_at}
+use Rattle.local_repair.specs.Current.{Consumed}
+use Rattle.local_repair.specs.Steps.{tentative, answer_at, is_new_answer, remade}
+use Rattle.local_repair.specs.Tests.{gives, has_current, is_current}
+use Rattle.local_repair.specs.declared.stepped.Stepped.{Stepped}
 use Rattle.local_repair.specs.declared.stepped.Stepped.TheVariants.{Idle, Ran as RanAgain}
 use Rattle.repair_messages.specs.declared.messages.Ack.{Ack}
 use Rattle.repair_messages.specs.declared.messages.Confirm.{Confirm}
@@ -29,13 +35,13 @@ use Rattle.service_events.specs.Arriving.{told}
 use Rattle.service_events.specs.Calls.{noted}
 use Rattle.service_events.specs.Flying.{goes_on, moved, committed, committed_entry}
 use Rattle.service_events.specs.Messages.{acked_again, saw_ack_row, seen_row, confirmed_row, posted_event}
-use Rattle.service_events.specs.State.{Kept, answers}
-use Rattle.service_events.specs.Steps.{ended_or, rerun, new_trace, stepped}
+use Rattle.service_events.specs.State.{After, Kept, after, answers, base}
+use Rattle.service_events.specs.Steps.{ended_or, rerun, new_numbers, new_trace, stepped, stale_in, step_by, step_event}
 use Rattle.service_events.specs.declared.answers.Posted.TheVariants.{Acked as WasAcked, Confirmed as WasConfirmed}
 use Rattle.service_events.specs.declared.answers.PostReply.TheVariants.{Acked, Confirmed}
 use Rattle.service_events.proofs.PurchaseExample.{shop_name, bank_name, ok}
 use Rattle.world_events.specs.Worlds.{World, loss_note}
-use Rattle.world_events.specs.Events.{Turn, turn}
+use Rattle.world_events.specs.Events.{Turn, turn, turned}
 use Rattle.world_events.specs.declared.event.Event.TheVariants.{Deliver, Lose, Post as Posts, Step}
 use Rattle.world_events.specs.declared.happened.Outcome.TheVariants as came
 use Rattle.world_events.specs.declared.happened.What.{What}
@@ -43,6 +49,42 @@ use Rattle.world_events.specs.declared.happened.What.TheVariants.{CallFailed, Ta
 use Rattle.world_events.specs.declared.packet.Packet.{Packet}
 use Rattle.world_events.specs.declared.packet.Packet.TheVariants.{Post as PostPacket, PostReply as PostReplyPacket}
 use Rattle.world_laws.proofs.PurchaseRun.{buy, pay, i, false_by, shop_setting, shop_named, bank_paid, waiting, the_call, bought_trace, first_call, paid_answer, answered, paying, does}
+
+-- ---- what a step finds
+
+all_hold : {a b c d e : Bool} → a ≡ true → b ≡ true → c ≡ true → d ≡ true → e ≡ true → (a && b && c && d && e) ≡ true
+all_hold ha hb hc hd he = rw ha (rw hb (rw hc (rw hd he)))
+
+last_fails : (a b c d e : Bool) → e ≡ false → (a && b && c && d && e) ≡ false
+last_fails false b c d e h = refl
+last_fails true false c d e h = refl
+last_fails true true false d e h = refl
+last_fails true true true false e h = refl
+last_fails true true true true e h = h
+
+-- an entry that consumed other answers than its calls have now is stale
+answers_apart : {m : Made} (consumed : Consumed) (rows : List Cell) (e : Entry)
+    → e.made ≡ Some m → equal (coded_list response.the_row.coded) m.trace.answers (map consumed e.slots) ≡ false → is_current consumed rows e ≡ false
+answers_apart {m = m} consumed rows e made apart =
+    ap (has_current consumed rows e) made
+    ∙ last_fails (equal coded_bool m.alive (is_alive e)) (nat_eq m.version e.version) (equal request.the_row.coded m.request e.request)
+    (list_all (gives rows) m.trace.reads) (equal (coded_list response.the_row.coded) m.trace.answers (map consumed e.slots)) apart
+
+-- a service whose one entry is current has nothing to run again
+rests : {e : Entry} {m : Made} (s : Kept) → s.entries ≡ e ∷ [] → e.made ≡ Some m
+    → equal coded_bool m.alive (is_alive e) ≡ true → nat_eq m.version e.version ≡ true → equal request.the_row.coded m.request e.request ≡ true
+    → list_all (gives (base s)) m.trace.reads ≡ true → equal (coded_list response.the_row.coded) m.trace.answers (map (answers s) e.slots) ≡ true
+    → step_event s ≡ after s Idle
+rests {e = e} {m = m} s only made alive version asked reads heard =
+    ap (λ es. step_by s (stale_in (answers s) (base s) es)) only
+    ∙ ap (λ (b : Bool). step_by s (if b then None else Some (record { entry = e; rows = base s }))) current
+  where
+    current : is_current (answers s) (base s) e ≡ true
+    current = ap (has_current (answers s) (base s) e) made ∙ all_hold alive version asked reads heard
+
+-- what a step's turn makes of what the service did
+abbrev stepped_turn : List ℕ → World → After Stepped → Turn
+stepped_turn name w x = turned name w (record { service = x.service; what = RepairStep x.answer; packet = None })
 
 module _ (program : List Route) (token : List ℕ) where
   abbrev named : Kept
@@ -187,6 +229,15 @@ module _ (program : List Route) (token : List ℕ) where
   other_answers = false_by (equal (coded_list response.the_row.coded) (tentative ∷ []) (ok ∷ []))
       (λ h. let same : 504 ≡ 200 = ap status_of (equal-true (coded_list response.the_row.coded) (tentative ∷ []) (ok ∷ []) h) in absurd (omega (arith, same)))
 
+  is_stale : is_current (answers heard) [] tried_entry ≡ false
+  is_stale = answers_apart (answers heard) [] tried_entry refl other_answers
+
+  first_stale : stale_in (answers heard) (base heard) heard.entries ≡ Some (record { entry = tried_entry; rows = [] })
+  first_stale = ap (λ (b : Bool). if b then None else Some (record { entry = tried_entry; rows = [] })) is_stale
+
+  new_answer : is_new_answer tried_entry.made made ≡ true
+  new_answer = rw other_answer refl
+
   -- the shop runs again with the answer
   module _ (asks : run_of (shop_setting program token) buy i [] [] ≡ Wants 0 [] the_pay)
       (buys : run_of (shop_setting program token) buy i (ok ∷ []) [] ≡ Done (bought_trace program token)) where
@@ -200,10 +251,17 @@ module _ (program : List Route) (token : List ℕ) where
         ∙ ap (λ r. rerun 16 heard [] tried_entry (r ∷ [])) given
         ∙ ap (λ ran. ended_or ran (λ slot call. rerun 15 heard [] tried_entry (ok ∷ (answer_at (answers heard) (tried_trace.calls) (1 ∷ []) slot call ∷ [])))) buys
 
+    step_is : step_event heard ≡ stepped heard tried_entry made
+    step_is =
+        ap (step_by heard) first_stale
+        ∙ ap (λ t. stepped heard tried_entry (record { alive = true; version = 0; request = buy; trace = t })) runs_again
+
     pub mends : turn before_step (Step shop_name)
         ≡ happens after_step shop_name (RepairStep (RanAgain 1 true)) None
     unfolding turn
-    mends = rw alive_still (rw same_request (rw other_answers (rw runs_again (rw other_answer refl))))
+    mends =
+        ap (stepped_turn shop_name before_step) step_is
+        ∙ ap (λ (b : Bool). happens after_step shop_name (RepairStep (RanAgain 1 b)) None) new_answer
 
   -- and nothing is left to do
   nothing_more : turn after_step (Posts shop_name bank_name)
@@ -219,10 +277,19 @@ module _ (program : List Route) (token : List ℕ) where
   same_answers : equal (coded_list response.the_row.coded) (ok ∷ []) (ok ∷ []) ≡ true
   same_answers = equal-same (coded_list response.the_row.coded) (ok ∷ []) (ok ∷ []) refl
 
+  abbrev mended_entry : Entry
+  mended_entry = remade tried_entry made (new_numbers heard tried_entry made)
+
+  hears_ok : map (answers mended) mended_entry.slots ≡ ok ∷ []
+  hears_ok = rw (same_call, other_answer) refl
+
   shop_rests : turn after_step (Step shop_name)
       ≡ happens after_step shop_name (RepairStep Idle) None
   unfolding turn
-  shop_rests = rw same_call (rw other_answer (rw alive_still (rw same_request (rw same_answers refl))))
+  shop_rests =
+      ap (stepped_turn shop_name after_step)
+      (rests {e = mended_entry} {m = made} mended refl refl alive_still refl same_request refl
+      (ap (equal (coded_list response.the_row.coded) (ok ∷ [])) hears_ok ∙ same_answers))
 
   same_pay : equal request.the_row.coded pay pay ≡ true
   same_pay = equal-same request.the_row.coded pay pay refl
@@ -233,4 +300,4 @@ module _ (program : List Route) (token : List ℕ) where
   bank_rests : turn after_step (Step bank_name)
       ≡ happens after_step bank_name (RepairStep Idle) None
   unfolding turn
-  bank_rests = rw alive_still (rw same_pay (rw no_answers refl))
+  bank_rests = ap (stepped_turn bank_name after_step) (rests settled refl refl alive_still refl same_pay refl no_answers)
