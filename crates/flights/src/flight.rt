@@ -3,7 +3,7 @@ ghost use Rattle.std.specs.Prelude.{◌≡◌};
 ghost use Rattle.flights.specs.Numbers.{awaited};
 
 use lang_base::both;
-use lang_core::{Calls, Copied, Inputs, NoMemory, Origin, Request, Shared, ThinSeq};
+use lang_core::{CallMade, Copied, Inputs, NoMemory, Origin, Request, Seq, Shared};
 use lang_lists::Numbered;
 use repair_messages::copied_pair;
 use std::alloc::Global;
@@ -18,9 +18,9 @@ pub struct Flight {
     pub request: Shared<Request>,
     pub inputs: Shared<Inputs>,
     /// Its calls so far, in the order of its slots.
-    pub calls: Calls,
+    pub calls: Seq<CallMade>,
     /// The numbers of its calls.
-    pub numbers: ThinSeq<u64>,
+    pub numbers: Seq<u64>,
     /// How often a run made another call than the one before it.
     pub changes: u64,
 }

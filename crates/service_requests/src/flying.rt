@@ -6,7 +6,7 @@ ghost use Rattle.service_requests.specs.Endings.{with_call};
 
 use flights::Flight;
 use lang_base::both;
-use lang_core::{CallMade, Copied, NoMemory, ThinSeq};
+use lang_core::{CallMade, Copied, NoMemory, Seq};
 use repair_messages::{SetMessage, copied_pair};
 use service_parts::{Parts, next_of};
 use std::alloc::Global;
@@ -23,10 +23,10 @@ fn replaced<T: Copied + Drop>(
     items: &[T],
     place: u64,
     item: &T,
-) -> Result<ThinSeq<T>, NoMemory>
+) -> Result<Seq<T>, NoMemory>
     ensures { IfOk result (λ list. list ≡ slice_set items.now place item.now) }
 {
-    let mut list = ThinSeq::new(alloc);
+    let mut list = Seq::new(alloc);
     for (i, old) in items.iter().enumerate() {
         let next = either(i as u64 == place, item, old);
         list.push(next.copied(alloc)?)?;

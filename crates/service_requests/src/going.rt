@@ -11,7 +11,7 @@ use crate::completing::go_on;
 use crate::outcome::DraftedEnd;
 use flights::Flight;
 use lang_base::both;
-use lang_core::{Copied, Inputs, NoMemory, Origin, Request, Same, Shared, ThinSeq};
+use lang_core::{Copied, Inputs, NoMemory, Origin, Request, Same, Seq, Shared};
 use service_parts::{Draft, Parts};
 use std::alloc::Global;
 
@@ -64,8 +64,8 @@ pub(crate) fn new_flight(
         origin,
         request,
         inputs,
-        calls: ThinSeq::new(alloc),
-        numbers: ThinSeq::new(alloc),
+        calls: Seq::new(alloc),
+        numbers: Seq::new(alloc),
         changes: 0,
     })
 }
