@@ -1,5 +1,5 @@
 -- The test of equality says what it should.
-use Rattle.std.proofs.Common.{◌≡◌, ◌↔◌, Bool, true, false, ◌&&◌, IsTrue, ℕ, nat_eq, refl, sym, ap, subst, eqb-true, eq-eqb}
+use Rattle.std.proofs.Common.{◌≡◌, ◌↔◌, Bool, true, false, IsTrue, ℕ, nat_eq, refl, sym, ap, subst, eqb-true, eq-eqb}
 use Rattle.std.proofs.lemmas.Bool.{and_from, and_parts}
 use base.Stored.{Coded, Gv, gnil, gnum, gcons}
 use Rattle.lang_base.specs.Equal.{equal_codes, equal}
