@@ -6,14 +6,17 @@ use crate::memory::{Copied, NoMemory, Same};
 use crate::seq::{Seq, all_same};
 use std::alloc::Global;
 use std::marker::Model;
+use std::sync::Arc;
 
-/// A growing list, seen as its elements, for what stands in many values and is mostly empty: it is 16 bytes where a `Seq` is
-/// 24, and has no block of memory while it is empty. With its first element it takes two, one for the elements and one of 24
-/// bytes for their list, and each look at them is a step further: a list that mostly has elements is better a `Seq`.
+/// A growing list, seen as its elements, for what stands in many values, is mostly empty, and hardly changes once it was
+/// copied. It is 16 bytes where a `Seq` is 24, and has no block of memory while it is empty. With its first element it takes
+/// two: one for the elements, and one of 32 bytes for their list and the count of its holders. A copy counts one holder more
+/// and takes none. A list that has other holders is copied before it changes, and they keep theirs. Each look at the elements
+/// is a step further: a list that mostly has elements, and that nobody copies, is better a `Seq`.
 #[derive(Drop)]
 pub struct ThinSeq<T> {
     alloc: Global,
-    items: Option<Box<Seq<T>>>,
+    items: Option<Arc<Seq<T>>>,
 }
 
 // What it is for: a third less than the list that it stands in place of.
@@ -37,16 +40,6 @@ impl<T> ThinSeq<T> {
         ensures { result ≡ [] }
     {
         ThinSeq { alloc, items: None }
-    }
-
-    /// The elements as they are owned, without a copy.
-    pub fn into_items(self) -> Vec<T>
-        ensures { result.items ≡ self }
-    {
-        match self.items {
-            Some(items) => Box::into_inner(items).into_items(),
-            None => Vec::new(self.alloc),
-        }
     }
 
     /// The elements, in order.
@@ -74,30 +67,65 @@ impl<T> ThinSeq<T> {
     }
 }
 
-impl<T: Drop> ThinSeq<T> {
+// A list with one holder.
+fn held_by_one<T: Drop>(alloc: Global, items: Seq<T>) -> Result<Arc<Seq<T>>, NoMemory>
+    ensures { IfOk result (λ held. held.value ≡ items) }
+{
+    Ok(Arc::new(alloc, items)?)
+}
+
+// An equal list with one holder and one more element, which is last.
+fn copied_with<T: Copied + Drop>(
+    alloc: Global,
+    items: &Seq<T>,
+    item: T,
+) -> Result<Arc<Seq<T>>, NoMemory>
+    ensures { IfOk result (λ held. held.value ≡ items.now ++ item ∷ []) }
+{
+    let mut copy = items.copied(alloc)?;
+    copy.push(item)?;
+    held_by_one(alloc, copy)
+}
+
+// Puts one more element last in a list that may have other holders, who keep theirs.
+fn push_held<T: Copied + Drop>(
+    alloc: Global,
+    held: &mut Arc<Seq<T>>,
+    item: T,
+) -> Result<(), NoMemory>
+    ensures ok { OnOk result (held.new.value ≡ held.old.value ++ item ∷ []) }
+    ensures err { OnErr result (held.new.value ≡ held.old.value) }
+{
+    if let Some(items) = Arc::get_mut(held) {
+        return items.push(item);
+    }
+    *held = copied_with(alloc, held, item)?;
+    Ok(())
+}
+
+impl<T: Copied + Drop> ThinSeq<T> {
     /// Puts one more element last. Refused, it is dropped and the list stays.
     pub fn push(&mut self, item: T) -> Result<(), NoMemory>
         ensures ok { OnOk result (self.new ≡ self.old ++ item ∷ []) }
         ensures err { OnErr result (self.new ≡ self.old) }
     {
         match &mut self.items {
-            Some(items) => items.push(item),
+            Some(held) => push_held(self.alloc, held, item),
             None => {
                 let mut items = Seq::new(self.alloc);
                 items.push(item)?;
-                self.items = Some(Box::new(self.alloc, items)?);
+                self.items = Some(held_by_one(self.alloc, items)?);
                 Ok(())
             }
         }
     }
 }
 
-impl<T: Copied + Drop> Copied for ThinSeq<T> {
+impl<T: Drop> Copied for ThinSeq<T> {
     fn copied(&self, alloc: Global) -> Result<ThinSeq<T>, NoMemory> {
         match &self.items {
-            Some(items) => {
-                let copy = items.copied(alloc)?;
-                let items = Some(Box::new(alloc, copy)?);
+            Some(held) => {
+                let items = Some(held.clone()?);
                 Ok(ThinSeq { alloc, items })
             }
             None => Ok(ThinSeq::new(alloc)),

@@ -48,10 +48,10 @@ program_sync : IsSync program.the_row
 program_sync = view_sync _ _ _ _ _ (recorded_sync routes.the_field.row _ _ routes.the_type.to_one (struct_sync (shape routes.the_type) (seq.the_sync _ route_sync, tt)))
 
 setting_send : IsSend setting.the_field.row
-setting_send = struct_send (shape setting.the_type) (name.the_send, (thin.the_send _ name.the_send, (program_send, (search sendable, tt))))
+setting_send = struct_send (shape setting.the_type) (name.the_send, (thin.the_send _ name.the_send name.the_sync, (program_send, (search sendable, tt))))
 
 setting_sync : IsSync setting.the_field.row
-setting_sync = struct_sync (shape setting.the_type) (name.the_sync, (thin.the_sync _ name.the_sync, (program_sync, (search sendable, tt))))
+setting_sync = struct_sync (shape setting.the_type) (name.the_sync, (thin.the_sync _ name.the_send name.the_sync, (program_sync, (search sendable, tt))))
 
 parts_send : IsSend parts.the_field.row
 parts_send = struct_send (shape parts.the_type) (setting_send, (rules.the_send, (repairer.the_send, (flights.the_send, (rows.the_send, (registers.the_send, (replies.the_send, tt)))))))
