@@ -1,5 +1,5 @@
 -- A row that was found in its slot stands at its place among the rows, and an edit of the slot is an edit there.
-use Rattle.std.proofs.Common.{◌≡◌, ℕ, zero, suc, ◌+◌, ◌<◌, ◌≤◌, true, false, cond, List, [], ◌∷◌, length, get_or, set, eqb, refl, sym, ap, ◌∙◌, subst, arith}
+use Rattle.std.proofs.Common.{◌≡◌, ℕ, zero, suc, ◌+◌, ◌-◌, ◌<◌, ◌≤◌, Bool, true, false, cond, List, [], ◌∷◌, length, get_or, set, eqb, refl, sym, ap, ◌∙◌, subst, inl, inr, arith}
 use Rattle.std.specs.declared.cmp.Ordering.{Ordering}
 use Rattle.std.specs.declared.cmp.Ordering.TheVariants.{Less, Equal, Greater}
 use Rattle.std.specs.Ordering.{is_eq, is_gt}
@@ -8,12 +8,15 @@ use Rattle.std.specs.Option.{option_map_or}
 use Rattle.std.specs.Cmp.{Equal-is}
 use Rattle.lang_core.specs.Places.{Place, place_of, place_order, same_place, IsOrdered, by_order, rank, is_taken}
 use Rattle.lang_core.proofs.ReadLemmas.{place_same, same-order}
-use Rattle.lang_core.proofs.SeekLemmas.{parted, found_rank, found_taken, rank_parted, find_none}
-use Rattle.key_labels.specs.KeyRows.{in_order, is_slot_below, IsArranged, IsSlotOf, IsFreeAt}
+use Rattle.std.specs.List.{between}
+use Rattle.std.proofs.lemmas.Bool.{cases_lt}
+use Rattle.std.proofs.lemmas.List.Edits.{length-between, get_or-between}
+use Rattle.lang_core.proofs.SeekLemmas.{parted, found_rank, found_taken, rank_parted, find_none, taken_there, taken_nowhere, sought_front, sought_rest, sought_rank, sought_taken, IsSought as IsTold}
+use Rattle.key_labels.specs.KeyRows.{in_order, is_slot_below, IsArranged, IsSought, IsSlotOf, IsFreeAt}
 use Rattle.key_labels.specs.Rows.{row_place, labels_in, spare_of, spare_in, has_row, KeepsRows}
 use Rattle.key_labels.specs.declared.rows.KeyLabels.{KeyLabels}
 use Rattle.key_labels.proofs.EditLemmas.{StandsAt, GoesAt, row_at, set_ordered, set_labels, set_same, set_kept, set_less, set_rows, set_there, set_made}
-use Rattle.key_labels.proofs.SlotLemmas.{all_at, read_in, length_in, set_in, parted_in, point_in}
+use Rattle.key_labels.proofs.SlotLemmas.{all_at, read_in, length_in, set_in, parted_in, test_at}
 
 -- the order of one row and a place, as a search of a list of this one row tells it
 pub below_one : (o : Ordering) → eqb (by_order o 0 0 1) 1 ≡ is_gt o
@@ -114,15 +117,88 @@ slot_there {order} {slots} {t} {k} {at} {slot} a o rank_is taken inside is =
           ap (λ n. row_place (get_or slots n d)) is ∙ ap row_place (sym (read_in order slots at d a.within inside)) ∙ row_at stands;
     }
 
--- how many rows stand before a place, told by their numbers
-pub rank_told : (order : List ℕ) (slots : List KeyLabels) (p : Place) (at : ℕ) → IsArranged (length slots) order → at ≤ length order
-    → IsPartitionPoint (λ n. is_slot_below p slots n ≡ true) (λ n. is_slot_below p slots n ≡ false) order at → at ≡ rank row_place p (in_order order slots)
-rank_told order slots p at a le point =
-    let long = length_in order slots a.within in
-    rank_parted row_place p (in_order order slots) at (omega (arith, le, long)) (point_in (λ r. is_gt (place_order p (row_place r))) order slots at a.within le point)
+-- ---- a key that is sought between two places
 
-pub slots_parted : (order : List ℕ) (slots : List KeyLabels) (p : Place) → IsArranged (length slots) order → IsOrdered row_place (in_order order slots) → IsPartitionedBy (is_slot_below p slots) order
-slots_parted order slots p a o = parted_in (λ r. is_gt (place_order p (row_place r))) order slots a.within (parted row_place p (in_order order slots) o)
+first : {X : Type 0} (xs : List X) → 0 < length xs → X
+first [] lt = absurd (omega (arith, lt))
+first (x ∷ xs) lt = x
+
+pub sought_all : (p : Place) (items : List KeyLabels) (n : ℕ) → n ≡ length items → IsSought p items 0 n
+sought_all p items n whole = record {
+  front = λ k d below. absurd (omega (arith, below));
+  rest = λ k d from to. absurd (omega (arith, whole, from, to));
+}
+
+module _ {p : Place} {items : List KeyLabels} {low high : ℕ} (s : IsSought p items low high) where
+  told : IsTold row_place p items low high
+  told = record { front = s.front; rest = s.rest }
+
+  -- where the one place has come to the other, that is the rank, and none stands at it
+  pub met_rank : low ≤ length items → high ≤ low → low ≡ rank row_place p items
+  met_rank within met = sought_rank row_place p items low high within met told
+
+  pub met_taken : low ≤ length items → high ≤ low → is_taken row_place p items ≡ false
+  met_taken within met = sought_taken row_place p items low high within met told
+
+  -- none stands at a key of which the rank is where the search ends
+  pub end_taken : high ≤ length items → high ≡ rank row_place p items → is_taken row_place p items ≡ false
+  end_taken within is = elim (cases_lt high (length items)) [
+    | inl lt ↦ (let d = first items (omega (arith, lt)) in
+        let x = get_or items high d in
+        let read : x ≡ get_or items high x = default_read items high d lt in
+        sym (taken_there row_place p items high x is lt read Less (sym (ap (λ r. place_order p (row_place r)) read ∙ s.rest high x (omega arith) lt))))
+    | inr ge ↦ (let whole : high ≡ length items = omega (arith, ge, within) in taken_nowhere row_place p items (sym is ∙ whole))
+  ]
+
+-- after a comparison with the row at a place
+module _ {p : Place} {items : List KeyLabels} (o : IsOrdered row_place items) {place : ℕ} {x : KeyLabels} (lt : place < length items) (is : x ≡ get_or items place x) where
+  pub sought_behind : {low high : ℕ} → Greater ≡ place_order p (row_place x) → IsSought p items low high → IsSought p items (place + 1) high
+  sought_behind {low} {high} h s =
+      let now = sought_front row_place p items o place x lt is low high h (told s) in
+      record { front = now.front; rest = now.rest }
+
+  pub sought_before : {low high : ℕ} → Less ≡ place_order p (row_place x) → IsSought p items low high → IsSought p items low place
+  sought_before {low} {high} h s =
+      let now = sought_rest row_place p items o place x lt is low high h (told s) in
+      record { front = now.front; rest = now.rest }
+
+-- a place of the order is one of the rows
+pub row_inside : (order : List ℕ) (slots : List KeyLabels) {place : ℕ} → IsArranged (length slots) order → place < length order → place < length (in_order order slots)
+row_inside order slots a lt = let long = length_in order slots a.within in omega (arith, lt, long)
+
+-- how many rows stand before a key that is sought between two places, told by their numbers
+pub rank_told : (order : List ℕ) (slots : List KeyLabels) (p : Place) (low high n : ℕ) → IsArranged (length slots) order → low ≤ high → high ≤ length order
+    → IsSought p (in_order order slots) low high → n ≤ high - low
+    → IsPartitionPoint (λ n. is_slot_below p slots n ≡ true) (λ n. is_slot_below p slots n ≡ false) (between low high order) n → low + n ≡ rank row_place p (in_order order slots)
+rank_told order slots p low high n a ends within s le point =
+    let items = in_order order slots in
+    let long = length_in order slots a.within in
+    let part = length-between order low high within in
+    let same : (k : ℕ) (d : KeyLabels) → low ≤ k → k < high → is_slot_below p slots (get_or (between low high order) (k - low) 0) ≡ is_gt (place_order p (row_place (get_or items k d))) = λ k d from to.
+    let there : low + (k - low) ≡ k = omega (arith, from) in
+    ap (is_slot_below p slots) (get_or-between order low high (k - low) 0 (omega (arith, from, to)) ∙ ap (λ i. get_or order i 0) there)
+    ∙ test_at (λ r. is_gt (place_order p (row_place r))) order slots k d a.within (omega (arith, within, to)) in
+    rank_parted row_place p items (low + n) (omega (arith, le, ends, within, long)) (
+      λ k d from to. elim (cases_lt k low) [
+        | inl less ↦ ap is_gt (s.front k d less)
+        | inr ge ↦ sym (same k d ge (omega (arith, to, le, ends))) ∙ point.0 (k - low) 0 (omega arith) (omega (arith, ge, to))
+      ],
+      λ k d from to. elim (cases_lt k high) [
+        | inl less ↦ sym (same k d (omega (arith, from)) less) ∙ point.1 (k - low) 0 (omega (arith, from)) (omega (arith, part, from, less))
+        | inr ge ↦ ap is_gt (s.rest k d ge to)
+      ],
+    )
+
+parted_between : {X : Type 0} (test : X → Bool) (xs : List X) (low high : ℕ) → high ≤ length xs → IsPartitionedBy test xs → IsPartitionedBy test (between low high xs)
+parted_between test xs low high within parted i j d le lt h =
+    let part = length-between xs low high within in
+    ap test (get_or-between xs low high i d (omega (arith, part, le, lt)))
+    ∙ parted (low + i) (low + j) d (omega (arith, le)) (omega (arith, part, within, lt)) (sym (ap test (get_or-between xs low high j d (omega (arith, part, lt)))) ∙ h)
+
+pub slots_parted : (order : List ℕ) (slots : List KeyLabels) (p : Place) (low high : ℕ) → IsArranged (length slots) order → IsOrdered row_place (in_order order slots) → high ≤ length order
+    → IsPartitionedBy (is_slot_below p slots) (between low high order)
+slots_parted order slots p low high a o within =
+    parted_between (is_slot_below p slots) order low high within (parted_in (λ r. is_gt (place_order p (row_place r))) order slots a.within (parted row_place p (in_order order slots) o))
 
 -- a key without a row has no labels and no places for one
 module _ {seen items : List KeyLabels} {t k : List ℕ} {at : ℕ} (same : seen ≡ items) (o : IsOrdered row_place items) (free : IsFreeAt (place_of t k) seen at) where

@@ -1,7 +1,7 @@
 -- What stands in slots, in the order of their numbers.
 use Rattle.std.proofs.Common.{◌≡◌, ◌≢◌, ℕ, zero, suc, ◌+◌, ◌<◌, ◌≤◌, Bool, true, false, List, [], ◌∷◌, ◌++◌, Option, Some, length, get_or, set, take, drop, nat_eq, refl, sym, ap, ◌∙◌, subst, inl, inr, arith, eq-eqb}
 use Rattle.std.specs.List.{AllByRecursion, AllZip, slice_get, insert}
-use Rattle.std.specs.List.Sorted.{IsPartitionedBy, IsPartitionPoint}
+use Rattle.std.specs.List.Sorted.{IsPartitionedBy}
 use Rattle.std.specs.Option.{option_map_or, option_to_list}
 use Rattle.std.proofs.lemmas.Bool.{cases_lt, ne_eqb, false≢true}
 use Rattle.std.proofs.lemmas.List.{append_assoc, get_or_default}
@@ -175,7 +175,7 @@ module _ {X : Type 0} where
   pub test_is : (test : X → Bool) (slots : List X) (n : ℕ) (x : X) → n < length slots → x ≡ get_or slots n x → test x ≡ test_in test slots n
   test_is test slots n x lt is = ap test is ∙ sym (ap (λ o. option_map_or test o false) (slice_get-get_or slots n x lt))
 
-  test_at : (test : X → Bool) (order : List ℕ) (slots : List X) (i : ℕ) (d : X) → AllByRecursion (λ n. n < length slots) order → i < length order
+  pub test_at : (test : X → Bool) (order : List ℕ) (slots : List X) (i : ℕ) (d : X) → AllByRecursion (λ n. n < length slots) order → i < length order
       → test_in test slots (get_or order i 0) ≡ test (get_or (in_order order slots) i d)
   test_at test order slots i d all lt = ap (λ o. option_map_or test o false) (slot_at order slots i d all lt)
 
@@ -187,15 +187,6 @@ module _ {X : Type 0} where
       let long = length_in order slots all in
       let passes : test (get_or (in_order order slots) j x.0) ≡ true = sym (test_at test order slots j x.0 all lt) ∙ ap (test_in test slots) (get_or_default order j 0 d lt) ∙ h in
       ap (test_in test slots) (get_or_default order i d 0 inside) ∙ test_at test order slots i x.0 all inside ∙ parted i j x.0 le (omega (arith, lt, long)) passes
-
-  pub point_in : (test : X → Bool) (order : List ℕ) (slots : List X) (at : ℕ) → AllByRecursion (λ n. n < length slots) order → at ≤ length order
-      → IsPartitionPoint (λ n. test_in test slots n ≡ true) (λ n. test_in test slots n ≡ false) order at
-      → IsPartitionPoint (λ x. test x ≡ true) (λ x. test x ≡ false) (in_order order slots) at
-  point_in test order slots at all le point =
-      let long = length_in order slots all in (
-        λ k d from to. sym (test_at test order slots k d all (omega (arith, le, to))) ∙ point.0 k 0 from to,
-        λ k d from to. let lt : k < length order = omega (arith, to, long) in sym (test_at test order slots k d all lt) ∙ point.1 k 0 from lt,
-      )
 
 -- ---- a copy of each slot
 

@@ -2,6 +2,7 @@
 use Rattle.std.specs.Prelude.{ℕ, ◌≡◌, ◌<◌, ◌≤◌, Bool, false, List, [], ◌∷◌, ◌++◌, length, option_to_list, slice_get, slice_index, slice_index_or}
 use Rattle.std.specs.List.{AllByRecursion}
 use Rattle.std.specs.Option.{option_map_or}
+use Rattle.std.specs.declared.cmp.Ordering.TheVariants.{Less, Greater}
 use Rattle.std.specs.Ordering.{is_gt}
 use Rattle.lang_core.specs.Places.{Place, place_order, rank, is_taken}
 use Rattle.key_labels.specs.Rows.{row_place}
@@ -22,6 +23,11 @@ pub record IsArranged (count : ℕ) (order : List ℕ) : Type 0 where
   pub within : AllByRecursion (λ n. n < count) order
   pub apart : IsApart order
   pub each : (n : ℕ) → n < count → (i : ℕ) × (i < length order) × (slice_index order i ≡ n)
+
+-- a key is sought between two places: the rows before the first are below it, and those from the second on above it
+pub record IsSought (p : Place) (rows : List KeyLabels) (low high : ℕ) : Type 0 where
+  pub front : (k : ℕ) (d : KeyLabels) → k < low → place_order p (row_place (slice_index_or rows k d)) ≡ Greater
+  pub rest : (k : ℕ) (d : KeyLabels) → high ≤ k → k < length rows → place_order p (row_place (slice_index_or rows k d)) ≡ Less
 
 -- the row of a key stands in a slot
 pub record IsSlotOf (p : Place) (slots : List KeyLabels) (slot : ℕ) : Type 0 where

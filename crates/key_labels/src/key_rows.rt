@@ -3,7 +3,7 @@ ghost use Rattle.std.specs.Prelude.{◌≡◌, ◌<◌, ◌≤◌, [], length, i
 ghost use Rattle.std.specs.Result.{MatchResult};
 ghost use Rattle.std.specs.Ordering.{is_eq, is_gt};
 ghost use Rattle.lang_core.specs.Places.{IsOrdered, IsRank, place_of, place_order, rank, is_taken};
-ghost use Rattle.key_labels.specs.KeyRows.{in_order, is_slot_below, IsArranged, IsSlotOf, IsFreeAt};
+ghost use Rattle.key_labels.specs.KeyRows.{in_order, is_slot_below, IsArranged, IsSought, IsSlotOf, IsFreeAt};
 ghost use Rattle.key_labels.specs.Rows.{row_place};
 
 use crate::hints::{hinted, note_new, stands_in};
@@ -11,6 +11,7 @@ use crate::rows::KeyLabels;
 use lang_core::{NoMemory, Text, order_of};
 use lang_lists::count_front;
 use std::alloc::Global;
+use std::cmp::Ordering;
 use std::marker::Model;
 
 /// The last number of a slot, so that each is a number of 32 bits and is none that says that no slot is meant.
@@ -28,6 +29,8 @@ pub struct KeyRows {
     pub(crate) order: Vec<u32>,
     // Numbers of slots by hash, on which nothing rests.
     pub(crate) hints: Vec<u32>,
+    // The place in the order at which the newest row was put, on which nothing rests.
+    pub(crate) newest: usize,
 }
 
 impl Model for KeyRows {
@@ -50,6 +53,7 @@ impl KeyRows {
             slots: Vec::new(alloc),
             order: Vec::new(alloc),
             hints: Vec::new(alloc),
+            newest: 0,
         }
     }
 
@@ -106,22 +110,58 @@ fn is_slot_below(slots: &Vec<KeyLabels>, slot: u32, table: &Text, key: &[u8]) ->
     is_below(&slots[slot as usize], table, key)
 }
 
-// How many of these rows stand before the place of a key with these bytes, in their order.
-fn count_below(slots: &Vec<KeyLabels>, order: &Vec<u32>, table: &Text, key: &[u8]) -> usize
+// How many rows stand before the place of a key with these bytes, which is sought between two places of the order by halves.
+fn count_below(
+    slots: &Vec<KeyLabels>,
+    order: &Vec<u32>,
+    low: usize,
+    high: usize,
+    table: &Text,
+    key: &[u8],
+) -> usize
     requires arranged { IsArranged (length slots.now.items) order.now.items }
     requires ordered { IsOrdered row_place (in_order order.now.items slots.now.items) }
+    requires ends { low ≤ high }
+    requires within { high ≤ length order.now.items }
+    requires sought { IsSought (place_of table.now key.now) (in_order order.now.items slots.now.items) low high }
     ensures rank { result ≡ rank row_place (place_of table.now key.now) (in_order order.now.items slots.now.items) }
-    ensures within { result ≤ length order.now.items }
+    ensures within { result ≤ high }
 {
-    count_front(
-        order,
+    let front = count_front(
+        &order[low..high],
         |slot: &u32|
             requires { slot.now < length slots.now.items }
         { is_slot_below(slots, *slot, table, key) },
-    )
+    );
+    low + front
 }
 
-/// The same, and whether a row stands at the key.
+// The same, and whether a row stands at the key.
+fn rank_between(
+    slots: &Vec<KeyLabels>,
+    order: &Vec<u32>,
+    low: usize,
+    high: usize,
+    table: &Text,
+    key: &[u8],
+) -> (usize, bool)
+    requires arranged { IsArranged (length slots.now.items) order.now.items }
+    requires ordered { IsOrdered row_place (in_order order.now.items slots.now.items) }
+    requires ends { low ≤ high }
+    requires within { high ≤ length order.now.items }
+    requires sought { IsSought (place_of table.now key.now) (in_order order.now.items slots.now.items) low high }
+    ensures rank { result.0 ≡ rank row_place (place_of table.now key.now) (in_order order.now.items slots.now.items) }
+    ensures taken { result.1 ≡ is_taken row_place (place_of table.now key.now) (in_order order.now.items slots.now.items) }
+    ensures within { IsRank result.0 result.1 (length order.now.items) }
+{
+    let at = count_below(slots, order, low, high, table, key);
+    if at == high {
+        return (at, false);
+    }
+    (at, is_at(row_at(slots, order, at), table, key))
+}
+
+/// How many rows stand before the place of a key with these bytes, in their order, and whether a row stands at the key.
 pub(crate) fn rank_in(
     slots: &Vec<KeyLabels>,
     order: &Vec<u32>,
@@ -134,19 +174,68 @@ pub(crate) fn rank_in(
     ensures taken { result.1 ≡ is_taken row_place (place_of table.now key.now) (in_order order.now.items slots.now.items) }
     ensures within { IsRank result.0 result.1 (length order.now.items) }
 {
-    let at = count_below(slots, order, table, key);
-    if at == order.len() {
-        return (at, false);
-    }
-    (at, is_at(row_at(slots, order, at), table, key))
+    rank_between(slots, order, 0, order.len(), table, key)
 }
 
-/// The slot of the row of a key, which is looked for in this one first, then by hints and at last by halves; where there is none,
-/// its place in the list.
+// The same, where all rows before a place stand before the key. The row there is compared before any behind it.
+fn rank_from(
+    slots: &Vec<KeyLabels>,
+    order: &Vec<u32>,
+    place: usize,
+    table: &Text,
+    key: &[u8],
+) -> (usize, bool)
+    requires arranged { IsArranged (length slots.now.items) order.now.items }
+    requires ordered { IsOrdered row_place (in_order order.now.items slots.now.items) }
+    requires within { place ≤ length order.now.items }
+    requires sought { IsSought (place_of table.now key.now) (in_order order.now.items slots.now.items) place (length order.now.items) }
+    ensures rank { result.0 ≡ rank row_place (place_of table.now key.now) (in_order order.now.items slots.now.items) }
+    ensures taken { result.1 ≡ is_taken row_place (place_of table.now key.now) (in_order order.now.items slots.now.items) }
+    ensures within { IsRank result.0 result.1 (length order.now.items) }
+{
+    let end = order.len();
+    if place == end {
+        return (place, false);
+    }
+    match order_of(row_at(slots, order, place), table, key) {
+        Ordering::Less => (place, false),
+        Ordering::Equal => (place, true),
+        Ordering::Greater => rank_between(slots, order, place + 1, end, table, key),
+    }
+}
+
+// The same, where the row at a place, which may be any, is compared first, and then the one behind it: keys are often made in
+// order, so that a new one stands right behind the one before it.
+fn rank_near(
+    slots: &Vec<KeyLabels>,
+    order: &Vec<u32>,
+    place: usize,
+    table: &Text,
+    key: &[u8],
+) -> (usize, bool)
+    requires arranged { IsArranged (length slots.now.items) order.now.items }
+    requires ordered { IsOrdered row_place (in_order order.now.items slots.now.items) }
+    ensures rank { result.0 ≡ rank row_place (place_of table.now key.now) (in_order order.now.items slots.now.items) }
+    ensures taken { result.1 ≡ is_taken row_place (place_of table.now key.now) (in_order order.now.items slots.now.items) }
+    ensures within { IsRank result.0 result.1 (length order.now.items) }
+{
+    if place >= order.len() {
+        return rank_in(slots, order, table, key);
+    }
+    match order_of(row_at(slots, order, place), table, key) {
+        Ordering::Less => rank_between(slots, order, 0, place, table, key),
+        Ordering::Equal => (place, true),
+        Ordering::Greater => rank_from(slots, order, place + 1, table, key),
+    }
+}
+
+/// The slot of the row of a key, which is looked for in this one first, then by hints, then beside the newest row and at last by
+/// halves; where there is none, its place in the list.
 pub(crate) fn slot_in(
     slots: &Vec<KeyLabels>,
     order: &Vec<u32>,
     hints: &Vec<u32>,
+    newest: usize,
     near: usize,
     table: &Text,
     key: &Text,
@@ -162,7 +251,7 @@ pub(crate) fn slot_in(
     if let Some(slot) = hinted(slots, hints, table, key) {
         return Ok(slot);
     }
-    let (at, taken) = rank_in(slots, order, table, key.as_bytes());
+    let (at, taken) = rank_near(slots, order, newest, table, key.as_bytes());
     if taken {
         Ok(order[at] as usize)
     } else {
@@ -191,6 +280,7 @@ pub(crate) fn put_new(
     slots: &mut Vec<KeyLabels>,
     order: &mut Vec<u32>,
     hints: &mut Vec<u32>,
+    newest: &mut usize,
     at: usize,
     number: u32,
     row: KeyLabels,
@@ -206,4 +296,5 @@ pub(crate) fn put_new(
     let _ = order.insert(at, number);
     slots.push_reserved(row);
     note_new(slots, order, hints, number);
+    *newest = at;
 }

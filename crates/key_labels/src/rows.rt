@@ -130,7 +130,15 @@ pub fn labels_near<'a>(rows: &'a KeyRows, near: usize, table: &Text, key: &Text)
     requires { IsOrdered row_place rows.now.items }
     ensures { result.now ≡ labels_in rows.now.items table.now key.now }
 {
-    match slot_in(&rows.slots, &rows.order, &rows.hints, near, table, key) {
+    match slot_in(
+        &rows.slots,
+        &rows.order,
+        &rows.hints,
+        rows.newest,
+        near,
+        table,
+        key,
+    ) {
         Ok(slot) => rows.slots[slot].labels(),
         Err(_) => &[],
     }
@@ -180,6 +188,7 @@ fn add_row(
         &mut rows.slots,
         &mut rows.order,
         &mut rows.hints,
+        &mut rows.newest,
         at,
         number,
         row,
@@ -205,7 +214,15 @@ pub fn make_row(
     ensures spare { OnOk result (spare ≤ spare_in rows.new.items table.now key.now) }
     ensures row { OnOk result (has_row rows.new.items table.now key.now ≡ true) }
 {
-    match slot_in(&rows.slots, &rows.order, &rows.hints, *near, table, key) {
+    match slot_in(
+        &rows.slots,
+        &rows.order,
+        &rows.hints,
+        rows.newest,
+        *near,
+        table,
+        key,
+    ) {
         Ok(slot) => {
             *near = slot;
             rows.slots[slot].reserve(spare)
@@ -248,6 +265,7 @@ pub fn copied_rows(alloc: Global, rows: &KeyRows) -> Result<KeyRows, NoMemory>
         slots,
         order,
         hints,
+        newest: rows.newest,
     })
 }
 
@@ -269,7 +287,15 @@ pub fn insert_label(
         ≤ spare_in rows.new.items t k + (if same_place (place_of table.now key.now) (place_of t k) then 1 else 0) }
     ensures rows { KeepsRows rows.old.items rows.new.items }
 {
-    match slot_in(&rows.slots, &rows.order, &rows.hints, near, table, key) {
+    match slot_in(
+        &rows.slots,
+        &rows.order,
+        &rows.hints,
+        rows.newest,
+        near,
+        table,
+        key,
+    ) {
         Ok(slot) => rows.slots[slot].insert(at, label),
         Err(_) => {}
     }
@@ -310,6 +336,7 @@ pub fn drop_label(rows: &mut KeyRows, table: &Text, key: &Text, label: u64)
         &rows.slots,
         &rows.order,
         &rows.hints,
+        rows.newest,
         usize::MAX,
         table,
         key,
@@ -333,6 +360,7 @@ pub fn drop_label_in(order: &Order, rows: &mut KeyRows, table: &Text, key: &Text
         &rows.slots,
         &rows.order,
         &rows.hints,
+        rows.newest,
         usize::MAX,
         table,
         key,

@@ -7,16 +7,16 @@ use Rattle.key_labels.proofs.key_rows.slot_in.Goals as goal
 pub returns-then-taken : goal.returns-then-taken
 returns-then-taken c =
     let order = c.args.order.now.items in
-    let inside = c.rank_in-at.ensures.within.there c.if-taken.true in
-    slot_there c.requires.arranged c.requires.ordered (rw c.as_bytes.ensures at c.rank_in-at.ensures.rank) (sym (rw c.as_bytes.ensures at c.rank_in-at.ensures.taken) ∙ c.if-taken.true) inside
-    (get_or_read order c.rank_in-at.result.0 c.index.result.now inside c.index.ensures 0)
+    let inside = c.rank_near-at.ensures.within.there c.if-taken.true in
+    slot_there c.requires.arranged c.requires.ordered (rw c.as_bytes.ensures at c.rank_near-at.ensures.rank) (sym (rw c.as_bytes.ensures at c.rank_near-at.ensures.taken) ∙ c.if-taken.true) inside
+    (get_or_read order c.rank_near-at.result.0 c.index.result.now inside c.index.ensures 0)
 
 pub returns-else-taken : goal.returns-else-taken
 returns-else-taken c =
     let long = length_in c.args.order.now.items c.args.slots.now.items c.requires.arranged.within in
-    let le = c.rank_in-at.ensures.within.within in
+    let le = c.rank_near-at.ensures.within.within in
     record {
       within = omega (arith, long, le);
-      rank = rw c.as_bytes.ensures at c.rank_in-at.ensures.rank;
-      free = sym (rw c.as_bytes.ensures at c.rank_in-at.ensures.taken) ∙ c.if-taken.false;
+      rank = rw c.as_bytes.ensures at c.rank_near-at.ensures.rank;
+      free = sym (rw c.as_bytes.ensures at c.rank_near-at.ensures.taken) ∙ c.if-taken.false;
     }

@@ -1,0 +1,48 @@
+use Rattle.std.proofs.Common.{◌<◌, length, refl, sym, ◌∙◌, arith}
+use Rattle.lang_core.specs.Places.{place_of, place_order}
+use Rattle.lang_core.proofs.SeekLemmas.{taken_there}
+use Rattle.key_labels.specs.KeyRows.{in_order}
+use Rattle.key_labels.specs.Rows.{row_place}
+use Rattle.key_labels.proofs.KeyRowLemmas.{end_taken}
+use Rattle.key_labels.proofs.SlotLemmas.{length_in}
+use Rattle.key_labels.proofs.key_rows.rank_between.Goals as goal
+
+pub returns-then-at-high-clause-taken : goal.returns-then-at-high-clause-taken
+returns-then-at-high-clause-taken c =
+    let within = c.requires.within in
+    let long = length_in c.args.order.now.items c.args.slots.now.items c.requires.arranged.within in
+    sym (end_taken c.requires.sought (omega (arith, within, long)) (sym c.if-at-high.true ∙ c.count_below-at.ensures.rank))
+
+pub returns-then-at-high-clause-within : goal.returns-then-at-high-clause-within
+returns-then-at-high-clause-within c =
+    let le = c.count_below-at.ensures.within in
+    let within = c.requires.within in
+    record { within = omega (arith, le, within); there = λ e. cc }
+
+pub row_at-requires-clause-place : goal.row_at-requires-clause-place
+row_at-requires-clause-place c =
+    let le = c.count_below-at.ensures.within in
+    let within = c.requires.within in
+    let inside : c.count_below-at.result < c.args.high = grind (arith, c.if-at-high.false) in
+    omega (arith, inside, within)
+
+pub returns-clause-within : goal.returns-clause-within
+returns-clause-within c =
+    let le = c.count_below-at.ensures.within in
+    let within = c.requires.within in
+    let inside : c.count_below-at.result < c.args.high = grind (arith, c.if-at-high.false) in
+    record { within = omega (arith, le, within); there = λ e. omega (arith, inside, within) }
+
+pub returns-clause-taken : goal.returns-clause-taken
+returns-clause-taken c =
+    let order = c.args.order.now.items in
+    let slots = c.args.slots.now.items in
+    let p = place_of c.args.table.now c.args.key.now in
+    let at = c.count_below-at.result in
+    let le = c.count_below-at.ensures.within in
+    let within = c.requires.within in
+    let inside : at < c.args.high = grind (arith, c.if-at-high.false) in
+    let long = length_in order slots c.requires.arranged.within in
+    let lt : at < length (in_order order slots) = omega (arith, inside, within, long) in
+    c.is_at.ensures
+    ∙ taken_there row_place p (in_order order slots) at c.row_at.result.now c.count_below-at.ensures.rank lt c.row_at.ensures (place_order p (row_place c.row_at.result.now)) refl
