@@ -12,4 +12,6 @@ mod labels;
 #[cfg(test)]
 mod many;
 #[cfg(test)]
+mod new_keys;
+#[cfg(test)]
 mod versions;

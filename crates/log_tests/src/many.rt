@@ -30,7 +30,7 @@ fn written(alloc: Global, from: u64, to: u64, text: &str) -> Result<SharedWrites
     SharedWrites::of(alloc, writes)
 }
 
-fn put(
+pub(crate) fn put(
     alloc: Global,
     order: &Order,
     versions: &mut Versions,

@@ -20,7 +20,11 @@ pub(crate) fn write(alloc: Global, key: &str, text: Option<&str>) -> Result<Writ
     Ok(Write { table, key, text })
 }
 
-fn one_write(alloc: Global, key: &str, text: Option<&str>) -> Result<SharedWrites, NoMemory> {
+pub(crate) fn one_write(
+    alloc: Global,
+    key: &str,
+    text: Option<&str>,
+) -> Result<SharedWrites, NoMemory> {
     let mut writes = Writes::new(alloc);
     writes.set(write(alloc, key, text)?)?;
     SharedWrites::of(alloc, writes)
