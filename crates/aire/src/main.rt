@@ -4,13 +4,13 @@
 ghost use Rattle.std.specs.Prelude.{◌≡◌, IfOk, codes, string_bytes};
 ghost use Rattle.std.specs.Str.{IsUtf8};
 
-use aire_top::{Ended, TellingDoor, aire, lacking_status};
-use io_edge::{Connection, Reading, RealFiles, Writing};
+use aire_top::{TellingDoor, aire, lacking_status, leave};
+use io_edge::{Reading, RealFiles, Writing};
 use io_links::SystemSpawner;
 use std::alloc::{AllocError, Global};
 use std::env::{Env, FillError};
+use std::io;
 use std::process::ExitCode;
-use std::{io, mem};
 use system_inputs::{SystemClock, SystemWords};
 use tcp_links::{StopSignal, TcpDoor, TcpLink};
 
@@ -53,23 +53,6 @@ fn words_of(rt: &impl Env, alloc: Global) -> Result<Vec<String>, AllocError> {
         words.push(word)?;
     }
     Ok(words)
-}
-
-// Leaves what a command answered, but closes the connection on which an operator asked to stop. Memory goes with the process.
-fn leave<C: Connection + Drop>(ended: Ended<C>) -> u8
-    ensures { result ≡ ended.status }
-{
-    let Ended {
-        status,
-        services,
-        verdict: _,
-        receipts,
-        last,
-    } = ended;
-    mem::forget(services);
-    mem::forget(receipts);
-    drop(last);
-    status
 }
 
 fn main(rt: HostRuntime) -> ExitCode {

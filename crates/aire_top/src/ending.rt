@@ -17,6 +17,7 @@ use journal_rows::Verdict;
 use node_run::{Last, Receipt};
 use script_run::{Service, World, judge};
 use std::alloc::Global;
+use std::mem;
 use world_file::WorldRefused;
 
 /// How a command ended: its status, its services and the verdict over them, a receipt for each live request that they answered
@@ -59,6 +60,24 @@ pub fn plain<C: Connection + Drop>(alloc: Global, outcome: Outcome) -> Ended<C>
         receipts: Vec::new(alloc),
         last: None,
     }
+}
+
+/// The status of how a command ended, when the process ends with it: services and receipts are left to the system, which takes
+/// their memory back at once, and the connection on which an operator asked to stop is closed.
+pub fn leave<C: Connection + Drop>(ended: Ended<C>) -> u8
+    ensures { result ≡ ended.status }
+{
+    let Ended {
+        status,
+        services,
+        verdict: _,
+        receipts,
+        last,
+    } = ended;
+    mem::forget(services);
+    mem::forget(receipts);
+    drop(last);
+    status
 }
 
 /// The end of a run without services.
