@@ -19,7 +19,6 @@ pub enum Kinds {
 }
 
 /// From whom a repair comes that a rule is about.
-#[derive(Drop)]
 pub enum Senders {
     Any,
     /// An operator at the console.
@@ -28,8 +27,15 @@ pub enum Senders {
     Only(Name),
 }
 
+impl Drop for Senders {
+    fn drop(self) {
+        match self {
+            Self::Any | Self::Console | Self::Only(_) => {}
+        }
+    }
+}
+
 /// For whom a repair comes that a rule is about.
-#[derive(Drop)]
 pub enum Users {
     Any,
     /// The user for whom the request came that is repaired.
@@ -38,8 +44,15 @@ pub enum Users {
     Only(Text),
 }
 
+impl Drop for Users {
+    fn drop(self) {
+        match self {
+            Self::Any | Self::Same | Self::Only(_) => {}
+        }
+    }
+}
+
 /// A rule: what it decides, and which repairs it is about.
-#[derive(Drop)]
 pub struct Rule {
     pub verb: Verb,
     pub kind: Kinds,
@@ -48,6 +61,18 @@ pub struct Rule {
     /// A path. An allowing rule is about repairs each of whose paths begins with it, a denying one about those of which
     /// one does.
     pub prefix: Text,
+}
+
+impl Drop for Rule {
+    fn drop(self) {
+        let Self {
+            verb: _,
+            kind: _,
+            from: _,
+            who: _,
+            prefix: _,
+        } = self;
+    }
 }
 
 impl Copied for Senders {

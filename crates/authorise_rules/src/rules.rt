@@ -12,9 +12,14 @@ use std::marker::Model;
 pub const MOST_RULES: u64 = 256;
 
 /// A service's rules in their order, seen as a list: at most 256, each of whose parts is of its form.
-#[derive(Drop)]
 pub struct Rules {
     items: Seq<Rule>,
+}
+
+impl Drop for Rules {
+    fn drop(self) {
+        let Self { items: _ } = self;
+    }
 }
 
 impl Model for Rules {

@@ -6,9 +6,14 @@ use std::alloc::Global;
 
 /// At the number of each call, counted from 1, the number of the entry that had it last; 0 where that isn't known. Nothing is
 /// proved of it: who takes one looks whether the entry has the call.
-#[derive(Drop)]
 pub(crate) struct Homes {
     entries: Vec<u64>,
+}
+
+impl Drop for Homes {
+    fn drop(self) {
+        let Self { entries: _ } = self;
+    }
 }
 
 // An entry for each of so many calls, as far as there is room.

@@ -37,7 +37,6 @@ pub enum Why {
 }
 
 /// What is kept of one of the service's own calls.
-#[derive(Drop)]
 pub struct Register {
     /// The call's number, from 1, never used again.
     pub number: u64,
@@ -59,6 +58,23 @@ pub struct Register {
     pub repair_who: Text,
     /// The index in the journal at which its last version was named.
     pub since: u64,
+}
+
+impl Drop for Register {
+    fn drop(self) {
+        let Self {
+            number: _,
+            dest: _,
+            version: _,
+            desired: _,
+            acked: _,
+            answer: _,
+            told: _,
+            held: _,
+            repair_who: _,
+            since: _,
+        } = self;
+    }
 }
 
 impl Copied for Answer {

@@ -14,11 +14,19 @@ use std::marker::Model;
 
 /// Registers in the order of their numbers, which are 1, 2, 3 and so on, with the keys of those whose last version isn't
 /// acknowledged. Contracts see the registers, and for how many there are places; a change of one takes no memory.
-#[derive(Drop)]
 pub(crate) struct RegisterList {
     list: Vec<Register>,
     // It has a place for each register.
     waiting: AgeQueue,
+}
+
+impl Drop for RegisterList {
+    fn drop(self) {
+        let Self {
+            list: _,
+            waiting: _,
+        } = self;
+    }
 }
 
 impl Model for RegisterList {

@@ -17,11 +17,16 @@ use std::marker::Model;
 
 /// The registers of a service, in the order of their numbers, which are 1, 2, 3 and so on, with spare room for more. Of those
 /// whose last version isn't acknowledged it keeps the order by receiver and age.
-#[derive(Drop)]
 pub struct Registers {
     list: RegisterList,
     // Nothing that contracts see.
     homes: Homes,
+}
+
+impl Drop for Registers {
+    fn drop(self) {
+        let Self { list: _, homes: _ } = self;
+    }
 }
 
 impl Model for Registers {

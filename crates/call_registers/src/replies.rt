@@ -23,12 +23,21 @@ pub struct RepliesCall {
 
 /// The replies of a service, in the order of their entries' numbers. Of those that are due it keeps the order by receiver and
 /// age; a change of one takes no memory.
-#[derive(Drop)]
 pub struct Replies {
     list: Vec<Reply>,
     // It has a place for each reply, and for each for which room was made.
     due: AgeQueue,
     room: Vec<RepliesCall>,
+}
+
+impl Drop for Replies {
+    fn drop(self) {
+        let Self {
+            list: _,
+            due: _,
+            room: _,
+        } = self;
+    }
 }
 
 impl Model for Replies {

@@ -29,11 +29,20 @@ pub type Labels = Seq<u64>;
 
 /// Where the reads of each label looked, which contracts see as a list in the order of the labels' numbers, and the room
 /// that was made for calls to come.
-#[derive(Drop)]
 pub struct Index {
     noted: Vec<Noted>,
     rows: ReadRows,
     room: Vec<IndexCall>,
+}
+
+impl Drop for Index {
+    fn drop(self) {
+        let Self {
+            noted: _,
+            rows: _,
+            room: _,
+        } = self;
+    }
 }
 
 impl Model for Index {

@@ -10,10 +10,15 @@ use lang_core::{Copied, NoMemory, Same};
 use std::alloc::Global;
 
 /// Where the reads of a label looked.
-#[derive(Drop)]
 pub struct Noted {
     pub label: u64,
     pub reads: ReadsAt,
+}
+
+impl Drop for Noted {
+    fn drop(self) {
+        let Self { label: _, reads: _ } = self;
+    }
 }
 
 impl Copied for Noted {

@@ -15,12 +15,21 @@ pub enum ReadKind {
 }
 
 /// Where a read looked, whatever it found.
-#[derive(Drop)]
 pub struct ReadAt {
     pub kind: ReadKind,
     pub table: Text,
     /// The key, or the prefix.
     pub key: Text,
+}
+
+impl Drop for ReadAt {
+    fn drop(self) {
+        let Self {
+            kind: _,
+            table: _,
+            key: _,
+        } = self;
+    }
 }
 
 impl Copied for ReadAt {

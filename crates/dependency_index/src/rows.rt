@@ -16,12 +16,21 @@ use lang_core::{NoMemory, Text};
 use std::alloc::Global;
 
 /// For each key and each prefix that was ever read, the labels that read it now, in the order of their numbers.
-#[derive(Drop)]
 pub struct ReadRows {
     pub keys: KeyRows,
     pub scans: KeyRows,
     /// The slot of the last row that was made or looked for to be made: who makes room for a read puts a label there next.
     pub near: usize,
+}
+
+impl Drop for ReadRows {
+    fn drop(self) {
+        let Self {
+            keys: _,
+            scans: _,
+            near: _,
+        } = self;
+    }
 }
 
 /// Rows with the same labels.

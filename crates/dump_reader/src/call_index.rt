@@ -8,10 +8,18 @@ use lang_lists::HashIndex;
 use std::alloc::Global;
 
 /// Numbers of calls, and beside each the place of the entry that has the call.
-#[derive(Drop)]
 pub(crate) struct CallIndex {
     pub(crate) numbers: HashIndex,
     pub(crate) places: Vec<usize>,
+}
+
+impl Drop for CallIndex {
+    fn drop(self) {
+        let Self {
+            numbers: _,
+            places: _,
+        } = self;
+    }
 }
 
 impl CallIndex {

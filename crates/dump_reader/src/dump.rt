@@ -9,7 +9,6 @@ use lang_core::{Answers, Calls, Cells, Inputs, Origin, Request, Response, Seq, S
 pub type Numbers = Seq<u64>;
 
 /// A request of a service, with what it drew, called, consumed and answered.
-#[derive(Drop)]
 pub struct DumpEntry {
     /// Its number at the service, from 1.
     pub id: u64,
@@ -32,6 +31,24 @@ pub struct DumpEntry {
     pub reply: Option<Response>,
 }
 
+impl Drop for DumpEntry {
+    fn drop(self) {
+        let Self {
+            id: _,
+            origin: _,
+            version: _,
+            wanted: _,
+            struck: _,
+            inputs: _,
+            request: _,
+            numbers: _,
+            calls: _,
+            answers: _,
+            reply: _,
+        } = self;
+    }
+}
+
 /// A service: what it is set to do, its entries, and its rows after the last of them.
 #[derive(Drop)]
 pub struct DumpService {
@@ -43,8 +60,13 @@ pub struct DumpService {
 
 /// What a dump says. No name of a service stands in it twice, and in a service no number of an entry, no call that an entry
 /// comes from, no number of a call, and no table and key of a row.
-#[derive(Drop)]
 pub struct Dump {
     pub services: DumpServices,
     ghost kept: { ∥ AreKept services ∥₁ },
+}
+
+impl Drop for Dump {
+    fn drop(self) {
+        let Self { services: _ } = self;
+    }
 }

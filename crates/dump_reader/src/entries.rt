@@ -18,7 +18,6 @@ use std::marker::Model;
 
 /// Entries in logged order, which contracts see as a list. An entry, the call that it comes from and each call of its own
 /// are found without a walk.
-#[derive(Drop)]
 pub struct DumpEntries {
     items: Vec<DumpEntry>,
     // Their numbers.
@@ -27,6 +26,17 @@ pub struct DumpEntries {
     origins: HashIndex,
     // The numbers of their calls, each with the place of its entry.
     calls: CallIndex,
+}
+
+impl Drop for DumpEntries {
+    fn drop(self) {
+        let Self {
+            items: _,
+            ids: _,
+            origins: _,
+            calls: _,
+        } = self;
+    }
 }
 
 impl Model for DumpEntries {

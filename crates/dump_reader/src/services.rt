@@ -13,11 +13,16 @@ use std::alloc::Global;
 use std::marker::Model;
 
 /// Services in the order of the dump, which contracts see as a list. One is found by its name without a walk.
-#[derive(Drop)]
 pub struct DumpServices {
     items: Vec<DumpService>,
     // The keys of their names.
     names: HashIndex,
+}
+
+impl Drop for DumpServices {
+    fn drop(self) {
+        let Self { items: _, names: _ } = self;
+    }
 }
 
 impl Model for DumpServices {

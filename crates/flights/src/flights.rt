@@ -11,9 +11,14 @@ use std::alloc::Global;
 use std::marker::Model;
 
 /// Flights in the order of their numbers, with spare room. No two have one number.
-#[derive(Drop)]
 pub struct Flights {
     list: Sorted<Flight>,
+}
+
+impl Drop for Flights {
+    fn drop(self) {
+        let Self { list: _ } = self;
+    }
 }
 
 impl Model for Flights {

@@ -10,7 +10,6 @@ use lang_tree::Method;
 use std::alloc::{AllocError, AllocFailed, Global};
 
 /// A request as it comes or goes over the wire.
-#[derive(Drop)]
 pub struct WireRequest {
     pub method: Method,
     /// The target, which is a path.
@@ -20,13 +19,33 @@ pub struct WireRequest {
     pub body: Text,
 }
 
+impl Drop for WireRequest {
+    fn drop(self) {
+        let Self {
+            method: _,
+            path: _,
+            head: _,
+            body: _,
+        } = self;
+    }
+}
+
 /// A response as it comes or goes over the wire.
-#[derive(Drop)]
 pub struct WireResponse {
     pub status: u16,
     /// The fields of the head, under their names in lower case.
     pub head: HeaderMap,
     pub body: Text,
+}
+
+impl Drop for WireResponse {
+    fn drop(self) {
+        let Self {
+            status: _,
+            head: _,
+            body: _,
+        } = self;
+    }
 }
 
 // An equal map of fields.

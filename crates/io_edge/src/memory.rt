@@ -8,7 +8,6 @@ use std::alloc::Global;
 
 /// A source in memory, which tells its bytes. It gives at most so many bytes a read, and fails at
 /// the reads that it is told to.
-#[derive(Drop)]
 pub struct MemorySource {
     bytes: Vec<u8>,
     at: usize,
@@ -16,6 +15,17 @@ pub struct MemorySource {
     calls: FailingCalls,
     ghost in_bytes: { at ≤ length bytes.items },
     ghost moves_on: { 0 < most },
+}
+
+impl Drop for MemorySource {
+    fn drop(self) {
+        let Self {
+            bytes: _,
+            at: _,
+            most: _,
+            calls: _,
+        } = self;
+    }
 }
 
 impl MemorySource {
@@ -114,12 +124,21 @@ impl Source for MemorySource {
 
 /// A sink in memory, which tells what was written. It takes at most so many bytes a write, and
 /// fails at the writes that it is told to. Want of memory for the bytes is a failed write too.
-#[derive(Drop)]
 pub struct MemorySink {
     bytes: Vec<u8>,
     most: usize,
     calls: FailingCalls,
     ghost moves_on: { 0 < most },
+}
+
+impl Drop for MemorySink {
+    fn drop(self) {
+        let Self {
+            bytes: _,
+            most: _,
+            calls: _,
+        } = self;
+    }
 }
 
 impl MemorySink {

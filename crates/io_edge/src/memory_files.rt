@@ -11,18 +11,32 @@ use lang_base::{Bytes, Copied, Seq, Text};
 use std::alloc::Global;
 
 /// A file in memory: the path that it is loaded by, and its bytes.
-#[derive(Drop)]
 pub struct MemoryFile {
     pub path: Text,
     pub bytes: Bytes,
 }
 
+impl Drop for MemoryFile {
+    fn drop(self) {
+        let Self { path: _, bytes: _ } = self;
+    }
+}
+
 /// Files in memory. Of two with the same path the first counts.
-#[derive(Drop)]
 pub struct MemoryFiles {
     files: Seq<MemoryFile>,
     asked: Seq<Text>,
     calls: FailingCalls,
+}
+
+impl Drop for MemoryFiles {
+    fn drop(self) {
+        let Self {
+            files: _,
+            asked: _,
+            calls: _,
+        } = self;
+    }
 }
 
 fn found<'a>(files: &'a [MemoryFile], path: &str) -> Option<&'a MemoryFile>

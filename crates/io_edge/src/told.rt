@@ -2,11 +2,20 @@
 ghost use Rattle.std.specs.Prelude.{◌≡◌, ◌≤◌, ◌↔◌, IsTrue};
 
 /// The calls that are to fail, counted from 1, how many were made, and how many failed.
-#[derive(Drop)]
 pub struct FailingCalls {
     pub failing: Vec<u64>,
     pub made: u64,
     pub faults: u64,
+}
+
+impl Drop for FailingCalls {
+    fn drop(self) {
+        let Self {
+            failing: _,
+            made: _,
+            faults: _,
+        } = self;
+    }
 }
 
 impl FailingCalls {

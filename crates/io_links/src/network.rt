@@ -44,11 +44,20 @@ impl From<Failed> for CallRefused {
 /// A call waits at its address until an ear there hears it, and its caller until the connection
 /// that was given for it is dropped: what was written to that is the reply. So services that call
 /// each other run over it as over a real one. Where an ear closes, the calls that wait there fail.
-#[derive(Drop)]
 pub struct MemoryNetwork {
     patience: Duration,
     traffic: Mutex<Traffic>,
     changed: Condvar,
+}
+
+impl Drop for MemoryNetwork {
+    fn drop(self) {
+        let Self {
+            patience: _,
+            traffic: _,
+            changed: _,
+        } = self;
+    }
 }
 
 impl MemoryNetwork {

@@ -10,9 +10,14 @@ use crate::failing::FailingCalls;
 use io_edge::Failed;
 
 /// Starts threads of the system. A start is refused where the system makes no thread.
-#[derive(Drop)]
 pub struct SystemSpawner {
     refusals: u64,
+}
+
+impl Drop for SystemSpawner {
+    fn drop(self) {
+        let Self { refusals: _ } = self;
+    }
 }
 
 impl SystemSpawner {
@@ -46,9 +51,14 @@ impl Spawner for SystemSpawner {
 }
 
 /// Starts threads of the system, but for the starts that it is told to refuse.
-#[derive(Drop)]
 pub struct MemorySpawner {
     starts: FailingCalls,
+}
+
+impl Drop for MemorySpawner {
+    fn drop(self) {
+        let Self { starts: _ } = self;
+    }
 }
 
 impl MemorySpawner {

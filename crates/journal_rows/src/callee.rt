@@ -7,7 +7,6 @@ use repair_messages::copied_pair;
 use std::alloc::Global;
 
 /// An entry was made.
-#[derive(Drop)]
 pub struct AskedRow {
     /// The entry's number: 1, 2, 3 and so on.
     pub id: u64,
@@ -15,6 +14,17 @@ pub struct AskedRow {
     /// What was asked first, and what its runs draw from outside, both of which the entry holds too.
     pub request: Shared<Request>,
     pub inputs: Shared<Inputs>,
+}
+
+impl Drop for AskedRow {
+    fn drop(self) {
+        let Self {
+            id: _,
+            origin: _,
+            request: _,
+            inputs: _,
+        } = self;
+    }
 }
 
 /// How a version of a caller's call was taken.
@@ -27,7 +37,6 @@ pub enum TookHow {
 }
 
 /// A version of a caller's call was taken, live with the commit of its entry or by a message.
-#[derive(Drop)]
 pub struct TookRow {
     pub caller: Name,
     /// The caller's number for the call.
@@ -42,8 +51,21 @@ pub struct TookRow {
     pub rule: u32,
 }
 
+impl Drop for TookRow {
+    fn drop(self) {
+        let Self {
+            caller: _,
+            number: _,
+            version: _,
+            desired: _,
+            how: _,
+            who: _,
+            rule: _,
+        } = self;
+    }
+}
+
 /// A message with a version of a caller's call was acknowledged.
-#[derive(Drop)]
 pub struct AckedRow {
     pub caller: Name,
     /// The caller's number for the call.
@@ -51,8 +73,17 @@ pub struct AckedRow {
     pub version: u64,
 }
 
+impl Drop for AckedRow {
+    fn drop(self) {
+        let Self {
+            caller: _,
+            number: _,
+            version: _,
+        } = self;
+    }
+}
+
 /// An entry has an answer that it didn't have before.
-#[derive(Drop)]
 pub struct AnsweredRow {
     /// The entry's number.
     pub id: u64,
@@ -66,13 +97,35 @@ pub struct AnsweredRow {
     pub live: bool,
 }
 
+impl Drop for AnsweredRow {
+    fn drop(self) {
+        let Self {
+            id: _,
+            origin: _,
+            answer_version: _,
+            version: _,
+            response: _,
+            live: _,
+        } = self;
+    }
+}
+
 /// A caller confirmed an answer.
-#[derive(Drop)]
 pub struct WasConfirmedRow {
     pub caller: Name,
     /// The caller's number for the call.
     pub number: u64,
     pub answer_version: u64,
+}
+
+impl Drop for WasConfirmedRow {
+    fn drop(self) {
+        let Self {
+            caller: _,
+            number: _,
+            answer_version: _,
+        } = self;
+    }
 }
 
 impl Copied for AskedRow {

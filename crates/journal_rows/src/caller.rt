@@ -22,7 +22,6 @@ pub enum AckHow {
 }
 
 /// A version of a call was named: it is to be sent.
-#[derive(Drop)]
 pub struct SentRow {
     /// The call's number: 1, 2, 3 and so on by first appearance.
     pub number: u64,
@@ -31,6 +30,17 @@ pub struct SentRow {
     pub version: u64,
     /// What the call asks from this version on; None where it is to have no effect, for good.
     pub desired: Option<Shared<Request>>,
+}
+
+impl Drop for SentRow {
+    fn drop(self) {
+        let Self {
+            number: _,
+            dest: _,
+            version: _,
+            desired: _,
+        } = self;
+    }
 }
 
 /// A version of a call was seen to be acknowledged.
@@ -43,7 +53,6 @@ pub struct SawAckRow {
 }
 
 /// An answer to a call was seen.
-#[derive(Drop)]
 pub struct SawAnswerRow {
     /// The call's number.
     pub number: u64,
@@ -56,6 +65,20 @@ pub struct SawAnswerRow {
     pub who: Text,
     /// The number of the rule that allowed it, from 1; 0 where it was live.
     pub rule: u32,
+}
+
+impl Drop for SawAnswerRow {
+    fn drop(self) {
+        let Self {
+            number: _,
+            answer_version: _,
+            version: _,
+            response: _,
+            how: _,
+            who: _,
+            rule: _,
+        } = self;
+    }
 }
 
 /// A message with an answer to a call was confirmed.

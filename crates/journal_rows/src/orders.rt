@@ -40,7 +40,6 @@ pub enum About {
 }
 
 /// An order was accepted.
-#[derive(Drop)]
 pub struct OrderedRow {
     /// Which order it is, from 1 to 64 visible characters; one that repeats the token gets the same answer.
     pub token: Text,
@@ -54,6 +53,20 @@ pub struct OrderedRow {
     /// The request that the order put there, where it put one.
     pub repaired: Option<Request>,
     pub about: About,
+}
+
+impl Drop for OrderedRow {
+    fn drop(self) {
+        let Self {
+            token: _,
+            command: _,
+            who: _,
+            rule: _,
+            original: _,
+            repaired: _,
+            about: _,
+        } = self;
+    }
 }
 
 fn copied_replace(

@@ -9,7 +9,6 @@ use lang_core::{Boxed, Copied, NoMemory, Same};
 use std::alloc::Global;
 
 /// A row of a journal.
-#[derive(Drop)]
 pub enum Row {
     /// An entry was made.
     Asked(AskedRow),
@@ -31,6 +30,23 @@ pub enum Row {
     Confirmed(ConfirmedRow),
     /// An order was accepted. Its row is the largest by far and the rarest, so it stands apart.
     Ordered(Boxed<OrderedRow>),
+}
+
+impl Drop for Row {
+    fn drop(self) {
+        match self {
+            Self::Asked(_)
+            | Self::Took(_)
+            | Self::Acked(_)
+            | Self::Answered(_)
+            | Self::WasConfirmed(_)
+            | Self::Sent(_)
+            | Self::SawAck(_)
+            | Self::SawAnswer(_)
+            | Self::Confirmed(_)
+            | Self::Ordered(_) => {}
+        }
+    }
 }
 
 // A journal is never cut, so what stands in each of its rows is paid for good.

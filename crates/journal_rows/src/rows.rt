@@ -20,12 +20,21 @@ use std::marker::Model;
 
 /// The rows of a journal in order, with spare room. They only grow. Its type tells that the rows there are and those that
 /// still go in can be counted in 64 bits.
-#[derive(Drop)]
 pub struct Rows {
     rows: Vec<Row>,
     // Of their keys.
     index: HashIndex,
     weight: u64,
+}
+
+impl Drop for Rows {
+    fn drop(self) {
+        let Self {
+            rows: _,
+            index: _,
+            weight: _,
+        } = self;
+    }
 }
 
 impl Model for Rows {

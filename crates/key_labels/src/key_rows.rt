@@ -21,7 +21,6 @@ const MOST_NUMBER: usize = 4_294_967_294;
 ///
 /// A row stays in the slot in which it came, so that a key that is new moves four bytes for each one behind it, and so that
 /// what names a slot names the same row for ever.
-#[derive(Drop)]
 pub struct KeyRows {
     // In the order in which they came. None ever goes.
     pub(crate) slots: Vec<KeyLabels>,
@@ -31,6 +30,17 @@ pub struct KeyRows {
     pub(crate) hints: Vec<u32>,
     // The place in the order at which the newest row was put, on which nothing rests.
     pub(crate) newest: usize,
+}
+
+impl Drop for KeyRows {
+    fn drop(self) {
+        let Self {
+            slots: _,
+            order: _,
+            hints: _,
+            newest: _,
+        } = self;
+    }
 }
 
 impl Model for KeyRows {

@@ -15,11 +15,20 @@ use place_order::Order;
 use std::alloc::Global;
 
 /// The labels that stand at a key. It may have none.
-#[derive(Drop)]
 pub struct KeyLabels {
     pub table: Text,
     pub key: Text,
     pub labels: Vec<u64>,
+}
+
+impl Drop for KeyLabels {
+    fn drop(self) {
+        let Self {
+            table: _,
+            key: _,
+            labels: _,
+        } = self;
+    }
 }
 
 impl Placed for KeyLabels {

@@ -6,9 +6,14 @@ use std::alloc::Global;
 use std::marker::Model;
 
 /// Bytes that need not be text, seen as their list.
-#[derive(Drop)]
 pub struct Bytes {
     inner: Vec<u8>,
+}
+
+impl Drop for Bytes {
+    fn drop(self) {
+        let Self { inner: _ } = self;
+    }
 }
 
 impl Model for Bytes {

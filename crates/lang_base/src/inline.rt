@@ -7,10 +7,15 @@ use std::marker::Model;
 pub(crate) const INLINE_ROOM: usize = 23;
 
 /// UTF-8 text of at most 23 bytes, seen as its bytes.
-#[derive(Drop)]
 pub(crate) struct InlineText {
     len: u8,
     bytes: [u8; INLINE_ROOM],
+}
+
+impl Drop for InlineText {
+    fn drop(self) {
+        let Self { len: _, bytes: _ } = self;
+    }
 }
 
 impl Model for InlineText {

@@ -11,19 +11,31 @@ use std::marker::Model;
 use std::sync::Arc;
 
 /// What a text holds: a short one stands where it is, so that it needs one block, and a longer one in a block of its own.
-#[derive(Drop)]
 enum Held {
     Inline(InlineText),
     Owned(String),
+}
+
+impl Drop for Held {
+    fn drop(self) {
+        match self {
+            Self::Inline(_) | Self::Owned(_) => {}
+        }
+    }
 }
 
 // With the count of its holders, as much as one block of 48 bytes lends.
 const _: () = prove!(size_of::<Held>() == 32);
 
 /// UTF-8 text, seen as its bytes.
-#[derive(Drop)]
 pub struct Text {
     held: Arc<Held>,
+}
+
+impl Drop for Text {
+    fn drop(self) {
+        let Self { held: _ } = self;
+    }
 }
 
 impl Model for Text {

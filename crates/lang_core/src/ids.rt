@@ -11,9 +11,14 @@ use std::marker::Model;
 pub const LONGEST_NAME: u64 = 32;
 
 /// The name of a service, from 1 to 32 of a-z, 0-9 and `_`, seen as its bytes.
-#[derive(Drop)]
 pub struct Name {
     text: Text,
+}
+
+impl Drop for Name {
+    fn drop(self) {
+        let Self { text: _ } = self;
+    }
 }
 
 impl Model for Name {
@@ -92,17 +97,33 @@ impl Same for Name {
 pub type Names = ThinSeq<Name>;
 
 /// A request, by the service that logged it and its number there, from 1.
-#[derive(Drop)]
 pub struct RequestId {
     pub service: Name,
     pub number: u64,
 }
 
+impl Drop for RequestId {
+    fn drop(self) {
+        let Self {
+            service: _,
+            number: _,
+        } = self;
+    }
+}
+
 /// A call, by the service that made it and its number there, from 1.
-#[derive(Drop)]
 pub struct CallId {
     pub service: Name,
     pub number: u64,
+}
+
+impl Drop for CallId {
+    fn drop(self) {
+        let Self {
+            service: _,
+            number: _,
+        } = self;
+    }
 }
 
 impl Copied for RequestId {
@@ -124,12 +145,23 @@ impl Copied for CallId {
 }
 
 /// Where a request comes from.
-#[derive(Drop)]
 pub enum Origin {
     /// A user.
     Outside,
     /// A call, by the service that made it and its number there, from 1.
     Call { caller: Name, number: u64 },
+}
+
+impl Drop for Origin {
+    fn drop(self) {
+        match self {
+            Self::Outside
+            | Self::Call {
+                caller: _,
+                number: _,
+            } => {}
+        }
+    }
 }
 
 impl Copied for Origin {

@@ -18,13 +18,24 @@ pub fn is_who(text: &Text) -> bool
 }
 
 /// A request, with the user that it came for and the services that called for it, outermost first.
-#[derive(Drop)]
 pub struct Request {
     pub method: Method,
     pub path: Text,
     pub body: Text,
     pub who: Text,
     pub chain: Names,
+}
+
+impl Drop for Request {
+    fn drop(self) {
+        let Self {
+            method: _,
+            path: _,
+            body: _,
+            who: _,
+            chain: _,
+        } = self;
+    }
 }
 
 impl Copied for Request {
@@ -53,10 +64,15 @@ impl Same for Request {
 }
 
 /// A response: a status of HTTP and a body.
-#[derive(Drop)]
 pub struct Response {
     pub status: u16,
     pub body: Text,
+}
+
+impl Drop for Response {
+    fn drop(self) {
+        let Self { status: _, body: _ } = self;
+    }
 }
 
 impl Copied for Response {

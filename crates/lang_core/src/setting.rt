@@ -7,13 +7,23 @@ use std::alloc::Global;
 
 /// A service's own name, the services that it may call, its program, and how heavy its journal may grow. Its own
 /// name isn't among its peers'.
-#[derive(Drop)]
 pub struct Setting {
     pub me: Name,
     pub peers: Names,
     pub program: Program,
     pub weight: u64,
     ghost alone: { ¬ Contains peers me },
+}
+
+impl Drop for Setting {
+    fn drop(self) {
+        let Self {
+            me: _,
+            peers: _,
+            program: _,
+            weight: _,
+        } = self;
+    }
 }
 
 impl Copied for Setting {

@@ -13,18 +13,30 @@ use std::slice::from_ref;
 use std::sync::Arc;
 
 /// Where writes stand: most runs write one key or none, so one stands in the block that counts its holders.
-#[derive(Drop)]
 enum HeldWrites {
     Nothing,
     One(Arc<Write>),
     Many(Arc<Writes>),
 }
 
+impl Drop for HeldWrites {
+    fn drop(self) {
+        match self {
+            Self::Nothing | Self::One(_) | Self::Many(_) => {}
+        }
+    }
+}
+
 /// The writes of a run that ended, which its record and the versions of rows hold together, and which contracts see as the
 /// list of them. They are never changed. None take no block, and one takes one.
-#[derive(Drop)]
 pub struct SharedWrites {
     held: HeldWrites,
+}
+
+impl Drop for SharedWrites {
+    fn drop(self) {
+        let Self { held: _ } = self;
+    }
 }
 
 const _: () = prove!(size_of::<SharedWrites>() == 16);

@@ -10,7 +10,6 @@ use lang_tree::{Copied, NoMemory, Same, Text, ThinSeq, both};
 use std::alloc::Global;
 
 /// What a run read of its rows, and what it found.
-#[derive(Drop)]
 pub enum Read {
     /// One key, and its text, if there was one.
     Key {
@@ -24,6 +23,23 @@ pub enum Read {
         prefix: Text,
         found: Cells,
     },
+}
+
+impl Drop for Read {
+    fn drop(self) {
+        match self {
+            Self::Key {
+                table: _,
+                key: _,
+                found: _,
+            }
+            | Self::Scan {
+                table: _,
+                prefix: _,
+                found: _,
+            } => {}
+        }
+    }
 }
 
 /// Reads, in the order in which they were made.

@@ -11,9 +11,14 @@ use std::marker::Model;
 
 /// Keys in the order of their codes and, of one code, in the order of age. Contracts see them, and for how many there are
 /// places.
-#[derive(Drop)]
 pub struct AgeQueue {
     keys: Vec<AgeKey>,
+}
+
+impl Drop for AgeQueue {
+    fn drop(self) {
+        let Self { keys: _ } = self;
+    }
 }
 
 impl Model for AgeQueue {

@@ -12,13 +12,22 @@ use std::marker::Model;
 ///
 /// A place is told by its end, which is one more, so that 0 says nowhere. Ends are kept as numbers of 32 bits, so that there are
 /// at most 4,294,967,294 keys; beyond them memory counts as lacking.
-#[derive(Drop)]
 pub struct HashIndex {
     keys: Vec<u64>,
     // By place: the end of the key before it in its bucket.
     before: Vec<u32>,
     // By bucket: the end of its last key.
     last: Vec<u32>,
+}
+
+impl Drop for HashIndex {
+    fn drop(self) {
+        let Self {
+            keys: _,
+            before: _,
+            last: _,
+        } = self;
+    }
 }
 
 impl Model for HashIndex {

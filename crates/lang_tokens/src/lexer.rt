@@ -11,10 +11,18 @@ use lang_base::{NoMemory, Seq};
 use std::alloc::Global;
 
 /// The tokens of a text, and for each the place of its first byte.
-#[derive(Drop)]
 pub struct Lexed {
     pub tokens: Seq<Token>,
     pub places: Seq<u64>,
+}
+
+impl Drop for Lexed {
+    fn drop(self) {
+        let Self {
+            tokens: _,
+            places: _,
+        } = self;
+    }
 }
 
 fn plus(rest: &[u8]) -> (Token, &[u8])

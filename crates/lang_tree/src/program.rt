@@ -18,11 +18,20 @@ pub const MOST_SEGMENTS: u64 = 32;
 
 /// A handler, and the requests that it takes: those of the method whose path has as many segments as the pattern,
 /// each equal to the pattern's or where the pattern has `*`.
-#[derive(Drop)]
 pub struct Route {
     pub method: Method,
     pub pattern: Text,
     pub block: Block,
+}
+
+impl Drop for Route {
+    fn drop(self) {
+        let Self {
+            method: _,
+            pattern: _,
+            block: _,
+        } = self;
+    }
 }
 
 /// Routes in order. Of those that match a request the first runs.
@@ -41,9 +50,14 @@ impl Copied for Route {
 /// A program: routes whose parts are of the language's form. Patterns are paths; variables and tables are words that
 /// the language doesn't reserve; numbers are from 0; literals are within their limit; `path` names a segment from 1 to
 /// 32; and blocks and expressions nest at most 32 deep.
-#[derive(Drop)]
 pub struct Program {
     routes: Routes,
+}
+
+impl Drop for Program {
+    fn drop(self) {
+        let Self { routes: _ } = self;
+    }
 }
 
 impl Model for Program {

@@ -21,10 +21,15 @@ pub enum Fault {
 }
 
 /// A variable and its value.
-#[derive(Drop)]
 pub struct Binding {
     pub name: Text,
     pub value: Value,
+}
+
+impl Drop for Binding {
+    fn drop(self) {
+        let Self { name: _, value: _ } = self;
+    }
 }
 
 /// What a run is given beside its rows: the service's name and peers, the request, the segments of its path, its

@@ -9,9 +9,14 @@ use std::alloc::Global;
 use std::marker::Model;
 
 /// Variables that have a value, seen as the list of their bindings.
-#[derive(Drop)]
 pub struct Variables {
     items: Vec<Binding>,
+}
+
+impl Drop for Variables {
+    fn drop(self) {
+        let Self { items: _ } = self;
+    }
 }
 
 impl Model for Variables {

@@ -27,7 +27,6 @@ use std::alloc::Global;
 use std::marker::Model;
 
 /// A log that is repaired a step at a time.
-#[derive(Drop)]
 pub struct Repairer {
     alloc: Global,
     log: Log,
@@ -38,6 +37,18 @@ pub struct Repairer {
     marks: EntryMarks,
     // Whether some entry may have calls.
     calls: bool,
+}
+
+impl Drop for Repairer {
+    fn drop(self) {
+        let Self {
+            alloc: _,
+            log: _,
+            rows: _,
+            marks: _,
+            calls: _,
+        } = self;
+    }
 }
 
 impl Model for Repairer {

@@ -16,13 +16,22 @@ use std::marker::Model;
 /// entries, and the room that was made for calls to come.
 ///
 /// A mark takes no memory: there is a place for the mark of each entry.
-#[derive(Drop)]
 pub struct EntryMarks {
     places: Places,
     // The reads, by the labels of the places.
     index: Index,
     // The places that are marked.
     marks: Marks,
+}
+
+impl Drop for EntryMarks {
+    fn drop(self) {
+        let Self {
+            places: _,
+            index: _,
+            marks: _,
+        } = self;
+    }
 }
 
 impl Model for EntryMarks {

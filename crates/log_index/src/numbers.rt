@@ -10,11 +10,19 @@ use std::marker::Model;
 
 /// Marks go from the front, one after the other. One that goes stays in memory, passed over, until as many are gone as are left
 /// or its place is needed, since taking it out at once would move all others.
-#[derive(Drop)]
 pub(crate) struct Marks {
     numbers: Vec<u64>,
     // So many of the front are gone.
     gone: usize,
+}
+
+impl Drop for Marks {
+    fn drop(self) {
+        let Self {
+            numbers: _,
+            gone: _,
+        } = self;
+    }
 }
 
 impl Model for Marks {

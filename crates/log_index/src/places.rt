@@ -16,10 +16,18 @@ use std::alloc::Global;
 use std::marker::Model;
 
 /// Places in logged order, each with a label of its own.
-#[derive(Drop)]
 pub(crate) struct Places {
     order: Order,
     labels: Vec<u64>,
+}
+
+impl Drop for Places {
+    fn drop(self) {
+        let Self {
+            order: _,
+            labels: _,
+        } = self;
+    }
 }
 
 impl Model for Places {

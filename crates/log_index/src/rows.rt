@@ -14,12 +14,20 @@ use versioned_rows::Versions;
 
 /// What each entry of a log wrote, which contracts see as a list by the places of the entries, and the room that was made
 /// for calls to come. An entry that wrote nothing has its place too.
-#[derive(Drop)]
 pub struct EntryRows {
     // One label for each entry.
     order: Order,
     // No rows stand before all entries.
     versions: Versions,
+}
+
+impl Drop for EntryRows {
+    fn drop(self) {
+        let Self {
+            order: _,
+            versions: _,
+        } = self;
+    }
 }
 
 impl Model for EntryRows {

@@ -52,7 +52,6 @@ pub enum Turn {
 }
 
 /// How far a post is.
-#[derive(Drop)]
 pub enum Posting {
     /// Nothing is outstanding for this service.
     Quiet(Name),
@@ -62,18 +61,36 @@ pub enum Posting {
     Ended { name: PostName, posted: Posted },
 }
 
+impl Drop for Posting {
+    fn drop(self) {
+        match self {
+            Self::Quiet(_) | Self::Next(_) | Self::Ended { name: _, posted: _ } => {}
+        }
+    }
+}
+
 /// What a worker asked that was neither committed nor begun, and what the service answered or why it refused.
-#[derive(Drop)]
 pub struct Gave {
     pub asked: NodeEvent,
     pub done: NodeDone,
 }
 
+impl Drop for Gave {
+    fn drop(self) {
+        let Self { asked: _, done: _ } = self;
+    }
+}
+
 /// A `Gave` or none, which contracts see as an `Option`. It stands behind a pointer, in memory that is taken once, when the
 /// worker's pass is made: so nothing has to wait for memory to note the next one.
-#[derive(Drop)]
 pub struct LastGave {
     items: Vec<Gave>,
+}
+
+impl Drop for LastGave {
+    fn drop(self) {
+        let Self { items: _ } = self;
+    }
 }
 
 impl Model for LastGave {
@@ -120,7 +137,6 @@ impl LastGave {
 }
 
 /// What is kept of a worker's last events.
-#[derive(Drop)]
 pub struct Notes {
     /// Its open flight.
     pub begun: Option<Begun>,
@@ -134,4 +150,17 @@ pub struct Notes {
     pub lost: u64,
     /// How many calls it gave up as refused, as far as 64 bits hold it.
     pub refused: u64,
+}
+
+impl Drop for Notes {
+    fn drop(self) {
+        let Self {
+            begun: _,
+            turn: _,
+            posting: _,
+            gave: _,
+            lost: _,
+            refused: _,
+        } = self;
+    }
 }

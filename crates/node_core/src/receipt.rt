@@ -8,7 +8,6 @@ use lang_core::{Bytes, Inputs, Name, Request, Text};
 
 /// A live request that was committed, and what its client is told. Its type keeps that the row answers a live request, and that
 /// the reply is the message that spells this answer.
-#[derive(Drop)]
 pub struct Receipt {
     /// The service that answered.
     pub service: Name,
@@ -24,4 +23,18 @@ pub struct Receipt {
     pub reply: Bytes,
     ghost live: { is_live_row row ≡ true },
     ghost spelled: { reply ≡ row_bytes service secret row },
+}
+
+impl Drop for Receipt {
+    fn drop(self) {
+        let Self {
+            service: _,
+            index: _,
+            request: _,
+            inputs: _,
+            row: _,
+            secret: _,
+            reply: _,
+        } = self;
+    }
 }

@@ -42,12 +42,21 @@ impl From<NoMemory> for OrderFull {
 /// the room that was made for calls to come.
 ///
 /// Labels are given from 0 on, so none is given again, also after it has left the list.
-#[derive(Drop)]
 pub struct Order {
     labels: Vec<u64>,
     // By label. They rise along the list of labels, so two labels stand as their tags do.
     tags: Vec<u64>,
     room: Vec<OrderCall>,
+}
+
+impl Drop for Order {
+    fn drop(self) {
+        let Self {
+            labels: _,
+            tags: _,
+            room: _,
+        } = self;
+    }
 }
 
 impl Model for Order {

@@ -5,12 +5,17 @@ use repair_messages::{Kind, PostName};
 use std::alloc::Global;
 
 /// A request that would run again.
-#[derive(Drop)]
 pub struct RanOne {
     /// Its number.
     pub id: u64,
     /// What it would answer in the end.
     pub response: Response,
+}
+
+impl Drop for RanOne {
+    fn drop(self) {
+        let Self { id: _, response: _ } = self;
+    }
 }
 
 /// Requests that would run again, in the order in which they would.
@@ -29,7 +34,6 @@ pub struct PostOne {
 pub type PostList = Seq<PostOne>;
 
 /// What a repair would come to.
-#[derive(Drop)]
 pub struct Preview {
     /// The requests that would run again.
     pub ran: RanList,
@@ -37,6 +41,16 @@ pub struct Preview {
     pub rows: Writes,
     /// The posts that would be outstanding and aren't.
     pub posts: PostList,
+}
+
+impl Drop for Preview {
+    fn drop(self) {
+        let Self {
+            ran: _,
+            rows: _,
+            posts: _,
+        } = self;
+    }
 }
 
 impl Copied for RanOne {

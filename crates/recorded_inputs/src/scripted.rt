@@ -10,9 +10,14 @@ use std::marker::Model;
 const WORD_VALUES: u64 = 65537;
 
 /// A clock that tells one moment until it is set.
-#[derive(Drop)]
 pub struct ScriptClock {
     moment: u64,
+}
+
+impl Drop for ScriptClock {
+    fn drop(self) {
+        let Self { moment: _ } = self;
+    }
 }
 
 impl Model for ScriptClock {
@@ -59,9 +64,14 @@ impl Clock for ScriptClock {
 }
 
 /// Words of which each follows from the one before: 75 times it and 74, modulo 65,537.
-#[derive(Drop)]
 pub struct ScriptWords {
     x: u64,
+}
+
+impl Drop for ScriptWords {
+    fn drop(self) {
+        let Self { x: _ } = self;
+    }
 }
 
 impl Model for ScriptWords {

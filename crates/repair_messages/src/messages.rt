@@ -47,7 +47,6 @@ pub struct AnswerMessage {
 }
 
 /// Says that a version of a call was taken, or one above it before.
-#[derive(Drop)]
 pub struct Ack {
     /// The service that makes the call.
     pub caller: Name,
@@ -57,6 +56,17 @@ pub struct Ack {
     pub number: u64,
     /// The version of the message that this acknowledges.
     pub version: u64,
+}
+
+impl Drop for Ack {
+    fn drop(self) {
+        let Self {
+            caller: _,
+            dest: _,
+            number: _,
+            version: _,
+        } = self;
+    }
 }
 
 /// Says that an answer was seen, or one above it before.

@@ -4,12 +4,19 @@ use lang_core::{Copied, NoMemory, Same};
 use std::alloc::Global;
 
 /// A message that a service posts, until it is acknowledged or confirmed.
-#[derive(Drop)]
 pub enum Post {
     /// A version of one of its calls.
     Set(SetMessage),
     /// An answer of one of its entries.
     Answer(AnswerMessage),
+}
+
+impl Drop for Post {
+    fn drop(self) {
+        match self {
+            Self::Set(_) | Self::Answer(_) => {}
+        }
+    }
 }
 
 /// Which post of a service.

@@ -14,10 +14,15 @@ use repair_messages::PostName;
 use std::marker::Model;
 
 /// A post that is outstanding, and the index in the journal from which on it is to be sent.
-#[derive(Drop)]
 pub(crate) struct Aged {
     pub(crate) name: PostName,
     pub(crate) since: u64,
+}
+
+impl Drop for Aged {
+    fn drop(self) {
+        let Self { name: _, since: _ } = self;
+    }
 }
 
 impl Model for Aged {

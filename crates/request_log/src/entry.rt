@@ -14,7 +14,6 @@ use std::marker::Model;
 pub type Numbers = ThinSeq<u64>;
 
 /// An entry's record: its last trace, and the aliveness, version and request for which it was made.
-#[derive(Drop)]
 pub struct Made {
     pub alive: bool,
     pub version: u64,
@@ -23,8 +22,18 @@ pub struct Made {
     pub trace: Trace,
 }
 
+impl Drop for Made {
+    fn drop(self) {
+        let Self {
+            alive: _,
+            version: _,
+            request: _,
+            trace: _,
+        } = self;
+    }
+}
+
 /// A request in a log.
-#[derive(Drop)]
 pub struct Entry {
     /// Its number in the service, from 1.
     pub id: u64,
@@ -50,14 +59,37 @@ pub struct Entry {
     pub runs: u64,
 }
 
+impl Drop for Entry {
+    fn drop(self) {
+        let Self {
+            id: _,
+            origin: _,
+            version: _,
+            request: _,
+            wanted: _,
+            struck: _,
+            inputs: _,
+            made: _,
+            slots: _,
+            answer_version: _,
+            runs: _,
+        } = self;
+    }
+}
+
 // An entry of a log is never taken out, so what each of them holds is paid for good.
 const _: () = prove!(size_of::<Entry>() == 208);
 
 /// An entry as a log keeps it, seen as the entry: behind a pointer, so that a log moves few bytes for each when one is put
 /// between others, and one that is put into a log is handed on as it stands.
-#[derive(Drop)]
 pub struct KeptEntry {
     pub(crate) inner: Box<Entry>,
+}
+
+impl Drop for KeptEntry {
+    fn drop(self) {
+        let Self { inner: _ } = self;
+    }
 }
 
 impl Model for KeptEntry {

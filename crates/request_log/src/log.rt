@@ -45,13 +45,22 @@ impl<T: Drop> From<AllocFailed<T>> for LogFull {
 }
 
 /// The entries of a service in logged order, of which no two have one number, and no two come from one call.
-#[derive(Drop)]
 pub struct Log {
     items: Vec<KeptEntry>,
     // By number.
     numbers: HashIndex,
     // By the keys of origins.
     origins: HashIndex,
+}
+
+impl Drop for Log {
+    fn drop(self) {
+        let Self {
+            items: _,
+            numbers: _,
+            origins: _,
+        } = self;
+    }
 }
 
 impl Model for Log {

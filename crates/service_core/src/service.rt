@@ -48,12 +48,20 @@ use std::marker::Model;
 /// A service whose requests call other services: its setting, the rules by which it allows repairs, its log under repair, its
 /// flights, its journal, its registers and its replies. Its type keeps that all of them fit the journal, that each repair in
 /// the journal was allowed, that there are at most 100,000 entries and flights, and that there is room to abandon each flight.
-#[derive(Drop)]
 pub struct Service {
     parts: Parts,
     // Of the log's first entries so many are known to be current. A repair step doesn't look at them again, and notes how many
     // are it then; every other event may change an answer that one of them consumed, and forgets it.
     checked: usize,
+}
+
+impl Drop for Service {
+    fn drop(self) {
+        let Self {
+            parts: _,
+            checked: _,
+        } = self;
+    }
 }
 
 impl Model for Service {

@@ -8,7 +8,6 @@ use local_repair::Repairer;
 
 /// What a service keeps: what it is set to do, the rules by which it allows repairs, its log under repair, its flights,
 /// its journal, its registers and its replies.
-#[derive(Drop)]
 pub struct Parts {
     pub setting: Setting,
     pub rules: Rules,
@@ -17,4 +16,18 @@ pub struct Parts {
     pub journal: Rows,
     pub registers: Registers,
     pub replies: Replies,
+}
+
+impl Drop for Parts {
+    fn drop(self) {
+        let Self {
+            setting: _,
+            rules: _,
+            repairer: _,
+            flights: _,
+            journal: _,
+            registers: _,
+            replies: _,
+        } = self;
+    }
 }

@@ -17,10 +17,18 @@ use place_order::Order;
 use std::alloc::Global;
 
 /// What the place of a label wrote.
-#[derive(Drop)]
 pub struct PlaceWrites {
     pub label: u64,
     pub writes: SharedWrites,
+}
+
+impl Drop for PlaceWrites {
+    fn drop(self) {
+        let Self {
+            label: _,
+            writes: _,
+        } = self;
+    }
 }
 
 impl Copied for PlaceWrites {

@@ -29,7 +29,6 @@ use std::marker::Model;
 /// before all places, and the room that was made for calls to come.
 ///
 /// The order is the caller's: each call that takes one asks that the labels of the list rise in it.
-#[derive(Drop)]
 pub struct Versions {
     base: Cells,
     places: Vec<PlaceWrites>,
@@ -38,6 +37,18 @@ pub struct Versions {
     // The slot of the last row that was made or looked for to be made: who makes room for a key puts a label there next.
     near: usize,
     room: Vec<VersionsCall>,
+}
+
+impl Drop for Versions {
+    fn drop(self) {
+        let Self {
+            base: _,
+            places: _,
+            rows: _,
+            near: _,
+            room: _,
+        } = self;
+    }
 }
 
 impl Model for Versions {

@@ -23,12 +23,21 @@ pub enum ConsoleWord {
 }
 
 /// A sealed request of an operator, whose body isn't read yet.
-#[derive(Drop)]
 pub struct ConsoleRequest {
     pub word: ConsoleWord,
     /// Who asks, from 1 to 64 visible characters.
     pub who: Text,
     pub body: Text,
+}
+
+impl Drop for ConsoleRequest {
+    fn drop(self) {
+        let Self {
+            word: _,
+            who: _,
+            body: _,
+        } = self;
+    }
 }
 
 impl Copied for ConsoleRequest {

@@ -20,9 +20,14 @@ use world_events::{Event, Happened, Packet, WorldStepRefused};
 /// A world: its services, all packets that were ever written, and what it is given from outside. Its type keeps that names
 /// differ, that the peers of each service are there, and so are the service that gets a packet and the one that began its
 /// exchange.
-#[derive(Drop)]
 pub struct World {
     parts: Parts,
+}
+
+impl Drop for World {
+    fn drop(self) {
+        let Self { parts: _ } = self;
+    }
 }
 
 impl Model for World {
@@ -66,7 +71,8 @@ impl World {
     pub fn into_services(self) -> Vec<Service>
         ensures { result.items ≡ self.services }
     {
-        self.parts.services
+        let Self { parts } = self;
+        parts.services
     }
 
     /// The service of this name, if there is one.

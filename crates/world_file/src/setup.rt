@@ -5,7 +5,6 @@ use lang_core::{Copied, NoMemory, Setting, Text};
 use std::alloc::Global;
 
 /// How a service of a world is set up: its setting, its rules, and how it is reached.
-#[derive(Drop)]
 pub struct Setup {
     /// Its name, the names of the others, its program, and how heavy its journal may grow.
     pub setting: Setting,
@@ -19,6 +18,19 @@ pub struct Setup {
     pub door: Text,
     /// How many workers serve requests, from 1 to 8.
     pub workers: u64,
+}
+
+impl Drop for Setup {
+    fn drop(self) {
+        let Self {
+            setting: _,
+            rules: _,
+            secret: _,
+            console: _,
+            door: _,
+            workers: _,
+        } = self;
+    }
 }
 
 impl Copied for Setup {
