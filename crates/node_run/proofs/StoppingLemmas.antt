@@ -15,9 +15,9 @@ use Rattle.wire_fields.specs.declared.console.ConsoleWord.TheVariants.{Stop}
 use Rattle.node_core.specs.declared.notes.Notes.{Notes}
 use Rattle.node_core.specs.declared.receipt.Receipt.{Receipt}
 use Rattle.node_workers.specs.Desks.{Endpoint}
+use Rattle.node_workers.specs.HandedOn.{Served}
+use Rattle.node_workers.specs.HandedOn as served
 use Rattle.node_workers.specs.Serving.{Hears, IsServed}
-use Rattle.node_workers.specs.declared.served.Served.{Served}
-use Rattle.node_workers.specs.declared.served.Served.TheVariants as served
 use Rattle.node_run.specs.Stopping.{IsUnwritten, WasAsked, WasAskedToStop, WasReplied}
 
 -- what is left behind a request stood behind what was taken for it

@@ -11,7 +11,7 @@ use Rattle.io_links.specs.Exchanges.{Exchanges}
 use Rattle.io_links.specs.declared.links.Exchanged.{Exchanged}
 use Rattle.node_core.specs.declared.notes.Notes.{Notes}
 use Rattle.node_core.specs.declared.receipt.Receipt.{Receipt}
-use Rattle.node_workers.specs.Calling.{CallsIt}
+use Rattle.node_exchanges.specs.Calls.{CallsIt}
 use Rattle.node_workers.specs.Desks.{Endpoint}
 use Rattle.node_workers.specs.Flying.{FliesOn, FliesSo, IsArrival, IsTold, LivesSo, MakesCalls, UnlessWanting}
 use Rattle.node_workers.specs.declared.flying.Went.{Went}

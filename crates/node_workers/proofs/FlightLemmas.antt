@@ -27,7 +27,7 @@ use Rattle.node_core.specs.declared.asking.NodeEvent.TheVariants as events
 use Rattle.node_core.specs.declared.notes.Begun.{Begun}
 use Rattle.node_core.specs.declared.notes.Notes.{Notes}
 use Rattle.node_core.specs.declared.receipt.Receipt.{Receipt}
-use Rattle.node_workers.specs.Calling.{FailsOnly, lost_in, refused_in}
+use Rattle.node_exchanges.specs.Calls.{FailsOnly, lost_in, refused_in}
 use Rattle.node_workers.specs.Desks.{Endpoint}
 use Rattle.node_workers.specs.Flying.{ArrivesAs, BeginsSo, EndsSo, GoesOn, IfAccepted, IsGivenUp, IsTold, IsWaiting, NotesAtMost, RefusesAs, SentBy, began_of, end_of_call, went_by, went_of}
 use Rattle.node_workers.specs.Serving.{OneReceipt}

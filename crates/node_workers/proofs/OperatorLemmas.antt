@@ -17,12 +17,13 @@ use Rattle.admin_console.specs.declared.asking.Asked.{Asked}
 use Rattle.admin_console.specs.declared.asking.Asked.TheVariants.{Order}
 use Rattle.admin_console.specs.declared.asking.Report.{Report}
 use Rattle.node_core.specs.declared.notes.Notes.{Notes}
-use Rattle.node_workers.specs.Desks.{Endpoint}
+use Rattle.node_exchanges.specs.Endpoints.{Endpoint}
+use Rattle.node_exchanges.specs.Replies.{IsSaid}
+use Rattle.node_exchanges.specs.declared.served.Served.{Served}
+use Rattle.node_exchanges.specs.declared.served.Served.TheVariants as served
 use Rattle.node_workers.specs.Messages.{IsOrderedSo}
 use Rattle.node_workers.specs.Serving.{IsDoneSo, IsOperatorTold, IsPreviewTold, IsReportOf, IsWantTold}
-use Rattle.node_workers.specs.Written.{IsPreviewSo, IsSaid}
-use Rattle.node_workers.specs.declared.served.Served.{Served}
-use Rattle.node_workers.specs.declared.served.Served.TheVariants as served
+use Rattle.node_workers.specs.Written.{IsPreviewSo}
 
 -- the reply, or that memory was wanting
 abbrev pub Reply : Type 0

@@ -1,6 +1,5 @@
 -- Which post a message is of, and what becomes of one that came back.
-use Rattle.std.proofs.Common.{◌≡◌, ◌&&◌, ℕ, inl, inr, Bool, true, false, cond, List, [], ◌∷◌, ◌++◌, Option, Some, None, Result, Ok, Err, IfOk, OnOk, IsSomeAnd, find, option_map, refl, sym, ap, ◌∙◌, subst, eqb-true}
-use Rattle.std.specs.Option.{ForSome}
+use Rattle.std.proofs.Common.{◌≡◌, ◌&&◌, ℕ, inl, inr, Bool, true, false, cond, List, [], ◌∷◌, Option, Some, None, Result, Ok, Err, IfOk, IsSomeAnd, find, option_map, refl, sym, ap, ◌∙◌, subst, eqb-true}
 use Rattle.request_log.specs.Entries.{has_id}
 use Rattle.request_log.specs.Records.{Record, record_of}
 use Rattle.request_log.specs.declared.entry.Entry.{Entry}
@@ -23,28 +22,18 @@ use Rattle.service_events.specs.declared.answers.Posted.TheVariants as became
 use Rattle.service_events.specs.declared.refusals.PostRefused.{PostRefused}
 use Rattle.service_events.specs.declared.refusals.PostRefused.TheVariants.{Foreign}
 use Rattle.service_posts.specs.Goes.{GoesTo}
-use Rattle.wire_bytes.specs.Sending.{SendsPost, receiver_of, sender_of}
+use Rattle.wire_bytes.specs.Sending.{receiver_of, sender_of}
 use Rattle.lang_base.specs.declared.memory.NoMemory.{NoMemory as LacksMemory}
-use Rattle.io_edge.specs.Edge.{Reads}
-use Rattle.io_links.specs.Exchanges.{Exchanges, Leaves}
-use Rattle.io_links.specs.declared.links.Exchange.{Exchange}
-use Rattle.io_links.specs.declared.links.Exchange.TheVariants as answers
-use Rattle.io_links.specs.declared.links.Exchanged.{Exchanged}
-use Rattle.http_front.specs.Answers.{interrupts}
-use Rattle.http_front.specs.declared.message.FrontRefused.{FrontRefused}
-use Rattle.wire_fields.specs.Fits.{lacks_memory}
-use Rattle.wire_fields.specs.Named.{value_of}
-use Rattle.wire_words.specs.Posts.{asking_of}
-use Rattle.wire_bytes.specs.Hearing.{IsRepliedFrom}
-use Rattle.wire_bytes.specs.declared.hearing.Replied.{Replied}
+use Rattle.io_links.specs.Exchanges.{Exchanges}
 use Rattle.node_core.specs.Notes.{post_name}
 use Rattle.node_core.specs.declared.notes.Notes.{Notes}
 use Rattle.node_core.specs.declared.asking.NodeDone.TheVariants as done
 use Rattle.node_core.specs.declared.asking.NodeEvent.TheVariants as events
 use Rattle.node_core.specs.declared.notes.Posting.TheVariants as postings
 use Rattle.node_core.specs.declared.receipt.Receipt.{Receipt}
-use Rattle.node_workers.specs.Desks.{Endpoint}
-use Rattle.node_workers.specs.Posting.{CameBack, IsTold, IsTurn, IsWrittenPost, PostsIt, SaysSo, outcome, said_in}
+use Rattle.node_exchanges.specs.Endpoints.{Endpoint}
+use Rattle.node_exchanges.specs.Posts.{PostsIt}
+use Rattle.node_workers.specs.Posting.{IsTold, IsTurn, IsWrittenPost, SaysSo, outcome}
 use Rattle.node_workers.specs.Turns.{Made}
 
 -- ---- what a message is
@@ -152,37 +141,3 @@ told_so name before now had have p reply (Ok became) made =
     (ap (λ (n : Notes). n.posting) made.notes, (made.service, sym (ap (λ (a : After (Result Posted PostRefused)). a.answer) made.made)))
 told_so name before now had have p reply (Err Foreign) made = (ap (λ (n : Notes). n.posting) made.notes, ap (λ (n : Notes). n.turn) made.notes)
 told_so name before now had have p reply (Err PostRefused.NoMemory) made = tt
-
--- ---- what the bytes of a reply say
-
-module _ (e : Endpoint) (dest secret : List ℕ) (p : Post) (bytes : List ℕ) (before now : Reads) (left : before.left ≡ Some bytes) where
-  -- a response
-  pub response_back : (heard : Replied) (said : Result (Option PostReply) LacksMemory) → IsRepliedFrom e.me dest secret (asking_of p) before now (Ok heard)
-      → IfOk said (λ (s : Option PostReply). s ≡ said_in heard.reply) → OnOk said (lacks_memory heard.reply ≡ false)
-      → IfOk said (CameBack e dest secret p (answers.Reply bytes))
-  response_back heard (Ok s) came is read = (let found = came read bytes left in (Ok heard, found.0, found.2, is))
-  response_back heard (Err why) came is read = tt
-
-  -- none
-  pub nothing_back : (why : FrontRefused) (said : Result (Option PostReply) LacksMemory) → IsRepliedFrom e.me dest secret (asking_of p) before now (Err why)
-      → IfOk said (λ (s : Option PostReply). s ≡ None) → OnOk said (interrupts why ≡ false) → IfOk said (CameBack e dest secret p (answers.Reply bytes))
-  nothing_back why (Ok s) came is whole = (let found = came whole bytes left in (Err why, found.0, found.2, is))
-  nothing_back why (Err lacks) came is whole = tt
-
--- ---- an exchange
-
-module _ (e : Endpoint) (dest secret address bytes : List ℕ) (p : Post) (before now : Exchanges) (door : value_of dest e.doors ≡ Some address)
-    (peer : value_of dest e.secrets ≡ Some secret) (sends : SendsPost e.me dest address e.secret p bytes) where
-  sent_so : (answer : Exchange) (reply : Option PostReply)
-      → ForSome before.made (λ (all : List Exchanged). now.made ≡ Some (all ++ record { address = address; bytes = bytes; answer = answer } ∷ []))
-      → CameBack e dest secret p answer reply → PostsIt e dest p reply before now
-  sent_so answer reply made came all is =
-      (record { address = address; bytes = bytes; answer = answer }, made all is, record { door = door; secret = secret; peer = peer; sends = sends; came = came })
-
-  -- it sent the post, and that came back
-  pub sent_back : (answer : Exchange) (said : Result (Option PostReply) LacksMemory) → Leaves before now address bytes answer
-      → IfOk said (CameBack e dest secret p answer) → IfOk said (λ (reply : Option PostReply). PostsIt e dest p reply before now)
-  sent_back (answers.Reply r) (Ok reply) left came = sent_so (answers.Reply r) reply left came
-  sent_back answers.NoMemory (Ok reply) left came = absurd came
-  sent_back (answers.Failed note) (Ok reply) left came = sent_so (answers.Failed note) reply left came
-  sent_back answer (Err why) left came = tt

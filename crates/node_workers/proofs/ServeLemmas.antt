@@ -1,6 +1,5 @@
 -- How what was written on a connection answers the message that was read.
-use Rattle.std.proofs.Common.{◌≡◌, ℕ, ◌-◌, false, inl, inr, ◌⊎◌, ◌++◌, ◌∷◌, List, [], Option, Some, None, Result, Ok, Err, IsSome, IsSomeAnd, is_some, codes, length, length-append, slice_get, refl, sym, ap, ◌∙◌, subst, arith}
-use Rattle.std.proofs.lemmas.List.{append-nil}
+use Rattle.std.proofs.Common.{◌≡◌, ℕ, ◌-◌, false, inl, inr, ◌⊎◌, ◌++◌, ◌∷◌, List, [], Option, Some, Result, Ok, Err, IsSome, IsSomeAnd, is_some, codes, length, length-append, slice_get, refl, sym, ap, ◌∙◌, subst, arith}
 use Rattle.lang_core.specs.declared.ids.Origin.{Origin}
 use Rattle.lang_core.specs.declared.ids.Origin.TheVariants.{Call, Outside}
 use Rattle.lang_core.specs.declared.inputs.Inputs.{Inputs}
@@ -44,13 +43,15 @@ use Rattle.node_core.specs.declared.asking.NodeDone.TheVariants as done
 use Rattle.node_core.specs.declared.notes.Notes.{Notes}
 use Rattle.node_core.specs.declared.notes.Turn.TheVariants as turns
 use Rattle.node_core.specs.declared.receipt.Receipt.{Receipt}
-use Rattle.node_workers.specs.Desks.{Endpoint}
+use Rattle.node_exchanges.proofs.ReplyLemmas.{wrote_nothing}
+use Rattle.node_exchanges.specs.Endpoints.{Endpoint}
+use Rattle.node_exchanges.specs.Replies.{IsAnsweredBy, IsCutShort, IsRefusedSo, IsSaid, SaysIt, known_reply, refusal_bytes}
+use Rattle.node_exchanges.specs.declared.served.Served.{Served}
+use Rattle.node_exchanges.specs.declared.served.Served.TheVariants as served
 use Rattle.node_workers.specs.Flying.{IsCaller, IsNoted, RefusesAs}
 use Rattle.node_workers.specs.Messages.{IsHeardSo, IsTakenSo}
-use Rattle.node_workers.specs.Serving.{Hears, IsCounted, IsForWorkers, IsLiveRequest, IsOperatorTold, IsPlainly, IsServed, IsToldOf, OneReceipt, Owes, ServesMessage, ServesRequest, TellsTurn, WantsMemory, client, known_reply, refusal_bytes, sender}
-use Rattle.node_workers.specs.Written.{IsAnsweredBy, IsCommitWritten, IsConsoleSo, IsCutShort, IsRefusedSo, IsSaid, SaysIt, instead, last_of}
-use Rattle.node_workers.specs.declared.served.Served.{Served}
-use Rattle.node_workers.specs.declared.served.Served.TheVariants as served
+use Rattle.node_workers.specs.Serving.{Hears, IsCounted, IsForWorkers, IsLiveRequest, IsOperatorTold, IsPlainly, IsServed, IsToldOf, OneReceipt, Owes, ServesMessage, ServesRequest, TellsTurn, WantsMemory, client, sender}
+use Rattle.node_workers.specs.Written.{IsCommitWritten, IsConsoleSo, last_of}
 
 -- ---- refusals
 
@@ -94,11 +95,6 @@ plain_refused (said.Set set) origin request why live how = tt
 plain_refused (said.Answer a) origin request why live how = tt
 plain_refused (said.Console asked) origin request why live how = tt
 
--- ---- writes
-
-pub wrote_nothing : (before now : Writes) → now ≡ before → Wrote before now []
-wrote_nothing before now same all is = ap (λ (w : Writes). w.written) same ∙ is ∙ ap Some (sym (append-nil all))
-
 -- ---- bytes that are no message
 
 -- a fault of the source is one that it counted
@@ -106,38 +102,6 @@ counted_so : (why : FrontRefused) (before now : Reads)
     → (◌≡◌ {A = Result Incoming Unheard} (Err (unheard.Front why)) (Err (unheard.Front front.ReadFault)) → ReadFails before now) → IsCounted why before now
 counted_so front.ReadFault before now fails = fails refl
 counted_so why before now fails = tt
-
--- where there is no word, nothing is written
-pub front_silent : (why : FrontRefused) (before now : Writes) → front_word why ≡ None → now ≡ before
-    → IsRefusedSo (unheard.Front why) before now (served.FrontRefused why)
-front_silent why before now none same =
-    (refl, subst (λ (w : Option (List ℕ)). Wrote before now (refusal_bytes w)) (sym none) (wrote_nothing before now same))
-
-module _ (e : Endpoint) (word : List ℕ) (before now : Writes) where
-  abbrev Says : Served → Type 0
-  Says said = SaysIt e None (replies.Refused word 0) before now said
-
-  pub front_said : (why : FrontRefused) (said : Served) → front_word why ≡ Some word → Says said
-      → IsRefusedSo (unheard.Front why) before now (instead said (served.FrontRefused why))
-  front_said why (served.Said response) is says = (refl, subst (λ (w : Option (List ℕ)). Wrote before now (refusal_bytes w)) (sym is) says.1)
-  front_said why served.WriteFault is says = subst (λ (w : Option (List ℕ)). IsCutShort before now (refusal_bytes w)) (sym is) says
-  front_said why served.NoMemory is says = says
-  front_said why (served.Committed index) is says = absurd says
-  front_said why (served.Console asked) is says = absurd says
-  front_said why (served.FrontRefused other) is says = absurd says
-  front_said why (served.WireRefused other) is says = absurd says
-  front_said why served.Gone is says = absurd says
-
-  pub wire_said : (why : WireRefused) (said : Served) → word ≡ wire_word why → Says said
-      → IsRefusedSo (unheard.Wire why) before now (instead said (served.WireRefused why))
-  wire_said why (served.Said response) is says = (refl, subst (λ (w : List ℕ). Wrote before now (refusal_bytes (Some w))) is says.1)
-  wire_said why served.WriteFault is says = subst (λ (w : List ℕ). IsCutShort before now (refusal_bytes (Some w))) is says
-  wire_said why served.NoMemory is says = says
-  wire_said why (served.Committed index) is says = absurd says
-  wire_said why (served.Console asked) is says = absurd says
-  wire_said why (served.FrontRefused other) is says = absurd says
-  wire_said why (served.WireRefused other) is says = absurd says
-  wire_said why served.Gone is says = absurd says
 
 -- ---- an operator's word
 
@@ -205,7 +169,7 @@ module _ (e : Endpoint) (i : Inputs) (before now : Reads) (wrote wrote_now : Wri
 
   -- what is said of the message that was heard
   said_well : (message : Incoming) (to : Option (List ℕ)) (reply : Outgoing) (answer : Served) → Hears e before now message → to ≡ sender message → Why message reply
-      → have ≡ had → SaysIt e to reply wrote wrote_now answer → Well answer
+      → have ≡ had → SaysIt e.me e.secret to reply wrote wrote_now answer → Well answer
   said_well message to reply (served.Said response) heard whom so same says =
       record {
         bytes = response_bytes (written e.me to reply e.secret);
@@ -339,28 +303,28 @@ module _ (e : Endpoint) (i : Inputs) (now : Reads) (wrote wrote_now : Writes) (n
 
   live_said : (origin : Origin) (request : Request) (to : Option (List ℕ)) (reply : Outgoing) (answer : Served) → to ≡ client origin
       → ((message : Incoming) → IsLiveRequest message origin request → IsToldOf i message notes reply ⊎ WantsMemory reply)
-      → have ≡ had → SaysIt e to reply wrote wrote_now answer → DoesLive origin request answer
+      → have ≡ had → SaysIt e.me e.secret to reply wrote wrote_now answer → DoesLive origin request answer
   live_said origin request to reply answer whom so same says message live before heard =
       said_well e i before now wrote wrote_now notes had have message to reply answer heard (whom ∙ client_is message origin request live) (so message live) same says
 
   pub live_known : (origin : Origin) (request : Request) (to : Option (List ℕ)) (a : AnswerMessage) (answer : Served) → to ≡ client origin
-      → IsNoted origin request i notes (done.Arrive (Ok (arrived.Known a))) → have ≡ had → SaysIt e to (known_reply a) wrote wrote_now answer → DoesLive origin request answer
+      → IsNoted origin request i notes (done.Arrive (Ok (arrived.Known a))) → have ≡ had → SaysIt e.me e.secret to (known_reply a) wrote wrote_now answer → DoesLive origin request answer
   live_known origin request to a answer whom noted same says =
       live_said origin request to (known_reply a) answer whom (λ message live. inl (record { gave = _; noted = noted; of = (live, refl); so = inr refl; plainly = plain_known message a })) same says
 
   pub live_refused : (origin : Origin) (request : Request) (to : Option (List ℕ)) (why : ArriveRefused) (told : Told) (answer : Served) → to ≡ client origin
       → IsNoted origin request i notes (done.Arrive (Err why)) → notes.turn ≡ Some (arrive_turn why) → RefusesAs origin why → have ≡ had → told ≡ arrive_told why
-      → SaysIt e to (replies.Refused told.0 told.1) wrote wrote_now answer → DoesLive origin request answer
+      → SaysIt e.me e.secret to (replies.Refused told.0 told.1) wrote wrote_now answer → DoesLive origin request answer
   live_refused origin request to why told answer whom noted turn plainly same is says =
       live_said origin request to (replies.Refused (arrive_told why).0 (arrive_told why).1) answer whom
       (λ message live. inl (record { gave = _; noted = noted; of = (live, refl); so = inl (arrive_turn why, turn, arrive_tells why); plainly = plain_refused message origin request why live plainly }))
-      same (subst (λ (t : Told). SaysIt e to (replies.Refused t.0 t.1) wrote wrote_now answer) is says)
+      same (subst (λ (t : Told). SaysIt e.me e.secret to (replies.Refused t.0 t.1) wrote wrote_now answer) is says)
 
   pub live_gone : (origin : Origin) (request : Request) → notes.turn ≡ Some turns.Gone → have ≡ had → wrote_now ≡ wrote → DoesLive origin request served.Gone
   live_gone origin request turn same none message live before heard = gone_well e i before now wrote wrote_now notes had have turn same none
 
   pub live_wants : (origin : Origin) (request : Request) (to : Option (List ℕ)) (answer : Served) → to ≡ client origin → have ≡ had
-      → SaysIt e to (replies.Refused (codes "nomemory") 0) wrote wrote_now answer → DoesLive origin request answer
+      → SaysIt e.me e.secret to (replies.Refused (codes "nomemory") 0) wrote wrote_now answer → DoesLive origin request answer
   live_wants origin request to answer whom same says =
       live_said origin request to (replies.Refused (codes "nomemory") 0) answer whom (λ message live. inr refl) same says
 
@@ -373,34 +337,34 @@ module _ (e : Endpoint) (i : Inputs) (now : Reads) (wrote wrote_now : Writes) (n
   call_served set caller number request answer by at desired does = does (said.Live set) (cc, desired)
 
   pub set_taken : (set : SetMessage) (to : List ℕ) (taken : Taken) (answer : Served) → to ≡ set.caller → IsTakenSo set i notes (Ok taken) → have ≡ had
-      → SaysIt e (Some to) (replies.Ack taken.ack) wrote wrote_now answer → Does (said.Set set) answer
+      → SaysIt e.me e.secret (Some to) (replies.Ack taken.ack) wrote wrote_now answer → Does (said.Set set) answer
   set_taken set to taken answer whom so same says before heard =
       said_well e i before now wrote wrote_now notes had have (said.Set set) (Some to) (replies.Ack taken.ack) answer heard (ap Some whom)
       (inl (record { gave = _; noted = so.noted; of = (refl, refl); so = inr refl; plainly = tt })) same says
 
   pub set_refused : (set : SetMessage) (to : List ℕ) (why : TakeRefused) (told : Told) (answer : Served) → to ≡ set.caller → IsTakenSo set i notes (Err why) → have ≡ had
-      → told ≡ take_told why → SaysIt e (Some to) (replies.Refused told.0 told.1) wrote wrote_now answer → Does (said.Set set) answer
+      → told ≡ take_told why → SaysIt e.me e.secret (Some to) (replies.Refused told.0 told.1) wrote wrote_now answer → Does (said.Set set) answer
   set_refused set to why told answer whom so same is says before heard =
       said_well e i before now wrote wrote_now notes had have (said.Set set) (Some to) (replies.Refused (take_told why).0 (take_told why).1) answer heard (ap Some whom)
       (inl (record { gave = _; noted = so.noted; of = (refl, refl); so = inl (take_turn why, so.turn, take_tells why); plainly = tt }))
-      same (subst (λ (t : Told). SaysIt e (Some to) (replies.Refused t.0 t.1) wrote wrote_now answer) is says)
+      same (subst (λ (t : Told). SaysIt e.me e.secret (Some to) (replies.Refused t.0 t.1) wrote wrote_now answer) is says)
 
   pub answer_heard : (a : AnswerMessage) (to : List ℕ) (heard : Heard) (answer : Served) → to ≡ a.callee → IsHeardSo a notes (Ok heard) → have ≡ had
-      → SaysIt e (Some to) (replies.Confirm heard.confirm) wrote wrote_now answer → Does (said.Answer a) answer
+      → SaysIt e.me e.secret (Some to) (replies.Confirm heard.confirm) wrote wrote_now answer → Does (said.Answer a) answer
   answer_heard a to heard answer whom so same says before hears =
       said_well e i before now wrote wrote_now notes had have (said.Answer a) (Some to) (replies.Confirm heard.confirm) answer hears (ap Some whom)
       (inl (record { gave = _; noted = so.noted; of = refl; so = inr refl; plainly = tt })) same says
 
   pub answer_refused : (a : AnswerMessage) (to : List ℕ) (why : AnswerRefused) (told : Told) (answer : Served) → to ≡ a.callee → IsHeardSo a notes (Err why) → have ≡ had
-      → told ≡ answer_told why → SaysIt e (Some to) (replies.Refused told.0 told.1) wrote wrote_now answer → Does (said.Answer a) answer
+      → told ≡ answer_told why → SaysIt e.me e.secret (Some to) (replies.Refused told.0 told.1) wrote wrote_now answer → Does (said.Answer a) answer
   answer_refused a to why told answer whom so same is says before hears =
       said_well e i before now wrote wrote_now notes had have (said.Answer a) (Some to) (replies.Refused (answer_told why).0 (answer_told why).1) answer hears (ap Some whom)
       (inl (record { gave = _; noted = so.noted; of = refl; so = inl (answer_turn why, so.turn, answer_tells why); plainly = tt }))
-      same (subst (λ (t : Told). SaysIt e (Some to) (replies.Refused t.0 t.1) wrote wrote_now answer) is says)
+      same (subst (λ (t : Told). SaysIt e.me e.secret (Some to) (replies.Refused t.0 t.1) wrote wrote_now answer) is says)
 
   -- memory was wanting for a message of a peer
   pub message_wants : (message : Incoming) (to : Option (List ℕ)) (answer : Served) → to ≡ sender message → have ≡ had
-      → SaysIt e to (replies.Refused (codes "nomemory") 0) wrote wrote_now answer → Does message answer
+      → SaysIt e.me e.secret to (replies.Refused (codes "nomemory") 0) wrote wrote_now answer → Does message answer
   message_wants message to answer whom same says before heard =
       said_well e i before now wrote wrote_now notes had have message to (replies.Refused (codes "nomemory") 0) answer heard whom (inr refl) same says
 

@@ -25,7 +25,7 @@ use Rattle.node_core.specs.declared.notes.Begun.{Begun}
 use Rattle.node_core.specs.declared.notes.Notes.{Notes}
 use Rattle.node_core.specs.declared.notes.Turn.TheVariants as turns
 use Rattle.node_core.specs.declared.receipt.Receipt.{Receipt}
-use Rattle.node_workers.specs.Calling.{IsCallOf}
+use Rattle.node_exchanges.specs.Calls.{IsCallOf}
 use Rattle.node_workers.specs.Desks.{Endpoint}
 use Rattle.node_workers.specs.Serving.{OneReceipt}
 use Rattle.node_workers.specs.Turns.{Made}

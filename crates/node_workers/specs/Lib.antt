@@ -6,3 +6,4 @@ pub mod Serving
 pub mod Flying
 pub mod Messages
 pub mod Written
+pub mod HandedOn

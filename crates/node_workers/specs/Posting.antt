@@ -1,6 +1,5 @@
 -- One turn of a worker that posts.
-use Rattle.std.specs.Prelude.{ℕ, ◌≡◌, ◌++◌, ◌∷◌, ◌⊎◌, List, [], Option, Some, None, Result, Ok, Err}
-use Rattle.std.specs.Option.{ForSome}
+use Rattle.std.specs.Prelude.{ℕ, ◌≡◌, ◌⊎◌, List, Option, Some, None, Result, Ok, Err}
 use Rattle.lang_base.specs.declared.memory.NoMemory.{NoMemory as LacksMemory}
 use Rattle.repair_messages.specs.declared.posts.Post.{Post}
 use Rattle.repair_messages.specs.declared.posts.PostName.{PostName}
@@ -13,24 +12,15 @@ use Rattle.service_events.specs.declared.answers.Posted.TheVariants as became
 use Rattle.service_events.specs.declared.refusals.PostRefused.{PostRefused}
 use Rattle.service_events.specs.declared.refusals.PostRefused.TheVariants as refused
 use Rattle.io_links.specs.Exchanges.{Exchanges}
-use Rattle.io_links.specs.declared.links.Exchange.{Exchange}
-use Rattle.io_links.specs.declared.links.Exchange.TheVariants as answers
-use Rattle.io_links.specs.declared.links.Exchanged.{Exchanged}
-use Rattle.http_front.specs.declared.message.FrontRefused.{FrontRefused}
-use Rattle.wire_fields.specs.Named.{value_of}
-use Rattle.wire_fields.specs.declared.refused.WireRefused.{WireRefused}
-use Rattle.wire_replies.specs.declared.replies.Outgoing.{Outgoing}
-use Rattle.wire_words.specs.Posts.{asking_of, post_reply}
-use Rattle.wire_bytes.specs.Hearing.{IsReplied}
-use Rattle.wire_bytes.specs.Sending.{SendsPost, receiver_of, sender_of}
-use Rattle.wire_bytes.specs.declared.hearing.Replied.{Replied}
+use Rattle.wire_bytes.specs.Sending.{receiver_of, sender_of}
 use Rattle.node_core.specs.Notes.{post_name}
 use Rattle.node_core.specs.declared.notes.Notes.{Notes}
 use Rattle.node_core.specs.declared.notes.Posting.TheVariants as postings
 use Rattle.node_core.specs.declared.notes.Turn.TheVariants as turns
 use Rattle.node_core.specs.declared.notes.TurnWord.TheVariants as words
 use Rattle.node_core.specs.declared.receipt.Receipt.{Receipt}
-use Rattle.node_workers.specs.Desks.{Endpoint}
+use Rattle.node_exchanges.specs.Endpoints.{Endpoint}
+use Rattle.node_exchanges.specs.Posts.{PostsIt}
 use Rattle.node_workers.specs.declared.posts.PostedOne.{PostedOne}
 use Rattle.node_workers.specs.declared.posts.PostedOne.TheVariants as posted
 
@@ -47,37 +37,6 @@ abbrev pub IsNextPost : List ℕ → List ℕ → Notes → Option Post → Type
 IsNextPost me dest notes None = notes.posting ≡ Some (postings.Quiet dest)
 IsNextPost me dest notes (Some post) =
     (notes.posting ≡ Some (postings.Next (post_name post))) × (sender_of post ≡ me) × (receiver_of post ≡ dest)
-
--- ---- the exchange
-
-abbrev pub said_in : Result Outgoing WireRefused → Option PostReply
-said_in (Ok reply) = post_reply reply
-said_in (Err why) = None
-
--- what a response says of the post that it answers, if anything
-abbrev pub said_of : Result Replied FrontRefused → Option PostReply
-said_of (Ok replied) = said_in replied.reply
-said_of (Err why) = None
-
--- this came back of a post to this peer: that its exchange failed, or what the bytes of a reply spell, if anything
-abbrev pub CameBack : Endpoint → List ℕ → List ℕ → Post → Exchange → Option PostReply → Type 0
-CameBack e dest secret post (answers.Reply bytes) reply =
-    (read : Result Replied FrontRefused) × (left : List ℕ) × IsReplied e.me dest secret (asking_of post) bytes read left × (reply ≡ said_of read)
-CameBack e dest secret post answers.NoMemory reply = ⊥
-CameBack e dest secret post (answers.Failed note) reply = reply ≡ Some (back.Lost note)
-
--- an exchange in which the post was sent to this peer, and this came back of it
-pub record PostSent (e : Endpoint) (dest : List ℕ) (post : Post) (reply : Option PostReply) (x : Exchanged) : Type 0 where
-  pub door : value_of dest e.doors ≡ Some x.address
-  pub secret : List ℕ
-  pub peer : value_of dest e.secrets ≡ Some secret
-  pub sends : SendsPost e.me dest x.address e.secret post x.bytes
-  pub came : CameBack e dest secret post x.answer reply
-
--- where the link tells its exchanges, this one was made, and no other
-abbrev pub PostsIt : Endpoint → List ℕ → Post → Option PostReply → Exchanges → Exchanges → Type 0
-PostsIt e dest post reply before now =
-    ForSome before.made (λ all. (x : Exchanged) × (now.made ≡ Some (all ++ x ∷ [])) × PostSent e dest post reply x)
 
 -- ---- what became of it
 

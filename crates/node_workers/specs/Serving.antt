@@ -4,7 +4,6 @@ use Rattle.lang_core.specs.declared.ids.Origin.{Origin}
 use Rattle.lang_core.specs.declared.ids.Origin.TheVariants as origins
 use Rattle.lang_core.specs.declared.inputs.Inputs.{Inputs}
 use Rattle.lang_core.specs.declared.request.Request.{Request}
-use Rattle.repair_messages.specs.declared.messages.AnswerMessage.{AnswerMessage}
 use Rattle.journal_rows.specs.declared.callee.AnsweredRow.{AnsweredRow}
 use Rattle.journal_rows.specs.declared.orders.Command.{Command}
 use Rattle.journal_rows.specs.declared.row.Row.TheVariants as rows
@@ -49,10 +48,11 @@ use Rattle.node_core.specs.declared.notes.Turn.TheVariants as turns
 use Rattle.node_core.specs.declared.notes.TurnWord.{TurnWord}
 use Rattle.node_core.specs.declared.notes.TurnWord.TheVariants as words
 use Rattle.node_core.specs.declared.receipt.Receipt.{Receipt}
-use Rattle.node_workers.specs.Desks.{Endpoint}
+use Rattle.node_exchanges.specs.Endpoints.{Endpoint}
+use Rattle.node_exchanges.specs.Replies.{known_reply, refusal_bytes}
+use Rattle.node_exchanges.specs.declared.served.Served.{Served}
+use Rattle.node_exchanges.specs.declared.served.Served.TheVariants as served
 use Rattle.node_workers.specs.Messages.{IsOrderedSo}
-use Rattle.node_workers.specs.declared.served.Served.{Served}
-use Rattle.node_workers.specs.declared.served.Served.TheVariants as served
 
 -- ---- the message read
 
@@ -127,9 +127,6 @@ word_of words.NotHeld = codes "notheld"
 abbrev pub TellsTurn : Turn → Outgoing → Type 0
 TellsTurn (turns.Refused word n) reply = reply ≡ replies.Refused (word_of word) n
 TellsTurn turns.Gone reply = ⊥
-
-abbrev pub known_reply : AnswerMessage → Outgoing
-known_reply a = replies.Answered (record { service = a.callee; number = a.id }) (Some a) a.response
 
 abbrev pub arrived_reply : {E : Type 0} → Result Arrived E → Option Outgoing
 arrived_reply (Ok (arrived.Known a)) = Some (known_reply a)
@@ -215,11 +212,6 @@ pub record TellsOperator (e : Endpoint) (i : Inputs) (before now : Reads) (notes
   pub heard : Hears e before now (said.Console asked)
   pub here : ¬ IsForWorkers asked.word
   pub so : IsOperatorTold e i asked notes response
-
--- a refusal to a client that is no service; no bytes where there is no word
-abbrev pub refusal_bytes : Option (List ℕ) → List ℕ
-refusal_bytes None = []
-refusal_bytes (Some word) = response_bytes (written [] None (replies.Refused word 0) [])
 
 -- a fault is said to be one only where the source counted it
 abbrev pub IsCounted : FrontRefused → Reads → Reads → Type 0

@@ -1,16 +1,16 @@
 // What a worker has at hand.
 ghost use Rattle.std.specs.Prelude.{◌≡◌, ◌↔◌, IsTrue};
 ghost use Rattle.service_events.specs.State.{me};
+ghost use Rattle.node_exchanges.specs.Endpoints.{at_place};
+ghost use Rattle.node_workers.specs.Desks.{at_desk};
 
 use admin_console::Service;
-use lang_core::{Same, Text};
+use lang_core::Same;
 use node_core::{Node, Tally};
+use node_exchanges::{Doors, Place};
 use std::sync::ledger::Ledger;
-use wire_fields::{ByName, Secrets};
+use wire_fields::Secrets;
 use world_file::Setup;
-
-/// The address at which each of a service's peers listens, under the peer's name.
-pub type Doors = ByName<Text>;
 
 /// A node and how its service is set up, the tally of all nodes, and the secret and the door of each of its peers.
 #[derive(Drop)]
@@ -22,6 +22,19 @@ pub struct Desk<'a, R: Ledger, Q: Ledger> {
     pub doors: Doors,
     /// With which secret each peer seals.
     pub secrets: Secrets,
+}
+
+impl<'a, R: Ledger, Q: Ledger> Desk<'a, R, Q> {
+    /// The service's place among its peers.
+    pub(crate) fn place(&self) -> Place<'_>
+        ensures { at_place result ≡ at_desk self.now }
+    {
+        Place {
+            setup: self.setup,
+            doors: &self.doors,
+            secrets: &self.secrets,
+        }
+    }
 }
 
 /// Whether a service is the one that is set up so. What a worker does rests on its name alone.

@@ -1,11 +1,11 @@
 // A flight, from its first call to its end.
 ghost use Rattle.std.specs.Prelude.{◌≡◌, None, IfOk, IsSomeAnd};
 ghost use Rattle.node_core.specs.Doings.{IsOpen};
-ghost use Rattle.node_workers.specs.Calling.{CountsCalls, FailsOnly};
+ghost use Rattle.node_exchanges.specs.Calls.{FailsOnly};
+ghost use Rattle.node_workers.specs.Calling.{CountsCalls};
 ghost use Rattle.node_workers.specs.Desks.{at_desk};
 ghost use Rattle.node_workers.specs.Flying.{end_of_call, went_by, went_of, went_with, EndsSo, FliesOn, FliesSo, GoesOn, IsGivenUp, IsTold, IsWaiting, UnlessWanting};
 
-use crate::calls::call;
 use crate::desk::Desk;
 use crate::live::Ending;
 use crate::turns::ask;
@@ -13,6 +13,7 @@ use call_registers::Why;
 use io_links::{Gate, Link};
 use lang_core::{Copied, NoMemory};
 use node_core::{NodeDone, NodeEvent, Pass, event};
+use node_exchanges::call;
 use repair_messages::{AnswerMessage, SetMessage};
 use service_events::{Arrived, CallRefused};
 use std::alloc::Global;
@@ -147,7 +148,7 @@ fn send<R: Ledger, Q: Ledger, W: Wait, L: Link, G: Gate>(
     ensures told { UnlessWanting result (FliesOn (at_desk desk.now) pass.old.notes pass.new.notes pass.old.receipts.items pass.new.receipts.items (L.exchanges link.old) (L.exchanges link.new) (Went.Call flight set.now) result) }
     ensures counts { CountsCalls (at_desk desk.now) pass.old.notes pass.new.notes (L.exchanges link.old) (L.exchanges link.new) }
 {
-    match call(alloc, desk, set, link, gate) {
+    match call(alloc, &desk.place(), set, link, gate) {
         Ok(came) => tell(rt, alloc, desk, pass, flight, set.number, came),
         Err(_) => Went::NoMemory,
     }

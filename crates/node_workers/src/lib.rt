@@ -4,7 +4,6 @@
 //! event is made in one hold of the node's lock, which is never held during an exchange with a peer.
 #![tactic(auto)]
 
-mod calls;
 mod desk;
 mod flying;
 mod live;
@@ -13,11 +12,10 @@ mod operators;
 mod posts;
 mod replies;
 mod serve;
-mod served;
 mod turns;
 
-pub use desk::{Desk, Doors};
+pub use desk::Desk;
+pub use node_exchanges::{Doors, Served};
 pub use operators::tell_preview;
 pub use posts::{PostedOne, post_one};
 pub use serve::serve_one;
-pub use served::Served;

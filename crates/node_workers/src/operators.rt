@@ -10,8 +10,6 @@ ghost use Rattle.node_workers.specs.Serving.{IsDoneSo, IsForWorkers, IsOperatorT
 ghost use Rattle.node_workers.specs.Written.{IsConsoleSo, IsPreviewSo};
 
 use crate::desk::{Desk, is_set_up};
-use crate::replies::write;
-use crate::served::Served;
 use crate::turns::ask;
 use admin_console::{
     Asked, Report, Service, asked_in, bad, order_reply, preview_reply, service_report,
@@ -21,6 +19,7 @@ use io_edge::Connection;
 use journal_rows::Command;
 use lang_core::{Copied, Inputs, NoMemory, Text};
 use node_core::{NodeDone, NodeEvent, Pass};
+use node_exchanges::{Served, write};
 use service_events::{OrderRefused, Ordered};
 use std::alloc::Global;
 use std::sync::Wait;

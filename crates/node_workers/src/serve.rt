@@ -1,39 +1,36 @@
 // One connection served.
-ghost use Rattle.std.specs.Prelude.{◌≡◌, None, Some, IfOk, IsErrOf, IsSome};
+ghost use Rattle.std.specs.Prelude.{◌≡◌, None, Some, IsSome};
 ghost use Rattle.std.specs.Option.{option_copied};
 ghost use Rattle.http_front.specs.declared.message.FrontRefused.TheVariants.{ReadFault};
 ghost use Rattle.io_edge.specs.Edge.{ReadFails};
-ghost use Rattle.wire_bytes.specs.Hearing.{IsHeardFrom, IsKnownMessage, TakenSays};
-ghost use Rattle.wire_bytes.specs.declared.hearing.Unheard.TheVariants.{Front as FrontUnheard, Wire as WireUnheard};
+ghost use Rattle.wire_bytes.specs.Hearing.{IsKnownMessage};
 ghost use Rattle.aire_wire.specs.declared.incoming.Incoming.TheVariants.{Answer as AnswerSaid, Live as LiveSaid, Set as SetSaid};
 ghost use Rattle.node_workers.specs.Calling.{CountsCalls};
 ghost use Rattle.node_workers.specs.Desks.{at_desk};
 ghost use Rattle.node_workers.specs.Flying.{CommitsBy};
 ghost use Rattle.node_workers.specs.Posting.{Keeps};
 ghost use Rattle.node_workers.specs.Serving.{client, IsServed, ServesMessage, ServesRequest};
-ghost use Rattle.node_workers.specs.Written.{instead, IsConsoleSo, IsRefusedSo};
+ghost use Rattle.node_workers.specs.Written.{IsConsoleSo};
 
 use crate::desk::Desk;
 use crate::live::{Ending, live};
 use crate::messages::{take, take_answer};
 use crate::operators::tell;
-use crate::replies::{refuse, say, say_known, say_no_memory, write_last};
-use crate::served::Served;
+use crate::replies::write_last;
 use admin_console::is_for_workers;
 use aire_wire::Incoming;
-use http_front::FrontRefused;
 use io_edge::Connection;
 use io_links::{Gate, Link};
 use lang_core::{Copied, Inputs, Name, Origin, Request};
 use node_core::Pass;
+use node_exchanges::{Served, hear_on, refuse, refuse_unheard, say, say_known, say_no_memory};
 use repair_messages::{AnswerMessage, SetMessage};
 use std::alloc::Global;
 use std::sync::Wait;
 use std::sync::ledger::Ledger;
-use wire_bytes::{Unheard, hear};
-use wire_fields::{ConsoleRequest, WireRefused};
+use wire_fields::ConsoleRequest;
 use wire_replies::Outgoing;
-use wire_words::{answer_told, arrive_told, front_word, take_told, wire_word};
+use wire_words::{answer_told, arrive_told, take_told};
 
 // ---- live requests
 
@@ -60,13 +57,13 @@ fn serve_live<R: Ledger, Q: Ledger, W: Wait, C: Connection, L: Link, G: Gate>(
 {
     match live(rt, alloc, desk, pass, link, gate, origin, request, inputs) {
         Ending::Committed(index) => write_last(pass, conn, index),
-        Ending::Known(answer) => say_known(alloc, desk, conn, to, answer),
+        Ending::Known(answer) => say_known(alloc, desk.setup, conn, to, answer),
         Ending::Refused(why) => {
             let (word, number) = arrive_told(why);
-            refuse(alloc, desk, conn, to, word, number)
+            refuse(alloc, desk.setup, conn, to, word, number)
         }
         Ending::Gone => Served::Gone,
-        Ending::NoMemory => say_no_memory(alloc, desk, conn, to),
+        Ending::NoMemory => say_no_memory(alloc, desk.setup, conn, to),
     }
 }
 
@@ -152,12 +149,18 @@ fn serve_set<R: Ledger, Q: Ledger, W: Wait, C: Connection>(
         return Served::NoMemory;
     };
     match take(rt, alloc, desk, pass, set, inputs) {
-        Ok(Ok(taken)) => say(alloc, desk, conn, Some(&to), &Outgoing::Ack(taken.ack)),
+        Ok(Ok(taken)) => say(
+            alloc,
+            desk.setup,
+            conn,
+            Some(&to),
+            &Outgoing::Ack(taken.ack),
+        ),
         Ok(Err(why)) => {
             let (word, number) = take_told(why);
-            refuse(alloc, desk, conn, Some(&to), word, number)
+            refuse(alloc, desk.setup, conn, Some(&to), word, number)
         }
-        Err(_) => say_no_memory(alloc, desk, conn, Some(&to)),
+        Err(_) => say_no_memory(alloc, desk.setup, conn, Some(&to)),
     }
 }
 
@@ -181,20 +184,20 @@ fn serve_answer<R: Ledger, Q: Ledger, W: Wait, C: Connection>(
     match take_answer(rt, alloc, desk, pass, answer) {
         Ok(Ok(heard)) => say(
             alloc,
-            desk,
+            desk.setup,
             conn,
             Some(&to),
             &Outgoing::Confirm(heard.confirm),
         ),
         Ok(Err(why)) => {
             let (word, number) = answer_told(why);
-            refuse(alloc, desk, conn, Some(&to), word, number)
+            refuse(alloc, desk.setup, conn, Some(&to), word, number)
         }
-        Err(_) => say_no_memory(alloc, desk, conn, Some(&to)),
+        Err(_) => say_no_memory(alloc, desk.setup, conn, Some(&to)),
     }
 }
 
-// ---- what no service is asked
+// ---- what operators ask
 
 // What is asked of all services is for the workers; what else an operator asks is told by this one.
 fn serve_console<R: Ledger, Q: Ledger, W: Wait, C: Connection>(
@@ -216,86 +219,7 @@ fn serve_console<R: Ledger, Q: Ledger, W: Wait, C: Connection>(
     tell(rt, alloc, desk, pass, conn, &asked, inputs)
 }
 
-fn instead(said: Served, answer: Served) -> Served
-    ensures { result ≡ instead said answer }
-{
-    match said {
-        Served::Said(_) => answer,
-        other => other,
-    }
-}
-
-// The word that tells why the bytes are no HTTP request, where there is one, goes to whoever sent them.
-fn refuse_bytes<R: Ledger, Q: Ledger, C: Connection>(
-    alloc: Global,
-    desk: &Desk<R, Q>,
-    conn: &mut C,
-    why: FrontRefused,
-) -> Served
-    ensures served { IsRefusedSo (FrontUnheard why) (C.Sink.writes conn.old) (C.Sink.writes conn.new) result }
-    ensures beside { C.Sink.beside conn.new ≡ C.Sink.beside conn.old }
-{
-    match front_word(why) {
-        None => Served::FrontRefused(why),
-        Some(word) => instead(
-            refuse(alloc, desk, conn, None, word, 0),
-            Served::FrontRefused(why),
-        ),
-    }
-}
-
-// Likewise where the request is no message.
-fn refuse_request<R: Ledger, Q: Ledger, C: Connection>(
-    alloc: Global,
-    desk: &Desk<R, Q>,
-    conn: &mut C,
-    why: WireRefused,
-) -> Served
-    ensures served { IsRefusedSo (WireUnheard why) (C.Sink.writes conn.old) (C.Sink.writes conn.new) result }
-    ensures beside { C.Sink.beside conn.new ≡ C.Sink.beside conn.old }
-{
-    let said = refuse(alloc, desk, conn, None, wire_word(why), 0);
-    instead(said, Served::WireRefused(why))
-}
-
-fn serve_unheard<R: Ledger, Q: Ledger, C: Connection>(
-    alloc: Global,
-    desk: &Desk<R, Q>,
-    conn: &mut C,
-    why: Unheard,
-) -> Served
-    ensures served { IsRefusedSo why (C.Sink.writes conn.old) (C.Sink.writes conn.new) result }
-    ensures beside { C.Sink.beside conn.new ≡ C.Sink.beside conn.old }
-{
-    match why {
-        Unheard::Front(why) => refuse_bytes(alloc, desk, conn, why),
-        Unheard::Wire(why) => refuse_request(alloc, desk, conn, why),
-    }
-}
-
 // ---- all of it
-
-fn hear_on<R: Ledger, Q: Ledger, C: Connection>(
-    alloc: Global,
-    desk: &Desk<R, Q>,
-    conn: &mut C,
-) -> Result<Incoming, Unheard>
-    ensures heard { IsHeardFrom (at_desk desk.now).me (at_desk desk.now).secrets (at_desk desk.now).console (C.Source.reads conn.old) (C.Source.reads conn.new) result }
-    ensures alone { IfOk result (TakenSays (at_desk desk.now).me (at_desk desk.now).secrets (at_desk desk.now).console (C.Source.reads conn.old) (C.Source.reads conn.new)) }
-    ensures known { IfOk result (IsKnownMessage (at_desk desk.now).me (at_desk desk.now).secrets (at_desk desk.now).console) }
-    ensures fault { IsErrOf result (FrontUnheard ReadFault) → ReadFails (C.Source.reads conn.old) (C.Source.reads conn.new) }
-    ensures whole { (C.Source.reads conn.new).whole ≡ (C.Source.reads conn.old).whole }
-    ensures writes { C.Sink.writes conn.new ≡ C.Sink.writes conn.old }
-{
-    let setup = desk.setup;
-    hear(
-        alloc,
-        conn,
-        &setup.setting.me,
-        &desk.secrets,
-        &setup.console,
-    )
-}
 
 // One message of those that a service hears, with what is known of it.
 fn serve<R: Ledger, Q: Ledger, W: Wait, C: Connection, L: Link, G: Gate>(
@@ -365,8 +289,8 @@ pub fn serve_one<R: Ledger, Q: Ledger, W: Wait, C: Connection, L: Link, G: Gate>
     ensures fault { result ≡ Served.FrontRefused ReadFault → ReadFails (C.Source.reads conn.old) (C.Source.reads conn.new) }
     ensures whole { (C.Source.reads conn.new).whole ≡ (C.Source.reads conn.old).whole }
 {
-    match hear_on(alloc, desk, conn) {
-        Err(why) => serve_unheard(alloc, desk, conn, why),
+    match hear_on(alloc, desk.setup, &desk.secrets, conn) {
+        Err(why) => refuse_unheard(alloc, desk.setup, conn, why),
         Ok(message) => serve(rt, alloc, desk, pass, conn, link, gate, message, inputs),
     }
 }

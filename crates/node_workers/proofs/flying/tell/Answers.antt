@@ -1,6 +1,6 @@
 use Rattle.std.proofs.Common.{subst, sym}
 use Rattle.node_workers.proofs.FlightLemmas.{told_again, waits_again}
-use Rattle.node_workers.specs.Calling.{FailsOnly}
+use Rattle.node_exchanges.specs.Calls.{FailsOnly}
 use Rattle.node_workers.specs.Desks.{at_desk}
 use Rattle.node_workers.proofs.flying.tell.Goals as goal
 

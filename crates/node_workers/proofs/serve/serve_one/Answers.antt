@@ -10,14 +10,14 @@ returns-in-Err-clause-served g c =
     let e = at_desk c.args.desk.now in
     let law = g.met.C.Connection.write_keeps in
     let mid = c.hear_on.new.conn in
-    let end = c.serve_unheard.new.conn in
+    let end = c.refuse_unheard.new.conn in
     let notes = c.args.pass.now.notes in
     let receipts = c.args.pass.now.receipts.items in
-    let answer = c.serve_unheard.result in
+    let answer = c.refuse_unheard.result in
     served_to e c.args.inputs (g.C.Source.reads c.args.conn.now) (g.C.Source.reads mid) (g.C.Source.reads end) (g.C.Sink.writes c.args.conn.now) (g.C.Sink.writes mid)
-    (g.C.Sink.writes end) notes receipts receipts answer (sym (law end) ∙ (c.serve_unheard.ensures.beside ∙ law mid)) c.hear_on.ensures.writes
+    (g.C.Sink.writes end) notes receipts receipts answer (sym (law end) ∙ (c.refuse_unheard.ensures.beside ∙ law mid)) c.hear_on.ensures.writes
     (refused_well e c.args.inputs (g.C.Source.reads c.args.conn.now) (g.C.Source.reads mid) (g.C.Sink.writes mid) (g.C.Sink.writes end) notes receipts receipts c.in-Err.why
-    answer c.in-Err.ensures.heard c.in-Err.ensures.fault refl c.serve_unheard.ensures.served)
+    answer c.in-Err.ensures.heard c.in-Err.ensures.fault refl c.refuse_unheard.ensures.served)
 
 pub returns-in-Err-clause-told : goal.returns-in-Err-clause-told
 returns-in-Err-clause-told g c = inl refl
@@ -33,22 +33,22 @@ returns-in-Err-clause-fault g c =
     let e = at_desk c.args.desk.now in
     let law = g.met.C.Connection.write_keeps in
     let mid = c.hear_on.new.conn in
-    let end = c.serve_unheard.new.conn in
+    let end = c.refuse_unheard.new.conn in
     let notes = c.args.pass.now.notes in
     let receipts = c.args.pass.now.receipts.items in
-    let answer = c.serve_unheard.result in
+    let answer = c.refuse_unheard.result in
     fault_counted e c.args.inputs (g.C.Source.reads c.args.conn.now) (g.C.Source.reads end) (g.C.Sink.writes c.args.conn.now) (g.C.Sink.writes end) notes receipts receipts answer
     (served_to e c.args.inputs (g.C.Source.reads c.args.conn.now) (g.C.Source.reads mid) (g.C.Source.reads end) (g.C.Sink.writes c.args.conn.now) (g.C.Sink.writes mid)
-    (g.C.Sink.writes end) notes receipts receipts answer (sym (law end) ∙ (c.serve_unheard.ensures.beside ∙ law mid)) c.hear_on.ensures.writes
+    (g.C.Sink.writes end) notes receipts receipts answer (sym (law end) ∙ (c.refuse_unheard.ensures.beside ∙ law mid)) c.hear_on.ensures.writes
     (refused_well e c.args.inputs (g.C.Source.reads c.args.conn.now) (g.C.Source.reads mid) (g.C.Sink.writes mid) (g.C.Sink.writes end) notes receipts receipts c.in-Err.why
-    answer c.in-Err.ensures.heard c.in-Err.ensures.fault refl c.serve_unheard.ensures.served))
+    answer c.in-Err.ensures.heard c.in-Err.ensures.fault refl c.refuse_unheard.ensures.served))
 
 pub returns-in-Err-clause-whole : goal.returns-in-Err-clause-whole
 returns-in-Err-clause-whole g c =
     let law = g.met.C.Connection.write_keeps in
     let mid = c.hear_on.new.conn in
-    let end = c.serve_unheard.new.conn in
-    ap (λ (r : Reads). r.whole) (sym (law end) ∙ (c.serve_unheard.ensures.beside ∙ law mid)) ∙ c.hear_on.ensures.whole
+    let end = c.refuse_unheard.new.conn in
+    ap (λ (r : Reads). r.whole) (sym (law end) ∙ (c.refuse_unheard.ensures.beside ∙ law mid)) ∙ c.hear_on.ensures.whole
 
 pub returns-in-Ok-clause-served : goal.returns-in-Ok-clause-served
 returns-in-Ok-clause-served g c =

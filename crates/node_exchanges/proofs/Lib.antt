@@ -1,0 +1,4 @@
+pub mod ExchangeLemmas
+pub mod CallLemmas
+pub mod PostLemmas
+pub mod ReplyLemmas

@@ -1,0 +1,5 @@
+pub mod Endpoints
+pub mod Exchanging
+pub mod Calls
+pub mod Posts
+pub mod Replies
