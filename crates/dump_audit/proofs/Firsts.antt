@@ -2,8 +2,8 @@
 use Rattle.std.proofs.Common.{◌≡◌, ℕ, suc, ◌<◌, Bool, true, false, cond, List, [], ◌∷◌, Option, Some, None, Result, Ok, Err, slice_index_or, length, ◌⊎◌, inl, inr, zero, refl, sym, ap, subst, ◌∙◌, arith}
 use Rattle.std.specs.List.{Any, AllByRecursion}
 use Rattle.lang_core.specs.declared.cells.Cell.{Cell}
-use Rattle.dump_reader.specs.declared.dump.DumpEntry.{DumpEntry}
-use Rattle.dump_reader.specs.declared.dump.DumpService.{DumpService}
+use Rattle.dump_tables.specs.declared.dump.DumpEntry.{DumpEntry}
+use Rattle.dump_tables.specs.declared.dump.DumpService.{DumpService}
 use Rattle.dump_audit.specs.Judging.{Found, first_failing, first_in, found_in, found_or, goes_on}
 use Rattle.dump_audit.specs.declared.judged.Fault.{Fault}
 use Rattle.dump_audit.specs.declared.judged.Judged.{Judged}

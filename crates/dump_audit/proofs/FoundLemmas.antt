@@ -13,11 +13,11 @@ use Rattle.lang_core.specs.Origins.{is_call}
 use Rattle.lang_core.specs.contracts.trace.CallMade as call_made
 use Rattle.lang_core.specs.declared.request.Response.{Response}
 use Rattle.lang_core.specs.declared.trace.CallMade.{CallMade}
-use Rattle.dump_reader.specs.Found.{IsOneOf}
-use Rattle.dump_reader.specs.Kept.{AreKept, IsKept}
-use Rattle.dump_reader.specs.Reading.{has_number}
-use Rattle.dump_reader.specs.declared.dump.DumpEntry.{DumpEntry}
-use Rattle.dump_reader.specs.declared.dump.DumpService.{DumpService}
+use Rattle.dump_tables.specs.Found.{IsOneOf}
+use Rattle.dump_tables.specs.Kept.{AreKept, IsKept}
+use Rattle.dump_tables.specs.Indexed.{has_number}
+use Rattle.dump_tables.specs.declared.dump.DumpEntry.{DumpEntry}
+use Rattle.dump_tables.specs.declared.dump.DumpService.{DumpService}
 use Rattle.dump_audit.specs.Judging.{is_alive, is_among, is_made_by, is_served, is_served_by, makes, serves, serves_alone, service_in}
 use Rattle.dump_audit.proofs.OneLemmas.{is_found, none_any, none_kept, one_any, one_caller, one_kept, one_name, one_number}
 

@@ -3,7 +3,7 @@ use Rattle.std.proofs.Common.{◌≡◌, ℕ, zero, suc, ◌+◌, ◌-◌, ◌*�
 use Rattle.std.specs.Fork.{slice_chunk}
 use Rattle.std.proofs.lemmas.List.{drop-drop, take-append-drop}
 use Rattle.std.proofs.Math.Nat.{add-mul, div-add-mod, lt-div-mul-add, mod-lt, mul-le-mul_right, mul_comm, one-mul}
-use Rattle.dump_reader.specs.declared.dump.DumpService.{DumpService}
+use Rattle.dump_tables.specs.declared.dump.DumpService.{DumpService}
 use Rattle.dump_audit.specs.Groups.{EachOutcome, IsOutcome, Outcome}
 use Rattle.dump_audit.specs.Judging.{Found, first_in, found_in, replay_fault}
 use Rattle.dump_audit.specs.declared.judged.Judged.{Judged}

@@ -4,8 +4,8 @@ use Rattle.std.specs.List.{All, AllByRecursion}
 use Rattle.std.proofs.lemmas.List.Elements.{All-from_recursion, recursion_from_All}
 use Rattle.execution.specs.Executions.{Act, History, IsEmptyIfDead, Replays}
 use Rattle.execution.specs.Together.{CallsAreServed, IsLegalTogether, WantedIsCalledFor}
-use Rattle.dump_reader.specs.declared.dump.DumpEntry.{DumpEntry}
-use Rattle.dump_reader.specs.declared.dump.DumpService.{DumpService}
+use Rattle.dump_tables.specs.declared.dump.DumpEntry.{DumpEntry}
+use Rattle.dump_tables.specs.declared.dump.DumpService.{DumpService}
 use Rattle.dump_audit.specs.Histories.{act_of, histories_of, history_of}
 use Rattle.dump_audit.specs.Judging.{answer_fault, first_in, found_or, is_answered, is_called_for, judged, judged_together, replay_fault, stray_fault}
 use Rattle.dump_audit.specs.declared.judged.Fault.TheVariants as fault

@@ -8,11 +8,11 @@ use Rattle.lang_base.specs.Texts.{same_text}
 use Rattle.lang_core.specs.Origins.{is_call}
 use Rattle.lang_core.specs.declared.ids.Origin.{Origin}
 use Rattle.lang_core.specs.declared.ids.Origin.TheVariants.{Outside, Call}
-use Rattle.dump_reader.specs.Found.{IsOneOf}
-use Rattle.dump_reader.specs.Kept.{AreApart, call_behind, calls_behind, numbers_of, service_name}
-use Rattle.dump_reader.specs.Reading.{has_number}
-use Rattle.dump_reader.specs.declared.dump.DumpEntry.{DumpEntry}
-use Rattle.dump_reader.specs.declared.dump.DumpService.{DumpService}
+use Rattle.dump_tables.specs.Found.{IsOneOf}
+use Rattle.dump_tables.specs.Kept.{AreApart, call_behind, calls_behind, numbers_of, service_name}
+use Rattle.dump_tables.specs.Indexed.{has_number}
+use Rattle.dump_tables.specs.declared.dump.DumpEntry.{DumpEntry}
+use Rattle.dump_tables.specs.declared.dump.DumpService.{DumpService}
 
 -- a test holds of one of these at most
 abbrev pub OfOne : {X : Type 0} → (X → Bool) → List X → Type 0

@@ -20,7 +20,7 @@ use Rattle.handler_run.specs.Handlers.{run_of}
 use Rattle.handler_run.specs.declared.state.Ran.{Ran}
 use Rattle.handler_run.specs.declared.state.Ran.TheVariants.{Done, Wants}
 use Rattle.execution.specs.Executions.{Act, Deed, IsEmptyIfDead, IsPlayed, IsReplay, Replays, deed_of}
-use Rattle.dump_reader.specs.declared.dump.DumpEntry.{DumpEntry}
+use Rattle.dump_tables.specs.declared.dump.DumpEntry.{DumpEntry}
 use Rattle.dump_audit.specs.Histories.{act_of, deed}
 use Rattle.dump_audit.specs.Judging.{Found, after, checked, difference, ended, goes_on, is_alive, is_response, is_told, replay_from, same_calls, stepped, trace_of}
 use Rattle.dump_audit.specs.declared.judged.Fault.{Fault}

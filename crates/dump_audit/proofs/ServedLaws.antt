@@ -15,8 +15,8 @@ use Rattle.lang_core.specs.declared.request.Response.{Response}
 use Rattle.lang_core.specs.declared.trace.CallMade.{CallMade}
 use Rattle.execution.specs.Executions.{Act, Deed, History}
 use Rattle.execution.specs.Together.{AreServed, CallsAreServed, IsAmong, IsCalledFor, IsOne, IsServed, Makes, Serves, WantedIsCalledFor, comes_from, history_in}
-use Rattle.dump_reader.specs.declared.dump.DumpEntry.{DumpEntry}
-use Rattle.dump_reader.specs.declared.dump.DumpService.{DumpService}
+use Rattle.dump_tables.specs.declared.dump.DumpEntry.{DumpEntry}
+use Rattle.dump_tables.specs.declared.dump.DumpService.{DumpService}
 use Rattle.dump_audit.specs.Histories.{act_of, deed, histories_of, history_of}
 use Rattle.dump_audit.specs.Judging.{all_served, is_alive, is_among, is_answered, is_called_for, is_made, is_made_by, is_response, is_served, is_served_by, makes, serves, serves_alone, service_in}
 use Rattle.dump_audit.proofs.Firsts.{any_cases, any_here, any_none, any_there}

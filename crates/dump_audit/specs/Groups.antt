@@ -2,7 +2,7 @@
 use Rattle.std.specs.Prelude.{◌≡◌, ℕ, ◌<◌, List, Option, Result, IfOk, length, slice_index_or}
 use Rattle.std.specs.Fork.{slice_chunk}
 use Rattle.lang_base.specs.declared.memory.NoMemory.{NoMemory}
-use Rattle.dump_reader.specs.declared.dump.DumpService.{DumpService}
+use Rattle.dump_tables.specs.declared.dump.DumpService.{DumpService}
 use Rattle.dump_audit.specs.Judging.{first_in, replay_fault}
 use Rattle.dump_audit.specs.declared.judged.Judged.{Judged}
 

@@ -2,12 +2,12 @@
 ghost use Rattle.std.specs.Prelude.{◌≡◌};
 ghost use Rattle.lang_base.specs.Equal.{equal};
 ghost use Rattle.lang_core.specs.contracts.request.Request as request;
-ghost use Rattle.dump_reader.specs.Kept.{AreKept};
+ghost use Rattle.dump_tables.specs.Kept.{AreKept};
 ghost use Rattle.dump_audit.specs.Judging.{all_served, answer_fault, is_answered, is_served, serves};
 
 use crate::judged::Fault;
-use crate::replays::{is_alive, is_response};
-use dump_reader::{DumpEntry, DumpService, DumpServices};
+use crate::replays::is_response;
+use dump_tables::{DumpEntry, DumpService, DumpServices};
 use lang_core::{CallMade, Name, Request, Response, Same};
 
 fn request_is(logged: &Request, asked: &Request) -> bool
@@ -73,7 +73,7 @@ fn is_answered(services: &DumpServices, me: &Name, entry: &DumpEntry) -> bool
     requires { ∥ AreKept services.now ∥₁ }
     ensures { result ≡ is_answered services.now me.now entry.now }
 {
-    if !is_alive(entry) {
+    if !entry.is_alive() {
         return true;
     }
     entry.reply.is_some()

@@ -1,7 +1,7 @@
 // Services replayed in groups, beside one another.
 ghost use Rattle.std.specs.Prelude.{◌≡◌, ◌↔◌, ◌<◌, ◌≤◌, ◌*◌, ℕ, List, IfOk, length};
 ghost use Rattle.execution.specs.Together.{IsLegalTogether};
-ghost use Rattle.dump_reader.specs.declared.dump.DumpService.{DumpService};
+ghost use Rattle.dump_tables.specs.declared.dump.DumpService.{DumpService};
 ghost use Rattle.dump_audit.specs.Groups.{EachOutcome};
 ghost use Rattle.dump_audit.specs.Histories.{histories_of};
 ghost use Rattle.dump_audit.specs.Judging.{first_in, judged, replay_fault};
@@ -9,7 +9,7 @@ ghost use Rattle.dump_audit.specs.declared.judged.Judged.TheVariants.{Legal};
 
 use crate::judged::Judged;
 use crate::judging::{first_replay, judged_together};
-use dump_reader::{Dump, DumpService};
+use dump_tables::{Dump, DumpService};
 use lang_core::NoMemory;
 use std::alloc::Global;
 use std::thread;

@@ -1,7 +1,7 @@
 // A dump's verdict.
 ghost use Rattle.std.specs.Prelude.{◌≡◌, ◌↔◌, IfOk};
 ghost use Rattle.execution.specs.Together.{IsLegalTogether};
-ghost use Rattle.dump_reader.specs.Kept.{AreKept};
+ghost use Rattle.dump_tables.specs.Kept.{AreKept};
 ghost use Rattle.dump_audit.specs.Histories.{histories_of};
 ghost use Rattle.dump_audit.specs.Judging.{answer_fault, first_in, judged, judged_together, replay_fault, stray_fault};
 ghost use Rattle.dump_audit.specs.declared.judged.Judged.{Judged};
@@ -11,7 +11,7 @@ use crate::answers::answer_fault;
 use crate::judged::{Fault, Judged};
 use crate::replays::replay_fault;
 use crate::strays::stray_fault;
-use dump_reader::{Dump, DumpService, DumpServices};
+use dump_tables::{Dump, DumpService, DumpServices};
 use lang_core::{Copied, NoMemory};
 use std::alloc::Global;
 

@@ -13,7 +13,7 @@ mod replays;
 mod strays;
 
 pub use beside::judge_beside;
-pub use dump_reader::{Dump, DumpEntry, DumpService, DumpServices};
+pub use dump_tables::{Dump, DumpEntry, DumpService, DumpServices};
 pub use judged::{Fault, Judged};
 pub use judging::judge;
 pub use lang_rows::RowTree;

@@ -6,23 +6,16 @@ ghost use Rattle.lang_core.specs.Traces.{dead_trace};
 ghost use Rattle.lang_core.specs.contracts.cells.Cell as cell;
 ghost use Rattle.lang_core.specs.contracts.request.Response as response;
 ghost use Rattle.lang_core.specs.contracts.trace.CallMade as call_made;
-ghost use Rattle.dump_audit.specs.Judging.{after, difference, ended, is_alive, is_response, is_told, replay_fault, same_calls, stepped, trace_of};
+ghost use Rattle.dump_audit.specs.Judging.{after, difference, ended, is_response, is_told, replay_fault, same_calls, stepped, trace_of};
 
 use crate::judged::Fault;
-use dump_reader::{DumpEntry, DumpService};
+use dump_tables::{DumpEntry, DumpService};
 use handler_run::{Ran, run};
 use lang_core::{
     Answers, Calls, Cells, NoMemory, Reads, Response, Same, Setting, SharedWrites, Text, Trace,
 };
 use lang_rows::RowTree;
 use std::alloc::Global;
-
-/// Whether an entry survives.
-pub(crate) fn is_alive(entry: &DumpEntry) -> bool
-    ensures { result ≡ is_alive entry.now }
-{
-    entry.wanted && !entry.struck
-}
 
 // The trace of an entry that doesn't survive.
 fn dead_trace(alloc: Global) -> Result<Trace, NoMemory>
@@ -55,7 +48,7 @@ fn trace_of(
 ) -> Result<Option<Trace>, NoMemory>
     ensures { IfOk result (λ trace. trace ≡ trace_of setting.now rows.now entry.now) }
 {
-    if !is_alive(entry) {
+    if !entry.is_alive() {
         return Ok(Some(dead_trace(alloc)?));
     }
     let ran = run(

@@ -2,12 +2,11 @@
 ghost use Rattle.std.specs.Prelude.{◌≡◌, ◌↔◌, IsTrue};
 ghost use Rattle.lang_base.specs.Equal.{equal};
 ghost use Rattle.lang_core.specs.contracts.trace.CallMade as call_made;
-ghost use Rattle.dump_reader.specs.Kept.{AreKept};
+ghost use Rattle.dump_tables.specs.Kept.{AreKept};
 ghost use Rattle.dump_audit.specs.Judging.{is_among, is_called_for, is_made, is_made_by, makes, service_in, stray_fault};
 
 use crate::judged::Fault;
-use crate::replays::is_alive;
-use dump_reader::{DumpEntry, DumpService, DumpServices};
+use dump_tables::{DumpEntry, DumpService, DumpServices};
 use lang_core::{CallMade, Name, Origin, Request, Same};
 
 // Whether the call goes to this service and asks this.
@@ -48,7 +47,7 @@ fn is_among(
 fn makes(number: u64, dest: &Name, request: &Request, entry: &DumpEntry) -> bool
     ensures { result ≡ makes number (record { dest = dest.now; request = request.now }) entry.now }
 {
-    is_alive(entry)
+    entry.is_alive()
         && entry.reply.is_some()
         && is_among(
             number,

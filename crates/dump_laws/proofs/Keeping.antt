@@ -22,9 +22,9 @@ use Rattle.call_registers.specs.declared.register.Register.{Register}
 use Rattle.service_events.specs.Fits.{Fits, NumberedCalls, WantsItsCalls, calls_of_entry, calls_of_flight, count, places, times_held, wanted_call}
 use Rattle.service_events.specs.State.{Kept, answers, base, me}
 use Rattle.world_agreement.specs.Partners.{NamesDiffer}
-use Rattle.dump_reader.specs.Kept.{AreApart, AreKept, IsKept, IsSent, IsWhole, call_behind, calls_behind, numbers_of, service_name}
-use Rattle.dump_reader.specs.declared.dump.DumpEntry.{DumpEntry}
-use Rattle.dump_reader.specs.declared.dump.DumpService.{DumpService}
+use Rattle.dump_tables.specs.Kept.{AreApart, AreKept, IsKept, IsSent, IsWhole, call_behind, calls_behind, numbers_of, service_name}
+use Rattle.dump_tables.specs.declared.dump.DumpEntry.{DumpEntry}
+use Rattle.dump_tables.specs.declared.dump.DumpService.{DumpService}
 use Rattle.dump_laws.specs.Dumped.{dumped, dumped_all, dumped_entry}
 
 -- ---- names of services

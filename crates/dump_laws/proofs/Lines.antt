@@ -21,12 +21,12 @@ use Rattle.handler_lang.specs.Reading.{read_of}
 use Rattle.report_text.specs.Reports as report
 use Rattle.report_text.specs.Reports.{escaped_key, key_byte}
 use Rattle.dump_lines.specs.Dumps.{digit_of, names_text, origin_text}
-use Rattle.dump_reader.specs.Lines.{answer_at, call_at, call_of, cut_call, cut_inputs, cut_request, cut_standing, entry_at, entry_of, is_none, peers_at, program_at, program_of, programmed, reply_at, request_at, request_of, response_at, row_at, row_of, service_at, shaped, words_at}
-use Rattle.dump_reader.specs.Parts.{alone, at_end, body_behind, cut_at, in_u16, key_part, name_part, names_part, origin_part, path_part, table_part, who_part, with_part, with_word}
+use Rattle.dump_tables.specs.declared.dump.DumpEntry.{DumpEntry}
+use Rattle.dump_words.specs.Lines.{answer_at, call_at, call_of, cut_call, cut_inputs, cut_request, cut_standing, entry_at, entry_of, is_none, peers_at, program_at, program_of, programmed, reply_at, request_at, request_of, response_at, row_at, row_of, service_at, shaped, words_at}
+use Rattle.dump_words.specs.Parts.{alone, at_end, body_behind, cut_at, in_u16, key_part, name_part, names_part, origin_part, path_part, table_part, who_part, with_part, with_word}
+use Rattle.dump_words.specs.declared.line.Line.{Line}
+use Rattle.dump_words.specs.declared.line.Line.TheVariants.{Service, Peers, Program, Entry, Call, Answer, Reply, Row, End}
 use Rattle.dump_reader.specs.Spelled.{call_line, entry_line}
-use Rattle.dump_reader.specs.declared.dump.DumpEntry.{DumpEntry}
-use Rattle.dump_reader.specs.declared.line.Line.{Line}
-use Rattle.dump_reader.specs.declared.line.Line.TheVariants.{Service, Peers, Program, Entry, Call, Answer, Reply, Row, End}
 use Rattle.dump_laws.specs.Forms.{AreInputs, IsCallMade, IsCell, IsDumpEntry, IsFromOne, IsRequest, IsResponse}
 use Rattle.dump_laws.proofs.Words.{all_both, all_next, cut_last, cut_word, digits, digits_lack_feeds, digits_lack_spaces, lacks, last_word, one_word, part_is, status_reads}
 use Rattle.dump_laws.proofs.Texts.{behind, behind_one_line, body_behind_reads, cut_before, key_one_line, key_one_word, key_part_reads, text_reads, word_before}

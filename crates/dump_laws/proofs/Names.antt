@@ -19,7 +19,7 @@ use Rattle.lang_core.specs.declared.ids.Origin.TheVariants.{Outside, Call}
 use Rattle.request_names.specs.Ids.{id_of, id_text}
 use Rattle.request_names.proofs.IdLemmas.{reads_back, three_hold}
 use Rattle.dump_lines.specs.Dumps.{digit_of, names_text, origin_text}
-use Rattle.dump_reader.specs.Parts.{call_origin, flag_part, name_part, names_part, origin_part, path_part, table_part, where_good, who_part, with_part}
+use Rattle.dump_words.specs.Parts.{call_origin, flag_part, name_part, names_part, origin_part, path_part, table_part, where_good, who_part, with_part}
 use Rattle.dump_laws.specs.Forms.{IsOrigin}
 use Rattle.dump_laws.proofs.Words.{all_both, all_next, all_weaker, digits_lack_feeds, digits_lack_spaces, lacks}
 

@@ -8,8 +8,8 @@ use Rattle.lang_core.specs.declared.inputs.Inputs.{Inputs}
 use Rattle.request_names.specs.Numbers.{number_of}
 use Rattle.report_text.specs.Reports as report
 use Rattle.dump_lines.specs.Dumps.{digit_of}
-use Rattle.dump_reader.specs.Lines.{cut_asked, cut_call, cut_four, cut_inputs, cut_number, cut_request, cut_standing, cut_two, inputs_of}
-use Rattle.dump_reader.specs.Parts.{flag_part, from_one, moment_of, with_part, with_word}
+use Rattle.dump_words.specs.Lines.{cut_asked, cut_call, cut_four, cut_inputs, cut_number, cut_request, cut_standing, cut_two, inputs_of}
+use Rattle.dump_words.specs.Parts.{flag_part, from_one, moment_of, with_part, with_word}
 use Rattle.dump_laws.specs.Forms.{AreInputs, IsFromOne, IsNumber}
 use Rattle.dump_laws.proofs.Words.{digits_lack_spaces, from_one_reads, lacks, moment_reads, number_reads, one_word, part_is}
 use Rattle.dump_laws.proofs.Texts.{behind, word_before}

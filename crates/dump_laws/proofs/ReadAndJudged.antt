@@ -22,7 +22,7 @@ use Rattle.world_agreement.specs.Legal.{histories, history}
 use Rattle.world_agreement.specs.Partners.{IsJoined}
 use Rattle.world_agreement.specs.Quiet.{AreQuiet}
 use Rattle.world_agreement.proofs.LegalLaws.{legal_together}
-use Rattle.dump_reader.specs.Kept.{IsSent}
+use Rattle.dump_tables.specs.Kept.{IsSent}
 use Rattle.dump_reader.proofs.OnlyLemmas.{read_only}
 use Rattle.dump_lines.specs.Dumps.{dump_text}
 use Rattle.dump_audit.proofs.LegalLaws.{so_legal}

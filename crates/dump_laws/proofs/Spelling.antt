@@ -22,12 +22,12 @@ use Rattle.local_repair.specs.Current.{Consumed, rows_after}
 use Rattle.service_events.specs.State.{Kept, answers, base, me}
 use Rattle.dump_lines.specs.Dumps as dump
 use Rattle.dump_lines.specs.Dumps.{digit_of, dump_text, names_text, origin_text}
-use Rattle.dump_reader.specs.Lines.{line_at}
+use Rattle.dump_words.specs.Lines.{line_at}
+use Rattle.dump_words.specs.declared.line.Line.{Line}
+use Rattle.dump_words.specs.declared.line.Line.TheVariants.{Service, Peers, Program, Entry as OfEntry, Call, Answer, Reply, Row, End}
 use Rattle.dump_reader.specs.Reading.{lines_of}
 use Rattle.dump_reader.specs.Spelled as spelled
 use Rattle.dump_reader.specs.Spelled.{Spells, dump_lines, says}
-use Rattle.dump_reader.specs.declared.line.Line.{Line}
-use Rattle.dump_reader.specs.declared.line.Line.TheVariants.{Service, Peers, Program, Entry as OfEntry, Call, Answer, Reply, Row, End}
 use Rattle.dump_reader.proofs.LineLemmas.{line_found}
 use Rattle.dump_laws.specs.Dumped.{dumped, dumped_all, dumped_entry, reply_in}
 use Rattle.dump_laws.specs.Forms.{IsCallMade, IsCell, IsDumpEntry, IsDumpService, IsFromOne, IsResponse, IsSetting}

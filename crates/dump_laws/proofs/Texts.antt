@@ -4,8 +4,8 @@ use Rattle.std.specs.List.{flat_map, list_all}
 use Rattle.std.proofs.lemmas.Bool.Decides.{nat_tests}
 use Rattle.report_text.specs.Reports as report
 use Rattle.report_text.specs.Reports.{body_byte, escaped_body, escaped_key, key_byte}
-use Rattle.dump_reader.specs.Escapes.{byte_before, unescaped, unescaped_from}
-use Rattle.dump_reader.specs.Parts.{body_behind, cut_at, key_part, text_behind, with_word, within}
+use Rattle.dump_words.specs.Escapes.{byte_before, unescaped, unescaped_from}
+use Rattle.dump_words.specs.Parts.{body_behind, cut_at, key_part, text_behind, with_word, within}
 use Rattle.dump_laws.specs.Forms.{IsBody}
 use Rattle.dump_laws.proofs.Words.{all_both, all_next, cut_last, cut_word, lacks}
 

@@ -10,7 +10,7 @@ use Rattle.std.proofs.lemmas.List.Folds.{list_all-append}
 use Rattle.request_names.proofs.IdLemmas.{read_decimal}
 use Rattle.request_names.proofs.Parsed.{own}
 use Rattle.request_names.specs.Numbers.{number_of}
-use Rattle.dump_reader.specs.Parts.{cut_at, from_one, in_u16, moment_of, with_part, with_word}
+use Rattle.dump_words.specs.Parts.{cut_at, from_one, in_u16, moment_of, with_part, with_word}
 use Rattle.dump_laws.specs.Forms.{IsFromOne, IsNumber}
 
 -- ---- bytes

@@ -17,8 +17,8 @@ use Rattle.lang_grammar.specs.Grammar.{program_tokens}
 use Rattle.lang_grammar.specs.Printing.{text_of}
 use Rattle.request_log.specs.declared.entry.Entry.{Entry}
 use Rattle.service_events.specs.State.{Kept}
-use Rattle.dump_reader.specs.declared.dump.DumpEntry.{DumpEntry}
-use Rattle.dump_reader.specs.declared.dump.DumpService.{DumpService}
+use Rattle.dump_tables.specs.declared.dump.DumpEntry.{DumpEntry}
+use Rattle.dump_tables.specs.declared.dump.DumpService.{DumpService}
 
 -- a number of 64 bits, and one from 1
 abbrev pub IsNumber : ℕ → Type 0

@@ -9,15 +9,16 @@ use Rattle.lang_core.specs.declared.cells.Cell.{Cell}
 use Rattle.lang_core.specs.declared.ids.Origin.{Origin}
 use Rattle.lang_core.specs.declared.ids.Origin.TheVariants.{Outside, Call as FromCall}
 use Rattle.lang_core.specs.declared.request.Response.{Response}
-use Rattle.dump_reader.specs.Kept.{AreApart, AreKept, IsKept, IsSent, IsWhole, call_behind, calls_behind, numbers_of, service_name}
-use Rattle.dump_reader.specs.Lines.{line_at}
-use Rattle.dump_reader.specs.Reading.{Next, Stepped, all_answered, begun, call_of, comes_from, consuming, entry_of, has_number, head_by, head_of, headed, is_behind, is_entered, is_kept, is_named, prepared, replying, run_on, running_as, staying, step, with_answer, with_call, with_entry, with_lines, with_made, with_reply, with_row}
-use Rattle.dump_reader.specs.declared.dump.DumpEntry.{DumpEntry}
-use Rattle.dump_reader.specs.declared.dump.DumpService.{DumpService}
-use Rattle.dump_reader.specs.declared.line.CallLine.{CallLine}
-use Rattle.dump_reader.specs.declared.line.EntryLine.{EntryLine}
-use Rattle.dump_reader.specs.declared.line.Line.{Line}
-use Rattle.dump_reader.specs.declared.line.Line.TheVariants.{Service, Peers, Program, Entry, Call, Answer, Reply, Row, End}
+use Rattle.dump_tables.specs.Kept.{AreApart, AreKept, IsKept, IsSent, IsWhole, call_behind, calls_behind, numbers_of, service_name}
+use Rattle.dump_tables.specs.Indexed.{has_number}
+use Rattle.dump_tables.specs.declared.dump.DumpEntry.{DumpEntry}
+use Rattle.dump_tables.specs.declared.dump.DumpService.{DumpService}
+use Rattle.dump_words.specs.Lines.{line_at}
+use Rattle.dump_words.specs.declared.line.CallLine.{CallLine}
+use Rattle.dump_words.specs.declared.line.EntryLine.{EntryLine}
+use Rattle.dump_words.specs.declared.line.Line.{Line}
+use Rattle.dump_words.specs.declared.line.Line.TheVariants.{Service, Peers, Program, Entry, Call, Answer, Reply, Row, End}
+use Rattle.dump_reader.specs.Reading.{Next, Stepped, all_answered, begun, call_of, comes_from, consuming, entry_of, head_by, head_of, headed, is_behind, is_entered, is_kept, is_named, prepared, replying, run_on, running_as, staying, step, with_answer, with_call, with_entry, with_lines, with_made, with_reply, with_row}
 use Rattle.dump_reader.specs.declared.refused.DumpRefused.TheVariants as refusal
 use Rattle.dump_reader.specs.declared.stage.Head.{Head}
 use Rattle.dump_reader.specs.declared.stage.Running.{Running}

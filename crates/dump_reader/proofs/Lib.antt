@@ -1,14 +1,7 @@
-pub mod EscapeLemmas
-pub mod FoundLemmas
-pub mod IndexLemmas
+pub mod EnteredLemmas
 pub mod KeptLemmas
-pub mod KeyEscapes
 pub mod LineLemmas
-pub mod NameLemmas
 pub mod OnlyLemmas
-pub mod Outcomes
-pub mod PlaceLemmas
 pub mod ReadLemmas
 pub mod RowLemmas
 pub mod SpelledLemmas
-pub mod WordLemmas

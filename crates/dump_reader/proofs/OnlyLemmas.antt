@@ -17,15 +17,16 @@ use Rattle.lang_core.specs.declared.ids.Origin.TheVariants.{Outside, Call as Fro
 use Rattle.lang_core.specs.declared.request.Response.{Response}
 use Rattle.lang_core.specs.declared.setting.Setting.{Setting}
 use Rattle.lang_core.specs.declared.trace.CallMade.{CallMade}
+use Rattle.dump_tables.specs.Kept.{AreApart, AreKept, IsKept, IsSent, IsWhole, call_behind, calls_behind, numbers_of, service_name}
+use Rattle.dump_tables.specs.Indexed.{has_number}
+use Rattle.dump_tables.specs.declared.dump.DumpEntry.{DumpEntry}
+use Rattle.dump_tables.specs.declared.dump.DumpService.{DumpService}
+use Rattle.dump_words.specs.Lines.{Read, line_at}
+use Rattle.dump_words.specs.declared.line.Line.{Line}
+use Rattle.dump_words.specs.declared.line.Line.TheVariants.{Service, Peers, Program, Entry, Call, Answer, Reply, Row, End}
 use Rattle.dump_reader.specs.Alone.{not_among}
-use Rattle.dump_reader.specs.Kept.{AreApart, AreKept, IsKept, IsSent, IsWhole, call_behind, calls_behind, numbers_of, service_name}
-use Rattle.dump_reader.specs.Lines.{Read, line_at}
-use Rattle.dump_reader.specs.Reading.{Next, Stepped, all_answered, and_then, at_end, call_of, comes_from, has_number, head_by, is_behind, is_entered, is_kept, is_named, lines_of, read_of, staying, step, step_read, with_lines}
+use Rattle.dump_reader.specs.Reading.{Next, Stepped, all_answered, and_then, at_end, call_of, comes_from, head_by, is_behind, is_entered, is_kept, is_named, lines_of, read_of, staying, step, step_read, with_lines}
 use Rattle.dump_reader.specs.Spelled.{Spells, call_line, call_lines, dump_lines, entry_line, entry_lines, head_lines, says, service_lines}
-use Rattle.dump_reader.specs.declared.dump.DumpEntry.{DumpEntry}
-use Rattle.dump_reader.specs.declared.dump.DumpService.{DumpService}
-use Rattle.dump_reader.specs.declared.line.Line.{Line}
-use Rattle.dump_reader.specs.declared.line.Line.TheVariants.{Service, Peers, Program, Entry, Call, Answer, Reply, Row, End}
 use Rattle.dump_reader.specs.declared.refused.DumpRefused.{DumpRefused}
 use Rattle.dump_reader.specs.declared.refused.DumpRefused.TheVariants as refusal
 use Rattle.dump_reader.specs.declared.stage.Stage.{Stage}

@@ -1,10 +1,10 @@
 -- What follows for a text that is read, or refused.
 use Rattle.std.proofs.Common.{ℕ, ◌≤◌, List, Result, Ok, Err, IfOk, length, subst}
-use Rattle.dump_reader.specs.Kept.{AreKept}
+use Rattle.dump_tables.specs.Kept.{AreKept}
+use Rattle.dump_tables.specs.declared.dump.Dump.{Dump}
+use Rattle.dump_tables.specs.declared.dump.DumpService.{DumpService}
 use Rattle.dump_reader.specs.Reading.{Answers, read_of, services_of}
 use Rattle.dump_reader.specs.Spelled.{Spells}
-use Rattle.dump_reader.specs.declared.dump.Dump.{Dump}
-use Rattle.dump_reader.specs.declared.dump.DumpService.{DumpService}
 use Rattle.dump_reader.specs.declared.refused.DumpRefused.{DumpRefused}
 use Rattle.dump_reader.proofs.OnlyLemmas.{read_only}
 use Rattle.dump_reader.proofs.SpelledLemmas.{read_spells}

@@ -5,15 +5,16 @@ use Rattle.lang_base.specs.Texts.{same_text}
 use Rattle.lang_core.specs.declared.cells.Cell.{Cell}
 use Rattle.lang_core.specs.declared.request.Response.{Response}
 use Rattle.lang_core.specs.declared.trace.CallMade.{CallMade}
-use Rattle.dump_reader.specs.Lines.{Read, line_at}
-use Rattle.dump_reader.specs.Reading.{Next, Stepped, all_answered, and_then, at_end, begun, call_of, consuming, entry_of, has_number, head_by, head_of, headed, is_behind, is_entered, is_kept, is_named, lines_of, prepared, read_of, replying, run_on, running_as, staying, step, step_read, with_answer, with_call, with_entry, with_lines, with_made, with_reply, with_row}
+use Rattle.dump_tables.specs.Indexed.{has_number}
+use Rattle.dump_tables.specs.declared.dump.DumpEntry.{DumpEntry}
+use Rattle.dump_tables.specs.declared.dump.DumpService.{DumpService}
+use Rattle.dump_words.specs.Lines.{Read, line_at}
+use Rattle.dump_words.specs.declared.line.CallLine.{CallLine}
+use Rattle.dump_words.specs.declared.line.EntryLine.{EntryLine}
+use Rattle.dump_words.specs.declared.line.Line.{Line}
+use Rattle.dump_words.specs.declared.line.Line.TheVariants.{Service, Peers, Program, Entry, Call, Answer, Reply, Row, End}
+use Rattle.dump_reader.specs.Reading.{Next, Stepped, all_answered, and_then, at_end, begun, call_of, consuming, entry_of, head_by, head_of, headed, is_behind, is_entered, is_kept, is_named, lines_of, prepared, read_of, replying, run_on, running_as, staying, step, step_read, with_answer, with_call, with_entry, with_lines, with_made, with_reply, with_row}
 use Rattle.dump_reader.specs.Spelled.{Spells, begun_lines, call_line, call_lines, dump_lines, entry_line, entry_lines, head_lines, inner_lines, says, service_lines}
-use Rattle.dump_reader.specs.declared.dump.DumpEntry.{DumpEntry}
-use Rattle.dump_reader.specs.declared.dump.DumpService.{DumpService}
-use Rattle.dump_reader.specs.declared.line.CallLine.{CallLine}
-use Rattle.dump_reader.specs.declared.line.EntryLine.{EntryLine}
-use Rattle.dump_reader.specs.declared.line.Line.{Line}
-use Rattle.dump_reader.specs.declared.line.Line.TheVariants.{Service, Peers, Program, Entry, Call, Answer, Reply, Row, End}
 use Rattle.dump_reader.specs.declared.refused.DumpRefused.{DumpRefused}
 use Rattle.dump_reader.specs.declared.refused.DumpRefused.TheVariants as refusal
 use Rattle.dump_reader.specs.declared.stage.Head.{Head}

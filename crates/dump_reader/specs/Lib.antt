@@ -1,10 +1,4 @@
 pub mod Alone
-pub mod Escapes
-pub mod Found
-pub mod Indexed
-pub mod Kept
-pub mod Lines
-pub mod Parts
 pub mod Reading
 pub mod Refusals
 pub mod Spelled

@@ -11,17 +11,18 @@ use Rattle.lang_core.specs.declared.ids.Origin.{Origin}
 use Rattle.lang_core.specs.declared.ids.Origin.TheVariants.{Outside, Call as FromCall}
 use Rattle.lang_core.specs.declared.request.Response.{Response}
 use Rattle.lang_core.specs.declared.trace.CallMade.{CallMade}
+use Rattle.dump_tables.specs.Indexed.{has_number}
+use Rattle.dump_tables.specs.declared.dump.Dump.{Dump}
+use Rattle.dump_tables.specs.declared.dump.DumpEntry.{DumpEntry}
+use Rattle.dump_tables.specs.declared.dump.DumpService.{DumpService}
+use Rattle.dump_words.specs.Lines.{Read, line_at}
+use Rattle.dump_words.specs.declared.line.CallLine.{CallLine}
+use Rattle.dump_words.specs.declared.line.EntryLine.{EntryLine}
+use Rattle.dump_words.specs.declared.line.Line.{Line}
+use Rattle.dump_words.specs.declared.line.Line.TheVariants.{Service, Peers, Program, Entry, Call, Answer, Reply, Row, End}
+use Rattle.dump_words.specs.declared.line.LineFault.{LineFault}
+use Rattle.dump_words.specs.declared.line.LineFault.TheVariants as fault
 use Rattle.dump_reader.specs.Alone.{not_among}
-use Rattle.dump_reader.specs.Lines.{Read, line_at}
-use Rattle.dump_reader.specs.declared.dump.Dump.{Dump}
-use Rattle.dump_reader.specs.declared.dump.DumpEntry.{DumpEntry}
-use Rattle.dump_reader.specs.declared.dump.DumpService.{DumpService}
-use Rattle.dump_reader.specs.declared.line.CallLine.{CallLine}
-use Rattle.dump_reader.specs.declared.line.EntryLine.{EntryLine}
-use Rattle.dump_reader.specs.declared.line.Line.{Line}
-use Rattle.dump_reader.specs.declared.line.Line.TheVariants.{Service, Peers, Program, Entry, Call, Answer, Reply, Row, End}
-use Rattle.dump_reader.specs.declared.line.LineFault.{LineFault}
-use Rattle.dump_reader.specs.declared.line.LineFault.TheVariants as fault
 use Rattle.dump_reader.specs.declared.refused.DumpRefused.{DumpRefused}
 use Rattle.dump_reader.specs.declared.refused.DumpRefused.TheVariants as refusal
 use Rattle.dump_reader.specs.declared.stage.Head.{Head}
@@ -55,10 +56,6 @@ comes_from (FromCall caller number) e = is_call caller number e.origin
 -- an entry with this one's number, or of this one's call, stands among these
 abbrev pub is_entered : EntryLine → List DumpEntry → Bool
 is_entered line entries = list_any (λ e. nat_eq e.id line.id || comes_from line.origin e) entries
-
--- an entry has a call of this number
-abbrev pub has_number : ℕ → DumpEntry → Bool
-has_number number e = list_any (nat_eq number) e.numbers
 
 -- a row at this one's table and key stands among these
 abbrev pub is_kept : Cell → List Cell → Bool

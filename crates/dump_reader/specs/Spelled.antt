@@ -4,14 +4,14 @@ use Rattle.std.specs.List.{flat_map}
 use Rattle.lang_core.specs.declared.request.Response.{Response}
 use Rattle.lang_core.specs.declared.setting.Setting.{Setting}
 use Rattle.lang_core.specs.declared.trace.CallMade.{CallMade}
-use Rattle.dump_reader.specs.Lines.{Read, line_at}
+use Rattle.dump_tables.specs.declared.dump.DumpEntry.{DumpEntry}
+use Rattle.dump_tables.specs.declared.dump.DumpService.{DumpService}
+use Rattle.dump_words.specs.Lines.{Read, line_at}
+use Rattle.dump_words.specs.declared.line.CallLine.{CallLine}
+use Rattle.dump_words.specs.declared.line.EntryLine.{EntryLine}
+use Rattle.dump_words.specs.declared.line.Line.{Line}
+use Rattle.dump_words.specs.declared.line.Line.TheVariants.{Service, Peers, Program, Entry, Call, Answer, Reply, Row, End}
 use Rattle.dump_reader.specs.Reading.{lines_of}
-use Rattle.dump_reader.specs.declared.dump.DumpEntry.{DumpEntry}
-use Rattle.dump_reader.specs.declared.dump.DumpService.{DumpService}
-use Rattle.dump_reader.specs.declared.line.CallLine.{CallLine}
-use Rattle.dump_reader.specs.declared.line.EntryLine.{EntryLine}
-use Rattle.dump_reader.specs.declared.line.Line.{Line}
-use Rattle.dump_reader.specs.declared.line.Line.TheVariants.{Service, Peers, Program, Entry, Call, Answer, Reply, Row, End}
 
 -- what the line of an entry says of it
 abbrev pub entry_line : DumpEntry → EntryLine

@@ -1,10 +1,11 @@
 // An entry whose lines go on.
 ghost use Rattle.std.specs.Prelude.{◌≡◌, OnOk};
-ghost use Rattle.dump_reader.specs.Reading.{all_answered, consuming, entry_of, has_number, replying, with_made};
+ghost use Rattle.dump_tables.specs.Indexed.{has_number};
+ghost use Rattle.dump_reader.specs.Reading.{all_answered, consuming, entry_of, replying, with_made};
 
-use crate::dump::{DumpEntry, Numbers};
-use crate::line::EntryLine;
 use crate::stage::Calling;
+use dump_tables::{DumpEntry, Numbers};
+use dump_words::EntryLine;
 use lang_core::{Answers, CallMade, Calls, Names, NoMemory, Response};
 use lang_lists::HashIndex;
 use std::alloc::Global;

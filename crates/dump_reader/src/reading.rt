@@ -1,18 +1,16 @@
 // Texts, read as dumps.
 ghost use Rattle.std.specs.Prelude.{◌≡◌, ◌∷◌, [], ◌<◌, ◌≤◌, ◌==◌, List, Ok, IfOk, false, length, position};
+ghost use Rattle.dump_tables.specs.Kept.{AreKept};
+ghost use Rattle.dump_tables.specs.declared.dump.DumpService.{DumpService};
+ghost use Rattle.dump_words.specs.Lines.{line_at};
 ghost use Rattle.dump_reader.specs.Reading.{Answers, all_read, is_between, is_headed, lines_of, misread, read_of, services_of, step, step_read, stepped, taken, with_lines};
-ghost use Rattle.dump_reader.specs.Kept.{AreKept};
-ghost use Rattle.dump_reader.specs.Lines.{line_at};
 ghost use Rattle.dump_reader.specs.Spelled.{Spells};
-ghost use Rattle.dump_reader.specs.declared.dump.DumpService.{DumpService};
 
-use crate::dump::Dump;
-use crate::line::{Line, LineFault};
-use crate::lines::read_line;
 use crate::refused::{DumpRefused, without};
-use crate::services::DumpServices;
 use crate::stage::Stage;
 use crate::steps::next_stage;
+use dump_tables::{Dump, DumpServices};
+use dump_words::{Line, LineFault, read_line};
 use lang_core::NoMemory;
 use std::alloc::Global;
 use std::mem;

@@ -3,7 +3,7 @@ ghost use Rattle.std.specs.Prelude.{◌≡◌};
 ghost use Rattle.dump_reader.specs.Refusals.{line_refused, refusal_number};
 ghost use Rattle.dump_reader.specs.declared.refused.DumpRefused.TheVariants.{NoMemory};
 
-use handler_lang::ProgramRefused;
+use dump_words::ProgramRefused;
 use lang_core::NoMemory;
 use std::alloc::AllocError;
 

@@ -1,8 +1,7 @@
 // Where the lines of a dump leave off.
 ghost use Rattle.std.specs.Prelude.{Contains};
 
-use crate::dump::{DumpEntry, DumpService};
-use crate::entries::DumpEntries;
+use dump_tables::{DumpEntries, DumpEntry, DumpService};
 use lang_core::{Name, Names, Setting};
 use lang_lists::HashIndex;
 use std::marker::Model;
@@ -25,7 +24,7 @@ pub struct Calling {
 
 impl Model for Calling {
     ghost use Rattle.std.specs.Prelude.{◌≡◌};
-    ghost use Rattle.dump_reader.specs.declared.dump.DumpEntry.{DumpEntry};
+    ghost use Rattle.dump_tables.specs.declared.dump.DumpEntry.{DumpEntry};
 
     ghost Value = { DumpEntry };
 

@@ -3,15 +3,14 @@ ghost use Rattle.std.specs.Prelude.{◌≡◌, ◌∷◌, ◌++◌, [], IfOk, On
 ghost use Rattle.std.specs.List.{list_any};
 ghost use Rattle.std.specs.Option.{option_copied};
 ghost use Rattle.lang_base.specs.Texts.{same_text};
-ghost use Rattle.dump_reader.specs.Reading.{Answers, begun, call_of, consuming, entry_of, headed, head_of, is_behind, is_behind_row, is_entered, is_kept, has_number, kept, last_of, prepared, replying, run_on, running_as, staying, step, with_answer, with_call, with_entry, with_made, with_reply, with_row};
-ghost use Rattle.dump_reader.specs.declared.line.Line.{Line};
+ghost use Rattle.dump_tables.specs.Indexed.{has_number};
+ghost use Rattle.dump_words.specs.declared.line.Line.{Line};
+ghost use Rattle.dump_reader.specs.Reading.{Answers, begun, call_of, consuming, entry_of, headed, head_of, is_behind, is_behind_row, is_entered, is_kept, kept, last_of, prepared, replying, run_on, running_as, staying, step, with_answer, with_call, with_entry, with_made, with_reply, with_row};
 
-use crate::dump::DumpService;
-use crate::entries::DumpEntries;
-use crate::line::{CallLine, EntryLine, Line};
 use crate::refused::{DumpRefused, without};
-use crate::services::DumpServices;
 use crate::stage::{Calling, Head, Running, Stage};
+use dump_tables::{DumpEntries, DumpService, DumpServices};
+use dump_words::{CallLine, EntryLine, Line};
 use lang_core::{
     CallMade, Cell, Cells, Copied, Name, Names, NoMemory, Origin, Placed, Program, Request,
     Response, Same, Setting,

@@ -8,10 +8,10 @@ use Rattle.lang_base.specs.Texts.{same_text}
 use Rattle.lang_core.specs.Origins.{is_call}
 use Rattle.execution.specs.Executions.{Act, History}
 use Rattle.execution.specs.Together.{comes_from, history_in, name_of}
-use Rattle.dump_reader.specs.Found.{IsOneOf}
-use Rattle.dump_reader.specs.Kept.{AreKept, IsKept}
-use Rattle.dump_reader.specs.declared.dump.DumpEntry.{DumpEntry}
-use Rattle.dump_reader.specs.declared.dump.DumpService.{DumpService}
+use Rattle.dump_tables.specs.Found.{IsOneOf}
+use Rattle.dump_tables.specs.Kept.{AreKept, IsKept}
+use Rattle.dump_tables.specs.declared.dump.DumpEntry.{DumpEntry}
+use Rattle.dump_tables.specs.declared.dump.DumpService.{DumpService}
 use Rattle.dump_audit.specs.Histories.{act_of, histories_of, history_of}
 use Rattle.dump_audit.proofs.OneLemmas.{OfOne, is_found, one_caller, one_id, one_name}
 use Rattle.one_world.specs.Trees.{act_in, callee_in}

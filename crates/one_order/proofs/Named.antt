@@ -6,9 +6,9 @@ use Rattle.std.proofs.Math.Logic.{∥∥₁_elim}
 use Rattle.lang_base.specs.Texts.{same_text}
 use Rattle.execution.specs.Executions.{Act, History}
 use Rattle.execution.specs.Together.{name_of}
-use Rattle.dump_reader.specs.Kept.{AreApart as AreKeptApart, AreKept, IsKept, service_name}
-use Rattle.dump_reader.specs.declared.dump.DumpEntry.{DumpEntry}
-use Rattle.dump_reader.specs.declared.dump.DumpService.{DumpService}
+use Rattle.dump_tables.specs.Kept.{AreApart as AreKeptApart, AreKept, IsKept, service_name}
+use Rattle.dump_tables.specs.declared.dump.DumpEntry.{DumpEntry}
+use Rattle.dump_tables.specs.declared.dump.DumpService.{DumpService}
 use Rattle.dump_audit.specs.Histories.{act_of, histories_of}
 use Rattle.one_world.specs.Certificates.{AreApart, AreNamed}
 use Rattle.one_world.proofs.Lists.{same_is, same_self}

@@ -5,11 +5,11 @@ use Rattle.std.specs.List.{list_any}
 use Rattle.std.proofs.lemmas.Bool.{lt-ltb}
 use Rattle.std.proofs.Math.Logic.{∥∥₁_elim}
 use Rattle.execution.specs.Executions.{survives}
-use Rattle.dump_reader.specs.Indexed.{end_behind, from_end, last_end}
-use Rattle.dump_reader.specs.Kept.{IsKept}
-use Rattle.dump_reader.specs.declared.dump.DumpEntry.{DumpEntry}
-use Rattle.dump_reader.specs.declared.dump.DumpService.{DumpService}
-use Rattle.dump_reader.proofs.FoundLemmas.{any_end}
+use Rattle.dump_tables.specs.Indexed.{end_behind, from_end, last_end}
+use Rattle.dump_tables.specs.Kept.{IsKept}
+use Rattle.dump_tables.specs.declared.dump.DumpEntry.{DumpEntry}
+use Rattle.dump_tables.specs.declared.dump.DumpService.{DumpService}
+use Rattle.dump_tables.proofs.FoundLemmas.{any_end}
 use Rattle.dump_audit.specs.Histories.{act_of}
 use Rattle.dump_audit.proofs.OneLemmas.{OfOne, one_end}
 use Rattle.one_order.specs.Logs.{acts_of}

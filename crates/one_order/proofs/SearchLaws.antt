@@ -3,8 +3,8 @@ use Rattle.std.proofs.Common.{◌≡◌, ◌<◌, ℕ, suc, Bool, true, false, L
 use Rattle.lang_core.specs.declared.ids.RequestId.{RequestId}
 use Rattle.execution.specs.Executions.{History}
 use Rattle.execution.specs.Together.{IsLegalTogether}
-use Rattle.dump_reader.specs.Kept.{AreKept}
-use Rattle.dump_reader.specs.declared.dump.DumpService.{DumpService}
+use Rattle.dump_tables.specs.Kept.{AreKept}
+use Rattle.dump_tables.specs.declared.dump.DumpService.{DumpService}
 use Rattle.dump_audit.specs.Histories.{histories_of}
 use Rattle.one_world.specs.Certificates.{AreNamed, Passes}
 use Rattle.one_world.specs.OneWorld.{RunsAsOne}

@@ -1,7 +1,7 @@
 -- Parts of a log, as requests of a history.
 use Rattle.std.specs.Prelude.{List, map}
 use Rattle.execution.specs.Executions.{Act}
-use Rattle.dump_reader.specs.declared.dump.DumpEntry.{DumpEntry}
+use Rattle.dump_tables.specs.declared.dump.DumpEntry.{DumpEntry}
 use Rattle.dump_audit.specs.Histories.{act_of, history_of}
 use Rattle.lang_core.specs.declared.ids.RequestId.{RequestId}
 use Rattle.one_order.specs.declared.logs.Log.{Log as LogLeft}

@@ -4,11 +4,11 @@ use Rattle.lang_base.specs.Texts.{same_text}
 use Rattle.lang_core.specs.declared.ids.RequestId.{RequestId}
 use Rattle.execution.specs.Executions.{Act, History, survives}
 use Rattle.execution.specs.Together.{history_in}
-use Rattle.dump_reader.specs.declared.dump.DumpEntry.{DumpEntry}
+use Rattle.dump_tables.specs.declared.dump.DumpEntry.{DumpEntry}
 use Rattle.dump_audit.specs.Histories.{act_of, history_of}
+use Rattle.order_finder.specs.declared.candidate.At.{At}
 use Rattle.one_order.specs.Cycles.{Place, along, id_at, place_in}
 use Rattle.one_order.specs.Logs.{acts_of}
-use Rattle.one_order.specs.declared.showing.At.{At}
 use Rattle.one_world.specs.Checks.{is_outside}
 use Rattle.one_world.specs.Searches.{front}
 use Rattle.one_world.specs.Trees.{act_in}

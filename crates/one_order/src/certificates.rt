@@ -1,6 +1,7 @@
 // One order for a whole world, or that there is none.
 ghost use Rattle.std.specs.Prelude.{◌≡◌, None, IfErr, IfOk, IfSome};
 ghost use Rattle.execution.specs.Together.{IsLegalTogether};
+ghost use Rattle.dump_tables.specs.Kept.{AreKept};
 ghost use Rattle.dump_audit.specs.Histories.{histories_of};
 ghost use Rattle.dump_audit.specs.Judging.{judged};
 ghost use Rattle.dump_audit.specs.declared.judged.Judged.TheVariants.{Legal};
@@ -10,14 +11,18 @@ ghost use Rattle.one_world.specs.Certificates.{Passes};
 ghost use Rattle.one_world.specs.OneWorld.{RunsAsOne};
 ghost use Rattle.one_world.specs.Searches.{logs_of};
 
-use crate::cycles::cycle_in;
-use crate::logs::first_left;
+use crate::logs::{Log, first_left, named};
 use crate::orders::Ids;
 use crate::searching::search;
+use crate::showing::shown;
 use dump_audit::{Judged, judge};
-use dump_reader::Dump;
+use dump_tables::{Dump, DumpEntry, DumpService, DumpServices};
 use lang_core::{NoMemory, RequestId};
+use order_finder::find_cycle;
 use std::alloc::Global;
+
+// What is found is tested and not proved, so it is tried before it is told. The finder is named here alone.
+pub(crate) use order_finder::{At, Candidate, Link, Mark};
 
 /// Whether the services of a dump could have run as one program, root by root.
 #[derive(Drop)]
@@ -51,6 +56,73 @@ impl From<NoMemory> for OneRefused {
 
     fn from(_: NoMemory) -> OneRefused {
         OneRefused::NoMemory
+    }
+}
+
+// What is left of each log.
+fn parts_left<'a>(alloc: Global, logs: &[Log<'a>]) -> Result<Vec<&'a [DumpEntry]>, NoMemory> {
+    let mut parts = Vec::with_capacity(alloc, logs.len())?;
+    for log in logs {
+        parts.push(log.left)?;
+    }
+    Ok(parts)
+}
+
+// Two neighbours of what is left, of which nothing is known yet.
+fn candidate_in<'a>(
+    alloc: Global,
+    services: &'a DumpServices,
+    logs: &[Log<'a>],
+) -> Result<Option<Candidate<'a>>, NoMemory> {
+    let parts = parts_left(alloc, logs)?;
+    find_cycle(alloc, services, parts.as_slice())
+}
+
+// These as a certificate, if they show that there is no order.
+fn shown_in(
+    alloc: Global,
+    services: &DumpServices,
+    logs: &[Log<'_>],
+) -> Result<Option<Certificate>, NoMemory>
+    requires kept { ∥ AreKept services.now ∥₁ }
+    ensures none { IfOk result (λ found. IfSome found (λ certificate. order_in certificate ≡ None)) }
+    ensures shown { IfOk result (λ found. IfSome found (λ certificate. IsShown (histories_of services.now) certificate)) }
+{
+    match candidate_in(alloc, services, logs)? {
+        None => Ok(None),
+        Some(candidate) => shown(alloc, services, &candidate),
+    }
+}
+
+// An entry twice.
+fn twice(alloc: Global, service: &DumpService, number: u64) -> Result<Certificate, NoMemory>
+    ensures none { IfOk result (λ found. order_in found ≡ None) }
+    ensures shown { (world : _) → IfOk result (λ found. IsShown world found) }
+{
+    let first = named(alloc, service, number)?;
+    let second = named(alloc, service, number)?;
+    Ok(Certificate::Cycle {
+        first,
+        second,
+        back: Ids::new(alloc),
+    })
+}
+
+// Of the entries that are left where no root comes next, two neighbours that show it; or twice the first one left.
+fn cycle_in(
+    alloc: Global,
+    services: &DumpServices,
+    logs: &[Log<'_>],
+    service: &DumpService,
+    number: u64,
+) -> Result<Certificate, NoMemory>
+    requires kept { ∥ AreKept services.now ∥₁ }
+    ensures none { IfOk result (λ found. order_in found ≡ None) }
+    ensures shown { IfOk result (λ found. IsShown (histories_of services.now) found) }
+{
+    match shown_in(alloc, services, logs)? {
+        Some(found) => Ok(found),
+        None => twice(alloc, service, number),
     }
 }
 

@@ -3,7 +3,7 @@ ghost use Rattle.std.specs.Prelude.{◌≡◌, length};
 ghost use Rattle.std.specs.List.{list_any};
 ghost use Rattle.std.specs.Option.{option_map};
 ghost use Rattle.execution.specs.Executions.{survives};
-ghost use Rattle.dump_reader.specs.Kept.{AreKept};
+ghost use Rattle.dump_tables.specs.Kept.{AreKept};
 ghost use Rattle.dump_audit.specs.Histories.{act_of, histories_of, history_of};
 ghost use Rattle.one_order.specs.Logs.{acts_of};
 ghost use Rattle.one_world.specs.Checks.{behind_all, behind_calls, behind_callee, behind_id, behind_last, behind_next, behind_roots, passed, stands_in};
@@ -11,7 +11,7 @@ ghost use Rattle.one_world.specs.Trees.{calls_of};
 ghost use Rattle.execution.specs.Together.{history_in};
 
 use crate::finding::{callee_in, calls_of, depth_of, entry_in, is_alive, is_outside, service_in};
-use dump_reader::{DumpEntry, DumpService, DumpServices};
+use dump_tables::{DumpEntry, DumpService, DumpServices};
 use lang_core::{Name, RequestId, Same};
 
 // What is left behind the first entry that survives, where that has this number.

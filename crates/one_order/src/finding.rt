@@ -4,12 +4,12 @@ ghost use Rattle.std.specs.Option.{option_copied, option_map};
 ghost use Rattle.lang_core.specs.declared.trace.CallMade.{CallMade};
 ghost use Rattle.execution.specs.Executions.{survives};
 ghost use Rattle.execution.specs.Together.{history_in};
-ghost use Rattle.dump_reader.specs.Kept.{AreKept, IsKept};
+ghost use Rattle.dump_tables.specs.Kept.{AreKept, IsKept};
 ghost use Rattle.dump_audit.specs.Histories.{act_of, histories_of, history_of};
 ghost use Rattle.one_world.specs.Checks.{is_outside};
 ghost use Rattle.one_world.specs.Trees.{act_in, callee_in, calls_of};
 
-use dump_reader::{DumpEntry, DumpService, DumpServices};
+use dump_tables::{DumpEntry, DumpService, DumpServices};
 use lang_core::{CallMade, Name, Origin};
 
 /// The service of this name, if it is one of these.
@@ -45,7 +45,7 @@ pub(crate) fn callee_in<'a>(
 pub(crate) fn is_alive(entry: &DumpEntry) -> bool
     ensures { result ≡ survives (act_of entry.now) }
 {
-    entry.wanted && !entry.struck
+    entry.is_alive()
 }
 
 /// Whether an entry comes from outside.

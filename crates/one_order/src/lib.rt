@@ -6,22 +6,18 @@
 
 mod certificates;
 mod checking;
-mod cycles;
 mod finding;
-mod groups;
 mod logs;
 mod orders;
 mod played;
 mod playing;
-mod rooted;
 mod searching;
 mod showing;
-mod ways;
 mod worlds;
 
 pub use certificates::{Certificate, OneRefused, find_order};
 pub use dump_audit::Judged;
-pub use dump_reader::{Dump, DumpEntry, DumpService};
+pub use dump_tables::{Dump, DumpEntry, DumpService};
 pub use lang_core::RequestId;
 pub use one_world::Rows;
 pub use orders::{Ids, check_order};

@@ -1,14 +1,14 @@
 // What is left of all logs behind the roots that a search took, and the root that comes next.
 ghost use Rattle.std.specs.Prelude.{◌≡◌, IfOk, map, not};
 ghost use Rattle.std.specs.Option.{is_some, option_map};
-ghost use Rattle.dump_reader.specs.Kept.{AreKept};
+ghost use Rattle.dump_tables.specs.Kept.{AreKept};
 ghost use Rattle.dump_audit.specs.Histories.{histories_of, history_of};
 ghost use Rattle.one_order.specs.Logs.{acts_of, log_of, taken_of};
 ghost use Rattle.one_world.specs.Searches.{all_passed, behind_each, front, logs_of, named, next_root, tried, whole_log};
 
 use crate::checking::behind_id;
 use crate::finding::is_alive;
-use dump_reader::{DumpEntry, DumpService, DumpServices};
+use dump_tables::{DumpEntry, DumpService, DumpServices};
 use lang_core::{Copied, NoMemory, RequestId};
 use std::alloc::Global;
 

@@ -2,14 +2,14 @@
 ghost use Rattle.std.specs.Prelude.{◌≡◌, ◌↔◌, true};
 ghost use Rattle.std.specs.List.{list_all};
 ghost use Rattle.execution.specs.Together.{IsLegalTogether};
-ghost use Rattle.dump_reader.specs.Kept.{AreKept};
+ghost use Rattle.dump_tables.specs.Kept.{AreKept};
 ghost use Rattle.dump_audit.specs.Histories.{histories_of};
 ghost use Rattle.one_world.specs.Certificates.{Passes};
 ghost use Rattle.one_world.specs.Checks.{is_certificate, is_empty, stands_in};
 ghost use Rattle.one_world.specs.OneWorld.{RunsAsOne};
 
 use crate::checking::stands_in;
-use dump_reader::{Dump, DumpService, DumpServices};
+use dump_tables::{Dump, DumpService, DumpServices};
 use lang_core::{RequestId, Seq};
 
 /// Requests, by their names.

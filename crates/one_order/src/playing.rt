@@ -5,7 +5,7 @@ ghost use Rattle.lang_base.specs.Texts.{same_text};
 ghost use Rattle.lang_core.specs.Traces.{dead_trace};
 ghost use Rattle.execution.specs.Together.{history_in};
 ghost use Rattle.handler_run.specs.Handlers.{run_of};
-ghost use Rattle.dump_reader.specs.Kept.{AreKept};
+ghost use Rattle.dump_tables.specs.Kept.{AreKept};
 ghost use Rattle.dump_audit.specs.Histories.{act_of, histories_of, history_of};
 ghost use Rattle.one_order.specs.Worlds.{turned};
 ghost use Rattle.one_world.specs.Tapes.{rows_at, with_writes};
@@ -15,7 +15,7 @@ ghost use Rattle.one_world.specs.Turns.{call_to, turn_act, turn_all, turn_call, 
 use crate::finding::{callee_in, calls_of, depth_of, entry_in, service_in};
 use crate::played::PlayedRows;
 use dump_audit::RowTree;
-use dump_reader::{DumpEntry, DumpService, DumpServices};
+use dump_tables::{DumpEntry, DumpService, DumpServices};
 use handler_run::{Ran, run};
 use lang_core::{
     Answers, CallMade, Name, NoMemory, Request, RequestId, Response, Same, SharedWrites, Text,

@@ -1,6 +1,6 @@
 // The search of an order: root by root, always the first that comes next in all logs.
 ghost use Rattle.std.specs.Prelude.{◌≡◌, IfOk, true, false, map};
-ghost use Rattle.dump_reader.specs.Kept.{AreKept};
+ghost use Rattle.dump_tables.specs.Kept.{AreKept};
 ghost use Rattle.execution.specs.Together.{IsLegalTogether};
 ghost use Rattle.dump_audit.specs.Histories.{histories_of};
 ghost use Rattle.one_order.specs.Certificates.{AreFirst};
@@ -10,7 +10,7 @@ ghost use Rattle.one_world.specs.Searches.{IsStep, all_passed, logs_of};
 
 use crate::logs::{Log, logs_of, next_root};
 use crate::orders::Ids;
-use dump_reader::DumpServices;
+use dump_tables::DumpServices;
 use lang_core::NoMemory;
 use std::alloc::Global;
 

@@ -2,7 +2,7 @@
 ghost use Rattle.std.specs.Prelude.{◌≡◌, ◌++◌, ◌∷◌, [], None, IfOk, IfSome, OnOk, slice_get, true};
 ghost use Rattle.std.specs.Option.{option_copied, option_map};
 ghost use Rattle.execution.specs.Together.{history_in};
-ghost use Rattle.dump_reader.specs.Kept.{AreKept, IsKept};
+ghost use Rattle.dump_tables.specs.Kept.{AreKept, IsKept};
 ghost use Rattle.dump_audit.specs.Histories.{histories_of};
 ghost use Rattle.one_order.specs.Certificates.{order_in};
 ghost use Rattle.one_order.specs.Cycles.{IsShown, IsWay, ShowsCycle, along, in_slot, is_earlier};
@@ -10,45 +10,13 @@ ghost use Rattle.one_order.specs.Logs.{acts_of};
 ghost use Rattle.one_order.specs.Shown.{act_at, are_neighbours, are_next, comes_to, is_before, is_front, is_pair, name_at, next_behind, place_of, same_ids};
 ghost use Rattle.one_order.specs.declared.certificates.Certificate.TheVariants.{Cycle};
 
-use crate::certificates::Certificate;
+use crate::certificates::{At, Candidate, Certificate, Link, Mark};
 use crate::finding::{callee_in, calls_of, entry_in, is_alive, is_outside, service_in};
 use crate::logs::{front, named};
 use crate::orders::Ids;
-use dump_reader::{DumpEntry, DumpService, DumpServices};
+use dump_tables::{DumpEntry, DumpService, DumpServices};
 use lang_core::{CallMade, NoMemory, Same};
 use std::alloc::Global;
-
-/// An entry of a service.
-#[derive(Clone, Copy)]
-pub(crate) struct At<'a> {
-    pub(crate) service: &'a DumpService,
-    pub(crate) entry: &'a DumpEntry,
-}
-
-/// An entry, and the slots in which calls lead from its root down to it.
-#[derive(Drop)]
-pub(crate) struct Mark<'a> {
-    pub(crate) at: At<'a>,
-    pub(crate) slots: Vec<usize>,
-}
-
-/// Two neighbours, and the root of the second.
-#[derive(Drop)]
-pub(crate) struct Link<'a> {
-    pub(crate) first: Mark<'a>,
-    pub(crate) second: Mark<'a>,
-    pub(crate) root: At<'a>,
-}
-
-/// Two neighbours, their roots, and the links of a way back, if it has any.
-#[derive(Drop)]
-pub(crate) struct Candidate<'a> {
-    pub(crate) first: Mark<'a>,
-    pub(crate) root: At<'a>,
-    pub(crate) second: Mark<'a>,
-    pub(crate) other: At<'a>,
-    pub(crate) back: Vec<Link<'a>>,
-}
 
 fn number_at(numbers: &[u64], slot: usize) -> Option<u64>
     ensures { result ≡ slice_get numbers.now slot }
@@ -101,8 +69,8 @@ fn along<'a>(world: &'a DumpServices, from: &At<'a>, slots: &[usize]) -> Option<
     Some(at)
 }
 
-/// Whether both are the same entry.
-pub(crate) fn is_same(left: &At<'_>, right: &At<'_>) -> bool
+// Whether both are the same entry.
+fn is_same(left: &At<'_>, right: &At<'_>) -> bool
     ensures { result ≡ same_ids (name_at left.now) (name_at right.now) }
 {
     left.entry.id == right.entry.id
@@ -191,8 +159,8 @@ fn are_neighbours(world: &DumpServices, first: &At<'_>, second: &At<'_>) -> bool
     }
 }
 
-/// Whether calls lead to the one before they lead to the other, depth first.
-pub(crate) fn is_earlier(left: &[usize], right: &[usize]) -> bool
+// Whether calls lead to the one before they lead to the other, depth first.
+fn is_earlier(left: &[usize], right: &[usize]) -> bool
     ensures { result ≡ is_earlier left.now right.now }
 {
     let mut left = left;

@@ -2,7 +2,7 @@
 ghost use Rattle.std.specs.Prelude.{◌≡◌, IfOk, Some, None, length, if◌then◌else◌};
 ghost use Rattle.std.specs.Option.{option_map};
 ghost use Rattle.execution.specs.Together.{IsLegalTogether};
-ghost use Rattle.dump_reader.specs.Kept.{AreKept};
+ghost use Rattle.dump_tables.specs.Kept.{AreKept};
 ghost use Rattle.dump_audit.specs.Histories.{histories_of};
 ghost use Rattle.one_world.specs.OneWorld.{Run, before_all, one_world};
 ghost use Rattle.one_world.specs.Trees.{AreRoots, Trees};
@@ -11,7 +11,7 @@ ghost use Rattle.one_world.specs.Turns.{turn_roots};
 use crate::orders::Ids;
 use crate::played::PlayedRows;
 use crate::playing::turn_id;
-use dump_reader::{Dump, DumpService, DumpServices};
+use dump_tables::{Dump, DumpService, DumpServices};
 use lang_core::{NoMemory, RequestId};
 use one_world::Rows;
 use std::alloc::Global;

@@ -1,5 +1,5 @@
 use Rattle.std.proofs.Common.{◌≡◌, ℕ, ◌*◌, List, drop, length}
-use Rattle.dump_reader.specs.declared.dump.DumpService.{DumpService}
+use Rattle.dump_tables.specs.declared.dump.DumpService.{DumpService}
 use Rattle.dump_audit.specs.Groups.{EachOutcome}
 use Rattle.dump_audit.specs.Judging.{first_in, replay_fault}
 use Rattle.dump_audit.proofs.beside.first_outcome.Given as goal

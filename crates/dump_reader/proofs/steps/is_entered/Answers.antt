@@ -2,7 +2,7 @@ use Rattle.std.proofs.Common.{◌||◌, Bool, ap, sym, ◌∙◌}
 use Rattle.std.specs.List.{list_any}
 use Rattle.lang_core.specs.declared.ids.Origin.{Origin}
 use Rattle.dump_reader.specs.Reading.{comes_from}
-use Rattle.dump_reader.proofs.IndexLemmas.{entered_by}
+use Rattle.dump_reader.proofs.EnteredLemmas.{entered_by}
 use Rattle.dump_reader.proofs.steps.is_entered.Goals as goal
 
 pub returns-then-has_id : goal.returns-then-has_id

@@ -1,7 +1,7 @@
 use Rattle.std.proofs.Common.{nat_eq, nat_lt, ap, ◌∙◌}
 use Rattle.std.specs.List.{list_any}
-use Rattle.dump_reader.specs.Reading.{has_number}
-use Rattle.dump_reader.proofs.FoundLemmas.{any_end}
+use Rattle.dump_tables.specs.Indexed.{has_number}
+use Rattle.dump_tables.proofs.FoundLemmas.{any_end}
 use Rattle.dump_reader.proofs.stage.Calling.has_number.Goals as goal
 
 pub returns : goal.returns
