@@ -4,7 +4,8 @@
 ghost use Rattle.std.specs.Prelude.{◌≡◌, IfOk, codes, string_bytes};
 ghost use Rattle.std.specs.Str.{IsUtf8};
 
-use aire_top::{TellingDoor, aire, lacking_status, leave};
+use aire_top::{TellingDoor, aire, leave};
+use command_ends::lacking;
 use io_edge::{Reading, RealFiles, Writing};
 use io_links::SystemSpawner;
 use std::alloc::{AllocError, Global};
@@ -59,7 +60,7 @@ fn main(rt: HostRuntime) -> ExitCode {
     let alloc = rt.alloc();
     let mut out = Writing::new(io::writer(&rt));
     let Ok(words) = words_of(&rt, alloc) else {
-        return ExitCode::from(lacking_status(&mut out));
+        return ExitCode::from(lacking(&mut out));
     };
     let stop = StopSignal::new();
     let doors = TcpDoor::new(&rt, alloc, &stop);

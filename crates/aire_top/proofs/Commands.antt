@@ -1,12 +1,8 @@
 -- What follows for a command.
-use Rattle.std.proofs.Common.{◌≡◌, ◌∙◌, ℕ, All, Bool, true, false, cond, List, [], ◌∷◌, Option, Some, None, IfSome, ap, codes, inl, inr, refl, subst, sym}
+use Rattle.std.proofs.Common.{◌≡◌, ◌∙◌, ℕ, Bool, true, false, cond, List, [], ◌∷◌, Option, Some, None, IfSome, ap, codes, inl, inr, refl, subst, sym}
 use Rattle.lang_base.specs.Texts.{same_text}
 use Rattle.journal_rows.specs.declared.verdict.Verdict.{Verdict}
-use Rattle.journal_rows.specs.declared.verdict.Verdict.TheVariants.{Legal}
-use Rattle.service_events.specs.Allowed.{IsAllowed}
 use Rattle.service_events.specs.State.{Kept}
-use Rattle.world_agreement.specs.Legal.{AreLegal}
-use Rattle.script_run.specs.Audits.{SaysForged}
 use Rattle.node_run.specs.HandedOn.{IsWhole, Receipt}
 use Rattle.audit_command.proofs.Ends.{ends_well as audit_well}
 use Rattle.order_command.proofs.Ends.{ends_well as order_well}
@@ -47,17 +43,6 @@ answers_well Serve words before now a good answers = absurd good
 
 pub plain_well : (command : Command) (words : List (List ℕ)) (before now : Outside) (e : Ending) → IsGoodPlain command words before now → EndsPlainly command words before now e → IsDone e.status
 plain_well command words before now e good ends = subst IsDone (sym (ap (λ (x : Ending). x.status) ends.1)) (answers_well command words before now ends.0 good ends.2)
-
--- what is said of a verdict over services that a command answers holds as the command ends
-
-pub plain_legal : (e : Ending) (a : Answer) → e ≡ plain a → (a.verdict ≡ Some Legal → AreLegal a.services) → e.verdict ≡ Some Legal → AreLegal e.services
-plain_legal e a is legal = subst (λ (x : Ending). x.verdict ≡ Some Legal → AreLegal x.services) (sym is) legal
-
-pub plain_joined : (e : Ending) (a : Answer) → e ≡ plain a → IfSome a.verdict (λ v. ¬ (SaysForged v)) → IfSome e.verdict (λ v. ¬ (SaysForged v))
-plain_joined e a is joined = subst (λ (x : Ending). IfSome x.verdict (λ v. ¬ (SaysForged v))) (sym is) joined
-
-pub plain_allowed : (e : Ending) (a : Answer) → e ≡ plain a → IfSome a.verdict (λ v. All IsAllowed a.services) → IfSome e.verdict (λ v. All IsAllowed e.services)
-plain_allowed e a is allowed = subst (λ (x : Ending). IfSome x.verdict (λ v. All IsAllowed x.services)) (sym is) allowed
 
 -- ---- each command
 

@@ -1,11 +1,12 @@
 -- A script that is made comes to its end: its words alone decide whether it is made, and no line of it is refused.
 use Rattle.std.proofs.Common.{◌≡◌, ◌⊎◌, ◌∙◌, ℕ, ◌≤◌, List, inl, inr, ap, subst, map}
 use Rattle.io_edge.specs.Edge.{WriteFails, Writes}
+use Rattle.command_ends.specs.Ends.{StatusOf}
 use Rattle.service_events.specs.State.{me}
 use Rattle.world_events.specs.Worlds.{World}
 use Rattle.script_make.specs.Making.{made_script}
 use Rattle.aire_top.proofs.WorldsThere.{posts_named}
-use Rattle.aire_top.specs.Endings.{Answer, LacksMemory, Outside, StatusOf, standing}
+use Rattle.aire_top.specs.Endings.{Answer, LacksMemory, Outside, standing}
 use Rattle.aire_top.specs.Making.{IsGoodMake, IsPostsWorld, MakeEnds, MadeRefused, ScriptTold, SeedEnds, WordsEnd, make_misfit}
 use Rattle.aire_top.proofs.FreshLaws.{fresh_names}
 use Rattle.aire_top.proofs.MadeRuns.{made_unrefused, posts_names}

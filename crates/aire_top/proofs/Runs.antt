@@ -1,10 +1,11 @@
 -- What follows for a whole run.
 use Rattle.std.specs.Option.{ForSome}
-use Rattle.std.proofs.Common.{◌≡◌, ◌⊎◌, ℕ, ◌<◌, ◌≤◌, Bool, true, false, inl, inr, List, [], ◌∷◌, ◌++◌, Option, Some, None, Result, Ok, Err, OnOk, OnErr, length, codes, refl, ap, sym, subst, ◌∙◌, append_assoc, arith, rules, tests}
+use Rattle.std.proofs.Common.{◌≡◌, ◌⊎◌, ℕ, ◌<◌, ◌≤◌, Bool, true, false, inl, inr, List, [], ◌∷◌, ◌++◌, Option, Some, None, Result, Ok, Err, length, codes, refl, ap, sym, subst, ◌∙◌, append_assoc, arith, rules, tests}
 use Rattle.std.proofs.lemmas.List.{append-nil}
-use Rattle.io_edge.specs.Edge.{ReadFails, Reads, WriteFails, Writes, Wrote, WroteFront, WroteShort}
+use Rattle.io_edge.specs.Edge.{ReadFails, Reads, WriteFails, Writes, Wrote, WroteFront}
 use Rattle.io_edge.specs.Files.{LoadFails, Loads}
 use Rattle.io_edge.proofs.Pieces.{front_whole, wrote_more}
+use Rattle.command_ends.specs.Ends.{EndsWith, lacking_line, unread_line, usage_line}
 use Rattle.journal_rows.specs.declared.verdict.Verdict.{Verdict}
 use Rattle.world_events.specs.Live.{IsLiveWorld}
 use Rattle.world_events.specs.Sound.{IsSound}
@@ -16,7 +17,7 @@ use Rattle.world_file.specs.Numbers.{refusal_text}
 use Rattle.world_file.specs.declared.setup.Setup.{Setup}
 use Rattle.aire_top.specs.Causes.{what_of}
 use Rattle.aire_top.specs.Closings.{Closes, ClosesWorldless, IsGot, RunsIn}
-use Rattle.aire_top.specs.Endings.{Answer, Asked, ByScript, EndsWith, IsGoodRun, LacksInScript, LacksMemory, Outside, RunEnds, ScriptEnds, Untouched, lacking_line, nothing, outside, refused_line, standing, unread_line, usage_line, world_line}
+use Rattle.aire_top.specs.Endings.{Answer, Asked, ByScript, IsGoodRun, LacksInScript, LacksMemory, Outside, RunEnds, ScriptEnds, Untouched, nothing, outside, refused_line, standing, world_line}
 use Rattle.aire_top.specs.Top.{Is, WorldOrRefusal, Words, fitting, fresh, is_input, misfit, script_told, script_word, words_of, world_path, world_told, world_word}
 use Rattle.aire_top.specs.declared.loading.NoWorld.{NoWorld}
 use Rattle.aire_top.specs.declared.loading.NoWorld.TheVariants.{NoMemory, Failed as LoadFailed, TooLong, Refused}
@@ -52,11 +53,6 @@ nothing_more a b c text f e =
     let none = front_of_nothing e.front e.of_line.0 e.of_line.1 in
     let W : List ℕ → Type 0 = λ x. Wrote a c x in
     subst W (ap (λ (x : List ℕ). text ++ x) none ∙ append-nil text) (wrote_more a b c text e.front f e.wrote)
-
--- what writing a last line comes to
-pub last_ends : {X E : Type 0} (a b : Writes) (line : List ℕ) (r : Result X E) → OnOk r (Wrote a b line) → OnErr r (WroteShort a b line) → OnErr r (WriteFails a b) → EndsWith a b [] line
-last_ends a b line (Ok x) whole short fails = record { front = line; of_line = ([], sym (append-nil line)); wrote = whole; whole = inl refl }
-last_ends a b line (Err e) whole short fails = record { front = short.0; of_line = (short.1, short.2); wrote = short.4; whole = inr fails }
 
 -- nothing is written
 pub ends_now : (a : Writes) → EndsWith a a [] []

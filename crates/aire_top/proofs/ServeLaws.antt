@@ -2,6 +2,7 @@
 use Rattle.std.proofs.Common.{◌≡◌, ◌⊎◌, ◌∙◌, inl, inr, ℕ, ◌+◌, ◌<◌, ◌≤◌, List, [], ◌∷◌, ◌++◌, All, Some, None, length, take, get_or, flat_map, refl, sym, ap, subst, add-one, append-nil, append_assoc, arith, take-suc}
 use Rattle.std.proofs.lemmas.List.Concat.{flat_map-append}
 use Rattle.io_edge.specs.Edge.{Rose, WriteFails, Writes}
+use Rattle.command_ends.specs.Ends.{StatusOf}
 use Rattle.journal_rows.specs.declared.verdict.Verdict.{Verdict}
 use Rattle.journal_rows.specs.declared.verdict.Verdict.TheVariants.{Legal, Forged, Unsettled}
 use Rattle.report_text.specs.Reports.{IsVerdictOver}
@@ -16,7 +17,7 @@ use Rattle.node_run.specs.declared.refused.RunRefused.{RunRefused}
 use Rattle.node_run.specs.declared.refused.RunRefused.TheVariants.{NoMemory, DoorFault, NotStarted, Differs, Twice}
 use Rattle.aire_top.specs.Commands.{IsDone}
 use Rattle.aire_top.specs.Ended.{Ending, Faults, Whose, ending, whose}
-use Rattle.aire_top.specs.Endings.{Answer, StatusOf}
+use Rattle.aire_top.specs.Endings.{Answer}
 use Rattle.aire_top.specs.Serves.{EndsRefused, HasServed, IsLacking, ServeEnds, end_text}
 use Rattle.aire_top.proofs.Runs.{some_none}
 

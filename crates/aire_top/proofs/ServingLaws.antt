@@ -4,6 +4,7 @@ use Rattle.std.proofs.Common.{◌≡◌, ◌⊎◌, ◌∙◌, ℕ, inl, inr, Li
 use Rattle.std.proofs.lemmas.List.{append-nil}
 use Rattle.io_edge.specs.Edge.{Reads, Writes}
 use Rattle.io_edge.specs.Files.{LoadFails, Loads}
+use Rattle.command_ends.specs.Ends.{unread_line, usage_line}
 use Rattle.journal_rows.specs.declared.verdict.Verdict.{Verdict}
 use Rattle.journal_rows.specs.declared.verdict.Verdict.TheVariants.{Legal}
 use Rattle.service_events.specs.Allowed.{IsAllowed}
@@ -15,7 +16,7 @@ use Rattle.aire_top.specs.Causes.{what_of}
 use Rattle.aire_top.specs.Closings.{Closes, ClosesWorldless}
 use Rattle.aire_top.specs.Commands.{IsDone}
 use Rattle.aire_top.specs.Ended.{Ending, Faults, Whose, plain}
-use Rattle.aire_top.specs.Endings.{Answer, Asked, Outside, nothing, outside, unread_line, usage_line, world_line}
+use Rattle.aire_top.specs.Endings.{Answer, Asked, Outside, nothing, outside, world_line}
 use Rattle.aire_top.specs.Serves.{ServeEnds}
 use Rattle.aire_top.specs.Serving.{IsGoodServe, LoadEnds, NotServed, ServingEnds, serve_misfit, serve_words}
 use Rattle.aire_top.specs.Top.{Is, Words, world_path, world_told, world_word}

@@ -2,11 +2,12 @@
 use Rattle.std.specs.Prelude.{◌≡◌, ◌⊎◌, ℕ, ◌≤◌, true, false, List, [], length, codes}
 use Rattle.io_edge.specs.Edge.{IsAtEnd, Reads, Writes}
 use Rattle.io_edge.specs.Files.{Loads}
+use Rattle.command_ends.specs.Ends.{EndsWith, unread_line}
 use Rattle.world_file.specs.Numbers.{refusal_text}
 use Rattle.world_file.specs.declared.setup.Setup.{Setup}
 use Rattle.aire_top.specs.declared.loading.NoWorld.{NoWorld}
 use Rattle.aire_top.specs.declared.loading.NoWorld.TheVariants.{NoMemory, Failed, TooLong, Refused}
-use Rattle.aire_top.specs.Endings.{Answer, Asked, EndsWith, LacksMemory, Outside, ScriptEnds, ScriptFails, Untouched, nothing, unread_line, world_line}
+use Rattle.aire_top.specs.Endings.{Answer, Asked, LacksMemory, Outside, ScriptEnds, ScriptFails, Untouched, nothing, world_line}
 use Rattle.aire_top.specs.Top.{Is, fresh, is_input, script_path, script_told}
 
 -- it ends with this answer and this last line, or for want of memory

@@ -1,7 +1,8 @@
 -- How a run of the program ends.
 use Rattle.std.specs.Prelude.{◌≡◌, ◌⊎◌, ℕ, ◌≤◌, Bool, true, false, List, [], ◌++◌, length, Option, Some, None, Ok, Err, codes, decimal}
-use Rattle.io_edge.specs.Edge.{IsAtEnd, IsFront, ReadFails, Reads, WriteFails, Writes, Wrote, WroteShort}
+use Rattle.io_edge.specs.Edge.{IsAtEnd, IsFront, ReadFails, Reads, WriteFails, Writes, Wrote}
 use Rattle.io_edge.specs.Files.{LoadFails, Loads}
+use Rattle.command_ends.specs.Ends.{EndsWith, lacking_line, unread_line, usage_line}
 use Rattle.journal_rows.specs.declared.verdict.Verdict.{Verdict}
 use Rattle.service_events.specs.State.{Kept}
 use Rattle.world_events.specs.Worlds.{World}
@@ -39,34 +40,18 @@ nothing status = answer status [] None
 abbrev pub standing : ℕ → World → Answer
 standing status world = answer status world.services (Some (verdict world.services))
 
--- ---- what is written last
+-- the one where a world stands, and else the other
+abbrev pub answer_in : ℕ → Option World → Answer
+answer_in status None = nothing status
+answer_in status (Some world) = standing status world
 
-abbrev pub usage_line : ℕ → List ℕ
-usage_line i = codes "usage: word " ++ (decimal i ++ codes "\n")
+-- ---- what is written last
 
 abbrev pub refused_line : ℕ → ℕ → List ℕ
 refused_line line number = codes "script refused line " ++ (decimal line ++ (codes " number " ++ (decimal number ++ codes "\n")))
 
 abbrev pub world_line : List ℕ → List ℕ
 world_line what = codes "world refused " ++ (what ++ codes "\n")
-
-abbrev pub unread_line : List ℕ
-unread_line = codes "read fault\n"
-
-abbrev pub lacking_line : List ℕ
-lacking_line = codes "no memory\n"
-
--- all of a text was written, and then a last line, or a front of that where a write failed
-pub record EndsWith (before now : Writes) (text line : List ℕ) : Type 0 where
-  pub front : List ℕ
-  pub of_line : IsFront front line
-  pub wrote : Wrote before now (text ++ front)
-  pub whole : (front ≡ line) ⊎ WriteFails before now
-
--- 0 where all of a text is written, and 5 where a write failed
-abbrev pub StatusOf : Writes → Writes → List ℕ → ℕ → Type 0
-StatusOf before now text status =
-    ((status ≡ 0) × Wrote before now text) ⊎ ((status ≡ 5) × (WroteShort before now text × WriteFails before now))
 
 -- ---- a script that is run in a world
 

@@ -4,6 +4,8 @@ use Rattle.std.specs.List.{sum_by}
 use Rattle.lang_base.specs.Texts.{same_text}
 use Rattle.io_edge.specs.Edge.{WriteFails, Writes}
 use Rattle.request_names.specs.Numbers.{number_of}
+use Rattle.command_ends.specs.Ends.{EndsWith, StatusOf, usage_line}
+use Rattle.command_ends.specs.Words.{misfit_from}
 use Rattle.service_events.specs.State.{Kept}
 use Rattle.world_events.specs.Worlds.{World}
 use Rattle.script_make.specs.Making.{made_script}
@@ -12,8 +14,8 @@ use Rattle.script_run.specs.Plays.{IsRunOf, Played, audit_text}
 use Rattle.script_run.specs.declared.counts.Counts.{Counts}
 use Rattle.world_file.specs.Standard.{built_in}
 use Rattle.world_file.specs.declared.setup.Setup.{Setup}
-use Rattle.aire_top.specs.Endings.{Answer, EndsWith, LacksMemory, Outside, StatusOf, Untouched, nothing, refused_line, standing, usage_line}
-use Rattle.aire_top.specs.Top.{fresh, misfit_from}
+use Rattle.aire_top.specs.Endings.{Answer, LacksMemory, Outside, Untouched, nothing, refused_line, standing}
+use Rattle.aire_top.specs.Top.{fresh}
 
 -- ---- the words
 

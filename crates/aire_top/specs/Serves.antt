@@ -3,6 +3,7 @@ use Rattle.std.specs.Prelude.{◌≡◌, ◌⊎◌, ℕ, List, [], ◌∷◌, �
 use Rattle.std.specs.List.{count_by, flat_map}
 use Rattle.lang_base.specs.Texts.{same_text}
 use Rattle.io_edge.specs.Edge.{Rose, Writes}
+use Rattle.command_ends.specs.Ends.{EndsWith, StatusOf}
 use Rattle.journal_rows.specs.declared.verdict.Verdict.{Verdict}
 use Rattle.report_text.specs.Reports.{verdict_text}
 use Rattle.service_events.specs.State.{Kept, me}
@@ -13,7 +14,7 @@ use Rattle.node_run.specs.Stopping.{IsOfOne}
 use Rattle.node_run.specs.declared.refused.RunRefused.{RunRefused}
 use Rattle.node_run.specs.declared.refused.RunRefused.TheVariants.{NoMemory, DoorFault, NotStarted, Differs, Twice}
 use Rattle.aire_top.specs.Ended.{Ending, Faults, Whose, ending, plain}
-use Rattle.aire_top.specs.Endings.{Answer, EndsWith, LacksMemory, StatusOf, nothing}
+use Rattle.aire_top.specs.Endings.{Answer, LacksMemory, nothing}
 
 -- ---- what is written
 

@@ -3,11 +3,13 @@ use Rattle.std.specs.Prelude.{◌≡◌, ◌⊎◌, ℕ, Bool, List, [], ◌∷�
 use Rattle.lang_base.specs.Texts.{same_text}
 use Rattle.io_edge.specs.Edge.{Rose, WriteFails}
 use Rattle.io_edge.specs.Files.{LoadFails}
+use Rattle.command_ends.specs.Ends.{EndsWith, unread_line}
+use Rattle.command_ends.specs.Words.{is_file_word, misfit_from}
 use Rattle.world_file.specs.declared.setup.Setup.{Setup}
 use Rattle.aire_top.specs.Ended.{Ending, Faults, plain}
-use Rattle.aire_top.specs.Endings.{Answer, Asked, EndsWith, HasNoWorld, IsMisused, LacksMemory, Outside, Untouched, WorldUnread, nothing, unread_line}
+use Rattle.aire_top.specs.Endings.{Answer, Asked, HasNoWorld, IsMisused, LacksMemory, Outside, Untouched, WorldUnread, nothing}
 use Rattle.aire_top.specs.Serves.{ServeEnds}
-use Rattle.aire_top.specs.Top.{Is, Words, is_file_word, misfit_from, world_path, world_told, world_word}
+use Rattle.aire_top.specs.Top.{Is, Words, world_path, world_told, world_word}
 
 -- ---- the words
 

@@ -1,8 +1,8 @@
 -- What the command words mean and name.
-use Rattle.std.specs.Prelude.{◌≡◌, ℕ, ◌+◌, Bool, not, ◌||◌, List, [], ◌∷◌, length, Option, Some, None, option_map, Result, Ok, Err, if◌then◌else◌, nat_eq, nat_lt, codes}
-use Rattle.std.specs.List.{starts_with}
+use Rattle.std.specs.Prelude.{◌≡◌, ℕ, Bool, List, [], ◌∷◌, length, Option, Some, None, option_map, Result, Ok, Err, if◌then◌else◌, nat_lt, codes}
 use Rattle.std.specs.Option.{ForSome}
 use Rattle.lang_base.specs.Texts.{same_text}
+use Rattle.command_ends.specs.Words.{is_file_word, misfit_from}
 pub use Rattle.aire_top.specs.Fresh.{fresh, fresh_service}
 use Rattle.world_file.specs.declared.setup.Setup.{Setup}
 use Rattle.world_file.specs.declared.refused.WorldRefused.{WorldRefused}
@@ -14,19 +14,9 @@ use Rattle.world_file.specs.Worlds.{world_of}
 abbrev pub is_input : List ℕ → Bool
 is_input word = same_text word (codes "-")
 
--- a word that names a file, or the input: one that begins with `-` is `-` alone
-abbrev pub is_file_word : List ℕ → Bool
-is_file_word word = not (starts_with nat_eq word (codes "-")) || is_input word
-
 -- the only row of words: the command, a world and a script
 abbrev pub row : List (List ℕ → Bool)
 row = (λ word. same_text word (codes "run")) ∷ is_file_word ∷ is_file_word ∷ []
-
-abbrev pub misfit_from : ℕ → List (List ℕ → Bool) → List (List ℕ) → Option ℕ
-misfit_from i [] [] = None
-misfit_from i [] (word ∷ words) = Some i
-misfit_from i (fits ∷ more) [] = Some i
-misfit_from i (fits ∷ more) (word ∷ words) = if fits word then misfit_from (i + 1) more words else Some i
 
 -- the index of the first word that doesn't fit, or the number of words where one is missing
 abbrev pub misfit : List (List ℕ) → Option ℕ

@@ -1,21 +1,19 @@
 // A script that is made of a number, and its run.
-ghost use Rattle.std.specs.Prelude.{◌≡◌, ◌⊎◌, ◌++◌, ◌≤◌, Some, All, IfOk, IfSome, IsSome, OnOk, codes, map, option_map, string_bytes};
-ghost use Rattle.journal_rows.specs.declared.verdict.Verdict.TheVariants.{Legal};
-ghost use Rattle.service_events.specs.Allowed.{IsAllowed};
-ghost use Rattle.script_run.specs.Audits.{SaysForged};
+ghost use Rattle.std.specs.Prelude.{◌≡◌, ◌⊎◌, ◌++◌, ◌≤◌, Some, IfOk, IsSome, OnOk, codes, map, option_map, string_bytes};
 ghost use Rattle.script_run.specs.Counting.{capped};
 ghost use Rattle.script_run.specs.Plays.{audit_text};
-ghost use Rattle.world_agreement.specs.Legal.{AreLegal};
+ghost use Rattle.world_agreement.specs.Partners.{IsJoined};
 ghost use Rattle.world_events.specs.Sound.{IsSound};
 ghost use Rattle.world_file.specs.Standard.{built_in};
 ghost use Rattle.world_file.specs.Worlds.{KnowEachOther};
-ghost use Rattle.aire_top.specs.Endings.{LacksMemory, answer};
+ghost use Rattle.aire_top.specs.Endings.{LacksMemory, answer_in};
 ghost use Rattle.aire_top.specs.Making.{IsPostsWorld, Prints, ScriptTold, SeedEnds, WordsEnd, counted_text, entries_of, made_line, numbers_text, settled_text};
 
-use crate::ending::{Outcome, lacking, misused, refusal, standing};
-use crate::last::print;
+use crate::ending::refusal;
+use crate::outcome::Outcome;
 use crate::starting::started;
 use crate::words::{MOST_REQUESTS, seed_and_count};
+use command_ends::print;
 use io_edge::{Failed, Sink};
 use lang_core::NoMemory;
 use script_make::make_script;
@@ -101,26 +99,20 @@ fn made_line(alloc: Global, n: u64, counts: Counts, world: &World) -> Result<Str
 
 // The end where each line of a script is done.
 fn print_made<K: Sink>(alloc: Global, world: World, n: u64, counts: Counts, out: &mut K) -> Outcome
-    requires { IsSound world }
-    ensures ends { Prints (K.writes out.old) (K.writes out.new) (made_line n counts world.services) world (answer result.status result.services.items result.verdict)
-        ⊎ LacksMemory (K.writes out.old) (K.writes out.new) (answer result.status result.services.items result.verdict) }
-    ensures legal { result.verdict ≡ Some Legal → AreLegal result.services.items }
-    ensures joined { IfSome result.verdict (λ v. ¬ (SaysForged v)) }
-    ensures allowed { IfSome result.verdict (λ v. All IsAllowed result.services.items) }
+    requires { IsJoined world.services }
+    ensures { Prints (K.writes out.old) (K.writes out.new) (made_line n counts world.services) world (answer_in result.status result.world)
+        ⊎ LacksMemory (K.writes out.old) (K.writes out.new) (answer_in result.status result.world) }
 {
     match made_line(alloc, n, counts, &world) {
-        Ok(line) => standing(print(out, line.as_str()), world),
-        Err(_) => lacking(alloc, out),
+        Ok(line) => Outcome::standing(print(out, line.as_str()), world),
+        Err(_) => Outcome::lacking(out),
     }
 }
 
 // Runs a script of so many requests without its output, and prints what it comes to.
 fn run_made<K: Sink>(alloc: Global, world: World, script: &[u8], n: u64, out: &mut K) -> Outcome
     requires { IsSound world }
-    ensures ends { ScriptTold world script.now n (K.writes out.old) (K.writes out.new) (answer result.status result.services.items result.verdict) }
-    ensures legal { result.verdict ≡ Some Legal → AreLegal result.services.items }
-    ensures joined { IfSome result.verdict (λ v. ¬ (SaysForged v)) }
-    ensures allowed { IfSome result.verdict (λ v. All IsAllowed result.services.items) }
+    ensures { ScriptTold world script.now n (K.writes out.old) (K.writes out.new) (answer_in result.status result.world) }
 {
     let mut world = world;
     match run_script(alloc, &mut world, script, &mut Nowhere) {
@@ -128,7 +120,7 @@ fn run_made<K: Sink>(alloc: Global, world: World, script: &[u8], n: u64, out: &m
         Err(ScriptRefused::Refused(line, fault)) => {
             refusal(alloc, world, out, line, fault.number())
         }
-        Err(ScriptRefused::NoMemory) => lacking(alloc, out),
+        Err(ScriptRefused::NoMemory) => Outcome::lacking(out),
         Err(ScriptRefused::WriteFault) => unreachable!(),
     }
 }
@@ -166,16 +158,13 @@ fn posts_world(alloc: Global) -> Result<World, NoMemory>
 // comes to.
 fn make_of<K: Sink>(alloc: Global, seed: u64, n: u64, out: &mut K) -> Outcome
     requires { n ≤ MOST_REQUESTS }
-    ensures ends { SeedEnds seed n (K.writes out.old) (K.writes out.new) (answer result.status result.services.items result.verdict) }
-    ensures legal { result.verdict ≡ Some Legal → AreLegal result.services.items }
-    ensures joined { IfSome result.verdict (λ v. ¬ (SaysForged v)) }
-    ensures allowed { IfSome result.verdict (λ v. All IsAllowed result.services.items) }
+    ensures { SeedEnds seed n (K.writes out.old) (K.writes out.new) (answer_in result.status result.world) }
 {
     let Ok(script) = make_script(alloc, seed, n) else {
-        return lacking(alloc, out);
+        return Outcome::lacking(out);
     };
     let Ok(world) = posts_world(alloc) else {
-        return lacking(alloc, out);
+        return Outcome::lacking(out);
     };
     run_made(alloc, world, script.as_bytes(), n, out)
 }
@@ -183,13 +172,10 @@ fn make_of<K: Sink>(alloc: Global, seed: u64, n: u64, out: &mut K) -> Outcome
 /// Makes and runs the script for which words ask, without its output, and prints in one line what it comes to; or says which
 /// word doesn't fit.
 pub fn make<K: Sink>(alloc: Global, words: &[String], out: &mut K) -> Outcome
-    ensures ends { WordsEnd (map string_bytes words.now) (K.writes out.old) (K.writes out.new) (answer result.status result.services.items result.verdict) }
-    ensures legal { result.verdict ≡ Some Legal → AreLegal result.services.items }
-    ensures joined { IfSome result.verdict (λ v. ¬ (SaysForged v)) }
-    ensures allowed { IfSome result.verdict (λ v. All IsAllowed result.services.items) }
+    ensures { WordsEnd (map string_bytes words.now) (K.writes out.old) (K.writes out.new) (answer_in result.status result.world) }
 {
     match seed_and_count(words) {
         Ok((seed, n)) => make_of(alloc, seed, n, out),
-        Err(place) => misused(alloc, out, place),
+        Err(place) => Outcome::misused(alloc, out, place),
     }
 }

@@ -1,15 +1,18 @@
 // The world that words name, served.
 ghost use Rattle.std.specs.Prelude.{◌≡◌, None, map, string_bytes};
-ghost use Rattle.aire_top.specs.Ended.{ending, faults, last_of, whose};
+ghost use Rattle.aire_top.specs.Ended.{faults};
 ghost use Rattle.aire_top.specs.Endings.{outside};
+ghost use Rattle.aire_top.specs.Seen.{ending_of};
 ghost use Rattle.aire_top.specs.Serving.{ServingEnds, serve_misfit};
 ghost use Rattle.aire_top.specs.Top.{world_word};
 
 use crate::announcing::AnnouncingDoor;
-use crate::ending::{Ended, misused, plain, worldless};
+use crate::ended::Ended;
+use crate::ending::{without, worldless};
 use crate::loading::load_world;
 use crate::serving::serve;
 use crate::words::served_world;
+use command_ends::misused;
 use io_edge::{Files, Sink};
 use io_links::{Ear, Link, Spawner};
 use recorded_inputs::{Clock, Words};
@@ -46,11 +49,11 @@ fn serve_world<
         (faults (D.faults doors.new) (P.faults spawner.new))
         (outside (F.loads files.old) reads (K.writes out.old))
         (outside (F.loads files.new) reads (K.writes out.new))
-        (ending result.status result.services.items result.verdict result.receipts.items (last_of result.last (λ l. whose l.service l.console))) }
+        (ending_of result) }
 {
     match load_world(alloc, world, files) {
         Ok(setups) => serve(rt, alloc, setups, out, doors, links, clock, random, spawner),
-        Err(why) => plain(alloc, worldless(alloc, why, out)),
+        Err(why) => without(alloc, worldless(alloc, why, out)),
     }
 }
 
@@ -81,12 +84,12 @@ pub fn served<
         (faults (D.faults doors.new) (P.faults spawner.new))
         (outside (F.loads files.old) reads (K.writes out.old))
         (outside (F.loads files.new) reads (K.writes out.new))
-        (ending result.status result.services.items result.verdict result.receipts.items (last_of result.last (λ l. whose l.service l.console))) }
+        (ending_of result) }
 {
     match served_world(words) {
         Ok(world) => serve_world(
             rt, alloc, world, files, out, doors, links, clock, random, spawner,
         ),
-        Err(place) => plain(alloc, misused(alloc, out, place)),
+        Err(place) => without(alloc, misused(alloc, out, place)),
     }
 }

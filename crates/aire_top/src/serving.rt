@@ -1,18 +1,21 @@
 // Serving, once a world is loaded.
 ghost use Rattle.std.specs.Prelude.{◌≡◌, ◌∷◌, ◌≤◌, ◌⊎◌, [], IfOk, Some, length};
+ghost use Rattle.command_ends.specs.Ends.{EndsWith};
 ghost use Rattle.report_text.specs.Reports.{IsVerdictOver};
 ghost use Rattle.world_file.specs.Worlds.{KnowEachOther};
 ghost use Rattle.node_run.specs.Ends.{IsGoodEnd};
 ghost use Rattle.node_run.specs.Stopping.{IsOfOne};
 ghost use Rattle.node_run.specs.declared.refused.RunRefused.TheVariants as refusals;
-ghost use Rattle.aire_top.specs.Ended.{ending, faults, last_of, plain, whose};
-ghost use Rattle.aire_top.specs.Endings.{EndsWith, nothing};
+ghost use Rattle.aire_top.specs.Ended.{ending, faults, plain, whose};
+ghost use Rattle.aire_top.specs.Endings.{nothing};
+ghost use Rattle.aire_top.specs.Seen.{ending_of};
 ghost use Rattle.aire_top.specs.Serves.{EndsRefused, HasServed, IsLacking, ServeEnds, amiss};
 
 use crate::announcing::AnnouncingDoor;
-use crate::ending::{Ended, lacking, plain, without};
-use crate::last::{print, write_last};
+use crate::ended::Ended;
+use crate::ending::without;
 use crate::telling::{end_text, receipt_line};
+use command_ends::{AMISS, NO_DOOR, NO_WORKER, lacking, print, write_last};
 use io_edge::{Connection, Sink};
 use io_links::{Ear, Link, OpenGate, Spawner};
 use lang_base::both;
@@ -29,9 +32,9 @@ use world_file::Setup;
 // The end for want of memory.
 fn lacking_end<C: Connection + Drop, K: Sink>(alloc: Global, out: &mut K) -> Ended<C>
     ensures { IsLacking (K.writes out.old) (K.writes out.new)
-        (ending result.status result.services.items result.verdict result.receipts.items (last_of result.last (λ l. whose l.service l.console))) }
+        (ending_of result) }
 {
-    plain(alloc, lacking(alloc, out))
+    without(alloc, lacking(out))
 }
 
 // An end without services, and its last line.
@@ -41,16 +44,16 @@ fn saying<C: Connection + Drop, K: Sink>(
     status: u8,
     line: &str,
 ) -> Ended<C>
-    ensures answered { ending result.status result.services.items result.verdict result.receipts.items (last_of result.last (λ l. whose l.service l.console)) ≡ plain (nothing status) }
+    ensures answered { ending_of result ≡ plain (nothing status) }
     ensures ends { EndsWith (K.writes out.old) (K.writes out.new) [] line.now }
 {
     write_last(out, line);
-    plain(alloc, without(alloc, status))
+    without(alloc, status)
 }
 
 // The end of a run that ended well.
 fn finished<C: Connection + Drop>(status: u8, joined: Joined<C>) -> Ended<C>
-    ensures { ending result.status result.services.items result.verdict result.receipts.items (last_of result.last (λ l. whose l.service l.console))
+    ensures { ending_of result
         ≡ ending status joined.services.items (Some joined.verdict) joined.receipts.items (Some (whose joined.last.service joined.last.console)) }
 {
     let Joined {
@@ -73,9 +76,9 @@ fn told<C: Connection + Drop, K: Sink>(alloc: Global, out: &mut K, joined: Joine
     requires { IsVerdictOver (length joined.services.items) joined.verdict }
     ensures { (setups : _) → IsGoodEnd setups joined.services.items joined.receipts.items joined.verdict → IsOfOne setups joined.last.service joined.last.console
         → HasServed setups (K.writes out.old) (K.writes out.new)
-        (ending result.status result.services.items result.verdict result.receipts.items (last_of result.last (λ l. whose l.service l.console)))
+        (ending_of result)
         ⊎ IsLacking (K.writes out.old) (K.writes out.new)
-        (ending result.status result.services.items result.verdict result.receipts.items (last_of result.last (λ l. whose l.service l.console))) }
+        (ending_of result) }
 {
     match end_text(alloc, &joined.services, &joined.receipts, &joined.verdict) {
         Ok(text) => finished(print(out, text.as_str()), joined),
@@ -85,11 +88,11 @@ fn told<C: Connection + Drop, K: Sink>(alloc: Global, out: &mut K, joined: Joine
 
 // The end with services and the receipts of which something is amiss.
 fn amiss<C: Connection + Drop>(services: Vec<Service>, receipts: Vec<Receipt>) -> Ended<C>
-    ensures { ending result.status result.services.items result.verdict result.receipts.items (last_of result.last (λ l. whose l.service l.console))
+    ensures { ending_of result
         ≡ amiss services.items receipts.items }
 {
     Ended {
-        status: 9,
+        status: AMISS,
         services,
         verdict: None,
         receipts,
@@ -121,7 +124,7 @@ fn differing<C: Connection + Drop, K: Sink>(
     services: Vec<Service>,
 ) -> Ended<C>
     ensures { EndsRefused (refusals.Differs receipt services) (K.writes out.old) (K.writes out.new)
-        (ending result.status result.services.items result.verdict result.receipts.items (last_of result.last (λ l. whose l.service l.console))) }
+        (ending_of result) }
 {
     match both(receipt_line(alloc, &receipt), one(alloc, receipt)) {
         Ok((line, receipts)) => {
@@ -141,7 +144,7 @@ fn doubled<C: Connection + Drop, K: Sink>(
     services: Vec<Service>,
 ) -> Ended<C>
     ensures { EndsRefused (refusals.Twice first second services) (K.writes out.old) (K.writes out.new)
-        (ending result.status result.services.items result.verdict result.receipts.items (last_of result.last (λ l. whose l.service l.console))) }
+        (ending_of result) }
 {
     match both(receipt_line(alloc, &first), two(alloc, first, second)) {
         Ok((line, receipts)) => {
@@ -155,12 +158,12 @@ fn doubled<C: Connection + Drop, K: Sink>(
 // The end of a run that didn't end well.
 fn refused<C: Connection + Drop, K: Sink>(alloc: Global, out: &mut K, why: RunRefused) -> Ended<C>
     ensures { EndsRefused why (K.writes out.old) (K.writes out.new)
-        (ending result.status result.services.items result.verdict result.receipts.items (last_of result.last (λ l. whose l.service l.console))) }
+        (ending_of result) }
 {
     match why {
         RunRefused::NoMemory => lacking_end(alloc, out),
-        RunRefused::DoorFault => saying(alloc, out, 7, "door fault\n"),
-        RunRefused::NotStarted => saying(alloc, out, 8, "worker not started\n"),
+        RunRefused::DoorFault => saying(alloc, out, NO_DOOR, "door fault\n"),
+        RunRefused::NotStarted => saying(alloc, out, NO_WORKER, "worker not started\n"),
         RunRefused::Differs { receipt, services } => differing(alloc, out, receipt, services),
         RunRefused::Twice {
             first,
@@ -207,7 +210,7 @@ pub fn serve<
     requires { KnowEachOther setups.items }
     ensures { ServeEnds setups.items (faults (D.faults doors.old) (P.faults spawner.old)) (faults (D.faults doors.new) (P.faults spawner.new))
         (K.writes out.old) (K.writes out.new)
-        (ending result.status result.services.items result.verdict result.receipts.items (last_of result.last (λ l. whose l.service l.console))) }
+        (ending_of result) }
 {
     announce(doors, &setups);
     let gate = OpenGate;

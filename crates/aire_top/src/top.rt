@@ -7,22 +7,26 @@ ghost use Rattle.world_events.specs.Sound.{IsSound};
 ghost use Rattle.script_run.specs.Audits.{SaysForged};
 ghost use Rattle.world_agreement.specs.Legal.{AreLegal};
 ghost use Rattle.node_run.specs.HandedOn.{IsWhole};
-ghost use Rattle.aire_top.specs.Commands.{Ends, EndsOffline, EndsPlainly, IsDone, IsDoneAs, IsGoodCommand, IsGoodOffline, command_of};
-ghost use Rattle.aire_top.specs.Ended.{ending, faults, last_of, whose};
-ghost use Rattle.aire_top.specs.Endings.{RunEnds, ScriptEnds, answer, outside};
+ghost use Rattle.world_file.specs.Worlds.{KnowEachOther};
+ghost use Rattle.aire_top.specs.Closings.{RunsIn};
+ghost use Rattle.aire_top.specs.Commands.{AnswersBy, Ends, EndsOffline, EndsPlainly, IsDone, IsDoneAs, IsGoodCommand, IsGoodOffline, command_of, offline_command};
+ghost use Rattle.aire_top.specs.Ended.{faults};
+ghost use Rattle.aire_top.specs.Endings.{RunEnds, ScriptEnds, answer_in, outside};
+ghost use Rattle.aire_top.specs.Seen.{ending_of};
 ghost use Rattle.aire_top.specs.Top.{fitting};
 ghost use Rattle.aire_top.specs.declared.words.Command.TheVariants.{Audit, Order, Serve};
 
 use crate::announcing::AnnouncingDoor;
-use crate::ending::{
-    Ended, Outcome, lacking, misused, plain, refusal, standing, unread, without, worldless,
-};
+use crate::ended::Ended;
+use crate::ending::{closed, refusal, without, worldless};
 use crate::loading::{load_script, load_world};
 use crate::making::make;
+use crate::outcome::Outcome;
 use crate::served::served;
 use crate::starting::started;
 use crate::words::{Command, command_of, is_make, named};
 use audit_command::audit;
+use command_ends::{DONE, UNWRITTEN};
 use io_edge::{Connection, Files, ReadRefused, Sink, Source};
 use io_links::{Ear, Link, Spawner};
 use order_command::order;
@@ -32,24 +36,48 @@ use std::alloc::Global;
 use std::sync::Wait;
 use std::thread::Threads;
 use std::time;
+use world_file::Setup;
 
 // Runs a script in a world.
 fn play<K: Sink>(alloc: Global, world: World, script: &[u8], out: &mut K) -> Outcome
     requires sound { IsSound world }
     requires live { IsLiveWorld world }
-    ensures ends { ScriptEnds world script.now (K.writes out.old) (K.writes out.new) (answer result.status result.services.items result.verdict) }
-    ensures legal { result.verdict ≡ Some Legal → AreLegal result.services.items }
-    ensures joined { IfSome result.verdict (λ v. ¬ (SaysForged v)) }
-    ensures allowed { IfSome result.verdict (λ v. All IsAllowed result.services.items) }
+    ensures { ScriptEnds world script.now (K.writes out.old) (K.writes out.new) (answer_in result.status result.world) }
 {
     let mut world = world;
     match run_script(alloc, &mut world, script, out) {
-        Ok(_) => standing(0, world),
-        Err(ScriptRefused::WriteFault) => standing(5, world),
+        Ok(_) => Outcome::standing(DONE, world),
+        Err(ScriptRefused::WriteFault) => Outcome::standing(UNWRITTEN, world),
         Err(ScriptRefused::Refused(line, fault)) => {
             refusal(alloc, world, out, line, fault.number())
         }
-        Err(ScriptRefused::NoMemory) => lacking(alloc, out),
+        Err(ScriptRefused::NoMemory) => Outcome::lacking(out),
+    }
+}
+
+// Runs a script in a new world of services that are set up so.
+fn run_in<F: Files, S: Source, K: Sink>(
+    alloc: Global,
+    setups: &[Setup],
+    script: &str,
+    files: &mut F,
+    input: &mut S,
+    out: &mut K,
+) -> Outcome
+    requires { KnowEachOther setups.now }
+    ensures { RunsIn setups.now script.now
+        (outside (F.loads files.old) (S.reads input.old) (K.writes out.old))
+        (outside (F.loads files.new) (S.reads input.new) (K.writes out.new))
+        (answer_in result.status result.world) }
+{
+    let Ok(world) = started(alloc, setups) else {
+        return Outcome::lacking(out);
+    };
+    match load_script(alloc, script, files, input) {
+        Ok(script) => play(alloc, world, script.as_slice(), out),
+        Err(ReadRefused::NoMemory) => Outcome::lacking(out),
+        Err(ReadRefused::Fault) => Outcome::unread(out),
+        Err(ReadRefused::TooLong) => refusal(alloc, world, out, 0, 7),
     }
 }
 
@@ -62,26 +90,36 @@ fn run<F: Files, S: Source, K: Sink>(
     input: &mut S,
     out: &mut K,
 ) -> Outcome
-    ensures ends { RunEnds (fitting world.now script.now)
+    ensures { RunEnds (fitting world.now script.now)
         (outside (F.loads files.old) (S.reads input.old) (K.writes out.old))
         (outside (F.loads files.new) (S.reads input.new) (K.writes out.new))
-        (answer result.status result.services.items result.verdict) }
-    ensures legal { result.verdict ≡ Some Legal → AreLegal result.services.items }
-    ensures joined { IfSome result.verdict (λ v. ¬ (SaysForged v)) }
-    ensures allowed { IfSome result.verdict (λ v. All IsAllowed result.services.items) }
+        (answer_in result.status result.world) }
 {
-    let setups = match load_world(alloc, world, files) {
-        Ok(setups) => setups,
-        Err(why) => return worldless(alloc, why, out),
-    };
-    let Ok(world) = started(alloc, &setups) else {
-        return lacking(alloc, out);
-    };
-    match load_script(alloc, script, files, input) {
-        Ok(script) => play(alloc, world, script.as_slice(), out),
-        Err(ReadRefused::NoMemory) => lacking(alloc, out),
-        Err(ReadRefused::Fault) => unread(alloc, out),
-        Err(ReadRefused::TooLong) => refusal(alloc, world, out, 0, 7),
+    match load_world(alloc, world, files) {
+        Ok(setups) => run_in(alloc, &setups, script, files, input, out),
+        Err(why) => Outcome::without(worldless(alloc, why, out)),
+    }
+}
+
+// Does what words ask for without threads, up to the verdict.
+fn done<F: Files, S: Source, K: Sink>(
+    alloc: Global,
+    words: &[String],
+    files: &mut F,
+    input: &mut S,
+    out: &mut K,
+) -> Outcome
+    ensures { AnswersBy (offline_command (map string_bytes words.now)) (map string_bytes words.now)
+        (outside (F.loads files.old) (S.reads input.old) (K.writes out.old))
+        (outside (F.loads files.new) (S.reads input.new) (K.writes out.new))
+        (answer_in result.status result.world) }
+{
+    if is_make(words) {
+        return make(alloc, words, out);
+    }
+    match named(words) {
+        Ok((world, script)) => run(alloc, world, script, files, input, out),
+        Err(place) => Outcome::misused(alloc, out, place),
     }
 }
 
@@ -105,7 +143,7 @@ pub fn offline<X: Connection + Drop, F: Files, S: Source, K: Sink>(
     ensures ends { EndsOffline (map string_bytes words.now)
         (outside (F.loads files.old) (S.reads input.old) (K.writes out.old))
         (outside (F.loads files.new) (S.reads input.new) (K.writes out.new))
-        (ending result.status result.services.items result.verdict result.receipts.items (last_of result.last (λ l. whose l.service l.console))) }
+        (ending_of result) }
 
     // It doesn't give up by itself.
     ensures complete { IsGoodOffline (map string_bytes words.now)
@@ -124,13 +162,7 @@ pub fn offline<X: Connection + Drop, F: Files, S: Source, K: Sink>(
     // Where there is a verdict, Legal or not, each repair that a service applied was allowed by its rules, as things stood before it.
     ensures allowed { IfSome result.verdict (λ v. All IsAllowed result.services.items) }
 {
-    if is_make(words) {
-        return plain(alloc, make(alloc, words, out));
-    }
-    match named(words) {
-        Ok((world, script)) => plain(alloc, run(alloc, world, script, files, input, out)),
-        Err(place) => plain(alloc, misused(alloc, out, place)),
-    }
+    closed(alloc, done(alloc, words, files, input, out))
 }
 
 // Judges the services of a dump.
@@ -144,11 +176,11 @@ fn audited<X: Connection + Drop, R: Threads + Sync, F: Files, K: Sink>(
     ensures ends { (reads : _) → EndsPlainly Audit (map string_bytes words.now)
         (outside (F.loads files.old) reads (K.writes out.old))
         (outside (F.loads files.new) reads (K.writes out.new))
-        (ending result.status result.services.items result.verdict result.receipts.items (last_of result.last (λ l. whose l.service l.console))) }
+        (ending_of result) }
     ensures verdict { result.verdict ≡ None }
 {
     let status = audit(rt, alloc, words, files, out);
-    plain(alloc, without(alloc, status))
+    without(alloc, status)
 }
 
 // Looks for one order of the roots of a dump.
@@ -161,11 +193,11 @@ fn ordered<X: Connection + Drop, F: Files, K: Sink>(
     ensures ends { (reads : _) → EndsPlainly Order (map string_bytes words.now)
         (outside (F.loads files.old) reads (K.writes out.old))
         (outside (F.loads files.new) reads (K.writes out.new))
-        (ending result.status result.services.items result.verdict result.receipts.items (last_of result.last (λ l. whose l.service l.console))) }
+        (ending_of result) }
     ensures verdict { result.verdict ≡ None }
 {
     let status = order(alloc, words, files, out);
-    plain(alloc, without(alloc, status))
+    without(alloc, status)
 }
 
 /// What the program does. The words are those after its name: `audit DUMP WORKERS`, where DUMP is a file, and the services
@@ -209,7 +241,7 @@ pub fn aire<
         (faults (D.faults doors.new) (P.faults spawner.new))
         (outside (F.loads files.old) (S.reads input.old) (K.writes out.old))
         (outside (F.loads files.new) (S.reads input.new) (K.writes out.new))
-        (ending result.status result.services.items result.verdict result.receipts.items (last_of result.last (λ l. whose l.service l.console))) }
+        (ending_of result) }
 
     // It doesn't give up by itself.
     ensures complete { IsGoodCommand (map string_bytes words.now)

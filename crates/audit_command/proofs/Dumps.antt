@@ -1,8 +1,8 @@
 -- What is known of a dump that is loaded.
 use Rattle.std.specs.Option.{ForSome}
 use Rattle.std.proofs.Common.{◌≡◌, ℕ, ◌<◌, List, length, Option, Some, None, option_map, Result, Ok, Err, true, nat_lt, refl, ap, sym, ◌∙◌, rules, tests}
+use Rattle.dump_tables.specs.declared.dump.DumpService.{DumpService}
 use Rattle.dump_reader.specs.Reading.{read_of}
-use Rattle.dump_reader.specs.declared.dump.DumpService.{DumpService}
 use Rattle.dump_reader.specs.declared.refused.DumpRefused.{DumpRefused}
 use Rattle.dump_reader.specs.declared.refused.DumpRefused.TheVariants.{TooLong}
 use Rattle.audit_command.specs.Audits.{Is, dump_told}

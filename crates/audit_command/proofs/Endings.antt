@@ -2,25 +2,26 @@
 use Rattle.std.proofs.Common.{◌≡◌, ◌⊎◌, inl, inr, ℕ, List, None, Ok, Err, subst, sym}
 use Rattle.io_edge.specs.Edge.{Writes}
 use Rattle.io_edge.specs.Files.{Loads}
-use Rattle.dump_reader.specs.declared.dump.DumpService.{DumpService}
+use Rattle.command_ends.specs.Ends.{Closes, LacksMemory, StatusOf}
+use Rattle.dump_tables.specs.declared.dump.DumpService.{DumpService}
 use Rattle.dump_reader.specs.declared.refused.DumpRefused.{DumpRefused}
 use Rattle.dump_audit.specs.Judging.{judged}
 use Rattle.dump_audit.specs.declared.judged.Judged.{Judged}
-use Rattle.audit_command.specs.Audits.{Asked, AuditEnds, EndsIn, Is, LacksMemory, Prints, dump_told, dump_word, judged_line, misfit, refused_line}
+use Rattle.audit_command.specs.Audits.{Asked, AuditEnds, Is, dump_told, dump_word, judged_line, misfit, refused_line}
 
 module _ (words : List (List ℕ)) (path : List ℕ) (files files_now : Loads) (out out_now : Writes) (status : ℕ) (fit : misfit words ≡ None) (at : dump_word words ≡ path) (asked : Asked files files_now path) where
   pub told_ends : (services : List DumpService) (found : Judged) → Is (dump_told files.files path) (Ok services) → found ≡ judged services
-      → Prints out out_now (judged_line found) status ⊎ LacksMemory out out_now status → AuditEnds words files files_now out out_now status
+      → StatusOf out out_now (judged_line found) status ⊎ LacksMemory out out_now status → AuditEnds words files files_now out out_now status
   told_ends services found dump is (inl prints) = inl (record {
     fit = fit;
     services = services;
     dump = subst (λ (p : List ℕ). Is (dump_told files.files p) (Ok services)) (sym at) dump;
     asked = subst (Asked files files_now) (sym at) asked;
-    prints = subst (λ (j : Judged). Prints out out_now (judged_line j) status) is prints;
+    prints = subst (λ (j : Judged). StatusOf out out_now (judged_line j) status) is prints;
   })
   told_ends services found dump is (inr lacks) = inr (inr (inr (inr lacks)))
 
-  pub refused_ends : (why : DumpRefused) → Is (dump_told files.files path) (Err why) → ((status ≡ 3) × EndsIn out out_now (refused_line why)) ⊎ LacksMemory out out_now status
+  pub refused_ends : (why : DumpRefused) → Is (dump_told files.files path) (Err why) → Closes out out_now 3 (refused_line why) status
       → AuditEnds words files files_now out out_now status
   refused_ends why refused (inl told) = inr (inl (record {
     fit = fit;

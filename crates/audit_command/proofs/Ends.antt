@@ -2,7 +2,7 @@
 use Rattle.std.proofs.Common.{◌≡◌, ◌⊎◌, inl, inr, ℕ, List, Option, Some, None, Result, Ok, Err, refl, sym, ◌∙◌}
 use Rattle.io_edge.specs.Edge.{Writes}
 use Rattle.io_edge.specs.Files.{Loads}
-use Rattle.dump_reader.specs.declared.dump.DumpService.{DumpService}
+use Rattle.dump_tables.specs.declared.dump.DumpService.{DumpService}
 use Rattle.dump_reader.specs.declared.refused.DumpRefused.{DumpRefused}
 use Rattle.audit_command.specs.Audits.{AuditEnds, IsGood}
 

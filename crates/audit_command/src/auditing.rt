@@ -3,8 +3,9 @@ ghost use Rattle.std.specs.Prelude.{◌≡◌, ◌<◌, ◌⊎◌, None, map, st
 ghost use Rattle.audit_command.specs.Audits.{AuditEnds, IsGood, dump_word, misfit};
 
 use crate::loading::{NoDump, load_dump};
-use crate::telling::{lacking, misused, refused, told, unread};
+use crate::telling::{refused, told};
 use crate::words::asked;
+use command_ends::{lacking, misused, unread};
 use dump_audit::judge_beside;
 use io_edge::{Files, Sink};
 use std::alloc::Global;

@@ -9,5 +9,4 @@ mod words;
 
 pub use auditing::audit;
 pub use loading::{NoDump, load_dump};
-pub use telling::{lacking, misused, print, refused, told, unread};
-pub use words::is_file_word;
+pub use telling::{refused, told};

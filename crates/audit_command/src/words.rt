@@ -1,19 +1,13 @@
 // The words of an audit.
 ghost use Rattle.std.specs.Prelude.{◌≡◌, ◌<◌, None, Some, IfSome, IfOk, IfErr, true, false, map, string_bytes};
 ghost use Rattle.request_names.specs.Numbers.{number_of};
-ghost use Rattle.audit_command.specs.Audits.{dump_word, is_count, is_file_word, misfit};
+ghost use Rattle.audit_command.specs.Audits.{dump_word, is_count, misfit};
 
+use command_ends::is_file_word;
 use request_names::read_number;
 
 /// The most workers.
 const MOST_WORKERS: u64 = 64;
-
-/// Whether a word names a file: one that begins with `-` is `-` alone.
-pub fn is_file_word(word: &str) -> bool
-    ensures { result ≡ is_file_word word.now }
-{
-    !word.starts_with("-") || word == "-"
-}
 
 // How many workers a word asks for, if it is from 1 to 64.
 fn count_of(word: &str) -> Option<u64>

@@ -2,14 +2,15 @@
 use Rattle.std.proofs.Common.{◌≡◌, ◌⊎◌, inl, inr, ℕ, List, None, Ok, Err, subst, sym}
 use Rattle.io_edge.specs.Edge.{Writes}
 use Rattle.io_edge.specs.Files.{Loads}
-use Rattle.dump_reader.specs.declared.dump.DumpService.{DumpService}
+use Rattle.command_ends.specs.Ends.{Closes, LacksMemory, StatusOf}
+use Rattle.dump_tables.specs.declared.dump.DumpService.{DumpService}
 use Rattle.dump_reader.specs.declared.refused.DumpRefused.{DumpRefused}
-use Rattle.audit_command.specs.Audits.{Asked, EndsIn, Is, LacksMemory, Prints, dump_told, dump_word, refused_line}
+use Rattle.audit_command.specs.Audits.{Asked, Is, dump_told, dump_word, refused_line}
 use Rattle.order_command.specs.Orders.{OrderEnds, Tells, misfit}
 
 module _ (words : List (List ℕ)) (path : List ℕ) (files files_now : Loads) (out out_now : Writes) (status : ℕ) (fit : misfit words ≡ None) (at : dump_word words ≡ path) (asked : Asked files files_now path) where
   pub told_ends : (services : List DumpService) → Is (dump_told files.files path) (Ok services)
-      → ((text : List ℕ) × Tells services text × Prints out out_now text status) ⊎ LacksMemory out out_now status → OrderEnds words files files_now out out_now status
+      → ((text : List ℕ) × Tells services text × StatusOf out out_now text status) ⊎ LacksMemory out out_now status → OrderEnds words files files_now out out_now status
   told_ends services dump (inl told) = inl (record {
     fit = fit;
     services = services;
@@ -21,7 +22,7 @@ module _ (words : List (List ℕ)) (path : List ℕ) (files files_now : Loads) (
   })
   told_ends services dump (inr lacks) = inr (inr (inr (inr lacks)))
 
-  pub refused_ends : (why : DumpRefused) → Is (dump_told files.files path) (Err why) → ((status ≡ 3) × EndsIn out out_now (refused_line why)) ⊎ LacksMemory out out_now status
+  pub refused_ends : (why : DumpRefused) → Is (dump_told files.files path) (Err why) → Closes out out_now 3 (refused_line why) status
       → OrderEnds words files files_now out out_now status
   refused_ends why refused (inl told) = inr (inl (record {
     fit = fit;

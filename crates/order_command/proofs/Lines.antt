@@ -4,13 +4,14 @@ use Rattle.std.proofs.lemmas.List.{take_all, take_more}
 use Rattle.std.proofs.lemmas.List.Concat.{flat_map-append}
 use Rattle.lang_core.specs.declared.ids.RequestId.{RequestId}
 use Rattle.io_edge.specs.Edge.{Writes}
+use Rattle.command_ends.specs.Ends.{LacksMemory, StatusOf}
 use Rattle.execution.specs.Together.{IsLegalTogether}
-use Rattle.dump_reader.specs.declared.dump.DumpService.{DumpService}
+use Rattle.dump_tables.specs.declared.dump.DumpService.{DumpService}
 use Rattle.dump_audit.specs.Histories.{histories_of}
 use Rattle.dump_audit.specs.Judging.{judged}
 use Rattle.dump_audit.specs.declared.judged.Judged.{Judged}
 use Rattle.dump_audit.specs.declared.judged.Judged.TheVariants.{Legal}
-use Rattle.audit_command.specs.Audits.{LacksMemory, Prints, judged_line}
+use Rattle.audit_command.specs.Audits.{judged_line}
 use Rattle.one_order.specs.Certificates.{AreFirst}
 use Rattle.one_order.specs.Cycles.{ShowsCycle}
 use Rattle.one_world.specs.Certificates.{Passes}
@@ -20,24 +21,24 @@ use Rattle.order_command.specs.Orders.{Tells, cycle_line, id_line, order_lines}
 
 module _ (services : List DumpService) (out out_now : Writes) (status : ℕ) where
   abbrev pub IsTold : Type 0
-  IsTold = ((text : List ℕ) × Tells services text × Prints out out_now text status) ⊎ LacksMemory out out_now status
+  IsTold = ((text : List ℕ) × Tells services text × StatusOf out out_now text status) ⊎ LacksMemory out out_now status
 
-  or_lacks : (text : List ℕ) → Tells services text → Prints out out_now text status ⊎ LacksMemory out out_now status → IsTold
+  or_lacks : (text : List ℕ) → Tells services text → StatusOf out out_now text status ⊎ LacksMemory out out_now status → IsTold
   or_lacks text tells (inl prints) = inl (text, tells, prints)
   or_lacks text tells (inr lacks) = inr lacks
 
   pub order_told : (order : List RequestId) → IsLegalTogether (histories_of services) → Passes (histories_of services) order
       → AreFirst (histories_of services) (logs_of (histories_of services)) order → RunsAsOne (histories_of services) order
-      → Prints out out_now (order_lines order) status ⊎ LacksMemory out out_now status → IsTold
+      → StatusOf out out_now (order_lines order) status ⊎ LacksMemory out out_now status → IsTold
   order_told order legal passes first runs prints =
       or_lacks (order_lines order) (inl (record { legal = legal; order = order; passes = passes; first = first; runs = runs; is = refl })) prints
 
   pub cycle_told : (first second : RequestId) → IsLegalTogether (histories_of services) → ((order : List RequestId) → ¬ (Passes (histories_of services) order))
-      → (¬ (first ≡ second) → (back : List RequestId) × ShowsCycle (histories_of services) first second back) → Prints out out_now (cycle_line first second) status ⊎ LacksMemory out out_now status → IsTold
+      → (¬ (first ≡ second) → (back : List RequestId) × ShowsCycle (histories_of services) first second back) → StatusOf out out_now (cycle_line first second) status ⊎ LacksMemory out out_now status → IsTold
   cycle_told first second legal never shown prints =
       or_lacks (cycle_line first second) (inr (inl (record { legal = legal; never = never; first = first; second = second; shown = shown; is = refl }))) prints
 
-  pub fault_told : (found : Judged) → found ≡ judged services → ¬ (found ≡ Legal) → Prints out out_now (judged_line found) status ⊎ LacksMemory out out_now status → IsTold
+  pub fault_told : (found : Judged) → found ≡ judged services → ¬ (found ≡ Legal) → StatusOf out out_now (judged_line found) status ⊎ LacksMemory out out_now status → IsTold
   fault_told found is ill prints =
       or_lacks (judged_line found) (inr (inr (record { ill = λ e. ill (is ∙ e); is = ap judged_line is }))) prints
 

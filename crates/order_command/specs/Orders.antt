@@ -6,12 +6,14 @@ use Rattle.lang_core.specs.declared.ids.RequestId.{RequestId}
 use Rattle.io_edge.specs.Edge.{WriteFails, Writes}
 use Rattle.io_edge.specs.Files.{LoadFails, Loads}
 use Rattle.execution.specs.Together.{IsLegalTogether}
-use Rattle.dump_reader.specs.declared.dump.DumpService.{DumpService}
+use Rattle.command_ends.specs.Ends.{EndsWith, LacksMemory, StatusOf, unread_line, usage_line}
+use Rattle.command_ends.specs.Words.{is_file_word, misfit_from}
+use Rattle.dump_tables.specs.declared.dump.DumpService.{DumpService}
 use Rattle.dump_reader.specs.declared.refused.DumpRefused.{DumpRefused}
 use Rattle.dump_audit.specs.Histories.{histories_of}
 use Rattle.dump_audit.specs.Judging.{judged}
 use Rattle.dump_audit.specs.declared.judged.Judged.TheVariants.{Legal}
-use Rattle.audit_command.specs.Audits.{Asked, EndsIn, Is, LacksMemory, Prints, dump_told, dump_word, is_file_word, judged_line, misfit_from, refused_line, usage_line}
+use Rattle.audit_command.specs.Audits.{Asked, Is, dump_told, dump_word, judged_line, refused_line}
 use Rattle.one_order.specs.Certificates.{AreFirst}
 use Rattle.one_order.specs.Cycles.{ShowsCycle}
 use Rattle.one_world.specs.Certificates.{Passes}
@@ -78,7 +80,7 @@ pub record HasTold (words : List (List ℕ)) (files files_now : Loads) (out out_
   pub asked : Asked files files_now (dump_word words)
   pub text : List ℕ
   pub tells : Tells services text
-  pub prints : Prints out out_now text status
+  pub prints : StatusOf out out_now text status
 
 -- 3: the dump is refused
 pub record HasNoDump (words : List (List ℕ)) (files files_now : Loads) (out out_now : Writes) (status : ℕ) : Type 0 where
@@ -87,7 +89,7 @@ pub record HasNoDump (words : List (List ℕ)) (files files_now : Loads) (out ou
   pub refused : Is (dump_told files.files (dump_word words)) (Err why)
   pub asked : Asked files files_now (dump_word words)
   pub answered : status ≡ 3
-  pub ends : EndsIn out out_now (refused_line why)
+  pub ends : EndsWith out out_now [] (refused_line why)
 
 -- 4: the file can't be loaded
 pub record IsUnread (words : List (List ℕ)) (files files_now : Loads) (out out_now : Writes) (status : ℕ) : Type 0 where
@@ -95,7 +97,7 @@ pub record IsUnread (words : List (List ℕ)) (files files_now : Loads) (out out
   pub fault : LoadFails files files_now
   pub asked : Asked files files_now (dump_word words)
   pub answered : status ≡ 4
-  pub ends : EndsIn out out_now (codes "read fault\n")
+  pub ends : EndsWith out out_now [] unread_line
 
 -- 2: the words don't fit; nothing was asked for
 pub record IsMisused (words : List (List ℕ)) (files files_now : Loads) (out out_now : Writes) (status : ℕ) : Type 0 where
@@ -103,7 +105,7 @@ pub record IsMisused (words : List (List ℕ)) (files files_now : Loads) (out ou
   pub at_word : misfit words ≡ Some place
   pub asked : files_now.asked ≡ files.asked
   pub answered : status ≡ 2
-  pub ends : EndsIn out out_now (usage_line place)
+  pub ends : EndsWith out out_now [] (usage_line place)
 
 -- it ends in one of these four ways, or memory is wanting: 6
 abbrev pub OrderEnds : List (List ℕ) → Loads → Loads → Writes → Writes → ℕ → Type 0

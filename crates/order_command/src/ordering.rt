@@ -2,12 +2,14 @@
 ghost use Rattle.std.specs.Prelude.{◌≡◌, ◌⊎◌, None, map, string_bytes};
 ghost use Rattle.execution.specs.Together.{IsLegalTogether};
 ghost use Rattle.dump_audit.specs.Histories.{histories_of};
-ghost use Rattle.audit_command.specs.Audits.{LacksMemory, Prints, dump_word};
+ghost use Rattle.command_ends.specs.Ends.{LacksMemory, StatusOf};
+ghost use Rattle.audit_command.specs.Audits.{dump_word};
 ghost use Rattle.order_command.specs.Orders.{IsGoodOrder, OrderEnds, Tells, cycle_line, misfit, order_lines};
 
 use crate::telling::{cycle_line, order_lines};
 use crate::words::asked;
-use audit_command::{NoDump, lacking, load_dump, misused, print, refused, told, unread};
+use audit_command::{NoDump, load_dump, refused, told};
+use command_ends::{lacking, misused, print, unread};
 use dump_reader::Dump;
 use io_edge::{Files, Sink};
 use lang_core::RequestId;
@@ -17,7 +19,8 @@ use std::alloc::Global;
 // Tells an order, in which the world runs as one program.
 fn ordered<K: Sink>(alloc: Global, dump: &Dump, order: &Ids, out: &mut K) -> u8
     requires legal { IsLegalTogether (histories_of dump.now.services) }
-    ensures { Prints (K.writes out.old) (K.writes out.new) (order_lines order.now) result ⊎ LacksMemory (K.writes out.old) (K.writes out.new) result }
+    ensures { StatusOf (K.writes out.old) (K.writes out.new) (order_lines order.now) result
+        ⊎ LacksMemory (K.writes out.old) (K.writes out.new) result }
 {
     if one_run(alloc, dump, order).is_err() {
         return lacking(out);
@@ -29,7 +32,8 @@ fn ordered<K: Sink>(alloc: Global, dump: &Dump, order: &Ids, out: &mut K) -> u8
 }
 
 fn cycled<K: Sink>(alloc: Global, first: &RequestId, second: &RequestId, out: &mut K) -> u8
-    ensures { Prints (K.writes out.old) (K.writes out.new) (cycle_line first.now second.now) result ⊎ LacksMemory (K.writes out.old) (K.writes out.new) result }
+    ensures { StatusOf (K.writes out.old) (K.writes out.new) (cycle_line first.now second.now) result
+        ⊎ LacksMemory (K.writes out.old) (K.writes out.new) result }
 {
     match cycle_line(alloc, first, second) {
         Ok(line) => print(out, line.as_str()),
@@ -39,7 +43,7 @@ fn cycled<K: Sink>(alloc: Global, first: &RequestId, second: &RequestId, out: &m
 
 // Tells of a dump whether its roots have one order.
 fn order_of<K: Sink>(alloc: Global, dump: &Dump, out: &mut K) -> u8
-    ensures { ((text : _) × Tells dump.now.services text × Prints (K.writes out.old) (K.writes out.new) text result)
+    ensures { ((text : _) × Tells dump.now.services text × StatusOf (K.writes out.old) (K.writes out.new) text result)
         ⊎ LacksMemory (K.writes out.old) (K.writes out.new) result }
 {
     match find_order(alloc, dump) {

@@ -3,7 +3,7 @@ ghost use Rattle.std.specs.Prelude.{◌≡◌, None, Some, IfOk, IfErr, map, str
 ghost use Rattle.audit_command.specs.Audits.{dump_word};
 ghost use Rattle.order_command.specs.Orders.{misfit};
 
-use audit_command::is_file_word;
+use command_ends::is_file_word;
 
 /// The word for the dump, or the index of the first word that doesn't fit, which is the number of words where one is missing.
 pub(crate) fn asked(words: &[String]) -> Result<&str, u64>

@@ -1,5 +1,5 @@
-use Rattle.std.proofs.Common.{inl, ◌∙◌}
+use Rattle.std.proofs.Common.{inl, refl, ◌∙◌}
 use Rattle.aire_top.proofs.ending.world_refused.Goals as goal
 
-pub returns-in-Ok-clause-ends : goal.returns-in-Ok-clause-ends
-returns-in-Ok-clause-ends g c = let e = c.as_str.ensures.value ∙ c.in-Ok.ensures.ok in inl (c.without.ensures.answer, rw e at c.write_last.ensures.ends)
+pub returns-in-Ok : goal.returns-in-Ok
+returns-in-Ok g c = let e = c.as_str.ensures.value ∙ c.in-Ok.ensures.ok in inl (refl, rw e at c.write_last.ensures.ends)

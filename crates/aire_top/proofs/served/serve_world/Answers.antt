@@ -1,3 +1,4 @@
+use Rattle.aire_top.specs.Endings.{nothing}
 use Rattle.aire_top.proofs.ServingLaws.{world_not_served, world_served}
 use Rattle.aire_top.proofs.served.serve_world.Goals as goal
 
@@ -9,4 +10,4 @@ returns-in-Ok g c = λ words reads fit is.
 pub returns-in-Err : goal.returns-in-Err
 returns-in-Err g c = λ words reads fit is.
     world_not_served words c.args.world.now fit is _ _ (g.F.Files.loads c.args.files.now) (g.F.Files.loads c.load_world.new.files) reads (g.K.Sink.writes c.args.out.now) (g.K.Sink.writes c.worldless.new.out) _
-    _ c.in-Err.why _ c.plain.ensures.same c.in-Err.ensures.refused c.in-Err.ensures.asked c.in-Err.ensures.failed c.worldless.ensures.ends
+    _ c.in-Err.why (nothing c.worldless.result) c.without.ensures.ends c.in-Err.ensures.refused c.in-Err.ensures.asked c.in-Err.ensures.failed c.worldless.ensures
