@@ -63,7 +63,7 @@ impl<T: Drop> From<AllocFailed<T>> for StartRefused {
     }
 }
 
-/// The same of the whole run.
+/// Why the run didn't end well, where the workers didn't all work.
 pub fn widened(why: StartRefused) -> RunRefused
     ensures { result ≡ widened why }
 {
@@ -74,7 +74,7 @@ pub fn widened(why: StartRefused) -> RunRefused
     }
 }
 
-/// The same of the whole run.
+/// Why the run didn't end well, where nodes and receipts couldn't be closed.
 pub fn unequal(why: CloseRefused) -> RunRefused
     ensures { result ≡ unequal why }
 {

@@ -86,7 +86,7 @@ fn work<
     }
 }
 
-/// The same, in a scope of threads that has ended afterwards.
+/// Lets the workers work until an operator stops them, in a scope of threads that has ended afterwards. All passes come back.
 pub fn work_in_scope<
     R: Ledger + Send + Sync,
     Q: Ledger + Send + Sync,

@@ -128,7 +128,7 @@ fn made(
     taking(alloc, set, Some(rule), rows, change)
 }
 
-// The same, where the entry and its row don't hold the request and its inputs together yet.
+// What `made` drafts, of a request and inputs that the entry and its row don't hold together yet.
 fn made_of(
     alloc: Global,
     parts: &Parts,

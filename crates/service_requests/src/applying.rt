@@ -204,7 +204,7 @@ fn answer_to_caller(
     }
 }
 
-// The same, where what goes back to the caller isn't made yet.
+// Commits, and makes what goes back to the caller first. Refused, nothing changes.
 fn commit_answering(
     alloc: Global,
     parts: &mut Parts,

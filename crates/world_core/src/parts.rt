@@ -29,7 +29,7 @@ pub(crate) fn place_of(services: &[Service], name: &Name) -> Option<usize>
         .position(|service| service.setting().me.text().is(name.text()))
 }
 
-/// The same, once there is room for a packet more.
+/// The place of the service of this name, once there is room for a packet more.
 pub(crate) fn ready(
     services: &[Service],
     packets: &mut Packets,

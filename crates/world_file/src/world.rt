@@ -108,7 +108,7 @@ pub fn world_with(alloc: Global, members: Vec<Member<'_>>) -> Result<Vec<Setup>,
     set_up_all(alloc, members, names.as_slice())
 }
 
-// The same, refused as a file is.
+// The world of these services, where want of memory is refused as a file is.
 fn finished(alloc: Global, members: Vec<Member<'_>>) -> Result<Vec<Setup>, WorldRefused>
     ensures world { IfOk result (λ world. world.items ≡ world_with (members_seen members.entry.items)) }
     ensures refused { IfErr result (λ why. why ≡ WorldRefused.NoMemory) }
