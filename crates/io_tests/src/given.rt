@@ -1,8 +1,10 @@
-// Assertions, and values that tests are about.
+// Assertions, sources and sinks, a service that repeats what it is sent, and jobs.
 ghost use Rattle.std.specs.Prelude.{◌<◌};
 
-use io_edge::{MemorySink, MemorySource};
+use io_edge::{Connection, MemorySink, MemorySource, write_all};
+use io_links::{Accepted, Ear, Exchange, Job};
 use std::process::Abort;
+use std::time::Duration;
 
 /// This is so, in a case that has this name.
 pub fn holds(rt: &impl Abort, case: &str, is_so: bool) {
@@ -35,4 +37,68 @@ pub fn sink(rt: &(impl Abort + AllocGlobal), most: usize, fails: u64) -> MemoryS
     requires { 0 < most }
 {
     MemorySink::in_pieces(rt.alloc(), most, failing(rt, fails))
+}
+
+/// More time than a test takes.
+pub fn patience() -> Duration {
+    Duration::from_secs(20)
+}
+
+/// This reply came.
+pub fn got(rt: &impl Abort, exchange: Exchange, want: &str) {
+    match exchange {
+        Exchange::Reply(reply) => same(rt, reply.as_slice(), want),
+        _ => holds(rt, want, false),
+    }
+}
+
+/// It failed, with these counts before and after.
+pub fn lost(rt: &impl Abort, exchange: Exchange, before: u64, after: u64) {
+    match exchange {
+        Exchange::Failed(note) => {
+            equal(rt, note.before, before);
+            equal(rt, note.after, after);
+        }
+        _ => holds(rt, "an exchange that fails", false),
+    }
+}
+
+// Sends `ok ` and the first piece of what comes.
+fn repeat<C: Connection>(conn: &mut C) {
+    let mut piece = [0u8; 64];
+    let Ok(n) = conn.read(&mut piece) else {
+        return;
+    };
+    if write_all(conn, b"ok ").is_ok() {
+        let _ = write_all(conn, &piece[..n as usize]);
+    }
+}
+
+/// Serves so many connections, each with `ok ` and the first piece of what it sent, and says
+/// whether so many came.
+pub fn serve<E: Ear>(ear: &E, count: u64) -> bool {
+    let mut served = 0u64;
+    for _ in 0..100_000u64 {
+        if served == count {
+            return true;
+        }
+        if let Accepted::Conn(mut conn) = ear.accept() {
+            repeat(&mut conn);
+            served = served.saturating_add(1);
+        }
+    }
+    false
+}
+
+/// A number that a thread is to square.
+#[derive(Drop)]
+pub struct Square(pub u32);
+
+impl Job for Square {
+    type Out = u64;
+
+    fn run(self) -> u64 {
+        let Square(side) = self;
+        u64::from(side) * u64::from(side)
+    }
 }

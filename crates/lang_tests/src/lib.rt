@@ -1,16 +1,12 @@
-//! Tests of the ground and of logs: values, trees, rows, what a request draws; entries, and where one is put.
+//! Tests of what no command comes to: values and trees by themselves, texts that are longer than a request's, rules printed.
 #![tactic(auto)]
 
 #[cfg(test)]
-mod drawing;
-#[cfg(test)]
 mod given;
 #[cfg(test)]
-mod logs;
+mod handlers;
 #[cfg(test)]
-mod placing;
-#[cfg(test)]
-mod rows;
+mod rules;
 #[cfg(test)]
 mod trees;
 #[cfg(test)]

@@ -1,9 +1,7 @@
+// Trees and literals that no text of a program spells, since it would be too long, or is refused before.
 use crate::given::{holds, repeated, text};
-use lang_base::{Copied, Same, Text};
-use lang_tree::{
-    Block, Boxed, Expr, Items, Method, Program, Route, Routes, Shared, Stmt, is_literal, is_path,
-    is_word,
-};
+use lang_base::Copied;
+use lang_tree::{Block, Boxed, Expr, Items, Method, Program, Route, Routes, Stmt, is_literal};
 use std::process::Abort;
 
 fn nested_expr(rt: &(impl Abort + AllocGlobal), depth: u64) -> Expr {
@@ -65,36 +63,10 @@ fn may_nest(rt: &(impl Abort + AllocGlobal), blocks: u64, exprs: u64) -> bool {
     }
 }
 
-// Whether such a text is a path, a word and a literal.
-fn has_forms(
-    rt: &(impl Abort + AllocGlobal),
-    first: &str,
-    character: char,
-    times: u64,
-    path: bool,
-    word: bool,
-    literal: bool,
-) {
-    let text = repeated(rt, first, character, times);
-    holds(rt, "path", is_path(&text) == path);
-    holds(rt, "word", is_word(&text) == word);
-    holds(rt, "literal", is_literal(&text) == literal);
-}
-
 #[test]
-fn keeps_forms(rt: HostRuntime) {
-    has_forms(&rt, "", 'a', 0, false, false, true);
-    has_forms(&rt, "/", '~', 1023, true, false, true);
-    has_forms(&rt, "/", '~', 1024, false, false, true);
-    has_forms(&rt, "/ ", '~', 1, false, false, true);
-    has_forms(&rt, "_", '9', 31, false, true, true);
-    has_forms(&rt, "_", '9', 32, false, false, true);
-    has_forms(&rt, "9", 'a', 1, false, false, true);
-    has_forms(&rt, "le", 't', 1, false, false, true);
-    has_forms(&rt, "Le", 't', 1, false, true, true);
-    has_forms(&rt, "", '\n', 65536, false, false, true);
-    has_forms(&rt, "", '\n', 65537, false, false, false);
-    has_forms(&rt, "a", '\r', 1, false, false, false);
+fn literals_have_a_greatest_length(rt: HostRuntime) {
+    holds(&rt, "65,536", is_literal(&repeated(&rt, '\n', 65_536)));
+    holds(&rt, "65,537", !is_literal(&repeated(&rt, '\n', 65_537)));
 }
 
 #[test]
@@ -102,21 +74,4 @@ fn keeps_depths(rt: HostRuntime) {
     holds(&rt, "32 blocks, 32 expressions", may_nest(&rt, 32, 32));
     holds(&rt, "33 blocks, 1 expressions", !may_nest(&rt, 33, 1));
     holds(&rt, "1 blocks, 33 expressions", !may_nest(&rt, 1, 33));
-}
-
-fn shared(rt: &(impl Abort + AllocGlobal), value: &str) -> Shared<Text> {
-    let value = text(rt, value);
-    Shared::copy_of(rt.alloc(), &value).expect(rt, "memory")
-}
-
-// A value outlives the holder that it was made for.
-#[test]
-fn holds_values_together(rt: HostRuntime) {
-    let first = shared(&rt, "a");
-    let second = first.copied(rt.alloc()).expect(&rt, "memory");
-    holds(&rt, "equal", second.is(&first));
-    drop(first);
-    holds(&rt, "value", second.get().as_str() == "a");
-    holds(&rt, "equal to another", second.is(&shared(&rt, "a")));
-    holds(&rt, "other", !second.is(&shared(&rt, "b")));
 }

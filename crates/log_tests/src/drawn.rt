@@ -1,27 +1,30 @@
-// A thousand drawn operations on versions, and on a list of what each place wrote beside them.
+// A thousand drawn operations on versions, and on a list of what each place wrote beside them: with a few keys, and with so many
+// that what finds them by hash grows several times.
 ghost use Rattle.std.specs.Prelude.{ℕ, List, ◌≡◌, ◌<◌, [], ◌∷◌, ◌++◌, map, IfOk, OnOk};
 ghost use Rattle.std.specs.List.{All, Contains};
 ghost use Rattle.std.specs.Option.{ForSome};
 ghost use Rattle.place_order.specs.Rising.{IsRising};
 ghost use Rattle.versioned_rows.specs.Places.{label_of};
 
-use crate::versions::write;
 use lang_core::{
     Cells, Copied, NoMemory, Same, SharedWrites, Text, Write, Writes, apply_writes, row_get,
     row_scan,
 };
 use place_order::{Order, OrderFull};
 use std::alloc::Global;
+use std::process::Abort;
 use versioned_rows::Versions;
 
 const PLACES: u64 = 12;
 
 const TURNS: u64 = 1000;
 
-/// Numbers that are the same in each run.
+/// Numbers that are the same in each run, of few keys or of many, and that of the key drawn last.
 #[derive(Drop)]
 struct Draws {
     last: u64,
+    many: bool,
+    near: u64,
 }
 
 impl Draws {
@@ -34,6 +37,35 @@ impl Draws {
             .wrapping_mul(6364136223846793005)
             .wrapping_add(1442695040888963407);
         (self.last >> 33) % end
+    }
+
+    // One of a few keys, or one of many: any of them, the one behind the last, or the one before it.
+    fn key(&mut self) -> u64 {
+        if !self.many {
+            return self.below(13);
+        }
+        let near = self.near;
+        self.near = match self.below(4) {
+            0 => self.below(1000),
+            1 => near.wrapping_add(1) % 1000,
+            _ => near.wrapping_add(999) % 1000,
+        };
+        self.near
+    }
+
+    // What is looked for: such a key, or one of a few under which many are.
+    fn sought(&mut self) -> u64 {
+        if self.below(2) == 0 {
+            return self.below(13);
+        }
+        self.key()
+    }
+
+    fn count(&mut self) -> u64 {
+        if self.many {
+            return self.below(30);
+        }
+        self.below(4)
     }
 }
 
@@ -103,19 +135,26 @@ fn label_at(labels: &[u64], place: u64) -> Option<u64>
     }
 }
 
-fn drawn_key(draws: &mut Draws) -> &'static str {
-    match draws.below(6) {
-        0 => "",
-        1 => "a",
-        2 => "ab",
-        3 => "abc",
-        4 => "b",
-        _ => "ba",
+// Its digits, and none for 0: 1 is a prefix of 10, and 10 of 100.
+fn key_text(alloc: Global, key: u64) -> Result<Text, NoMemory> {
+    if key == 0 {
+        return Ok(Text::of(alloc, "")?);
     }
+    Text::shared(format!(in alloc; "{key}")?)
+}
+
+// That text put at a key, or the key dropped.
+fn write(alloc: Global, key: Text, text: Option<&str>) -> Result<Write, NoMemory> {
+    let text = match text {
+        None => None,
+        Some(text) => Some(Text::of(alloc, text)?),
+    };
+    let table = Text::of(alloc, "notes")?;
+    Ok(Write { table, key, text })
 }
 
 fn drawn_write(alloc: Global, draws: &mut Draws) -> Result<Write, NoMemory> {
-    let key = drawn_key(draws);
+    let key = key_text(alloc, draws.key())?;
     match draws.below(3) {
         0 => write(alloc, key, None),
         1 => write(alloc, key, Some("one")),
@@ -123,10 +162,9 @@ fn drawn_write(alloc: Global, draws: &mut Draws) -> Result<Write, NoMemory> {
     }
 }
 
-// None to three writes.
 fn drawn_writes(alloc: Global, draws: &mut Draws) -> Result<SharedWrites, NoMemory> {
     let mut writes = Writes::new(alloc);
-    for _ in 0..draws.below(4) {
+    for _ in 0..draws.count() {
         writes.set(drawn_write(alloc, draws)?)?;
     }
     SharedWrites::of(alloc, writes)
@@ -146,6 +184,7 @@ fn write_at(
     ensures { OnOk result (IsRising order.now.labels (map label_of versions.new.versions)) }
 {
     let writes = drawn_writes(alloc, draws)?;
+    versions.ready_write_at(alloc, &writes)?;
     versions.write_at(alloc, order, label, &writes)?;
     plain.put(place, writes);
     Ok(())
@@ -161,6 +200,7 @@ fn set_base(
     ensures { versions.new.versions ≡ versions.old.versions }
 {
     let rows = plain.rows_before(alloc, place)?;
+    versions.ready_insert_base(alloc, &rows)?;
     versions.insert_base(alloc, &rows)?;
     plain.base = rows;
     Ok(())
@@ -231,21 +271,38 @@ fn scans_agree(
 }
 
 // Whether both say the same of a key, and of what begins with it.
+fn one_agrees(
+    alloc: Global,
+    order: &Order,
+    versions: &Versions,
+    rows: &Cells,
+    label: Option<u64>,
+    key: &Text,
+) -> Result<bool, NoMemory>
+    requires rising { IsRising order.now.labels (map label_of versions.now.versions) }
+    requires label { ForSome label (Contains order.now.labels) }
+{
+    let table = Text::of(alloc, "notes")?;
+    let scans = scans_agree(alloc, order, versions, rows, label, &table, key)?;
+    Ok(scans && gets_agree(order, versions, rows, label, &table, key))
+}
+
+// The same of a copy too.
 fn agree(
     alloc: Global,
     order: &Order,
     versions: &Versions,
     rows: &Cells,
     label: Option<u64>,
-    key: &str,
+    key: &Text,
 ) -> Result<bool, NoMemory>
     requires rising { IsRising order.now.labels (map label_of versions.now.versions) }
     requires label { ForSome label (Contains order.now.labels) }
 {
-    let table = Text::of(alloc, "notes")?;
-    let key = Text::of(alloc, key)?;
-    let scans = scans_agree(alloc, order, versions, rows, label, &table, &key)?;
-    Ok(scans && gets_agree(order, versions, rows, label, &table, &key))
+    let one = one_agrees(alloc, order, versions, rows, label, key)?;
+    let copy = versions.copied(alloc)?;
+    let copied = one_agrees(alloc, order, &copy, rows, label, key)?;
+    Ok(one && copied)
 }
 
 fn compared(
@@ -259,10 +316,11 @@ fn compared(
     requires rising { IsRising order.now.labels (map label_of versions.now.versions) }
     requires known { All (Contains order.now.labels) labels.now }
 {
+    let key = key_text(alloc, draws.sought())?;
     let place = draws.below(PLACES + 1);
     let rows = plain.rows_before(alloc, place)?;
     let label = label_at(labels, place);
-    agree(alloc, order, versions, &rows, label, drawn_key(draws))
+    agree(alloc, order, versions, &rows, label, &key)
 }
 
 fn changed(
@@ -290,12 +348,17 @@ fn turns(
     order: &Order,
     labels: &[u64],
     versions: &mut Versions,
+    many: bool,
 ) -> Result<u64, NoMemory>
     requires rising { IsRising order.now.labels (map label_of versions.old.versions) }
     requires known { All (Contains order.now.labels) labels.now }
 {
     let mut plain = Plain::new(alloc)?;
-    let mut draws = Draws { last: 1 };
+    let mut draws = Draws {
+        last: 1,
+        many,
+        near: 0,
+    };
     for turn in 0..TURNS {
         changed(alloc, order, labels, versions, &mut plain, &mut draws)?;
         if !compared(alloc, order, labels, versions, &plain, &mut draws)? {
@@ -305,17 +368,27 @@ fn turns(
     Ok(TURNS)
 }
 
-fn played(alloc: Global, order: &Order, labels: &Vec<u64>) -> Result<u64, NoMemory>
+fn played(alloc: Global, order: &Order, labels: &Vec<u64>, many: bool) -> Result<u64, NoMemory>
     requires { All (Contains order.now.labels) labels.now.items }
 {
     let mut versions = Versions::new(alloc);
-    turns(alloc, order, labels, &mut versions)
+    turns(alloc, order, labels, &mut versions, many)
+}
+
+// In how many turns both said the same.
+fn agreed(rt: &(impl Abort + AllocGlobal), many: bool) -> u64 {
+    let alloc = rt.alloc();
+    let mut order = Order::new(alloc);
+    let labels = labels_of(alloc, &mut order).expect(rt, "labels");
+    played(alloc, &order, &labels, many).expect(rt, "memory")
 }
 
 #[test]
 fn a_list_and_versions_side_by_side(rt: HostRuntime) {
-    let alloc = rt.alloc();
-    let mut order = Order::new(alloc);
-    let labels = labels_of(alloc, &mut order).expect(&rt, "labels");
-    assert!(rt; played(alloc, &order, &labels).expect(&rt, "memory") == TURNS);
+    assert!(rt; agreed(&rt, false) == TURNS);
+}
+
+#[test]
+fn the_same_with_many_keys(rt: HostRuntime) {
+    assert!(rt; agreed(&rt, true) == TURNS);
 }

@@ -1,31 +1,10 @@
-//! Tests of whole runs over memory: of one service, of services that call one another, and of which requests a repair
-//! runs again; of previews, rules, what they deny, and how services settle; of audits of what runs write down, and of worlds that
-//! are served.
+//! Tests of whole runs over memory, where the k-th read, write or load fails, or the k-th call of a door or start of a worker; of
+//! which files a run asks for; and of worlds that are served. What a run prints else is told by cases, which lie in `cases/`.
 #![tactic(auto)]
 
 #[cfg(test)]
-mod at_once;
-#[cfg(test)]
-mod audits;
-#[cfg(test)]
-mod calls;
-#[cfg(test)]
-mod late;
-#[cfg(test)]
-mod made;
+mod faults;
 #[cfg(test)]
 mod memory;
 #[cfg(test)]
-mod previews;
-#[cfg(test)]
-mod readers;
-#[cfg(test)]
-mod refusals;
-#[cfg(test)]
-mod ruled;
-#[cfg(test)]
 mod serving;
-#[cfg(test)]
-mod settling;
-#[cfg(test)]
-mod whole_runs;

@@ -2,95 +2,107 @@
 use aire_top::{Ended, aire, offline};
 use io_edge::{MemoryConnection, MemoryFile, MemoryFiles, MemorySink, MemorySource};
 use io_links::{MemoryDoor, MemoryLink, MemoryNetwork, MemorySpawner};
-use lang_core::{Bytes, NoMemory, Seq, Text};
+use lang_core::{Bytes, Seq, Text};
 use recorded_inputs::{ScriptClock, ScriptWords};
-use std::alloc::{AllocError, Global};
+use std::process::Abort;
+use std::str;
 use std::sync::Wait;
 use std::thread::Threads;
 use std::time::Clock;
 
-/// These texts, one behind the other.
-pub fn joined(alloc: Global, parts: &[&str]) -> Result<Vec<u8>, AllocError> {
-    let mut text = String::new(alloc);
-    for part in parts {
-        text.push_str(part)?;
+/// What a run came to: its status, and what was written.
+pub type Came = (u8, MemorySink);
+
+fn words_of(rt: &(impl Abort + AllocGlobal), words: &str) -> Vec<String> {
+    let mut owned = Vec::new(rt.alloc());
+    for word in words.split(' ') {
+        let word = String::from_str(rt.alloc(), word).expect(rt, "memory");
+        owned.push(word).ok().expect(rt, "memory");
     }
-    text.as_bytes().to_vec(alloc)
+    owned
 }
 
-/// A run with these words, files and input, in which the write of this number, counted from 1, fails, and none where that is 0:
-/// its status, and what was written.
-pub fn ran_over(
-    alloc: Global,
-    words: &[&str],
-    files: MemoryFiles,
-    input: MemorySource,
+fn bytes_of(rt: &(impl Abort + AllocGlobal), text: &str) -> Vec<u8> {
+    text.as_bytes().to_vec(rt.alloc()).expect(rt, "memory")
+}
+
+// A list of this one number.
+fn alone(rt: &(impl Abort + AllocGlobal), number: u64) -> Vec<u64> {
+    vec![in rt.alloc(); number].expect(rt, "memory")
+}
+
+fn file_of(rt: &(impl Abort + AllocGlobal), path: &str, text: &str) -> MemoryFile {
+    let path = Text::of(rt.alloc(), path).expect(rt, "memory");
+    MemoryFile {
+        path,
+        bytes: Bytes::from(bytes_of(rt, text)),
+    }
+}
+
+/// The files `world` and `script`, of which the load of this number, counted from 1, fails, and none where that is 0.
+pub fn two_files(
+    rt: &(impl Abort + AllocGlobal),
+    world: &str,
+    script: &str,
+    fails: u64,
+) -> MemoryFiles {
+    let mut files = Seq::new(rt.alloc());
+    files.push(file_of(rt, "world", world)).expect(rt, "memory");
+    files
+        .push(file_of(rt, "script", script))
+        .expect(rt, "memory");
+    MemoryFiles::new(files, alone(rt, fails))
+}
+
+/// An input of this text, in which the read of this number fails.
+pub fn input_of(rt: &(impl Abort + AllocGlobal), text: &str, fails: u64) -> MemorySource {
+    MemorySource::new(bytes_of(rt, text), alone(rt, fails))
+}
+
+/// A run with these words, files and input, in which the write of this number fails.
+pub fn ran(
+    rt: &(impl Abort + AllocGlobal),
+    words: &str,
+    files: &mut MemoryFiles,
+    input: &mut MemorySource,
     write_fails: u64,
-) -> Result<(u8, MemorySink), AllocError> {
-    let mut owned = Vec::new(alloc);
-    for word in words {
-        owned.push(String::from_str(alloc, word)?)?;
-    }
-    let (mut files, mut input) = (files, input);
-    let mut out = MemorySink::new(alloc, vec![in alloc; write_fails]?);
-    let ended: Ended<MemoryConnection> = offline(alloc, &owned, &mut files, &mut input, &mut out);
-    Ok((ended.status, out))
+) -> Came {
+    let words = words_of(rt, words);
+    let mut out = MemorySink::new(rt.alloc(), alone(rt, write_fails));
+    let ended: Ended<MemoryConnection> = offline(rt.alloc(), &words, files, input, &mut out);
+    (ended.status, out)
 }
 
-/// A command with these words and files, over this network and without input, where the call of the door, the start of a thread and
-/// the write with these numbers, counted from 1, fail, and none where that is 0: its status, and what was written.
-pub fn commanded<R: Threads + Wait + Clock + Sync>(
+/// A command with these words over this network, without files and input, in which the call of the door, the start of a thread and
+/// the write with these numbers fail.
+pub fn commanded<R: Abort + AllocGlobal + Threads + Wait + Clock + Sync>(
     rt: &R,
-    alloc: Global,
     network: &MemoryNetwork,
-    words: &[&str],
-    files: MemoryFiles,
-    fails: (u64, u64, u64),
-) -> Result<(u8, MemorySink), AllocError> {
-    let mut owned = Vec::new(alloc);
-    for word in words {
-        owned.push(String::from_str(alloc, word)?)?;
-    }
-    let mut files = files;
-    let mut out = MemorySink::new(alloc, vec![in alloc; fails.2]?);
+    words: &str,
+    door_fails: u64,
+    start_fails: u64,
+    write_fails: u64,
+) -> Came {
+    let words = words_of(rt, words);
+    let mut out = MemorySink::new(rt.alloc(), alone(rt, write_fails));
     let ended = aire(
         rt,
-        alloc,
-        &owned,
-        &mut files,
-        &mut MemorySource::new(Vec::new(alloc), Vec::new(alloc)),
+        rt.alloc(),
+        &words,
+        &mut MemoryFiles::new(Seq::new(rt.alloc()), Vec::new(rt.alloc())),
+        &mut MemorySource::new(Vec::new(rt.alloc()), Vec::new(rt.alloc())),
         &mut out,
-        &mut MemoryDoor::new(rt, alloc, network, vec![in alloc; fails.0]?),
-        &mut MemoryLink::new(rt, alloc, network),
+        &mut MemoryDoor::new(rt, rt.alloc(), network, alone(rt, door_fails)),
+        &mut MemoryLink::new(rt, rt.alloc(), network),
         &mut ScriptClock::new(),
         &mut ScriptWords::new(),
-        &mut MemorySpawner::new(vec![in alloc; fails.1]?),
+        &mut MemorySpawner::new(alone(rt, start_fails)),
     );
-    Ok((ended.status, out))
+    (ended.status, out)
 }
 
-/// A run with these words and a script as its input, without files, in which the read and the write of these numbers fail.
-pub fn ran(
-    alloc: Global,
-    words: &[&str],
-    script: &[&str],
-    read_fails: u64,
-    write_fails: u64,
-) -> Result<(u8, MemorySink), AllocError> {
-    let bytes = joined(alloc, script)?;
-    let input = MemorySource::new(bytes, vec![in alloc; read_fails]?);
-    let files = MemoryFiles::new(Seq::new(alloc), Vec::new(alloc));
-    ran_over(alloc, words, files, input, write_fails)
-}
-
-/// A run of a script in the world of this file.
-pub fn ran_in(alloc: Global, world: &str, script: &str) -> Result<(u8, MemorySink), NoMemory> {
-    let mut files = Seq::new(alloc);
-    files.push(MemoryFile {
-        path: Text::of(alloc, "world")?,
-        bytes: Bytes::of(alloc, world.as_bytes())?,
-    })?;
-    let files = MemoryFiles::new(files, Vec::new(alloc));
-    let input = MemorySource::new(script.as_bytes().to_vec(alloc)?, Vec::new(alloc));
-    Ok(ran_over(alloc, &["run", "world", "-"], files, input, 0)?)
+/// That it came to this.
+pub fn is_told(rt: &impl Abort, came: &Came, status: u8, told: &str) {
+    assert_eq!(rt; came.0, status);
+    assert_eq!(rt; str::from_utf8(came.1.bytes()).expect(rt, "text"), told);
 }

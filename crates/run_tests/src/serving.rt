@@ -1,10 +1,8 @@
 // Worlds that are served over a network in memory, and what that comes to.
-use crate::memory::commanded;
+use crate::memory::{commanded, is_told};
 use aire_top::{AnnouncingDoor, TellingDoor};
-use io_edge::{MemoryFile, MemoryFiles, MemorySink};
+use io_edge::MemorySink;
 use io_links::{Door, MemoryDoor, MemoryNetwork};
-use lang_core::{Bytes, NoMemory, Seq, Text};
-use std::alloc::Global;
 use std::process::Abort;
 use std::str;
 use std::sync::Wait;
@@ -22,66 +20,27 @@ const STOP: &str = "POST /aire/console/stop HTTP/1.1\r\nAire-Dest: notes\r\nAire
     Aire-Seal: ff834ed3278cea576796dbbee5b99928a01f2351cb06d30a7b588f947906a88f\r\n\
     Content-Length: 2\r\n\r\n{}";
 
-fn network(alloc: Global) -> MemoryNetwork {
-    MemoryNetwork::new(alloc, Duration::from_secs(20), Vec::new(alloc))
+fn network(rt: &impl AllocGlobal) -> MemoryNetwork {
+    MemoryNetwork::new(rt.alloc(), Duration::from_secs(20), Vec::new(rt.alloc()))
 }
 
-// One file of this path and these bytes.
-fn one_file(alloc: Global, path: &str, bytes: &str) -> Result<MemoryFiles, NoMemory> {
-    let mut files = Seq::new(alloc);
-    files.push(MemoryFile {
-        path: Text::of(alloc, path)?,
-        bytes: Bytes::of(alloc, bytes.as_bytes())?,
-    })?;
-    Ok(MemoryFiles::new(files, Vec::new(alloc)))
-}
-
-fn is_told<R: Abort>(rt: &R, came: &(u8, MemorySink), status: u8, told: &str) {
-    assert_eq!(rt; came.0, status);
-    assert_eq!(rt; str::from_utf8(came.1.bytes()).expect(rt, "text"), told);
-}
-
-// That serving with these words, over one ill world file, ends so, where these calls of the outside fail.
+// That serving `@shops` ends so where these calls of the outside fail.
 fn ends<R: Abort + AllocGlobal + Threads + Wait + Clock + Sync>(
     rt: &R,
-    words: &[&str],
-    fails: (u64, u64, u64),
+    door_fails: u64,
+    start_fails: u64,
     status: u8,
     told: &str,
 ) {
-    let alloc = rt.alloc();
-    let files = one_file(alloc, "ill.json", "{").expect(rt, "memory");
-    let came = commanded(rt, alloc, &network(alloc), words, files, fails).expect(rt, "memory");
+    let network = network(rt);
+    let came = commanded(rt, &network, "serve @shops", door_fails, start_fails, 0);
     is_told(rt, &came, status, told);
 }
 
 #[test]
 fn serves_nothing(rt: HostRuntime) {
-    ends(&rt, &["serve"], (0, 0, 0), 2, "usage: word 1\n");
-    ends(&rt, &["serve", "-x"], (0, 0, 0), 2, "usage: word 1\n");
-    ends(
-        &rt,
-        &["serve", "@notes", "again"],
-        (0, 0, 0),
-        2,
-        "usage: word 2\n",
-    );
-    ends(
-        &rt,
-        &["serve", "ill.json"],
-        (0, 0, 0),
-        3,
-        "world refused 1\n",
-    );
-    ends(&rt, &["serve", "none.json"], (0, 0, 0), 4, "read fault\n");
-    ends(&rt, &["serve", "@shops"], (2, 0, 0), 7, "door fault\n");
-    ends(
-        &rt,
-        &["serve", "@shops"],
-        (0, 3, 0),
-        8,
-        "worker not started\n",
-    );
+    ends(&rt, 2, 0, 7, "door fault\n");
+    ends(&rt, 0, 3, 8, "worker not started\n");
 }
 
 // What a door told so far.
@@ -96,7 +55,7 @@ fn has_told<R: Abort, D: Door + Drop>(rt: &R, doors: &TellingDoor<D, MemorySink>
 #[test]
 fn tells_who_listens_where(rt: HostRuntime) {
     let alloc = rt.alloc();
-    let network = network(alloc);
+    let network = network(&rt);
     let fails = vec![in alloc; 3u64].expect(&rt, "memory");
     let inner = MemoryDoor::new(&rt, alloc, &network, fails);
     let mut doors = TellingDoor::new(alloc, inner, MemorySink::new(alloc, Vec::new(alloc)));
@@ -158,16 +117,13 @@ fn visited<R: Abort + AllocGlobal + Threads + Wait + Clock + Sync>(
     status: u8,
     told: &str,
 ) {
-    let alloc = rt.alloc();
-    let network = network(alloc);
-    let files = MemoryFiles::new(Seq::new(alloc), Vec::new(alloc));
-    let fails = (0, 0, write_fails);
+    let network = network(rt);
     let (came, ()) = thread::join(
         rt,
-        || commanded(rt, alloc, &network, &["serve", "@notes"], files, fails),
+        || commanded(rt, &network, "serve @notes", 0, 0, write_fails),
         || visit(rt, &network),
     );
-    is_told(rt, &came.expect(rt, "memory"), status, told);
+    is_told(rt, &came, status, told);
 }
 
 // Two requests, each with its receipt, and then an operator's; and what was served, of which nothing can be written.

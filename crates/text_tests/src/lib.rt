@@ -1,11 +1,12 @@
-//! Tests of printed lines, of which posts are held, of numbers, names and ids, and of the lines that are printed of what happens in a world.
+//! Tests of texts that no command shows: why a name is refused, lines of what no script can bring about, and the fields of world files
+//! that a run of a script doesn't use. All else that is read and printed is told by cases, which lie in `cases/`.
 #![tactic(auto)]
 
 #[cfg(test)]
-mod happenings;
+mod given;
 #[cfg(test)]
-mod held;
+mod names;
 #[cfg(test)]
-mod ids;
+mod printed;
 #[cfg(test)]
-mod lines;
+mod worlds;

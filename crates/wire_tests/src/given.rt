@@ -1,46 +1,41 @@
-// Messages of some length, below a first line of a head.
-use std::alloc::Global;
-use std::test::Fail;
+// Assertions, and values that tests are about.
+use io_edge::MemorySource;
+use lang_core::{Name, Text};
+use std::process::Abort;
 
-fn push_often(text: &mut Vec<u8>, byte: u8, count: usize) -> Result<(), Fail> {
-    for _ in 0..count {
-        text.push(byte)?;
-    }
-    Ok(())
+/// This is so, in a case that has this name.
+pub fn holds(rt: &impl Abort, case: &str, is_so: bool) {
+    assert!(rt; is_so, "{case}");
 }
 
-/// So many bytes, all the same.
-pub fn filled(alloc: Global, byte: u8, count: usize) -> Result<Vec<u8>, Fail> {
-    let mut text = Vec::new(alloc);
-    push_often(&mut text, byte, count)?;
-    Ok(text)
+pub fn text(rt: &(impl Abort + AllocGlobal), characters: &str) -> Text {
+    Text::of(rt.alloc(), characters).expect(rt, "memory")
 }
 
-/// A head with so many bytes in the value of its one field; the rest has 8 bytes and the line.
-pub fn with_value(alloc: Global, line: &str, bytes: usize) -> Result<Vec<u8>, Fail> {
-    let mut head = line.as_bytes().to_vec(alloc)?;
-    head.extend_from_slice(b"\r\nA:")?;
-    push_often(&mut head, b'x', bytes)?;
-    head.extend_from_slice(b"\r\n\r\n")?;
-    Ok(head)
+pub fn name(rt: &(impl Abort + AllocGlobal), characters: &str) -> Name {
+    Name::new(text(rt, characters)).ok().expect(rt, "a name")
 }
 
-/// A head with so many fields.
-pub fn with_fields(alloc: Global, line: &str, fields: usize) -> Result<Vec<u8>, Fail> {
-    let mut head = line.as_bytes().to_vec(alloc)?;
-    for _ in 0..fields {
-        head.extend_from_slice(b"\r\nA: x")?;
-    }
-    head.extend_from_slice(b"\r\n\r\n")?;
-    Ok(head)
+/// The call that fails; none where it is 0.
+pub fn failing(rt: &(impl Abort + AllocGlobal), call: u64) -> Vec<u64> {
+    vec![in rt.alloc(); call].expect(rt, "memory")
 }
 
-/// A head that announces the longest body, and so many bytes behind it; the rest has 27 bytes and the line.
-pub fn with_body(alloc: Global, line: &str, bytes: usize) -> Result<Vec<u8>, Fail> {
-    let mut message = line.as_bytes().to_vec(alloc)?;
-    message.extend_from_slice(b"\r\nContent-Length: 65536\r\n\r\n")?;
-    push_often(&mut message, b'b', bytes)?;
-    Ok(message)
+/// A source of bytes, read in pieces of two, of whose reads one fails.
+pub fn source(rt: &(impl Abort + AllocGlobal), bytes: &[u8], fails: u64) -> MemorySource {
+    let bytes = bytes.to_vec(rt.alloc()).expect(rt, "memory");
+    MemorySource::in_pieces(bytes, 2, failing(rt, fails))
+}
+
+/// So many letters.
+pub fn letters(rt: &(impl Abort + AllocGlobal), count: usize) -> String {
+    "x".repeat(rt.alloc(), count).expect(rt, "memory")
+}
+
+/// A message with so many letters in the value of its one field; the rest has 8 bytes and the line.
+pub fn with_value(rt: &(impl Abort + AllocGlobal), line: &str, count: usize) -> String {
+    let value = letters(rt, count);
+    format!(in rt.alloc(); "{line}\r\nA:{value}\r\n\r\n").expect(rt, "memory")
 }
 
 /// The first bytes, so many where there are as many.

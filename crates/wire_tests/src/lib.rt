@@ -1,16 +1,18 @@
-//! Tests of messages as bytes: seals against published vectors, heads and bodies with their refusals, what is written; and
-//! the header fields of messages between services.
+//! Tests of messages as bytes where no command reaches: sources and sinks that fail, what is left behind a message, replies that a
+//! peer would have to send, and words of refusals for want of memory.
 #![tactic(auto)]
 
 #[cfg(test)]
-mod fields;
-#[cfg(test)]
 mod given;
+#[cfg(test)]
+mod limits;
 #[cfg(test)]
 mod reading;
 #[cfg(test)]
-mod responses;
+mod replies;
 #[cfg(test)]
-mod seals;
+mod sending;
+#[cfg(test)]
+mod words;
 #[cfg(test)]
 mod writing;

@@ -1,386 +1,189 @@
-// What each request's bytes are read as, worked by hand: the request and what is left behind it, or the refusal.
-use crate::given::{filled, front, with_body, with_fields, with_value};
-use http_front::{FrontRefused, read_request};
-use io_edge::{MemorySource, Source};
-use lang_tree::Method;
-use std::alloc::Global;
-use std::test::Fail;
+// Where the reading of a request or a response ends: what was read, what it is refused for, and what is left in the source.
+use crate::given::{front, holds, letters, source, with_value};
+use http_front::{FrontRefused, read_request, read_response};
+use io_edge::Source;
+use std::process::Abort;
 
-// Whether the bytes are refused so, and these are left.
-fn refused(alloc: Global, bytes: &[u8], why: FrontRefused, left: &[u8]) -> bool {
-    let Ok(bytes) = bytes.to_vec(alloc) else {
-        return false;
-    };
-    let mut source = MemorySource::new(bytes, Vec::new(alloc));
-    match read_request(alloc, &mut source) {
-        Ok(_) => false,
-        Err(found) => found == why && source.left() == left,
-    }
+// A request with this body is read, and this is left.
+fn gives(rt: &(impl Abort + AllocGlobal), bytes: &str, body: &str, left: &str) {
+    let mut source = source(rt, bytes.as_bytes(), 0);
+    let request = read_request(rt.alloc(), &mut source).ok().expect(rt, bytes);
+    holds(rt, bytes, request.body.as_str() == body);
+    holds(rt, bytes, source.left() == left.as_bytes());
 }
 
-// Whether the bytes, which come in pieces of so many, are a request of this method, path and body, and these are left.
-fn read_in_pieces(
-    alloc: Global,
-    most: usize,
+// A request is refused so where this read fails, and so many bytes are left.
+fn refuses(
+    rt: &(impl Abort + AllocGlobal),
     bytes: &[u8],
-    method: Method,
-    path: &str,
+    fails: u64,
+    why: FrontRefused,
+    left: usize,
+) {
+    let mut source = source(rt, bytes, fails);
+    let refused = read_request(rt.alloc(), &mut source).err();
+    holds(rt, "why", refused == Some(why));
+    holds(rt, "left", source.left().len() == left);
+    holds(
+        rt,
+        "faults",
+        source.faults() == if fails > 0 { 1 } else { 0 },
+    );
+}
+
+// A response with this status and this body is read, and so many bytes are left.
+fn gives_response(
+    rt: &(impl Abort + AllocGlobal),
+    bytes: &str,
+    status: u16,
     body: &str,
-    left: &[u8],
-) -> bool {
-    let Ok(bytes) = bytes.to_vec(alloc) else {
-        return false;
-    };
-    let mut source = MemorySource::in_pieces(bytes, most.max(1), Vec::new(alloc));
-    match read_request(alloc, &mut source) {
-        Ok(request) => {
-            request.method == method
-                && request.path.as_str() == path
-                && request.body.as_str() == body
-                && source.left() == left
-        }
-        Err(_) => false,
-    }
+    left: usize,
+) {
+    let mut source = source(rt, bytes.as_bytes(), 0);
+    let response = read_response(rt.alloc(), &mut source)
+        .ok()
+        .expect(rt, bytes);
+    holds(rt, bytes, response.status == status);
+    holds(rt, bytes, response.body.as_str() == body);
+    holds(rt, bytes, source.left().len() == left);
 }
 
-fn is_get(alloc: Global, text: &str) -> bool {
-    read_in_pieces(alloc, 7, text.as_bytes(), Method::Get, "/a", "", b"")
+// A response is refused so where this read fails, and so many bytes are left.
+fn refuses_response(
+    rt: &(impl Abort + AllocGlobal),
+    bytes: &[u8],
+    fails: u64,
+    why: FrontRefused,
+    left: usize,
+) {
+    let mut source = source(rt, bytes, fails);
+    let refused = read_response(rt.alloc(), &mut source).err();
+    holds(rt, "why", refused == Some(why));
+    holds(rt, "left", source.left().len() == left);
+    holds(
+        rt,
+        "faults",
+        source.faults() == if fails > 0 { 1 } else { 0 },
+    );
 }
 
-fn is_put(alloc: Global, text: &str, body: &str, left: &str) -> bool {
-    read_in_pieces(
-        alloc,
-        1,
-        text.as_bytes(),
-        Method::Put,
-        "/a",
-        body,
-        left.as_bytes(),
-    ) && read_in_pieces(
-        alloc,
-        4096,
-        text.as_bytes(),
-        Method::Put,
-        "/a",
-        body,
-        left.as_bytes(),
-    )
-}
-
+// Nothing behind a body is taken, nor behind a head that is none.
 #[test]
-fn heads_that_are_read(rt: HostRuntime) {
-    let alloc = rt.alloc();
-    for text in [
-        "GET /a HTTP/1.1\r\n\r\n",
-        "GET /a HTTP/1.0\r\n\r\n",
-        "GET /a HTTP/1.1\n\n",
-        "GET /a HTTP/1.1\r\n\n",
-        "GET /a HTTP/1.1\n\r\n",
-        "\r\nGET /a HTTP/1.1\r\n\r\n",
-        "\n\nGET /a HTTP/1.1\n\n",
-        "\n\r\n\r\n\nGET /a HTTP/1.1\r\nHost: x\r\n\r\n",
-        "GET /a HTTP/1.1\r\nHost: x\r\nHost: y\r\n\r\n",
-        "GET /a HTTP/1.1\r\nA:\r\nB: \t \r\n\r\n",
-        "GET /a HTTP/1.1\r\nContent-Length: 0\r\nCONTENT-LENGTH:0\r\n\r\n",
-        "GET /a HTTP/1.1\r\nExpect: 100-continue\r\n\r\n",
-    ] {
-        assert!(rt; is_get(alloc, text), "at {text}");
-    }
+fn what_is_left_of_a_request(rt: HostRuntime) {
+    gives(
+        &rt,
+        "PUT /a HTTP/1.1\r\nContent-Length: 3\r\n\r\nabcdef",
+        "abc",
+        "def",
+    );
+    gives(&rt, "PUT /a HTTP/1.1\r\n\r\nabc", "", "abc");
+    let none = b"GET a HTTP/1.1\r\n\r\nrest".as_slice();
+    refuses(&rt, none, 0, FrontRefused::BadHead, 4);
+    let no_text = b"PUT /a HTTP/1.1\r\nContent-Length: 1\r\n\r\n\xc3\xa9".as_slice();
+    refuses(&rt, no_text, 0, FrontRefused::NotText, 1);
+    let longer = with_value(&rt, "GET /a HTTP/1.1", 16_362);
+    let bytes = longer.as_bytes();
+    refuses(&rt, bytes, 0, FrontRefused::HeadTooLong, 1);
+    refuses(&rt, front(bytes, 16_383), 0, FrontRefused::Cut(16_383), 0);
 }
 
-#[test]
-fn heads_that_are_none(rt: HostRuntime) {
-    let alloc = rt.alloc();
-    for text in [
-        "GET a HTTP/1.1\r\n\r\n",
-        "GET * HTTP/1.1\r\n\r\n",
-        "GET http://x/a HTTP/1.1\r\n\r\n",
-        "GET /\u{e9} HTTP/1.1\r\n\r\n",
-        "GET /a\u{7f} HTTP/1.1\r\n\r\n",
-        "GET  /a HTTP/1.1\r\n\r\n",
-        "GET /a  HTTP/1.1\r\n\r\n",
-        "GET /a HTTP/1.1 \r\n\r\n",
-        "GET /a HTTP/1.2\r\n\r\n",
-        "GET /a HTTP/2.0\r\n\r\n",
-        "GET /a http/1.1\r\n\r\n",
-        "GET /a\r\n\r\n",
-        " GET /a HTTP/1.1\r\n\r\n",
-        "GE:T /a HTTP/1.1\r\n\r\n",
-        "HEAD a HTTP/1.1\r\n\r\n",
-        "HTTP/1.1 200 OK\r\n\r\n",
-        "GET /a HTTP/1.1\r\nHost x\r\n\r\n",
-        "GET /a HTTP/1.1\r\n: x\r\n\r\n",
-        "GET /a HTTP/1.1\r\nA : x\r\n\r\n",
-        "GET /a HTTP/1.1\r\n A: x\r\n\r\n",
-        "GET /a HTTP/1.1\r\nA: x\r\n folded\r\n\r\n",
-        "GET /a HTTP/1.1\r\nA: \u{1}\r\n\r\n",
-        "GET /a HTTP/1.1\rA: x\r\n\r\n",
-        "Transfer-Encoding: chunked\r\n\r\n",
-    ] {
-        assert!(rt;
-            refused(alloc, text.as_bytes(), FrontRefused::BadHead, b""),
-            "at {text}"
-        );
-    }
-    assert!(rt;
-        refused(
-            alloc,
-            b"GET a HTTP/1.1\r\n\r\nrest",
-            FrontRefused::BadHead,
-            b"rest"
-        )
-    );
+// The read with this number fails of a request and of a response whose heads have 38 bytes, and so many are left.
+fn fail(rt: &(impl Abort + AllocGlobal), read: u64, left: usize) {
+    let why = FrontRefused::ReadFault;
+    let request = b"PUT /a HTTP/1.1\r\nContent-Length: 5\r\n\r\nhello".as_slice();
+    refuses(rt, request, read, why, left);
+    let response = b"HTTP/1.1 200 OK\r\nContent-Length: 5\r\n\r\nhello".as_slice();
+    refuses_response(rt, response, read, why, left);
 }
 
+// Each byte of a head is a read of its own; the body comes in pieces of two.
 #[test]
-fn methods_and_codings(rt: HostRuntime) {
-    let alloc = rt.alloc();
-    for text in [
-        "HEAD /a HTTP/1.1\r\n\r\n",
-        "get /a HTTP/1.1\r\n\r\n",
-        "GETS /a HTTP/1.1\r\n\r\n",
-        "GE /a HTTP/1.1\r\n\r\n",
-        "PATCH /a HTTP/1.1\r\nTransfer-Encoding: chunked\r\nContent-Length: x\r\n\r\n",
-        "OPTIONS /a HTTP/1.1\r\nContent-Length: 65537\r\n\r\n",
-    ] {
-        assert!(rt;
-            refused(alloc, text.as_bytes(), FrontRefused::Method, b""),
-            "at {text}"
-        );
-    }
-    for text in [
-        "PUT /a HTTP/1.1\r\nTransfer-Encoding: chunked\r\n\r\n",
-        "PUT /a HTTP/1.1\r\ntransfer-encoding:\r\n\r\n",
-        "PUT /a HTTP/1.1\r\nContent-Length: 3\r\nTRANSFER-ENCODING: identity\r\n\r\n",
-        "PUT /a HTTP/1.1\r\nContent-Length: x\r\nTransfer-Encoding: gzip\r\n\r\n",
-    ] {
-        assert!(rt;
-            refused(alloc, text.as_bytes(), FrontRefused::Coding, b""),
-            "at {text}"
-        );
-    }
-}
-
-#[test]
-fn lengths(rt: HostRuntime) {
-    let alloc = rt.alloc();
-    for text in [
-        "PUT /a HTTP/1.1\r\nContent-Length:\r\n\r\n",
-        "PUT /a HTTP/1.1\r\nContent-Length: x\r\n\r\n",
-        "PUT /a HTTP/1.1\r\nContent-Length: -1\r\n\r\n",
-        "PUT /a HTTP/1.1\r\nContent-Length: +1\r\n\r\n",
-        "PUT /a HTTP/1.1\r\nContent-Length: 1 2\r\n\r\n",
-        "PUT /a HTTP/1.1\r\nContent-Length: 3, 3\r\n\r\n",
-        "PUT /a HTTP/1.1\r\nContent-Length: 0x1\r\n\r\n",
-        "PUT /a HTTP/1.1\r\nContent-Length: 00000000000000000003\r\n\r\n",
-        "PUT /a HTTP/1.1\r\nContent-Length: 3\r\nContent-Length: 4\r\n\r\n",
-        "PUT /a HTTP/1.1\r\nContent-Length: 3\r\ncontent-length: 03\r\n\r\n",
-        "PUT /a HTTP/1.1\r\nContent-Length: 65537\r\nA: x\r\nContent-Length: 3\r\n\r\n",
-        "PUT /a HTTP/1.1\r\nContent-Length: 3\r\nContent-Length: 3\r\nContent-Length:\r\n\r\n",
-    ] {
-        assert!(rt;
-            refused(alloc, text.as_bytes(), FrontRefused::BadLength, b""),
-            "at {text}"
-        );
-    }
-    for text in [
-        "PUT /a HTTP/1.1\r\nContent-Length: 65537\r\n\r\n",
-        "PUT /a HTTP/1.1\r\nContent-Length: 9999999999999999999\r\n\r\n",
-        "PUT /a HTTP/1.1\r\nContent-Length: 0000000000000065537\r\n\r\n",
-    ] {
-        assert!(rt;
-            refused(alloc, text.as_bytes(), FrontRefused::BodyTooLong, b""),
-            "at {text}"
-        );
-    }
-    assert!(rt;
-        is_put(
-            alloc,
-            "PUT /a HTTP/1.1\r\nContent-Length: 3\r\n\r\nabcdef",
-            "abc",
-            "def"
-        )
-    );
-    assert!(rt;
-        is_put(
-            alloc,
-            "PUT /a HTTP/1.1\r\ncontent-length: \t3 \r\nContent-Length: 3\r\n\r\nabc",
-            "abc",
-            ""
-        )
-    );
-    assert!(rt;
-        is_put(
-            alloc,
-            "PUT /a HTTP/1.1\r\nContent-Length: 0000000000000000003\r\n\r\nabc",
-            "abc",
-            ""
-        )
-    );
-    assert!(rt; is_put(alloc, "PUT /a HTTP/1.1\r\n\r\nabc", "", "abc"));
-}
-
-#[test]
-fn bodies_that_are_no_text(rt: HostRuntime) {
-    let alloc = rt.alloc();
-    assert!(rt;
-        refused(
-            alloc,
-            b"PUT /a HTTP/1.1\r\nContent-Length: 1\r\n\r\n\xffx",
-            FrontRefused::NotText,
-            b"x"
-        )
-    );
-    assert!(rt;
-        refused(
-            alloc,
-            b"PUT /a HTTP/1.1\r\nContent-Length: 1\r\n\r\n\xc3\xa9",
-            FrontRefused::NotText,
-            b"\xa9"
-        )
-    );
-    assert!(rt;
-        refused(
-            alloc,
-            b"PUT /a HTTP/1.1\r\nContent-Length: 2\r\n\r\n\xc0\x80",
-            FrontRefused::NotText,
-            b""
-        )
-    );
-    assert!(rt;
-        refused(
-            alloc,
-            b"PUT /a HTTP/1.1\r\nContent-Length: 3\r\n\r\n\xed\xa0\x80",
-            FrontRefused::NotText,
-            b""
-        )
-    );
-    assert!(rt;
-        refused(
-            alloc,
-            b"PUT /a HTTP/1.1\r\nContent-Length: 3\r\n\r\n\xff",
-            FrontRefused::Cut(39),
-            b""
-        )
-    );
-    assert!(rt;
-        is_put(
-            alloc,
-            "PUT /a HTTP/1.1\r\nContent-Length: 2\r\n\r\n\u{e9}z",
-            "\u{e9}",
-            "z"
-        )
-    );
+fn reads_that_fail(rt: HostRuntime) {
+    fail(&rt, 1, 43);
+    fail(&rt, 38, 6);
+    fail(&rt, 39, 5);
+    fail(&rt, 41, 1);
 }
 
 // A source that ends after any number of bytes below the whole.
 #[test]
 fn cut_at_each_byte(rt: HostRuntime) {
-    let alloc = rt.alloc();
-    let whole = b"\r\nPUT /n/a HTTP/1.1\r\nHost: 127.0.0.1:8101\r\nContent-Length: 5\r\n\r\nhello";
-    for cut in 0..whole.len() {
-        assert!(rt;
-            refused(alloc, &whole[..cut], FrontRefused::Cut(cut as u64), b""),
-            "at {cut}"
-        );
+    let request = b"\r\nPUT /n/a HTTP/1.1\r\nContent-Length: 5\r\n\r\nhello";
+    for cut in 0..request.len() {
+        refuses(&rt, &request[..cut], 0, FrontRefused::Cut(cut as u64), 0);
     }
-    assert!(rt;
-        read_in_pieces(
-            alloc,
-            3,
-            whole.as_slice(),
-            Method::Put,
-            "/n/a",
-            "hello",
-            b""
-        )
-    );
-}
-
-const GET: &str = "GET /a HTTP/1.1";
-
-const PUT: &str = "PUT /a HTTP/1.1";
-
-// The start of the first head is 19 bytes, and its end 4.
-#[test]
-fn long_heads(rt: HostRuntime) -> Result<(), Fail> {
-    let alloc = rt.alloc();
-    let longest = with_value(alloc, GET, 16361)?;
-    assert!(rt; read_in_pieces(alloc, 4096, &longest, Method::Get, "/a", "", b""));
-    let longer = with_value(alloc, GET, 16362)?;
-    assert!(rt; refused(alloc, &longer, FrontRefused::HeadTooLong, b"\n"));
-    assert!(rt; refused(alloc, front(&longer, 16384), FrontRefused::HeadTooLong, b""));
-    assert!(rt; refused(alloc, front(&longer, 16383), FrontRefused::Cut(16383), b""));
-    let blank = filled(alloc, b'\n', 16385)?;
-    assert!(rt; refused(alloc, &blank, FrontRefused::HeadTooLong, b"\n"));
-    assert!(rt; refused(alloc, front(&blank, 16383), FrontRefused::Cut(16383), b""));
-    Ok(())
-}
-
-fn with_path(alloc: Global, bytes: usize) -> Result<Vec<u8>, Fail> {
-    let mut head = b"GET /".to_vec(alloc)?;
-    for _ in 0..bytes {
-        head.push(b'~')?;
-    }
-    head.extend_from_slice(b" HTTP/1.1\r\n\r\n")?;
-    Ok(head)
-}
-
-fn is_read(alloc: Global, bytes: &[u8], left: &[u8]) -> bool {
-    let Ok(bytes) = bytes.to_vec(alloc) else {
-        return false;
-    };
-    let mut source = MemorySource::new(bytes, Vec::new(alloc));
-    read_request(alloc, &mut source).is_ok() && source.left() == left
-}
-
-#[test]
-fn limits(rt: HostRuntime) -> Result<(), Fail> {
-    let alloc = rt.alloc();
-    assert!(rt; is_read(alloc, &with_fields(alloc, GET, 64)?, b""));
-    assert!(rt;
-        refused(
-            alloc,
-            &with_fields(alloc, GET, 65)?,
-            FrontRefused::BadHead,
-            b""
-        )
-    );
-    assert!(rt; is_read(alloc, &with_path(alloc, 1023)?, b""));
-    assert!(rt; refused(alloc, &with_path(alloc, 1024)?, FrontRefused::BadHead, b""));
-    assert!(rt; is_read(alloc, &with_body(alloc, PUT, 65537)?, b"b"));
-    assert!(rt;
-        refused(
-            alloc,
-            &with_body(alloc, PUT, 65535)?,
-            FrontRefused::Cut(65577),
-            b""
-        )
-    );
-    Ok(())
-}
-
-// Whether the read with this number fails, and so many of the 43 bytes are left then.
-fn fails_at(alloc: Global, call: u64, left: usize) -> bool {
-    let text = b"PUT /a HTTP/1.1\r\nContent-Length: 5\r\n\r\nhello";
-    let (Ok(bytes), Ok(failing)) = (text.to_vec(alloc), vec![in alloc; call]) else {
-        return false;
-    };
-    let mut source = MemorySource::in_pieces(bytes, 2, failing);
-    match read_request(alloc, &mut source) {
-        Ok(_) => false,
-        Err(why) => {
-            why == FrontRefused::ReadFault && source.faults() == 1 && source.left().len() == left
-        }
+    let response = b"\r\nHTTP/1.1 200 OK\r\nContent-Length: 5\r\n\r\nhello";
+    for cut in 0..response.len() {
+        refuses_response(&rt, &response[..cut], 0, FrontRefused::Cut(cut as u64), 0);
     }
 }
 
-// The head has 38 bytes, each a read of its own; the body comes in pieces of two.
 #[test]
-fn reads_that_fail(rt: HostRuntime) {
-    let alloc = rt.alloc();
-    assert!(rt; fails_at(alloc, 1, 43));
-    assert!(rt; fails_at(alloc, 38, 6));
-    assert!(rt; fails_at(alloc, 39, 5));
-    assert!(rt; fails_at(alloc, 41, 1));
+fn responses(rt: HostRuntime) {
+    gives_response(
+        &rt,
+        "HTTP/1.1 404 Not Found\r\nAire-Request-Id: notes/1\r\nContent-Type: text/plain; charset=utf-8\r\nContent-Length: 0\r\nConnection: close\r\n\r\n",
+        404,
+        "",
+        0,
+    );
+    gives_response(&rt, "HTTP/1.0 200\r\n\r\nabc", 200, "", 3);
+    gives_response(
+        &rt,
+        "HTTP/1.1 999 \r\ncontent-length:3\n\nabc",
+        999,
+        "abc",
+        0,
+    );
+    for line in [
+        "HTTP/1.1 20 OK\r\n\r\n",
+        "HTTP/1.1 2000 OK\r\n\r\n",
+        "HTTP/2.0 200 OK\r\n\r\n",
+        "GET /a HTTP/1.1\r\n\r\n",
+        "200 OK\r\n\r\n",
+    ] {
+        refuses_response(&rt, line.as_bytes(), 0, FrontRefused::BadHead, 0);
+    }
+    let coding = b"HTTP/1.1 200 OK\r\nTransfer-Encoding: chunked\r\n\r\n".as_slice();
+    refuses_response(&rt, coding, 0, FrontRefused::Coding, 0);
+    let length = b"HTTP/1.1 200 OK\r\nContent-Length: y\r\n\r\n".as_slice();
+    refuses_response(&rt, length, 0, FrontRefused::BadLength, 0);
+    let longer = b"HTTP/1.1 200 OK\r\nContent-Length: 65537\r\n\r\n".as_slice();
+    refuses_response(&rt, longer, 0, FrontRefused::BodyTooLong, 0);
+}
+
+// A response with so many fields.
+fn with_fields(rt: &(impl Abort + AllocGlobal), count: usize) -> String {
+    let fields = "\r\nA: x".repeat(rt.alloc(), count).expect(rt, "memory");
+    format!(in rt.alloc(); "HTTP/1.1 200 OK{fields}\r\n\r\n").expect(rt, "memory")
+}
+
+// A response that announces the longest body, with so many letters behind its head of 42 bytes.
+fn with_body(rt: &(impl Abort + AllocGlobal), count: usize) -> String {
+    let body = letters(rt, count);
+    format!(in rt.alloc(); "HTTP/1.1 200 OK\r\nContent-Length: 65536\r\n\r\n{body}").expect(
+        rt, "memory",
+    )
+}
+
+// A head's line and the rest have 15 and 8 bytes.
+#[test]
+fn limits_of_responses(rt: HostRuntime) {
+    gives_response(&rt, &with_value(&rt, "HTTP/1.1 200 OK", 16_361), 200, "", 0);
+    let longer = with_value(&rt, "HTTP/1.1 200 OK", 16_362);
+    let bytes = longer.as_bytes();
+    refuses_response(&rt, bytes, 0, FrontRefused::HeadTooLong, 1);
+    refuses_response(&rt, front(bytes, 16_383), 0, FrontRefused::Cut(16_383), 0);
+    gives_response(&rt, &with_fields(&rt, 64), 200, "", 0);
+    refuses_response(
+        &rt,
+        with_fields(&rt, 65).as_bytes(),
+        0,
+        FrontRefused::BadHead,
+        0,
+    );
+    let body = letters(&rt, 65_536);
+    gives_response(&rt, &with_body(&rt, 65_537), 200, &body, 1);
+    let cut = with_body(&rt, 65_535);
+    refuses_response(&rt, cut.as_bytes(), 0, FrontRefused::Cut(65_577), 0);
 }
