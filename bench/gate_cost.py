@@ -1,9 +1,13 @@
 #!/usr/bin/env python3
-"""Prints each crate's processor minutes in a run of the gate: its proof, its tests, and its wrong bodies.
+"""Prints each crate's processor minutes in a run of the gate: its proof, its tests, and its wrong bodies. And what a change costs.
 
     bench/gate_cost.py [COMMAND ..]     COMMAND: what is run and watched, `rt ci --anew` where none is given
+    bench/gate_cost.py --cones          runs nothing, and prints what a change costs by the table of bench/README.md
 
-It looks at the running provers four times a second and adds up the processor time that each has used, by the crate
+A change of a crate has the gate prove it anew, and each crate above it: their number, and their minutes with tests and wrong
+bodies, are printed by crate, and below them the longest path by proofs alone: each crate on it waits for the one before.
+
+A run is watched so: it looks at the running provers four times a second and adds up the processor time that each has used, by the crate
 and by what it was started for: `proof` is the crate alone, `tests` the crate with its tests, `edits` a wrong body or
 the check that its crate's wrong bodies begin with, where it has any in the gate. A prover that ends between two looks loses a quarter of a second.
 """
@@ -13,6 +17,7 @@ import subprocess
 import sys
 import time
 
+TOP = os.path.dirname(os.path.dirname(os.path.abspath(__file__)))
 TICKS = os.sysconf("SC_CLK_TCK")
 KINDS = ("proof", "tests", "edits")
 
@@ -51,7 +56,46 @@ def provers(of):
             yield (name, told[19]), crate, kind, (int(told[11]) + int(told[12])) / TICKS
 
 
+def crates_of():
+    """The crates of crates.txt with those that each names, lowest first."""
+    with open(f"{TOP}/crates.txt", encoding="utf-8") as file:
+        return {name: below.split() for name, below in re.findall(r"^(\w+)[^:\n]*:(.*)$", file.read(), re.M)}
+
+
+def table_of_readme():
+    """By crate the minutes of its proof and of all that the gate does for it, as bench/README.md has them."""
+    with open(f"{TOP}/bench/README.md", encoding="utf-8") as file:
+        cells = [[it.strip() for it in line.split("|")[1:-1]] for line in file if re.match(r"\| `\w+`.*\|$", line)]
+    rows = {row[0].split("`")[1]: row[1:] for row in cells if len(row) == 5}
+    return {crate: (float(row[0] or 0), float(row[3] or 0)) for crate, row in rows.items()}
+
+
+def cones(crates, minutes):
+    """Prints what a change of each crate has proved anew, and the longest path."""
+    above = {crate: {crate} for crate in crates}
+    longest = {}
+    for crate, named in crates.items():
+        below = [it for it in named if it in crates]
+        longest[crate] = max((longest[it] for it in below), default=(0.0, ()))
+        longest[crate] = longest[crate][0] + minutes.get(crate, (0.0, 0.0))[0], (*longest[crate][1], crate)
+    for crate in reversed(list(crates)):
+        for it in crates[crate]:
+            if it in crates:
+                above[it] |= above[crate]
+    print("| Crate | Crates | Minutes |\n|---|---|---|")
+    for crate in crates:
+        print(f"| `{crate}` | {len(above[crate])} | {sum(minutes[it][1] for it in above[crate] if it in minutes):.1f} |")
+    lacking = [it for it in crates if it not in minutes]
+    if lacking:
+        print(f"without minutes: {', '.join(lacking)}")
+    path = max(longest.values(), default=(0.0, ()))
+    print(f"longest path: {path[0]:.1f} minutes, of {', '.join(path[1])}")
+
+
 def main():
+    if sys.argv[1:] == ["--cones"]:
+        cones(crates_of(), table_of_readme())
+        return 0
     command = sys.argv[1:] or ["rt", "ci", "--anew"]
     seen = {}
     ran = subprocess.Popen(command)
@@ -63,7 +107,7 @@ def main():
     costs = {}
     for crate, kind, seconds in seen.values():
         costs.setdefault(crate, dict.fromkeys(KINDS, 0.0))[kind] += seconds / 60
-    order = re.findall(r"^(\w+)[^:]*:", open("crates.txt", encoding="utf-8").read(), re.M) if os.path.exists("crates.txt") else []
+    order = list(crates_of())
     print("| Crate | Proof | Tests | Wrong bodies | All |\n|---|---|---|---|---|")
     for crate in sorted(costs, key=lambda it: order.index(it) if it in order else len(order)):
         row = costs[crate]
