@@ -1,4 +1,5 @@
-// Runs over memory.
+// Commands over memory.
+use crate::given::failing;
 use aire_top::{Ended, aire, offline};
 use io_edge::{MemoryConnection, MemoryFile, MemoryFiles, MemorySink, MemorySource};
 use io_links::{MemoryDoor, MemoryLink, MemoryNetwork, MemorySpawner};
@@ -26,11 +27,6 @@ fn bytes_of(rt: &(impl Abort + AllocGlobal), text: &str) -> Vec<u8> {
     text.as_bytes().to_vec(rt.alloc()).expect(rt, "memory")
 }
 
-// A list of this one number.
-fn alone(rt: &(impl Abort + AllocGlobal), number: u64) -> Vec<u64> {
-    vec![in rt.alloc(); number].expect(rt, "memory")
-}
-
 fn file_of(rt: &(impl Abort + AllocGlobal), path: &str, text: &str) -> MemoryFile {
     let path = Text::of(rt.alloc(), path).expect(rt, "memory");
     MemoryFile {
@@ -51,12 +47,12 @@ pub fn two_files(
     files
         .push(file_of(rt, "script", script))
         .expect(rt, "memory");
-    MemoryFiles::new(files, alone(rt, fails))
+    MemoryFiles::new(files, failing(rt, fails))
 }
 
 /// An input of this text, in which the read of this number fails.
 pub fn input_of(rt: &(impl Abort + AllocGlobal), text: &str, fails: u64) -> MemorySource {
-    MemorySource::new(bytes_of(rt, text), alone(rt, fails))
+    MemorySource::new(bytes_of(rt, text), failing(rt, fails))
 }
 
 /// A run with these words, files and input, in which the write of this number fails.
@@ -68,7 +64,7 @@ pub fn ran(
     write_fails: u64,
 ) -> Came {
     let words = words_of(rt, words);
-    let mut out = MemorySink::new(rt.alloc(), alone(rt, write_fails));
+    let mut out = MemorySink::new(rt.alloc(), failing(rt, write_fails));
     let ended: Ended<MemoryConnection> = offline(rt.alloc(), &words, files, input, &mut out);
     (ended.status, out)
 }
@@ -84,7 +80,7 @@ pub fn commanded<R: Abort + AllocGlobal + Threads + Wait + Clock + Sync>(
     write_fails: u64,
 ) -> Came {
     let words = words_of(rt, words);
-    let mut out = MemorySink::new(rt.alloc(), alone(rt, write_fails));
+    let mut out = MemorySink::new(rt.alloc(), failing(rt, write_fails));
     let ended = aire(
         rt,
         rt.alloc(),
@@ -92,11 +88,11 @@ pub fn commanded<R: Abort + AllocGlobal + Threads + Wait + Clock + Sync>(
         &mut MemoryFiles::new(Seq::new(rt.alloc()), Vec::new(rt.alloc())),
         &mut MemorySource::new(Vec::new(rt.alloc()), Vec::new(rt.alloc())),
         &mut out,
-        &mut MemoryDoor::new(rt, rt.alloc(), network, alone(rt, door_fails)),
+        &mut MemoryDoor::new(rt, rt.alloc(), network, failing(rt, door_fails)),
         &mut MemoryLink::new(rt, rt.alloc(), network),
         &mut ScriptClock::new(),
         &mut ScriptWords::new(),
-        &mut MemorySpawner::new(alone(rt, start_fails)),
+        &mut MemorySpawner::new(failing(rt, start_fails)),
     );
     (ended.status, out)
 }
