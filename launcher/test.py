@@ -3,9 +3,11 @@
     launcher/test.py [--without-crates] [PROGRAM]     PROGRAM: what is tested; where none is given, a build for a trial
 
 Several run side by side, as many as there are processors and at least two. Each is told as it ends, by the last line that it
-printed, and one that failed by all that it printed. The last line is `N passed, M failed`.
+printed, with the seconds that it took by the clock and of a processor, and one that failed by all that it printed. The last line
+is `N passed, M failed`.
 """
 import os
+import resource
 import subprocess
 import sys
 import tempfile
@@ -16,8 +18,16 @@ from toolchain import TOP, Trial, below, crate_lines, end_by_signals, sources_of
 # Scripts that are given the program, and those that need none.
 OVER_PROGRAM = ["cases/check", "cases/check-served", "examples/check", "examples/check-serve", "examples/check-launcher"]
 ALONE = ["docs/check-theorems", "docs/check-pages", "bench/measure"]
+# Crates whose tests take longer than their build.
+LONG = ["ground_tests"]
 # In how many seconds the tests of a crate have to end, while others run beside them.
 SECONDS = "600"
+
+
+def used():
+    """The seconds of a processor that all took that this script started and that ended."""
+    found = resource.getrusage(resource.RUSAGE_CHILDREN)
+    return found.ru_utime + found.ru_stime
 
 
 class Script:
@@ -48,6 +58,14 @@ class Test:
         self.wrote = open(f"{self.room.name}/wrote", "w+b")
         self.running = self.start(self.wrote, self.room.name)
 
+    def has_ended(self):
+        """Whether it runs no more; notes then what it took of a processor."""
+        before = used()
+        if self.running.is_running():
+            return False
+        self.used = round(used() - before)
+        return True
+
     def end(self):
         """Ends it where it runs, and notes its status, the lines that it printed and the seconds that it took."""
         self.status = self.running.end()
@@ -58,10 +76,11 @@ class Test:
         self.seconds = round(time.monotonic() - self.began)
 
     def tell(self):
+        took = f"{self.seconds} s, {self.used} of a processor"
         if self.status == 0:
-            print(f"{self.name}: {self.lines[-1] if self.lines else 'passed'} ({self.seconds} s)", flush=True)
+            print(f"{self.name}: {self.lines[-1] if self.lines else 'passed'} ({took})", flush=True)
         else:
-            print(f"{self.name} FAILED, with status {self.status} ({self.seconds} s):", flush=True)
+            print(f"{self.name} FAILED, with status {self.status} ({took}):", flush=True)
             print("".join(f"    {line}\n" for line in self.lines), end="", flush=True)
 
 
@@ -74,13 +93,13 @@ def has_tests(crate):
 
 
 def crates_of_tests():
-    """The crates that have tests, first those that most is compiled for."""
+    """The crates that have tests, those first that take longest: whose tests do, or that most is compiled for."""
     lines = crate_lines()
 
     def size(crate):
         return sum(os.path.getsize(path) for name in below(crate, lines) for path in sources_of(name))
 
-    return sorted(filter(has_tests, lines), key=size, reverse=True)
+    return sorted(filter(has_tests, lines), key=lambda it: (it in LONG, size(it)), reverse=True)
 
 
 class Tests:
@@ -130,7 +149,7 @@ class Tests:
             while self.waiting or self.running:
                 while len(self.running) < lanes and self.begin_next():
                     pass
-                for test in [it for it in self.running if not it.running.is_running()]:
+                for test in [it for it in self.running if it.has_ended()]:
                     self.end(test)
                 time.sleep(0.2)
         finally:
