@@ -47,7 +47,7 @@ fn is_too_long_for(rt: &(impl Abort + AllocGlobal), stmts: &str) {
     let view = RowsView { cells: &cells };
     let ran = run(rt.alloc(), &setting, &request, &INPUTS, &answers, &view).expect(rt, "memory");
     match ran {
-        Ran::Done(trace) => same(rt, trace.response.body.as_str().as_bytes(), "fault 4"),
+        Ran::Done(trace) => same(rt, trace.response.body.as_bytes(), "fault 4"),
         _ => holds(rt, stmts, false),
     }
 }

@@ -6,7 +6,7 @@ use std::process::Abort;
 fn is_printed(rt: &(impl Abort + AllocGlobal), text: &str, want: &str) {
     let rules = read_rules(rt.alloc(), text).ok().expect(rt, text);
     let printed = print_rules(rt.alloc(), &rules).expect(rt, "memory");
-    same(rt, printed.as_str().as_bytes(), want);
+    same(rt, printed.as_bytes(), want);
 }
 
 #[test]
