@@ -1,4 +1,4 @@
-// A thousand drawn operations on versions, and on a list of what each place wrote beside them: with a few keys, and with so many
+// Four hundred drawn operations on versions, and on a list of what each place wrote beside them: with a few keys, and with so many
 // that what finds them by hash grows several times.
 ghost use Rattle.std.specs.Prelude.{ℕ, List, ◌≡◌, ◌<◌, [], ◌∷◌, ◌++◌, map, IfOk, OnOk};
 ghost use Rattle.std.specs.List.{All, Contains};
@@ -17,7 +17,7 @@ use versioned_rows::Versions;
 
 const PLACES: u64 = 12;
 
-const TURNS: u64 = 1000;
+const TURNS: u64 = 400;
 
 /// Numbers that are the same in each run, of few keys or of many, and that of the key drawn last.
 #[derive(Drop)]
