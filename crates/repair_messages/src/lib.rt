@@ -5,8 +5,10 @@ mod kinds;
 mod messages;
 mod pairs;
 mod posts;
+mod refusals;
 
 pub use kinds::{Kind, kind_of, kind_word, spelling};
 pub use messages::{Ack, AnswerMessage, Confirm, SetMessage};
 pub use pairs::copied_pair;
 pub use posts::{Post, PostName};
+pub use refusals::{Refusal, RefusalWord};
