@@ -51,3 +51,4 @@ pub mod MessageLaws
 pub mod OrderLaws
 pub mod EventLaws
 pub mod PurchaseExample
+pub mod DoorLaws

@@ -15,3 +15,4 @@ pub mod RunsOn
 pub mod Causes
 pub mod Ages
 pub mod Allowed
+pub mod Event

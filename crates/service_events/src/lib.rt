@@ -5,9 +5,11 @@
 #![tactic(auto)]
 
 mod answers;
+mod event;
 mod refusals;
 
 pub use answers::{Arrived, Heard, Ordered, PostReply, PostWord, Posted, Taken};
+pub use event::{Done, Event};
 pub use refusals::{
     AnswerRefused, ArriveRefused, CallRefused, OrderRefused, PostRefused, TakeRefused,
 };

@@ -1,0 +1,65 @@
+// An event of a service as a value, and what the service answered.
+use crate::answers::{Arrived, Heard, Ordered, PostReply, Posted, Taken};
+use crate::refusals::{
+    AnswerRefused, ArriveRefused, CallRefused, OrderRefused, PostRefused, TakeRefused,
+};
+use call_registers::Why;
+use journal_rows::Command;
+use lang_core::{Inputs, Name, NoMemory, Origin, Request, Text};
+use local_repair::Stepped;
+use repair_messages::{AnswerMessage, Post, PostName, SetMessage};
+
+/// An event of a service. `NextPost` and `WritePost` only ask, and leave it as it is.
+#[derive(Drop)]
+pub enum Event {
+    /// A live request arrives.
+    Arrive {
+        origin: Origin,
+        request: Request,
+        inputs: Inputs,
+    },
+    /// The call for which a flight waits was answered.
+    CallAnswered { flight: u64, answer: AnswerMessage },
+    /// The call of this number, for which a flight waits, got no answer.
+    CallFailed { flight: u64, number: u64, why: Why },
+    /// The flight is given up.
+    Abandon { flight: u64 },
+    /// A version of another service's call came by a message.
+    Take { set: SetMessage, inputs: Inputs },
+    /// An answer to an own call came by a message.
+    TakeAnswer { answer: AnswerMessage },
+    /// Which post goes there next?
+    NextPost { dest: Name },
+    /// How does this post read now?
+    WritePost { name: PostName },
+    /// This came back of a post.
+    Posted { post: Post, reply: PostReply },
+    /// The first stale entry is run again.
+    Step,
+    /// An operator's order.
+    Order {
+        command: Command,
+        token: Text,
+        who: Text,
+        inputs: Inputs,
+    },
+}
+
+/// What the service answered, by the name of the event.
+#[derive(Drop)]
+pub enum Done {
+    Arrive(Result<Arrived, ArriveRefused>),
+    CallAnswered(Result<Arrived, CallRefused>),
+    CallFailed(Result<Arrived, CallRefused>),
+    /// Whether there was such a flight.
+    Abandon(bool),
+    Take(Result<Taken, TakeRefused>),
+    TakeAnswer(Result<Heard, AnswerRefused>),
+    NextPost(Option<PostName>),
+    WritePost(Result<Post, NoMemory>),
+    Posted(Result<Posted, PostRefused>),
+    Step(Result<Stepped, NoMemory>),
+    Order(Result<Ordered, OrderRefused>),
+    /// No event was made: who asked for it waits with a flight that the service doesn't have any more. No event answers this.
+    Gone,
+}
