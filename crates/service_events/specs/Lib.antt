@@ -16,3 +16,4 @@ pub mod Causes
 pub mod Ages
 pub mod Allowed
 pub mod Event
+pub mod Refusals

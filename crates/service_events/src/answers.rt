@@ -1,7 +1,10 @@
 // What events of a service answer.
+ghost use Rattle.std.specs.Prelude.{◌≡◌};
+ghost use Rattle.service_events.specs.Refusals.{refusing_post};
+
 use journal_rows::About;
 use lang_core::{Copied, FaultNote, NoMemory};
-use repair_messages::{Ack, AnswerMessage, Confirm, SetMessage};
+use repair_messages::{Ack, AnswerMessage, Confirm, RefusalWord, SetMessage};
 use std::alloc::Global;
 
 /// What became of a live request.
@@ -80,6 +83,22 @@ pub enum Posted {
 pub struct Ordered {
     pub about: About,
     pub rule: u32,
+}
+
+impl PostWord {
+    /// Which of these a receiver's word is; None where it refuses no post.
+    pub fn refusing(word: RefusalWord) -> Option<PostWord>
+        ensures { result ≡ refusing_post word }
+    {
+        match word {
+            RefusalWord::NoMemory => Some(PostWord::NoMemory),
+            RefusalWord::Full => Some(PostWord::Full),
+            RefusalWord::NotYet => Some(PostWord::NotYet),
+            RefusalWord::Denied => Some(PostWord::Denied),
+            RefusalWord::Unknown => Some(PostWord::Unknown),
+            _ => None,
+        }
+    }
 }
 
 impl Copied for Arrived {

@@ -1,4 +1,7 @@
 // An event of a service as a value, and what the service answered.
+ghost use Rattle.std.specs.Prelude.{◌≡◌};
+ghost use Rattle.service_events.specs.Refusals.{memory_refusal, refusal_of};
+
 use crate::answers::{Arrived, Heard, Ordered, PostReply, Posted, Taken};
 use crate::refusals::{
     AnswerRefused, ArriveRefused, CallRefused, OrderRefused, PostRefused, TakeRefused,
@@ -7,7 +10,7 @@ use call_registers::Why;
 use journal_rows::Command;
 use lang_core::{Inputs, Name, NoMemory, Origin, Request, Text};
 use local_repair::Stepped;
-use repair_messages::{AnswerMessage, Post, PostName, SetMessage};
+use repair_messages::{AnswerMessage, Post, PostName, Refusal, RefusalWord, SetMessage};
 
 /// An event of a service. `NextPost` and `WritePost` only ask, and leave it as it is.
 #[derive(Drop)]
@@ -19,21 +22,42 @@ pub enum Event {
         inputs: Inputs,
     },
     /// The call for which a flight waits was answered.
-    CallAnswered { flight: u64, answer: AnswerMessage },
+    CallAnswered {
+        flight: u64,
+        answer: AnswerMessage,
+    },
     /// The call of this number, for which a flight waits, got no answer.
-    CallFailed { flight: u64, number: u64, why: Why },
+    CallFailed {
+        flight: u64,
+        number: u64,
+        why: Why,
+    },
     /// The flight is given up.
-    Abandon { flight: u64 },
+    Abandon {
+        flight: u64,
+    },
     /// A version of another service's call came by a message.
-    Take { set: SetMessage, inputs: Inputs },
+    Take {
+        set: SetMessage,
+        inputs: Inputs,
+    },
     /// An answer to an own call came by a message.
-    TakeAnswer { answer: AnswerMessage },
+    TakeAnswer {
+        answer: AnswerMessage,
+    },
     /// Which post goes there next?
-    NextPost { dest: Name },
+    NextPost {
+        dest: Name,
+    },
     /// How does this post read now?
-    WritePost { name: PostName },
+    WritePost {
+        name: PostName,
+    },
     /// This came back of a post.
-    Posted { post: Post, reply: PostReply },
+    Posted {
+        post: Post,
+        reply: PostReply,
+    },
     /// The first stale entry is run again.
     Step,
     /// An operator's order.
@@ -62,4 +86,32 @@ pub enum Done {
     Order(Result<Ordered, OrderRefused>),
     /// No event was made: who asked for it waits with a flight that the service doesn't have any more. No event answers this.
     Gone,
+}
+
+fn lacking(_why: &NoMemory) -> Refusal
+    ensures { result ≡ memory_refusal _why.now }
+{
+    Refusal {
+        word: RefusalWord::NoMemory,
+        number: 0,
+    }
+}
+
+impl Done {
+    /// How the event was refused, if it was.
+    pub fn refusal(&self) -> Option<Refusal>
+        ensures { result ≡ refusal_of self.now }
+    {
+        match self {
+            Done::Arrive(Err(why)) => Some(why.refusal()),
+            Done::CallAnswered(Err(why)) | Done::CallFailed(Err(why)) => Some(why.refusal()),
+            Done::Take(Err(why)) => Some(why.refusal()),
+            Done::TakeAnswer(Err(why)) => Some(why.refusal()),
+            Done::WritePost(Err(why)) => Some(lacking(why)),
+            Done::Posted(Err(why)) => Some(why.refusal()),
+            Done::Step(Err(why)) => Some(lacking(why)),
+            Done::Order(Err(why)) => Some(why.refusal()),
+            _ => None,
+        }
+    }
 }

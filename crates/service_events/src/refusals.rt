@@ -1,7 +1,10 @@
 // Why events of a service are refused. A refused event changes nothing.
 ghost use Rattle.std.specs.Prelude.{◌≡◌};
+ghost use Rattle.service_events.specs.Refusals.{answer_refusal, answer_refused, arrive_refusal, call_refusal, call_word, order_refusal, post_refusal, set_refused, take_refusal};
 
+use crate::answers::{PostReply, PostWord};
 use lang_core::NoMemory;
+use repair_messages::{Refusal, RefusalWord};
 
 /// Why a live request was refused.
 #[derive(Clone, Copy, PartialEq, Eq)]
@@ -132,5 +135,133 @@ impl From<NoMemory> for OrderRefused {
 
     fn from(_: NoMemory) -> OrderRefused {
         OrderRefused::NoMemory
+    }
+}
+
+fn refusal(word: RefusalWord, number: u64) -> Refusal
+    ensures { result ≡ record { word = word; number = number } }
+{
+    Refusal { word, number }
+}
+
+fn refused_post(word: PostWord, number: u64) -> PostReply
+    ensures { result ≡ PostReply.Refused word number }
+{
+    PostReply::Refused { word, number }
+}
+
+impl ArriveRefused {
+    /// In a word, with what it carries.
+    pub fn refusal(self) -> Refusal
+        ensures { result ≡ arrive_refusal self }
+    {
+        match self {
+            ArriveRefused::NoMemory => refusal(RefusalWord::NoMemory, 0),
+            ArriveRefused::Full(count) => refusal(RefusalWord::Full, count),
+            ArriveRefused::NotYet(number) => refusal(RefusalWord::NotYet, number),
+            ArriveRefused::Gone(version) => refusal(RefusalWord::Gone, version),
+        }
+    }
+
+    /// The number under which the caller keeps why its call was refused: the place of the refusal among these, from 1.
+    pub fn call_word(self) -> u16
+        ensures { result ≡ call_word self }
+    {
+        match self {
+            ArriveRefused::NoMemory => 1,
+            ArriveRefused::Full(_) => 2,
+            ArriveRefused::NotYet(_) => 3,
+            ArriveRefused::Gone(_) => 4,
+        }
+    }
+}
+
+impl CallRefused {
+    /// In a word, with what it carries.
+    pub fn refusal(self) -> Refusal
+        ensures { result ≡ call_refusal self }
+    {
+        match self {
+            CallRefused::NoMemory => refusal(RefusalWord::NoMemory, 0),
+            CallRefused::NoFlight(flight) => refusal(RefusalWord::NoFlight, flight),
+        }
+    }
+}
+
+impl TakeRefused {
+    /// In a word, with what it carries.
+    pub fn refusal(self) -> Refusal
+        ensures { result ≡ take_refusal self }
+    {
+        match self {
+            TakeRefused::NoMemory => refusal(RefusalWord::NoMemory, 0),
+            TakeRefused::Full(count) => refusal(RefusalWord::Full, count),
+            TakeRefused::NotYet(number) => refusal(RefusalWord::NotYet, number),
+            TakeRefused::Denied(rule) => refusal(RefusalWord::Denied, u64::from(rule)),
+        }
+    }
+
+    /// What comes back of the post that brought the version.
+    pub fn post_reply(self) -> PostReply
+        ensures { result ≡ set_refused self }
+    {
+        match self {
+            TakeRefused::NoMemory => refused_post(PostWord::NoMemory, 0),
+            TakeRefused::Full(count) => refused_post(PostWord::Full, count),
+            TakeRefused::NotYet(number) => refused_post(PostWord::NotYet, number),
+            TakeRefused::Denied(rule) => refused_post(PostWord::Denied, u64::from(rule)),
+        }
+    }
+}
+
+impl AnswerRefused {
+    /// In a word, with what it carries.
+    pub fn refusal(self) -> Refusal
+        ensures { result ≡ answer_refusal self }
+    {
+        match self {
+            AnswerRefused::NoMemory => refusal(RefusalWord::NoMemory, 0),
+            AnswerRefused::Unknown(number) => refusal(RefusalWord::Unknown, number),
+            AnswerRefused::Denied(rule) => refusal(RefusalWord::Denied, u64::from(rule)),
+        }
+    }
+
+    /// What comes back of the post that brought the answer.
+    pub fn post_reply(self) -> PostReply
+        ensures { result ≡ answer_refused self }
+    {
+        match self {
+            AnswerRefused::NoMemory => refused_post(PostWord::NoMemory, 0),
+            AnswerRefused::Unknown(number) => refused_post(PostWord::Unknown, number),
+            AnswerRefused::Denied(rule) => refused_post(PostWord::Denied, u64::from(rule)),
+        }
+    }
+}
+
+impl PostRefused {
+    /// In a word, with what it carries.
+    pub fn refusal(self) -> Refusal
+        ensures { result ≡ post_refusal self }
+    {
+        match self {
+            PostRefused::NoMemory => refusal(RefusalWord::NoMemory, 0),
+            PostRefused::Foreign => refusal(RefusalWord::Foreign, 0),
+        }
+    }
+}
+
+impl OrderRefused {
+    /// In a word, with what it carries.
+    pub fn refusal(self) -> Refusal
+        ensures { result ≡ order_refusal self }
+    {
+        match self {
+            OrderRefused::NoMemory => refusal(RefusalWord::NoMemory, 0),
+            OrderRefused::NoSuchRequest(id) => refusal(RefusalWord::NoSuchRequest, id),
+            OrderRefused::Denied(rule) => refusal(RefusalWord::Denied, u64::from(rule)),
+            OrderRefused::Full(count) => refusal(RefusalWord::Full, count),
+            OrderRefused::NotHeld => refusal(RefusalWord::NotHeld, 0),
+            OrderRefused::NotOutside(id) => refusal(RefusalWord::NotOutside, id),
+        }
     }
 }
