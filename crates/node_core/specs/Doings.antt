@@ -25,7 +25,7 @@ use Rattle.service_events.specs.State.{Kept, after, flight_of, me}
 use Rattle.service_events.specs.declared.answers.Arrived.{Arrived}
 use Rattle.service_events.specs.declared.answers.Arrived.TheVariants as arrived
 use Rattle.service_events.specs.declared.answers.PostReply.{PostReply}
-use Rattle.service_core.specs.Failures.{IsFailure}
+use Rattle.service_events.specs.Event.{IsFailure}
 use Rattle.service_posts.specs.Goes.{GoesTo}
 use Rattle.service_repairs.specs.Answers.{Steps}
 use Rattle.node_core.specs.Receipts.{HasAnswered, IsReceiptAt, IsReceiptOf}

@@ -1,6 +1,6 @@
 // Events of live requests: what is committed is counted, and has a receipt.
 ghost use Rattle.std.specs.Prelude.{◌≡◌, ◌+◌, ◌<◌, None, Some, OnOk, OnErr, IfOk, IsSomeAnd, vec_len, vec_capacity};
-ghost use Rattle.service_core.specs.Failures.{IsFailure};
+ghost use Rattle.service_events.specs.Event.{IsFailure};
 ghost use Rattle.service_events.specs.State.{me};
 ghost use Rattle.node_core.specs.Doings.{commits, commits_in, HasAnsweredIf, HasReceipts, IsDone, IsGivenReceipt, IsOpen, OneMore};
 ghost use Rattle.node_core.specs.Notes.{goes_on_by, unturned};

@@ -13,8 +13,9 @@ ghost use Rattle.service_events.specs.Commits.{live_rows, Commits, CommitsFlight
 ghost use Rattle.service_events.specs.Fits.{Fits};
 ghost use Rattle.service_events.specs.Progress.{Counts, GoesFurther, IsLocalStep};
 ghost use Rattle.service_events.specs.RunsOn.{Begins, GoesOnTo, IsStep};
-ghost use Rattle.service_core.specs.Failures.{IsFailure};
+ghost use Rattle.service_core.specs.Answers.{Answers};
 ghost use Rattle.service_core.specs.Readings.{awaited_by, first_stale, AreReplayed, IsReplayedBefore};
+ghost use Rattle.service_events.specs.Event.{Happens, IsFailure, MayHappen};
 ghost use Rattle.service_events.specs.Doing.{answer_memory, arrive_memory, call_memory, order_memory, post_memory, take_memory, Does};
 ghost use Rattle.journal_rows.specs.Words.{ordered};
 ghost use Rattle.service_events.specs.Messages.{take_event, take_answer_event, posted_event};
@@ -35,8 +36,8 @@ use repair_messages::{AnswerMessage, Post, PostName, SetMessage};
 use request_log::Log;
 use service_deliveries::{posted, take, take_answer};
 use service_events::{
-    AnswerRefused, ArriveRefused, Arrived, CallRefused, Heard, OrderRefused, Ordered, PostRefused,
-    PostReply, Posted, TakeRefused, Taken,
+    AnswerRefused, ArriveRefused, Arrived, CallRefused, Done, Event, Heard, OrderRefused, Ordered,
+    PostRefused, PostReply, Posted, TakeRefused, Taken,
 };
 use service_parts::Parts;
 use service_posts::{next_post, write_post};
@@ -174,6 +175,44 @@ impl Service {
         ensures replay { MatchOption result (AreReplayed self.now self.now.entries) (λ id. IsReplayedBefore self.now id) }
     {
         first_stale(&self.parts, self.checked)
+    }
+
+    /// An event happens: the method of its name does it, and answers. `event` of the specification is the one function that
+    /// says what is left and answered, and by the event's name its answer says what the method promises. For want of memory
+    /// nothing changed.
+    pub fn event(&mut self, alloc: Global, event: Event) -> Done
+        requires may { MayHappen self.old event }
+        ensures happens { Happens event self.old result self.new }
+        ensures answers { Answers self.old event result self.new }
+    {
+        match event {
+            Event::Arrive {
+                origin,
+                request,
+                inputs,
+            } => Done::Arrive(self.arrive(alloc, origin, request, inputs)),
+            Event::CallAnswered { flight, answer } => {
+                Done::CallAnswered(self.call_answered(alloc, flight, &answer))
+            }
+            Event::CallFailed {
+                flight,
+                number,
+                why,
+            } => Done::CallFailed(self.call_failed(alloc, flight, number, why)),
+            Event::Abandon { flight } => Done::Abandon(self.abandon(flight)),
+            Event::Take { set, inputs } => Done::Take(self.take(alloc, &set, inputs)),
+            Event::TakeAnswer { answer } => Done::TakeAnswer(self.take_answer(alloc, &answer)),
+            Event::NextPost { dest } => Done::NextPost(self.next_post(&dest)),
+            Event::WritePost { name } => Done::WritePost(self.write_post(alloc, name)),
+            Event::Posted { post, reply } => Done::Posted(self.posted(alloc, &post, reply)),
+            Event::Step => Done::Step(self.repair_step(alloc)),
+            Event::Order {
+                command,
+                token,
+                who,
+                inputs,
+            } => Done::Order(self.order(alloc, command, token, who, inputs)),
+        }
     }
 
     /// A live request arrives. It runs, and is committed or waits for a call; or it is a call that has an entry. It is

@@ -3,7 +3,7 @@ ghost use Rattle.std.specs.Prelude.{◌≡◌, List, IfOk};
 ghost use Rattle.service_events.specs.State.{me};
 ghost use Rattle.world_events.specs.Events.{call_answered_served, arrive_served, call_arrive_served, call_failed_served};
 ghost use Rattle.world_events.specs.declared.packet.Packet.{Packet};
-ghost use Rattle.service_core.specs.Failures.{IsFailure};
+ghost use Rattle.service_events.specs.Event.{IsFailure};
 ghost use Rattle.world_core.specs.Acting.{Serves};
 
 use crate::backs::{Back, ends_of, outcome_of, reply, sent};
