@@ -1,231 +1,118 @@
--- Each event keeps each part of what fits of calls, where the journal after it has fewer rows than a number of 64 bits counts.
-use Rattle.std.proofs.Common.{ℕ, List, []}
-use Rattle.lang_core.specs.declared.ids.Origin.{Origin}
-use Rattle.lang_core.specs.declared.inputs.Inputs.{Inputs}
-use Rattle.lang_core.specs.declared.request.Request.{Request}
-use Rattle.repair_messages.specs.declared.messages.AnswerMessage.{AnswerMessage}
-use Rattle.repair_messages.specs.declared.messages.SetMessage.{SetMessage}
-use Rattle.repair_messages.specs.declared.posts.Post.{Post}
-use Rattle.journal_rows.specs.declared.orders.Command.{Command}
-use Rattle.call_registers.specs.declared.register.Why.{Why}
-use Rattle.service_events.specs.State.{Kept}
-use Rattle.service_events.specs.Arriving.{arrive_event, call_answered_event, call_failed_event, abandon_event}
-use Rattle.service_events.specs.Steps.{step_event}
-use Rattle.service_events.specs.Messages.{take_event, take_answer_event, posted_event}
-use Rattle.service_events.specs.Orders.{order_event}
-use Rattle.service_events.specs.declared.answers.PostReply.{PostReply}
-use Rattle.service_events.specs.Fits.{EachAfter, FitsSent, FitsSeen, FitsPlaces, FitsFlights, OrdersOn, Fits, places}
-use Rattle.service_events.proofs.CallLaws.{FitsCalls, calls_of_fits, IsFew, Grows}
-use Rattle.service_events.proofs.LiveCallLaws.{arrive_goes, call_answered_goes, call_failed_goes, abandon_goes}
-use Rattle.service_events.proofs.StepLaws.{step_goes}
-use Rattle.service_events.proofs.MessageLaws.{take_goes, take_answer_goes, posted_event_goes}
-use Rattle.service_events.proofs.OrderLaws.{order_goes}
-
--- ---- an arrival
-
-pub arrive_keeps : (s : Kept) (o : Origin) (q : Request) (i : Inputs) → Fits s → IsFew (arrive_event s o q i).service → FitsCalls (arrive_event s o q i).service
-arrive_keeps s o q i f few = (arrive_goes s o q i f).keeps few (calls_of_fits s f)
-
-pub arrive_keeps_sent : (s : Kept) (o : Origin) (q : Request) (i : Inputs) → Fits s → IsFew (arrive_event s o q i).service → FitsSent (arrive_event s o q i).service.journal (arrive_event s o q i).service.registers
-arrive_keeps_sent s o q i f few = (arrive_keeps s o q i f few).sent
-
-pub arrive_keeps_seen : (s : Kept) (o : Origin) (q : Request) (i : Inputs) → Fits s → IsFew (arrive_event s o q i).service → FitsSeen (arrive_event s o q i).service.journal (arrive_event s o q i).service.registers
-arrive_keeps_seen s o q i f few = (arrive_keeps s o q i f few).seen
-
-pub arrive_keeps_places : (s : Kept) (o : Origin) (q : Request) (i : Inputs) → Fits s → IsFew (arrive_event s o q i).service → FitsPlaces (arrive_event s o q i).service.registers (places (arrive_event s o q i).service)
-arrive_keeps_places s o q i f few = (arrive_keeps s o q i f few).places
-
-pub arrive_keeps_flights : (s : Kept) (o : Origin) (q : Request) (i : Inputs) → Fits s → IsFew (arrive_event s o q i).service → FitsFlights (arrive_event s o q i).service.journal (arrive_event s o q i).service.flights
-arrive_keeps_flights s o q i f few = (arrive_keeps s o q i f few).flights
-
-pub arrive_keeps_orders : (s : Kept) (o : Origin) (q : Request) (i : Inputs) → Fits s → IsFew (arrive_event s o q i).service → EachAfter OrdersOn [] (arrive_event s o q i).service.journal
-arrive_keeps_orders s o q i f few = (arrive_keeps s o q i f few).orders
-
--- ---- the answer of a call
-
-pub call_answered_keeps : (s : Kept) (id : ℕ) (a : AnswerMessage) → Fits s → IsFew (call_answered_event s id a).service → FitsCalls (call_answered_event s id a).service
-call_answered_keeps s id a f few = (call_answered_goes s id a).keeps few (calls_of_fits s f)
-
-pub call_answered_keeps_sent : (s : Kept) (id : ℕ) (a : AnswerMessage) → Fits s → IsFew (call_answered_event s id a).service → FitsSent (call_answered_event s id a).service.journal (call_answered_event s id a).service.registers
-call_answered_keeps_sent s id a f few = (call_answered_keeps s id a f few).sent
-
-pub call_answered_keeps_seen : (s : Kept) (id : ℕ) (a : AnswerMessage) → Fits s → IsFew (call_answered_event s id a).service → FitsSeen (call_answered_event s id a).service.journal (call_answered_event s id a).service.registers
-call_answered_keeps_seen s id a f few = (call_answered_keeps s id a f few).seen
-
-pub call_answered_keeps_places : (s : Kept) (id : ℕ) (a : AnswerMessage) → Fits s → IsFew (call_answered_event s id a).service → FitsPlaces (call_answered_event s id a).service.registers (places (call_answered_event s id a).service)
-call_answered_keeps_places s id a f few = (call_answered_keeps s id a f few).places
-
-pub call_answered_keeps_flights : (s : Kept) (id : ℕ) (a : AnswerMessage) → Fits s → IsFew (call_answered_event s id a).service → FitsFlights (call_answered_event s id a).service.journal (call_answered_event s id a).service.flights
-call_answered_keeps_flights s id a f few = (call_answered_keeps s id a f few).flights
-
-pub call_answered_keeps_orders : (s : Kept) (id : ℕ) (a : AnswerMessage) → Fits s → IsFew (call_answered_event s id a).service → EachAfter OrdersOn [] (call_answered_event s id a).service.journal
-call_answered_keeps_orders s id a f few = (call_answered_keeps s id a f few).orders
-
--- ---- the failure of a call
-
-pub call_failed_keeps : (s : Kept) (id number : ℕ) (why : Why) → Fits s → IsFew (call_failed_event s id number why).service → FitsCalls (call_failed_event s id number why).service
-call_failed_keeps s id number why f few = (call_failed_goes s id number why).keeps few (calls_of_fits s f)
-
-pub call_failed_keeps_sent : (s : Kept) (id number : ℕ) (why : Why) → Fits s → IsFew (call_failed_event s id number why).service → FitsSent (call_failed_event s id number why).service.journal (call_failed_event s id number why).service.registers
-call_failed_keeps_sent s id number why f few = (call_failed_keeps s id number why f few).sent
-
-pub call_failed_keeps_seen : (s : Kept) (id number : ℕ) (why : Why) → Fits s → IsFew (call_failed_event s id number why).service → FitsSeen (call_failed_event s id number why).service.journal (call_failed_event s id number why).service.registers
-call_failed_keeps_seen s id number why f few = (call_failed_keeps s id number why f few).seen
-
-pub call_failed_keeps_places : (s : Kept) (id number : ℕ) (why : Why) → Fits s → IsFew (call_failed_event s id number why).service → FitsPlaces (call_failed_event s id number why).service.registers (places (call_failed_event s id number why).service)
-call_failed_keeps_places s id number why f few = (call_failed_keeps s id number why f few).places
-
-pub call_failed_keeps_flights : (s : Kept) (id number : ℕ) (why : Why) → Fits s → IsFew (call_failed_event s id number why).service → FitsFlights (call_failed_event s id number why).service.journal (call_failed_event s id number why).service.flights
-call_failed_keeps_flights s id number why f few = (call_failed_keeps s id number why f few).flights
-
-pub call_failed_keeps_orders : (s : Kept) (id number : ℕ) (why : Why) → Fits s → IsFew (call_failed_event s id number why).service → EachAfter OrdersOn [] (call_failed_event s id number why).service.journal
-call_failed_keeps_orders s id number why f few = (call_failed_keeps s id number why f few).orders
-
--- ---- an abandonment
-
-pub abandon_keeps : (s : Kept) (id : ℕ) → Fits s → IsFew (abandon_event s id).service → FitsCalls (abandon_event s id).service
-abandon_keeps s id f few = (abandon_goes s id).keeps few (calls_of_fits s f)
-
-pub abandon_keeps_sent : (s : Kept) (id : ℕ) → Fits s → IsFew (abandon_event s id).service → FitsSent (abandon_event s id).service.journal (abandon_event s id).service.registers
-abandon_keeps_sent s id f few = (abandon_keeps s id f few).sent
-
-pub abandon_keeps_seen : (s : Kept) (id : ℕ) → Fits s → IsFew (abandon_event s id).service → FitsSeen (abandon_event s id).service.journal (abandon_event s id).service.registers
-abandon_keeps_seen s id f few = (abandon_keeps s id f few).seen
-
-pub abandon_keeps_places : (s : Kept) (id : ℕ) → Fits s → IsFew (abandon_event s id).service → FitsPlaces (abandon_event s id).service.registers (places (abandon_event s id).service)
-abandon_keeps_places s id f few = (abandon_keeps s id f few).places
-
-pub abandon_keeps_flights : (s : Kept) (id : ℕ) → Fits s → IsFew (abandon_event s id).service → FitsFlights (abandon_event s id).service.journal (abandon_event s id).service.flights
-abandon_keeps_flights s id f few = (abandon_keeps s id f few).flights
-
-pub abandon_keeps_orders : (s : Kept) (id : ℕ) → Fits s → IsFew (abandon_event s id).service → EachAfter OrdersOn [] (abandon_event s id).service.journal
-abandon_keeps_orders s id f few = (abandon_keeps s id f few).orders
-
--- ---- a repair step
-
-pub step_keeps : (s : Kept) → Fits s → IsFew (step_event s).service → FitsCalls (step_event s).service
-step_keeps s f few = (step_goes s f).keeps few (calls_of_fits s f)
-
-pub step_keeps_sent : (s : Kept) → Fits s → IsFew (step_event s).service → FitsSent (step_event s).service.journal (step_event s).service.registers
-step_keeps_sent s f few = (step_keeps s f few).sent
-
-pub step_keeps_seen : (s : Kept) → Fits s → IsFew (step_event s).service → FitsSeen (step_event s).service.journal (step_event s).service.registers
-step_keeps_seen s f few = (step_keeps s f few).seen
-
-pub step_keeps_places : (s : Kept) → Fits s → IsFew (step_event s).service → FitsPlaces (step_event s).service.registers (places (step_event s).service)
-step_keeps_places s f few = (step_keeps s f few).places
-
-pub step_keeps_flights : (s : Kept) → Fits s → IsFew (step_event s).service → FitsFlights (step_event s).service.journal (step_event s).service.flights
-step_keeps_flights s f few = (step_keeps s f few).flights
-
-pub step_keeps_orders : (s : Kept) → Fits s → IsFew (step_event s).service → EachAfter OrdersOn [] (step_event s).service.journal
-step_keeps_orders s f few = (step_keeps s f few).orders
-
--- ---- a version of a call taken
-
-pub take_keeps : (s : Kept) (set : SetMessage) (i : Inputs) → Fits s → IsFew (take_event s set i).service → FitsCalls (take_event s set i).service
-take_keeps s set i f few = (take_goes s set i f).keeps few (calls_of_fits s f)
-
-pub take_keeps_sent : (s : Kept) (set : SetMessage) (i : Inputs) → Fits s → IsFew (take_event s set i).service → FitsSent (take_event s set i).service.journal (take_event s set i).service.registers
-take_keeps_sent s set i f few = (take_keeps s set i f few).sent
-
-pub take_keeps_seen : (s : Kept) (set : SetMessage) (i : Inputs) → Fits s → IsFew (take_event s set i).service → FitsSeen (take_event s set i).service.journal (take_event s set i).service.registers
-take_keeps_seen s set i f few = (take_keeps s set i f few).seen
-
-pub take_keeps_places : (s : Kept) (set : SetMessage) (i : Inputs) → Fits s → IsFew (take_event s set i).service → FitsPlaces (take_event s set i).service.registers (places (take_event s set i).service)
-take_keeps_places s set i f few = (take_keeps s set i f few).places
-
-pub take_keeps_flights : (s : Kept) (set : SetMessage) (i : Inputs) → Fits s → IsFew (take_event s set i).service → FitsFlights (take_event s set i).service.journal (take_event s set i).service.flights
-take_keeps_flights s set i f few = (take_keeps s set i f few).flights
-
-pub take_keeps_orders : (s : Kept) (set : SetMessage) (i : Inputs) → Fits s → IsFew (take_event s set i).service → EachAfter OrdersOn [] (take_event s set i).service.journal
-take_keeps_orders s set i f few = (take_keeps s set i f few).orders
-
--- ---- an answer is taken
-
-pub take_answer_keeps : (s : Kept) (a : AnswerMessage) → Fits s → IsFew (take_answer_event s a).service → FitsCalls (take_answer_event s a).service
-take_answer_keeps s a f few = (take_answer_goes s a).keeps few (calls_of_fits s f)
-
-pub take_answer_keeps_sent : (s : Kept) (a : AnswerMessage) → Fits s → IsFew (take_answer_event s a).service → FitsSent (take_answer_event s a).service.journal (take_answer_event s a).service.registers
-take_answer_keeps_sent s a f few = (take_answer_keeps s a f few).sent
-
-pub take_answer_keeps_seen : (s : Kept) (a : AnswerMessage) → Fits s → IsFew (take_answer_event s a).service → FitsSeen (take_answer_event s a).service.journal (take_answer_event s a).service.registers
-take_answer_keeps_seen s a f few = (take_answer_keeps s a f few).seen
-
-pub take_answer_keeps_places : (s : Kept) (a : AnswerMessage) → Fits s → IsFew (take_answer_event s a).service → FitsPlaces (take_answer_event s a).service.registers (places (take_answer_event s a).service)
-take_answer_keeps_places s a f few = (take_answer_keeps s a f few).places
-
-pub take_answer_keeps_flights : (s : Kept) (a : AnswerMessage) → Fits s → IsFew (take_answer_event s a).service → FitsFlights (take_answer_event s a).service.journal (take_answer_event s a).service.flights
-take_answer_keeps_flights s a f few = (take_answer_keeps s a f few).flights
-
-pub take_answer_keeps_orders : (s : Kept) (a : AnswerMessage) → Fits s → IsFew (take_answer_event s a).service → EachAfter OrdersOn [] (take_answer_event s a).service.journal
-take_answer_keeps_orders s a f few = (take_answer_keeps s a f few).orders
-
--- ---- what comes back of a post
-
-pub posted_keeps : (s : Kept) (post : Post) (answer : PostReply) → Fits s → IsFew (posted_event s post answer).service → FitsCalls (posted_event s post answer).service
-posted_keeps s post answer f few = (posted_event_goes s post answer).keeps few (calls_of_fits s f)
-
-pub posted_keeps_sent : (s : Kept) (post : Post) (answer : PostReply) → Fits s → IsFew (posted_event s post answer).service → FitsSent (posted_event s post answer).service.journal (posted_event s post answer).service.registers
-posted_keeps_sent s post answer f few = (posted_keeps s post answer f few).sent
-
-pub posted_keeps_seen : (s : Kept) (post : Post) (answer : PostReply) → Fits s → IsFew (posted_event s post answer).service → FitsSeen (posted_event s post answer).service.journal (posted_event s post answer).service.registers
-posted_keeps_seen s post answer f few = (posted_keeps s post answer f few).seen
-
-pub posted_keeps_places : (s : Kept) (post : Post) (answer : PostReply) → Fits s → IsFew (posted_event s post answer).service → FitsPlaces (posted_event s post answer).service.registers (places (posted_event s post answer).service)
-posted_keeps_places s post answer f few = (posted_keeps s post answer f few).places
-
-pub posted_keeps_flights : (s : Kept) (post : Post) (answer : PostReply) → Fits s → IsFew (posted_event s post answer).service → FitsFlights (posted_event s post answer).service.journal (posted_event s post answer).service.flights
-posted_keeps_flights s post answer f few = (posted_keeps s post answer f few).flights
-
-pub posted_keeps_orders : (s : Kept) (post : Post) (answer : PostReply) → Fits s → IsFew (posted_event s post answer).service → EachAfter OrdersOn [] (posted_event s post answer).service.journal
-posted_keeps_orders s post answer f few = (posted_keeps s post answer f few).orders
-
--- ---- an order
-
-pub order_keeps : (s : Kept) (command : Command) (token who : List ℕ) (i : Inputs) → Fits s → IsFew (order_event s command token who i).service → FitsCalls (order_event s command token who i).service
-order_keeps s command token who i f few = (order_goes s command token who i).keeps few (calls_of_fits s f)
-
-pub order_keeps_sent : (s : Kept) (command : Command) (token who : List ℕ) (i : Inputs) → Fits s → IsFew (order_event s command token who i).service → FitsSent (order_event s command token who i).service.journal (order_event s command token who i).service.registers
-order_keeps_sent s command token who i f few = (order_keeps s command token who i f few).sent
-
-pub order_keeps_seen : (s : Kept) (command : Command) (token who : List ℕ) (i : Inputs) → Fits s → IsFew (order_event s command token who i).service → FitsSeen (order_event s command token who i).service.journal (order_event s command token who i).service.registers
-order_keeps_seen s command token who i f few = (order_keeps s command token who i f few).seen
-
-pub order_keeps_places : (s : Kept) (command : Command) (token who : List ℕ) (i : Inputs) → Fits s → IsFew (order_event s command token who i).service → FitsPlaces (order_event s command token who i).service.registers (places (order_event s command token who i).service)
-order_keeps_places s command token who i f few = (order_keeps s command token who i f few).places
-
-pub order_keeps_flights : (s : Kept) (command : Command) (token who : List ℕ) (i : Inputs) → Fits s → IsFew (order_event s command token who i).service → FitsFlights (order_event s command token who i).service.journal (order_event s command token who i).service.flights
-order_keeps_flights s command token who i f few = (order_keeps s command token who i f few).flights
-
-pub order_keeps_orders : (s : Kept) (command : Command) (token who : List ℕ) (i : Inputs) → Fits s → IsFew (order_event s command token who i).service → EachAfter OrdersOn [] (order_event s command token who i).service.journal
-order_keeps_orders s command token who i f few = (order_keeps s command token who i f few).orders
-
--- ---- each event lets the journal grow
-
-pub arrive_grows : (s : Kept) (o : Origin) (q : Request) (i : Inputs) → Fits s → Grows s (arrive_event s o q i).service
-arrive_grows s o q i f = (arrive_goes s o q i f).grows
-
-pub call_answered_grows : (s : Kept) (id : ℕ) (a : AnswerMessage) → Grows s (call_answered_event s id a).service
-call_answered_grows s id a = (call_answered_goes s id a).grows
-
-pub call_failed_grows : (s : Kept) (id number : ℕ) (why : Why) → Grows s (call_failed_event s id number why).service
-call_failed_grows s id number why = (call_failed_goes s id number why).grows
-
-pub abandon_grows : (s : Kept) (id : ℕ) → Grows s (abandon_event s id).service
-abandon_grows s id = (abandon_goes s id).grows
-
-pub step_grows : (s : Kept) → Fits s → Grows s (step_event s).service
-step_grows s f = (step_goes s f).grows
-
-pub take_grows : (s : Kept) (set : SetMessage) (i : Inputs) → Fits s → Grows s (take_event s set i).service
-take_grows s set i f = (take_goes s set i f).grows
-
-pub take_answer_grows : (s : Kept) (a : AnswerMessage) → Grows s (take_answer_event s a).service
-take_answer_grows s a = (take_answer_goes s a).grows
-
-pub posted_grows : (s : Kept) (post : Post) (answer : PostReply) → Grows s (posted_event s post answer).service
-posted_grows s post answer = (posted_event_goes s post answer).grows
-
-pub order_grows : (s : Kept) (command : Command) (token who : List ℕ) (i : Inputs) → Grows s (order_event s command token who i).service
-order_grows s command token who i = (order_goes s command token who i).grows
+-- Laws of all events of a service: each is one statement, with a case for each event.
+use Rattle.std.proofs.Common.{refl}
+use Rattle.lang_core.specs.declared.ids.Origin.TheVariants.{Outside, Call}
+use Rattle.request_log.specs.Entries.{find_call}
+use Rattle.journal_rows.specs.Words.{last_taken, ordered}
+use Rattle.call_registers.specs.Registers.{register}
+use Rattle.service_events.specs.Event.{event}
+use Rattle.service_events.specs.Fits.{Fits, FitsFlights}
+use Rattle.service_events.specs.Messages.{is_too_much, origin_of}
+use Rattle.service_events.specs.State.{Kept, answers, base, flight_of, is_crowded, is_heavy, is_in_flight, or_else}
+use Rattle.service_events.specs.Steps.{stale_in}
+use Rattle.service_events.specs.declared.event.Event.{Event}
+use Rattle.service_events.specs.declared.event.Event.TheVariants as events
+use Rattle.service_events.proofs.AskedLemmas.{arrives_either, takes_either, posted_either}
+use Rattle.service_events.proofs.CallLaws.{FitsCalls, Goes, IsFew, calls_of_fits, goes_same}
+use Rattle.service_events.proofs.LiveCallLaws.{arrives_goes, outside_apart, call_goes, answered_goes, failed_goes, abandoned_goes}
+use Rattle.service_events.proofs.LiveEntryLaws.{LeavesLogged, arrives_logged, unless_gone_logged, answered_logged, failed_logged, abandoned_logged}
+use Rattle.service_events.proofs.LiveRuns.{admitted_runs, call_runs, answered_runs, failed_runs, abandoned_runs}
+use Rattle.service_events.proofs.MessageLaws.{take_by_goes, answer_taken_where_goes, posted_goes}
+use Rattle.service_events.proofs.OrderLaw.{order_where_logged}
+use Rattle.service_events.proofs.OrderLaws.{order_where_goes}
+use Rattle.service_events.proofs.PartLemmas.{IsLogged, logged}
+use Rattle.service_events.proofs.PostedLaw.{answer_taken_where_logged, posted_logged_by}
+use Rattle.service_events.proofs.RepairRuns.{LeavesRuns, step_by_runs, take_admitted_runs, answer_taken_where_runs, posted_by_runs, order_where_runs}
+use Rattle.service_events.proofs.StepLaw.{step_by_logged}
+use Rattle.service_events.proofs.StepLaws.{step_by_goes}
+use Rattle.service_events.proofs.TakeLaw.{take_admitted_logged}
+
+-- ---- the journal grows, and what fits of calls is kept
+
+-- what an event asks for it: an arrival, a version and a step ask that the service fits its journal
+abbrev pub GoesWhere : Kept → Event → Type 0
+GoesWhere s (events.Arrive o q i) = Fits s
+GoesWhere s (events.Take set i) = Fits s
+GoesWhere s events.Step = Fits s
+GoesWhere s e = Unit {0}
+
+pub goes_where_fits : (s : Kept) (e : Event) → Fits s → GoesWhere s e
+goes_where_fits s (events.Arrive o q i) f = f
+goes_where_fits s (events.Take set i) f = f
+goes_where_fits s events.Step f = f
+goes_where_fits s (events.CallAnswered id a) f = tt
+goes_where_fits s (events.CallFailed id number why) f = tt
+goes_where_fits s (events.Abandon id) f = tt
+goes_where_fits s (events.TakeAnswer a) f = tt
+goes_where_fits s (events.NextPost dest) f = tt
+goes_where_fits s (events.WritePost name) f = tt
+goes_where_fits s (events.Posted post reply) f = tt
+goes_where_fits s (events.Order command token who i) f = tt
+
+pub event_goes : (s : Kept) (e : Event) → GoesWhere s e → Goes s (event s e).service
+event_goes s (events.Arrive Outside q i) f = arrives_goes s Outside q i (or_else (is_crowded s) (is_heavy s)) (outside_apart s.flights) refl
+event_goes s (events.Arrive (Call c n) q i) f =
+    call_goes s c n q i (is_in_flight (Call c n) s) (last_taken c n s.journal) (find_call (Call c n) s.entries) f refl refl refl
+event_goes s (events.CallAnswered id a) _ = answered_goes s id a (flight_of id s) refl
+event_goes s (events.CallFailed id number why) _ = failed_goes s id number why (flight_of id s) refl
+event_goes s (events.Abandon id) _ = abandoned_goes s id (flight_of id s) refl
+event_goes s (events.Take set i) f = take_by_goes s set i (is_in_flight (origin_of set) s) f.asked.distinct refl
+event_goes s (events.TakeAnswer a) _ = answer_taken_where_goes s a (register a.number s.registers) refl
+event_goes s (events.NextPost dest) _ = goes_same s
+event_goes s (events.WritePost name) _ = goes_same s
+event_goes s (events.Posted post reply) _ = posted_either s post reply (λ a. Goes s a.service) (goes_same s) (posted_goes s post reply)
+event_goes s events.Step f = step_by_goes s (stale_in (answers s) (base s) s.entries) refl f.asked.distinct
+event_goes s (events.Order command token who i) _ = order_where_goes s command token who i (ordered token s.journal) refl
+
+-- ---- entries and replies follow from the journal
+
+event_logged : (s : Kept) (e : Event) → IsLogged s.journal s.entries s.replies → FitsFlights s.journal s.flights → IsFew (event s e).service
+    → LeavesLogged (event s e)
+event_logged s (events.Arrive Outside q i) l flights few = arrives_logged s l Outside q i refl
+event_logged s (events.Arrive (Call c n) q i) l flights few =
+    arrives_either s c n q i LeavesLogged l (unless_gone_logged s l c n q i (last_taken c n s.journal) refl)
+event_logged s (events.CallAnswered id a) l flights few = answered_logged s l flights id a (flight_of id s) refl
+event_logged s (events.CallFailed id number why) l flights few = failed_logged s l flights id number why (flight_of id s) refl
+event_logged s (events.Abandon id) l flights few = abandoned_logged s l (flight_of id s)
+event_logged s (events.Take set i) l flights few = takes_either s set i LeavesLogged l (take_admitted_logged s l set i (is_too_much s set))
+event_logged s (events.TakeAnswer a) l flights few = answer_taken_where_logged s l a (register a.number s.registers)
+event_logged s (events.NextPost dest) l flights few = l
+event_logged s (events.WritePost name) l flights few = l
+event_logged s (events.Posted post reply) l flights few = posted_either s post reply LeavesLogged l (posted_logged_by s l post reply)
+event_logged s events.Step l flights few = step_by_logged s l (stale_in (answers s) (base s) s.entries) refl few
+event_logged s (events.Order command token who i) l flights few = order_where_logged s l command token who i (ordered token s.journal)
+
+-- ---- records are what runs gave
+
+event_runs : (s : Kept) (e : Event) → Fits s → LeavesRuns (event s e)
+event_runs s (events.Arrive Outside q i) f = admitted_runs s f Outside q i (or_else (is_crowded s) (is_heavy s))
+event_runs s (events.Arrive (Call c n) q i) f = arrives_either s c n q i LeavesRuns f.runs (call_runs s f c n q i)
+event_runs s (events.CallAnswered id a) f = answered_runs s f id a (flight_of id s) refl
+event_runs s (events.CallFailed id number why) f = failed_runs s f id number why (flight_of id s) refl
+event_runs s (events.Abandon id) f = abandoned_runs s f (flight_of id s)
+event_runs s (events.Take set i) f = takes_either s set i LeavesRuns f.runs (take_admitted_runs s f.runs set i (is_too_much s set))
+event_runs s (events.TakeAnswer a) f = answer_taken_where_runs s f.runs a (register a.number s.registers)
+event_runs s (events.NextPost dest) f = f.runs
+event_runs s (events.WritePost name) f = f.runs
+event_runs s (events.Posted post reply) f = posted_either s post reply LeavesRuns f.runs (λ _ _. posted_by_runs s f.runs post reply)
+event_runs s events.Step f = step_by_runs s f.runs (stale_in (answers s) (base s) s.entries)
+event_runs s (events.Order command token who i) f = order_where_runs s f.runs command token who i (ordered token s.journal)
+
+-- ---- all of it
+
+-- a service that fits its journal fits it after each event, where the journal after it has fewer rows than a number of 64 bits counts
+pub event_fits : (s : Kept) (e : Event) → Fits s → IsFew (event s e).service → Fits (event s e).service
+event_fits s e f few =
+    let calls : FitsCalls (event s e).service = (event_goes s e (goes_where_fits s e f)).keeps few (calls_of_fits s f) in
+    let entries : IsLogged (event s e).service.journal (event s e).service.entries (event s e).service.replies = event_logged s e (logged s f) f.flights few in
+    record {
+      sent = calls.sent;
+      seen = calls.seen;
+      taken = entries.taken;
+      asked = entries.asked;
+      runs = event_runs s e f;
+      answered = entries.answered;
+      replies = entries.replies;
+      places = calls.places;
+      flights = calls.flights;
+      orders = calls.orders;
+    }

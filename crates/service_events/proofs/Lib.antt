@@ -25,8 +25,6 @@ pub mod AloftLemmas
 pub mod AskedLemmas
 pub mod KnownLaws
 pub mod LiveRuns
-pub mod LiveEvents
-pub mod RepairEvents
 pub mod CallRowLemmas
 pub mod RegisterLemmas
 pub mod SentLemmas

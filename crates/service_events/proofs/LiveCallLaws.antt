@@ -24,7 +24,7 @@ use Rattle.flights.specs.declared.flight.Flight.{Flight}
 use Rattle.service_events.specs.State.{Kept, after, or_else, is_crowded, is_heavy, is_in_flight, same_call_origin, flight_of, without_flight, with_flight}
 use Rattle.service_events.specs.Calls.{noted, all_deleted}
 use Rattle.service_events.specs.Flying.{goes_on, awaited}
-use Rattle.service_events.specs.Arriving.{new_flight, admitted, known_by, arrives_or_known, by_version, unless_gone, arrive_event, answers_register, is_for, is_new_to, seen_live, live_answer_rows, answered_flight, call_answered_event, told, failed_flight, call_failed_event, abandoned, abandon_event}
+use Rattle.service_events.specs.Arriving.{new_flight, admitted, known_by, arrives_or_known, by_version, unless_gone, answers_register, is_for, is_new_to, seen_live, live_answer_rows, answered_flight, told, failed_flight, abandoned}
 use Rattle.service_events.specs.Fits.{Fits, FitsPlaces, takes_request, calls_of_entry, calls_of_flight}
 use Rattle.service_events.proofs.CallRowLemmas.{go_on, all_follow, each_weaker, IsSending, IsUnseen, IsUntaken, IsUnordered, sending_unseen, sending_untaken, sending_unordered}
 use Rattle.service_events.proofs.PlaceLemmas.{with_none}
@@ -63,7 +63,7 @@ begins s o q i apart free = record {
       });
 }
 
-arrives_goes : (s : Kept) (o : Origin) (q : Request) (i : Inputs) (n : Option ℕ) → is_in_flight o s ≡ false → last_taken_of o s.journal ≡ None
+pub arrives_goes : (s : Kept) (o : Origin) (q : Request) (i : Inputs) (n : Option ℕ) → is_in_flight o s ≡ false → last_taken_of o s.journal ≡ None
     → Goes s (admitted s o q i n).service
 arrives_goes s o q i (Some n) apart free = goes_same s
 arrives_goes s o q i None apart free =
@@ -129,18 +129,13 @@ by_version_goes s c n q i t None e f last asks entry = goes_same s
 by_version_goes s c n q i t (Some r) (Some e) f last asks entry = known_goes s c n e (record_of e)
 by_version_goes s c n q i t (Some r) None f last asks entry = absurd (has_entry s c n t r f last asks entry)
 
-call_goes : (s : Kept) (c : List ℕ) (n : ℕ) (q : Request) (i : Inputs) (b : Bool) (t : Option TookRow) (e : Option Entry) → Fits s → is_in_flight (Call c n) s ≡ b
+pub call_goes : (s : Kept) (c : List ℕ) (n : ℕ) (q : Request) (i : Inputs) (b : Bool) (t : Option TookRow) (e : Option Entry) → Fits s → is_in_flight (Call c n) s ≡ b
     → last_taken c n s.journal ≡ t → find_call (Call c n) s.entries ≡ e
     → Goes s (if b then after s (Err (NotYet n)) else unless_gone s t (arrives_or_known s c n q i e)).service
 call_goes s c n q i true t e f flies last entry = goes_same s
 call_goes s c n q i false None None f flies last entry = arrives_goes s (Call c n) q i (or_else (is_crowded s) (is_heavy s)) flies last
 call_goes s c n q i false None (Some e) f flies last entry = known_goes s c n e (record_of e)
 call_goes s c n q i false (Some t) e f flies last entry = by_version_goes s c n q i t t.desired e f last refl entry
-
-pub arrive_goes : (s : Kept) (o : Origin) (q : Request) (i : Inputs) → Fits s → Goes s (arrive_event s o q i).service
-arrive_goes s Outside q i f = arrives_goes s Outside q i (or_else (is_crowded s) (is_heavy s)) (outside_apart s.flights) refl
-arrive_goes s (Call c n) q i f =
-    call_goes s c n q i (is_in_flight (Call c n) s) (last_taken c n s.journal) (find_call (Call c n) s.entries) f refl refl refl
 
 -- ---- a flight that is there
 
@@ -175,7 +170,7 @@ heard_goes s a r found =
     let P : Option Register → Type 0 = λ o. Goes s (noted (SawAck (record { number = a.number; version = a.version; how = WithAnswer a.answer_version }) ∷ (if is_new_to a o then seen_live a ∷ [] else [])) s) in
     subst P (sym found) (answer_taken_by_goes s a r (is_newer r.answer a.answer_version) found refl)
 
-answered_goes : (s : Kept) (id : ℕ) (a : AnswerMessage) (o : Option Flight) → flight_of id s ≡ o → Goes s (answered_flight s id a o).service
+pub answered_goes : (s : Kept) (id : ℕ) (a : AnswerMessage) (o : Option Flight) → flight_of id s ≡ o → Goes s (answered_flight s id a o).service
 answered_goes s id a None is = goes_same s
 answered_goes s id a (Some f) is = elim (cases_Bool (is_for s a f)) [
   | inl does ↦ rw does (
@@ -187,12 +182,9 @@ answered_goes s id a (Some f) is = elim (cases_Bool (is_for s a f)) [
   | inr isnt ↦ rw isnt (goes_same s)
 ]
 
-pub call_answered_goes : (s : Kept) (id : ℕ) (a : AnswerMessage) → Goes s (call_answered_event s id a).service
-call_answered_goes s id a = answered_goes s id a (flight_of id s) refl
-
 -- ---- a call's failure
 
-failed_goes : (s : Kept) (id number : ℕ) (why : Why) (o : Option Flight) → flight_of id s ≡ o → Goes s (failed_flight s id number why o).service
+pub failed_goes : (s : Kept) (id number : ℕ) (why : Why) (o : Option Flight) → flight_of id s ≡ o → Goes s (failed_flight s id number why o).service
 failed_goes s id number why None is = goes_same s
 failed_goes s id number why (Some f) is = elim (cases_Bool (nat_eq (awaited f) number)) [
   | inl does ↦ rw does (
@@ -201,9 +193,6 @@ failed_goes s id number why (Some f) is = elim (cases_Bool (nat_eq (awaited f) n
       (goes_then t (flying t f) (goes_on t f).service (flies_known t id f is) (goes_on_goes t f)))
   | inr isnt ↦ rw isnt (goes_same s)
 ]
-
-pub call_failed_goes : (s : Kept) (id number : ℕ) (why : Why) → Goes s (call_failed_event s id number why).service
-call_failed_goes s id number why = failed_goes s id number why (flight_of id s) refl
 
 -- ---- an abandonment
 
@@ -232,10 +221,7 @@ goes_without s f =
           (flies_rows s.journal rows fs (each_weaker IsSending IsUntaken sending_untaken rows sending) (subst F (sym w.without) (flies_drop s.journal w.lows f w.highs old)))));
     }
 
-abandoned_goes : (s : Kept) (id : ℕ) (o : Option Flight) → flight_of id s ≡ o → Goes s (abandoned s o).service
+pub abandoned_goes : (s : Kept) (id : ℕ) (o : Option Flight) → flight_of id s ≡ o → Goes s (abandoned s o).service
 abandoned_goes s id None is = goes_same s
 abandoned_goes s id (Some f) is =
     goes_then s (flying s f) (abandoned s (Some f)).service (flies_known s id f is) (goes_without s f)
-
-pub abandon_goes : (s : Kept) (id : ℕ) → Goes s (abandon_event s id).service
-abandon_goes s id = abandoned_goes s id (flight_of id s) refl

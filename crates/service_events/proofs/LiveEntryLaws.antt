@@ -3,7 +3,7 @@ use Rattle.std.proofs.Common.{◌≡◌, ℕ, zero, suc, Bool, true, false, cond
 use Rattle.std.specs.List.{AllByRecursion as Each}
 use Rattle.std.proofs.lemmas.Bool.{cond_both}
 use Rattle.lang_core.specs.declared.ids.Origin.{Origin}
-use Rattle.lang_core.specs.declared.ids.Origin.TheVariants.{Outside, Call}
+use Rattle.lang_core.specs.declared.ids.Origin.TheVariants.{Call}
 use Rattle.lang_core.specs.declared.inputs.Inputs.{Inputs}
 use Rattle.lang_core.specs.declared.request.Request.{Request}
 use Rattle.lang_core.specs.declared.trace.CallMade.{CallMade}
@@ -24,11 +24,11 @@ use Rattle.flights.specs.Moves.{calls_in, next_move}
 use Rattle.flights.specs.declared.flight.Flight.{Flight}
 use Rattle.flights.specs.declared.flight.Move.{Move}
 use Rattle.flights.specs.declared.flight.Move.TheVariants.{Commit, Name, Change}
-use Rattle.service_events.specs.Arriving.{accepted, new_flight, admitted, arrives, known_by, arrives_or_known, by_version, unless_gone, arrive_event, is_for, live_answer_rows, is_new_to, seen_live, answered_flight, call_answered_event, told, failed_flight, call_failed_event, abandoned, abandon_event}
+use Rattle.service_events.specs.Arriving.{accepted, new_flight, admitted, arrives, known_by, arrives_or_known, by_version, unless_gone, is_for, live_answer_rows, is_new_to, seen_live, answered_flight, told, failed_flight, abandoned}
 use Rattle.service_events.specs.Calls.{noted, named, all_deleted}
 use Rattle.service_events.specs.Fits.{FitsFlights}
 use Rattle.service_events.specs.Flying.{flight_run, awaited, committed, with_slot, with_change, deletion, change_rows, waits, call_or_none, wanted_of, named_unsent, changed_unsent, completing, completed, changed, moved, goes_on}
-use Rattle.service_events.specs.State.{Kept, After, after, or_else, is_crowded, is_heavy, is_in_flight, has_flight, flight_of}
+use Rattle.service_events.specs.State.{Kept, After, after, or_else, is_crowded, is_heavy, has_flight, flight_of}
 use Rattle.service_events.specs.declared.answers.Arrived.{Arrived}
 use Rattle.service_events.specs.declared.refusals.ArriveRefused.{ArriveRefused}
 use Rattle.service_events.specs.declared.refusals.CallRefused.{CallRefused}
@@ -117,7 +117,7 @@ module _ (s : Kept) (h : IsLogged s.journal s.entries s.replies) where
   admitted_logged o q i (Some n) none = h
   admitted_logged o q i None none = goes_on_logged s (new_flight s o q i) (record { logged = h; untaken = none })
 
-  arrives_logged : (o : Origin) (q : Request) (i : Inputs) → last_taken_of o s.journal ≡ None → LeavesLogged (arrives s o q i)
+  pub arrives_logged : (o : Origin) (q : Request) (i : Inputs) → last_taken_of o s.journal ≡ None → LeavesLogged (arrives s o q i)
   arrives_logged o q i none = admitted_logged o q i (or_else (is_crowded s) (is_heavy s)) none
 
   known_logged : (c : List ℕ) (n : ℕ) (e : Entry) (made : Option Record) → LeavesLogged (known_by s c n e made)
@@ -141,20 +141,13 @@ module _ (s : Kept) (h : IsLogged s.journal s.entries s.replies) where
       let gone : is_some (find_call (Call c n) s.entries) ≡ false = ap is_some (is ∙ none) in
       cc
 
-  unless_gone_logged : (c : List ℕ) (n : ℕ) (q : Request) (i : Inputs) (last : Option TookRow) → last_taken c n s.journal ≡ last
+  pub unless_gone_logged : (c : List ℕ) (n : ℕ) (q : Request) (i : Inputs) (last : Option TookRow) → last_taken c n s.journal ≡ last
       → LeavesLogged (unless_gone s last (arrives_or_known s c n q i (find_call (Call c n) s.entries)))
   unless_gone_logged c n q i None is = or_known_logged c n q i (find_call (Call c n) s.entries) (λ _. is)
   unless_gone_logged c n q i (Some t) is =
       by_version_logged t.version t.desired (arrives_or_known s c n q i (find_call (Call c n) s.entries))
       (λ some. or_known_logged c n q i (find_call (Call c n) s.entries)
       (λ none. absurd (has_entry c n t is some (find_call (Call c n) s.entries) refl none)))
-
-  pub arrive_logged : (o : Origin) (q : Request) (i : Inputs) → LeavesLogged (arrive_event s o q i)
-  arrive_logged Outside q i = arrives_logged Outside q i refl
-  arrive_logged (Call c n) q i =
-      cond_both (is_in_flight (Call c n) s) (after s (Err (ArriveRefused.NotYet n)))
-      (unless_gone s (last_taken c n s.journal) (arrives_or_known s c n q i (find_call (Call c n) s.entries))) LeavesLogged
-      (λ _. h) (λ _. unless_gone_logged c n q i (last_taken c n s.journal) refl)
 
 -- ---- what comes back of a call
 
@@ -166,7 +159,7 @@ module _ (s : Kept) (h : IsLogged s.journal s.entries s.replies) (flights : Fits
   free : (id : ℕ) (f : Flight) → flight_of id s ≡ Some f → last_taken_of f.origin s.journal ≡ None
   free id f found = found_all (λ (g : Flight). last_taken_of g.origin s.journal ≡ None) (has_flight id) s.flights f flights.untaken found
 
-  answered_logged : (id : ℕ) (a : AnswerMessage) (o : Option Flight) → flight_of id s ≡ o → LeavesLogged (answered_flight s id a o)
+  pub answered_logged : (id : ℕ) (a : AnswerMessage) (o : Option Flight) → flight_of id s ≡ o → LeavesLogged (answered_flight s id a o)
   answered_logged id a None is = h
   answered_logged id a (Some f) is =
       cond_both (is_for s a f) (accepted (goes_on (noted (live_answer_rows s a) s) f)) (after s (Err (CallRefused.NoFlight id))) LeavesLogged
@@ -174,22 +167,13 @@ module _ (s : Kept) (h : IsLogged s.journal s.entries s.replies) (flights : Fits
       (fly_noted s.journal (live_answer_rows s a) s.entries s.replies f.origin (tt, heard_callers s a (is_new_to a (register a.number s.registers)))
       (record { logged = h; untaken = free id f is }))) (λ _. h)
 
-  pub call_answered_logged : (id : ℕ) (a : AnswerMessage) → LeavesLogged (call_answered_event s id a)
-  call_answered_logged id a = answered_logged id a (flight_of id s) refl
-
-  failed_logged : (id number : ℕ) (why : Why) (o : Option Flight) → flight_of id s ≡ o → LeavesLogged (failed_flight s id number why o)
+  pub failed_logged : (id number : ℕ) (why : Why) (o : Option Flight) → flight_of id s ≡ o → LeavesLogged (failed_flight s id number why o)
   failed_logged id number why None is = h
   failed_logged id number why (Some f) is =
       cond_both (nat_eq (awaited f) number) (accepted (goes_on (told number why s) f)) (after s (Err (CallRefused.NoFlight id))) LeavesLogged
       (λ _. goes_on_logged (told number why s) f (record { logged = h; untaken = free id f is })) (λ _. h)
 
-  pub call_failed_logged : (id number : ℕ) (why : Why) → LeavesLogged (call_failed_event s id number why)
-  call_failed_logged id number why = failed_logged id number why (flight_of id s) refl
-
-abandoned_logged : (s : Kept) → IsLogged s.journal s.entries s.replies → (o : Option Flight) → LeavesLogged (abandoned s o)
+pub abandoned_logged : (s : Kept) → IsLogged s.journal s.entries s.replies → (o : Option Flight) → LeavesLogged (abandoned s o)
 abandoned_logged s h None = h
 abandoned_logged s h (Some f) =
     callers_logged s.journal (all_deleted s.registers f.numbers f.calls) s.entries s.replies (deleted_callers s.registers f.numbers f.calls) h
-
-pub abandon_logged : (s : Kept) (id : ℕ) → IsLogged s.journal s.entries s.replies → LeavesLogged (abandon_event s id)
-abandon_logged s id h = abandoned_logged s h (flight_of id s)

@@ -5,7 +5,7 @@ use Rattle.std.proofs.lemmas.List.{length-map, map-append, take-map, take-set}
 use Rattle.std.proofs.lemmas.List.Elements.{All-push}
 use Rattle.lang_core.specs.Traces.{dead_trace}
 use Rattle.lang_core.specs.declared.ids.Origin.{Origin}
-use Rattle.lang_core.specs.declared.ids.Origin.TheVariants.{Outside, Call}
+use Rattle.lang_core.specs.declared.ids.Origin.TheVariants.{Call}
 use Rattle.lang_core.specs.declared.inputs.Inputs.{Inputs}
 use Rattle.lang_core.specs.declared.request.Request.{Request}
 use Rattle.lang_core.specs.declared.request.Response.{Response}
@@ -33,11 +33,11 @@ use Rattle.flights.specs.Moves.{calls_in, first_other, by_run, change_or, next_m
 use Rattle.flights.specs.declared.flight.Flight.{Flight}
 use Rattle.flights.specs.declared.flight.Move.{Move}
 use Rattle.flights.specs.declared.flight.Move.TheVariants.{Commit, Name, Change}
-use Rattle.service_events.specs.Arriving.{accepted, new_flight, admitted, known_by, arrives_or_known, by_version, unless_gone, arrive_event, is_for, live_answer_rows, is_new_to, seen_live, answered_flight, call_answered_event, told, failed_flight, call_failed_event, abandoned, abandon_event}
+use Rattle.service_events.specs.Arriving.{accepted, new_flight, admitted, known_by, arrives_or_known, by_version, unless_gone, is_for, live_answer_rows, is_new_to, seen_live, answered_flight, told, failed_flight, abandoned}
 use Rattle.service_events.specs.Calls.{noted, named, after_rows}
 use Rattle.service_events.specs.Fits.{Fits}
 use Rattle.service_events.specs.Flying.{flight_run, awaited, live_version, committed_entry, committed, with_slot, with_change, change_rows, waits, call_or_none, named_unsent, changed_unsent, completing, completed, changed, moved, goes_on}
-use Rattle.service_events.specs.State.{Kept, After, after, answers, or_else, is_crowded, is_heavy, is_in_flight, flight_of, base}
+use Rattle.service_events.specs.State.{Kept, After, after, answers, or_else, is_crowded, is_heavy, flight_of, base}
 use Rattle.service_events.specs.declared.answers.Arrived.{Arrived}
 use Rattle.service_events.specs.declared.refusals.ArriveRefused.{ArriveRefused}
 use Rattle.service_events.specs.declared.refusals.CallRefused.{CallRefused}
@@ -225,7 +225,7 @@ goes_on_runs s f a h = moved_runs s f (flight_run s f) (next_move f (flight_run 
 -- ---- the events
 
 module _ (s : Kept) (h : Fits s) where
-  admitted_runs : (o : Origin) (q : Request) (i : Inputs) (full : Option ℕ) → LeavesRuns (admitted s o q i full)
+  pub admitted_runs : (o : Origin) (q : Request) (i : Inputs) (full : Option ℕ) → LeavesRuns (admitted s o q i full)
   admitted_runs o q i (Some n) = h.runs
   admitted_runs o q i None = goes_on_runs s (new_flight s o q i) (record { numbered = h.sent.numbered; apart = tt; within = tt; many = refl }) h.runs
 
@@ -245,18 +245,17 @@ module _ (s : Kept) (h : Fits s) where
   unless_gone_runs None known keeps = keeps
   unless_gone_runs (Some t) known keeps = by_version_runs t.version t.desired known keeps
 
-  pub arrive_runs : (o : Origin) (q : Request) (i : Inputs) → LeavesRuns (arrive_event s o q i)
-  arrive_runs Outside q i = admitted_runs Outside q i (or_else (is_crowded s) (is_heavy s))
-  arrive_runs (Call c n) q i =
-      cond_both (is_in_flight (Call c n) s) (after s (Err (ArriveRefused.NotYet n)))
-      (unless_gone s (last_taken c n s.journal) (arrives_or_known s c n q i (find_call (Call c n) s.entries))) LeavesRuns
-      (λ _. h.runs) (λ _. unless_gone_runs (last_taken c n s.journal) (arrives_or_known s c n q i (find_call (Call c n) s.entries)) (or_known_runs c n q i (find_call (Call c n) s.entries)))
+  pub call_runs : (c : List ℕ) (n : ℕ) (q : Request) (i : Inputs)
+      → LeavesRuns (unless_gone s (last_taken c n s.journal) (arrives_or_known s c n q i (find_call (Call c n) s.entries)))
+  call_runs c n q i =
+      let entry = find_call (Call c n) s.entries in
+      unless_gone_runs (last_taken c n s.journal) (arrives_or_known s c n q i entry) (or_known_runs c n q i entry)
 
   heard_aloft : (a : AnswerMessage) (new : Bool) (rs : List Register) (at : ℕ) (ns : List ℕ) (cs : List CallMade) → IsAloft rs ns cs → IsAloft (after_rows at rs (cond new (seen_live a ∷ []) [])) ns cs
   heard_aloft a true rs at ns cs l = answered_aloft a.number (record { answer_version = a.answer_version; version = a.version; response = a.response }) rs ns cs l
   heard_aloft a false rs at ns cs l = l
 
-  answered_runs : (id : ℕ) (a : AnswerMessage) (o : Option Flight) → flight_of id s ≡ o → LeavesRuns (answered_flight s id a o)
+  pub answered_runs : (id : ℕ) (a : AnswerMessage) (o : Option Flight) → flight_of id s ≡ o → LeavesRuns (answered_flight s id a o)
   answered_runs id a None is = h.runs
   answered_runs id a (Some f) is =
       cond_both (is_for s a f) (accepted (goes_on (noted (live_answer_rows s a) s) f)) (after s (Err (CallRefused.NoFlight id))) LeavesRuns
@@ -268,21 +267,12 @@ module _ (s : Kept) (h : Fits s) where
       saw : AnswerMessage → Row
       saw a = SawAck (record { number = a.number; version = a.version; how = WithAnswer a.answer_version })
 
-  pub call_answered_runs : (id : ℕ) (a : AnswerMessage) → LeavesRuns (call_answered_event s id a)
-  call_answered_runs id a = answered_runs id a (flight_of id s) refl
-
-  failed_runs : (id number : ℕ) (why : Why) (o : Option Flight) → flight_of id s ≡ o → LeavesRuns (failed_flight s id number why o)
+  pub failed_runs : (id number : ℕ) (why : Why) (o : Option Flight) → flight_of id s ≡ o → LeavesRuns (failed_flight s id number why o)
   failed_runs id number why None is = h.runs
   failed_runs id number why (Some f) is =
       cond_both (nat_eq (awaited f) number) (accepted (goes_on (told number why s) f)) (after s (Err (CallRefused.NoFlight id))) LeavesRuns
       (λ _. goes_on_runs (told number why s) f (told_aloft number why s.registers f.numbers f.calls (aloft_of s id f h is)) h.runs) (λ _. h.runs)
 
-  pub call_failed_runs : (id number : ℕ) (why : Why) → LeavesRuns (call_failed_event s id number why)
-  call_failed_runs id number why = failed_runs id number why (flight_of id s) refl
-
-  abandoned_runs : (o : Option Flight) → LeavesRuns (abandoned s o)
+  pub abandoned_runs : (o : Option Flight) → LeavesRuns (abandoned s o)
   abandoned_runs None = h.runs
   abandoned_runs (Some f) = h.runs
-
-  pub abandon_runs : (id : ℕ) → LeavesRuns (abandon_event s id)
-  abandon_runs id = abandoned_runs (flight_of id s)

@@ -26,13 +26,13 @@ use Rattle.call_registers.specs.Replies.{reply, at_entry, with_taken, made_due}
 use Rattle.flights.specs.declared.flight.Flight.{Flight}
 use Rattle.service_events.specs.State.{Kept, after, me, next_id, is_in_flight, same_call_origin}
 use Rattle.service_events.specs.Calls.{noted}
-use Rattle.service_events.specs.Messages.{take_decision, take_rule, take_new, origin_of, is_known, is_too_much, acked_row, took_row, at_reply_of, acked_again, created_entry, created_reply, created_place, at_version, taken_by, take_admitted, take_event, confirmed_row, hear_decision, seen_row, heard, hear_rule, hear_allowed, hear_new, answer_taken_where, take_answer_event, had_call, is_ack_of, replies_to, had, is_now, hold_of, held_back, held_where, saw_ack_row, was_confirmed_row, confirmed_reply, posted, posted_event}
+use Rattle.service_events.specs.Messages.{take_decision, take_rule, take_new, origin_of, is_known, is_too_much, acked_row, took_row, at_reply_of, acked_again, created_entry, created_reply, created_place, at_version, taken_by, take_admitted, confirmed_row, hear_decision, seen_row, heard, hear_rule, hear_allowed, hear_new, answer_taken_where, had_call, is_ack_of, replies_to, had, is_now, hold_of, held_back, held_where, saw_ack_row, was_confirmed_row, confirmed_reply, posted}
 use Rattle.service_events.specs.Questions.{is_denied}
 use Rattle.service_events.specs.declared.answers.PostReply.{PostReply}
 use Rattle.service_events.specs.declared.answers.PostReply.TheVariants.{Acked as WasAcked, Confirmed as WasConfirmedBack, Refused, Lost}
 use Rattle.service_events.specs.declared.refusals.AnswerRefused.TheVariants.{Unknown}
 use Rattle.service_events.specs.declared.refusals.TakeRefused.TheVariants.{NotYet}
-use Rattle.service_events.specs.Fits.{OrdersOn, Fits, calls_of_flight}
+use Rattle.service_events.specs.Fits.{OrdersOn, calls_of_flight}
 use Rattle.service_events.proofs.CallRowLemmas.{Each, kind_follows, IsPlain, IsUnseen, IsUnordered}
 use Rattle.service_events.proofs.FlightLemmas.{LeavesOrigin, same_flips, any_none, flies_rows, flies_took}
 use Rattle.service_events.proofs.HeardLemmas.{goes_heard, false_is_not_true, seen_by, known, older_by, as_new_by, claims_below}
@@ -110,13 +110,10 @@ admitted_goes s set i None distinct apart = elim (cases_Bool (is_known s set)) [
   | inr new ↦ rw new (new_goes s set i distinct apart)
 ]
 
-take_by : (s : Kept) (set : SetMessage) (i : Inputs) (b : Bool) → IsDistinct s.entries → is_in_flight (origin_of set) s ≡ b
+pub take_by_goes : (s : Kept) (set : SetMessage) (i : Inputs) (b : Bool) → IsDistinct s.entries → is_in_flight (origin_of set) s ≡ b
     → Goes s (if b then after s (Err (NotYet set.number)) else take_admitted s set i (is_too_much s set)).service
-take_by s set i true distinct is = goes_same s
-take_by s set i false distinct is = admitted_goes s set i (is_too_much s set) distinct is
-
-pub take_goes : (s : Kept) (set : SetMessage) (i : Inputs) → Fits s → Goes s (take_event s set i).service
-take_goes s set i f = take_by s set i (is_in_flight (origin_of set) s) f.asked.distinct refl
+take_by_goes s set i true distinct is = goes_same s
+take_by_goes s set i false distinct is = admitted_goes s set i (is_too_much s set) distinct is
 
 -- ---- an answer
 
@@ -172,12 +169,9 @@ answer_taken_by_cases s a r true true found is = elim (cases_Bool (is_denied (he
 ]
 answer_taken_by_cases s a r true false found is = heard_old s a r found is
 
-answer_taken_where_goes : (s : Kept) (a : AnswerMessage) (o : Option Register) → register a.number s.registers ≡ o → Goes s (answer_taken_where s a o).service
+pub answer_taken_where_goes : (s : Kept) (a : AnswerMessage) (o : Option Register) → register a.number s.registers ≡ o → Goes s (answer_taken_where s a o).service
 answer_taken_where_goes s a None is = goes_same s
 answer_taken_where_goes s a (Some r) is = answer_taken_by_cases s a r (same_text r.dest a.callee) (is_newer r.answer a.answer_version) is refl
-
-pub take_answer_goes : (s : Kept) (a : AnswerMessage) → Goes s (take_answer_event s a).service
-take_answer_goes s a = answer_taken_where_goes s a (register a.number s.registers) refl
 
 -- ---- what comes back of a post
 
@@ -224,7 +218,7 @@ acked_goes s (Set set) ack have reply =
         eqb-true ack.number set.number
         (number_by (same_text ack.caller set.caller) (same_text ack.dest set.dest) (nat_eq ack.number set.number) (nat_eq ack.version set.version) h)
 
-posted_goes : (s : Kept) (post : Post) (answer : PostReply) → had s post ≡ true → replies_to post answer ≡ true → Goes s (posted s post answer).service
+pub posted_goes : (s : Kept) (post : Post) (answer : PostReply) → had s post ≡ true → replies_to post answer ≡ true → Goes s (posted s post answer).service
 posted_goes s post (WasAcked ack) have reply = acked_goes s post ack have reply
 posted_goes s post (WasConfirmedBack c) have reply =
     let ps = confirmed_reply s post c.answer_version in
@@ -233,9 +227,3 @@ posted_goes s post (WasConfirmedBack c) have reply =
     (goes_plain t (was_confirmed_row c ∷ []) (tt, tt) (tt, tt) (λ h. (tt, tt)) (λ h. flies_rows s.journal (was_confirmed_row c ∷ []) s.flights (tt, tt) h))
 posted_goes s post (Refused word number) have reply = held_goes s post (hold_of word number)
 posted_goes s post (Lost note) have reply = goes_same s
-
-pub posted_event_goes : (s : Kept) (post : Post) (answer : PostReply) → Goes s (posted_event s post answer).service
-posted_event_goes s post answer = elim (cases_Bool (had s post && replies_to post answer)) [
-  | inl is ↦ (let parts = and_parts (had s post) (replies_to post answer) is in rw is (posted_goes s post answer parts.0 parts.1))
-  | inr isnt ↦ rw isnt (goes_same s)
-]

@@ -16,7 +16,7 @@ use Rattle.request_log.specs.declared.entry.Entry.{Entry}
 use Rattle.repair_messages.specs.declared.posts.PostName.{PostName}
 use Rattle.repair_messages.specs.declared.posts.PostName.TheVariants.{Call as OfCall, Reply as OfReply}
 use Rattle.create_placement.specs.Placement.{place_between, created}
-use Rattle.journal_rows.specs.Words.{first_asked, asked_step, asked, count_step, taken_step, last_taken_of, version_in, wants, request_step, request_now, struck_by, struck_step, is_struck, replaced_by, answered_step, mark_step, ordered, or_before, is_about, settles}
+use Rattle.journal_rows.specs.Words.{first_asked, asked_step, asked, count_step, taken_step, last_taken_of, version_in, wants, request_step, request_now, struck_by, struck_step, is_struck, replaced_by, answered_step, mark_step, or_before, is_about, settles}
 use Rattle.journal_rows.specs.declared.callee.TookRow.{TookRow}
 use Rattle.journal_rows.specs.declared.callee.AskedRow.{AskedRow}
 use Rattle.journal_rows.specs.declared.orders.About.TheVariants.{Request as AboutRequest, Post as AboutPost}
@@ -30,7 +30,7 @@ use Rattle.call_registers.specs.Replies.{reply, released as released_reply}
 use Rattle.call_registers.specs.declared.reply.Reply.{Reply}
 use Rattle.service_events.specs.Calls.{noted}
 use Rattle.service_events.specs.Fits.{IsOrderAbout, TellsRequests, IsAsNow, HasAnswered, HasReply, IsReply, made_as, asked_as, answer_given, takes_request, request_found}
-use Rattle.service_events.specs.Orders.{entry_of, unless_there, unless_outside, unless_replaced, misnamed, is_too_much, refused, order_decision, order_rule, unless_allowed, about, request_of, order_rows, released_post, carried_out, order_by, order_where, order_event}
+use Rattle.service_events.specs.Orders.{entry_of, unless_there, unless_outside, unless_replaced, misnamed, is_too_much, refused, order_decision, order_rule, unless_allowed, about, request_of, order_rows, released_post, carried_out, order_by, order_where}
 use Rattle.service_events.specs.State.{Kept, after, next_id, or_else}
 use Rattle.service_events.specs.declared.answers.Ordered.{Ordered}
 use Rattle.service_events.specs.declared.refusals.OrderRefused.{OrderRefused}
@@ -319,9 +319,6 @@ module _ (s : Kept) (h : IsLogged s.journal s.entries s.replies) where
           journal_stays (Retry (OfCall n)) who i = refl
           journal_stays (Retry (OfReply n)) who i = refl
 
-  order_where_logged : (command : Command) (token who : List ℕ) (i : Inputs) (o : Option OrderedRow) → LeavesLogged (order_where s command token who i o)
+  pub order_where_logged : (command : Command) (token who : List ℕ) (i : Inputs) (o : Option OrderedRow) → LeavesLogged (order_where s command token who i o)
   order_where_logged command token who i (Some o) = h
   order_where_logged command token who i None = order_by_logged command token who i (refused s command who) refl
-
-  pub order_logged : (command : Command) (token who : List ℕ) (i : Inputs) → LeavesLogged (order_event s command token who i)
-  order_logged command token who i = order_where_logged command token who i (ordered token s.journal)

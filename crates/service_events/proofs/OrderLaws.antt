@@ -16,7 +16,7 @@ use Rattle.journal_rows.specs.declared.row.Row.TheVariants.{Ordered as OrderedAs
 use Rattle.call_registers.specs.Registers.{released}
 use Rattle.service_events.specs.State.{Kept, next_id}
 use Rattle.service_events.specs.Calls.{noted}
-use Rattle.service_events.specs.Orders.{refused, about, original, repaired, asked_rows, order_rule, order_rows, released_post, carried_out, order_by, order_where, order_event}
+use Rattle.service_events.specs.Orders.{refused, about, original, repaired, asked_rows, order_rule, order_rows, released_post, carried_out, order_by, order_where}
 use Rattle.service_events.specs.declared.refusals.OrderRefused.{OrderRefused}
 use Rattle.service_events.specs.Fits.{EachAfter, OrdersOn, calls_of_entry, calls_of_flight}
 use Rattle.service_events.proofs.CallRowLemmas.{Each, IsPlain, IsUnseen, IsUntaken}
@@ -112,10 +112,7 @@ order_by_goes : (s : Kept) (command : Command) (token who : List ℕ) (i : Input
 order_by_goes s command token who i (Some why) new = goes_same s
 order_by_goes s command token who i None new = goes_accepted s command token who i new
 
-order_where_goes : (s : Kept) (command : Command) (token who : List ℕ) (i : Inputs) (o : Option OrderedRow) → ordered token s.journal ≡ o
+pub order_where_goes : (s : Kept) (command : Command) (token who : List ℕ) (i : Inputs) (o : Option OrderedRow) → ordered token s.journal ≡ o
     → Goes s (order_where s command token who i o).service
 order_where_goes s command token who i (Some o) is = goes_same s
 order_where_goes s command token who i None is = order_by_goes s command token who i (refused s command who) is
-
-pub order_goes : (s : Kept) (command : Command) (token who : List ℕ) (i : Inputs) → Goes s (order_event s command token who i).service
-order_goes s command token who i = order_where_goes s command token who i (ordered token s.journal) refl

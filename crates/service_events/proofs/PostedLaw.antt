@@ -15,20 +15,19 @@ use Rattle.repair_messages.specs.declared.posts.Post.TheVariants.{Set, Answer}
 use Rattle.journal_rows.specs.Words.{asked, count_step, answered_step, mark_step, last_mark, settles}
 use Rattle.journal_rows.specs.declared.row.Row.{Row}
 use Rattle.journal_rows.specs.declared.words.Mark.TheVariants.{Unsettled, ConfirmedAt}
-use Rattle.call_registers.specs.Registers.{register, is_newer}
+use Rattle.call_registers.specs.Registers.{is_newer}
 use Rattle.call_registers.specs.Replies.{has_entry, reply, at_entry, with_confirm, with_hold}
 use Rattle.call_registers.specs.declared.register.Hold.{Hold}
 use Rattle.call_registers.specs.declared.register.Register.{Register}
 use Rattle.call_registers.specs.declared.reply.Reply.{Reply}
 use Rattle.service_events.specs.Calls.{noted}
 use Rattle.service_events.specs.Fits.{IsAsNow, HasAnswered, HasReply, IsReply, made_as, asked_as, answer_given}
-use Rattle.service_events.specs.Messages.{heard, seen_row, hear_rule, hear_new, confirmed_row, answer_taken_by, answer_taken_where, take_answer_event, is_version, had_answer, is_confirm_of, replies_to, had, is_now, hold_of, held_back, held_where, saw_ack_row, was_confirmed_row, posted, posted_event}
+use Rattle.service_events.specs.Messages.{heard, seen_row, hear_rule, hear_new, confirmed_row, answer_taken_by, answer_taken_where, is_version, had_answer, is_confirm_of, replies_to, had, is_now, hold_of, held_back, held_where, saw_ack_row, was_confirmed_row, posted}
 use Rattle.service_events.specs.State.{Kept, after, me}
 use Rattle.service_events.specs.declared.answers.PostReply.{PostReply}
 use Rattle.service_events.specs.declared.answers.PostReply.TheVariants.{Acked as WasAcked, Confirmed as WasConfirmedBack, Refused, Lost}
 use Rattle.service_events.specs.declared.answers.Posted.TheVariants.{Held, Left}
 use Rattle.service_events.specs.declared.refusals.AnswerRefused.{AnswerRefused}
-use Rattle.service_events.specs.declared.refusals.PostRefused.TheVariants.{Foreign}
 use Rattle.service_events.proofs.AskedLemmas.{hear_either}
 use Rattle.service_events.proofs.CallerLaws.{callers_logged}
 use Rattle.service_events.proofs.EntryLemmas.{asks_same_after, made_from, version_given, still_called, found_itself}
@@ -51,12 +50,9 @@ module _ (s : Kept) (h : IsLogged s.journal s.entries s.replies) (a : AnswerMess
       (λ _. hear_either s a r LeavesLogged h (callers_logged s.journal (seen_row (hear_rule s a r) a ∷ (confirmed_row a ∷ [])) s.entries s.replies (tt, (tt, tt)) h))
       (λ _. callers_logged s.journal (confirmed_row a ∷ []) s.entries s.replies (tt, tt) h))
 
-  answer_taken_where_logged : (o : Option Register) → LeavesLogged (answer_taken_where s a o)
+  pub answer_taken_where_logged : (o : Option Register) → LeavesLogged (answer_taken_where s a o)
   answer_taken_where_logged None = h
   answer_taken_where_logged (Some r) = answer_taken_by_logged r
-
-  pub take_answer_logged : LeavesLogged (take_answer_event s a)
-  take_answer_logged = answer_taken_where_logged (register a.number s.registers)
 
 -- ---- a confirmation of an answer
 
@@ -186,7 +182,7 @@ module _ (s : Kept) (h : IsLogged s.journal s.entries s.replies) where
   held_where_logged post (Some hold) =
       cond_both (is_now s post) (after (held_back s post hold) (Ok Held)) (after s (Ok Left)) LeavesLogged (λ _. held_logged post hold) (λ _. h)
 
-  posted_logged_by : (post : Post) (answer : PostReply) → had s post ≡ true → replies_to post answer ≡ true → LeavesLogged (posted s post answer)
+  pub posted_logged_by : (post : Post) (answer : PostReply) → had s post ≡ true → replies_to post answer ≡ true → LeavesLogged (posted s post answer)
   posted_logged_by post (WasAcked ack) had replies = callers_logged s.journal (saw_ack_row ack ∷ []) s.entries s.replies (tt, tt) h
   posted_logged_by (Set set) (WasConfirmedBack c) had replies = cc
   posted_logged_by (Answer a) (WasConfirmedBack c) had replies =
@@ -197,8 +193,3 @@ module _ (s : Kept) (h : IsLogged s.journal s.entries s.replies) where
       confirmed_logged s.journal s.entries s.replies a.id it.0 c (length s.journal) h it.1 (of.0 ∙ sym it.2) (of.1 ∙ sym it.3) (omega (arith, most, same))
   posted_logged_by post (Refused word number) had replies = held_where_logged post (hold_of word number)
   posted_logged_by post (Lost note) had replies = h
-
-  pub posted_logged : (post : Post) (answer : PostReply) → LeavesLogged (posted_event s post answer)
-  posted_logged post answer =
-      cond_both (had s post && replies_to post answer) (posted s post answer) (after s (Err Foreign)) LeavesLogged
-      (λ both. (let parts = and_parts (had s post) (replies_to post answer) both in posted_logged_by post answer parts.0 parts.1)) (λ _. h)

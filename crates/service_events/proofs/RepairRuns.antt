@@ -1,5 +1,5 @@
 -- Steps, messages and orders keep that records are what runs gave.
-use Rattle.std.proofs.Common.{◌≡◌, ℕ, true, false, ◌&&◌, not, cond, List, [], ◌∷◌, Option, Some, None, Ok, Err, refl}
+use Rattle.std.proofs.Common.{◌≡◌, ℕ, true, false, not, cond, List, [], ◌∷◌, Option, Some, None, Ok, Err, refl}
 use Rattle.std.proofs.lemmas.Bool.{cond_both}
 use Rattle.lang_base.specs.Texts.{same_text}
 use Rattle.lang_core.specs.declared.inputs.Inputs.{Inputs}
@@ -13,26 +13,23 @@ use Rattle.repair_messages.specs.declared.posts.Post.TheVariants.{Set, Answer}
 use Rattle.repair_messages.specs.declared.posts.PostName.TheVariants.{Call as OfCall, Reply as OfReply}
 use Rattle.local_repair.specs.Current.{AllRuns}
 use Rattle.local_repair.specs.Steps.{remade}
-use Rattle.journal_rows.specs.Words.{ordered}
 use Rattle.journal_rows.specs.declared.orders.Command.{Command}
 use Rattle.journal_rows.specs.declared.orders.Command.TheVariants.{Cancel, Restore, Replace, Create, Retry}
 use Rattle.journal_rows.specs.declared.orders.OrderedRow.{OrderedRow}
-use Rattle.call_registers.specs.Registers.{register, is_newer}
+use Rattle.call_registers.specs.Registers.{is_newer}
 use Rattle.call_registers.specs.declared.register.Hold.{Hold}
 use Rattle.call_registers.specs.declared.register.Register.{Register}
 use Rattle.create_placement.specs.Placement.{place_between, created}
 use Rattle.service_events.specs.Calls.{noted}
-use Rattle.service_events.specs.Messages.{taken, take_new, origin_of, is_known, is_too_much, acked_again, created_entry, created_place, at_version, taken_by, take_admitted, take_event, heard, hear_new, confirmed_row, answer_taken_by, answer_taken_where, take_answer_event, replies_to, had, is_now, hold_of, held_back, held_where, posted, posted_event}
-use Rattle.service_events.specs.Orders.{refused, carried_out, order_by, order_where, order_event}
-use Rattle.service_events.specs.State.{Kept, After, after, answers, next_id, is_in_flight, base}
-use Rattle.service_events.specs.Steps.{new_record, new_numbers, Stale, stale_in, step_by, step_event}
+use Rattle.service_events.specs.Messages.{taken, take_new, origin_of, is_known, acked_again, created_entry, created_place, at_version, taken_by, take_admitted, heard, hear_new, confirmed_row, answer_taken_by, answer_taken_where, is_now, hold_of, held_back, held_where, posted}
+use Rattle.service_events.specs.Orders.{refused, carried_out, order_by, order_where}
+use Rattle.service_events.specs.State.{Kept, After, after, next_id}
+use Rattle.service_events.specs.Steps.{new_record, new_numbers, Stale, step_by}
 use Rattle.service_events.specs.declared.answers.PostReply.{PostReply}
 use Rattle.service_events.specs.declared.answers.PostReply.TheVariants.{Acked as WasAcked, Confirmed as WasConfirmedBack, Refused, Lost}
 use Rattle.service_events.specs.declared.answers.Posted.TheVariants.{Held, Left}
 use Rattle.service_events.specs.declared.refusals.AnswerRefused.{AnswerRefused}
 use Rattle.service_events.specs.declared.refusals.OrderRefused.{OrderRefused}
-use Rattle.service_events.specs.declared.refusals.PostRefused.TheVariants.{Foreign}
-use Rattle.service_events.specs.declared.refusals.TakeRefused.{TakeRefused}
 use Rattle.service_events.proofs.AskedLemmas.{take_either, hear_either}
 use Rattle.service_events.proofs.RunLemmas.{HasRun, new_is_run, runs_insert, runs_with, runs_changed}
 use Rattle.service_events.proofs.SearchLemmas.{found_all}
@@ -44,13 +41,10 @@ LeavesRuns a = AllRuns (a.service).setting (a.service).entries
 module _ (s : Kept) (h : AllRuns s.setting s.entries) where
   -- ---- a step
 
-  step_by_runs : (o : Option Stale) → LeavesRuns (step_by s o)
+  pub step_by_runs : (o : Option Stale) → LeavesRuns (step_by s o)
   step_by_runs None = h
   step_by_runs (Some x) =
       runs_with s.setting s.entries (remade x.entry (new_record s x.rows x.entry) (new_numbers s x.entry (new_record s x.rows x.entry))) (new_is_run s x.rows x.entry) h
-
-  pub step_runs : LeavesRuns (step_event s)
-  step_runs = step_by_runs (stale_in (answers s) (base s) s.entries)
 
   -- ---- a version of a call
 
@@ -61,17 +55,12 @@ module _ (s : Kept) (h : AllRuns s.setting s.entries) where
   taken_by_runs set i None (Some q) is = runs_insert s.setting s.entries (created_place s set) (created_entry s set q i) tt h
   taken_by_runs set i None None is = h
 
-  admitted_runs : (set : SetMessage) (i : Inputs) (full : Option ℕ) → LeavesRuns (take_admitted s set i full)
-  admitted_runs set i (Some n) = h
-  admitted_runs set i None =
+  pub take_admitted_runs : (set : SetMessage) (i : Inputs) (full : Option ℕ) → LeavesRuns (take_admitted s set i full)
+  take_admitted_runs set i (Some n) = h
+  take_admitted_runs set i None =
       cond_both (is_known s set) (after (acked_again s set) (Ok (taken set None))) (take_new s set i) LeavesRuns
       (λ _. h)
       (λ _. take_either s set i LeavesRuns h (taken_by_runs set i (find_call (origin_of set) s.entries) set.desired refl))
-
-  pub take_runs : (set : SetMessage) (i : Inputs) → LeavesRuns (take_event s set i)
-  take_runs set i =
-      cond_both (is_in_flight (origin_of set) s) (after s (Err (TakeRefused.NotYet set.number))) (take_admitted s set i (is_too_much s set)) LeavesRuns
-      (λ _. h) (λ _. admitted_runs set i (is_too_much s set))
 
   -- ---- an answer
 
@@ -84,12 +73,9 @@ module _ (s : Kept) (h : AllRuns s.setting s.entries) where
       (λ _. hear_either s a r LeavesRuns h h)
       (λ _. h))
 
-  answer_taken_where_runs : (a : AnswerMessage) (o : Option Register) → LeavesRuns (answer_taken_where s a o)
+  pub answer_taken_where_runs : (a : AnswerMessage) (o : Option Register) → LeavesRuns (answer_taken_where s a o)
   answer_taken_where_runs a None = h
   answer_taken_where_runs a (Some r) = answer_taken_by_runs a r
-
-  pub take_answer_runs : (a : AnswerMessage) → LeavesRuns (take_answer_event s a)
-  take_answer_runs a = answer_taken_where_runs a (register a.number s.registers)
 
   -- ---- what comes back of a post
 
@@ -102,15 +88,11 @@ module _ (s : Kept) (h : AllRuns s.setting s.entries) where
   held_where_runs post (Some hold) =
       cond_both (is_now s post) (after (held_back s post hold) (Ok Held)) (after s (Ok Left)) LeavesRuns (λ _. held_runs post hold) (λ _. h)
 
-  posted_by_runs : (post : Post) (answer : PostReply) → LeavesRuns (posted s post answer)
+  pub posted_by_runs : (post : Post) (answer : PostReply) → LeavesRuns (posted s post answer)
   posted_by_runs post (WasAcked ack) = h
   posted_by_runs post (WasConfirmedBack c) = h
   posted_by_runs post (Refused word number) = held_where_runs post (hold_of word number)
   posted_by_runs post (Lost note) = h
-
-  pub posted_runs : (post : Post) (answer : PostReply) → LeavesRuns (posted_event s post answer)
-  posted_runs post answer =
-      cond_both (had s post && replies_to post answer) (posted s post answer) (after s (Err Foreign)) LeavesRuns (λ _. posted_by_runs post answer) (λ _. h)
 
   -- ---- an order
 
@@ -126,9 +108,6 @@ module _ (s : Kept) (h : AllRuns s.setting s.entries) where
   order_by_runs command token who i (Some why) = h
   order_by_runs command token who i None = carried_runs command who i
 
-  order_where_runs : (command : Command) (token who : List ℕ) (i : Inputs) (o : Option OrderedRow) → LeavesRuns (order_where s command token who i o)
+  pub order_where_runs : (command : Command) (token who : List ℕ) (i : Inputs) (o : Option OrderedRow) → LeavesRuns (order_where s command token who i o)
   order_where_runs command token who i (Some o) = h
   order_where_runs command token who i None = order_by_runs command token who i (refused s command who)
-
-  pub order_runs : (command : Command) (token who : List ℕ) (i : Inputs) → LeavesRuns (order_event s command token who i)
-  order_runs command token who i = order_where_runs command token who i (ordered token s.journal)

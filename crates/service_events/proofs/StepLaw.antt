@@ -30,7 +30,7 @@ use Rattle.call_registers.specs.declared.reply.Reply.{Reply}
 use Rattle.service_events.specs.Calls.{replaced, deleted, named, slot_rows, next_after, settling_rows}
 use Rattle.service_events.specs.Fits.{IsAsNow, HasAnswered, HasReply, IsReply, made_as, asked_as, answer_recorded, answer_given}
 use Rattle.service_events.specs.State.{Kept, answers, base}
-use Rattle.service_events.specs.Steps.{new_record, new_numbers, sent_rows, answer_rows, answered_replies, stepped, Stale, stale_in, step_by, step_event}
+use Rattle.service_events.specs.Steps.{new_record, new_numbers, sent_rows, answer_rows, answered_replies, stepped, Stale, stale_in, step_by}
 use Rattle.service_events.proofs.CallerLaws.{IsCallerRow, each_append, callers_logged}
 use Rattle.service_events.proofs.CommitLaw.{answered_here, deleted_callers}
 use Rattle.service_events.proofs.EntryLemmas.{asks_same_after, made_from, version_given, still_called, and_always}
@@ -293,10 +293,7 @@ module _ (s : Kept) (h : IsLogged s.journal s.entries s.replies) where
       subst (λ j. IsLogged j (with_entry (remade e m (new_numbers s e m)) s.entries) (answered_replies s e m)) (append_assoc s.journal sent (answer_rows e m))
       (either e m (is_new_answer e.made m) refl before (λ is. small e m is most few) found version)
 
-  step_by_logged : (o : Option Stale) → stale_in (answers s) (base s) s.entries ≡ o → IsFew (step_by s o).service → LeavesLogged (step_by s o)
+  pub step_by_logged : (o : Option Stale) → stale_in (answers s) (base s) s.entries ≡ o → IsFew (step_by s o).service → LeavesLogged (step_by s o)
   step_by_logged None is few = h
   step_by_logged (Some x) is few =
       stepped_logged x.entry (new_record s x.rows x.entry) (stands_found (answers s) s.entries x (steps_at (answers s) [] s.entries x is) h.asked.distinct) refl few
-
-  pub step_logged : IsFew (step_event s).service → LeavesLogged (step_event s)
-  step_logged few = step_by_logged (stale_in (answers s) (base s) s.entries) refl few

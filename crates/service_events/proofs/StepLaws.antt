@@ -12,8 +12,8 @@ use Rattle.journal_rows.specs.declared.row.Row.{Row}
 use Rattle.journal_rows.specs.declared.row.Row.TheVariants.{Answered}
 use Rattle.call_registers.specs.Registers.{next_number, consumed_in, IsTimely}
 use Rattle.service_events.specs.State.{Kept, answers, base}
-use Rattle.service_events.specs.Steps.{new_record, new_numbers, sent_rows, answer_rows, answered_replies, stepped, Stale, stale_in, step_by, step_event}
-use Rattle.service_events.specs.Fits.{Fits, FitsPlaces, calls_of_entry, calls_of_flight, count}
+use Rattle.service_events.specs.Steps.{new_record, new_numbers, sent_rows, answer_rows, answered_replies, stepped, Stale, stale_in, step_by}
+use Rattle.service_events.specs.Fits.{FitsPlaces, calls_of_entry, calls_of_flight, count}
 use Rattle.service_events.proofs.CallRowLemmas.{Each, each_append, each_weaker, IsSending, IsUnseen, IsUntaken, IsUnordered, IsPlain, sending_unseen, sending_untaken, sending_unordered}
 use Rattle.service_events.proofs.FittingLemmas.{entered, HasRoom, room_first, room_then, Fitting, fitting_then, fitting_plain, Book, entered-append, plain_rows, answered}
 use Rattle.service_events.proofs.SettleLemmas.{same_versions, settle_all, Settled}
@@ -88,13 +88,10 @@ goes_stepped s e m st distinct =
           (flies_from s.journal s.flights h.flights))));
     }
 
-goes_step_by : (s : Kept) (x : Option Stale) → stale_in (answers s) (base s) s.entries ≡ x → IsDistinct s.entries → Goes s (step_by s x).service
-goes_step_by s None is distinct = goes_same s
-goes_step_by s (Some x) is distinct =
+pub step_by_goes : (s : Kept) (x : Option Stale) → stale_in (answers s) (base s) s.entries ≡ x → IsDistinct s.entries → Goes s (step_by s x).service
+step_by_goes s None is distinct = goes_same s
+step_by_goes s (Some x) is distinct =
     goes_stepped s x.entry (new_record s x.rows x.entry) (stale_stands (answers s) [] s.entries x is) distinct
-
-pub step_goes : (s : Kept) → Fits s → Goes s (step_event s).service
-step_goes s f = goes_step_by s (stale_in (answers s) (base s) s.entries) refl f.asked.distinct
 
 -- ---- what calls consume after a step
 

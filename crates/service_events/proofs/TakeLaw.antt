@@ -1,5 +1,5 @@
 -- A version of a call that a message brings is taken, and entries and replies still follow from the journal.
-use Rattle.std.proofs.Common.{◌≡◌, ℕ, ◌+◌, ◌<◌, ◌≤◌, Bool, true, false, not, ◌&&◌, ◌||◌, List, [], ◌∷◌, ◌++◌, Option, Some, None, IsSome, IsSomeAnd, Ok, Err, find, insert, length, is_some, option_map, refl, sym, ap, ◌∙◌, subst, nat_eq, arith, eq-eqb, length-set, leb-true, leb-false}
+use Rattle.std.proofs.Common.{◌≡◌, ℕ, ◌+◌, ◌<◌, ◌≤◌, Bool, true, false, not, ◌&&◌, ◌||◌, List, [], ◌∷◌, ◌++◌, Option, Some, None, IsSome, IsSomeAnd, Ok, find, insert, length, is_some, option_map, refl, sym, ap, ◌∙◌, subst, nat_eq, arith, eq-eqb, length-set, leb-true, leb-false}
 use Rattle.std.specs.List.{position_or_len, list_any}
 use Rattle.std.specs.Option.{option_map_or}
 use Rattle.std.proofs.lemmas.Bool.{cond_both, cond-true, or_right, false_from_ne_true}
@@ -24,9 +24,8 @@ use Rattle.call_registers.specs.Replies.{reply, at_entry, with_taken, made_due}
 use Rattle.call_registers.specs.declared.reply.Reply.{Reply}
 use Rattle.call_registers.proofs.ReplyLemmas.{rising_push}
 use Rattle.service_events.specs.Fits.{IsAsNow, HasAnswered, HasReply, IsReply, made_as, asked_as, answer_given, takes_request}
-use Rattle.service_events.specs.Messages.{taken, take_rule, take_new, origin_of, is_known, is_too_much, acked_row, took_row, acked_again, at_reply_of, created_entry, created_reply, created_place, at_version, taken_by, take_admitted, take_event}
-use Rattle.service_events.specs.State.{Kept, after, next_id, is_in_flight}
-use Rattle.service_events.specs.declared.refusals.TakeRefused.{TakeRefused}
+use Rattle.service_events.specs.Messages.{taken, take_rule, take_new, is_known, acked_row, took_row, acked_again, at_reply_of, created_entry, created_reply, created_place, at_version, taken_by, take_admitted}
+use Rattle.service_events.specs.State.{Kept, after, next_id}
 use Rattle.service_events.proofs.AskedLemmas.{take_either}
 use Rattle.service_events.proofs.CallerLaws.{all_same}
 use Rattle.service_events.proofs.CommitLaw.{took_here}
@@ -327,14 +326,9 @@ module _ (s : Kept) (h : IsLogged s.journal s.entries s.replies) (set : SetMessa
   taken_by_logged new i None (Some q) is wants = took_made new q i wants is (created_place s set)
   taken_by_logged new i None None is wants = took_none new wants is
 
-  admitted_logged : (i : Inputs) (full : Option ℕ) → LeavesLogged (take_admitted s set i full)
-  admitted_logged i (Some n) = h
-  admitted_logged i None =
+  pub take_admitted_logged : (i : Inputs) (full : Option ℕ) → LeavesLogged (take_admitted s set i full)
+  take_admitted_logged i (Some n) = h
+  take_admitted_logged i None =
       cond_both (is_known s set) (after (acked_again s set) (Ok (taken set None))) (take_new s set i) LeavesLogged
       (λ known. again_by known (find_call (Call set.caller set.number) s.entries) refl)
       (λ new. take_either s set i LeavesLogged h (taken_by_logged new i (find_call (Call set.caller set.number) s.entries) set.desired refl refl))
-
-  pub take_logged : (i : Inputs) → LeavesLogged (take_event s set i)
-  take_logged i =
-      cond_both (is_in_flight (origin_of set) s) (after s (Err (TakeRefused.NotYet set.number))) (take_admitted s set i (is_too_much s set)) LeavesLogged
-      (λ _. h) (λ _. admitted_logged i (is_too_much s set))
