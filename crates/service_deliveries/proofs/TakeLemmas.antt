@@ -18,6 +18,7 @@ use Rattle.service_events.specs.Fits.{Fits}
 use Rattle.service_events.specs.Questions.{is_denied, rule_of}
 use Rattle.service_events.specs.Messages.{acked_again, at_version, created_entry, created_reply, is_known, is_too_much, origin_of, take_admitted, take_allowed, take_decision, take_event, take_rule, taken}
 use Rattle.service_events.specs.declared.answers.Taken.{Taken}
+use Rattle.service_events.specs.declared.event.Event.TheVariants as events
 use Rattle.service_events.specs.declared.refusals.TakeRefused.{TakeRefused}
 use Rattle.service_events.specs.declared.refusals.TakeRefused.TheVariants.{NotYet, Denied}
 use Rattle.service_events.proofs.EntryLemmas.{found_by_call}
@@ -25,15 +26,11 @@ use Rattle.service_events.proofs.FreshLemmas.{unfound, below_next}
 use Rattle.service_events.proofs.PartLemmas.{logged}
 use Rattle.service_events.proofs.ReplyLemmas.{above_all}
 use Rattle.service_events.proofs.SearchLemmas.{some_and}
-use Rattle.service_parts.proofs.FitLaws.{take_fits}
-use Rattle.service_parts.proofs.MessageAges.{take_ages}
-use Rattle.service_parts.proofs.MessageBounds.{take_bounded}
-use Rattle.service_parts.proofs.AllowedLaws.{take_stays_allowed}
 use Rattle.service_parts.specs.Parts.{kept}
 use Rattle.service_parts.specs.Services.{HasRoom, IsService}
 use Rattle.service_parts.specs.declared.parts.Parts.{Parts}
 use Rattle.service_parts.specs.Drafts.{TellNoCall}
-use Rattle.service_parts.proofs.ServiceLaws.{next_service, same_service}
+use Rattle.service_parts.proofs.ServiceLaws.{event_service, same_service}
 use Rattle.service_deliveries.specs.TakeChanges.{admission, allowance, changed_by, left_by, unless_much, CanChange, CanCreate, Leaves}
 use Rattle.service_deliveries.specs.declared.take_changes.Taking.{Taking}
 
@@ -151,7 +148,5 @@ pub take_service : (p p' : Parts) (set : SetMessage) (i : Inputs) (result : Resu
     → IfOk result (λ answer. after (kept p') (Ok answer) ≡ take_event (kept p) set i) → OnErr result (kept p' ≡ kept p)
     → HasRoom p' → IsService p'
 take_service p p' set i (Ok answer) h is err room =
-    next_service p' (take_event (kept p) set i).service (ap (λ (a : After (Result Taken TakeRefused)). a.service) is)
-    (λ counts. take_fits (kept p) set i h.fits counts) (λ counts. take_ages (kept p) set i h.fits counts h.ages) (take_stays_allowed (kept p) set i h.fits h.allowed)
-    (take_bounded (kept p) set i h.few) room
+    event_service p p' (events.Take set i) (ap (λ (a : After (Result Taken TakeRefused)). a.service) is) room h
 take_service p p' set i (Err why) h is err room = same_service p p' err room h

@@ -1,5 +1,5 @@
--- Each event keeps the ages of calls and replies.
-use Rattle.std.proofs.Common.{◌≡◌, ℕ, zero, suc, ◌+◌, ◌<◌, Bool, true, false, List, [], ◌∷◌, ◌++◌, Option, Some, None, Result, Err, drop, length, nat_eq, nat_le, slice_get, refl, sym, ap, ◌∙◌, subst, inl, inr, arith, append-nil, append_assoc, eqb-true, eq-eqb, ne_eqb, if◌then◌else◌}
+-- Events of live requests and repair steps keep the ages of calls and replies.
+use Rattle.std.proofs.Common.{◌≡◌, ℕ, zero, suc, ◌+◌, ◌<◌, Bool, true, false, List, [], ◌∷◌, ◌++◌, Option, Some, None, Result, drop, length, nat_eq, nat_le, slice_get, refl, sym, ap, ◌∙◌, subst, inl, inr, arith, append-nil, append_assoc, eqb-true, eq-eqb, ne_eqb, if◌then◌else◌}
 use Rattle.std.proofs.lemmas.Bool.{cases_Bool, cond_both}
 use Rattle.lang_core.specs.Traces.{dead_trace}
 use Rattle.lang_core.specs.declared.ids.Origin.{Origin}
@@ -9,14 +9,12 @@ use Rattle.lang_core.specs.declared.request.Request.{Request}
 use Rattle.lang_core.specs.declared.trace.CallMade.{CallMade}
 use Rattle.lang_core.specs.declared.trace.Trace.{Trace}
 use Rattle.handler_run.specs.declared.state.Ran.{Ran}
-use Rattle.request_log.specs.Entries.{find_call}
 use Rattle.request_log.specs.Records.{Record, record_of}
 use Rattle.request_log.specs.declared.entry.Entry.{Entry}
 use Rattle.request_log.specs.declared.entry.Made.{Made}
 use Rattle.local_repair.specs.Alone.{trace_or_dead}
 use Rattle.local_repair.specs.Steps.{calls_of_made, is_new_answer, raised}
 use Rattle.repair_messages.specs.declared.messages.AnswerMessage.{AnswerMessage}
-use Rattle.journal_rows.specs.Words.{last_taken}
 use Rattle.journal_rows.specs.declared.callee.TookRow.{TookRow}
 use Rattle.journal_rows.specs.declared.row.Row.{Row}
 use Rattle.journal_rows.specs.declared.caller.AckHow.TheVariants.{WithAnswer}
@@ -31,15 +29,14 @@ use Rattle.flights.specs.declared.flight.Flight.{Flight}
 use Rattle.flights.specs.declared.flight.Move.{Move}
 use Rattle.flights.specs.declared.flight.Move.TheVariants.{Commit, Name, Change}
 use Rattle.service_events.specs.Ages.{HasAges, marks_reply}
-use Rattle.service_events.specs.Arriving.{new_flight, admitted, known_by, arrives_or_known, by_version, unless_gone, arrive_event, is_for, is_new_to, seen_live, live_answer_rows, answered_flight, call_answered_event, told, failed_flight, call_failed_event, abandoned, abandon_event}
+use Rattle.service_events.specs.Arriving.{new_flight, admitted, known_by, arrives_or_known, by_version, unless_gone, is_for, is_new_to, seen_live, live_answer_rows, answered_flight, told, failed_flight, abandoned}
 use Rattle.service_events.specs.Calls.{noted, named, all_deleted}
 use Rattle.service_events.specs.Fits.{Fits}
 use Rattle.service_events.specs.Flying.{flight_run, awaited, committed, before_answer, live_answer, live_replies, answer_index, surplus_rows, took_rows, with_slot, with_change, change_rows, waits, wanted_of, named_unsent, changed_unsent, completing, completed, changed, moved, goes_on}
-use Rattle.service_events.specs.State.{Kept, After, after, answers, next_id, or_else, is_crowded, is_heavy, is_in_flight, flight_of, base}
-use Rattle.service_events.specs.Steps.{sent_rows, answer_rows, new_record, Stale, stale_in, step_by, step_event}
+use Rattle.service_events.specs.State.{Kept, After, next_id, or_else, is_crowded, is_heavy}
+use Rattle.service_events.specs.Steps.{sent_rows, answer_rows, new_record, Stale, step_by}
 use Rattle.service_events.specs.declared.answers.Arrived.{Arrived}
 use Rattle.service_events.specs.declared.refusals.ArriveRefused.{ArriveRefused}
-use Rattle.service_events.specs.declared.refusals.ArriveRefused.TheVariants.{NotYet}
 use Rattle.service_events.proofs.FreshLemmas.{below_next}
 use Rattle.service_events.proofs.LiveEntryLaws.{call_keeps}
 use Rattle.service_events.proofs.PartLemmas.{logged}
@@ -49,7 +46,6 @@ use Rattle.service_events.proofs.KindLemmas.{sends_deleted, sends_settled}
 use Rattle.service_events.proofs.RegisterLemmas.{flip_false}
 use Rattle.service_events.proofs.CallRowLemmas.{Each, each_append, each_weaker, each_of_all, all_of_each, IsSending}
 use Rattle.service_parts.proofs.AgeLemmas.{Ages, ages, ages_stay, ages_noted, ages_then, ages_same, KeepsAge, calls_aged, IsAged, IsMarked, IsUnmarked, MarksNone, all_unmarked, unmarked, unmarked-append, replies_stay, reply_marked, none_any, last_here}
-use Rattle.service_parts.proofs.FitLaws.{arrive_fits, call_answered_fits, call_failed_fits, abandon_fits, step_fits}
 
 abbrev pub AllMarked : Kept → Type 0
 AllMarked s = Each (IsMarked s.journal) s.replies
@@ -116,7 +112,7 @@ step_marked s t a h =
 abbrev IsUnreplied : Kept → Type 0
 IsUnreplied s = Each (λ (p : Reply). nat_eq (next_id s) p.id ≡ false) s.replies
 
-unreplied : (s : Kept) → Fits s → IsUnreplied s
+pub unreplied : (s : Kept) → Fits s → IsUnreplied s
 unreplied s f =
     each_weaker (λ (p : Reply). p.id < length s.entries + 1) (λ (p : Reply). nat_eq (next_id s) p.id ≡ false)
     (λ p less. ne_eqb (next_id s) p.id (λ e. omega (arith, e, less))) s.replies
@@ -126,10 +122,10 @@ pub record GoesAged (s t : Kept) : Type 0 where
   pub calls : Ages s t
   pub replies : IsUnreplied s → AllMarked s → AllMarked t
 
-aged_step : (s t : Kept) → IsStep s t → GoesAged s t
+pub aged_step : (s t : Kept) → IsStep s t → GoesAged s t
 aged_step s t a = record { calls = a.calls; replies = λ none h. step_marked s t a h }
 
-aged_same : (s : Kept) → GoesAged s s
+pub aged_same : (s : Kept) → GoesAged s s
 aged_same s = record { calls = ages_stay s s refl refl; replies = λ none h. h }
 
 step_unreplied : (s t : Kept) → IsStep s t → IsUnreplied s → IsUnreplied t
@@ -253,7 +249,7 @@ goes_on_aged s f = moved_aged s f (flight_run s f) (next_move f (flight_run s f)
 abbrev KeepsHere : {E : Type 0} → Kept → After (Result Arrived E) → Type 0
 KeepsHere s a = GoesAged s a.service
 
-admitted_aged : (s : Kept) (o : Origin) (q : Request) (i : Inputs) (full : Option ℕ) → KeepsHere s (admitted s o q i full)
+pub admitted_aged : (s : Kept) (o : Origin) (q : Request) (i : Inputs) (full : Option ℕ) → KeepsHere s (admitted s o q i full)
 admitted_aged s o q i (Some n) = aged_same s
 admitted_aged s o q i None = goes_on_aged s (new_flight s o q i)
 
@@ -261,7 +257,7 @@ known_aged : (s : Kept) (c : List ℕ) (n : ℕ) (e : Entry) (r : Option Record)
 known_aged s c n e None = aged_same s
 known_aged s c n e (Some r) = aged_same s
 
-call_aged : (s : Kept) (c : List ℕ) (n : ℕ) (q : Request) (i : Inputs) (e : Option Entry) → KeepsHere s (arrives_or_known s c n q i e)
+pub call_aged : (s : Kept) (c : List ℕ) (n : ℕ) (q : Request) (i : Inputs) (e : Option Entry) → KeepsHere s (arrives_or_known s c n q i e)
 call_aged s c n q i None = admitted_aged s (Call c n) q i (or_else (is_crowded s) (is_heavy s))
 call_aged s c n q i (Some e) = known_aged s c n e (record_of e)
 
@@ -269,22 +265,9 @@ version_aged : (s : Kept) (version : ℕ) (d : Option Request) (a : After (Resul
 version_aged s version None a k = aged_same s
 version_aged s version (Some q) a k = k
 
-gone_aged : (s : Kept) (t : Option TookRow) (a : After (Result Arrived ArriveRefused)) → KeepsHere s a → KeepsHere s (unless_gone s t a)
+pub gone_aged : (s : Kept) (t : Option TookRow) (a : After (Result Arrived ArriveRefused)) → KeepsHere s a → KeepsHere s (unless_gone s t a)
 gone_aged s None a k = k
 gone_aged s (Some t) a k = version_aged s t.version t.desired a k
-
-arrive_aged : (s : Kept) (o : Origin) (q : Request) (i : Inputs) → KeepsHere s (arrive_event s o q i)
-arrive_aged s Outside q i = admitted_aged s Outside q i (or_else (is_crowded s) (is_heavy s))
-arrive_aged s (Call c n) q i =
-    let known = arrives_or_known s c n q i (find_call (Call c n) s.entries) in
-    cond_both (is_in_flight (Call c n) s) (after s (Err (NotYet n))) (unless_gone s (last_taken c n s.journal) known) (λ a. GoesAged s a.service)
-    (λ _. aged_same s) (λ _. gone_aged s (last_taken c n s.journal) known (call_aged s c n q i (find_call (Call c n) s.entries)))
-
-keeps_live : (s t : Kept) → Fits s → Fits t → IsFew t → GoesAged s t → AgesOf s → AgesOf t
-keeps_live s t before fits few a h = keeps_ages s t before fits few a.calls (a.replies (unreplied s before)) h
-
-pub arrive_ages : (s : Kept) (o : Origin) (q : Request) (i : Inputs) → Fits s → IsFew (arrive_event s o q i).service → AgesOf s → AgesOf (arrive_event s o q i).service
-arrive_ages s o q i f few h = keeps_live s (arrive_event s o q i).service f (arrive_fits s o q i f few) few (arrive_aged s o q i) h
 
 -- ---- a call's answer and its failure
 
@@ -295,43 +278,27 @@ heard_step s a = step_noted s (noted (live_answer_rows s a) s) (live_answer_rows
     none true = (tt, (tt, tt))
     none false = (tt, tt)
 
-answered_aged : (s : Kept) (id : ℕ) (a : AnswerMessage) (o : Option Flight) → KeepsHere s (answered_flight s id a o)
+pub answered_aged : (s : Kept) (id : ℕ) (a : AnswerMessage) (o : Option Flight) → KeepsHere s (answered_flight s id a o)
 answered_aged s id a None = aged_same s
 answered_aged s id a (Some f) = elim (cases_Bool (is_for s a f)) [
   | inl does ↦ (let t = noted (live_answer_rows s a) s in rw does (aged_after s t (goes_on t f).service (heard_step s a) (goes_on_aged t f)))
   | inr isnt ↦ rw isnt (aged_same s)
 ]
 
-pub call_answered_ages : (s : Kept) (id : ℕ) (a : AnswerMessage) → Fits s → IsFew (call_answered_event s id a).service → AgesOf s
-    → AgesOf (call_answered_event s id a).service
-call_answered_ages s id a f few h =
-    keeps_live s (call_answered_event s id a).service f (call_answered_fits s id a f few) few (answered_aged s id a (flight_of id s)) h
-
-failed_aged : (s : Kept) (id number : ℕ) (why : Why) (o : Option Flight) → KeepsHere s (failed_flight s id number why o)
+pub failed_aged : (s : Kept) (id number : ℕ) (why : Why) (o : Option Flight) → KeepsHere s (failed_flight s id number why o)
 failed_aged s id number why None = aged_same s
 failed_aged s id number why (Some f) = elim (cases_Bool (nat_eq (awaited f) number)) [
   | inl does ↦ (let t = told number why s in rw does (aged_after s t (goes_on t f).service (step_told s number why) (goes_on_aged t f)))
   | inr isnt ↦ rw isnt (aged_same s)
 ]
 
-pub call_failed_ages : (s : Kept) (id number : ℕ) (why : Why) → Fits s → IsFew (call_failed_event s id number why).service → AgesOf s
-    → AgesOf (call_failed_event s id number why).service
-call_failed_ages s id number why f few h =
-    keeps_live s (call_failed_event s id number why).service f (call_failed_fits s id number why f few) few (failed_aged s id number why (flight_of id s)) h
-
 -- ---- an abandonment
 
-abandoned_step : (s : Kept) (o : Option Flight) → IsStep s (abandoned s o).service
+pub abandoned_step : (s : Kept) (o : Option Flight) → IsStep s (abandoned s o).service
 abandoned_step s None = step_none s s refl refl refl refl
 abandoned_step s (Some f) =
     let rows = all_deleted s.registers f.numbers f.calls in
     step_noted s (abandoned s (Some f)).service rows (each_weaker IsSending MarksNone sending_none rows (sends_deleted s.registers f.numbers f.calls)) refl refl refl refl
-
-pub abandon_ages : (s : Kept) (id : ℕ) → Fits s → IsFew (abandon_event s id).service → AgesOf s → AgesOf (abandon_event s id).service
-abandon_ages s id f few h =
-    let a = abandoned_step s (flight_of id s) in
-    let t = (abandon_event s id).service in
-    keeps_ages s t f (abandon_fits s id f few) few a.calls (step_marked s t a) h
 
 -- ---- a repair step
 
@@ -366,16 +333,15 @@ answered_marked s e m sent true f none h =
     (each_all (λ (p : Reply). nat_eq p.id e.id ≡ false → IsUnmarked rows p)
     (λ p other. unmarked-append p sent (row ∷ []) (unmarked p sent none) (none_any (marks_reply p) row (flip_false p.id e.id other))) s.replies) h
 
-stepped_ages : (s : Kept) (o : Option Stale) → Fits s → Fits (step_by s o).service → IsFew (step_by s o).service → AgesOf s → AgesOf (step_by s o).service
-stepped_ages s None f fits few h = h
-stepped_ages s (Some x) f fits few h =
+pub stepped_aged : (s : Kept) (o : Option Stale) → Fits s → GoesAged s (step_by s o).service
+stepped_aged s None f = aged_same s
+stepped_aged s (Some x) f =
     let e = x.entry in
     let m = new_record s x.rows e in
     let sent = sent_rows s e m in
     let sends = sends_settled s.registers e.slots (calls_of_made e.made) m.trace.calls (next_number s.registers) in
     let none = each_weaker IsSending MarksNone sending_none sent sends in
-    keeps_ages s (step_by s (Some x)).service f fits few (ages_noted s (step_by s (Some x)).service (sent ++ answer_rows e m) refl refl)
-    (answered_marked s e m sent (is_new_answer e.made m) f none) h
-
-pub step_ages : (s : Kept) → Fits s → IsFew (step_event s).service → AgesOf s → AgesOf (step_event s).service
-step_ages s f few h = stepped_ages s (stale_in (answers s) (base s) s.entries) f (step_fits s f few) few h
+    record {
+      calls = ages_noted s (step_by s (Some x)).service (sent ++ answer_rows e m) refl refl;
+      replies = λ _ h. answered_marked s e m sent (is_new_answer e.made m) f none h;
+    }

@@ -1,5 +1,5 @@
 -- Each event keeps that each repair in the journal was allowed by the service's rules, as things stood before it.
-use Rattle.std.proofs.Common.{◌≡◌, ℕ, suc, zero, Bool, true, false, not, ◌&&◌, List, [], ◌∷◌, ◌++◌, Option, Some, None, IsSomeAnd, Result, Ok, Err, drop, length, nat_eq, nat_le, option_map, slice_get, refl, sym, ap, ◌∙◌, subst, if◌then◌else◌}
+use Rattle.std.proofs.Common.{◌≡◌, ℕ, suc, zero, Bool, true, false, not, List, [], ◌∷◌, ◌++◌, Option, Some, None, IsSomeAnd, Result, Ok, Err, drop, length, nat_eq, nat_le, option_map, slice_get, refl, sym, ap, ◌∙◌, subst, if◌then◌else◌}
 use Rattle.std.proofs.lemmas.Bool.{cond_both}
 use Rattle.lang_base.specs.Texts.{same_text}
 use Rattle.lang_core.specs.Traces.{dead_trace}
@@ -43,27 +43,28 @@ use Rattle.flights.specs.declared.flight.Flight.{Flight}
 use Rattle.flights.specs.declared.flight.Move.{Move}
 use Rattle.flights.specs.declared.flight.Move.TheVariants.{Commit, Name, Change}
 use Rattle.service_events.specs.Allowed.{Allowed, AllowedOn, IsAllowed}
-use Rattle.service_events.specs.Arriving.{abandon_event, abandoned, accepted, admitted, answered_flight, arrive_event, arrives_or_known, by_version, call_answered_event, call_failed_event, failed_flight, is_for, is_new_to, known_by, live_answer_rows, new_flight, seen_live, told, unless_gone}
+use Rattle.service_events.specs.Arriving.{abandoned, accepted, admitted, answered_flight, arrives_or_known, by_version, failed_flight, is_for, is_new_to, known_by, live_answer_rows, new_flight, seen_live, told, unless_gone}
 use Rattle.service_events.specs.Calls.{all_deleted, named, noted}
+use Rattle.service_events.specs.Event.{event}
 use Rattle.service_events.specs.Fits.{EachAfter, Fits, sent_by}
 use Rattle.service_events.specs.Flying.{awaited, before_answer, call_or_none, change_rows, changed, changed_unsent, committed, completed, completing, flight_run, goes_on, live_answer, moved, named_unsent, surplus_rows, took_rows, waits, wanted_of, with_change, with_slot}
-use Rattle.service_events.specs.Messages.{acked_again, acked_row, answer_taken_where, confirmed_row, hear_decision, hear_denied, hear_allowed, hear_new, hear_rule, heard, held_back, held_where, hold_of, had, is_known, is_now, is_too_much, origin_of, posted, posted_event, replies_to, saw_ack_row, seen_row, take_admitted, take_allowed, take_answer_event, take_decision, take_denied, take_event, take_new, take_rule, taken, taken_by, took_row, was_confirmed_row}
-use Rattle.service_events.specs.Orders.{asked_rows, carried_out, is_too_much as is_too_much_for, misnamed, order_by, order_decision, order_event, order_rows, order_rule, order_where, refused, request_put, subject, unless_allowed}
+use Rattle.service_events.specs.Messages.{acked_again, acked_row, answer_taken_where, confirmed_row, hear_decision, hear_denied, hear_allowed, hear_new, hear_rule, heard, held_back, held_where, hold_of, is_known, is_now, is_too_much, origin_of, posted, saw_ack_row, seen_row, take_admitted, take_allowed, take_decision, take_denied, take_new, take_rule, taken, taken_by, took_row, was_confirmed_row}
+use Rattle.service_events.specs.Orders.{asked_rows, carried_out, is_too_much as is_too_much_for, misnamed, order_by, order_decision, order_rows, order_rule, order_where, refused, request_put, subject, unless_allowed}
 use Rattle.service_events.specs.Questions.{answer_question, command_question, is_denied, rule_of, version_question}
-use Rattle.service_events.specs.State.{Kept, After, after, answers, base, flight_of, fresh, is_crowded, is_heavy, is_in_flight, next_id, or_else}
-use Rattle.service_events.specs.Steps.{answer_rows, new_record, sent_rows, Stale, stale_in, step_by, step_event}
+use Rattle.service_events.specs.State.{Kept, After, after, answers, base, flight_of, fresh, is_crowded, is_heavy, next_id, or_else}
+use Rattle.service_events.specs.Steps.{answer_rows, new_record, sent_rows, Stale, stale_in, step_by}
 use Rattle.service_events.specs.declared.answers.Arrived.{Arrived}
+use Rattle.service_events.specs.declared.event.Event.{Event}
+use Rattle.service_events.specs.declared.event.Event.TheVariants as events
 use Rattle.service_events.specs.declared.answers.PostReply.{PostReply}
 use Rattle.service_events.specs.declared.answers.PostReply.TheVariants.{Acked as WasAcked, Confirmed as WasConfirmedBack, Refused, Lost}
 use Rattle.service_events.specs.declared.answers.Posted.TheVariants.{Held, Left}
 use Rattle.service_events.specs.declared.refusals.AnswerRefused.TheVariants.{Unknown}
 use Rattle.service_events.specs.declared.refusals.ArriveRefused.{ArriveRefused}
-use Rattle.service_events.specs.declared.refusals.ArriveRefused.TheVariants.{NotYet as NotAnswered}
 use Rattle.service_events.specs.declared.refusals.CallRefused.TheVariants.{NoFlight}
 use Rattle.service_events.specs.declared.refusals.OrderRefused.{OrderRefused}
 use Rattle.service_events.specs.declared.refusals.OrderRefused.TheVariants.{Full}
-use Rattle.service_events.specs.declared.refusals.PostRefused.TheVariants.{Foreign}
-use Rattle.service_events.specs.declared.refusals.TakeRefused.TheVariants.{NotYet}
+use Rattle.service_events.proofs.AskedLemmas.{arrives_either, takes_either, posted_either}
 use Rattle.service_events.proofs.KnownLaws.{known_as_told, subject_as_told}
 use Rattle.service_events.proofs.SearchLemmas.{neither}
 use Rattle.service_events.proofs.FlightLaws.{sends_change}
@@ -187,13 +188,6 @@ gone_stays : (s : Kept) (last : Option TookRow) (known : After (Result Arrived A
 gone_stays s None known h k = k
 gone_stays s (Some t) known h k = version_stays s t.version t.desired known h k
 
-pub arrive_stays_allowed : (s : Kept) (o : Origin) (q : Request) (i : Inputs) → IsAllowed s → IsAllowed (arrive_event s o q i).service
-arrive_stays_allowed s Outside q i h = admitted_stays s Outside q i (or_else (is_crowded s) (is_heavy s)) h
-arrive_stays_allowed s (Call c n) q i h =
-    let known = arrives_or_known s c n q i (find_call (Call c n) s.entries) in
-    cond_both (is_in_flight (Call c n) s) (after s (Err (NotAnswered n))) (unless_gone s (last_taken c n s.journal) known) (λ a. IsAllowed a.service)
-    (λ _. h) (λ _. gone_stays s (last_taken c n s.journal) known h (arrives_stays s c n q i (find_call (Call c n) s.entries) h))
-
 -- a call's answer
 seen_free : (a : AnswerMessage) (new : Bool) → Each IsFree (if new then seen_live a ∷ [] else [])
 seen_free a true = (λ rules before. refl, tt)
@@ -208,9 +202,6 @@ answered_stays s id a (Some f) h =
     (free_stays s t (live_answer_rows s a) refl refl (λ rules before. tt, seen_free a (is_new_to a (register a.number s.registers))) h))
     (λ _. h)
 
-pub call_answered_stays_allowed : (s : Kept) (id : ℕ) (a : AnswerMessage) → IsAllowed s → IsAllowed (call_answered_event s id a).service
-call_answered_stays_allowed s id a h = answered_stays s id a (flight_of id s) h
-
 -- a call's failure
 failed_stays : (s : Kept) (id number : ℕ) (why : Why) (o : Option Flight) → IsAllowed s → IsAllowed (failed_flight s id number why o).service
 failed_stays s id number why None h = h
@@ -218,18 +209,12 @@ failed_stays s id number why (Some f) h =
     cond_both (nat_eq (awaited f) number) (accepted (goes_on (told number why s) f)) (after s (Err (NoFlight id))) (λ a. IsAllowed a.service)
     (λ _. goes_on_stays (told number why s) f h) (λ _. h)
 
-pub call_failed_stays_allowed : (s : Kept) (id number : ℕ) (why : Why) → IsAllowed s → IsAllowed (call_failed_event s id number why).service
-call_failed_stays_allowed s id number why h = failed_stays s id number why (flight_of id s) h
-
 -- an abandonment
 abandoned_stays : (s : Kept) (o : Option Flight) → IsAllowed s → IsAllowed (abandoned s o).service
 abandoned_stays s None h = h
 abandoned_stays s (Some f) h =
     let rows = all_deleted s.registers f.numbers f.calls in
     sending_stays s (abandoned s (Some f)).service rows refl refl (sends_deleted s.registers f.numbers f.calls) h
-
-pub abandon_stays_allowed : (s : Kept) (id : ℕ) → IsAllowed s → IsAllowed (abandon_event s id).service
-abandon_stays_allowed s id h = abandoned_stays s (flight_of id s) h
 
 -- ---- a repair step
 
@@ -246,9 +231,6 @@ stepped_stays s (Some x) h =
     let sends = sends_settled s.registers e.slots (calls_of_made e.made) m.trace.calls (next_number s.registers) in
     free_stays s (step_by s (Some x)).service (sent_rows s e m ++ answer_rows e m) refl refl
     (each_append IsFree (sent_rows s e m) (answer_rows e m) (each_weaker IsSending IsFree sending_free (sent_rows s e m) sends) (answer_free e m (is_new_answer e.made m))) h
-
-pub step_stays_allowed : (s : Kept) → IsAllowed s → IsAllowed (step_event s).service
-step_stays_allowed s h = stepped_stays s (stale_in (answers s) (base s) s.entries) h
 
 -- ---- what comes back of a post
 
@@ -268,11 +250,6 @@ reply_stays s post (WasConfirmedBack c) h =
     free_stays s (posted s post (WasConfirmedBack c)).service (was_confirmed_row c ∷ []) refl refl (λ rules before. tt, tt) h
 reply_stays s post (Refused word number) h = held_stays s post (hold_of word number) h
 reply_stays s post (Lost note) h = h
-
-pub posted_stays_allowed : (s : Kept) (post : Post) (answer : PostReply) → IsAllowed s → IsAllowed (posted_event s post answer).service
-posted_stays_allowed s post answer h =
-    cond_both (had s post && replies_to post answer) (posted s post answer) (after s (Err Foreign)) (λ a. IsAllowed a.service)
-    (λ _. reply_stays s post answer h) (λ _. h)
 
 -- ---- what isn't denied is allowed, by the rule that decided
 
@@ -309,11 +286,6 @@ module _ (s : Kept) (f : Fits s) (set : SetMessage) where
       cond_both (is_known s set) (after (acked_again s set) (Ok (taken set None))) (take_new s set i) (λ a. IsAllowed a.service)
       (λ _. free_stays s (acked_again s set) (acked_row set ∷ []) refl refl (λ rules before. tt, tt) h) (λ _. new_stays i h)
 
-pub take_stays_allowed : (s : Kept) (set : SetMessage) (i : Inputs) → Fits s → IsAllowed s → IsAllowed (take_event s set i).service
-take_stays_allowed s set i f h =
-    cond_both (is_in_flight (origin_of set) s) (after s (Err (NotYet set.number))) (take_admitted s set i (is_too_much s set)) (λ a. IsAllowed a.service)
-    (λ _. h) (λ _. version_taken_stays s f set i (is_too_much s set) h)
-
 -- ---- an answer
 
 module _ (s : Kept) (f : Fits s) (a : AnswerMessage) (r : Register) (found : register a.number s.registers ≡ Some r) where
@@ -340,9 +312,6 @@ module _ (s : Kept) (f : Fits s) (a : AnswerMessage) (r : Register) (found : reg
 answer_stays : (s : Kept) (f : Fits s) (a : AnswerMessage) (o : Option Register) → register a.number s.registers ≡ o → IsAllowed s → IsAllowed (answer_taken_where s a o).service
 answer_stays s f a None found h = h
 answer_stays s f a (Some r) found h = heard_stays s f a r found (same_text r.dest a.callee) (is_newer r.answer a.answer_version) h
-
-pub take_answer_stays_allowed : (s : Kept) (a : AnswerMessage) → Fits s → IsAllowed s → IsAllowed (take_answer_event s a).service
-take_answer_stays_allowed s a f h = answer_stays s f a (register a.number s.registers) refl h
 
 -- ---- an order
 
@@ -387,8 +356,24 @@ module _ (s : Kept) (f : Fits s) (command : Command) (token who : List ℕ) (i :
   order_where_stays (Some o) h = h
   order_where_stays None h = order_by_stays (refused s command who) refl h
 
-pub order_stays_allowed : (s : Kept) (command : Command) (token who : List ℕ) (i : Inputs) → Fits s → IsAllowed s → IsAllowed (order_event s command token who i).service
-order_stays_allowed s command token who i f h = order_where_stays s f command token who i (ordered token s.journal) h
+-- ---- all events
+
+pub event_stays_allowed : (s : Kept) (e : Event) → Fits s → IsAllowed s → IsAllowed (event s e).service
+event_stays_allowed s (events.Arrive Outside q i) f h = admitted_stays s Outside q i (or_else (is_crowded s) (is_heavy s)) h
+event_stays_allowed s (events.Arrive (Call c n) q i) f h =
+    let entry = find_call (Call c n) s.entries in
+    arrives_either s c n q i (λ a. IsAllowed a.service) h
+    (gone_stays s (last_taken c n s.journal) (arrives_or_known s c n q i entry) h (arrives_stays s c n q i entry h))
+event_stays_allowed s (events.CallAnswered id a) f h = answered_stays s id a (flight_of id s) h
+event_stays_allowed s (events.CallFailed id number why) f h = failed_stays s id number why (flight_of id s) h
+event_stays_allowed s (events.Abandon id) f h = abandoned_stays s (flight_of id s) h
+event_stays_allowed s (events.Take set i) f h = takes_either s set i (λ a. IsAllowed a.service) h (version_taken_stays s f set i (is_too_much s set) h)
+event_stays_allowed s (events.TakeAnswer a) f h = answer_stays s f a (register a.number s.registers) refl h
+event_stays_allowed s (events.NextPost dest) f h = h
+event_stays_allowed s (events.WritePost name) f h = h
+event_stays_allowed s (events.Posted post reply) f h = posted_either s post reply (λ a. IsAllowed a.service) h (λ _ _. reply_stays s post reply h)
+event_stays_allowed s events.Step f h = stepped_stays s (stale_in (answers s) (base s) s.entries) h
+event_stays_allowed s (events.Order command token who i) f h = order_where_stays s f command token who i (ordered token s.journal) h
 
 -- ---- at the start
 

@@ -1,21 +1,19 @@
 -- No event leaves more entries and flights than a service may have.
-use Rattle.std.proofs.Common.{◌≡◌, ℕ, zero, suc, ◌+◌, ◌<◌, ◌≤◌, List, [], ◌∷◌, length, find, slice_get, Option, Some, None, Result, Err, nat_eq, nat_lt, nat_le, refl, ap, inl, inr, arith, length-append, eqb-true}
+use Rattle.std.proofs.Common.{◌≡◌, ℕ, zero, suc, ◌+◌, ◌<◌, ◌≤◌, List, [], ◌∷◌, length, find, slice_get, Option, Some, None, Result, nat_eq, nat_lt, nat_le, refl, ap, inl, inr, arith, length-append, eqb-true}
 use Rattle.std.proofs.lemmas.Bool.{cases_Bool, cond_both}
 use Rattle.std.proofs.lemmas.Bool.Decides.{nat_tests}
 use Rattle.lang_core.specs.Traces.{dead_trace}
 use Rattle.lang_core.specs.declared.ids.Origin.{Origin}
-use Rattle.lang_core.specs.declared.ids.Origin.TheVariants.{Outside, Call}
+use Rattle.lang_core.specs.declared.ids.Origin.TheVariants.{Call}
 use Rattle.lang_core.specs.declared.inputs.Inputs.{Inputs}
 use Rattle.lang_core.specs.declared.request.Request.{Request}
 use Rattle.lang_core.specs.declared.trace.CallMade.{CallMade}
 use Rattle.lang_core.specs.declared.trace.Trace.{Trace}
 use Rattle.handler_run.specs.declared.state.Ran.{Ran}
-use Rattle.request_log.specs.Entries.{find_call}
 use Rattle.request_log.specs.Records.{Record, record_of}
 use Rattle.request_log.specs.declared.entry.Entry.{Entry}
 use Rattle.local_repair.specs.Alone.{trace_or_dead}
 use Rattle.repair_messages.specs.declared.messages.AnswerMessage.{AnswerMessage}
-use Rattle.journal_rows.specs.Words.{last_taken}
 use Rattle.journal_rows.specs.declared.callee.TookRow.{TookRow}
 use Rattle.call_registers.specs.Registers.{next_number}
 use Rattle.call_registers.specs.declared.register.Why.{Why}
@@ -23,13 +21,12 @@ use Rattle.flights.specs.Moves.{calls_in, next_move}
 use Rattle.flights.specs.declared.flight.Flight.{Flight}
 use Rattle.flights.specs.declared.flight.Move.{Move}
 use Rattle.flights.specs.declared.flight.Move.TheVariants.{Commit, Name, Change}
-use Rattle.service_events.specs.State.{Kept, After, after, in_all, or_else, is_crowded, is_heavy, is_in_flight, has_flight, flight_of, free_flight, without_flight, put_flight}
+use Rattle.service_events.specs.State.{Kept, After, in_all, or_else, is_crowded, is_heavy, has_flight, flight_of, free_flight, without_flight, put_flight}
 use Rattle.service_events.specs.Calls.{noted, named}
 use Rattle.service_events.specs.Flying.{flight_run, awaited, committed, committed_entry, with_slot, with_change, change_rows, waits, wanted_of, named_unsent, changed_unsent, completing, completed, changed, moved, goes_on}
-use Rattle.service_events.specs.Arriving.{new_flight, admitted, arrives, known_by, arrives_or_known, by_version, unless_gone, arrive_event, is_for, live_answer_rows, answered_flight, call_answered_event, told, failed_flight, call_failed_event, abandoned, abandon_event}
+use Rattle.service_events.specs.Arriving.{new_flight, admitted, arrives, known_by, arrives_or_known, by_version, unless_gone, is_for, live_answer_rows, answered_flight, told, failed_flight, abandoned}
 use Rattle.service_events.specs.declared.answers.Arrived.{Arrived}
 use Rattle.service_events.specs.declared.refusals.ArriveRefused.{ArriveRefused}
-use Rattle.service_events.specs.declared.refusals.ArriveRefused.TheVariants.{NotYet}
 use Rattle.service_events.proofs.LiveEntryLaws.{call_keeps}
 use Rattle.service_events.proofs.SearchLemmas.{splits}
 
@@ -132,14 +129,14 @@ admitted_bounded s o q i None h below =
     let others = length_without (free_flight s) s.flights in
     omega (arith, place, all, others)
 
-arrives_bounded : (s : Kept) (o : Origin) (q : Request) (i : Inputs) → IsBounded s → IsBounded (arrives s o q i).service
+pub arrives_bounded : (s : Kept) (o : Origin) (q : Request) (i : Inputs) → IsBounded s → IsBounded (arrives s o q i).service
 arrives_bounded s o q i h = admitted_bounded s o q i (or_else (is_crowded s) (is_heavy s)) h (uncrowded s (is_heavy s))
 
 known_bounded : (s : Kept) (c : List ℕ) (n : ℕ) (e : Entry) (m : Option Record) → IsBounded s → IsBounded (known_by s c n e m).service
 known_bounded s c n e None h = h
 known_bounded s c n e (Some m) h = h
 
-call_bounded : (s : Kept) (c : List ℕ) (n : ℕ) (q : Request) (i : Inputs) (e : Option Entry) → IsBounded s → IsBounded (arrives_or_known s c n q i e).service
+pub call_bounded : (s : Kept) (c : List ℕ) (n : ℕ) (q : Request) (i : Inputs) (e : Option Entry) → IsBounded s → IsBounded (arrives_or_known s c n q i e).service
 call_bounded s c n q i None h = arrives_bounded s (Call c n) q i h
 call_bounded s c n q i (Some e) h = known_bounded s c n e (record_of e) h
 
@@ -147,16 +144,9 @@ version_bounded : (s : Kept) (version : ℕ) (d : Option Request) (a : After (Re
 version_bounded s version None a h k = h
 version_bounded s version (Some q) a h k = k
 
-gone_bounded : (s : Kept) (t : Option TookRow) (a : After (Result Arrived ArriveRefused)) → IsBounded s → IsBounded a.service → IsBounded (unless_gone s t a).service
+pub gone_bounded : (s : Kept) (t : Option TookRow) (a : After (Result Arrived ArriveRefused)) → IsBounded s → IsBounded a.service → IsBounded (unless_gone s t a).service
 gone_bounded s None a h k = k
 gone_bounded s (Some t) a h k = version_bounded s t.version t.desired a h k
-
-pub arrive_bounded : (s : Kept) (o : Origin) (q : Request) (i : Inputs) → IsBounded s → IsBounded (arrive_event s o q i).service
-arrive_bounded s Outside q i h = arrives_bounded s Outside q i h
-arrive_bounded s (Call c n) q i h =
-    let known = arrives_or_known s c n q i (find_call (Call c n) s.entries) in
-    cond_both (is_in_flight (Call c n) s) (after s (Err (NotYet n))) (unless_gone s (last_taken c n s.journal) known) (λ a. IsBounded a.service)
-    (λ _. h) (λ _. gone_bounded s (last_taken c n s.journal) known h (call_bounded s c n q i (find_call (Call c n) s.entries) h))
 
 -- ---- a flight that is there
 
@@ -167,29 +157,20 @@ found_bounded s id f h found =
     let other : length (without_flight f.id s.flights) ≡ length (without_flight id s.flights) = ap (λ k. length (without_flight k s.flights)) same in
     omega (arith, h, less, other)
 
-answered_bounded : (s : Kept) (id : ℕ) (a : AnswerMessage) (o : Option Flight) → flight_of id s ≡ o → IsBounded s → IsBounded (answered_flight s id a o).service
+pub answered_bounded : (s : Kept) (id : ℕ) (a : AnswerMessage) (o : Option Flight) → flight_of id s ≡ o → IsBounded s → IsBounded (answered_flight s id a o).service
 answered_bounded s id a None is h = h
 answered_bounded s id a (Some f) is h = elim (cases_Bool (is_for s a f)) [
   | inl does ↦ (let all = goes_on_leaves (noted (live_answer_rows s a) s) f in let few = found_bounded s id f h is in rw does (omega (arith, all, few)))
   | inr isnt ↦ rw isnt h
 ]
 
-pub call_answered_bounded : (s : Kept) (id : ℕ) (a : AnswerMessage) → IsBounded s → IsBounded (call_answered_event s id a).service
-call_answered_bounded s id a h = answered_bounded s id a (flight_of id s) refl h
-
-failed_bounded : (s : Kept) (id number : ℕ) (why : Why) (o : Option Flight) → flight_of id s ≡ o → IsBounded s → IsBounded (failed_flight s id number why o).service
+pub failed_bounded : (s : Kept) (id number : ℕ) (why : Why) (o : Option Flight) → flight_of id s ≡ o → IsBounded s → IsBounded (failed_flight s id number why o).service
 failed_bounded s id number why None is h = h
 failed_bounded s id number why (Some f) is h = elim (cases_Bool (nat_eq (awaited f) number)) [
   | inl does ↦ (let all = goes_on_leaves (told number why s) f in let few = found_bounded s id f h is in rw does (omega (arith, all, few)))
   | inr isnt ↦ rw isnt h
 ]
 
-pub call_failed_bounded : (s : Kept) (id number : ℕ) (why : Why) → IsBounded s → IsBounded (call_failed_event s id number why).service
-call_failed_bounded s id number why h = failed_bounded s id number why (flight_of id s) refl h
-
-abandoned_bounded : (s : Kept) (o : Option Flight) → IsBounded s → IsBounded (abandoned s o).service
+pub abandoned_bounded : (s : Kept) (o : Option Flight) → IsBounded s → IsBounded (abandoned s o).service
 abandoned_bounded s None h = h
 abandoned_bounded s (Some f) h = (let less = length_without f.id s.flights in omega (arith, h, less))
-
-pub abandon_bounded : (s : Kept) (id : ℕ) → IsBounded s → IsBounded (abandon_event s id).service
-abandon_bounded s id h = abandoned_bounded s (flight_of id s) h

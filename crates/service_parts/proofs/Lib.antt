@@ -2,7 +2,6 @@ pub mod DraftLemmas
 pub mod ReplyLemmas
 pub mod BoundLaws
 pub mod MessageBounds
-pub mod FitLaws
 pub mod CommitLaws
 pub mod RunsOnLaws
 pub mod CauseLaws
@@ -13,6 +12,7 @@ pub mod OwnedLemmas
 pub mod AgeLaws
 pub mod MessageAges
 pub mod PostAges
+pub mod EventLaws
 pub mod TraceLaws
 pub mod SettledLaws
 pub mod ApartLaws

@@ -13,13 +13,12 @@ use Rattle.repair_messages.specs.declared.messages.SetMessage.{SetMessage}
 use Rattle.repair_messages.specs.declared.posts.Post.{Post}
 use Rattle.repair_messages.specs.declared.posts.Post.TheVariants.{Set, Answer}
 use Rattle.repair_messages.specs.declared.posts.PostName.TheVariants.{Call as OfCall, Reply as OfReply}
-use Rattle.journal_rows.specs.Words.{ordered}
 use Rattle.journal_rows.specs.declared.orders.Command.{Command}
 use Rattle.journal_rows.specs.declared.orders.Command.TheVariants.{Cancel, Restore, Replace, Create, Retry}
 use Rattle.journal_rows.specs.declared.orders.OrderedRow.{OrderedRow}
 use Rattle.journal_rows.specs.declared.row.Row.{Row}
 use Rattle.journal_rows.specs.declared.row.Row.TheVariants.{Asked}
-use Rattle.call_registers.specs.Registers.{register, is_newer, with_hold, released}
+use Rattle.call_registers.specs.Registers.{is_newer, with_hold, released}
 use Rattle.call_registers.specs.Replies.{has_entry, reply, at_entry, with_taken, with_confirm, made_due, with_hold as with_reply_hold, released as released_reply}
 use Rattle.call_registers.specs.declared.register.Hold.{Hold}
 use Rattle.call_registers.specs.declared.register.Register.{Register}
@@ -27,36 +26,26 @@ use Rattle.call_registers.specs.declared.reply.Reply.{Reply}
 use Rattle.service_events.specs.Ages.{marks_reply}
 use Rattle.service_events.specs.Calls.{noted}
 use Rattle.service_events.specs.Fits.{Fits}
-use Rattle.service_events.specs.Messages.{take_new, origin_of, is_known, is_too_much, acked_row, took_row, at_reply_of, acked_again, created_reply, taken_by, taken, take_admitted, take_event, seen_row, hear_rule, hear_new, confirmed_row, heard, answer_taken_where, take_answer_event, had, had_answer, is_version, replies_to, is_now, hold_of, held_back, held_where, saw_ack_row, was_confirmed_row, posted, posted_event}
-use Rattle.service_events.specs.Orders.{refused, asked_rows, order_rows, carried_out, order_by, order_where, order_event}
-use Rattle.service_events.specs.State.{Kept, After, after, me, next_id, is_in_flight}
+use Rattle.service_events.specs.Messages.{take_new, origin_of, is_known, acked_row, took_row, at_reply_of, acked_again, created_reply, taken_by, taken, take_admitted, seen_row, hear_rule, hear_new, confirmed_row, heard, answer_taken_where, had, had_answer, is_version, replies_to, is_now, hold_of, held_back, held_where, saw_ack_row, was_confirmed_row, posted}
+use Rattle.service_events.specs.Orders.{refused, asked_rows, order_rows, carried_out, order_by, order_where}
+use Rattle.service_events.specs.State.{Kept, After, after, me, next_id}
 use Rattle.service_events.specs.declared.answers.PostReply.{PostReply}
 use Rattle.service_events.specs.declared.answers.PostReply.TheVariants.{Acked as WasAcked, Confirmed as WasConfirmedBack, Refused, Lost}
 use Rattle.service_events.specs.declared.answers.Posted.TheVariants.{Held, Left}
 use Rattle.service_events.specs.declared.refusals.AnswerRefused.TheVariants.{Unknown}
 use Rattle.service_events.specs.declared.refusals.OrderRefused.{OrderRefused}
-use Rattle.service_events.specs.declared.refusals.PostRefused.TheVariants.{Foreign}
-use Rattle.service_events.specs.declared.refusals.TakeRefused.TheVariants.{NotYet}
 use Rattle.service_events.proofs.AskedLemmas.{take_either, hear_either}
 use Rattle.service_events.proofs.PostedLaw.{IsOfEntry}
 use Rattle.service_events.proofs.SearchLemmas.{some_or_none, splits, text_is}
-use Rattle.service_events.proofs.CallLaws.{IsFew}
 use Rattle.service_events.proofs.FlightLemmas.{each_found}
 use Rattle.service_events.proofs.CallRowLemmas.{Each, each_append, each_weaker}
-use Rattle.service_parts.proofs.AgeLaws.{AgesOf, AllMarked, keeps_ages, IsStep, step_noted, step_marked}
+use Rattle.service_parts.proofs.AgeLaws.{AllMarked, GoesAged, aged_same, aged_step, step_noted, step_marked}
 use Rattle.service_parts.proofs.AgeLemmas.{Ages, ages_stay, ages_noted, ages_then, ages_same, KeepsAge, IsMarked, IsUnmarked, MarksNone, unmarked, unmarked-append, replies_stay, reply_marked, replies_kept, none_any, last_here}
-use Rattle.service_parts.proofs.FitLaws.{take_fits, take_answer_fits, posted_fits, order_fits}
 use Rattle.service_parts.proofs.OwnedLemmas.{is_to, owned, to_its, to_none, to_others, to_own}
 
 -- what an event leaves has its ages
 abbrev LeavesAged : {A : Type 0} → Kept → After A → Type 0
-LeavesAged s a = Ages s a.service × (AllMarked s → AllMarked a.service)
-
-aged_same : (s : Kept) → Ages s s × (AllMarked s → AllMarked s)
-aged_same s = (ages_stay s s refl refl, λ h. h)
-
-aged_step : (s t : Kept) → IsStep s t → Ages s t × (AllMarked s → AllMarked t)
-aged_step s t step = (step.calls, λ h. step_marked s t step h)
+LeavesAged s a = GoesAged s a.service
 
 -- ---- a version of a call
 
@@ -98,52 +87,43 @@ again_marked : (s : Kept) (f : Fits s) (set : SetMessage) (e : Option Entry) →
 again_marked s f set None is h = acked_none s f set [] tt is h
 again_marked s f set (Some e) is h = acked_own s f set [] tt e (made_due (length s.journal)) is (λ p. (refl, refl, refl, omega arith)) h
 
-again_aged : (s : Kept) (f : Fits s) (set : SetMessage) → Ages s (acked_again s set) × (AllMarked s → AllMarked (acked_again s set))
-again_aged s f set = (
-  ages_noted s (acked_again s set) (acked_row set ∷ []) refl refl,
-  again_marked s f set (find_call (origin_of set) s.entries) refl,
-)
+again_aged : (s : Kept) (f : Fits s) (set : SetMessage) → GoesAged s (acked_again s set)
+again_aged s f set = record {
+  calls = ages_noted s (acked_again s set) (acked_row set ∷ []) refl refl;
+  replies = λ _. again_marked s f set (find_call (origin_of set) s.entries) refl;
+}
 
 taken_aged : (s : Kept) (f : Fits s) (set : SetMessage) (i : Inputs) (e : Option Entry) (d : Option Request) → find_call (origin_of set) s.entries ≡ e
-    → Ages s (taken_by s set i e d) × (AllMarked s → AllMarked (taken_by s set i e d))
-taken_aged s f set i (Some e) d is = (
-  ages_noted s (taken_by s set i (Some e) d) (took_row s set ∷ (acked_row set ∷ [])) refl refl,
-  acked_own s f set (took_row s set ∷ []) (tt, tt) e (λ p. made_due (length s.journal + 1) (with_taken set.version (is_some set.desired) p)) is (λ p. (refl, refl, refl, omega arith)),
-)
+    → GoesAged s (taken_by s set i e d)
+taken_aged s f set i (Some e) d is = record {
+  calls = ages_noted s (taken_by s set i (Some e) d) (took_row s set ∷ (acked_row set ∷ [])) refl refl;
+  replies = λ _. acked_own s f set (took_row s set ∷ []) (tt, tt) e (λ p. made_due (length s.journal + 1) (with_taken set.version (is_some set.desired) p)) is (λ p. (refl, refl, refl, omega arith));
+}
 taken_aged s f set i None (Some q) is =
     let asks = Asked (record { id = next_id s; origin = origin_of set; request = q; inputs = i }) in
     let rows = took_row s set ∷ (asks ∷ []) in
-    let it = and_from (same_text set.caller set.caller) (nat_eq set.number set.number) (nat_list_eq_equiv.refl set.caller) (eq-eqb set.number set.number refl) in (
-      ages_noted s (taken_by s set i None (Some q)) (took_row s set ∷ (asks ∷ (acked_row set ∷ []))) refl refl,
-      λ h. each_append (IsMarked (s.journal ++ (rows ++ acked_row set ∷ []))) s.replies (created_reply s set ∷ [])
+    let it = and_from (same_text set.caller set.caller) (nat_eq set.number set.number) (nat_list_eq_equiv.refl set.caller) (eq-eqb set.number set.number refl) in record {
+      calls = ages_noted s (taken_by s set i None (Some q)) (took_row s set ∷ (asks ∷ (acked_row set ∷ []))) refl refl;
+      replies = λ _ h. each_append (IsMarked (s.journal ++ (rows ++ acked_row set ∷ []))) s.replies (created_reply s set ∷ [])
           (acked_none s f set rows (tt, (tt, tt)) is h)
-          (last_here (marks_reply (created_reply s set)) s.journal rows (acked_row set) [] (length s.journal + 2) refl it refl, tt),
-    )
-taken_aged s f set i None None is = (
-  ages_noted s (taken_by s set i None None) (took_row s set ∷ (acked_row set ∷ [])) refl refl,
-  acked_none s f set (took_row s set ∷ []) (tt, tt) is,
-)
+          (last_here (marks_reply (created_reply s set)) s.journal rows (acked_row set) [] (length s.journal + 2) refl it refl, tt);
+    }
+taken_aged s f set i None None is = record {
+  calls = ages_noted s (taken_by s set i None None) (took_row s set ∷ (acked_row set ∷ [])) refl refl;
+  replies = λ _. acked_none s f set (took_row s set ∷ []) (tt, tt) is;
+}
 
-admitted_aged : (s : Kept) (f : Fits s) (set : SetMessage) (i : Inputs) (n : Option ℕ) → LeavesAged s (take_admitted s set i n)
-admitted_aged s f set i (Some n) = aged_same s
-admitted_aged s f set i None =
+pub take_admitted_aged : (s : Kept) (f : Fits s) (set : SetMessage) (i : Inputs) (n : Option ℕ) → LeavesAged s (take_admitted s set i n)
+take_admitted_aged s f set i (Some n) = aged_same s
+take_admitted_aged s f set i None =
     cond_both (is_known s set) (after (acked_again s set) (Ok (taken set None)))
     (take_new s set i) (LeavesAged s)
     (λ _. again_aged s f set)
     (λ _. take_either s set i (LeavesAged s) (aged_same s) (taken_aged s f set i (find_call (origin_of set) s.entries) set.desired refl))
 
-take_aged : (s : Kept) (f : Fits s) (set : SetMessage) (i : Inputs) → LeavesAged s (take_event s set i)
-take_aged s f set i =
-    cond_both (is_in_flight (origin_of set) s) (after s (Err (NotYet set.number))) (take_admitted s set i (is_too_much s set)) (LeavesAged s)
-    (λ _. aged_same s) (λ _. admitted_aged s f set i (is_too_much s set))
-
-pub take_ages : (s : Kept) (set : SetMessage) (i : Inputs) → Fits s → IsFew (take_event s set i).service → AgesOf s → AgesOf (take_event s set i).service
-take_ages s set i f few h =
-    let a = take_aged s f set i in keeps_ages s (take_event s set i).service f (take_fits s set i f few) few a.0 a.1 h
-
 -- ---- an answer
 
-heard_aged : (s : Kept) (a : AnswerMessage) (o : Option Register) → LeavesAged s (answer_taken_where s a o)
+pub heard_aged : (s : Kept) (a : AnswerMessage) (o : Option Register) → LeavesAged s (answer_taken_where s a o)
 heard_aged s a None = aged_same s
 heard_aged s a (Some r) = by_test (not (same_text r.dest a.callee)) (is_newer r.answer a.answer_version)
   where
@@ -162,21 +142,18 @@ heard_aged s a (Some r) = by_test (not (same_text r.dest a.callee)) (is_newer r.
         let rows = confirmed_row a ∷ [] in
         aged_step s (noted rows s) (step_noted s (noted rows s) rows (tt, tt) refl refl refl refl)
 
-pub take_answer_ages : (s : Kept) (a : AnswerMessage) → Fits s → IsFew (take_answer_event s a).service → AgesOf s → AgesOf (take_answer_event s a).service
-take_answer_ages s a f few h =
-    let l = heard_aged s a (register a.number s.registers) in
-    keeps_ages s (take_answer_event s a).service f (take_answer_fits s a f few) few l.0 l.1 h
-
 -- ---- what comes back of a post
 
 hold_keeps : (hold : Hold) → KeepsAge (with_hold hold)
 hold_keeps hold r = (refl, refl)
 
-held_back_aged : (s : Kept) (post : Post) (hold : Hold) → Ages s (held_back s post hold) × (AllMarked s → AllMarked (held_back s post hold))
+held_back_aged : (s : Kept) (post : Post) (hold : Hold) → GoesAged s (held_back s post hold)
 held_back_aged s (Set set) hold =
-    (ages_stay s (held_back s (Set set) hold) refl (ages_same set.number (with_hold hold) s.registers (hold_keeps hold)), λ h. h)
-held_back_aged s (Answer a) hold =
-    (ages_stay s (held_back s (Answer a) hold) refl refl, replies_kept s.journal a.id (with_reply_hold hold) s.replies (λ p m. m))
+    record { calls = ages_stay s (held_back s (Set set) hold) refl (ages_same set.number (with_hold hold) s.registers (hold_keeps hold)); replies = λ _ h. h }
+held_back_aged s (Answer a) hold = record {
+  calls = ages_stay s (held_back s (Answer a) hold) refl refl;
+  replies = λ _. replies_kept s.journal a.id (with_reply_hold hold) s.replies (λ p m. m);
+}
 
 held_aged : (s : Kept) (post : Post) (hold : Option Hold) → LeavesAged s (held_where s post hold)
 held_aged s post None = aged_same s
@@ -244,24 +221,16 @@ module _ (s : Kept) (f : Fits s) (a : AnswerMessage) (c : Confirm) (had_it : had
     | inr some ↦ confirmed_by some.0 some.1 h
   ]
 
-reply_aged : (s : Kept) (f : Fits s) (post : Post) (answer : PostReply) → had s post ≡ true → replies_to post answer ≡ true → LeavesAged s (posted s post answer)
+pub reply_aged : (s : Kept) (f : Fits s) (post : Post) (answer : PostReply) → had s post ≡ true → replies_to post answer ≡ true → LeavesAged s (posted s post answer)
 reply_aged s f post (WasAcked ack) h r =
     let rows = saw_ack_row ack ∷ [] in aged_step s (noted rows s) (step_noted s (noted rows s) rows (tt, tt) refl refl refl refl)
 reply_aged s f (Set set) (WasConfirmedBack c) h r = absurd (not_both r)
-reply_aged s f (Answer a) (WasConfirmedBack c) h r =
-    (ages_noted s (posted s (Answer a) (WasConfirmedBack c)).service (was_confirmed_row c ∷ []) refl refl, confirmed_marked s f a c h r)
+reply_aged s f (Answer a) (WasConfirmedBack c) h r = record {
+  calls = ages_noted s (posted s (Answer a) (WasConfirmedBack c)).service (was_confirmed_row c ∷ []) refl refl;
+  replies = λ _. confirmed_marked s f a c h r;
+}
 reply_aged s f post (Refused word number) h r = held_aged s post (hold_of word number)
 reply_aged s f post (Lost note) h r = aged_same s
-
-posted_aged : (s : Kept) (f : Fits s) (post : Post) (answer : PostReply) → LeavesAged s (posted_event s post answer)
-posted_aged s f post answer =
-    cond_both (had s post && replies_to post answer) (posted s post answer) (after s (Err Foreign)) (LeavesAged s)
-    (λ both. let parts = and_parts (had s post) (replies_to post answer) both in reply_aged s f post answer parts.0 parts.1) (λ _. aged_same s)
-
-pub posted_ages : (s : Kept) (post : Post) (answer : PostReply) → Fits s → IsFew (posted_event s post answer).service → AgesOf s
-    → AgesOf (posted_event s post answer).service
-posted_ages s post answer f few h =
-    let a = posted_aged s f post answer in keeps_ages s (posted_event s post answer).service f (posted_fits s post answer f few) few a.0 a.1 h
 
 -- ---- an order
 
@@ -297,17 +266,12 @@ by_aged s command token who i (Some why) = aged_same s
 by_aged s command token who i None =
     let mid = carried_out s command who i in
     let rows = order_rows s command token who i in
-    let step = step_noted mid (noted rows mid) rows (tt, asked_none s command i) refl refl refl refl in (
-      ages_then s mid (noted rows mid) (carried_calls s command who i) step.calls,
-      λ h. step_marked mid (noted rows mid) step (carried_marked s command who i h),
-    )
+    let step = step_noted mid (noted rows mid) rows (tt, asked_none s command i) refl refl refl refl in
+    record {
+      calls = ages_then s mid (noted rows mid) (carried_calls s command who i) step.calls;
+      replies = λ _ h. step_marked mid (noted rows mid) step (carried_marked s command who i h);
+    }
 
-where_aged : (s : Kept) (command : Command) (token who : List ℕ) (i : Inputs) (o : Option OrderedRow) → LeavesAged s (order_where s command token who i o)
-where_aged s command token who i (Some o) = aged_same s
-where_aged s command token who i None = by_aged s command token who i (refused s command who)
-
-pub order_ages : (s : Kept) (command : Command) (token who : List ℕ) (i : Inputs) → Fits s → IsFew (order_event s command token who i).service → AgesOf s
-    → AgesOf (order_event s command token who i).service
-order_ages s command token who i f few h =
-    let a = where_aged s command token who i (ordered token s.journal) in
-    keeps_ages s (order_event s command token who i).service f (order_fits s command token who i f few) few a.0 a.1 h
+pub order_where_aged : (s : Kept) (command : Command) (token who : List ℕ) (i : Inputs) (o : Option OrderedRow) → LeavesAged s (order_where s command token who i o)
+order_where_aged s command token who i (Some o) = aged_same s
+order_where_aged s command token who i None = by_aged s command token who i (refused s command who)

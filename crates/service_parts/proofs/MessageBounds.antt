@@ -11,20 +11,18 @@ use Rattle.repair_messages.specs.declared.messages.AnswerMessage.{AnswerMessage}
 use Rattle.repair_messages.specs.declared.messages.SetMessage.{SetMessage}
 use Rattle.repair_messages.specs.declared.posts.Post.{Post}
 use Rattle.repair_messages.specs.declared.posts.Post.TheVariants.{Set, Answer}
-use Rattle.call_registers.specs.Registers.{register, is_newer}
+use Rattle.call_registers.specs.Registers.{is_newer}
 use Rattle.call_registers.specs.declared.register.Hold.{Hold}
 use Rattle.call_registers.specs.declared.register.Register.{Register}
-use Rattle.service_events.specs.State.{Kept, after, in_all, or_else, where_needed, is_crowded, is_heavy, is_in_flight}
+use Rattle.service_events.specs.State.{Kept, after, in_all, or_else, where_needed, is_crowded, is_heavy}
 use Rattle.service_events.specs.Calls.{noted}
-use Rattle.service_events.specs.Messages.{take_new, origin_of, is_known, makes_entry, is_too_much, acked_again, created_entry, created_place, at_version, taken_by, taken, take_admitted, take_event, hear_new, confirmed_row, heard, answer_taken_where, take_answer_event, had, replies_to, is_now, hold_of, held_back, held_where, posted, posted_event}
+use Rattle.service_events.specs.Messages.{take_new, origin_of, is_known, makes_entry, is_too_much, acked_again, created_entry, created_place, at_version, taken_by, taken, take_admitted, hear_new, confirmed_row, heard, answer_taken_where, is_now, hold_of, held_back, held_where, posted}
 use Rattle.service_events.specs.declared.answers.PostReply.{PostReply}
 use Rattle.service_events.specs.declared.answers.Taken.{Taken}
 use Rattle.service_events.specs.declared.refusals.TakeRefused.{TakeRefused}
 use Rattle.service_events.specs.declared.answers.PostReply.TheVariants.{Acked, Confirmed, Refused, Lost}
 use Rattle.service_events.specs.declared.answers.Posted.TheVariants.{Held, Left}
 use Rattle.service_events.specs.declared.refusals.AnswerRefused.TheVariants.{Unknown}
-use Rattle.service_events.specs.declared.refusals.PostRefused.TheVariants.{Foreign}
-use Rattle.service_events.specs.declared.refusals.TakeRefused.TheVariants.{NotYet}
 use Rattle.service_events.proofs.AskedLemmas.{take_either, hear_either}
 use Rattle.service_events.proofs.SearchLemmas.{length_insert}
 use Rattle.service_parts.proofs.BoundLaws.{IsBounded, uncrowded}
@@ -60,14 +58,9 @@ known_or_new s set i false place h =
     (new_bounded s set i (find_call (origin_of set) s.entries) set.desired
     (second_none (is_heavy s) (where_needed (makes_entry s set) (is_crowded s)) place) h)
 
-take_admitted_bounded : (s : Kept) (set : SetMessage) (i : Inputs) (full : Option ℕ) → is_too_much s set ≡ full → IsBounded s → IsBounded (take_admitted s set i full).service
+pub take_admitted_bounded : (s : Kept) (set : SetMessage) (i : Inputs) (full : Option ℕ) → is_too_much s set ≡ full → IsBounded s → IsBounded (take_admitted s set i full).service
 take_admitted_bounded s set i (Some n) is h = h
 take_admitted_bounded s set i None is h = known_or_new s set i (is_known s set) is h
-
-pub take_bounded : (s : Kept) (set : SetMessage) (i : Inputs) → IsBounded s → IsBounded (take_event s set i).service
-take_bounded s set i h =
-    cond_both (is_in_flight (origin_of set) s) (after s (Err (NotYet set.number))) (take_admitted s set i (is_too_much s set)) (λ a. IsBounded a.service)
-    (λ _. h) (λ _. take_admitted_bounded s set i (is_too_much s set) refl h)
 
 -- ---- an answer, and what comes back of a post
 
@@ -80,12 +73,9 @@ heard_bounded s a r false new h = h
 heard_bounded s a r true true h = hear_either s a r (λ a. IsBounded a.service) h h
 heard_bounded s a r true false h = h
 
-answer_taken_where_bounded : (s : Kept) (a : AnswerMessage) (o : Option Register) → IsBounded s → IsBounded (answer_taken_where s a o).service
+pub answer_taken_where_bounded : (s : Kept) (a : AnswerMessage) (o : Option Register) → IsBounded s → IsBounded (answer_taken_where s a o).service
 answer_taken_where_bounded s a None h = h
 answer_taken_where_bounded s a (Some r) h = heard_bounded s a r (same_text r.dest a.callee) (is_newer r.answer a.answer_version) h
-
-pub take_answer_bounded : (s : Kept) (a : AnswerMessage) → IsBounded s → IsBounded (take_answer_event s a).service
-take_answer_bounded s a h = answer_taken_where_bounded s a (register a.number s.registers) h
 
 held_back_bounded : (s : Kept) (post : Post) (hold : Hold) → IsBounded s → IsBounded (held_back s post hold)
 held_back_bounded s (Set set) hold h = h
@@ -97,13 +87,8 @@ held_bounded s post (Some hold) h =
     cond_both (is_now s post) (after (held_back s post hold) (Ok Held)) (after s (Ok Left)) (λ a. IsBounded a.service)
     (λ _. held_back_bounded s post hold h) (λ _. h)
 
-reply_bounded : (s : Kept) (post : Post) (answer : PostReply) → IsBounded s → IsBounded (posted s post answer).service
+pub reply_bounded : (s : Kept) (post : Post) (answer : PostReply) → IsBounded s → IsBounded (posted s post answer).service
 reply_bounded s post (Acked ack) h = h
 reply_bounded s post (Confirmed c) h = h
 reply_bounded s post (Refused word number) h = held_bounded s post (hold_of word number) h
 reply_bounded s post (Lost note) h = h
-
-pub posted_bounded : (s : Kept) (post : Post) (answer : PostReply) → IsBounded s → IsBounded (posted_event s post answer).service
-posted_bounded s post answer h =
-    cond_both (had s post && replies_to post answer) (posted s post answer) (after s (Err Foreign)) (λ a. IsBounded a.service)
-    (λ _. reply_bounded s post answer h) (λ _. h)

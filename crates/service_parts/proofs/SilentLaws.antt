@@ -1,5 +1,5 @@
 -- No event but a live request's answers a live request.
-use Rattle.std.proofs.Common.{◌≡◌, ℕ, Bool, true, false, not, ◌&&◌, List, [], ◌∷◌, ◌++◌, Option, Some, None, Ok, Err, refl, ap, ◌∙◌, if◌then◌else◌}
+use Rattle.std.proofs.Common.{◌≡◌, ℕ, Bool, true, false, not, List, [], ◌∷◌, ◌++◌, Option, Some, None, Ok, Err, refl, ap, ◌∙◌, if◌then◌else◌}
 use Rattle.std.proofs.lemmas.Bool.{cond_both}
 use Rattle.lang_base.specs.Texts.{same_text}
 use Rattle.lang_core.specs.declared.inputs.Inputs.{Inputs}
@@ -21,21 +21,22 @@ use Rattle.call_registers.specs.Registers.{register, next_number, is_newer}
 use Rattle.call_registers.specs.declared.register.Hold.{Hold}
 use Rattle.call_registers.specs.declared.register.Register.{Register}
 use Rattle.flights.specs.declared.flight.Flight.{Flight}
-use Rattle.service_events.specs.State.{Kept, After, after, answers, next_id, is_in_flight, flight_of, base}
+use Rattle.service_events.specs.State.{Kept, After, after, answers, next_id, flight_of, base}
 use Rattle.service_events.specs.Calls.{noted, all_deleted}
-use Rattle.service_events.specs.Arriving.{abandoned, abandon_event}
+use Rattle.service_events.specs.Arriving.{abandoned}
 use Rattle.service_events.specs.Commits.{live_rows}
-use Rattle.service_events.specs.Steps.{sent_rows, answer_rows, new_record, Stale, stale_in, step_by, step_event}
-use Rattle.service_events.specs.Messages.{take_new, origin_of, is_known, is_too_much, acked_row, took_row, acked_again, taken_by, taken, take_admitted, take_event, seen_row, hear_rule, hear_new, confirmed_row, heard, answer_taken_where, take_answer_event, had, replies_to, is_now, hold_of, held_back, held_where, saw_ack_row, was_confirmed_row, posted, posted_event}
-use Rattle.service_events.specs.Orders.{refused, asked_rows, order_rows, carried_out, order_by, order_where, order_event}
+use Rattle.service_events.specs.Steps.{sent_rows, answer_rows, new_record, Stale, stale_in, step_by}
+use Rattle.service_events.specs.Messages.{take_new, origin_of, is_known, is_too_much, acked_row, took_row, acked_again, taken_by, taken, take_admitted, seen_row, hear_rule, hear_new, confirmed_row, heard, answer_taken_where, is_now, hold_of, held_back, held_where, saw_ack_row, was_confirmed_row, posted}
+use Rattle.service_events.specs.Orders.{refused, asked_rows, order_rows, carried_out, order_by, order_where}
+use Rattle.service_events.specs.Event.{event}
 use Rattle.service_events.specs.declared.answers.PostReply.{PostReply}
+use Rattle.service_events.specs.declared.event.Event.{Event}
+use Rattle.service_events.specs.declared.event.Event.TheVariants as events
 use Rattle.service_events.specs.declared.answers.PostReply.TheVariants.{Acked as WasAcked, Confirmed as WasConfirmedBack, Refused, Lost}
 use Rattle.service_events.specs.declared.answers.Posted.TheVariants.{Held, Left}
 use Rattle.service_events.specs.declared.refusals.AnswerRefused.TheVariants.{Unknown}
 use Rattle.service_events.specs.declared.refusals.OrderRefused.{OrderRefused}
-use Rattle.service_events.specs.declared.refusals.PostRefused.TheVariants.{Foreign}
-use Rattle.service_events.specs.declared.refusals.TakeRefused.TheVariants.{NotYet}
-use Rattle.service_events.proofs.AskedLemmas.{take_either, hear_either}
+use Rattle.service_events.proofs.AskedLemmas.{take_either, hear_either, takes_either, posted_either}
 use Rattle.service_events.proofs.CallRowLemmas.{Each, each_append, each_weaker, IsSending}
 use Rattle.service_events.proofs.KindLemmas.{sends_deleted, sends_settled}
 use Rattle.service_events.proofs.LiveRows.{IsSilent, live_same, sending_silent}
@@ -52,9 +53,6 @@ abandoned_none s (Some f) =
     let rows = all_deleted s.registers f.numbers f.calls in
     live_same s.journal rows (each_weaker IsSending IsSilent sending_silent rows (sends_deleted s.registers f.numbers f.calls))
 
-pub abandon_answers_none : (s : Kept) (id : ℕ) → AnswersNone s (abandon_event s id)
-abandon_answers_none s id = abandoned_none s (flight_of id s)
-
 -- a repair step
 answer_silent : (e : Entry) (m : Made) (b : Bool)
     → Each IsSilent (if b then Answered (record { id = e.id; origin = e.origin; answer_version = raised e.answer_version; version = e.version; response = m.trace.response; live = false }) ∷ [] else [])
@@ -70,9 +68,6 @@ stepped_none s (Some x) =
     live_same s.journal (sent_rows s e m ++ answer_rows e m)
     (each_append IsSilent (sent_rows s e m) (answer_rows e m) (each_weaker IsSending IsSilent sending_silent (sent_rows s e m) sends) (answer_silent e m (is_new_answer e.made m)))
 
-pub step_answers_none : (s : Kept) → AnswersNone s (step_event s)
-step_answers_none s = stepped_none s (stale_in (answers s) (base s) s.entries)
-
 -- a version of a call
 taken_none : (s : Kept) (set : SetMessage) (i : Inputs) (e : Option Entry) (d : Option Request) → live_rows (taken_by s set i e d).journal ≡ live_rows s.journal
 taken_none s set i (Some e) d = live_same s.journal (took_row s set ∷ (acked_row set ∷ [])) (tt, (tt, tt))
@@ -87,11 +82,6 @@ admitted_none s set i None =
     (take_new s set i) (AnswersNone s)
     (λ _. live_same s.journal (acked_row set ∷ []) (tt, tt))
     (λ _. take_either s set i (AnswersNone s) refl (taken_none s set i (find_call (origin_of set) s.entries) set.desired))
-
-pub take_answers_none : (s : Kept) (set : SetMessage) (i : Inputs) → AnswersNone s (take_event s set i)
-take_answers_none s set i =
-    cond_both (is_in_flight (origin_of set) s) (after s (Err (NotYet set.number))) (take_admitted s set i (is_too_much s set)) (AnswersNone s)
-    (λ _. refl) (λ _. admitted_none s set i (is_too_much s set))
 
 -- an answer
 heard_none : (s : Kept) (a : AnswerMessage) (o : Option Register) → AnswersNone s (answer_taken_where s a o)
@@ -109,9 +99,6 @@ heard_none s a (Some r) =
     by_test false true = hear_either s a r (AnswersNone s) refl (live_same s.journal (seen_row (hear_rule s a r) a ∷ (confirmed_row a ∷ [])) (tt, (tt, tt)))
     by_test false false = live_same s.journal (confirmed_row a ∷ []) (tt, tt)
 
-pub take_answer_answers_none : (s : Kept) (a : AnswerMessage) → AnswersNone s (take_answer_event s a)
-take_answer_answers_none s a = heard_none s a (register a.number s.registers)
-
 -- what comes back of a post
 back_none : (s : Kept) (post : Post) (hold : Hold) → live_rows (held_back s post hold).journal ≡ live_rows s.journal
 back_none s (Set set) hold = refl
@@ -127,11 +114,6 @@ posted_none s post (WasAcked ack) = live_same s.journal (saw_ack_row ack ∷ [])
 posted_none s post (WasConfirmedBack c) = live_same s.journal (was_confirmed_row c ∷ []) (tt, tt)
 posted_none s post (Refused word number) = held_none s post (hold_of word number)
 posted_none s post (Lost note) = refl
-
-pub posted_answers_none : (s : Kept) (post : Post) (answer : PostReply) → AnswersNone s (posted_event s post answer)
-posted_answers_none s post answer =
-    cond_both (had s post && replies_to post answer) (posted s post answer) (after s (Err Foreign)) (AnswersNone s)
-    (λ _. posted_none s post answer) (λ _. refl)
 
 -- an order
 asked_silent : (s : Kept) (command : Command) (i : Inputs) → Each IsSilent (asked_rows s command i)
@@ -151,5 +133,24 @@ where_none : (s : Kept) (command : Command) (token who : List ℕ) (i : Inputs) 
 where_none s command token who i (Some o) = refl
 where_none s command token who i None = by_none s command token who i (refused s command who)
 
-pub order_answers_none : (s : Kept) (command : Command) (token who : List ℕ) (i : Inputs) → AnswersNone s (order_event s command token who i)
-order_answers_none s command token who i = where_none s command token who i (ordered token s.journal)
+-- ---- all events by which no live request runs
+
+-- no live request arrives by it, or goes on
+abbrev pub RunsNoRequest : Event → Type 0
+RunsNoRequest (events.Arrive o q i) = ⊥
+RunsNoRequest (events.CallAnswered id a) = ⊥
+RunsNoRequest (events.CallFailed id number why) = ⊥
+RunsNoRequest e = Unit {0}
+
+pub event_answers_none : (s : Kept) (e : Event) → RunsNoRequest e → AnswersNone s (event s e)
+event_answers_none s (events.Arrive o q i) runs = absurd runs
+event_answers_none s (events.CallAnswered id a) runs = absurd runs
+event_answers_none s (events.CallFailed id number why) runs = absurd runs
+event_answers_none s (events.Abandon id) runs = abandoned_none s (flight_of id s)
+event_answers_none s (events.Take set i) runs = takes_either s set i (AnswersNone s) refl (admitted_none s set i (is_too_much s set))
+event_answers_none s (events.TakeAnswer a) runs = heard_none s a (register a.number s.registers)
+event_answers_none s (events.NextPost dest) runs = refl
+event_answers_none s (events.WritePost name) runs = refl
+event_answers_none s (events.Posted post reply) runs = posted_either s post reply (AnswersNone s) refl (λ _ _. posted_none s post reply)
+event_answers_none s events.Step runs = stepped_none s (stale_in (answers s) (base s) s.entries)
+event_answers_none s (events.Order command token who i) runs = where_none s command token who i (ordered token s.journal)

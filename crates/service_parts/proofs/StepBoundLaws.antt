@@ -8,28 +8,24 @@ use Rattle.request_log.specs.Entries.{has_id, mark, replace}
 use Rattle.create_placement.specs.Placement.{created, place_between}
 use Rattle.repair_messages.specs.declared.posts.PostName.TheVariants.{Call as OfCall, Reply as OfReply}
 use Rattle.local_repair.specs.Steps.{remade}
-use Rattle.journal_rows.specs.Words.{ordered}
 use Rattle.journal_rows.specs.declared.orders.Command.{Command}
 use Rattle.journal_rows.specs.declared.orders.Command.TheVariants.{Cancel, Restore, Replace, Create, Retry}
 use Rattle.journal_rows.specs.declared.orders.OrderedRow.{OrderedRow}
-use Rattle.service_events.specs.State.{Kept, answers, in_all, is_crowded, is_heavy, next_id, or_else, base}
-use Rattle.service_events.specs.Orders.{carried_out, is_too_much, makes_entry, misnamed, order_by, order_decision, order_event, order_where, refused, unless_allowed}
-use Rattle.service_events.specs.Steps.{new_record, new_numbers, Stale, stale_in, step_by, step_event}
+use Rattle.service_events.specs.State.{Kept, in_all, is_crowded, is_heavy, next_id, or_else}
+use Rattle.service_events.specs.Orders.{carried_out, is_too_much, makes_entry, misnamed, order_by, order_decision, order_where, refused, unless_allowed}
+use Rattle.service_events.specs.Steps.{new_record, new_numbers, Stale, step_by}
 use Rattle.service_events.specs.declared.refusals.OrderRefused.{OrderRefused}
 use Rattle.service_events.specs.declared.refusals.OrderRefused.TheVariants.{Full}
 use Rattle.service_events.proofs.SearchLemmas.{neither, length_insert}
 
 -- ---- a step
 
-step_by_bounded : (s : Kept) (o : Option Stale) → in_all s ≤ 100000 → in_all (step_by s o).service ≤ 100000
+pub step_by_bounded : (s : Kept) (o : Option Stale) → in_all s ≤ 100000 → in_all (step_by s o).service ≤ 100000
 step_by_bounded s None h = h
 step_by_bounded s (Some x) h =
     let m = new_record s x.rows x.entry in
     let same = length-set s.entries (position_or_len (has_id (x.entry).id) s.entries) (remade x.entry m (new_numbers s x.entry m)) in
     omega (arith, h, same)
-
-pub step_bounded : (s : Kept) → in_all s ≤ 100000 → in_all (step_event s).service ≤ 100000
-step_bounded s h = step_by_bounded s (stale_in (answers s) (base s) s.entries) h
 
 -- ---- an order
 
@@ -79,10 +75,7 @@ by_bounded : (s : Kept) (command : Command) (token who : List ℕ) (i : Inputs) 
 by_bounded s command token who i (Some why) is h = h
 by_bounded s command token who i None is h = carried_bounded s command who i is h
 
-where_bounded : (s : Kept) (command : Command) (token who : List ℕ) (i : Inputs) (o : Option OrderedRow) → in_all s ≤ 100000
+pub order_where_bounded : (s : Kept) (command : Command) (token who : List ℕ) (i : Inputs) (o : Option OrderedRow) → in_all s ≤ 100000
     → in_all (order_where s command token who i o).service ≤ 100000
-where_bounded s command token who i (Some o) h = h
-where_bounded s command token who i None h = by_bounded s command token who i (refused s command who) refl h
-
-pub order_bounded : (s : Kept) (command : Command) (token who : List ℕ) (i : Inputs) → in_all s ≤ 100000 → in_all (order_event s command token who i).service ≤ 100000
-order_bounded s command token who i h = where_bounded s command token who i (ordered token s.journal) h
+order_where_bounded s command token who i (Some o) h = h
+order_where_bounded s command token who i None h = by_bounded s command token who i (refused s command who) refl h

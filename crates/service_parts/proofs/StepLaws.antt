@@ -25,12 +25,13 @@ use Rattle.service_events.specs.State.{Kept, answers, base}
 use Rattle.service_events.specs.Fits.{Fits, FitsPlaces, calls_of_entry, calls_of_flight}
 use Rattle.service_events.specs.Progress.{gives_numbers, changes, raised_at, Counts, GoesFurther}
 use Rattle.service_events.specs.Steps.{new_record, new_numbers, sent_rows, answer_rows, Stale, stale_in, step_by, step_event}
+use Rattle.service_events.specs.declared.event.Event.TheVariants as events
 use Rattle.service_events.proofs.StepForms.{run_again, step_entries}
 use Rattle.service_events.proofs.CallRowLemmas.{Each, IsPlain}
 use Rattle.service_events.proofs.FittingLemmas.{HasRoom, Fitting}
 use Rattle.service_events.proofs.CallLaws.{IsFew, book}
 use Rattle.service_events.proofs.EntryPlaces.{Stands, others, entry_to_head}
-use Rattle.service_parts.proofs.FitLaws.{step_fits}
+use Rattle.service_events.proofs.EventLaws.{event_fits}
 use Rattle.service_parts.proofs.TraceLaws.{new_is_rerun}
 use Rattle.service_parts.proofs.SettledLaws.{settled_is, settled_timely}
 use Rattle.service_parts.proofs.ApartLaws.{own_slots, all_apart, stands_at}
@@ -202,12 +203,12 @@ steps_further (suc n) k s f timely few h =
     let one = first_few n s few in
     let P : ℕ → Type 0 = λ m. AllCurrent (answers (iterate after_step n t)) (base (iterate after_step n t)) (take m (iterate after_step n t).entries) in
     let same : n + suc k ≡ suc n + k = omega arith in
-    subst P same (steps_further n (suc k) t (step_fits s f one) (step_timely s f one timely) few (step_further s f one timely k h))
+    subst P same (steps_further n (suc k) t (event_fits s events.Step f one) (step_timely s f one timely) few (step_further s f one timely k h))
 
 steps_as_many : (n : ℕ) (s : Kept) → Fits s → IsFew (iterate after_step n s) → length (iterate after_step n s).entries ≡ length s.entries
 steps_as_many zero s f few = refl
 steps_as_many (suc n) s f few =
-    let one = first_few n s few in steps_as_many n (after_step s) (step_fits s f one) few ∙ step_as_many s f one
+    let one = first_few n s few in steps_as_many n (after_step s) (event_fits s events.Step f one) few ∙ step_as_many s f one
 
 -- in a service on time, as many steps as there are entries leave none stale, as long as the rows of its journal can be counted
 pub steps_settle : (s : Kept) → Fits s → IsTimely s.registers → IsFew (iterate after_step (length s.entries) s)

@@ -1,5 +1,5 @@
 -- No event but a live request's tells a call why it consumes the tentative answer.
-use Rattle.std.proofs.Common.{◌≡◌, ℕ, zero, suc, ◌+◌, Bool, true, false, not, ◌&&◌, List, [], ◌∷◌, ◌++◌, Option, Some, None, Ok, Err, length, replicate, refl, sym, ap, ◌∙◌, arith, append-nil, append_assoc, if◌then◌else◌}
+use Rattle.std.proofs.Common.{◌≡◌, ℕ, zero, suc, ◌+◌, Bool, true, false, not, List, [], ◌∷◌, ◌++◌, Option, Some, None, Ok, Err, length, replicate, refl, sym, ap, ◌∙◌, arith, append-nil, append_assoc, if◌then◌else◌}
 use Rattle.std.proofs.lemmas.Bool.{cond_both}
 use Rattle.lang_base.specs.Texts.{same_text}
 use Rattle.lang_core.specs.declared.inputs.Inputs.{Inputs}
@@ -23,22 +23,24 @@ use Rattle.call_registers.specs.declared.register.Hold.{Hold}
 use Rattle.call_registers.specs.declared.register.Register.{Register}
 use Rattle.call_registers.specs.declared.register.Why.{Why}
 use Rattle.flights.specs.declared.flight.Flight.{Flight}
-use Rattle.service_events.specs.State.{Kept, after, answers, next_id, is_in_flight, flight_of, base}
-use Rattle.service_events.specs.Arriving.{abandoned, abandon_event}
+use Rattle.service_events.specs.State.{Kept, after, answers, next_id, flight_of, base}
+use Rattle.service_events.specs.Arriving.{abandoned}
 use Rattle.service_events.specs.Calls.{first_sent, put_sent, after_row, after_rows, noted, all_deleted}
 use Rattle.service_events.specs.Causes.{causes_in, causes, AddsCauses}
-use Rattle.service_events.specs.Messages.{take_new, origin_of, is_known, is_too_much, acked_row, took_row, acked_again, taken_by, taken, take_admitted, take_event, seen_row, hear_rule, hear_new, confirmed_row, heard, answer_taken_where, take_answer_event, had, replies_to, is_now, hold_of, held_back, held_where, saw_ack_row, was_confirmed_row, posted, posted_event}
-use Rattle.service_events.specs.Orders.{refused, order_rows, carried_out, order_by, order_where, order_event}
-use Rattle.service_events.specs.Steps.{sent_rows, answer_rows, new_record, Stale, stale_in, step_by, step_event}
+use Rattle.service_events.specs.Messages.{take_new, origin_of, is_known, is_too_much, acked_row, took_row, acked_again, taken_by, taken, take_admitted, seen_row, hear_rule, hear_new, confirmed_row, heard, answer_taken_where, is_now, hold_of, held_back, held_where, saw_ack_row, was_confirmed_row, posted}
+use Rattle.service_events.specs.Orders.{refused, order_rows, carried_out, order_by, order_where}
+use Rattle.service_events.specs.Steps.{sent_rows, answer_rows, new_record, Stale, stale_in, step_by}
+use Rattle.service_events.specs.Event.{event}
 use Rattle.service_events.specs.declared.answers.PostReply.{PostReply}
+use Rattle.service_events.specs.declared.event.Event.{Event}
+use Rattle.service_events.specs.declared.event.Event.TheVariants as events
 use Rattle.service_events.specs.declared.answers.PostReply.TheVariants.{Acked as WasAcked, Confirmed as WasConfirmedBack, Refused, Lost}
 use Rattle.service_events.specs.declared.answers.Posted.TheVariants.{Held, Left}
 use Rattle.service_events.specs.declared.refusals.AnswerRefused.TheVariants.{Unknown}
 use Rattle.service_events.specs.declared.refusals.OrderRefused.{OrderRefused}
-use Rattle.service_events.specs.declared.refusals.PostRefused.TheVariants.{Foreign}
-use Rattle.service_events.specs.declared.refusals.TakeRefused.TheVariants.{NotYet}
-use Rattle.service_events.proofs.AskedLemmas.{take_either, hear_either}
+use Rattle.service_events.proofs.AskedLemmas.{take_either, hear_either, takes_either, posted_either}
 use Rattle.service_parts.proofs.CauseLaws.{same_causes, row_tells, causes_push}
+use Rattle.service_parts.proofs.SilentLaws.{RunsNoRequest}
 
 -- ---- rows tell nothing of why
 
@@ -99,17 +101,11 @@ abandoned_untold s None = same_tells_none s s refl
 abandoned_untold s (Some f) =
     tells_none s (abandoned s (Some f)).service (rows_add (length s.journal) s.registers (all_deleted s.registers f.numbers f.calls))
 
-pub abandon_untold : (s : Kept) (id : ℕ) → TellsNone s (abandon_event s id).service
-abandon_untold s id = abandoned_untold s (flight_of id s)
-
 stepped_untold : (s : Kept) (o : Option Stale) → TellsNone s (step_by s o).service
 stepped_untold s None = same_tells_none s s refl
 stepped_untold s (Some x) =
     let m = new_record s x.rows x.entry in
     tells_none s (step_by s (Some x)).service (rows_add (length s.journal) s.registers (sent_rows s x.entry m ++ answer_rows x.entry m))
-
-pub step_untold : (s : Kept) → TellsNone s (step_event s).service
-step_untold s = stepped_untold s (stale_in (answers s) (base s) s.entries)
 
 taken_untold : (s : Kept) (set : SetMessage) (i : Inputs) (e : Option Entry) (d : Option Request) → TellsNone s (taken_by s set i e d)
 taken_untold s set i (Some e) d = tells_none s (taken_by s set i (Some e) d) (rows_add (length s.journal) s.registers (took_row s set ∷ (acked_row set ∷ [])))
@@ -125,11 +121,6 @@ admitted_untold s set i None =
     (take_new s set i) (λ a. TellsNone s a.service)
     (λ _. tells_none s (acked_again s set) (rows_add (length s.journal) s.registers (acked_row set ∷ [])))
     (λ _. take_either s set i (λ a. TellsNone s a.service) (same_tells_none s s refl) (taken_untold s set i (find_call (origin_of set) s.entries) set.desired))
-
-pub take_untold : (s : Kept) (set : SetMessage) (i : Inputs) → TellsNone s (take_event s set i).service
-take_untold s set i =
-    cond_both (is_in_flight (origin_of set) s) (after s (Err (NotYet set.number))) (take_admitted s set i (is_too_much s set)) (λ a. TellsNone s a.service)
-    (λ _. same_tells_none s s refl) (λ _. admitted_untold s set i (is_too_much s set))
 
 heard_untold : (s : Kept) (a : AnswerMessage) (o : Option Register) → TellsNone s (answer_taken_where s a o).service
 heard_untold s a None = same_tells_none s s refl
@@ -148,9 +139,6 @@ heard_untold s a (Some r) = by_test (not (same_text r.dest a.callee)) (is_newer 
     by_test false true = hear_either s a r (λ h. TellsNone s h.service) (same_tells_none s s refl) (noted_tells (seen_row (hear_rule s a r) a ∷ (confirmed_row a ∷ [])))
     by_test false false = noted_tells (confirmed_row a ∷ [])
 
-pub take_answer_untold : (s : Kept) (a : AnswerMessage) → TellsNone s (take_answer_event s a).service
-take_answer_untold s a = heard_untold s a (register a.number s.registers)
-
 back_untold : (s : Kept) (post : Post) (hold : Hold) → TellsNone s (held_back s post hold)
 back_untold s (Set set) hold = same_tells_none s (held_back s (Set set) hold) (same_causes set.number (with_hold hold) (λ r. refl) s.registers)
 back_untold s (Answer a) hold = same_tells_none s (held_back s (Answer a) hold) refl
@@ -167,11 +155,6 @@ back_of_post_untold s post (WasConfirmedBack c) =
     tells_none s (posted s post (WasConfirmedBack c)).service (rows_add (length s.journal) s.registers (was_confirmed_row c ∷ []))
 back_of_post_untold s post (Refused word number) = held_untold s post (hold_of word number)
 back_of_post_untold s post (Lost note) = same_tells_none s s refl
-
-pub posted_untold : (s : Kept) (post : Post) (answer : PostReply) → TellsNone s (posted_event s post answer).service
-posted_untold s post answer =
-    cond_both (had s post && replies_to post answer) (posted s post answer) (after s (Err Foreign)) (λ a. TellsNone s a.service)
-    (λ _. back_of_post_untold s post answer) (λ _. same_tells_none s s refl)
 
 carried_same : (s : Kept) (command : Command) (who : List ℕ) (i : Inputs) → causes (carried_out s command who i) ≡ causes s
 carried_same s (Cancel id) who i = refl
@@ -195,5 +178,19 @@ where_untold : (s : Kept) (command : Command) (token who : List ℕ) (i : Inputs
 where_untold s command token who i (Some o) = same_tells_none s s refl
 where_untold s command token who i None = by_untold s command token who i (refused s command who)
 
-pub order_untold : (s : Kept) (command : Command) (token who : List ℕ) (i : Inputs) → TellsNone s (order_event s command token who i).service
-order_untold s command token who i = where_untold s command token who i (ordered token s.journal)
+-- ---- all events by which no live request runs
+
+pub event_untold : (s : Kept) (e : Event) → RunsNoRequest e → TellsNone s (event s e).service
+event_untold s (events.Arrive o q i) runs = absurd runs
+event_untold s (events.CallAnswered id a) runs = absurd runs
+event_untold s (events.CallFailed id number why) runs = absurd runs
+event_untold s (events.Abandon id) runs = abandoned_untold s (flight_of id s)
+event_untold s (events.Take set i) runs =
+    takes_either s set i (λ a. TellsNone s a.service) (same_tells_none s s refl) (admitted_untold s set i (is_too_much s set))
+event_untold s (events.TakeAnswer a) runs = heard_untold s a (register a.number s.registers)
+event_untold s (events.NextPost dest) runs = same_tells_none s s refl
+event_untold s (events.WritePost name) runs = same_tells_none s s refl
+event_untold s (events.Posted post reply) runs =
+    posted_either s post reply (λ a. TellsNone s a.service) (same_tells_none s s refl) (λ _ _. back_of_post_untold s post reply)
+event_untold s events.Step runs = stepped_untold s (stale_in (answers s) (base s) s.entries)
+event_untold s (events.Order command token who i) runs = where_untold s command token who i (ordered token s.journal)

@@ -10,11 +10,12 @@ use Rattle.service_events.specs.Fits.{Fits}
 use Rattle.service_events.specs.Progress.{Counts, GoesFurther, IsLocalStep}
 use Rattle.service_events.specs.RunsOn.{IsStep}
 use Rattle.service_events.specs.Steps.{step_event}
+use Rattle.service_events.specs.declared.event.Event.TheVariants as events
 use Rattle.service_events.proofs.CallLaws.{IsFew}
 use Rattle.service_parts.proofs.RunsOnLaws.{step_runs_through}
-use Rattle.service_parts.proofs.SilentLaws.{step_answers_none}
+use Rattle.service_parts.proofs.SilentLaws.{event_answers_none}
 use Rattle.service_parts.proofs.StepLaws.{step_steps, step_counts, step_goes}
-use Rattle.service_parts.proofs.UntoldLaws.{TellsNone, same_tells_none, step_untold}
+use Rattle.service_parts.proofs.UntoldLaws.{TellsNone, same_tells_none, event_untold}
 use Rattle.service_repairs.specs.Answers.{Steps}
 
 few_after : (s t : Kept) (stepped : Stepped) → after t stepped ≡ step_event s → IsFew t → IsFew (step_event s).service
@@ -39,7 +40,7 @@ step_further s t (Ok stepped) fits few is =
 step_further s t (Err why) fits few same = tt
 
 pub step_silent : (s t : Kept) (r : Result Stepped NoMemory) → Steps s r t → live_rows t.journal ≡ live_rows s.journal
-step_silent s t (Ok stepped) is = ap (λ (a : After Stepped). live_rows a.service.journal) is ∙ step_answers_none s
+step_silent s t (Ok stepped) is = ap (λ (a : After Stepped). live_rows a.service.journal) is ∙ event_answers_none s events.Step tt
 step_silent s t (Err why) same = ap (λ (k : Kept). live_rows k.journal) same
 
 -- the first stale entry ran through
@@ -50,5 +51,5 @@ step_through s t (Ok stepped) is =
 step_through s t (Err why) same = tt
 
 pub step_tells_none : (s t : Kept) (r : Result Stepped NoMemory) → Steps s r t → TellsNone s t
-step_tells_none s t (Ok stepped) is = (let P : After Stepped → Type 0 = λ a. TellsNone s a.service in subst P (sym is) (step_untold s))
+step_tells_none s t (Ok stepped) is = (let P : After Stepped → Type 0 = λ a. TellsNone s a.service in subst P (sym is) (event_untold s events.Step tt))
 step_tells_none s t (Err why) same = same_tells_none s t (ap causes same)

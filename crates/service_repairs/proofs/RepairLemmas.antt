@@ -15,20 +15,17 @@ use Rattle.service_events.specs.Questions.{rule_of}
 use Rattle.service_events.specs.Orders.{about, carried_out, order_by, order_decision, order_event, order_rows, order_rule, order_where, refused, unless_allowed}
 use Rattle.service_events.specs.Steps.{step_event}
 use Rattle.service_events.specs.declared.answers.Ordered.{Ordered}
+use Rattle.service_events.specs.declared.event.Event.TheVariants as events
 use Rattle.service_events.specs.declared.refusals.OrderRefused.{OrderRefused}
 use Rattle.service_events.proofs.FreshLemmas.{unfound}
 use Rattle.service_events.proofs.PartLemmas.{logged}
-use Rattle.service_parts.proofs.AgeLaws.{step_ages}
-use Rattle.service_parts.proofs.AllowedLaws.{step_stays_allowed, order_stays_allowed}
-use Rattle.service_parts.proofs.FitLaws.{step_fits, order_fits}
-use Rattle.service_parts.proofs.MessageAges.{order_ages}
 use Rattle.service_parts.specs.Parts.{kept}
 use Rattle.service_parts.specs.declared.parts.Parts.{Parts}
-use Rattle.service_parts.proofs.StepBoundLaws.{accepted_named, step_bounded, order_bounded}
+use Rattle.service_parts.proofs.StepBoundLaws.{accepted_named}
 use Rattle.service_repairs.specs.Ordering.{admission, admitted, unless_carried, MayOrder}
 use Rattle.service_parts.specs.Services.{HasRoom, IsService}
 use Rattle.service_repairs.specs.Answers.{Steps}
-use Rattle.service_parts.proofs.ServiceLaws.{same_service, next_service}
+use Rattle.service_parts.proofs.ServiceLaws.{same_service, event_service}
 
 -- ---- a step
 
@@ -39,8 +36,7 @@ step_done s s' (Err why) ok err = err
 pub step_service : (p p' : Parts) (result : Result Stepped NoMemory) → IsService p → IfOk result (λ stepped. after (kept p') stepped ≡ step_event (kept p))
     → OnErr result (kept p' ≡ kept p) → HasRoom p' → IsService p'
 step_service p p' (Ok stepped) h ok err room =
-    next_service p' (step_event (kept p)).service (ap (λ (a : After Stepped). a.service) ok) (λ few. step_fits (kept p) h.fits few) (λ few. step_ages (kept p) h.fits few h.ages)
-    (step_stays_allowed (kept p) h.allowed) (step_bounded (kept p) h.few) room
+    event_service p p' events.Step (ap (λ (a : After Stepped). a.service) ok) room h
 step_service p p' (Err why) h ok err room = same_service p p' err room h
 
 -- ---- an order
@@ -95,6 +91,4 @@ may_order p command who h none = record {
 pub order_service : (p p' : Parts) (command : Command) (token who : List ℕ) (i : Inputs) (o : Ordered) → IsService p
     → after (kept p') (Ok o) ≡ order_event (kept p) command token who i → HasRoom p' → IsService p'
 order_service p p' command token who i o h is room =
-    next_service p' (order_event (kept p) command token who i).service (ap (λ (a : After (Result Ordered OrderRefused)). a.service) is)
-    (λ few. order_fits (kept p) command token who i h.fits few) (λ few. order_ages (kept p) command token who i h.fits few h.ages)
-    (order_stays_allowed (kept p) command token who i h.fits h.allowed) (order_bounded (kept p) command token who i h.few) room
+    event_service p p' (events.Order command token who i) (ap (λ (a : After (Result Ordered OrderRefused)). a.service) is) room h

@@ -10,16 +10,13 @@ use Rattle.flights.proofs.NumberLemmas.{none_removed}
 use Rattle.service_events.specs.State.{Kept, After, after, flight_of}
 use Rattle.service_events.specs.Calls.{all_deleted, deleted, noted}
 use Rattle.service_events.specs.Arriving.{abandoned, abandon_event}
+use Rattle.service_events.specs.declared.event.Event.TheVariants as events
 use Rattle.service_events.proofs.SearchLemmas.{splits}
-use Rattle.service_parts.proofs.AgeLaws.{abandon_ages}
-use Rattle.service_parts.proofs.AllowedLaws.{abandon_stays_allowed}
-use Rattle.service_parts.proofs.BoundLaws.{abandon_bounded}
-use Rattle.service_parts.proofs.FitLaws.{abandon_fits}
 use Rattle.service_parts.specs.Parts.{kept}
 use Rattle.service_parts.specs.Services.{HasRoom, IsService}
 use Rattle.service_parts.specs.declared.parts.Parts.{Parts}
 use Rattle.service_requests.specs.Deletions.{IsDeletion}
-use Rattle.service_parts.proofs.ServiceLaws.{next_service}
+use Rattle.service_parts.proofs.ServiceLaws.{event_service}
 
 -- ---- rows of deletions
 
@@ -84,5 +81,4 @@ flight_abandoned s s' id f flights found gone is =
 
 pub abandon_service : (p p' : Parts) (id : ℕ) (there : Bool) → IsService p → after (kept p') there ≡ abandon_event (kept p) id → HasRoom p' → IsService p'
 abandon_service p p' id there h is room =
-    next_service p' (abandon_event (kept p) id).service (ap (λ (a : After Bool). a.service) is) (abandon_fits (kept p) id h.fits) (λ few. abandon_ages (kept p) id h.fits few h.ages)
-    (abandon_stays_allowed (kept p) id h.allowed) (abandon_bounded (kept p) id h.few) room
+    event_service p p' (events.Abandon id) (ap (λ (a : After Bool). a.service) is) room h

@@ -8,24 +8,22 @@ use Rattle.journal_rows.specs.Words.{last_taken_of}
 use Rattle.flights.specs.declared.flight.Flight.{Flight}
 use Rattle.service_events.specs.State.{Kept, After, after, in_all, next_id, has_flight, flight_of}
 use Rattle.service_events.specs.Arriving.{accepted, new_flight}
-use Rattle.service_events.specs.Allowed.{IsAllowed}
+use Rattle.service_events.specs.Event.{event}
 use Rattle.service_events.specs.Fits.{Fits}
 use Rattle.service_events.specs.Flying.{goes_on}
 use Rattle.service_events.specs.declared.answers.Arrived.{Arrived}
+use Rattle.service_events.specs.declared.event.Event.{Event}
 use Rattle.service_events.proofs.FreshLemmas.{unfound, alone, below_next, untaken_of}
 use Rattle.service_events.proofs.PartLemmas.{logged}
 use Rattle.service_events.proofs.ReplyLemmas.{above_all}
 use Rattle.service_events.proofs.SearchLemmas.{found_all}
-use Rattle.service_events.proofs.CallLaws.{IsFew}
 use Rattle.service_events.proofs.FlightLemmas.{flies_from, free_number}
-use Rattle.service_parts.proofs.AgeLaws.{AgesOf}
-use Rattle.service_parts.proofs.BoundLaws.{IsBounded}
 use Rattle.service_requests.specs.Endings.{MayEnd}
 use Rattle.service_parts.specs.Parts.{kept}
 use Rattle.service_parts.specs.declared.parts.Parts.{Parts}
 use Rattle.service_requests.specs.Arrivals.{before_run}
 use Rattle.service_parts.specs.Services.{HasRoom, IsService}
-use Rattle.service_parts.proofs.ServiceLaws.{same_service, next_service}
+use Rattle.service_parts.proofs.ServiceLaws.{same_service, event_service}
 use Rattle.service_requests.proofs.ArrivalLemmas.{may_run}
 
 -- ---- the end of a flight
@@ -72,10 +70,9 @@ follows_same s t f g left h e k = h ∙ ap (λ (s : Kept). goes_on s f) e ∙ ap
 pub same_may_end : (s : Kept) (f g : Flight) → f ≡ g → MayEnd s g → MayEnd s f
 same_may_end s f g e h = subst (MayEnd s) (sym e) h
 
--- where an outcome of an event that keeps what fits was put in place, or was refused for want of memory
-pub event_service : {A E : Type 0} (p p' : Parts) (result : Result A NoMemory) (left : After A) (event : After (Result A E)) → accepted left ≡ event
-    → IfOk result (λ a. after (kept p') a ≡ left) → OnErr result (kept p' ≡ kept p)
-    → (IsFew event.service → Fits event.service) → (IsFew event.service → AgesOf event.service) → IsAllowed event.service → IsBounded event.service → HasRoom p' → IsService p → IsService p'
-event_service {A} {E} p p' (Ok a) left event same is err fits ages allowed few room h =
-    next_service p' event.service (ap (λ (x : After A). x.service) is ∙ ap (λ (x : After (Result A E)). x.service) same) fits ages allowed few room
-event_service p p' (Err why) left event same is err fits ages allowed few room h = same_service p p' err room h
+-- where an outcome of an event was put in place, or was refused for want of memory
+pub outcome_service : {A E : Type 0} (p p' : Parts) (e : Event) (result : Result A NoMemory) (left : After A) (done : After (Result A E)) → accepted left ≡ done
+    → done.service ≡ (event (kept p) e).service → IfOk result (λ a. after (kept p') a ≡ left) → OnErr result (kept p' ≡ kept p) → HasRoom p' → IsService p → IsService p'
+outcome_service {A} {E} p p' e (Ok a) left done same by is err room h =
+    event_service p p' e (ap (λ (x : After A). x.service) is ∙ ap (λ (x : After (Result A E)). x.service) same ∙ by) room h
+outcome_service p p' e (Err why) left done same by is err room h = same_service p p' err room h
