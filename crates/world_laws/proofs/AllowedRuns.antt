@@ -13,8 +13,9 @@ use Rattle.service_events.specs.Fits.{Fits}
 use Rattle.service_events.specs.Posts.{next_post}
 use Rattle.service_events.specs.State.{Kept, flight_of}
 use Rattle.service_events.specs.declared.answers.PostReply.TheVariants.{Lost as PostIsLost}
+use Rattle.service_events.specs.declared.event.Event.TheVariants as service_event
 use Rattle.service_events.proofs.SearchLemmas.{found_all}
-use Rattle.service_parts.proofs.AllowedLaws.{arrive_stays_allowed, call_answered_stays_allowed, call_failed_stays_allowed, abandon_stays_allowed, step_stays_allowed, take_stays_allowed, take_answer_stays_allowed, posted_stays_allowed, order_stays_allowed}
+use Rattle.service_parts.proofs.AllowedLaws.{event_stays_allowed}
 use Rattle.world_agreement.specs.Partners.{has_name, service_of}
 use Rattle.world_events.specs.Worlds.{World, with_service, packet_of, next_inputs, once_drawn, once_lost, loss_note}
 use Rattle.world_events.specs.Events.{Served, refused, turned, if_there, turn_at, at_service, arrive_served, call_arrive_served, call_answered_served, call_failed_served, sender, take_served, take_answer_served, posted_served, next_post_written, next_post_served, repair_step_served, abandon_served, order_served, call_delivered, reply_delivered, post_delivered, delivered, call_lost, post_lost, lost, if_flying, turn, after_event, after_events}
@@ -53,19 +54,19 @@ module _ (w : World) (h : IsSound w) (r : AreAllowed w.services) where
   call_allowed number flight call None = r
   call_allowed number flight call (Some q) =
       allowed_at call.dest (once_drawn w) refl (λ s. call_arrive_served flight call q s (next_inputs w))
-      (λ s fits allowed. arrive_stays_allowed s (CallOrigin call.caller call.number) q (next_inputs w) allowed)
+      (λ s fits allowed. event_stays_allowed s (service_event.Arrive (CallOrigin call.caller call.number) q (next_inputs w)) fits allowed)
 
   reply_allowed : (to : List ℕ) (flight number : ℕ) (reply : Live) → AreAllowed (reply_delivered w to flight number reply).world.services
   reply_allowed to flight number (LiveAnswer a) =
-      allowed_at to w refl (call_answered_served w.packets flight a) (λ s fits allowed. call_answered_stays_allowed s flight a allowed)
+      allowed_at to w refl (call_answered_served w.packets flight a) (λ s fits allowed. event_stays_allowed s (service_event.CallAnswered flight a) fits allowed)
   reply_allowed to flight number (LiveRefused word n) =
       allowed_at to w refl (call_failed_served w.packets flight number (WasRefused word n))
-      (λ s fits allowed. call_failed_stays_allowed s flight number (WasRefused word n) allowed)
+      (λ s fits allowed. event_stays_allowed s (service_event.CallFailed flight number (WasRefused word n)) fits allowed)
 
   post_allowed : (post : Post) → AreAllowed (post_delivered w post).world.services
   post_allowed (SetPost set) =
-      allowed_at set.dest (once_drawn w) refl (λ s. take_served set s (next_inputs w)) (λ s fits allowed. take_stays_allowed s set (next_inputs w) fits allowed)
-  post_allowed (AnswerPost a) = allowed_at a.caller w refl (take_answer_served a) (λ s fits allowed. take_answer_stays_allowed s a fits allowed)
+      allowed_at set.dest (once_drawn w) refl (λ s. take_served set s (next_inputs w)) (λ s fits allowed. event_stays_allowed s (service_event.Take set (next_inputs w)) fits allowed)
+  post_allowed (AnswerPost a) = allowed_at a.caller w refl (take_answer_served a) (λ s fits allowed. event_stays_allowed s (service_event.TakeAnswer a) fits allowed)
 
   delivered_allowed : (number : ℕ) (p : Option Packet) → AreAllowed (delivered w number p).world.services
   delivered_allowed number None = r
@@ -73,17 +74,17 @@ module _ (w : World) (h : IsSound w) (r : AreAllowed w.services) where
   delivered_allowed number (Some (CallReply to flight call_number reply)) = reply_allowed to flight call_number reply
   delivered_allowed number (Some (PostPacket post)) = post_allowed post
   delivered_allowed number (Some (PostReplyPacket post reply)) =
-      allowed_at (sender post) w refl (posted_served post reply) (λ s fits allowed. posted_stays_allowed s post reply allowed)
+      allowed_at (sender post) w refl (posted_served post reply) (λ s fits allowed. event_stays_allowed s (service_event.Posted post reply) fits allowed)
 
   call_lost_allowed : (name : List ℕ) (flight number : ℕ) → AreAllowed (call_lost w name flight number).world.services
   call_lost_allowed name flight number =
       allowed_at name (once_lost w) refl (call_failed_served w.packets flight number (Lost (loss_note w)))
-      (λ s fits allowed. call_failed_stays_allowed s flight number (Lost (loss_note w)) allowed)
+      (λ s fits allowed. event_stays_allowed s (service_event.CallFailed flight number (Lost (loss_note w))) fits allowed)
 
   post_lost_allowed : (post : Post) → AreAllowed (post_lost w post).world.services
   post_lost_allowed post =
       allowed_at (sender post) (once_lost w) refl (posted_served post (PostIsLost (loss_note w)))
-      (λ s fits allowed. posted_stays_allowed s post (PostIsLost (loss_note w)) allowed)
+      (λ s fits allowed. event_stays_allowed s (service_event.Posted post (PostIsLost (loss_note w))) fits allowed)
 
   lost_allowed : (number : ℕ) (p : Option Packet) → AreAllowed (lost w number p).world.services
   lost_allowed number None = r
@@ -110,21 +111,21 @@ module _ (w : World) (h : IsSound w) (r : AreAllowed w.services) where
       by None = r
       by (Some f) =
           allowed_put name (abandon_served flight s).service
-          (abandon_stays_allowed s flight (found_all IsAllowed (has_name name) w.services s r found))
+          (event_stays_allowed s (service_event.Abandon flight) (found_all Fits (has_name name) w.services s h.fits found) (found_all IsAllowed (has_name name) w.services s r found))
 
   pub turn_allowed : (e : Event) → AreAllowed (after_event w e).services
   unfolding turn
   turn_allowed (Begin name q) =
       allowed_at name (once_drawn w) refl (λ s. arrive_served w.packets q s (next_inputs w))
-      (λ s fits allowed. arrive_stays_allowed s Outside q (next_inputs w) allowed)
+      (λ s fits allowed. event_stays_allowed s (service_event.Arrive Outside q (next_inputs w)) fits allowed)
   turn_allowed (Deliver number) = delivered_allowed number (packet_of number w)
   turn_allowed (Lose number) = lost_allowed number (packet_of number w)
   turn_allowed (Posts from to) = next_post_allowed from to (service_of to w.services)
-  turn_allowed (Step name) = allowed_at name w refl repair_step_served (λ s fits allowed. step_stays_allowed s allowed)
+  turn_allowed (Step name) = allowed_at name w refl repair_step_served (λ s fits allowed. event_stays_allowed s service_event.Step fits allowed)
   turn_allowed (Abandon name flight) = abandoned_allowed name flight (service_of name w.services) refl
   turn_allowed (Order name command token who) =
       allowed_at name (once_drawn w) refl (λ s. order_served command token who s (next_inputs w))
-      (λ s fits allowed. order_stays_allowed s command token who (next_inputs w) fits allowed)
+      (λ s fits allowed. event_stays_allowed s (service_event.Order command token who (next_inputs w)) fits allowed)
   turn_allowed (Clock moment) = r
   turn_allowed (Seed n) = r
 

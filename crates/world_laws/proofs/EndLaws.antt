@@ -35,9 +35,10 @@ use Rattle.service_events.specs.declared.answers.Arrived.{Arrived}
 use Rattle.service_events.specs.declared.answers.Arrived.TheVariants.{Done, Call as Sends, Known}
 use Rattle.service_events.specs.declared.answers.PostReply.{PostReply}
 use Rattle.service_events.specs.declared.answers.PostReply.TheVariants.{Lost as PostIsLost}
+use Rattle.service_events.specs.declared.event.Event.TheVariants as service_event
 use Rattle.service_events.specs.declared.refusals.TakeRefused.{TakeRefused}
 use Rattle.service_events.proofs.AskedLemmas.{take_either}
-use Rattle.service_events.proofs.EventLaws.{abandon_grows, order_grows, posted_grows, take_answer_grows}
+use Rattle.service_events.proofs.EventLaws.{event_goes}
 use Rattle.service_events.proofs.SearchLemmas.{found_all}
 use Rattle.world_agreement.specs.Partners.{has_name, service_of, NamesDiffer}
 use Rattle.world_agreement.proofs.ListLemmas.{found_in}
@@ -238,10 +239,10 @@ module _ (services : List Kept) (packets : List Packet) (h : AreClosed services 
   takes_writes set i there = record { setting = take_setting s set i; packet = record { gets = there; began = there; call = tt } }
 
   hears_writes : (a : AnswerMessage) → IsThere services a.callee → Writes services s (take_answer_served a s)
-  hears_writes a there = record { setting = (take_answer_grows s a).setting; packet = record { gets = there; began = there; call = tt } }
+  hears_writes a there = record { setting = (event_goes s (service_event.TakeAnswer a) tt).grows.setting; packet = record { gets = there; began = there; call = tt } }
 
   back_writes : (post : Post) (reply : PostReply) → Writes services s (posted_served post reply s)
-  back_writes post reply = record { setting = (posted_grows s post reply).setting; packet = tt }
+  back_writes post reply = record { setting = (event_goes s (service_event.Posted post reply) tt).grows.setting; packet = tt }
 
   post_ends : (to : List ℕ) → IsThere services to → (o : Option Post) → IfSome o (λ post. post_receiver post ≡ to) → IfSome o (λ post. sender post ≡ me s)
       → IfSome (option_map (λ post. PostPacket post) o) (HasEnds services)
@@ -257,10 +258,10 @@ module _ (services : List Kept) (packets : List Packet) (h : AreClosed services 
   steps_writes = record { setting = step_setting s (stale_in (answers s) (base s) s.entries); packet = tt }
 
   gives_up_writes : (flight : ℕ) → Writes services s (abandon_served flight s)
-  gives_up_writes flight = record { setting = (abandon_grows s flight).setting; packet = tt }
+  gives_up_writes flight = record { setting = (event_goes s (service_event.Abandon flight) tt).grows.setting; packet = tt }
 
   orders_writes : (command : Command) (token who : List ℕ) (i : Inputs) → Writes services s (order_served command token who s i)
-  orders_writes command token who i = record { setting = (order_grows s command token who i).setting; packet = tt }
+  orders_writes command token who i = record { setting = (event_goes s (service_event.Order command token who i) tt).grows.setting; packet = tt }
 
   -- the world stays closed
   closed_served : (d : Served) → Writes services s d → AreClosed (with_service name d.service services) (packets ++ option_to_list d.packet)

@@ -16,6 +16,7 @@ use Rattle.service_events.specs.Arriving.{arrive_event, call_answered_event, cal
 use Rattle.service_events.specs.Fits.{Fits, WantsItsCalls, calls_of_entry, calls_of_flight, places, wanted_call}
 use Rattle.service_events.specs.declared.answers.Arrived.{Arrived}
 use Rattle.service_events.specs.declared.answers.Arrived.TheVariants.{Done, Call as Sends, Known}
+use Rattle.service_events.specs.declared.event.Event.TheVariants as service_event
 use Rattle.service_events.proofs.SearchLemmas.{found_all}
 use Rattle.world_agreement.proofs.ListLemmas.{contains_map}
 use Rattle.world_agreement.proofs.NameLemmas.{found_own}
@@ -39,7 +40,7 @@ use Rattle.world_laws.proofs.CommitFacts.{call_ends}
 use Rattle.world_laws.proofs.HeardLaws.{AllOver}
 use Rattle.world_laws.proofs.LiveLaws.{EndsOr, arrive_live, call_answered_live, call_failed_live, abandon_live}
 use Rattle.world_laws.proofs.PutLemmas.{put, with_is_put, found_put, all_put}
-use Rattle.world_laws.proofs.WorldLaws.{Owes, written_all, arrive_served_owes, call_arrive_served_owes, call_answered_served_owes, call_failed_served_owes, abandon_served_owes, found_packet, turn_sound}
+use Rattle.world_laws.proofs.WorldLaws.{Owes, written_all, arrive_served_owes, call_arrive_served_owes, call_answered_served_owes, call_failed_served_owes, unwritten_owes, found_packet, turn_sound}
 
 -- ---- what tells of a commit
 
@@ -254,7 +255,8 @@ module _ (w : World) (h : IsSound w) (l : IsLiveWorld w) where
       by_flight : (s : Kept) → service_of name w.services ≡ Some s → (o : Option Flight) → LivesOn (if_flying w flight o (turned name w (abandon_served flight s)))
       by_flight s found None sound = (l, tt)
       by_flight s found (Some f) sound =
-          live_put name s found w refl refl (abandon_served flight s) (abandon_served_owes w.services w.packets h name s found flight)
+          live_put name s found w refl refl (abandon_served flight s)
+          (unwritten_owes w.services w.packets h name s found (service_event.Abandon flight) tt (abandon_served flight s).what)
           (abandon_served_live w.packets s (found_all Fits (has_name name) w.services s h.fits found) (found_all IsLive (has_name name) w.services s l.services found) flight) sound
 
       by_service : (o : Option Kept) → service_of name w.services ≡ o

@@ -1,5 +1,5 @@
 -- A service calls its peers alone: each event keeps it so.
-use Rattle.std.proofs.Common.{◌≡◌, ℕ, zero, suc, not, ◌+◌, ◌&&◌, Bool, true, false, cond, List, [], ◌∷◌, ◌++◌, Option, Some, None, IfSome, Contains, Result, Ok, Err, drop, length, map, nat_eq, nat_le, option_map, slice_get, slice_set, All, refl, sym, ap, ◌∙◌, subst, append_assoc, append-nil}
+use Rattle.std.proofs.Common.{◌≡◌, ℕ, zero, suc, not, ◌+◌, Bool, true, false, cond, List, [], ◌∷◌, ◌++◌, Option, Some, None, IfSome, Contains, Result, Ok, Err, drop, length, map, nat_eq, nat_le, option_map, slice_get, slice_set, All, refl, sym, ap, ◌∙◌, subst, append_assoc, append-nil}
 use Rattle.std.proofs.lemmas.Bool.{cond_both}
 use Rattle.std.proofs.lemmas.List.Elements.{All-append, All-contains, Contains-append_right}
 use Rattle.lang_base.specs.Texts.{same_text}
@@ -42,26 +42,27 @@ use Rattle.flights.specs.Moves.{calls_in, next_move}
 use Rattle.flights.specs.declared.flight.Flight.{Flight}
 use Rattle.flights.specs.declared.flight.Move.{Move}
 use Rattle.flights.specs.declared.flight.Move.TheVariants.{Commit, Name, Change}
-use Rattle.service_events.specs.Arriving.{accepted, new_flight, admitted, known_by, arrives_or_known, by_version, unless_gone, arrive_event, is_for, is_new_to, seen_live, live_answer_rows, answered_flight, call_answered_event, told, failed_flight, call_failed_event, abandoned, abandon_event}
+use Rattle.service_events.specs.Arriving.{accepted, new_flight, admitted, known_by, arrives_or_known, by_version, unless_gone, is_for, is_new_to, seen_live, live_answer_rows, answered_flight, told, failed_flight, abandoned}
 use Rattle.service_events.specs.Calls.{noted, named, deleted, replaced, all_deleted, slot_rows, settling_rows, next_after}
+use Rattle.service_events.specs.Event.{event}
 use Rattle.service_events.specs.Fits.{Fits, WantsItsCalls, NumberedCalls, calls_of_entry, calls_of_flight, call_to, call_in, wanted_call, sent_by}
 use Rattle.service_events.specs.Flying.{awaited, flight_run, before_answer, live_answer, surplus_rows, took_rows, committed, with_slot, with_change, deletion, change_rows, waits, call_or_none, wanted_of, named_unsent, changed_unsent, completing, completed, changed, moved, goes_on}
-use Rattle.service_events.specs.Messages.{hear_new, hear_rule, take_new, origin_of, is_known, is_too_much, acked_row, took_row, acked_again, taken_by, taken, take_admitted, take_event, confirmed_row, seen_row, heard, answer_taken_by, answer_taken_where, take_answer_event, had, replies_to, is_now, hold_of, held_back, held_where, posted, posted_event}
-use Rattle.service_events.specs.Orders.{order_rows, carried_out, order_by, order_where, refused, order_event}
-use Rattle.service_events.specs.State.{Kept, After, after, answers, or_else, is_crowded, is_heavy, is_in_flight, flight_of, base}
-use Rattle.service_events.specs.Steps.{ended_or, rerun, new_trace, new_record, sent_rows, answer_rows, stepped, Stale, stale_in, step_by, step_event}
+use Rattle.service_events.specs.Messages.{hear_new, hear_rule, take_new, origin_of, is_known, is_too_much, acked_row, took_row, acked_again, taken_by, taken, take_admitted, confirmed_row, seen_row, heard, answer_taken_by, answer_taken_where, is_now, hold_of, held_back, held_where, posted}
+use Rattle.service_events.specs.Orders.{order_rows, carried_out, order_by, order_where, refused}
+use Rattle.service_events.specs.State.{Kept, After, after, answers, or_else, is_crowded, is_heavy, flight_of, base}
+use Rattle.service_events.specs.Steps.{ended_or, rerun, new_trace, new_record, sent_rows, answer_rows, stepped, Stale, stale_in, step_by}
 use Rattle.service_events.specs.declared.answers.Arrived.{Arrived}
 use Rattle.service_events.specs.declared.answers.Heard.{Heard}
 use Rattle.service_events.specs.declared.answers.PostReply.{PostReply}
 use Rattle.service_events.specs.declared.answers.PostReply.TheVariants.{Acked as WasAcked, Confirmed as WasConfirmedBack, Refused, Lost}
 use Rattle.service_events.specs.declared.answers.Posted.TheVariants.{Held, Left}
+use Rattle.service_events.specs.declared.event.Event.{Event}
+use Rattle.service_events.specs.declared.event.Event.TheVariants as events
 use Rattle.service_events.specs.declared.refusals.AnswerRefused.{AnswerRefused}
 use Rattle.service_events.specs.declared.refusals.ArriveRefused.{ArriveRefused}
 use Rattle.service_events.specs.declared.refusals.CallRefused.{CallRefused}
 use Rattle.service_events.specs.declared.refusals.OrderRefused.{OrderRefused}
-use Rattle.service_events.specs.declared.refusals.PostRefused.{PostRefused}
-use Rattle.service_events.specs.declared.refusals.TakeRefused.{TakeRefused}
-use Rattle.service_events.proofs.AskedLemmas.{take_either, hear_either}
+use Rattle.service_events.proofs.AskedLemmas.{take_either, hear_either, arrives_either, takes_either, posted_either}
 use Rattle.world_laws.proofs.ChainLaws.{IsOnward, calls_onward}
 use Rattle.service_events.proofs.CallRowLemmas.{Each, each_append, each_behind, each_weaker, all_of_each}
 use Rattle.service_events.proofs.SearchLemmas.{contains_here}
@@ -303,14 +304,6 @@ module _ (s : Kept) (fits : Fits s) (calls : CallsPeers s) where
   unless_gone_reaches None known h = h
   unless_gone_reaches (Some t) known h = by_version_reaches t.version t.desired known h
 
-  pub arrive_reaches : (o : Origin) (q : Request) (i : Inputs) → Reaches s (arrive_event s o q i).service
-  arrive_reaches Outside q i = admitted_reaches Outside q i (or_else (is_crowded s) (is_heavy s))
-  arrive_reaches (Call c n) q i =
-      cond_both (is_in_flight (Call c n) s) (after s (Err (ArriveRefused.NotYet n)))
-      (unless_gone s (last_taken c n s.journal) (arrives_or_known s c n q i (find_call (Call c n) s.entries))) (λ a. Reaches s a.service) (λ _. same)
-      (λ _. unless_gone_reaches (last_taken c n s.journal) (arrives_or_known s c n q i (find_call (Call c n) s.entries))
-      (or_known_reaches c n q i (find_call (Call c n) s.entries)))
-
   heard_to : (a : AnswerMessage) (b : Bool) → Each (GoesTo s.setting.peers) (cond b (seen_live a ∷ []) [])
   heard_to a true = (tt, tt)
   heard_to a false = tt
@@ -324,9 +317,6 @@ module _ (s : Kept) (fits : Fits s) (calls : CallsPeers s) where
       (goes_on_reaches m f (own_to id f is)))
       (λ _. same)
 
-  pub call_answered_reaches : (id : ℕ) (a : AnswerMessage) → Reaches s (call_answered_event s id a).service
-  call_answered_reaches id a = answered_reaches id a (flight_of id s) refl
-
   failed_reaches : (id n : ℕ) (why : Why) (o : Option Flight) → flight_of id s ≡ o → Stays (failed_flight s id n why o)
   failed_reaches id n why None is = same
   failed_reaches id n why (Some f) is =
@@ -334,17 +324,11 @@ module _ (s : Kept) (fits : Fits s) (calls : CallsPeers s) where
       cond_both (nat_eq (awaited f) n) (accepted (goes_on m f)) (after s (Err (CallRefused.NoFlight id))) (λ x. Reaches s x.service)
       (λ _. reaches_then s m (goes_on m f).service (reaches_same s m refl refl) (goes_on_reaches m f (own_to id f is))) (λ _. same)
 
-  pub call_failed_reaches : (id n : ℕ) (why : Why) → Reaches s (call_failed_event s id n why).service
-  call_failed_reaches id n why = failed_reaches id n why (flight_of id s) refl
-
   abandoned_reaches : (id : ℕ) (o : Option Flight) → flight_of id s ≡ o → Stays (abandoned s o)
   abandoned_reaches id None is = same
   abandoned_reaches id (Some f) is =
       reaches_by s (abandoned s (Some f)).service (all_deleted s.registers f.numbers f.calls) refl refl
       (deleted_to s.setting.peers s.registers f.numbers f.calls (own_to id f is))
-
-  pub abandon_reaches : (id : ℕ) → Reaches s (abandon_event s id).service
-  abandon_reaches id = abandoned_reaches id (flight_of id s) refl
 
   -- ---- a step
 
@@ -392,9 +376,6 @@ module _ (s : Kept) (fits : Fits s) (calls : CallsPeers s) where
   step_by_reaches None h = same
   step_by_reaches (Some x) h = stepped_reaches x.entry x.rows h
 
-  pub step_reaches : Reaches s (step_event s).service
-  step_reaches = step_by_reaches (stale_in (answers s) (base s) s.entries) (stale_there (answers s) (base s) s.entries)
-
   -- ---- orders and messages
 
   ordered_reaches : (command : Command) (token who : List ℕ) (i : Inputs) → Reaches s (noted (order_rows s command token who i) (carried_out s command who i))
@@ -413,9 +394,6 @@ module _ (s : Kept) (fits : Fits s) (calls : CallsPeers s) where
   order_where_reaches command token who i (Some o) = same
   order_where_reaches command token who i None = order_by_reaches command token who i (refused s command who)
 
-  pub order_reaches : (command : Command) (token who : List ℕ) (i : Inputs) → Reaches s (order_event s command token who i).service
-  order_reaches command token who i = order_where_reaches command token who i (ordered token s.journal)
-
   taken_reaches : (set : SetMessage) (i : Inputs) (o : Option Entry) (d : Option Request) → Reaches s (taken_by s set i o d)
   taken_reaches set i (Some e) d = reaches_by s _ (took_row s set ∷ (acked_row set ∷ [])) refl refl (tt, (tt, tt))
   taken_reaches set i None (Some q) = reaches_by s _ (took_row s set ∷ (Asked _ ∷ (acked_row set ∷ []))) refl refl (tt, (tt, (tt, tt)))
@@ -427,11 +405,6 @@ module _ (s : Kept) (fits : Fits s) (calls : CallsPeers s) where
       cond_both (is_known s set) (after (acked_again s set) (Ok (taken set None))) (take_new s set i)
       (λ a. Reaches s a.service) (λ _. reaches_by s (acked_again s set) (acked_row set ∷ []) refl refl (tt, tt))
       (λ _. take_either s set i (λ a. Reaches s a.service) same (taken_reaches set i (find_call (origin_of set) s.entries) set.desired))
-
-  pub take_reaches : (set : SetMessage) (i : Inputs) → Reaches s (take_event s set i).service
-  take_reaches set i =
-      cond_both (is_in_flight (origin_of set) s) (after s (Err (TakeRefused.NotYet set.number))) (take_admitted s set i (is_too_much s set)) (λ a. Reaches s a.service)
-      (λ _. same) (λ _. take_admitted_reaches set i (is_too_much s set))
 
   answer_taken_by_reaches : (a : AnswerMessage) (r : Register) → Stays (answer_taken_by s a r)
   answer_taken_by_reaches a r = by (same_text r.dest a.callee) (is_newer r.answer a.answer_version)
@@ -446,9 +419,6 @@ module _ (s : Kept) (fits : Fits s) (calls : CallsPeers s) where
   answer_taken_where_reaches : (a : AnswerMessage) (o : Option Register) → Stays (answer_taken_where s a o)
   answer_taken_where_reaches a None = same
   answer_taken_where_reaches a (Some r) = answer_taken_by_reaches a r
-
-  pub take_answer_reaches : (a : AnswerMessage) → Reaches s (take_answer_event s a).service
-  take_answer_reaches a = answer_taken_where_reaches a (register a.number s.registers)
 
   held_reaches : (post : Post) (hold : Hold) → Reaches s (held_back s post hold)
   held_reaches (Set set) hold = reaches_same s _ refl refl
@@ -465,7 +435,21 @@ module _ (s : Kept) (fits : Fits s) (calls : CallsPeers s) where
   replied_reaches post (Refused word n) = held_where_reaches post (hold_of word n)
   replied_reaches post (Lost note) = same
 
-  pub posted_reaches : (post : Post) (reply : PostReply) → Reaches s (posted_event s post reply).service
-  posted_reaches post reply =
-      cond_both (had s post && replies_to post reply) (posted s post reply) (after s (Err PostRefused.Foreign)) (λ x. Reaches s x.service)
-      (λ _. replied_reaches post reply) (λ _. same)
+  -- ---- all events
+
+  pub event_reaches : (e : Event) → Reaches s (event s e).service
+  event_reaches (events.Arrive Outside q i) = admitted_reaches Outside q i (or_else (is_crowded s) (is_heavy s))
+  event_reaches (events.Arrive (Call c n) q i) =
+      let entry = find_call (Call c n) s.entries in
+      arrives_either s c n q i (λ a. Reaches s a.service) same
+      (unless_gone_reaches (last_taken c n s.journal) (arrives_or_known s c n q i entry) (or_known_reaches c n q i entry))
+  event_reaches (events.CallAnswered id a) = answered_reaches id a (flight_of id s) refl
+  event_reaches (events.CallFailed id n why) = failed_reaches id n why (flight_of id s) refl
+  event_reaches (events.Abandon id) = abandoned_reaches id (flight_of id s) refl
+  event_reaches (events.Take set i) = takes_either s set i (λ a. Reaches s a.service) same (take_admitted_reaches set i (is_too_much s set))
+  event_reaches (events.TakeAnswer a) = answer_taken_where_reaches a (register a.number s.registers)
+  event_reaches (events.NextPost dest) = same
+  event_reaches (events.WritePost name) = same
+  event_reaches (events.Posted post reply) = posted_either s post reply (λ a. Reaches s a.service) same (λ _ _. replied_reaches post reply)
+  event_reaches events.Step = step_by_reaches (stale_in (answers s) (base s) s.entries) (stale_there (answers s) (base s) s.entries)
+  event_reaches (events.Order command token who i) = order_where_reaches command token who i (ordered token s.journal)

@@ -13,6 +13,7 @@ use Rattle.service_events.specs.Fits.{Fits}
 use Rattle.service_events.specs.Posts.{next_post}
 use Rattle.service_events.specs.State.{Kept, flight_of}
 use Rattle.service_events.specs.declared.answers.PostReply.TheVariants.{Lost as PostIsLost}
+use Rattle.service_events.specs.declared.event.Event.TheVariants as service_event
 use Rattle.service_events.proofs.CallLaws.{Grows}
 use Rattle.service_events.proofs.SearchLemmas.{found_all}
 use Rattle.world_agreement.specs.Partners.{has_name, service_of}
@@ -28,7 +29,7 @@ use Rattle.world_events.specs.declared.packet.Live.{Live}
 use Rattle.world_events.specs.declared.packet.Live.TheVariants.{Answer as LiveAnswer, Refused as LiveRefused}
 use Rattle.world_events.specs.declared.packet.Packet.{Packet}
 use Rattle.world_events.specs.declared.packet.Packet.TheVariants.{Call, CallReply, Post as PostPacket, PostReply as PostReplyPacket}
-use Rattle.world_laws.proofs.PeerLaws.{Reaches, reaches_same, reached_calls, arrive_reaches, call_answered_reaches, call_failed_reaches, abandon_reaches, step_reaches, order_reaches, take_reaches, take_answer_reaches, posted_reaches}
+use Rattle.world_laws.proofs.PeerLaws.{Reaches, reaches_same, reached_calls, event_reaches}
 use Rattle.world_laws.proofs.PutLemmas.{put, with_is_put, grew_put, all_put}
 use Rattle.world_laws.proofs.WorldLaws.{turn_sound}
 
@@ -70,16 +71,16 @@ module _ (w : World) (h : IsSound w) (r : IsReached w) where
   call_reached number flight call None = r
   call_reached number flight call (Some q) =
       reached_at call.dest (once_drawn w) refl (λ s. call_arrive_served flight call q s (next_inputs w))
-      (λ s fits calls. arrive_reaches s fits calls (CallOrigin call.caller call.number) q (next_inputs w))
+      (λ s fits calls. event_reaches s fits calls (service_event.Arrive (CallOrigin call.caller call.number) q (next_inputs w)))
 
   reply_reached : (to : List ℕ) (flight : ℕ) (number : ℕ) (reply : Live) → AreReached (reply_delivered w to flight number reply).world.services
-  reply_reached to flight number (LiveAnswer a) = reached_at to w refl (call_answered_served w.packets flight a) (λ s fits calls. call_answered_reaches s fits calls flight a)
+  reply_reached to flight number (LiveAnswer a) = reached_at to w refl (call_answered_served w.packets flight a) (λ s fits calls. event_reaches s fits calls (service_event.CallAnswered flight a))
   reply_reached to flight number (LiveRefused word n) =
-      reached_at to w refl (call_failed_served w.packets flight number (WasRefused word n)) (λ s fits calls. call_failed_reaches s fits calls flight number (WasRefused word n))
+      reached_at to w refl (call_failed_served w.packets flight number (WasRefused word n)) (λ s fits calls. event_reaches s fits calls (service_event.CallFailed flight number (WasRefused word n)))
 
   post_reached : (post : Post) → AreReached (post_delivered w post).world.services
-  post_reached (SetPost set) = reached_at set.dest (once_drawn w) refl (λ s. take_served set s (next_inputs w)) (λ s fits calls. take_reaches s fits calls set (next_inputs w))
-  post_reached (AnswerPost a) = reached_at a.caller w refl (take_answer_served a) (λ s fits calls. take_answer_reaches s fits calls a)
+  post_reached (SetPost set) = reached_at set.dest (once_drawn w) refl (λ s. take_served set s (next_inputs w)) (λ s fits calls. event_reaches s fits calls (service_event.Take set (next_inputs w)))
+  post_reached (AnswerPost a) = reached_at a.caller w refl (take_answer_served a) (λ s fits calls. event_reaches s fits calls (service_event.TakeAnswer a))
 
   delivered_reached : (number : ℕ) (p : Option Packet) → AreReached (delivered w number p).world.services
   delivered_reached number None = r
@@ -87,16 +88,16 @@ module _ (w : World) (h : IsSound w) (r : IsReached w) where
   delivered_reached number (Some (CallReply to flight call_number reply)) = reply_reached to flight call_number reply
   delivered_reached number (Some (PostPacket post)) = post_reached post
   delivered_reached number (Some (PostReplyPacket post reply)) =
-      reached_at (sender post) w refl (posted_served post reply) (λ s fits calls. posted_reaches s fits calls post reply)
+      reached_at (sender post) w refl (posted_served post reply) (λ s fits calls. event_reaches s fits calls (service_event.Posted post reply))
 
   call_lost_reached : (name : List ℕ) (flight : ℕ) (number : ℕ) → AreReached (call_lost w name flight number).world.services
   call_lost_reached name flight number =
       reached_at name (once_lost w) refl (call_failed_served w.packets flight number (Lost (loss_note w)))
-      (λ s fits calls. call_failed_reaches s fits calls flight number (Lost (loss_note w)))
+      (λ s fits calls. event_reaches s fits calls (service_event.CallFailed flight number (Lost (loss_note w))))
 
   post_lost_reached : (post : Post) → AreReached (post_lost w post).world.services
   post_lost_reached post =
-      reached_at (sender post) (once_lost w) refl (posted_served post (PostIsLost (loss_note w))) (λ s fits calls. posted_reaches s fits calls post (PostIsLost (loss_note w)))
+      reached_at (sender post) (once_lost w) refl (posted_served post (PostIsLost (loss_note w))) (λ s fits calls. event_reaches s fits calls (service_event.Posted post (PostIsLost (loss_note w))))
 
   lost_reached : (number : ℕ) (p : Option Packet) → AreReached (lost w number p).world.services
   lost_reached number None = r
@@ -122,19 +123,19 @@ module _ (w : World) (h : IsSound w) (r : IsReached w) where
       by None = r
       by (Some f) =
           reached_put name s (abandon_served flight s).service found
-          (abandon_reaches s (found_all Fits (has_name name) w.services s h.fits found) (found_all CallsPeers (has_name name) w.services s r.calls found) flight)
+          (event_reaches s (found_all Fits (has_name name) w.services s h.fits found) (found_all CallsPeers (has_name name) w.services s r.calls found) (service_event.Abandon flight))
 
   pub turn_reached : (e : Event) → IsReached (after_event w e)
   unfolding turn
   turn_reached (Begin name q) =
-      reached_at name (once_drawn w) refl (λ s. arrive_served w.packets q s (next_inputs w)) (λ s fits calls. arrive_reaches s fits calls Outside q (next_inputs w))
+      reached_at name (once_drawn w) refl (λ s. arrive_served w.packets q s (next_inputs w)) (λ s fits calls. event_reaches s fits calls (service_event.Arrive Outside q (next_inputs w)))
   turn_reached (Deliver number) = delivered_reached number (packet_of number w)
   turn_reached (Lose number) = lost_reached number (packet_of number w)
   turn_reached (Posts from to) = posted_reached from to (service_of to w.services)
-  turn_reached (Step name) = reached_at name w refl repair_step_served (λ s fits calls. step_reaches s fits calls)
+  turn_reached (Step name) = reached_at name w refl repair_step_served (λ s fits calls. event_reaches s fits calls service_event.Step)
   turn_reached (Abandon name flight) = abandoned_reached name flight (service_of name w.services) refl
   turn_reached (Order name command token who) =
-      reached_at name (once_drawn w) refl (λ s. order_served command token who s (next_inputs w)) (λ s fits calls. order_reaches s fits calls command token who (next_inputs w))
+      reached_at name (once_drawn w) refl (λ s. order_served command token who s (next_inputs w)) (λ s fits calls. event_reaches s fits calls (service_event.Order command token who (next_inputs w)))
   turn_reached (Clock moment) = r
   turn_reached (Seed n) = r
 

@@ -1,5 +1,5 @@
 -- What is refused changes no service.
-use Rattle.std.proofs.Common.{◌≡◌, ℕ, ◌&&◌, Bool, true, false, cond, not, List, [], ◌∷◌, Option, Some, None, Result, Ok, Err, inl, inr, is_err, nat_eq, refl, sym, ap, ◌∙◌}
+use Rattle.std.proofs.Common.{◌≡◌, ℕ, Bool, true, false, cond, not, List, [], ◌∷◌, Option, Some, None, Result, Ok, Err, inl, inr, is_err, nat_eq, refl, sym, ap, ◌∙◌}
 use Rattle.std.proofs.lemmas.Bool.{cases_Bool, cond_both}
 use Rattle.lang_base.specs.Texts.{same_text}
 use Rattle.lang_core.specs.declared.ids.Origin.{Origin}
@@ -26,11 +26,12 @@ use Rattle.call_registers.specs.declared.register.Why.TheVariants.{Lost, Refused
 use Rattle.flights.specs.declared.flight.Flight.{Flight}
 use Rattle.service_events.specs.Arriving.{accepted, admitted, known_by, arrives_or_known, by_version, unless_gone, arrive_event, is_for, live_answer_rows, answered_flight, call_answered_event, told, failed_flight, call_failed_event}
 use Rattle.service_events.specs.Calls.{noted}
+use Rattle.service_events.specs.Event.{event}
 use Rattle.service_events.specs.Flying.{awaited, goes_on}
-use Rattle.service_events.specs.Messages.{hear_new, take_new, origin_of, is_known, is_too_much, acked_again, taken, take_admitted, take_event, confirmed_row, heard, answer_taken_where, take_answer_event, had, replies_to, is_now, hold_of, held_back, held_where, posted, posted_event}
+use Rattle.service_events.specs.Messages.{hear_new, take_new, is_known, is_too_much, acked_again, taken, take_admitted, take_event, confirmed_row, heard, answer_taken_where, take_answer_event, is_now, hold_of, held_back, held_where, posted}
 use Rattle.service_events.specs.Orders.{order_by, order_where, refused as why_refused}
 use Rattle.service_events.specs.Posts.{next_post}
-use Rattle.service_events.specs.State.{Kept, After, after, or_else, is_crowded, is_heavy, is_in_flight, flight_of}
+use Rattle.service_events.specs.State.{Kept, After, after, or_else, is_crowded, is_heavy, flight_of}
 use Rattle.service_events.specs.declared.answers.Arrived.{Arrived}
 use Rattle.service_events.specs.declared.answers.Heard.{Heard}
 use Rattle.service_events.specs.declared.answers.PostReply.{PostReply}
@@ -38,13 +39,17 @@ use Rattle.service_events.specs.declared.answers.PostReply.TheVariants.{Acked as
 use Rattle.service_events.specs.declared.answers.Posted.{Posted}
 use Rattle.service_events.specs.declared.answers.Posted.TheVariants.{Held, Left}
 use Rattle.service_events.specs.declared.answers.Taken.{Taken}
+use Rattle.service_events.specs.declared.event.Done.{Done}
+use Rattle.service_events.specs.declared.event.Done.TheVariants as done
+use Rattle.service_events.specs.declared.event.Event.{Event as ServiceEvent}
+use Rattle.service_events.specs.declared.event.Event.TheVariants as service_event
 use Rattle.service_events.specs.declared.refusals.AnswerRefused.{AnswerRefused}
 use Rattle.service_events.specs.declared.refusals.ArriveRefused.{ArriveRefused}
 use Rattle.service_events.specs.declared.refusals.CallRefused.{CallRefused}
 use Rattle.service_events.specs.declared.refusals.OrderRefused.{OrderRefused}
 use Rattle.service_events.specs.declared.refusals.PostRefused.{PostRefused}
 use Rattle.service_events.specs.declared.refusals.TakeRefused.{TakeRefused}
-use Rattle.service_events.proofs.AskedLemmas.{take_either, hear_either}
+use Rattle.service_events.proofs.AskedLemmas.{take_either, hear_either, arrives_either, takes_either, posted_either}
 use Rattle.world_agreement.specs.Partners.{has_name, service_of}
 use Rattle.world_agreement.proofs.ListLemmas.{some_is}
 use Rattle.world_events.specs.Worlds.{World, with_service, packet_of, next_inputs, once_drawn, once_lost, loss_note}
@@ -64,6 +69,19 @@ use Rattle.world_laws.proofs.PutLemmas.{put, with_is_put}
 -- where it is refused, the service is as it was
 abbrev StaysIfRefused : {A E : Type 0} → Kept → After (Result A E) → Type 0
 StaysIfRefused s a = is_err a.answer ≡ true → a.service ≡ s
+
+-- the answer of an event is a refusal
+abbrev is_refused : Done → Bool
+is_refused (done.Arrive result) = is_err result
+is_refused (done.CallAnswered result) = is_err result
+is_refused (done.CallFailed result) = is_err result
+is_refused (done.Take result) = is_err result
+is_refused (done.TakeAnswer result) = is_err result
+is_refused (done.WritePost result) = is_err result
+is_refused (done.Posted result) = is_err result
+is_refused (done.Step result) = is_err result
+is_refused (done.Order result) = is_err result
+is_refused answer = false
 
 module _ (s : Kept) where
   known_stays : (c : List ℕ) (n : ℕ) (e : Entry) (m : Option Record) → StaysIfRefused s (known_by s c n e m)
@@ -86,13 +104,6 @@ module _ (s : Kept) where
   gone_stays None known h = h
   gone_stays (Some t) known h = by_version_stays t.version t.desired known h
 
-  arrive_stays : (o : Origin) (q : Request) (i : Inputs) → StaysIfRefused s (arrive_event s o q i)
-  arrive_stays Outside q i = admitted_stays Outside q i (or_else (is_crowded s) (is_heavy s))
-  arrive_stays (CallOrigin c n) q i =
-      cond_both (is_in_flight (CallOrigin c n) s) (after s (Err (ArriveRefused.NotYet n)))
-      (unless_gone s (last_taken c n s.journal) (arrives_or_known s c n q i (find_call (CallOrigin c n) s.entries))) (StaysIfRefused s) (λ _ bad. refl)
-      (λ _. gone_stays (last_taken c n s.journal) (arrives_or_known s c n q i (find_call (CallOrigin c n) s.entries)) (or_known_stays c n q i (find_call (CallOrigin c n) s.entries)))
-
   answered_stays : (id : ℕ) (a : AnswerMessage) (o : Option Flight) → StaysIfRefused s (answered_flight s id a o)
   answered_stays id a None = λ bad. refl
   answered_stays id a (Some f) =
@@ -108,11 +119,6 @@ module _ (s : Kept) where
   take_admitted_stays set i None =
       cond_both (is_known s set) (after (acked_again s set) (Ok (taken set None))) (take_new s set i) (StaysIfRefused s)
       (λ _ bad. cc) (λ _. take_either s set i (StaysIfRefused s) (λ bad. refl) (λ bad. cc))
-
-  take_stays : (set : SetMessage) (i : Inputs) → StaysIfRefused s (take_event s set i)
-  take_stays set i =
-      cond_both (is_in_flight (origin_of set) s) (after s (Err (TakeRefused.NotYet set.number))) (take_admitted s set i (is_too_much s set)) (StaysIfRefused s) (λ _ bad. refl)
-      (λ _. take_admitted_stays set i (is_too_much s set))
 
   heard_stays : (a : AnswerMessage) (o : Option Register) → StaysIfRefused s (answer_taken_where s a o)
   heard_stays a None = λ bad. refl
@@ -136,17 +142,30 @@ module _ (s : Kept) where
   replied_stays post (Refused word n) = held_stays post (hold_of word n)
   replied_stays post (PostIsLost note) = λ bad. refl
 
-  posted_stays : (post : Post) (reply : PostReply) → StaysIfRefused s (posted_event s post reply)
-  posted_stays post reply =
-      cond_both (had s post && replies_to post reply) (posted s post reply) (after s (Err PostRefused.Foreign)) (StaysIfRefused s) (λ _. replied_stays post reply) (λ _ bad. refl)
-
   order_by_stays : (command : Command) (token who : List ℕ) (i : Inputs) (o : Option OrderRefused) → StaysIfRefused s (order_by s command token who i o)
   order_by_stays command token who i (Some why) = λ bad. refl
   order_by_stays command token who i None = λ bad. cc
 
-  order_stays : (command : Command) (token who : List ℕ) (i : Inputs) (o : Option OrderedRow) → StaysIfRefused s (order_where s command token who i o)
-  order_stays command token who i (Some o) = λ bad. refl
-  order_stays command token who i None = order_by_stays command token who i (why_refused s command who)
+  order_where_stays : (command : Command) (token who : List ℕ) (i : Inputs) (o : Option OrderedRow) → StaysIfRefused s (order_where s command token who i o)
+  order_where_stays command token who i (Some o) = λ bad. refl
+  order_where_stays command token who i None = order_by_stays command token who i (why_refused s command who)
+
+  -- an event that is refused leaves the service as it was
+  event_stays : (e : ServiceEvent) → is_refused (event s e).answer ≡ true → (event s e).service ≡ s
+  event_stays (service_event.Arrive Outside q i) = admitted_stays Outside q i (or_else (is_crowded s) (is_heavy s))
+  event_stays (service_event.Arrive (CallOrigin c n) q i) =
+      let entry = find_call (CallOrigin c n) s.entries in
+      arrives_either s c n q i (StaysIfRefused s) (λ bad. refl) (gone_stays (last_taken c n s.journal) (arrives_or_known s c n q i entry) (or_known_stays c n q i entry))
+  event_stays (service_event.CallAnswered id a) = answered_stays id a (flight_of id s)
+  event_stays (service_event.CallFailed id n why) = failed_stays id n why (flight_of id s)
+  event_stays (service_event.Abandon id) = λ bad. cc
+  event_stays (service_event.Take set i) = takes_either s set i (StaysIfRefused s) (λ bad. refl) (take_admitted_stays set i (is_too_much s set))
+  event_stays (service_event.TakeAnswer a) = heard_stays a (register a.number s.registers)
+  event_stays (service_event.NextPost dest) = λ bad. refl
+  event_stays (service_event.WritePost name) = λ bad. refl
+  event_stays (service_event.Posted post reply) = posted_either s post reply (StaysIfRefused s) (λ bad. refl) (λ _ _. replied_stays post reply)
+  event_stays service_event.Step = λ bad. cc
+  event_stays (service_event.Order command token who i) = order_where_stays command token who i (ordered token s.journal)
 
 -- ---- what is told of it
 
@@ -187,30 +206,30 @@ module _ (w : World) where
           ap (λ xs. with_service name (act s).service xs) services ∙ with_is_put name (act s).service w.services ∙ ap (λ t. put name t w.services) (stays s bad) ∙ put_same name s w.services found
 
   begun_stays : (q : Request) (i : Inputs) (s : Kept) → is_refusal (arrive_served w.packets q s i).what ≡ true → (arrive_served w.packets q s i).service ≡ s
-  begun_stays q i s bad = arrive_stays s Outside q i (sym (outcome_err (arrive_event s Outside q i).answer) ∙ bad)
+  begun_stays q i s bad = event_stays s (service_event.Arrive Outside q i) (sym (outcome_err (arrive_event s Outside q i).answer) ∙ bad)
 
   call_stays : (number flight : ℕ) (call : SetMessage) (o : Option Request) → Stays (call_delivered w number flight call o)
   call_stays number flight call None = λ bad. refl
   call_stays number flight call (Some q) =
       stays_at call.dest (once_drawn w) refl (λ s. call_arrive_served flight call q s (next_inputs w))
-      (λ s bad. arrive_stays s (CallOrigin call.caller call.number) q (next_inputs w) (sym (outcome_err (arrive_event s (CallOrigin call.caller call.number) q (next_inputs w)).answer) ∙ bad))
+      (λ s bad. event_stays s (service_event.Arrive (CallOrigin call.caller call.number) q (next_inputs w)) (sym (outcome_err (arrive_event s (CallOrigin call.caller call.number) q (next_inputs w)).answer) ∙ bad))
 
   failed_at : (name : List ℕ) (then : World) → then.services ≡ w.services → (flight n : ℕ) (why : Why) → Stays (turn_at name w then (call_failed_served w.packets flight n why))
   failed_at name then services flight n why =
-      stays_at name then services (call_failed_served w.packets flight n why) (λ s bad. failed_stays s flight n why (flight_of flight s) (sym (outcome_err (call_failed_event s flight n why).answer) ∙ bad))
+      stays_at name then services (call_failed_served w.packets flight n why) (λ s bad. event_stays s (service_event.CallFailed flight n why) (sym (outcome_err (call_failed_event s flight n why).answer) ∙ bad))
 
   reply_stays : (to : List ℕ) (flight : ℕ) (number : ℕ) (reply : Live) → Stays (reply_delivered w to flight number reply)
   reply_stays to flight number (LiveAnswer a) =
-      stays_at to w refl (call_answered_served w.packets flight a) (λ s bad. answered_stays s flight a (flight_of flight s) (sym (outcome_err (call_answered_event s flight a).answer) ∙ bad))
+      stays_at to w refl (call_answered_served w.packets flight a) (λ s bad. event_stays s (service_event.CallAnswered flight a) (sym (outcome_err (call_answered_event s flight a).answer) ∙ bad))
   reply_stays to flight number (LiveRefused word n) = failed_at to w refl flight number (WasRefused word n)
 
   post_stays : (post : Post) → Stays (post_delivered w post)
   post_stays (SetPost set) =
-      stays_at set.dest (once_drawn w) refl (λ s. take_served set s (next_inputs w)) (λ s bad. take_stays s set (next_inputs w) (sym (rule_err (take_event s set (next_inputs w)).answer) ∙ bad))
-  post_stays (AnswerPost a) = stays_at a.caller w refl (take_answer_served a) (λ s bad. heard_stays s a (register a.number s.registers) (sym (heard_err (take_answer_event s a).answer) ∙ bad))
+      stays_at set.dest (once_drawn w) refl (λ s. take_served set s (next_inputs w)) (λ s bad. event_stays s (service_event.Take set (next_inputs w)) (sym (rule_err (take_event s set (next_inputs w)).answer) ∙ bad))
+  post_stays (AnswerPost a) = stays_at a.caller w refl (take_answer_served a) (λ s bad. event_stays s (service_event.TakeAnswer a) (sym (heard_err (take_answer_event s a).answer) ∙ bad))
 
   back_at : (name : List ℕ) (then : World) → then.services ≡ w.services → (post : Post) (reply : PostReply) → Stays (turn_at name w then (posted_served post reply))
-  back_at name then services post reply = stays_at name then services (posted_served post reply) (λ s bad. posted_stays s post reply bad)
+  back_at name then services post reply = stays_at name then services (posted_served post reply) (λ s bad. event_stays s (service_event.Posted post reply) bad)
 
   delivered_stays : (number : ℕ) (p : Option Packet) → Stays (delivered w number p)
   delivered_stays number None = λ bad. refl
@@ -253,6 +272,6 @@ module _ (w : World) where
   refused_stays (Step name) = stays_at name w refl repair_step_served (λ s bad. cc)
   refused_stays (Abandon name flight) = abandoned_stays name flight (service_of name w.services)
   refused_stays (Order name command token who) =
-      stays_at name (once_drawn w) refl (λ s. order_served command token who s (next_inputs w)) (λ s bad. order_stays s command token who (next_inputs w) (ordered token s.journal) bad)
+      stays_at name (once_drawn w) refl (λ s. order_served command token who s (next_inputs w)) (λ s bad. event_stays s (service_event.Order command token who (next_inputs w)) bad)
   refused_stays (Clock moment) = λ bad. refl
   refused_stays (Seed n) = λ bad. refl

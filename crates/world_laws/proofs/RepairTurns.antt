@@ -31,24 +31,26 @@ use Rattle.call_registers.specs.declared.register.Hold.{Hold}
 use Rattle.call_registers.specs.declared.register.Register.{Register}
 use Rattle.call_registers.specs.declared.reply.Reply.{Reply}
 use Rattle.flights.specs.declared.flight.Flight.{Flight}
-use Rattle.service_events.specs.Arriving.{abandoned, abandon_event}
+use Rattle.service_events.specs.Arriving.{abandoned}
 use Rattle.service_events.specs.Calls.{noted, all_deleted}
+use Rattle.service_events.specs.Event.{event}
 use Rattle.service_events.specs.Fits.{Fits, sent_by}
-use Rattle.service_events.specs.Messages.{hear_new, hear_rule, take_new, take_rule, origin_of, is_known, is_too_much, ack_of, acked_row, took_row, acked_again, taken_by, taken, take_admitted, take_event, confirm_of, confirmed_row, seen_row, heard, answer_taken_where, take_answer_event, had_call, had, is_ack_of, replies_to, is_now, hold_of, held_back, held_where, posted, posted_event}
-use Rattle.service_events.specs.Orders.{order_rows, carried_out, order_by, order_where, refused, order_event}
+use Rattle.service_events.specs.Messages.{hear_new, hear_rule, take_new, take_rule, origin_of, is_known, is_too_much, ack_of, acked_row, took_row, acked_again, taken_by, taken, take_admitted, take_event, confirm_of, confirmed_row, seen_row, heard, answer_taken_where, take_answer_event, had_call, had, is_ack_of, replies_to, is_now, hold_of, held_back, held_where, posted}
+use Rattle.service_events.specs.Orders.{order_rows, carried_out, order_by, order_where, refused}
 use Rattle.service_events.specs.Posts.{set_message, answer_post, reply_post, where_there, write_post}
-use Rattle.service_events.specs.State.{Kept, After, after, me, answers, is_in_flight, flight_of, has_flight, next_id, base}
-use Rattle.service_events.specs.Steps.{Stale, new_record, sent_rows, answer_rows, stepped, stale_in, step_by, step_event}
+use Rattle.service_events.specs.State.{Kept, After, after, me, answers, flight_of, has_flight, next_id, base}
+use Rattle.service_events.specs.Steps.{Stale, new_record, sent_rows, answer_rows, stepped, stale_in, step_by}
 use Rattle.service_events.specs.declared.answers.Heard.{Heard}
 use Rattle.service_events.specs.declared.answers.PostReply.{PostReply}
 use Rattle.service_events.specs.declared.answers.PostReply.TheVariants.{Acked as WasAcked, Confirmed as WasConfirmedBack, Refused, Lost}
 use Rattle.service_events.specs.declared.answers.Posted.TheVariants.{Held, Left}
 use Rattle.service_events.specs.declared.answers.Taken.{Taken}
+use Rattle.service_events.specs.declared.event.Event.{Event}
+use Rattle.service_events.specs.declared.event.Event.TheVariants as events
 use Rattle.service_events.specs.declared.refusals.AnswerRefused.{AnswerRefused}
 use Rattle.service_events.specs.declared.refusals.OrderRefused.{OrderRefused}
-use Rattle.service_events.specs.declared.refusals.PostRefused.{PostRefused}
 use Rattle.service_events.specs.declared.refusals.TakeRefused.{TakeRefused}
-use Rattle.service_events.proofs.AskedLemmas.{take_either, hear_either}
+use Rattle.service_events.proofs.AskedLemmas.{take_either, hear_either, takes_either, posted_either}
 use Rattle.service_events.proofs.KindLemmas.{sends_deleted, sends_settled}
 use Rattle.service_events.proofs.CallRowLemmas.{Each, each_append, each_weaker, all_of_each, IsSending}
 use Rattle.service_events.proofs.EntryLemmas.{found_itself}
@@ -56,8 +58,8 @@ use Rattle.service_events.proofs.PartLemmas.{logged}
 use Rattle.service_events.proofs.PostedLaw.{of_entry}
 use Rattle.service_events.proofs.SearchLemmas.{text_is}
 use Rattle.world_agreement.specs.Partners.{JournalOf, HasSent, HasAcked, HasAnswered, HasConfirmed, HasPartner}
-use Rattle.world_events.specs.Sound.{WasSent, WasAnswered, PostReplyStands, FlightStands, FlightsStand}
-use Rattle.world_laws.proofs.LiveTurns.{IsHeard, heard_said, dest_said, entry_answered}
+use Rattle.world_events.specs.Sound.{WasSent, WasAnswered, OriginStands, PostReplyStands, FlightStands, FlightsStand}
+use Rattle.world_laws.proofs.LiveTurns.{IsHeard, heard_said, dest_said, entry_answered, arrive_moves, call_answered_moves, call_failed_moves}
 use Rattle.world_laws.proofs.StillLemmas.{sent_from}
 use Rattle.world_laws.proofs.TurnLaws.{Turns, no_turn}
 
@@ -97,6 +99,15 @@ quiet_turns services s t journal setting same flights = record {
   flights = subst (All (FlightStands services s)) (sym same) flights;
 }
 
+-- what is asked of what an event brings: the service that it names did what it says
+abbrev pub TurnsWhere : List Kept → Kept → Event → Type 0
+TurnsWhere services s (events.Arrive o q i) = OriginStands services (me s) o q
+TurnsWhere services s (events.CallAnswered id a) = (a.caller ≡ me s) × WasAnswered services a
+TurnsWhere services s (events.Take set i) = WasSent services set × (set.dest ≡ me s)
+TurnsWhere services s (events.TakeAnswer a) = (a.caller ≡ me s) × WasAnswered services a
+TurnsWhere services s (events.Posted post reply) = PostReplyStands services reply
+TurnsWhere services s e = Unit {0}
+
 module _ (services : List Kept) (s : Kept) (fits : Fits s) (flights : FlightsStand services s) where
   -- ---- a step, an order, an abandonment
 
@@ -116,9 +127,6 @@ module _ (services : List Kept) (s : Kept) (fits : Fits s) (flights : FlightsSta
   step_by_turns None = no_turn services s flights
   step_by_turns (Some x) = stepped_turns x.entry (new_record s x.rows x.entry)
 
-  pub step_turns : Turns services s (step_event s).service
-  step_turns = step_by_turns (stale_in (answers s) (base s) s.entries)
-
   ordered_turns : (command : Command) (token who : List ℕ) (i : Inputs) → Turns services s (noted (order_rows s command token who i) (carried_out s command who i))
   ordered_turns (Cancel id) token who i = own_turns services s _ (order_rows s (Cancel id) token who i) refl refl (tt, tt) flights
   ordered_turns (Restore id) token who i = own_turns services s _ (order_rows s (Restore id) token who i) refl refl (tt, tt) flights
@@ -137,18 +145,12 @@ module _ (services : List Kept) (s : Kept) (fits : Fits s) (flights : FlightsSta
   order_where_turns command token who i (Some o) = no_turn services s flights
   order_where_turns command token who i None = order_by_turns command token who i (refused s command who)
 
-  pub order_turns : (command : Command) (token who : List ℕ) (i : Inputs) → Turns services s (order_event s command token who i).service
-  order_turns command token who i = order_where_turns command token who i (ordered token s.journal)
-
   abandoned_turns : (o : Option Flight) → Turns services s (abandoned s o).service
   abandoned_turns None = no_turn services s flights
   abandoned_turns (Some f) =
       own_turns services s _ (all_deleted s.registers f.numbers f.calls) refl refl
       (each_weaker IsSending IsOwn sending_own (all_deleted s.registers f.numbers f.calls) (sends_deleted s.registers f.numbers f.calls))
       (All-filter (λ g. not (has_flight f.id g)) (FlightStands services s) s.flights flights)
-
-  pub abandon_turns : (id : ℕ) → Turns services s (abandon_event s id).service
-  abandon_turns id = abandoned_turns (flight_of id s)
 
   -- ---- a version of a call is taken
 
@@ -208,8 +210,7 @@ module _ (services : List Kept) (s : Kept) (fits : Fits s) (flights : FlightsSta
 
     pub take_takes : (i : Inputs) → Takes set (take_event s set i)
     take_takes i =
-        cond_both (is_in_flight (origin_of set) s) (after s (Err (TakeRefused.NotYet set.number))) (take_admitted s set i (is_too_much s set)) (Takes set)
-        (λ _. takes_not (TakeRefused.NotYet set.number)) (λ _. admitted_takes i (is_too_much s set))
+        takes_either s set i (Takes set) (takes_not (TakeRefused.NotYet set.number)) (admitted_takes i (is_too_much s set))
 
   -- ---- an answer is taken
 
@@ -311,10 +312,21 @@ module _ (services : List Kept) (s : Kept) (fits : Fits s) (flights : FlightsSta
   replied_turns post (Refused word n) has is stands = held_where_turns post (hold_of word n)
   replied_turns post (Lost note) has is stands = no_turn services s flights
 
-  pub posted_turns : (post : Post) (answer : PostReply) → PostReplyStands services answer → Turns services s (posted_event s post answer).service
-  posted_turns post answer stands =
-      cond_both (had s post && replies_to post answer) (posted s post answer) (after s (Err PostRefused.Foreign)) (λ x. Turns services s x.service)
-      (λ e. let parts = and_parts (had s post) (replies_to post answer) e in replied_turns post answer parts.0 parts.1 stands) (λ _. no_turn services s flights)
+  -- ---- all events
+
+  pub event_turns : (e : Event) → TurnsWhere services s e → Turns services s (event s e).service
+  event_turns (events.Arrive o q i) stands = (arrive_moves services s fits flights o q i stands).turns
+  event_turns (events.CallAnswered id a) of = (call_answered_moves services s fits flights id a of.0 of.1).1.turns
+  event_turns (events.CallFailed id n why) _ = (call_failed_moves services s fits flights id n why).1.turns
+  event_turns (events.Abandon id) _ = abandoned_turns (flight_of id s)
+  event_turns (events.Take set i) of = (take_takes set of.0 of.1 i).turns
+  event_turns (events.TakeAnswer a) of = (take_answer_hears a of.0 of.1).turns
+  event_turns (events.NextPost dest) _ = no_turn services s flights
+  event_turns (events.WritePost name) _ = no_turn services s flights
+  event_turns (events.Posted post reply) stands =
+      posted_either s post reply (λ x. Turns services s x.service) (no_turn services s flights) (λ has is. replied_turns post reply has is stands)
+  event_turns events.Step _ = step_by_turns (stale_in (answers s) (base s) s.entries)
+  event_turns (events.Order command token who i) _ = order_where_turns command token who i (ordered token s.journal)
 
   -- ---- a post is written
 

@@ -14,22 +14,23 @@ use Rattle.repair_messages.specs.declared.messages.SetMessage.{SetMessage}
 use Rattle.repair_messages.specs.declared.posts.Post.{Post}
 use Rattle.repair_messages.specs.declared.posts.Post.TheVariants.{Set as SetPost, Answer as AnswerPost}
 use Rattle.repair_messages.specs.declared.posts.PostName.{PostName}
-use Rattle.journal_rows.specs.declared.orders.Command.{Command}
 use Rattle.journal_rows.specs.declared.row.Row.{Row}
 use Rattle.call_registers.specs.declared.register.Why.{Why}
 use Rattle.call_registers.specs.declared.register.Why.TheVariants.{Lost, Refused as WasRefused}
 use Rattle.flights.specs.declared.flight.Flight.{Flight}
 use Rattle.service_events.specs.State.{Kept, After, me, flight_of}
 use Rattle.service_events.specs.Arriving.{arrive_event, call_answered_event, call_failed_event}
+use Rattle.service_events.specs.Event.{event}
 use Rattle.service_events.specs.Fits.{Fits}
 use Rattle.service_events.specs.Messages.{take_event, take_answer_event}
 use Rattle.service_events.specs.Posts.{next_post, write_post}
 use Rattle.service_events.specs.declared.answers.Arrived.{Arrived}
 use Rattle.service_events.specs.declared.answers.Arrived.TheVariants.{Done, Call as Sends, Known}
 use Rattle.service_events.specs.declared.answers.Heard.{Heard}
-use Rattle.service_events.specs.declared.answers.PostReply.{PostReply}
 use Rattle.service_events.specs.declared.answers.PostReply.TheVariants.{Lost as PostIsLost}
 use Rattle.service_events.specs.declared.answers.Taken.{Taken}
+use Rattle.service_events.specs.declared.event.Event.{Event as ServiceEvent}
+use Rattle.service_events.specs.declared.event.Event.TheVariants as service_event
 use Rattle.service_events.specs.declared.refusals.AnswerRefused.{AnswerRefused}
 use Rattle.service_events.specs.declared.refusals.AnswerRefused.TheVariants as answer
 use Rattle.service_events.specs.declared.refusals.ArriveRefused.{ArriveRefused}
@@ -37,8 +38,8 @@ use Rattle.service_events.specs.declared.refusals.ArriveRefused.TheVariants as a
 use Rattle.service_events.specs.declared.refusals.TakeRefused.{TakeRefused}
 use Rattle.service_events.specs.declared.refusals.TakeRefused.TheVariants as take
 use Rattle.service_events.proofs.CallLaws.{IsFew}
+use Rattle.service_events.proofs.EventLaws.{event_fits}
 use Rattle.service_events.proofs.SearchLemmas.{text_is, found_all}
-use Rattle.service_parts.proofs.FitLaws.{arrive_fits, call_answered_fits, call_failed_fits, abandon_fits, step_fits, take_fits, take_answer_fits, posted_fits, order_fits}
 use Rattle.world_agreement.specs.Partners.{has_name, service_of, NamesDiffer, IsJoined, JournalOf, HasSent, HasAcked, HasAnswered, HasConfirmed}
 use Rattle.world_agreement.proofs.ListLemmas.{found_in, found_passes}
 use Rattle.world_agreement.proofs.NameLemmas.{name_is}
@@ -58,7 +59,7 @@ use Rattle.world_events.specs.declared.packet.Packet.TheVariants.{Call, CallRepl
 use Rattle.world_laws.proofs.LiveTurns.{SaysOr, Moves, arrive_moves, call_answered_moves, call_failed_moves}
 use Rattle.world_laws.proofs.LivedLaws.{IsGiven, IsSent}
 use Rattle.world_laws.proofs.PutLemmas.{put, with_is_put, same_name, grew_put, found_put}
-use Rattle.world_laws.proofs.RepairTurns.{step_turns, order_turns, abandon_turns, take_takes, take_answer_hears, posted_turns, StandsHere, written_here, SaysAcked, SaysHeard}
+use Rattle.world_laws.proofs.RepairTurns.{TurnsWhere, event_turns, take_takes, take_answer_hears, StandsHere, written_here, SaysAcked, SaysHeard}
 use Rattle.world_laws.proofs.StillLemmas.{packet_still}
 use Rattle.world_laws.proofs.TurnLaws.{Turns, no_turn, sound_put}
 
@@ -145,7 +146,7 @@ module _ (services : List Kept) (packets : List Packet) (h : AreSound services p
   pub arrive_served_owes : (q : Request) (i : Inputs) → Owes services name s (arrive_served packets q s i)
   arrive_served_owes q i =
       let m = arrive_moves services s fits flights Outside q i tt in
-      live_owes Outside (arrive_event s Outside q i) what.Arrive (reply_among packets) unsaid m (arrive_fits s Outside q i fits)
+      live_owes Outside (arrive_event s Outside q i) what.Arrive (reply_among packets) unsaid m (event_fits s (service_event.Arrive Outside q i) fits)
       (λ a given. reply_stands (arrive_event s Outside q i).service m.turns Outside a given (find (is_call_of a.caller a.number) packets) refl) (λ why. tt)
 
   refusal_stands : (call : SetMessage) (flight : ℕ) (t : Kept) (why : ArriveRefused) → PacketStands (put name t services) (CallReply call.caller flight call.number (live_refusal why))
@@ -167,7 +168,7 @@ module _ (services : List Kept) (packets : List Packet) (h : AreSound services p
       let m = arrive_moves services s fits flights origin q i called_for in
       let t = (arrive_event s origin q i).service in
       live_owes origin (arrive_event s origin q i) what.Arrive (λ a. Some (CallReply call.caller flight call.number (Answer a)))
-      (λ why. Some (CallReply call.caller flight call.number (live_refusal why))) m (arrive_fits s origin q i fits)
+      (λ why. Some (CallReply call.caller flight call.number (live_refusal why))) m (event_fits s (service_event.Arrive origin q i) fits)
       (λ a given. (caller_is a given.from, given_stands t m.turns origin a given)) (λ why. refusal_stands call flight t why)
     where
       caller_is : (a : AnswerMessage) → CallOrigin call.caller call.number ≡ CallOrigin a.caller a.number → a.caller ≡ call.caller
@@ -176,13 +177,13 @@ module _ (services : List Kept) (packets : List Packet) (h : AreSound services p
   pub call_answered_served_owes : (flight : ℕ) (a : AnswerMessage) → a.caller ≡ name → WasAnswered services a → Owes services name s (call_answered_served packets flight a s)
   call_answered_served_owes flight a caller was =
       let m = call_answered_moves services s fits flights flight a (caller ∙ sym is) was in
-      live_owes m.0 (call_answered_event s flight a) what.CallAnswered (reply_among packets) unsaid m.1 (call_answered_fits s flight a fits)
+      live_owes m.0 (call_answered_event s flight a) what.CallAnswered (reply_among packets) unsaid m.1 (event_fits s (service_event.CallAnswered flight a) fits)
       (λ x given. reply_stands (call_answered_event s flight a).service m.1.turns m.0 x given (find (is_call_of x.caller x.number) packets) refl) (λ why. tt)
 
   pub call_failed_served_owes : (flight n : ℕ) (why : Why) → Owes services name s (call_failed_served packets flight n why s)
   call_failed_served_owes flight n why =
       let m = call_failed_moves services s fits flights flight n why in
-      live_owes m.0 (call_failed_event s flight n why) what.CallFailed (reply_among packets) unsaid m.1 (call_failed_fits s flight n why fits)
+      live_owes m.0 (call_failed_event s flight n why) what.CallFailed (reply_among packets) unsaid m.1 (event_fits s (service_event.CallFailed flight n why) fits)
       (λ x given. reply_stands (call_failed_event s flight n why).service m.1.turns m.0 x given (find (is_call_of x.caller x.number) packets) refl) (λ why. tt)
 
   -- ---- repair
@@ -194,7 +195,7 @@ module _ (services : List Kept) (packets : List Packet) (h : AreSound services p
   take_served_owes call i was dest =
       let a = take_event s call i in
       let m = take_takes services s fits flights call was (dest ∙ sym is) i in
-      record { turns = m.turns; fits = take_fits s call i fits; packet = (post_later a.service m.turns (SetPost call) was, said a.service m.turns a.answer m.says) }
+      record { turns = m.turns; fits = event_fits s (service_event.Take call i) fits; packet = (post_later a.service m.turns (SetPost call) was, said a.service m.turns a.answer m.says) }
     where
       said : (t : Kept) → Turns services s t → (r : Result Taken TakeRefused) → SaysAcked services s fits flights call t r → PostReplyStands (put name t services) (set_reply r)
       said t turns (Ok taken) says =
@@ -209,7 +210,7 @@ module _ (services : List Kept) (packets : List Packet) (h : AreSound services p
   take_answer_served_owes a caller was =
       let x = take_answer_event s a in
       let m = take_answer_hears services s fits flights a (caller ∙ sym is) was in
-      record { turns = m.turns; fits = take_answer_fits s a fits; packet = (post_later x.service m.turns (AnswerPost a) was, said x.service m.turns x.answer m.says) }
+      record { turns = m.turns; fits = event_fits s (service_event.TakeAnswer a) fits; packet = (post_later x.service m.turns (AnswerPost a) was, said x.service m.turns x.answer m.says) }
     where
       said : (t : Kept) → Turns services s t → (r : Result Heard AnswerRefused) → SaysHeard services s fits flights a t r → PostReplyStands (put name t services) (answer_reply r)
       said t turns (Ok heard) says =
@@ -218,10 +219,6 @@ module _ (services : List Kept) (packets : List Packet) (h : AreSound services p
       said t turns (Err answer.NoMemory) says = tt
       said t turns (Err (answer.Unknown n)) says = tt
       said t turns (Err (answer.Denied n)) says = tt
-
-  posted_served_owes : (post : Post) (reply : PostReply) → PostReplyStands services reply → Owes services name s (posted_served post reply s)
-  posted_served_owes post reply stands =
-      record { turns = posted_turns services s fits flights post reply stands; fits = posted_fits s post reply fits; packet = tt }
 
   next_post_written_owes : (o : Option PostName) → Owes services name s (next_post_written s o)
   next_post_written_owes None = record { turns = no_turn services s flights; fits = λ _. fits; packet = tt }
@@ -237,15 +234,10 @@ module _ (services : List Kept) (packets : List Packet) (h : AreSound services p
       said None says = tt
       said (Some post) says = here_stands post says
 
-  repair_step_served_owes : Owes services name s (repair_step_served s)
-  repair_step_served_owes = record { turns = step_turns services s fits flights; fits = step_fits s fits; packet = tt }
+  -- ---- an event for which nothing is written
 
-  pub abandon_served_owes : (flight : ℕ) → Owes services name s (abandon_served flight s)
-  abandon_served_owes flight = record { turns = abandon_turns services s fits flights flight; fits = abandon_fits s flight fits; packet = tt }
-
-  order_served_owes : (command : Command) (token who : List ℕ) (i : Inputs) → Owes services name s (order_served command token who s i)
-  order_served_owes command token who i =
-      record { turns = order_turns services s fits flights command token who i; fits = order_fits s command token who i fits; packet = tt }
+  pub unwritten_owes : (e : ServiceEvent) → TurnsWhere services s e → (told : What) → Owes services name s (record { service = (event s e).service; what = told; packet = None })
+  unwritten_owes e stands told = record { turns = event_turns services s fits flights e stands; fits = event_fits s e fits; packet = tt }
 
 -- ---- a world
 
@@ -293,7 +285,8 @@ module _ (w : World) (h : IsSound w) where
   delivered_sound number (Some (CallReply to flight call_number reply)) stands = reply_sound to flight call_number reply stands
   delivered_sound number (Some (PostPacket post)) stands = post_sound post stands
   delivered_sound number (Some (PostReplyPacket post reply)) stands =
-      sound_at (sender post) w refl refl (posted_served post reply) (λ s found. posted_served_owes w.services w.packets h (sender post) s found post reply stands.1)
+      sound_at (sender post) w refl refl (posted_served post reply)
+      (λ s found. unwritten_owes w.services w.packets h (sender post) s found (service_event.Posted post reply) stands.1 (posted_served post reply s).what)
 
   call_lost_sound : (name : List ℕ) (flight : ℕ) (number : ℕ) → Keeps (call_lost w name flight number)
   call_lost_sound name flight number =
@@ -303,7 +296,7 @@ module _ (w : World) (h : IsSound w) where
   post_lost_sound : (post : Post) → Keeps (post_lost w post)
   post_lost_sound post =
       sound_at (sender post) (once_lost w) refl refl (posted_served post (PostIsLost (loss_note w)))
-      (λ s found. posted_served_owes w.services w.packets h (sender post) s found post (PostIsLost (loss_note w)) tt)
+      (λ s found. unwritten_owes w.services w.packets h (sender post) s found (service_event.Posted post (PostIsLost (loss_note w))) tt (posted_served post (PostIsLost (loss_note w)) s).what)
 
   lost_sound : (number : ℕ) (p : Option Packet) → Keeps (lost w number p)
   lost_sound number None = λ few. h
@@ -335,7 +328,8 @@ module _ (w : World) (h : IsSound w) where
       by_flight : (s : Kept) → service_of name w.services ≡ Some s → (o : Option Flight) → Keeps (if_flying w flight o (turned name w (abandon_served flight s)))
       by_flight s found None few = h
       by_flight s found (Some f) few =
-          sound_served w.services w.packets h name s found (abandon_served flight s) (abandon_served_owes w.services w.packets h name s found flight) few
+          sound_served w.services w.packets h name s found (abandon_served flight s)
+          (unwritten_owes w.services w.packets h name s found (service_event.Abandon flight) tt (abandon_served flight s).what) few
 
       by_service : (o : Option Kept) → service_of name w.services ≡ o
           → Keeps (if_there o (refused w NoService) (λ s. if_flying w flight (flight_of flight s) (turned name w (abandon_served flight s))))
@@ -349,11 +343,11 @@ module _ (w : World) (h : IsSound w) where
   turn_sound (Deliver number) = delivered_sound number (packet_of number w) (found_packet number)
   turn_sound (Lose number) = lost_sound number (packet_of number w)
   turn_sound (Posts from to) = posted_sound from to
-  turn_sound (Step name) = sound_at name w refl refl repair_step_served (λ s found. repair_step_served_owes w.services w.packets h name s found)
+  turn_sound (Step name) = sound_at name w refl refl repair_step_served (λ s found. unwritten_owes w.services w.packets h name s found service_event.Step tt (repair_step_served s).what)
   turn_sound (Abandon name flight) = abandoned_sound name flight
   turn_sound (Order name command token who) =
       sound_at name (once_drawn w) refl refl (λ s. order_served command token who s (next_inputs w))
-      (λ s found. order_served_owes w.services w.packets h name s found command token who (next_inputs w))
+      (λ s found. unwritten_owes w.services w.packets h name s found (service_event.Order command token who (next_inputs w)) tt (order_served command token who s (next_inputs w)).what)
   turn_sound (Clock moment) = λ few. h
   turn_sound (Seed n) = λ few. h
 
