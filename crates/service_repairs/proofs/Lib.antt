@@ -2,4 +2,5 @@ pub mod BookLemmas
 mod StepDraftLemmas
 pub mod OrderLemmas
 mod RepairLemmas
+mod DraftedLemmas
 pub mod DoneLemmas

@@ -1,3 +1,4 @@
 pub mod Books
+pub mod Resolving
 pub mod Ordering
 pub mod Answers

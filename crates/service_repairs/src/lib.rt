@@ -7,6 +7,7 @@ mod book;
 mod order_drafts;
 mod ordering;
 mod repairing;
+mod resolving;
 mod settling;
 mod step_drafts;
 

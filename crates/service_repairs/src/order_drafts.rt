@@ -1,17 +1,19 @@
 // The orders of operators.
 ghost use Rattle.std.specs.Prelude.{◌≡◌, ◌+◌, ◌<◌, ◌≤◌, [], ◌∷◌, ◌++◌, None, IfOk, OnOk, OnErr, find, insert, length, option_map};
+ghost use Rattle.std.specs.Option.{option_copied};
 ghost use Rattle.request_log.specs.Entries.{changed, has_id, replace, IsNew, with_call};
 ghost use Rattle.create_placement.specs.Placement.{created, place_between};
-ghost use Rattle.service_events.specs.State.{next_id};
 ghost use Rattle.service_events.specs.Calls.{noted};
-ghost use Rattle.service_events.specs.Orders.{about, asked_rows, carried_out, order_rows, order_rule, original, released_post, repaired, request_of, unless_held, hold_on};
+ghost use Rattle.service_events.specs.Orders.{carried_out, hold_on, released_post, request_of, unless_held};
 ghost use Rattle.service_parts.specs.Parts.{kept};
 ghost use Rattle.service_parts.specs.Rooms.{aloft};
 ghost use Rattle.service_parts.specs.Drafts.{TellNoCall};
-ghost use Rattle.service_repairs.specs.Ordering.{MayOrder};
+ghost use Rattle.service_repairs.specs.Ordering.{MayOrder, allowed_rows, made_rows};
+ghost use Rattle.service_repairs.specs.Resolving.{put_request, resolved};
 
+use crate::resolving::{Put, Resolved, put_like, request_of};
 use create_placement::place;
-use journal_rows::{About, AskedRow, Command, OrderedRow, Row};
+use journal_rows::{AskedRow, Command, OrderedRow, Row};
 use lang_base::both;
 use lang_core::{Copied, Inputs, Method, NoMemory, Origin, Request, Seq, Shared, Text};
 use local_repair::Repairer;
@@ -20,44 +22,17 @@ use request_log::{Entry, KeptEntry, Log};
 use service_parts::{Parts, created, insert, next_id, next_in, push_rows, reserve};
 use std::alloc::Global;
 
-/// What an order is about.
-pub fn about(parts: &Parts, command: &Command) -> About
-    ensures { result ≡ about (kept parts.now) command.now }
-{
-    match command {
-        Command::Cancel(id) => About::Request(*id),
-        Command::Restore(id) => About::Request(*id),
-        Command::Replace { id, .. } => About::Request(*id),
-        Command::Create { .. } => About::Request(next_id(parts)),
-        Command::Retry(name) => About::Post(*name),
-    }
-}
-
 // ---- its rows
 
-// The request of the entry of a number, if there is one.
-fn found_request(alloc: Global, parts: &Parts, id: u64) -> Result<Option<Request>, NoMemory>
-    ensures { IfOk result (λ q. q ≡ request_of id (kept parts.now)) }
+fn copied_request(alloc: Global, found: Option<&Request>) -> Result<Option<Request>, NoMemory>
+    ensures { IfOk result (λ q. q ≡ option_copied found.entry) }
 {
-    match parts.repairer.log().find(id) {
+    match found {
         None => Ok(None),
-        Some(entry) => {
-            let request = entry.request.get().copied(alloc)?;
+        Some(request) => {
+            let request = request.copied(alloc)?;
             Ok(Some(request))
         }
-    }
-}
-
-// The request that an order found.
-fn original(alloc: Global, parts: &Parts, command: &Command) -> Result<Option<Request>, NoMemory>
-    ensures { IfOk result (λ q. q ≡ original (kept parts.now) command.now) }
-{
-    match command {
-        Command::Cancel(id) => found_request(alloc, parts, *id),
-        Command::Restore(id) => found_request(alloc, parts, *id),
-        Command::Replace { id, .. } => found_request(alloc, parts, *id),
-        Command::Create { .. } => Ok(None),
-        Command::Retry(_) => Ok(None),
     }
 }
 
@@ -82,94 +57,60 @@ fn with_call(
     })
 }
 
-fn replaced_request(
-    alloc: Global,
-    parts: &Parts,
-    id: u64,
-    method: Method,
-    path: &Text,
-    body: &Text,
-) -> Result<Option<Request>, NoMemory>
-    ensures { IfOk result (λ q. q ≡ option_map (with_call method path.now body.now) (request_of id (kept parts.now))) }
+// The request that an order puts in its place.
+fn repaired(alloc: Global, put: &Option<Put<'_>>) -> Result<Option<Request>, NoMemory>
+    ensures { IfOk result (λ q. q ≡ option_map put_request put.now) }
 {
-    match parts.repairer.log().find(id) {
+    match put {
         None => Ok(None),
-        Some(entry) => {
-            let request = with_call(alloc, entry.request.get(), method, path, body)?;
+        Some(put) => {
+            let request = with_call(alloc, put.like, put.method, put.path, put.body)?;
             Ok(Some(request))
         }
     }
 }
 
-fn created_request(alloc: Global, request: &Request) -> Result<Option<Request>, NoMemory>
-    ensures { IfOk result (λ q. q ≡ Some request.now) }
-{
-    let request = request.copied(alloc)?;
-    Ok(Some(request))
-}
-
-// The request that an order puts in its place.
-fn repaired(alloc: Global, parts: &Parts, command: &Command) -> Result<Option<Request>, NoMemory>
-    ensures { IfOk result (λ q. q ≡ repaired (kept parts.now) command.now) }
-{
-    match command {
-        Command::Replace {
-            id,
-            method,
-            path,
-            body,
-        } => replaced_request(alloc, parts, *id, *method, path, body),
-        Command::Create { request, .. } => created_request(alloc, request),
-        Command::Cancel(_) => Ok(None),
-        Command::Restore(_) => Ok(None),
-        Command::Retry(_) => Ok(None),
-    }
-}
-
 fn requests(
     alloc: Global,
-    parts: &Parts,
-    command: &Command,
+    order: &Resolved<'_>,
 ) -> Result<(Option<Request>, Option<Request>), NoMemory>
-    ensures { IfOk result (λ q. (q.0 ≡ original (kept parts.now) command.now) × (q.1 ≡ repaired (kept parts.now) command.now)) }
+    ensures { IfOk result (λ q. (q.0 ≡ (resolved order.now).original) × (q.1 ≡ (resolved order.now).repaired)) }
 {
-    let original = original(alloc, parts, command)?;
-    let repaired = repaired(alloc, parts, command)?;
+    let original = copied_request(alloc, order.original)?;
+    let repaired = repaired(alloc, &order.put)?;
     Ok((original, repaired))
 }
 
 // The row of an order that this rule allowed.
 fn ordered(
     alloc: Global,
-    parts: &Parts,
-    command: &Command,
+    order: &Resolved<'_>,
     token: Text,
     who: &Text,
     rule: u32,
 ) -> Result<Row, NoMemory>
     ensures { IfOk result (λ row. row ≡ Row.Ordered (record {
       token = token;
-      command = command.now;
+      command = order.now.command.now;
       who = who.now;
       rule = rule;
-      original = original (kept parts.now) command.now;
-      repaired = repaired (kept parts.now) command.now;
-      about = about (kept parts.now) command.now;
+      original = (resolved order.now).original;
+      repaired = (resolved order.now).repaired;
+      about = order.now.about;
     })) }
 {
-    let about = about(parts, command);
-    let (original, repaired) = requests(alloc, parts, command)?;
-    let (command, who) = copied_pair(alloc, command, who)?;
-    let order = OrderedRow {
+    let (original, repaired) = requests(alloc, order)?;
+    let (command, who) = copied_pair(alloc, order.command, who)?;
+    let row = OrderedRow {
         token,
         command,
         who,
         rule,
         original,
         repaired,
-        about,
+        about: order.about,
     };
-    Row::ordered(alloc, order)
+    Row::ordered(alloc, row)
 }
 
 fn asked(alloc: Global, id: u64, request: &Request, inputs: Inputs) -> Result<Row, NoMemory>
@@ -189,41 +130,37 @@ fn asked(alloc: Global, id: u64, request: &Request, inputs: Inputs) -> Result<Ro
 fn push_asked(
     alloc: Global,
     parts: &Parts,
-    command: &Command,
+    created: Option<&Request>,
     inputs: Inputs,
     rows: &mut Vec<Row>,
 ) -> Result<(), NoMemory>
-    ensures { OnOk result (rows.new.items ≡ rows.old.items ++ asked_rows (kept parts.now) command.now inputs) }
+    ensures { OnOk result (rows.new.items ≡ rows.old.items ++ made_rows (kept parts.now) (option_copied created.entry) inputs) }
 {
-    match command {
-        Command::Create { request, .. } => {
+    match created {
+        Some(request) => {
             rows.push(asked(alloc, next_id(parts), request, inputs)?)?;
             Ok(())
         }
-        Command::Cancel(_) => Ok(()),
-        Command::Restore(_) => Ok(()),
-        Command::Replace { .. } => Ok(()),
-        Command::Retry(_) => Ok(()),
+        None => Ok(()),
     }
 }
 
-// The rows of an order that this rule allowed.
-fn order_rows(
+/// The rows of an order that this rule allowed.
+pub(crate) fn order_rows(
     alloc: Global,
     parts: &Parts,
-    command: &Command,
+    order: &Resolved<'_>,
     token: Text,
     who: &Text,
     inputs: Inputs,
     rule: u32,
 ) -> Result<Vec<Row>, NoMemory>
-    requires { rule ≡ order_rule (kept parts.now) command.now who.now }
-    ensures { IfOk result (λ rows. rows.items ≡ order_rows (kept parts.now) command.now token who.now inputs) }
+    ensures { IfOk result (λ rows. rows.items ≡ allowed_rows (kept parts.now) (resolved order.now) token who.now inputs rule) }
 {
-    let row = ordered(alloc, parts, command, token, who, rule)?;
+    let row = ordered(alloc, order, token, who, rule)?;
     let mut rows = Vec::new(alloc);
     rows.push(row)?;
-    push_asked(alloc, parts, command, inputs, &mut rows)?;
+    push_asked(alloc, parts, order.created, inputs, &mut rows)?;
     Ok(rows)
 }
 
@@ -271,6 +208,21 @@ fn release(parts: &mut Parts, name: PostName, who: Text)
         PostName::Call(number) => parts.registers.release(number, who),
         PostName::Reply(id) => parts.replies.release_reply(id, who),
     }
+}
+
+// The request of the entry of a number, with another method, path and body.
+fn replaced_request(
+    alloc: Global,
+    parts: &Parts,
+    id: u64,
+    method: Method,
+    path: &Text,
+    body: &Text,
+) -> Result<Option<Request>, NoMemory>
+    ensures { IfOk result (λ q. q ≡ option_map (with_call method path.now body.now) (request_of id (kept parts.now))) }
+{
+    let put = put_like(request_of(parts, id), method, path, body);
+    repaired(alloc, &put)
 }
 
 // Gives the entry of a number another method, path and body. Refused, nothing changes.
@@ -339,8 +291,8 @@ fn carry_out(
     }
 }
 
-// Carries an order out, and puts its rows last. Refused, nothing changes.
-fn put_order(
+/// Carries an order out, and puts its rows last. Refused for want of memory, nothing changes.
+pub(crate) fn put_order(
     alloc: Global,
     parts: &mut Parts,
     rows: Vec<Row>,
@@ -360,25 +312,4 @@ fn put_order(
     carry_out(alloc, parts, command, who, inputs)?;
     push_rows(&mut parts.journal, rows);
     Ok(())
-}
-
-/// Carries out an order that this rule allowed, and notes it. Refused for want of memory, nothing changes.
-pub fn accept(
-    alloc: Global,
-    parts: &mut Parts,
-    command: Command,
-    token: Text,
-    who: Text,
-    inputs: Inputs,
-    rule: u32,
-) -> Result<(), NoMemory>
-    requires may { MayOrder (kept parts.old) command }
-    requires rule { rule ≡ order_rule (kept parts.old) command who }
-    requires room { aloft parts.old.flights.list ≤ parts.old.journal.spare }
-    ensures ok { OnOk result (kept parts.new ≡ noted (order_rows (kept parts.old) command token who inputs) (carried_out (kept parts.old) command who inputs)) }
-    ensures err { OnErr result (kept parts.new ≡ kept parts.old) }
-    ensures room { aloft parts.new.flights.list ≤ parts.new.journal.spare }
-{
-    let rows = order_rows(alloc, parts, &command, token, &who, inputs, rule)?;
-    put_order(alloc, parts, rows, command, who, inputs)
 }

@@ -1,0 +1,62 @@
+-- What an operator's command comes to in a service: all that is asked of it before it is carried out.
+use Rattle.std.specs.Prelude.{Option, Some, None, option_map}
+use Rattle.std.specs.Option.{option_copied}
+use Rattle.lang_core.specs.declared.request.Request.{Request}
+use Rattle.request_log.specs.Entries.{with_call}
+use Rattle.repair_messages.specs.declared.kinds.Kind.{Kind}
+use Rattle.journal_rows.specs.declared.orders.About.{About}
+use Rattle.journal_rows.specs.declared.orders.Command.{Command}
+use Rattle.journal_rows.specs.declared.orders.Command.TheVariants.{Create}
+use Rattle.service_events.specs.State.{Kept}
+use Rattle.service_events.specs.Orders.{about, misnamed, original, repaired, subject}
+use Rattle.service_events.specs.Questions.{command_kind}
+use Rattle.service_events.specs.declared.refusals.OrderRefused.{OrderRefused}
+use Rattle.service_repairs.specs.declared.resolving.Put.{Put}
+use Rattle.service_repairs.specs.declared.resolving.Resolved.{Resolved}
+
+-- a command, with the answers to all that is asked of it
+pub record Resolution : Type 0 where
+  pub command : Command
+  pub misnamed : Option OrderRefused
+  pub kind : Kind
+  pub about : About
+  pub subject : Option Request
+  pub original : Option Request
+  pub repaired : Option Request
+  pub created : Option Request
+
+-- the request of the entry that a command makes
+abbrev pub request_created : Command → Option Request
+request_created (Create before after q) = Some q
+request_created command = None
+
+abbrev pub resolution : Kept → Command → Resolution
+resolution s command =
+    record {
+      command = command;
+      misnamed = misnamed s command;
+      kind = command_kind command;
+      about = about s command;
+      subject = subject s command;
+      original = original s command;
+      repaired = repaired s command;
+      created = request_created command;
+    }
+
+-- ---- as the code holds it
+
+abbrev pub put_request : Put → Request
+put_request p = with_call p.method p.path.now p.body.now p.like.now
+
+abbrev pub resolved : Resolved → Resolution
+resolved r =
+    record {
+      command = r.command.now;
+      misnamed = r.misnamed;
+      kind = r.kind;
+      about = r.about;
+      subject = option_copied r.subject;
+      original = option_copied r.original;
+      repaired = option_map put_request r.put;
+      created = option_copied r.created;
+    }

@@ -1,0 +1,295 @@
+// What an operator's command comes to in a service: all that is asked of it before it is carried out, answered once.
+ghost use Rattle.std.specs.Prelude.{◌≡◌, None, Some, option_map};
+ghost use Rattle.std.specs.Option.{option_copied};
+ghost use Rattle.lang_core.specs.declared.request.Request.{Request};
+ghost use Rattle.request_log.specs.Entries.{with_call};
+ghost use Rattle.request_log.specs.declared.entry.Entry.{Entry};
+ghost use Rattle.service_events.specs.State.{next_id};
+ghost use Rattle.service_events.specs.Orders.{entry_of, hold_on, request_of, request_retried, subject, unless_held, unless_outside, unless_replaced, unless_there};
+ghost use Rattle.service_parts.specs.Parts.{kept};
+ghost use Rattle.service_repairs.specs.Resolving.{put_request, resolution, resolved};
+
+use call_registers::Hold;
+use journal_rows::{About, Command};
+use lang_core::{Method, Origin, Request, Text};
+use repair_messages::{Kind, PostName};
+use request_log::Entry;
+use service_events::OrderRefused;
+use service_parts::{Parts, next_id};
+
+/// The request that a command puts: with this method, path and body, and all else as in one that there is.
+#[derive(Clone, Copy, Drop)]
+pub(crate) struct Put<'a> {
+    pub(crate) like: &'a Request,
+    pub(crate) method: Method,
+    pub(crate) path: &'a Text,
+    pub(crate) body: &'a Text,
+}
+
+/// A command, with the answers to all that is asked of it.
+#[derive(Drop)]
+pub(crate) struct Resolved<'a> {
+    pub(crate) command: &'a Command,
+    /// Why it can't be about what it names.
+    pub(crate) misnamed: Option<OrderRefused>,
+    /// What rules take it for: cancelling asks as a deletion does, restoring as a creation.
+    pub(crate) kind: Kind,
+    pub(crate) about: About,
+    /// The request that rules are asked about: that of the entry or of the post that it names.
+    pub(crate) subject: Option<&'a Request>,
+    /// The request that it finds, where it is about an entry.
+    pub(crate) original: Option<&'a Request>,
+    /// The request that it puts in place of that, or as a new entry.
+    pub(crate) put: Option<Put<'a>>,
+    /// The request of the entry that it makes.
+    pub(crate) created: Option<&'a Request>,
+}
+
+// ---- why it can't be about what it names
+
+fn unless_there(id: u64, entry: Option<&Entry>) -> Option<OrderRefused>
+    ensures { result ≡ unless_there id (option_copied entry.entry) }
+{
+    match entry {
+        None => Some(OrderRefused::NoSuchRequest(id)),
+        Some(_) => None,
+    }
+}
+
+fn unless_outside(id: u64, origin: &Origin) -> Option<OrderRefused>
+    ensures { result ≡ unless_outside id origin.now }
+{
+    match origin {
+        Origin::Outside => None,
+        Origin::Call { .. } => Some(OrderRefused::NotOutside(id)),
+    }
+}
+
+fn unless_replaced(id: u64, entry: Option<&Entry>) -> Option<OrderRefused>
+    ensures { result ≡ unless_replaced id (option_copied entry.entry) }
+{
+    match entry {
+        None => Some(OrderRefused::NoSuchRequest(id)),
+        Some(entry) => unless_outside(id, &entry.origin),
+    }
+}
+
+fn hold_on(parts: &Parts, name: PostName) -> Option<Hold>
+    ensures { result ≡ hold_on (kept parts.now) name }
+{
+    match name {
+        PostName::Call(number) => match parts.registers.get(number) {
+            None => None,
+            Some(register) => register.held,
+        },
+        PostName::Reply(id) => match parts.replies.get(id) {
+            None => None,
+            Some(reply) => reply.held,
+        },
+    }
+}
+
+fn unless_held(parts: &Parts, name: PostName) -> Option<OrderRefused>
+    ensures { result ≡ unless_held (hold_on (kept parts.now) name) }
+{
+    match hold_on(parts, name) {
+        None => Some(OrderRefused::NotHeld),
+        Some(_) => None,
+    }
+}
+
+// ---- requests
+
+fn request_in(entry: Option<&Entry>) -> Option<&Request>
+    ensures { option_copied result ≡ option_map (λ (e : Entry). e.request) (option_copied entry.entry) }
+{
+    match entry {
+        None => None,
+        Some(entry) => Some(entry.request.get()),
+    }
+}
+
+/// The request of the entry of this number, if there is one.
+pub(crate) fn request_of(parts: &Parts, id: u64) -> Option<&Request>
+    ensures { option_copied result ≡ request_of id (kept parts.now) }
+{
+    request_in(parts.repairer.log().find(id))
+}
+
+// The request that a retried call asks, where it asks something.
+fn request_retried(parts: &Parts, number: u64) -> Option<&Request>
+    ensures { option_copied result ≡ request_retried number (kept parts.now) }
+{
+    match parts.registers.get(number) {
+        None => None,
+        Some(register) => register.desired.as_ref(),
+    }
+}
+
+fn request_posted(parts: &Parts, name: PostName) -> Option<&Request>
+    ensures { option_copied result ≡ subject (kept parts.now) (Command.Retry name) }
+{
+    match name {
+        PostName::Call(number) => request_retried(parts, number),
+        PostName::Reply(id) => request_of(parts, id),
+    }
+}
+
+/// This request with another method, path and body, where there is one.
+pub(crate) fn put_like<'a>(
+    found: Option<&'a Request>,
+    method: Method,
+    path: &'a Text,
+    body: &'a Text,
+) -> Option<Put<'a>>
+    ensures { option_map put_request result ≡ option_map (with_call method path.now body.now) (option_copied found.entry) }
+{
+    match found {
+        None => None,
+        Some(like) => Some(Put {
+            like,
+            method,
+            path,
+            body,
+        }),
+    }
+}
+
+fn put_whole(request: &Request) -> Put<'_>
+    ensures { put_request result ≡ request.now }
+{
+    Put {
+        like: request,
+        method: request.method,
+        path: &request.path,
+        body: &request.body,
+    }
+}
+
+// ---- commands
+
+// One that strikes an entry, or takes that back.
+fn marking<'a>(parts: &'a Parts, command: &'a Command, id: u64, kind: Kind) -> Resolved<'a>
+    ensures { resolved result ≡ record {
+      command = command.now;
+      misnamed = unless_there id (entry_of id (kept parts.now));
+      kind = kind;
+      about = About.Request id;
+      subject = request_of id (kept parts.now);
+      original = request_of id (kept parts.now);
+      repaired = None;
+      created = None;
+    } }
+{
+    let entry = parts.repairer.log().find(id);
+    let found = request_in(entry);
+    Resolved {
+        command,
+        misnamed: unless_there(id, entry),
+        kind,
+        about: About::Request(id),
+        subject: found,
+        original: found,
+        put: None,
+        created: None,
+    }
+}
+
+fn replacing<'a>(
+    parts: &'a Parts,
+    command: &'a Command,
+    id: u64,
+    method: Method,
+    path: &'a Text,
+    body: &'a Text,
+) -> Resolved<'a>
+    ensures { resolved result ≡ record {
+      command = command.now;
+      misnamed = unless_replaced id (entry_of id (kept parts.now));
+      kind = Kind.Replace;
+      about = About.Request id;
+      subject = request_of id (kept parts.now);
+      original = request_of id (kept parts.now);
+      repaired = option_map (with_call method path.now body.now) (request_of id (kept parts.now));
+      created = None;
+    } }
+{
+    let entry = parts.repairer.log().find(id);
+    let found = request_in(entry);
+    Resolved {
+        command,
+        misnamed: unless_replaced(id, entry),
+        kind: Kind::Replace,
+        about: About::Request(id),
+        subject: found,
+        original: found,
+        put: put_like(found, method, path, body),
+        created: None,
+    }
+}
+
+fn creating<'a>(parts: &'a Parts, command: &'a Command, request: &'a Request) -> Resolved<'a>
+    ensures { resolved result ≡ record {
+      command = command.now;
+      misnamed = None;
+      kind = Kind.Create;
+      about = About.Request (next_id (kept parts.now));
+      subject = None;
+      original = None;
+      repaired = Some request.now;
+      created = Some request.now;
+    } }
+{
+    Resolved {
+        command,
+        misnamed: None,
+        kind: Kind::Create,
+        about: About::Request(next_id(parts)),
+        subject: None,
+        original: None,
+        put: Some(put_whole(request)),
+        created: Some(request),
+    }
+}
+
+fn retrying<'a>(parts: &'a Parts, command: &'a Command, name: PostName) -> Resolved<'a>
+    ensures { resolved result ≡ record {
+      command = command.now;
+      misnamed = unless_held (hold_on (kept parts.now) name);
+      kind = Kind.Retry;
+      about = About.Post name;
+      subject = subject (kept parts.now) (Command.Retry name);
+      original = None;
+      repaired = None;
+      created = None;
+    } }
+{
+    Resolved {
+        command,
+        misnamed: unless_held(parts, name),
+        kind: Kind::Retry,
+        about: About::Post(name),
+        subject: request_posted(parts, name),
+        original: None,
+        put: None,
+        created: None,
+    }
+}
+
+/// What a command comes to as the service stands now.
+pub(crate) fn resolve<'a>(parts: &'a Parts, command: &'a Command) -> Resolved<'a>
+    ensures { resolved result ≡ resolution (kept parts.now) command.now }
+{
+    match command {
+        Command::Cancel(id) => marking(parts, command, *id, Kind::Delete),
+        Command::Restore(id) => marking(parts, command, *id, Kind::Create),
+        Command::Replace {
+            id,
+            method,
+            path,
+            body,
+        } => replacing(parts, command, *id, *method, path, body),
+        Command::Create { request, .. } => creating(parts, command, request),
+        Command::Retry(name) => retrying(parts, command, *name),
+    }
+}
