@@ -1,8 +1,7 @@
 -- How much services and the message in hand weigh: a bound on the deliveries that may still follow.
 use Rattle.std.specs.Prelude.{ℕ, zero, suc, ◌+◌, ◌-◌, ◌*◌, ◌<◌, Bool, List, [], ◌∷◌, ◌++◌, Option, Some, None, Result, Ok, Err, if◌then◌else◌, length, sum_by}
-use Rattle.std.specs.List.{list_any}
-use Rattle.lang_base.specs.Texts.{same_text}
 use Rattle.lang_core.specs.declared.request.Request.{Request}
+pub use Rattle.handler_chains.specs.Onward.{is_among, chain_behind}
 use Rattle.flights.specs.declared.flight.Flight.{Flight}
 use Rattle.repair_messages.specs.declared.messages.SetMessage.{SetMessage}
 use Rattle.service_events.specs.State.{Kept, me}
@@ -11,18 +10,10 @@ use Rattle.service_events.specs.declared.answers.Arrived.TheVariants.{Call as Se
 use Rattle.service_events.specs.declared.refusals.ArriveRefused.{ArriveRefused}
 use Rattle.service_events.specs.declared.refusals.CallRefused.{CallRefused}
 
--- whether a name is one of these
-abbrev pub is_among : List ℕ → List (List ℕ) → Bool
-is_among name chain = list_any (λ n. same_text n name) chain
-
 -- how many of these names aren't in a chain
 abbrev pub left_by : List (List ℕ) → List (List ℕ) → ℕ
 left_by chain [] = 0
 left_by chain (n ∷ names) = if is_among n chain then left_by chain names else suc (left_by chain names)
-
--- what a request's chain is for the calls that a service makes for it
-abbrev pub chain_behind : List ℕ → Request → List (List ℕ)
-chain_behind name q = q.chain ++ name ∷ []
 
 -- what a call may cost behind whose callee this many names are left: at most 19 calls of the callee's flight, the flight and its answer
 abbrev pub cost : ℕ → ℕ
