@@ -1,55 +1,20 @@
 -- The parts of a line; none where a part is missing, or isn't of its form.
 use Rattle.std.specs.Prelude.{ℕ, Bool, true, false, ◌&&◌, not, nat_eq, List, [], length, Option, Some, None, if◌then◌else◌, nat_lt, nat_le, ◌==◌, codes}
-use Rattle.std.specs.List.{position_or_len, before_first, after_first, slice_split, list_all}
+use Rattle.std.specs.List.{slice_split, list_all}
 use Rattle.lang_base.specs.Texts.{same_text}
-use Rattle.lang_tree.specs.Forms.{is_path, is_word}
-use Rattle.lang_core.specs.Names.{is_name, is_who}
+use Rattle.lang_tree.specs.Forms.{is_word}
+use Rattle.lang_core.specs.Names.{is_name}
 use Rattle.lang_core.specs.declared.ids.Origin.{Origin}
 use Rattle.lang_core.specs.declared.ids.Origin.TheVariants.{Outside, Call}
 use Rattle.request_names.specs.Ids.{id_of}
+pub use Rattle.request_names.specs.Words.{at_end, cut_at, name_part, path_part, where_good, who_part, with_part, with_word}
 use Rattle.dump_words.specs.Escapes.{unescaped}
-
--- ---- one behind another
-
--- the first word, and what stands behind one space, if there is one
-abbrev pub cut_at : ℕ → List ℕ → List ℕ × Option (List ℕ)
-cut_at sep text =
-    if nat_lt (position_or_len (λ b. b == sep) text) (length text)
-    then (before_first (λ b. b == sep) text, Some (after_first (λ b. b == sep) text)) else (text, None)
-
--- goes on with a part
-abbrev pub with_part : {X Y : Type 0} → Option X → (X → Option Y) → Option Y
-with_part None next = None
-with_part (Some part) next = next part
-
--- goes on with the next word and what stands behind it
-abbrev pub with_word : {X : Type 0} → Option (List ℕ) → (List ℕ → Option (List ℕ) → Option X) → Option X
-with_word None next = None
-with_word (Some rest) next = next (cut_at 32 rest).0 (cut_at 32 rest).1
-
--- goes on where this holds
-abbrev pub where_good : {X : Type 0} → Bool → Option X → Option X
-where_good ok next = if ok then next else None
-
--- goes on where nothing stands behind
-abbrev pub at_end : {X : Type 0} → Option (List ℕ) → Option X → Option X
-at_end None next = next
-at_end (Some rest) next = None
 
 -- a word alone
 abbrev pub alone : Option (List ℕ) → Option (List ℕ)
 alone rest = with_word rest (λ word rest. at_end rest (Some word))
 
 -- ---- words
-
-abbrev pub name_part : List ℕ → Option (List ℕ)
-name_part word = where_good (is_name word) (Some word)
-
-abbrev pub who_part : List ℕ → Option (List ℕ)
-who_part word = where_good (is_who word) (Some word)
-
-abbrev pub path_part : List ℕ → Option (List ℕ)
-path_part word = where_good (is_path word) (Some word)
 
 abbrev pub table_part : List ℕ → Option (List ℕ)
 table_part word = where_good (is_word word) (Some word)

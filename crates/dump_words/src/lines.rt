@@ -8,12 +8,12 @@ ghost use Rattle.dump_words.specs.Parts.{at_end, key_part, table_part};
 
 use crate::line::{Line, LineFault};
 use crate::parts::{
-    alone, body_behind, cut_word, key_part, name_part, names_part, status_part, table_part,
-    text_behind,
+    alone, body_behind, key_part, names_part, status_part, table_part, text_behind,
 };
 use crate::requests::{read_call, read_entry};
 use handler_lang::{ProgramRefused, read_program};
 use lang_core::{Cell, NoMemory, Program, Response, Text};
+use request_names::{cut_word, name_part};
 use std::alloc::Global;
 
 fn read_service(alloc: Global, rest: Option<&str>) -> Result<Option<Line>, NoMemory>

@@ -4,27 +4,15 @@ ghost use Rattle.std.specs.List.{list_all, slice_split};
 ghost use Rattle.std.specs.Option.{option_map};
 ghost use Rattle.lang_core.specs.Names.{is_name};
 ghost use Rattle.request_names.specs.Numbers.{number_of};
-ghost use Rattle.dump_words.specs.Parts.{alone, body_behind, call_origin, cut_at, flag_part, from_one, in_u16, key_part, moment_of, name_part, names_part, origin_part, path_part, table_part, text_behind, where_good, who_part, within};
+ghost use Rattle.dump_words.specs.Parts.{alone, body_behind, call_origin, flag_part, from_one, in_u16, key_part, moment_of, names_part, origin_part, table_part, text_behind, where_good, within};
 
 use crate::escapes::unescaped;
-use lang_core::{
-    LAST_MOMENT, LONGEST_TEXT, Name, Names, NoMemory, Origin, Text, is_path, is_who, is_word,
-};
-use request_names::{id_of, read_number};
+use lang_core::{LAST_MOMENT, LONGEST_TEXT, Names, NoMemory, Origin, Text, is_word};
+use request_names::{cut_word, id_of, name_part, read_number};
 use std::alloc::{AllocError, Global};
 
 /// The most bytes of a key.
 const LONGEST_KEY: u64 = 256;
-
-/// The first word, and what stands behind one space, if there is one.
-pub(crate) fn cut_word(text: &str) -> (&str, Option<&str>)
-    ensures { (result.0.now, option_map (λ x. x.now) result.1) ≡ cut_at 32 text.now }
-{
-    match text.split_once(' ') {
-        Some((word, rest)) => (word, Some(rest)),
-        None => (text, None),
-    }
-}
 
 /// A word alone.
 pub(crate) fn alone(rest: Option<&str>) -> Option<&str>
@@ -35,39 +23,6 @@ pub(crate) fn alone(rest: Option<&str>) -> Option<&str>
         None => Some(word),
         Some(_) => None,
     }
-}
-
-/// A service's name, if the word is one.
-pub(crate) fn name_part(alloc: Global, word: &str) -> Result<Option<Name>, NoMemory>
-    ensures { IfOk result (λ name. name ≡ name_part word.now) }
-{
-    let text = Text::of(alloc, word)?;
-    match Name::new(text) {
-        Ok(name) => Ok(Some(name)),
-        Err(_) => Ok(None),
-    }
-}
-
-/// A user, if the word may name one.
-pub(crate) fn who_part(alloc: Global, word: &str) -> Result<Option<Text>, NoMemory>
-    ensures { IfOk result (λ who. who ≡ who_part word.now) }
-{
-    let who = Text::of(alloc, word)?;
-    if !is_who(&who) {
-        return Ok(None);
-    }
-    Ok(Some(who))
-}
-
-/// A path, if the word is one.
-pub(crate) fn path_part(alloc: Global, word: &str) -> Result<Option<Text>, NoMemory>
-    ensures { IfOk result (λ path. path ≡ path_part word.now) }
-{
-    let path = Text::of(alloc, word)?;
-    if !is_path(&path) {
-        return Ok(None);
-    }
-    Ok(Some(path))
 }
 
 /// A table, if the word may name one.

@@ -5,12 +5,9 @@ ghost use Rattle.dump_words.specs.Lines.{call_at, call_of, cut_asked, cut_call, 
 ghost use Rattle.dump_words.specs.Parts.{body_behind, name_part, names_part, path_part, who_part};
 
 use crate::line::{CallLine, EntryLine, Line};
-use crate::parts::{
-    body_behind, cut_word, flag_part, moment_part, name_part, names_part, origin_part, path_part,
-    positive_part, who_part,
-};
+use crate::parts::{body_behind, flag_part, moment_part, names_part, origin_part, positive_part};
 use lang_core::{Inputs, Method, Name, Names, NoMemory, Origin, Request, Text, method_named};
-use request_names::read_number;
+use request_names::{cut_word, name_part, path_part, read_number, who_part};
 use std::alloc::Global;
 
 // A number and what stands behind it.

@@ -1,3 +1,4 @@
 pub mod Ids
 pub mod Names
 pub mod Numbers
+pub mod Words

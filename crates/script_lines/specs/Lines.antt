@@ -1,6 +1,6 @@
 -- What a line of a script says.
-use Rattle.std.specs.Prelude.{ℕ, Bool, true, ◌&&◌, not, nat_eq, List, [], ◌∷◌, length, Option, Some, None, Result, Ok, Err, if◌then◌else◌, nat_lt, nat_le, ◌==◌, codes}
-use Rattle.std.specs.List.{position_or_len, before_first, after_first, starts_with}
+use Rattle.std.specs.Prelude.{nat_lt, ℕ, Bool, true, ◌&&◌, not, nat_eq, List, [], ◌∷◌, length, Option, Some, None, Result, Ok, Err, if◌then◌else◌, nat_le, ◌==◌, codes}
+use Rattle.std.specs.List.{starts_with}
 use Rattle.std.specs.Str.{is_utf8}
 use Rattle.lang_base.specs.Texts.{same_text}
 use Rattle.lang_tree.specs.Forms.{is_path}
@@ -9,6 +9,7 @@ use Rattle.lang_tree.specs.declared.method.Method.{Method}
 use Rattle.lang_core.specs.Names.{is_name, is_who}
 use Rattle.lang_core.specs.declared.request.Request.{Request}
 use Rattle.request_names.specs.Numbers.{number_of}
+pub use Rattle.request_names.specs.Words.{at_end, cut_at, name_part, where_good, who_part, with_part, with_word}
 use Rattle.repair_messages.specs.declared.posts.PostName.{PostName}
 use Rattle.repair_messages.specs.declared.posts.PostName.TheVariants.{Call, Reply}
 use Rattle.journal_rows.specs.declared.orders.Command.{Command}
@@ -22,12 +23,6 @@ use Rattle.script_lines.specs.declared.line.LineFault.TheVariants.{Text, Word, S
 
 -- ---- parts; none where a part is missing, or isn't of its form
 
--- the first word, and what stands behind one space, if there is one
-abbrev pub cut_at : ℕ → List ℕ → List ℕ × Option (List ℕ)
-cut_at sep text =
-    if nat_lt (position_or_len (λ b. b == sep) text) (length text)
-    then (before_first (λ b. b == sep) text, Some (after_first (λ b. b == sep) text)) else (text, None)
-
 -- at most 65,536 bytes
 abbrev pub short_enough : Option (List ℕ) → Option (List ℕ)
 short_enough None = None
@@ -36,33 +31,6 @@ short_enough (Some text) = if nat_le (length text) 65536 then Some text else Non
 -- what a body stands for, within its limit
 abbrev pub body_of : List ℕ → Option (List ℕ)
 body_of body = short_enough (unescaped body)
-
--- goes on with a part
-abbrev pub with_part : {X Y : Type 0} → Option X → (X → Option Y) → Option Y
-with_part None next = None
-with_part (Some part) next = next part
-
--- goes on with the next word and what stands behind it
-abbrev pub with_word : {X : Type 0} → Option (List ℕ) → (List ℕ → Option (List ℕ) → Option X) → Option X
-with_word None next = None
-with_word (Some rest) next = next (cut_at 32 rest).0 (cut_at 32 rest).1
-
--- goes on where this holds
-abbrev pub where_good : {X : Type 0} → Bool → Option X → Option X
-where_good ok next = if ok then next else None
-
--- goes on where nothing stands behind
-abbrev pub at_end : {X : Type 0} → Option (List ℕ) → Option X → Option X
-at_end None next = next
-at_end (Some rest) next = None
-
--- a service's name
-abbrev pub name_part : List ℕ → Option (List ℕ)
-name_part word = where_good (is_name word) (Some word)
-
--- a user or a token
-abbrev pub who_part : List ℕ → Option (List ℕ)
-who_part word = where_good (is_who word) (Some word)
 
 -- a service and a number, with a slash between
 abbrev pub numbered_at : List ℕ × Option (List ℕ) → Option (List ℕ × ℕ)

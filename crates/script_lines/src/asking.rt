@@ -7,8 +7,9 @@ ghost use Rattle.script_lines.specs.Lines.{asked, asking_at, request_of};
 ghost use Rattle.script_lines.specs.declared.line.Line.{Line};
 
 use crate::line::Line;
-use crate::parts::{body_part, cut_word, name_part, path_part, who_part};
+use crate::parts::{asked_path, body_part};
 use lang_core::{Method, Name, NoMemory, Request, Text, ThinSeq, method_named};
+use request_names::{cut_word, name_part, who_part};
 use std::alloc::Global;
 use world_events::Event;
 
@@ -31,7 +32,7 @@ pub fn read_asked(
         return Ok(None);
     };
     let (word, rest) = cut_word(rest);
-    let Some(path) = path_part(alloc, word)? else {
+    let Some(path) = asked_path(alloc, word)? else {
         return Ok(None);
     };
     let Some(body) = body_part(alloc, rest)? else {

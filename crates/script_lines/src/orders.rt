@@ -6,9 +6,10 @@ ghost use Rattle.script_lines.specs.Lines.{create_at, created_of, created_parts,
 
 use crate::asking::{read_asked, request_of};
 use crate::line::Line;
-use crate::parts::{cut_word, name_part, neighbour_part, numbered_part, post_name_part, who_part};
+use crate::parts::{neighbour_part, numbered_part, post_name_part};
 use journal_rows::Command;
 use lang_core::{Name, NoMemory, Text};
+use request_names::{cut_word, name_part, who_part};
 use std::alloc::Global;
 use world_events::Event;
 

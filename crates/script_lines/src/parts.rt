@@ -1,23 +1,13 @@
 // The parts of a line.
 ghost use Rattle.std.specs.Prelude.{◌≡◌, IfOk, Some, None, if◌then◌else◌};
 ghost use Rattle.std.specs.Option.{option_map};
-ghost use Rattle.script_lines.specs.Lines.{body_of, cut_at, flight, is_asked_path, name_part, neighbour, numbered, packet, post_name, post_of_kind, rest_or_empty, who_part};
+ghost use Rattle.script_lines.specs.Lines.{body_of, cut_at, flight, is_asked_path, neighbour, numbered, packet, post_name, post_of_kind, rest_or_empty};
 
-use lang_core::{LONGEST_TEXT, Name, NoMemory, Text, is_path, is_who};
+use lang_core::{LONGEST_TEXT, NoMemory, Text};
 use repair_messages::PostName;
 use report_text::unescaped;
-use request_names::read_number;
+use request_names::{path_part, read_number};
 use std::alloc::Global;
-
-/// The first word, and what stands behind one space, if there is one.
-pub fn cut_word(text: &str) -> (&str, Option<&str>)
-    ensures { (result.0.now, option_map (λ x. x.now) result.1) ≡ cut_at 32 text.now }
-{
-    match text.split_once(' ') {
-        Some((word, rest)) => (word, Some(rest)),
-        None => (text, None),
-    }
-}
 
 /// What stands before the first slash, and what stands behind it, if there is one.
 fn cut_slash(text: &str) -> (&str, Option<&str>)
@@ -39,32 +29,15 @@ fn cut_colon(text: &str) -> (&str, Option<&str>)
     }
 }
 
-/// A service's name, if the word is one.
-pub fn name_part(alloc: Global, word: &str) -> Result<Option<Name>, NoMemory>
-    ensures { IfOk result (λ name. name ≡ name_part word.now) }
-{
-    let text = Text::of(alloc, word)?;
-    Ok(Name::new(text).ok())
-}
-
-/// A user or a token, if the word is one.
-pub fn who_part(alloc: Global, word: &str) -> Result<Option<Text>, NoMemory>
-    ensures { IfOk result (λ who. who ≡ who_part word.now) }
-{
-    let who = Text::of(alloc, word)?;
-    if !is_who(&who) {
-        return Ok(None);
-    }
-    Ok(Some(who))
-}
-
 /// A path that a script may ask, if the word is one.
 #[tactic(auto, unfolding(crate::specs::Lines::is_asked_path))]
-pub fn path_part(alloc: Global, word: &str) -> Result<Option<Text>, NoMemory>
+pub fn asked_path(alloc: Global, word: &str) -> Result<Option<Text>, NoMemory>
     ensures { IfOk result (λ path. path ≡ (if is_asked_path word.now then Some word.now else None)) }
 {
-    let path = Text::of(alloc, word)?;
-    if !is_path(&path) || path.as_bytes().starts_with(b"/aire/") {
+    let Some(path) = path_part(alloc, word)? else {
+        return Ok(None);
+    };
+    if path.as_bytes().starts_with(b"/aire/") {
         return Ok(None);
     }
     Ok(Some(path))

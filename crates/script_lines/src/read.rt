@@ -7,10 +7,10 @@ ghost use Rattle.script_lines.specs.Lines.{abandon_at, at_end, clock_at, deliver
 use crate::asking::{read_ask, read_begin};
 use crate::line::{Line, LineFault};
 use crate::orders::{read_cancel, read_create, read_replace, read_restore, read_retry};
-use crate::parts::{cut_word, flight_part, name_part, numbered_part, packet_part, who_part};
+use crate::parts::{flight_part, numbered_part, packet_part};
 use lang_base::both;
 use lang_core::{LAST_MOMENT, Name, NoMemory, Text};
-use request_names::read_number;
+use request_names::{cut_word, name_part, read_number, who_part};
 use std::alloc::Global;
 use world_events::Event;
 
