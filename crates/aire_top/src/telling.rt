@@ -1,15 +1,14 @@
 // What is written when serving ends.
-ghost use Rattle.std.specs.Prelude.{◌≡◌, ◌++◌, IfOk, OnOk, length, map, string_bytes};
+ghost use Rattle.std.specs.Prelude.{◌≡◌, ◌++◌, IfOk, OnOk, length, string_bytes};
 ghost use Rattle.std.specs.List.{flat_map};
 ghost use Rattle.report_text.specs.Reports.{IsVerdictOver};
-ghost use Rattle.service_events.specs.State.{me};
 ghost use Rattle.aire_top.specs.Serves.{end_text, receipt_line, receipts_line, receipts_of};
 
 use journal_rows::Verdict;
-use lang_core::{Copied, Name, Names, NoMemory, Same};
+use lang_core::{Name, NoMemory, Same};
 use node_run::Receipt;
 use report_text::verdict_text;
-use script_run::Service;
+use script_run::{Service, names_of};
 use std::alloc::Global;
 
 // How many receipts are of the service of this name.
@@ -55,16 +54,6 @@ fn push_lines(
         push_line(alloc, text, service, receipts)?;
     }
     Ok(())
-}
-
-fn names_of(alloc: Global, services: &[Service]) -> Result<Names, NoMemory>
-    ensures { IfOk result (λ names. names ≡ map me services.now) }
-{
-    let mut names = Names::new(alloc);
-    for service in services {
-        names.push(service.setting().me.copied(alloc)?)?;
-    }
-    Ok(names)
 }
 
 /// What is written of a run that ended well: how many receipts each service has, and the verdict.

@@ -21,4 +21,4 @@ pub use dumping::dump_text;
 pub use printed::Printed;
 pub use reports::{judge, verdict_line};
 pub use script::{LONGEST_SCRIPT, ScriptRefused, run_script};
-pub use world_settle::{Service, World};
+pub use world_settle::{Service, World, names_of};

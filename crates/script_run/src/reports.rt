@@ -1,11 +1,11 @@
 // Lines that print what stands in a world.
-ghost use Rattle.std.specs.Prelude.{◌≡◌, All, Ok, IfOk, length, map};
+ghost use Rattle.std.specs.Prelude.{◌≡◌, All, Ok, IfOk, length};
 ghost use Rattle.call_registers.specs.Registers.{IsTimely};
 ghost use Rattle.journal_rows.specs.declared.verdict.Verdict.TheVariants.{Legal};
 ghost use Rattle.report_text.specs.Reports.{IsVerdictOver};
 ghost use Rattle.service_events.specs.Fits.{Fits};
 ghost use Rattle.service_events.specs.Allowed.{IsAllowed};
-ghost use Rattle.service_events.specs.State.{me, Kept};
+ghost use Rattle.service_events.specs.State.{Kept};
 ghost use Rattle.world_agreement.specs.Legal.{AreLegal};
 ghost use Rattle.world_agreement.specs.Partners.{IsJoined, service_of};
 ghost use Rattle.script_run.specs.Audits.{SaysForged, verdict};
@@ -18,13 +18,13 @@ use crate::counts::Said;
 use crate::dumping::dump_text;
 use crate::printed::Printed;
 use journal_rows::Verdict;
-use lang_core::{Copied, Name, Names, NoMemory, Text};
+use lang_core::{Name, NoMemory, Text};
 use report_text::verdict_text;
 use script_lines::LineFault;
 use service_reports::{log_of, notices_of, rows_of};
 use std::alloc::Global;
 use world_audit::audit;
-use world_settle::{Service, World};
+use world_settle::{Service, World, names_of};
 
 /// The rows of the service of this name, if it is there.
 pub fn rows(alloc: Global, world: &World, name: &Name) -> Result<Result<Said, LineFault>, NoMemory>
@@ -65,16 +65,6 @@ pub fn dump(alloc: Global, world: &World) -> Result<Result<Said, LineFault>, NoM
     ensures { IfOk result (λ said. said ≡ Ok (printed (dump_text world.now.services))) }
 {
     Ok(Ok(Said::printed(Printed::report(dump_text(alloc, world.services())?))))
-}
-
-fn names_of(alloc: Global, services: &[Service]) -> Result<Names, NoMemory>
-    ensures { IfOk result (λ names. names ≡ map me services.now) }
-{
-    let mut names = Names::new(alloc);
-    for service in services {
-        names.push(service.setting().me.copied(alloc)?)?;
-    }
-    Ok(names)
 }
 
 // Each fits its journal, which its type keeps.

@@ -15,4 +15,5 @@ mod tally;
 
 pub use rounds::settle;
 pub use settled::Settled;
+pub use shares::names_of;
 pub use world_core::{Event, Happened, Service, What, World, WorldStepRefused, world_step};

@@ -83,7 +83,8 @@ fn shares(
     Ok(())
 }
 
-fn names_of(alloc: Global, services: &[Service]) -> Result<Names, NoMemory>
+/// The names of services, in order.
+pub fn names_of(alloc: Global, services: &[Service]) -> Result<Names, NoMemory>
     ensures { IfOk result (λ names. names ≡ map me services.now) }
 {
     let mut names = Names::new(alloc);

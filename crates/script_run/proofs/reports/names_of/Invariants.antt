@@ -1,6 +1,0 @@
-use Rattle.std.proofs.Common.{◌≡◌, map, take}
-use Rattle.service_events.specs.State.{me}
-use Rattle.script_run.proofs.reports.names_of.Given as goal
-
-abbrev pub invariant-loop-service : goal.invariant-loop-service
-invariant-loop-service l = l.names ≡ map me (take l.service-index l.services)
