@@ -1,3 +1,4 @@
 pub mod KeyRows
 pub mod Labels
 pub mod Rows
+pub mod HandedOn

@@ -4,3 +4,4 @@ pub mod Origins
 pub mod Places
 pub mod Rows
 pub mod Traces
+pub mod HandedOn

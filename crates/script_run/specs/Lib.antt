@@ -7,3 +7,4 @@ pub mod Settling
 pub mod Previewing
 pub mod Stops
 pub mod Deliveries
+pub mod HandedOn

@@ -1,3 +1,4 @@
 pub mod Lines
 pub mod Previews
 pub mod Reports
+pub mod HandedOn

@@ -7,4 +7,5 @@ mod reports;
 
 pub use preview_core::Service;
 pub use previews::{Unshown, cancellation_shown};
+pub use report_text::push_post_name;
 pub use reports::{log_of, notices_of, rows_of};

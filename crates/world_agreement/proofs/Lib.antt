@@ -16,3 +16,4 @@ pub mod CalledLaws
 pub mod LegalLaws
 pub mod PurchaseTogether
 pub mod PurchaseUndone
+pub mod HandedOn

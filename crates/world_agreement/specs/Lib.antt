@@ -1,3 +1,4 @@
 pub mod Partners
 pub mod Quiet
 pub mod Legal
+pub mod HandedOn

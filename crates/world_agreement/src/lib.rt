@@ -3,3 +3,5 @@
 //!
 //! There is no code here: the verdict over services is what the laws are for.
 #![tactic(auto)]
+
+pub use local_repair::Stepped;

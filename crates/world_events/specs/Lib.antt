@@ -6,3 +6,4 @@ pub mod Sound
 pub mod Turns
 pub mod Worlds
 pub mod Ends
+pub mod HandedOn

@@ -30,3 +30,4 @@ pub mod WorldWeights
 pub mod DeliveryLaws
 pub mod RunLaws
 pub mod StillLaws
+pub mod HandedOn

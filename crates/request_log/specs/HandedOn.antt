@@ -1,0 +1,3 @@
+pub use Rattle.lang_core.specs.declared.ids.Origin.TheVariants.{Outside}
+pub use Rattle.lang_core.specs.declared.inputs.Inputs.{Inputs}
+pub use Rattle.lang_core.specs.declared.request.Request.{Request}
