@@ -10,6 +10,7 @@ use Rattle.lang_tree.specs.Forms.{is_path}
 use Rattle.peer_seal.specs.Seal.{seal_digits}
 use Rattle.request_names.specs.Ids.{id_text}
 use Rattle.wire_fields.specs.Forms.{is_notifier, is_seal_digit}
+use Rattle.repair_messages.specs.Refusals.{word_said}
 use Rattle.wire_fields.specs.Words.{lone_status, numbered_status, refusal_text}
 use Rattle.wire_fields.proofs.SealLemmas.{seal_form}
 use Rattle.wire_fields.proofs.WordLemmas.{lone_text, lone_word, numbered_text, numbered_word}
@@ -66,7 +67,7 @@ word_visible : (word : List ℕ) → list_all is_lower word ≡ true → list_al
 word_visible word lower = weaker is_lower is_visible lower_visible word lower
 
 some_word : (word : List ℕ) → IsSome (numbered_status word) → 0 < length word
-unfolding numbered_status
+unfolding numbered_status word_said
 some_word [] is = absurd (cc is)
 some_word (b ∷ word) is = omega arith
 

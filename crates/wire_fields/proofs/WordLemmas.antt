@@ -1,5 +1,5 @@
 -- The texts of refusals are of their form and read back.
-use Rattle.std.proofs.Common.{◌≡◌, ℕ, ◌<◌, ◌^◌, Bool, true, false, cond, List, ◌∷◌, ◌++◌, Option, Some, None, IsSome, is_some, length, codes, decimal, nat_lt, ◌==◌, refl, arith, length-append}
+use Rattle.std.proofs.Common.{◌≡◌, ℕ, ◌<◌, ◌^◌, Bool, true, false, cond, List, [], ◌∷◌, ◌++◌, Option, Some, None, IsSome, is_some, find, length, decimal, nat_lt, ◌==◌, refl, sym, subst, arith, length-append}
 use Rattle.std.specs.List.{list_all}
 use Rattle.std.specs.Str.{is_utf8}
 use Rattle.std.proofs.Math.Seq.{take-append_seam, drop-append-add}
@@ -8,43 +8,88 @@ use Rattle.std.proofs.lemmas.Slice.Eq.{bytes_eq-Decides}
 use Rattle.std.proofs.lemmas.Str.{IsAscii-append}
 use Rattle.std.proofs.lemmas.Str.Ascii.{IsAscii-cons}
 use Rattle.lang_base.specs.Characters.{is_lower}
-use Rattle.lang_base.specs.Texts.{same_text}
-use Rattle.wire_fields.specs.Words.{cut_space, lone_status, numbered_status, refusal_of, refusal_text}
+use Rattle.repair_messages.specs.Refusals.{has_number, is_spelled, said_words, word_said, word_status, word_text}
+use Rattle.repair_messages.specs.declared.refusals.RefusalWord.{RefusalWord}
+use Rattle.repair_messages.specs.declared.refusals.RefusalWord.TheVariants.{NoMemory, Full, NotYet, Gone, NoFlight, Denied, Unknown, Foreign, NoSuchRequest, NotHeld, NotOutside}
+use Rattle.wire_fields.specs.Unread.{is_spelled as is_unread, unread_text, unread_word, unread_words}
+use Rattle.wire_fields.specs.Words.{alone, cut_space, lone_status, numbered, numbered_status, refusal_of, refusal_text, unread_or}
+use Rattle.wire_fields.specs.declared.unread.UnreadWord.{UnreadWord}
+use Rattle.wire_fields.specs.declared.unread.UnreadWord.TheVariants.{Head, HeadTooLong, Length, Text, Body, Coding, Method, Missing, Bad, Kind, Seal}
 use Rattle.wire_fields.proofs.SpeltLemmas.{ascii_by, decimal_ascii, number_back, place_nowhere, place_past, utf8_of_ascii}
 
--- a word of a table has what its words have
-in_table : (P : List ℕ → Type 0) (word row : List ℕ) (status : ℕ) (rest : Option ℕ) → P row → (IsSome rest → P word)
-    → IsSome (cond (same_text word row) (Some status) rest) → P word
-in_table P word row status rest here others found = by (same_text word row) refl found
+-- what is found passes
+found_passes : {X : Type 0} (p : X → Bool) (xs : List X) (x : X) → find p xs ≡ Some x → p x ≡ true
+found_passes p [] x is = absurd (cc is)
+found_passes p (y ∷ ys) x is = by (p y) refl is (found_passes p ys x)
   where
-    by : (b : Bool) → same_text word row ≡ b → IsSome (cond b (Some status) rest) → P word
-    by true is found = let same : word ≡ row = (bytes_eq-Decides word row).0 is in rw same here
-    by false is found = others found
+    by : (b : Bool) → p y ≡ b → cond b (Some y) (find p ys) ≡ Some x → (find p ys ≡ Some x → p x ≡ true) → p x ≡ true
+    by true passes first later = let same : y ≡ x = cc in subst (λ z. p z ≡ true) same passes
+    by false fails others later = later others
 
-abbrev pub Lone : List ℕ → Type 0
-Lone word = (list_all is_lower word ≡ true) × (is_some (numbered_status word) ≡ false)
+-- the word that is found is spelled so
+pub said_spelled : (text : List ℕ) (word : RefusalWord) → word_said text ≡ Some word → text ≡ word_text word
+unfolding word_said
+said_spelled text word is = sym ((bytes_eq-Decides (word_text word) text).0 (found_passes (is_spelled text) said_words word is))
 
-pub lone_word : (word : List ℕ) → IsSome (lone_status word) → Lone word
-unfolding lone_status numbered_status
-lone_word word =
-    in_table Lone word (codes "head") 400 _ (refl, refl) (in_table Lone word (codes "headlong") 400 _ (refl, refl)
-    (in_table Lone word (codes "length") 400 _ (refl, refl) (in_table Lone word (codes "text") 400 _ (refl, refl)
-    (in_table Lone word (codes "body") 413 _ (refl, refl) (in_table Lone word (codes "coding") 501 _ (refl, refl)
-    (in_table Lone word (codes "method") 501 _ (refl, refl) (in_table Lone word (codes "missing") 400 _ (refl, refl)
-    (in_table Lone word (codes "bad") 400 _ (refl, refl) (in_table Lone word (codes "kind") 400 _ (refl, refl)
-    (in_table Lone word (codes "seal") 403 _ (refl, refl) (in_table Lone word (codes "notheld") 409 _ (refl, refl)
-    (in_table Lone word (codes "nomemory") 503 None (refl, refl) (λ never. absurd (cc never))))))))))))))
+unread_spelled : (text : List ℕ) (word : UnreadWord) → unread_word text ≡ Some word → text ≡ unread_text word
+unfolding unread_word
+unread_spelled text word is = sym ((bytes_eq-Decides (unread_text word) text).0 (found_passes (is_unread text) unread_words word is))
 
 abbrev pub Lower : List ℕ → Type 0
 Lower word = list_all is_lower word ≡ true
 
+abbrev pub Lone : List ℕ → Type 0
+Lone word = Lower word × (is_some (numbered_status word) ≡ false)
+
+unread_lone : (word : UnreadWord) → Lone (unread_text word)
+unfolding numbered_status word_said
+unread_lone Head = (refl, refl)
+unread_lone HeadTooLong = (refl, refl)
+unread_lone Length = (refl, refl)
+unread_lone Text = (refl, refl)
+unread_lone Body = (refl, refl)
+unread_lone Coding = (refl, refl)
+unread_lone Method = (refl, refl)
+unread_lone Missing = (refl, refl)
+unread_lone Bad = (refl, refl)
+unread_lone Kind = (refl, refl)
+unread_lone Seal = (refl, refl)
+
+lower_word : (word : RefusalWord) → Lower (word_text word)
+lower_word NoMemory = refl
+lower_word Full = refl
+lower_word NotYet = refl
+lower_word Gone = refl
+lower_word NoFlight = refl
+lower_word Denied = refl
+lower_word Unknown = refl
+lower_word Foreign = refl
+lower_word NoSuchRequest = refl
+lower_word NotHeld = refl
+lower_word NotOutside = refl
+
+unnumbered : (text : List ℕ) (word : RefusalWord) (b : Bool) → word_said text ≡ Some word → has_number word ≡ b
+    → IsSome (cond b None (Some (word_status word))) → is_some (numbered_status text) ≡ false
+unfolding numbered_status
+unnumbered text word true said has some = absurd (cc some)
+unnumbered text word false said has some = rw (said, has) refl
+
+pub lone_word : (word : List ℕ) → IsSome (lone_status word) → Lone word
+unfolding lone_status
+lone_word text some = by (unread_word text) refl (word_said text) refl some
+  where
+    by : (u : Option UnreadWord) → unread_word text ≡ u → (o : Option RefusalWord) → word_said text ≡ o → IsSome (unread_or u (alone o)) → Lone text
+    by (Some word) is o said some = subst Lone (sym (unread_spelled text word is)) (unread_lone word)
+    by None is None said some = absurd (cc some)
+    by None is (Some word) said some = (subst Lower (sym (said_spelled text word said)) (lower_word word), unnumbered text word (has_number word) said refl some)
+
 pub numbered_word : (word : List ℕ) → IsSome (numbered_status word) → Lower word
 unfolding numbered_status
-numbered_word word =
-    in_table Lower word (codes "denied") 403 _ refl (in_table Lower word (codes "unknown") 404 _ refl
-    (in_table Lower word (codes "nosuchrequest") 404 _ refl (in_table Lower word (codes "notyet") 409 _ refl
-    (in_table Lower word (codes "notoutside") 409 _ refl (in_table Lower word (codes "gone") 410 _ refl
-    (in_table Lower word (codes "full") 507 None refl (λ never. absurd (cc never))))))))
+numbered_word text some = by (word_said text) refl some
+  where
+    by : (o : Option RefusalWord) → word_said text ≡ o → IsSome (numbered o) → Lower text
+    by None said some = absurd (cc some)
+    by (Some word) said some = subst Lower (sym (said_spelled text word said)) (lower_word word)
 
 lower_small : (b : ℕ) → is_lower b ≡ true → b < 128
 lower_small b is = grind (arith, nat_tests)

@@ -6,4 +6,5 @@ pub mod Named
 pub mod Rows
 pub mod Sealed
 pub mod Secrets
+pub mod Unread
 pub mod Words

@@ -2,38 +2,31 @@
 use Rattle.std.specs.Prelude.{ℕ, List, ◌++◌, Option, Some, None, codes, decimal, length, nat_lt, ◌==◌, if◌then◌else◌}
 use Rattle.std.specs.List.{after_first, before_first, position_or_len}
 use Rattle.std.specs.Option.{is_some}
-use Rattle.lang_base.specs.Texts.{same_text}
 use Rattle.request_names.specs.Numbers.{number_of}
+use Rattle.repair_messages.specs.Refusals.{has_number, word_said, word_status}
+use Rattle.repair_messages.specs.declared.refusals.RefusalWord.{RefusalWord}
+use Rattle.wire_fields.specs.Unread.{unread_status, unread_word}
+use Rattle.wire_fields.specs.declared.unread.UnreadWord.{UnreadWord}
+
+abbrev pub alone : Option RefusalWord → Option ℕ
+alone None = None
+alone (Some word) = if has_number word then None else Some (word_status word)
+
+abbrev pub numbered : Option RefusalWord → Option ℕ
+numbered None = None
+numbered (Some word) = if has_number word then Some (word_status word) else None
+
+abbrev pub unread_or : Option UnreadWord → Option ℕ → Option ℕ
+unread_or (Some word) other = Some (unread_status word)
+unread_or None other = other
 
 -- the status of a refusal whose word stands alone; None where there is no such word
 unfoldable pub lone_status : List ℕ → Option ℕ
-lone_status word =
-    if same_text word (codes "head") then Some 400
-    else (if same_text word (codes "headlong") then Some 400
-    else (if same_text word (codes "length") then Some 400
-    else (if same_text word (codes "text") then Some 400
-    else (if same_text word (codes "body") then Some 413
-    else (if same_text word (codes "coding") then Some 501
-    else (if same_text word (codes "method") then Some 501
-    else (if same_text word (codes "missing") then Some 400
-    else (if same_text word (codes "bad") then Some 400
-    else (if same_text word (codes "kind") then Some 400
-    else (if same_text word (codes "seal") then Some 403
-    else (if same_text word (codes "notheld") then Some 409
-    else (if same_text word (codes "nomemory") then Some 503
-    else None))))))))))))
+lone_status word = unread_or (unread_word word) (alone (word_said word))
 
 -- the status of a refusal whose word has a number behind it; None where there is no such word
 unfoldable pub numbered_status : List ℕ → Option ℕ
-numbered_status word =
-    if same_text word (codes "denied") then Some 403
-    else (if same_text word (codes "unknown") then Some 404
-    else (if same_text word (codes "nosuchrequest") then Some 404
-    else (if same_text word (codes "notyet") then Some 409
-    else (if same_text word (codes "notoutside") then Some 409
-    else (if same_text word (codes "gone") then Some 410
-    else (if same_text word (codes "full") then Some 507
-    else None))))))
+numbered_status word = numbered (word_said word)
 
 -- ---- written
 

@@ -12,6 +12,7 @@ mod refused;
 mod rows;
 mod sealed;
 mod secrets;
+mod unread;
 mod words;
 
 pub use console::{ConsoleRequest, ConsoleWord, console_word};
@@ -30,4 +31,5 @@ pub use rows::{
 };
 pub use sealed::{sealed_request, sealed_response};
 pub use secrets::Secrets;
+pub use unread::UnreadWord;
 pub use words::{refusal_of, refusal_status, refusal_text};

@@ -3,7 +3,9 @@ ghost use Rattle.std.specs.Prelude.{◌≡◌, IfOk};
 ghost use Rattle.std.specs.Option.{option_map};
 ghost use Rattle.wire_fields.specs.Words.{cut_space, first_status, lone_status, numbered_status, refusal_of, refusal_status, refusal_text};
 
+use crate::unread::UnreadWord;
 use lang_core::{NoMemory, Text};
+use repair_messages::RefusalWord;
 use request_names::read_number;
 use std::alloc::Global;
 
@@ -12,21 +14,12 @@ use std::alloc::Global;
 fn lone_status(word: &str) -> Option<u16>
     ensures { result ≡ lone_status word.now }
 {
-    match word {
-        "head" => Some(400),
-        "headlong" => Some(400),
-        "length" => Some(400),
-        "text" => Some(400),
-        "body" => Some(413),
-        "coding" => Some(501),
-        "method" => Some(501),
-        "missing" => Some(400),
-        "bad" => Some(400),
-        "kind" => Some(400),
-        "seal" => Some(403),
-        "notheld" => Some(409),
-        "nomemory" => Some(503),
-        _ => None,
+    match UnreadWord::named(word) {
+        Some(word) => Some(word.status()),
+        None => match RefusalWord::said(word) {
+            Some(word) if !word.has_number() => Some(word.status()),
+            _ => None,
+        },
     }
 }
 
@@ -35,14 +28,8 @@ fn lone_status(word: &str) -> Option<u16>
 fn numbered_status(word: &str) -> Option<u16>
     ensures { result ≡ numbered_status word.now }
 {
-    match word {
-        "denied" => Some(403),
-        "unknown" => Some(404),
-        "nosuchrequest" => Some(404),
-        "notyet" => Some(409),
-        "notoutside" => Some(409),
-        "gone" => Some(410),
-        "full" => Some(507),
+    match RefusalWord::said(word) {
+        Some(word) if word.has_number() => Some(word.status()),
         _ => None,
     }
 }

@@ -1,12 +1,14 @@
 -- What tells a refusal has a spelling of its own, and is read as that refusal and no other.
-use Rattle.std.proofs.Common.{◌≡◌, inl, inr, ℕ, ◌<◌, ◌^◌, Bool, true, false, ◌&&◌, cond, List, Option, Some, None, Result, Err, codes, nat_eq, refl, sym, subst, ap, ◌∙◌, arith}
-use Rattle.std.proofs.lemmas.Bool.{and_parts}
+use Rattle.std.proofs.Common.{◌≡◌, inl, inr, ℕ, ◌<◌, ◌^◌, Bool, true, false, cond, List, Option, Some, None, option_and_then, Result, Err, nat_eq, refl, sym, ap, ◌∙◌, arith}
 use Rattle.std.proofs.lemmas.Bool.Decides.{nat_tests}
-use Rattle.std.proofs.lemmas.Slice.Eq.{bytes_eq-Decides}
 use Rattle.lang_base.specs.Texts.{same_text}
+use Rattle.repair_messages.specs.Refusals.{word_said, word_text}
 use Rattle.repair_messages.specs.declared.messages.AnswerMessage.{AnswerMessage}
+use Rattle.repair_messages.specs.declared.refusals.RefusalWord.{RefusalWord}
+use Rattle.repair_messages.specs.declared.refusals.RefusalWord.TheVariants.{NoMemory, Full, NotYet, Gone, NoFlight, Denied, Unknown, Foreign, NoSuchRequest, NotHeld, NotOutside}
 use Rattle.call_registers.specs.declared.register.Why.{Why}
 use Rattle.call_registers.specs.declared.register.Why.TheVariants as why
+use Rattle.service_events.specs.Refusals.{refusing_post}
 use Rattle.service_events.specs.declared.answers.PostReply.TheVariants as back
 use Rattle.service_events.specs.declared.answers.PostWord.{PostWord}
 use Rattle.service_events.specs.declared.answers.PostWord.TheVariants as words
@@ -18,38 +20,39 @@ use Rattle.service_events.specs.declared.refusals.OrderRefused.{OrderRefused}
 use Rattle.service_events.specs.declared.refusals.OrderRefused.TheVariants as order
 use Rattle.service_events.specs.declared.refusals.TakeRefused.{TakeRefused}
 use Rattle.service_events.specs.declared.refusals.TakeRefused.TheVariants as take
+use Rattle.wire_fields.specs.Unread.{unread_word}
 use Rattle.wire_fields.specs.Words.{lone_status, numbered_status, refusal_of, refusal_text}
-use Rattle.wire_fields.proofs.WordLemmas.{lone_back, lone_text, numbered_back, numbered_text}
+use Rattle.wire_fields.proofs.WordLemmas.{lone_back, lone_text, numbered_back, numbered_text, said_spelled}
 use Rattle.wire_replies.specs.declared.replies.Outgoing.{Outgoing}
 use Rattle.wire_replies.specs.declared.replies.Outgoing.TheVariants as replies
-use Rattle.wire_words.specs.Failures.{IsArriveTold, ReadsRefusals, ReadsRefusalsAlone, RefusesCall, arrive_refused, call_reply, why_failed, why_refused}
+use Rattle.wire_words.specs.Failures.{IsArriveTold, ReadsRefusals, ReadsRefusalsAlone, RefusesCall, arrive_refused, call_reply, refused_so, why_failed, why_refused}
 use Rattle.wire_words.specs.Posts.{IsAnswerTold, IsTakeTold, ReadsWordsAlone, post_word, post_word_text, refused_by}
 use Rattle.wire_words.specs.Refusals.{IsOrderTold, IsTold, Told, answer_told, arrive_told, order_told, take_told}
 
 -- ---- spellings
 
 pub arrive_spelt : (why : ArriveRefused) → IsTold (arrive_told why)
-unfolding lone_status numbered_status
+unfolding lone_status numbered_status unread_word word_said
 arrive_spelt arrive.NoMemory = inl (refl, refl)
 arrive_spelt (arrive.Full n) = inr refl
 arrive_spelt (arrive.NotYet n) = inr refl
 arrive_spelt (arrive.Gone v) = inr refl
 
 pub take_spelt : (why : TakeRefused) → IsTold (take_told why)
-unfolding lone_status numbered_status
+unfolding lone_status numbered_status unread_word word_said
 take_spelt take.NoMemory = inl (refl, refl)
 take_spelt (take.Full n) = inr refl
 take_spelt (take.NotYet n) = inr refl
 take_spelt (take.Denied rule) = inr refl
 
 pub answer_spelt : (why : AnswerRefused) → IsTold (answer_told why)
-unfolding lone_status numbered_status
+unfolding lone_status numbered_status unread_word word_said
 answer_spelt answer.NoMemory = inl (refl, refl)
 answer_spelt (answer.Unknown n) = inr refl
 answer_spelt (answer.Denied rule) = inr refl
 
 pub order_spelt : (why : OrderRefused) → IsTold (order_told why)
-unfolding lone_status numbered_status
+unfolding lone_status numbered_status unread_word word_said
 order_spelt order.NoMemory = inl (refl, refl)
 order_spelt (order.NoSuchRequest id) = inr refl
 order_spelt (order.Denied rule) = inr refl
@@ -63,55 +66,44 @@ told_back word n small (inl lone) =
     ap refusal_of (lone_text word n lone.0) ∙ lone_back word lone.0 ∙ ap (λ (k : ℕ). Some (word, k)) (sym lone.1)
 told_back word n small (inr numbered) = ap refusal_of (numbered_text word n numbered) ∙ numbered_back word n numbered small
 
--- ---- rows of a table
-
--- what a table gives for a text stands in the text's row
-in_row : {X : Type 0} (P : X → Type 0) (text row : List ℕ) (x : X) (rest : Option X) → (text ≡ row → P x) → ((y : X) → rest ≡ Some y → P y)
-    → (y : X) → cond (same_text text row) (Some x) rest ≡ Some y → P y
-in_row P text row x rest here others y found = by (same_text text row) refl found
-  where
-    by : (b : Bool) → same_text text row ≡ b → cond b (Some x) rest ≡ Some y → P y
-    by true is first = let at : text ≡ row = (bytes_eq-Decides text row).0 is in let it : x ≡ y = cc in subst P it (here at)
-    by false is later = others y later
-
-no_row : {X : Type 0} (P : X → Type 0) (y : X) → None ≡ Some y → P y
-no_row P y never = absurd (cc never)
-
 -- ---- live calls
 
 pub arrive_back : (why : ArriveRefused) → IsArriveTold why
-unfolding arrive_refused
+unfolding arrive_refused word_said
 arrive_back arrive.NoMemory = refl
 arrive_back (arrive.Full n) = refl
 arrive_back (arrive.NotYet n) = refl
 arrive_back (arrive.Gone v) = refl
 
--- of a word without a number
-in_lone_row : (P : ArriveRefused → Type 0) (text row : List ℕ) (n : ℕ) (x : ArriveRefused) (rest : Option ArriveRefused) → (text ≡ row → n ≡ 0 → P x)
-    → ((y : ArriveRefused) → rest ≡ Some y → P y) → (y : ArriveRefused) → cond (same_text text row && nat_eq n 0) (Some x) rest ≡ Some y → P y
-in_lone_row P text row n x rest here others y found = by (same_text text row && nat_eq n 0) refl found
+-- the refusal that a word tells is told so
+told_so : (word : RefusalWord) (n : ℕ) (refused : ArriveRefused) → refused_so n word ≡ Some refused → ◌≡◌ {A = Told} (word_text word, n) (arrive_told refused)
+told_so NoMemory n refused is = by (nat_eq n 0) refl is
   where
-    by : (b : Bool) → same_text text row && nat_eq n 0 ≡ b → cond b (Some x) rest ≡ Some y → P y
-    by true is first =
-        let both = and_parts (same_text text row) (nat_eq n 0) is in
-        let at : text ≡ row = (bytes_eq-Decides text row).0 both.0 in
-        let zero : n ≡ 0 = grind (arith, nat_tests, both.1) in
-        let it : x ≡ y = cc in
-        subst P it (here at zero)
-    by false is later = others y later
-
-told : (word row : List ℕ) (n : ℕ) → word ≡ row → ◌≡◌ {A = Told} (word, n) (row, n)
-told word row n at = ap (λ (text : List ℕ). (text, n)) at
+    by : (b : Bool) → nat_eq n 0 ≡ b → cond b (Some arrive.NoMemory) None ≡ Some refused → ◌≡◌ {A = Told} (word_text NoMemory, n) (arrive_told refused)
+    by true zero first =
+        let none : n ≡ 0 = grind (arith, nat_tests, zero) in
+        let it : arrive.NoMemory ≡ refused = cc in
+        ap (λ (k : ℕ). (word_text NoMemory, k)) none ∙ ap arrive_told it
+    by false zero first = absurd (cc first)
+told_so Full n refused is = let it : arrive.Full n ≡ refused = cc in ap arrive_told it
+told_so NotYet n refused is = let it : arrive.NotYet n ≡ refused = cc in ap arrive_told it
+told_so Gone n refused is = let it : arrive.Gone n ≡ refused = cc in ap arrive_told it
+told_so NoFlight n refused is = absurd (cc is)
+told_so Denied n refused is = absurd (cc is)
+told_so Unknown n refused is = absurd (cc is)
+told_so Foreign n refused is = absurd (cc is)
+told_so NoSuchRequest n refused is = absurd (cc is)
+told_so NotHeld n refused is = absurd (cc is)
+told_so NotOutside n refused is = absurd (cc is)
 
 -- what is read as a refusal tells that one
-arrive_only : (word : List ℕ) (n : ℕ) (refused : ArriveRefused) → arrive_refused word n ≡ Some refused → ◌≡◌ {A = Told} (word, n) (arrive_told refused)
+arrive_only : (text : List ℕ) (n : ℕ) (refused : ArriveRefused) → arrive_refused text n ≡ Some refused → ◌≡◌ {A = Told} (text, n) (arrive_told refused)
 unfolding arrive_refused
-arrive_only word n =
-    let P : ArriveRefused → Type 0 = λ refused. ◌≡◌ {A = Told} (word, n) (arrive_told refused) in
-    in_lone_row P word (codes "nomemory") n arrive.NoMemory _ (λ at zero. told word (codes "nomemory") n at ∙ ap (λ (k : ℕ). (codes "nomemory", k)) zero)
-    (in_row P word (codes "full") (arrive.Full n) _ (told word (codes "full") n)
-    (in_row P word (codes "notyet") (arrive.NotYet n) _ (told word (codes "notyet") n)
-    (in_row P word (codes "gone") (arrive.Gone n) None (told word (codes "gone") n) (no_row P))))
+arrive_only text n refused is = by (word_said text) refl is
+  where
+    by : (o : Option RefusalWord) → word_said text ≡ o → option_and_then (refused_so n) o ≡ Some refused → ◌≡◌ {A = Told} (text, n) (arrive_told refused)
+    by None none is = absurd (cc is)
+    by (Some word) said is = ap (λ (t : List ℕ). (t, n)) (said_spelled text word said) ∙ told_so word n refused is
 
 pub call_refused : (reply : Outgoing) (status : ℕ) → ReadsRefusals reply status
 call_refused reply status = λ refused is.
@@ -138,27 +130,39 @@ call_alone (replies.Refused text k) status = λ word n same above. by (arrive_re
 -- ---- posts
 
 pub take_back : (why : TakeRefused) → IsTakeTold why
-unfolding post_word
+unfolding post_word word_said
 take_back take.NoMemory = refl
 take_back (take.Full n) = refl
 take_back (take.NotYet n) = refl
 take_back (take.Denied rule) = refl
 
 pub answer_back : (why : AnswerRefused) → IsAnswerTold why
-unfolding post_word
+unfolding post_word word_said
 answer_back answer.NoMemory = refl
 answer_back (answer.Unknown n) = refl
 answer_back (answer.Denied rule) = refl
 
-word_only : (text : List ℕ) (word : PostWord) → post_word text ≡ Some word → text ≡ post_word_text word
+-- the refusal of a post that a word tells is spelled so
+post_spelled : (word : RefusalWord) (refuses : PostWord) → refusing_post word ≡ Some refuses → word_text word ≡ post_word_text refuses
+post_spelled NoMemory refuses is = let it : words.NoMemory ≡ refuses = cc in ap post_word_text it
+post_spelled Full refuses is = let it : words.Full ≡ refuses = cc in ap post_word_text it
+post_spelled NotYet refuses is = let it : words.NotYet ≡ refuses = cc in ap post_word_text it
+post_spelled Denied refuses is = let it : words.Denied ≡ refuses = cc in ap post_word_text it
+post_spelled Unknown refuses is = let it : words.Unknown ≡ refuses = cc in ap post_word_text it
+post_spelled Gone refuses is = absurd (cc is)
+post_spelled NoFlight refuses is = absurd (cc is)
+post_spelled Foreign refuses is = absurd (cc is)
+post_spelled NoSuchRequest refuses is = absurd (cc is)
+post_spelled NotHeld refuses is = absurd (cc is)
+post_spelled NotOutside refuses is = absurd (cc is)
+
+word_only : (text : List ℕ) (refuses : PostWord) → post_word text ≡ Some refuses → text ≡ post_word_text refuses
 unfolding post_word
-word_only text =
-    let P : PostWord → Type 0 = λ word. text ≡ post_word_text word in
-    in_row P text (codes "nomemory") words.NoMemory _ (λ at. at)
-    (in_row P text (codes "full") words.Full _ (λ at. at)
-    (in_row P text (codes "notyet") words.NotYet _ (λ at. at)
-    (in_row P text (codes "denied") words.Denied _ (λ at. at)
-    (in_row P text (codes "unknown") words.Unknown None (λ at. at) (no_row P)))))
+word_only text refuses is = by (word_said text) refl is
+  where
+    by : (o : Option RefusalWord) → word_said text ≡ o → option_and_then refusing_post o ≡ Some refuses → text ≡ post_word_text refuses
+    by None none is = absurd (cc is)
+    by (Some word) said is = said_spelled text word said ∙ post_spelled word refuses is
 
 pub words_alone : (reply : Outgoing) → ReadsWordsAlone reply
 words_alone (replies.Answered id message response) = λ word n same. absurd (cc same)
@@ -179,12 +183,12 @@ words_alone (replies.Refused text k) = λ word n same. by (post_word text) refl 
 
 order_named : List ℕ → ℕ → Option OrderRefused
 order_named word n =
-    cond (same_text word (codes "nomemory")) (Some order.NoMemory)
-    (cond (same_text word (codes "nosuchrequest")) (Some (order.NoSuchRequest n))
-    (cond (same_text word (codes "denied")) (Some (order.Denied n))
-    (cond (same_text word (codes "full")) (Some (order.Full n))
-    (cond (same_text word (codes "notheld")) (Some order.NotHeld)
-    (cond (same_text word (codes "notoutside")) (Some (order.NotOutside n)) None)))))
+    cond (same_text word (word_text NoMemory)) (Some order.NoMemory)
+    (cond (same_text word (word_text NoSuchRequest)) (Some (order.NoSuchRequest n))
+    (cond (same_text word (word_text Denied)) (Some (order.Denied n))
+    (cond (same_text word (word_text Full)) (Some (order.Full n))
+    (cond (same_text word (word_text NotHeld)) (Some order.NotHeld)
+    (cond (same_text word (word_text NotOutside)) (Some (order.NotOutside n)) None)))))
 
 order_back : (why : OrderRefused) → order_named (order_told why).0 (order_told why).1 ≡ Some why
 unfolding order_named

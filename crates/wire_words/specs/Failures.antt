@@ -1,30 +1,33 @@
 -- What a reply to a live call comes to for the request that waits for it.
-use Rattle.std.specs.Prelude.{◌≡◌, ℕ, ◌<◌, ◌&&◌, List, Option, Some, None, Result, Ok, Err, codes, nat_eq, if◌then◌else◌}
-use Rattle.lang_base.specs.Texts.{same_text}
+use Rattle.std.specs.Prelude.{◌≡◌, ℕ, ◌<◌, List, Option, Some, None, option_and_then, Result, Ok, Err, nat_eq, if◌then◌else◌}
+use Rattle.repair_messages.specs.Refusals.{word_said}
 use Rattle.repair_messages.specs.declared.messages.AnswerMessage.{AnswerMessage}
+use Rattle.repair_messages.specs.declared.refusals.RefusalWord.{RefusalWord}
+use Rattle.repair_messages.specs.declared.refusals.RefusalWord.TheVariants.{NoMemory, Full, NotYet, Gone}
 use Rattle.call_registers.specs.declared.register.Why.{Why}
 use Rattle.call_registers.specs.declared.register.Why.TheVariants as why
+use Rattle.service_events.specs.Refusals.{arrive_refusal, call_word}
 use Rattle.service_events.specs.declared.refusals.ArriveRefused.{ArriveRefused}
 use Rattle.service_events.specs.declared.refusals.ArriveRefused.TheVariants as arrive
 use Rattle.wire_replies.specs.declared.replies.Outgoing.{Outgoing}
 use Rattle.wire_replies.specs.declared.replies.Outgoing.TheVariants as replies
 use Rattle.wire_words.specs.Refusals.{arrive_told}
 
--- the refusal of a live call that a word and a number tell; None where they tell none
+-- the refusal of a live call that a word tells with a number; None where it tells none
+abbrev pub refused_so : ℕ → RefusalWord → Option ArriveRefused
+refused_so n NoMemory = if nat_eq n 0 then Some arrive.NoMemory else None
+refused_so n Full = Some (arrive.Full n)
+refused_so n NotYet = Some (arrive.NotYet n)
+refused_so n Gone = Some (arrive.Gone n)
+refused_so n word = None
+
+-- the refusal of a live call that a text and a number tell
 unfoldable pub arrive_refused : List ℕ → ℕ → Option ArriveRefused
-arrive_refused word n =
-    if same_text word (codes "nomemory") && nat_eq n 0 then Some arrive.NoMemory
-    else (if same_text word (codes "full") then Some (arrive.Full n)
-    else (if same_text word (codes "notyet") then Some (arrive.NotYet n)
-    else (if same_text word (codes "gone") then Some (arrive.Gone n)
-    else None)))
+arrive_refused word n = option_and_then (refused_so n) (word_said word)
 
 -- a call that its callee refused, by the number of that refusal and what it carries
 abbrev pub why_refused : ArriveRefused → Why
-why_refused arrive.NoMemory = why.Refused 1 0
-why_refused (arrive.Full n) = why.Refused 2 n
-why_refused (arrive.NotYet n) = why.Refused 3 n
-why_refused (arrive.Gone v) = why.Refused 4 v
+why_refused refused = why.Refused (call_word refused) (arrive_refusal refused).number
 
 -- a reply that is no refusal of a live call and no answer is number 0, with the status that it came with
 abbrev pub why_failed : Option ArriveRefused → ℕ → Why

@@ -1,16 +1,16 @@
 -- What a post asks, and what a reply to it comes to for the service that posted it.
-use Rattle.std.specs.Prelude.{◌≡◌, ℕ, List, Option, Some, None, codes, if◌then◌else◌}
-use Rattle.lang_base.specs.Texts.{same_text}
+use Rattle.std.specs.Prelude.{◌≡◌, ℕ, List, Option, Some, None, option_and_then}
+use Rattle.repair_messages.specs.Refusals.{word_said, word_text}
 use Rattle.repair_messages.specs.declared.posts.Post.{Post}
 use Rattle.repair_messages.specs.declared.posts.Post.TheVariants as posts
+use Rattle.repair_messages.specs.declared.refusals.RefusalWord.TheVariants.{NoMemory, Full, NotYet, Denied, Unknown}
+use Rattle.service_events.specs.Refusals.{answer_refused, refusing_post, set_refused}
 use Rattle.service_events.specs.declared.answers.PostReply.{PostReply}
 use Rattle.service_events.specs.declared.answers.PostReply.TheVariants as back
 use Rattle.service_events.specs.declared.answers.PostWord.{PostWord}
 use Rattle.service_events.specs.declared.answers.PostWord.TheVariants as words
 use Rattle.service_events.specs.declared.refusals.AnswerRefused.{AnswerRefused}
-use Rattle.service_events.specs.declared.refusals.AnswerRefused.TheVariants as answer
 use Rattle.service_events.specs.declared.refusals.TakeRefused.{TakeRefused}
-use Rattle.service_events.specs.declared.refusals.TakeRefused.TheVariants as take
 use Rattle.wire_replies.specs.declared.kinds.Asking.{Asking}
 use Rattle.wire_replies.specs.declared.kinds.Asking.TheVariants as asked
 use Rattle.wire_replies.specs.declared.replies.Outgoing.{Outgoing}
@@ -24,21 +24,15 @@ asking_of (posts.Answer message) = asked.Answer
 
 -- the word that refuses a post
 abbrev pub post_word_text : PostWord → List ℕ
-post_word_text words.NoMemory = codes "nomemory"
-post_word_text words.Full = codes "full"
-post_word_text words.NotYet = codes "notyet"
-post_word_text words.Denied = codes "denied"
-post_word_text words.Unknown = codes "unknown"
+post_word_text words.NoMemory = word_text NoMemory
+post_word_text words.Full = word_text Full
+post_word_text words.NotYet = word_text NotYet
+post_word_text words.Denied = word_text Denied
+post_word_text words.Unknown = word_text Unknown
 
 -- which word of these it is; None where it is none
 unfoldable pub post_word : List ℕ → Option PostWord
-post_word word =
-    if same_text word (codes "nomemory") then Some words.NoMemory
-    else (if same_text word (codes "full") then Some words.Full
-    else (if same_text word (codes "notyet") then Some words.NotYet
-    else (if same_text word (codes "denied") then Some words.Denied
-    else (if same_text word (codes "unknown") then Some words.Unknown
-    else None))))
+post_word word = option_and_then refusing_post (word_said word)
 
 abbrev pub refused_by : Option PostWord → ℕ → Option PostReply
 refused_by None n = None
@@ -51,18 +45,7 @@ post_reply (replies.Ack ack) = Some (back.Acked ack)
 post_reply (replies.Confirm confirm) = Some (back.Confirmed confirm)
 post_reply (replies.Refused word n) = refused_by (post_word word) n
 
--- ---- what a receiver's refusal comes back as
-
-abbrev pub set_refused : TakeRefused → PostReply
-set_refused take.NoMemory = back.Refused words.NoMemory 0
-set_refused (take.Full n) = back.Refused words.Full n
-set_refused (take.NotYet n) = back.Refused words.NotYet n
-set_refused (take.Denied rule) = back.Refused words.Denied rule
-
-abbrev pub answer_refused : AnswerRefused → PostReply
-answer_refused answer.NoMemory = back.Refused words.NoMemory 0
-answer_refused (answer.Unknown n) = back.Refused words.Unknown n
-answer_refused (answer.Denied rule) = back.Refused words.Denied rule
+-- ---- laws
 
 -- what tells a refusal comes back as that one
 abbrev pub IsTakeTold : TakeRefused → Type 0

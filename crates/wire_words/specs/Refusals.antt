@@ -1,13 +1,12 @@
 -- The words and numbers with which a service tells why it did nothing.
-use Rattle.std.specs.Prelude.{◌≡◌, ℕ, List, codes}
+use Rattle.std.specs.Prelude.{◌≡◌, ℕ, List}
+use Rattle.repair_messages.specs.Refusals.{word_text}
+use Rattle.repair_messages.specs.declared.refusals.Refusal.{Refusal}
+use Rattle.service_events.specs.Refusals.{answer_refusal, arrive_refusal, order_refusal, take_refusal}
 use Rattle.service_events.specs.declared.refusals.AnswerRefused.{AnswerRefused}
-use Rattle.service_events.specs.declared.refusals.AnswerRefused.TheVariants as answer
 use Rattle.service_events.specs.declared.refusals.ArriveRefused.{ArriveRefused}
-use Rattle.service_events.specs.declared.refusals.ArriveRefused.TheVariants as arrive
 use Rattle.service_events.specs.declared.refusals.OrderRefused.{OrderRefused}
-use Rattle.service_events.specs.declared.refusals.OrderRefused.TheVariants as order
 use Rattle.service_events.specs.declared.refusals.TakeRefused.{TakeRefused}
-use Rattle.service_events.specs.declared.refusals.TakeRefused.TheVariants as take
 use Rattle.wire_replies.specs.Writing.{IsSpelt}
 use Rattle.wire_replies.specs.declared.replies.Outgoing.TheVariants as replies
 
@@ -15,34 +14,24 @@ use Rattle.wire_replies.specs.declared.replies.Outgoing.TheVariants as replies
 abbrev pub Told : Type 0
 Told = List ℕ × ℕ
 
+abbrev pub refusal_told : Refusal → Told
+refusal_told refusal = (word_text refusal.word, refusal.number)
+
 -- of a live request
 abbrev pub arrive_told : ArriveRefused → Told
-arrive_told arrive.NoMemory = (codes "nomemory", 0)
-arrive_told (arrive.Full n) = (codes "full", n)
-arrive_told (arrive.NotYet n) = (codes "notyet", n)
-arrive_told (arrive.Gone v) = (codes "gone", v)
+arrive_told why = refusal_told (arrive_refusal why)
 
 -- of a version of a call
 abbrev pub take_told : TakeRefused → Told
-take_told take.NoMemory = (codes "nomemory", 0)
-take_told (take.Full n) = (codes "full", n)
-take_told (take.NotYet n) = (codes "notyet", n)
-take_told (take.Denied rule) = (codes "denied", rule)
+take_told why = refusal_told (take_refusal why)
 
 -- of an answer to a call
 abbrev pub answer_told : AnswerRefused → Told
-answer_told answer.NoMemory = (codes "nomemory", 0)
-answer_told (answer.Unknown n) = (codes "unknown", n)
-answer_told (answer.Denied rule) = (codes "denied", rule)
+answer_told why = refusal_told (answer_refusal why)
 
 -- of an order
 abbrev pub order_told : OrderRefused → Told
-order_told order.NoMemory = (codes "nomemory", 0)
-order_told (order.NoSuchRequest id) = (codes "nosuchrequest", id)
-order_told (order.Denied rule) = (codes "denied", rule)
-order_told (order.Full n) = (codes "full", n)
-order_told order.NotHeld = (codes "notheld", 0)
-order_told (order.NotOutside id) = (codes "notoutside", id)
+order_told why = refusal_told (order_refusal why)
 
 -- ---- laws
 

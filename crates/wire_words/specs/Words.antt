@@ -1,32 +1,36 @@
 -- The words with which a service tells why bytes were no message, or no message for it.
-use Rattle.std.specs.Prelude.{◌≡◌, ℕ, List, Option, Some, None, codes, IsSome}
+use Rattle.std.specs.Prelude.{◌≡◌, ℕ, List, Option, Some, None, IsSome}
+use Rattle.repair_messages.specs.Refusals.{word_text}
+use Rattle.repair_messages.specs.declared.refusals.RefusalWord.TheVariants.{NoMemory}
 use Rattle.http_front.specs.declared.header.AireHeader.TheVariants.{From}
 use Rattle.http_front.specs.declared.message.FrontRefused.{FrontRefused}
 use Rattle.http_front.specs.declared.message.FrontRefused.TheVariants as front
+use Rattle.wire_fields.specs.Unread.{unread_text}
 use Rattle.wire_fields.specs.Words.{lone_status}
 use Rattle.wire_fields.specs.declared.refused.WireRefused.{WireRefused}
 use Rattle.wire_fields.specs.declared.refused.WireRefused.TheVariants as wire
+use Rattle.wire_fields.specs.declared.unread.UnreadWord.TheVariants.{Head, HeadTooLong, Length, Text, Body, Coding, Method, Missing, Bad, Kind, Seal}
 
 -- why no HTTP message was read; where it was cut, or its source failed, nothing is told
 abbrev pub front_word : FrontRefused → Option (List ℕ)
-front_word front.NoMemory = Some (codes "nomemory")
+front_word front.NoMemory = Some (word_text NoMemory)
 front_word front.ReadFault = None
 front_word (front.Cut n) = None
-front_word front.BadHead = Some (codes "head")
-front_word front.HeadTooLong = Some (codes "headlong")
-front_word front.BodyTooLong = Some (codes "body")
-front_word front.Coding = Some (codes "coding")
-front_word front.BadLength = Some (codes "length")
-front_word front.NotText = Some (codes "text")
-front_word front.Method = Some (codes "method")
+front_word front.BadHead = Some (unread_text Head)
+front_word front.HeadTooLong = Some (unread_text HeadTooLong)
+front_word front.BodyTooLong = Some (unread_text Body)
+front_word front.Coding = Some (unread_text Coding)
+front_word front.BadLength = Some (unread_text Length)
+front_word front.NotText = Some (unread_text Text)
+front_word front.Method = Some (unread_text Method)
 
 -- why an HTTP message is no message between services
 abbrev pub wire_word : WireRefused → List ℕ
-wire_word wire.NoMemory = codes "nomemory"
-wire_word (wire.MissingHeader header) = codes "missing"
-wire_word (wire.BadHeader header) = codes "bad"
-wire_word wire.UnknownKind = codes "kind"
-wire_word wire.Seal = codes "seal"
+wire_word wire.NoMemory = word_text NoMemory
+wire_word (wire.MissingHeader header) = unread_text Missing
+wire_word (wire.BadHeader header) = unread_text Bad
+wire_word wire.UnknownKind = unread_text Kind
+wire_word wire.Seal = unread_text Seal
 
 -- ---- told apart
 

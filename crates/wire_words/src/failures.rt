@@ -1,35 +1,41 @@
 // What a reply to a live call comes to for the request that waits for it.
 ghost use Rattle.std.specs.Prelude.{◌≡◌, None};
-ghost use Rattle.wire_words.specs.Failures.{ReadsRefusals, ReadsRefusalsAlone, answer_or_failure, arrive_refused, call_reply, why_failed, why_refused};
+ghost use Rattle.wire_words.specs.Failures.{ReadsRefusals, ReadsRefusalsAlone, answer_or_failure, arrive_refused, call_reply, refused_so, why_failed, why_refused};
 
 use call_registers::Why;
-use repair_messages::AnswerMessage;
+use repair_messages::{AnswerMessage, RefusalWord};
 use service_events::ArriveRefused;
 use wire_replies::Outgoing;
+
+fn refused_so(word: RefusalWord, number: u64) -> Option<ArriveRefused>
+    ensures { result ≡ refused_so number word }
+{
+    match word {
+        RefusalWord::NoMemory if number == 0 => Some(ArriveRefused::NoMemory),
+        RefusalWord::Full => Some(ArriveRefused::Full(number)),
+        RefusalWord::NotYet => Some(ArriveRefused::NotYet(number)),
+        RefusalWord::Gone => Some(ArriveRefused::Gone(number)),
+        _ => None,
+    }
+}
 
 #[tactic(auto, unfolding(crate::specs::Failures::arrive_refused))]
 fn arrive_refused(word: &str, number: u64) -> Option<ArriveRefused>
     ensures { result ≡ arrive_refused word.now number }
 {
-    match word {
-        "nomemory" if number == 0 => Some(ArriveRefused::NoMemory),
-        "full" => Some(ArriveRefused::Full(number)),
-        "notyet" => Some(ArriveRefused::NotYet(number)),
-        "gone" => Some(ArriveRefused::Gone(number)),
-        _ => None,
+    match RefusalWord::said(word) {
+        Some(word) => refused_so(word, number),
+        None => None,
     }
 }
 
 fn why_refused(refused: ArriveRefused) -> Why
     ensures { result ≡ why_refused refused }
 {
-    let (word, number) = match refused {
-        ArriveRefused::NoMemory => (1, 0),
-        ArriveRefused::Full(count) => (2, count),
-        ArriveRefused::NotYet(number) => (3, number),
-        ArriveRefused::Gone(version) => (4, version),
-    };
-    Why::Refused { word, number }
+    Why::Refused {
+        word: refused.call_word(),
+        number: refused.refusal().number,
+    }
 }
 
 /// Why a call failed whose reply can't be read: refused with number 0, and the status of the reply, 0 where no head of

@@ -2,7 +2,7 @@
 ghost use Rattle.std.specs.Prelude.{◌≡◌};
 ghost use Rattle.wire_words.specs.Posts.{ReadsWordsAlone, asking_of, post_reply, post_word};
 
-use repair_messages::Post;
+use repair_messages::{Post, RefusalWord};
 use service_events::{PostReply, PostWord};
 use wire_replies::{Asking, Outgoing};
 
@@ -20,13 +20,9 @@ pub fn asking_of(post: &Post) -> Asking
 fn post_word(word: &str) -> Option<PostWord>
     ensures { result ≡ post_word word.now }
 {
-    match word {
-        "nomemory" => Some(PostWord::NoMemory),
-        "full" => Some(PostWord::Full),
-        "notyet" => Some(PostWord::NotYet),
-        "denied" => Some(PostWord::Denied),
-        "unknown" => Some(PostWord::Unknown),
-        _ => None,
+    match RefusalWord::said(word) {
+        Some(word) => PostWord::refusing(word),
+        None => None,
     }
 }
 

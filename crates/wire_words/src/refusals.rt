@@ -3,15 +3,22 @@ ghost use Rattle.std.specs.Prelude.{◌≡◌, Some, IfOk};
 ghost use Rattle.wire_fields.specs.Words.{refusal_of, refusal_text};
 ghost use Rattle.wire_words.specs.Failures.{IsArriveTold};
 ghost use Rattle.wire_words.specs.Posts.{IsAnswerTold, IsTakeTold};
-ghost use Rattle.wire_words.specs.Refusals.{IsOrderTold, IsTold, answer_told, arrive_told, order_told, take_told};
+ghost use Rattle.wire_words.specs.Refusals.{IsOrderTold, IsTold, answer_told, arrive_told, order_told, refusal_told, take_told};
 
 use lang_core::{NoMemory, Text};
+use repair_messages::Refusal;
 use service_events::{AnswerRefused, ArriveRefused, OrderRefused, TakeRefused};
 use std::alloc::Global;
 use wire_replies::Outgoing;
 
 /// What tells a refusal: its word, and the word's number, 0 where it has none.
 pub type Told = (&'static str, u64);
+
+fn refusal_told(refusal: Refusal) -> Told
+    ensures { (result.0.now, result.1) ≡ refusal_told refusal }
+{
+    (refusal.word.text(), refusal.number)
+}
 
 /// Why a live request was refused.
 #[tactic(auto, using(crate::proofs::TableLaws::arrive_spelt, crate::proofs::TableLaws::arrive_back))]
@@ -20,12 +27,7 @@ pub fn arrive_told(why: ArriveRefused) -> Told
     ensures spelt { IsTold (arrive_told why) }
     ensures back { IsArriveTold why }
 {
-    match why {
-        ArriveRefused::NoMemory => ("nomemory", 0),
-        ArriveRefused::Full(count) => ("full", count),
-        ArriveRefused::NotYet(number) => ("notyet", number),
-        ArriveRefused::Gone(version) => ("gone", version),
-    }
+    refusal_told(why.refusal())
 }
 
 /// Why a version of a call was refused.
@@ -35,12 +37,7 @@ pub fn take_told(why: TakeRefused) -> Told
     ensures spelt { IsTold (take_told why) }
     ensures back { IsTakeTold why }
 {
-    match why {
-        TakeRefused::NoMemory => ("nomemory", 0),
-        TakeRefused::Full(count) => ("full", count),
-        TakeRefused::NotYet(number) => ("notyet", number),
-        TakeRefused::Denied(rule) => ("denied", u64::from(rule)),
-    }
+    refusal_told(why.refusal())
 }
 
 /// Why an answer to a call was refused.
@@ -50,11 +47,7 @@ pub fn answer_told(why: AnswerRefused) -> Told
     ensures spelt { IsTold (answer_told why) }
     ensures back { IsAnswerTold why }
 {
-    match why {
-        AnswerRefused::NoMemory => ("nomemory", 0),
-        AnswerRefused::Unknown(number) => ("unknown", number),
-        AnswerRefused::Denied(rule) => ("denied", u64::from(rule)),
-    }
+    refusal_told(why.refusal())
 }
 
 /// Why an order was refused.
@@ -64,14 +57,7 @@ pub fn order_told(why: OrderRefused) -> Told
     ensures spelt { IsTold (order_told why) }
     ensures apart { IsOrderTold why }
 {
-    match why {
-        OrderRefused::NoMemory => ("nomemory", 0),
-        OrderRefused::NoSuchRequest(id) => ("nosuchrequest", id),
-        OrderRefused::Denied(rule) => ("denied", u64::from(rule)),
-        OrderRefused::Full(count) => ("full", count),
-        OrderRefused::NotHeld => ("notheld", 0),
-        OrderRefused::NotOutside(id) => ("notoutside", id),
-    }
+    refusal_told(why.refusal())
 }
 
 /// A refusal as a reply. Where the word is of the table, and the number is 0 if the word has none, its text is read back as
