@@ -1,5 +1,6 @@
 // A line that prints what a cancellation would come to.
-ghost use Rattle.std.specs.Prelude.{◌≡◌, Err, IfOk};
+ghost use Rattle.std.specs.Prelude.{◌≡◌, ◌++◌, Err, IfOk, None, OnOk, string_bytes};
+ghost use Rattle.script_text.specs.Happenings.{refused_line};
 ghost use Rattle.world_agreement.specs.Partners.{service_of};
 ghost use Rattle.script_run.specs.Previewing.{PrintsPreview, SaysPreview, preview_text, unshown_refusal};
 
@@ -7,19 +8,18 @@ use crate::counts::Said;
 use crate::printed::Printed;
 use lang_core::{Name, NoMemory, Text};
 use script_lines::LineFault;
-use script_text::{Refusal, order_refusal, push_refused};
+use script_text::{push_refused, push_refused_so};
 use service_reports::{Unshown, cancellation_shown};
 use std::alloc::Global;
 use world_settle::{Service, World};
 
-// The word and the number of a refusal.
-fn refusal(why: Unshown) -> Refusal
-    ensures { (result.0.now, result.1) ≡ unshown_refusal why }
+fn push_why(line: &mut String, me: &Name, why: Unshown) -> Result<(), NoMemory>
+    ensures { OnOk result (string_bytes line.new ≡ string_bytes line.old ++ refused_line me.now (unshown_refusal why) None) }
 {
     match why {
-        Unshown::NotIdle => ("notidle", Some(0)),
-        Unshown::Untimely(number) => ("untimely", Some(number)),
-        Unshown::Order(refused) => order_refusal(refused),
+        Unshown::NotIdle => push_refused_so(line, me, "notidle", Some(0), None),
+        Unshown::Untimely(number) => push_refused_so(line, me, "untimely", Some(number), None),
+        Unshown::Order(refused) => push_refused(line, me, refused.refusal(), None),
     }
 }
 
@@ -27,7 +27,7 @@ fn refused_line(alloc: Global, service: &Service, why: Unshown) -> Result<Text, 
     ensures { IfOk result (λ text. text ≡ preview_text service.now (Err why)) }
 {
     let mut line = String::new(alloc);
-    push_refused(&mut line, &service.setting().me, refusal(why), None)?;
+    push_why(&mut line, &service.setting().me, why)?;
     Text::shared(line)
 }
 

@@ -1,13 +1,15 @@
 -- What is printed of what happens.
-use Rattle.std.specs.Prelude.{ℕ, List, [], ◌++◌, Bool, true, false, Option, Some, None, option_and_then, Result, Ok, Err, codes, decimal, slice_get}
+use Rattle.std.specs.Prelude.{ℕ, List, [], ◌++◌, Bool, true, false, Option, Some, None, option_and_then, Result, Ok, Err, codes, decimal, slice_get, if◌then◌else◌}
 use Rattle.local_repair.specs.declared.stepped.Stepped.{Stepped}
 use Rattle.local_repair.specs.declared.stepped.Stepped.TheVariants.{Idle, Ran}
 use Rattle.repair_messages.specs.Kinds.{kind_word, spelling}
+use Rattle.repair_messages.specs.Refusals.{has_number, word_text}
 use Rattle.repair_messages.specs.declared.kinds.Kind.{Kind}
 use Rattle.repair_messages.specs.declared.kinds.Kind.TheVariants.{ReplaceResponse}
 use Rattle.repair_messages.specs.declared.posts.Post.{Post}
 use Rattle.repair_messages.specs.declared.posts.Post.TheVariants.{Set, Answer}
 use Rattle.repair_messages.specs.declared.posts.PostName.{PostName}
+use Rattle.repair_messages.specs.declared.refusals.Refusal.{Refusal}
 use Rattle.journal_rows.specs.declared.orders.About.{About}
 use Rattle.journal_rows.specs.declared.orders.About.TheVariants as about
 use Rattle.journal_rows.specs.declared.row.Row.{Row}
@@ -15,6 +17,7 @@ use Rattle.journal_rows.specs.declared.row.Row.TheVariants as row
 use Rattle.request_names.specs.Ids.{id_text}
 use Rattle.report_text.specs.Notices.{post_name_text}
 use Rattle.report_text.specs.Reports.{response_text}
+use Rattle.service_events.specs.Refusals.{answer_refusal, arrive_refusal, call_refusal, order_refusal, post_refusal, take_refusal}
 use Rattle.service_events.specs.State.{Kept}
 use Rattle.service_events.specs.declared.answers.Ordered.{Ordered}
 use Rattle.service_events.specs.declared.answers.Posted.{Posted}
@@ -26,7 +29,7 @@ use Rattle.service_events.specs.declared.refusals.CallRefused.TheVariants as cal
 use Rattle.service_events.specs.declared.refusals.OrderRefused.{OrderRefused}
 use Rattle.service_events.specs.declared.refusals.PostRefused.{PostRefused}
 use Rattle.service_events.specs.declared.refusals.TakeRefused.{TakeRefused}
-use Rattle.world_agreement.specs.Partners.{service_of}
+use Rattle.world_events.specs.HandedOn.{service_of}
 use Rattle.world_events.specs.Worlds.{World, packet_in}
 use Rattle.world_events.specs.declared.event.Event.{Event}
 use Rattle.world_events.specs.declared.happened.Happened.{Happened}
@@ -37,7 +40,6 @@ use Rattle.world_events.specs.declared.happened.What.TheVariants as what
 use Rattle.world_events.specs.declared.packet.Packet.{Packet}
 use Rattle.world_events.specs.declared.packet.Packet.TheVariants as packet
 use Rattle.script_text.specs.Details.{detail_of, flight_told, packet_told, receiver_told, token_told}
-use Rattle.script_text.specs.Refusals.{Refusal, answer_refusal, arrive_refusal, lacking, order_refusal, post_refusal, take_refusal}
 use Rattle.script_text.specs.declared.detail.Detail.{Detail}
 
 -- ---- the end of a line
@@ -52,13 +54,23 @@ ending packet = arrow packet ++ codes "\n"
 
 -- ---- refusals
 
+-- a word, and a number where it has one
+abbrev pub Told : Type 0
+Told = List ℕ × Option ℕ
+
+abbrev pub carried : Refusal → Option ℕ
+carried why = if has_number why.word then Some why.number else None
+
+abbrev pub refusal_told : Refusal → Told
+refusal_told why = (word_text why.word, carried why)
+
 -- ` NUMBER`, where there is one
 abbrev pub number_behind : Option ℕ → List ℕ
 number_behind None = []
 number_behind (Some n) = codes " " ++ decimal n
 
 -- `S refused WORD NUMBER`
-abbrev pub refused_line : List ℕ → Refusal → Option ℕ → List ℕ
+abbrev pub refused_line : List ℕ → Told → Option ℕ → List ℕ
 refused_line service why packet = service ++ (codes " refused " ++ (why.0 ++ (number_behind why.1 ++ ending packet)))
 
 -- ---- live requests
@@ -78,11 +90,11 @@ outcome_line service rows (outcome.Known id version) packet =
 
 abbrev pub arrived_line : List ℕ → List Row → Result Outcome ArriveRefused → Option ℕ → List ℕ
 arrived_line service rows (Ok o) packet = outcome_line service rows o packet
-arrived_line service rows (Err why) packet = refused_line service (arrive_refusal why) packet
+arrived_line service rows (Err why) packet = refused_line service (refusal_told (arrive_refusal why)) packet
 
 -- `S stray` of an answer or a failure that finds no such flight
 abbrev pub stray_line : List ℕ → CallRefused → Option ℕ → List ℕ
-stray_line service call.NoMemory packet = refused_line service lacking packet
+stray_line service call.NoMemory packet = refused_line service (refusal_told (call_refusal call.NoMemory)) packet
 stray_line service (call.NoFlight flight) packet = service ++ (codes " stray" ++ ending packet)
 
 abbrev pub flown_line : List ℕ → List Row → Result Outcome CallRefused → Option ℕ → List ℕ
@@ -137,15 +149,15 @@ of_post (Some p) line = line p
 -- of a version of a call that comes, of an answer that comes, and of what comes back of either
 abbrev pub taken_line : List ℕ → Option Post → Result (Option ℕ) TakeRefused → Option ℕ → List ℕ
 taken_line service p (Ok rule) packet = of_post p (λ p. ruled_line service (codes "took") rule p packet)
-taken_line service p (Err why) packet = refused_line service (take_refusal why) packet
+taken_line service p (Err why) packet = refused_line service (refusal_told (take_refusal why)) packet
 
 abbrev pub answer_taken_line : List ℕ → Option Post → Result (Option ℕ) AnswerRefused → Option ℕ → List ℕ
 answer_taken_line service p (Ok rule) packet = of_post p (λ p. ruled_line service (codes "saw") rule p packet)
-answer_taken_line service p (Err why) packet = refused_line service (answer_refusal why) packet
+answer_taken_line service p (Err why) packet = refused_line service (refusal_told (answer_refusal why)) packet
 
 abbrev pub posted_line : List ℕ → Option Post → Result Posted PostRefused → Option ℕ → List ℕ
 posted_line service p (Ok to) packet = of_post p (settled_line service to packet)
-posted_line service p (Err why) packet = refused_line service (post_refusal why) packet
+posted_line service p (Err why) packet = refused_line service (refusal_told (post_refusal why)) packet
 
 -- `S none D`
 abbrev pub none_line : List ℕ → Option (List ℕ) → List ℕ
@@ -173,7 +185,7 @@ abbrev pub ordered_line : List ℕ → Option (List ℕ) → Result Ordered Orde
 ordered_line service None (Ok o) packet = []
 ordered_line service (Some token) (Ok o) packet =
     service ++ (codes " ordered " ++ (token ++ (codes " " ++ (about_text service o.about ++ (codes " rule " ++ (decimal o.rule ++ codes "\n"))))))
-ordered_line service token (Err why) packet = refused_line service (order_refusal why) packet
+ordered_line service token (Err why) packet = refused_line service (refusal_told (order_refusal why)) packet
 
 -- `S abandoned fN`
 abbrev pub abandoned_line : List ℕ → Option ℕ → Bool → List ℕ

@@ -10,4 +10,4 @@ mod requests;
 
 pub use detail::Detail;
 pub use happened::happened_line;
-pub use refusals::{Refusal, order_refusal, push_refused};
+pub use refusals::{push_refused, push_refused_so};

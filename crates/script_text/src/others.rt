@@ -3,7 +3,7 @@ ghost use Rattle.std.specs.Prelude.{◌≡◌, ◌++◌, None, OnOk, Some, strin
 ghost use Rattle.std.specs.Option.{option_map};
 ghost use Rattle.script_text.specs.Happenings.{abandoned_line, about_text, ordered_line, step_line};
 
-use crate::refusals::{order_refusal, push_refused};
+use crate::refusals::push_refused;
 use journal_rows::About;
 use lang_core::{Name, NoMemory, Text};
 use local_repair::Stepped;
@@ -80,7 +80,7 @@ pub fn push_ordered(
     match (ordered, token) {
         (Ok(ordered), Some(token)) => push_accepted(text, service, token, ordered),
         (Ok(_), None) => Ok(()),
-        (Err(why), _) => push_refused(text, service, order_refusal(why), packet),
+        (Err(why), _) => push_refused(text, service, why.refusal(), packet),
     }
 }
 

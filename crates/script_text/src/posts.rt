@@ -3,9 +3,7 @@ ghost use Rattle.std.specs.Prelude.{◌≡◌, ◌++◌, [], OnOk, string_bytes}
 ghost use Rattle.std.specs.Option.{option_map};
 ghost use Rattle.script_text.specs.Happenings.{call_text, answer_taken_line, next_line, none_line, post_kind, posted_line, ruled_line, settled_line, settled_text, taken_line, version_behind, version_text, written_line};
 
-use crate::refusals::{
-    answer_refusal, post_refusal, push_arrow, push_ending, push_refused, take_refusal,
-};
+use crate::refusals::{push_arrow, push_ending, push_refused};
 use lang_core::{Name, NoMemory};
 use repair_messages::{Kind, Post, PostName, kind_word, spelling};
 use request_names::push_id;
@@ -172,7 +170,7 @@ pub fn push_taken(
     match (taken, post) {
         (Ok(rule), Some(post)) => push_ruled(text, service, "took", rule, post, packet),
         (Ok(_), None) => Ok(()),
-        (Err(why), _) => push_refused(text, service, take_refusal(why), packet),
+        (Err(why), _) => push_refused(text, service, why.refusal(), packet),
     }
 }
 
@@ -190,7 +188,7 @@ pub fn push_answer_taken(
     match (heard, post) {
         (Ok(rule), Some(post)) => push_ruled(text, service, "saw", rule, post, packet),
         (Ok(_), None) => Ok(()),
-        (Err(why), _) => push_refused(text, service, answer_refusal(why), packet),
+        (Err(why), _) => push_refused(text, service, why.refusal(), packet),
     }
 }
 
@@ -208,7 +206,7 @@ pub fn push_posted(
     match (posted, post) {
         (Ok(posted), Some(post)) => push_settled_line(text, service, posted, packet, post),
         (Ok(_), None) => Ok(()),
-        (Err(why), _) => push_refused(text, service, post_refusal(why), packet),
+        (Err(why), _) => push_refused(text, service, why.refusal(), packet),
     }
 }
 

@@ -2,7 +2,7 @@
 ghost use Rattle.std.specs.Prelude.{◌≡◌, ◌++◌, [], OnOk, string_bytes, slice_get};
 ghost use Rattle.script_text.specs.Happenings.{answered_text, arrived_line, flown_line, outcome_line, stray_line};
 
-use crate::refusals::{arrive_refusal, lacking, push_ending, push_refused};
+use crate::refusals::{push_ending, push_refused};
 use journal_rows::Row;
 use lang_core::{Name, NoMemory};
 use report_text::push_response;
@@ -100,7 +100,7 @@ pub fn push_arrived(
 {
     match arrived {
         Ok(outcome) => push_outcome(text, service, rows, outcome, packet),
-        Err(why) => push_refused(text, service, arrive_refusal(why), packet),
+        Err(why) => push_refused(text, service, why.refusal(), packet),
     }
 }
 
@@ -113,7 +113,7 @@ fn push_stray(
     ensures { OnOk result (string_bytes text.new ≡ string_bytes text.old ++ stray_line service.now why packet) }
 {
     match why {
-        CallRefused::NoMemory => push_refused(text, service, lacking(), packet),
+        CallRefused::NoMemory => push_refused(text, service, why.refusal(), packet),
         CallRefused::NoFlight(_) => {
             let service = service.as_str();
             write!(text, "{service} stray")?;
