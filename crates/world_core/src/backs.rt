@@ -2,18 +2,18 @@
 ghost use Rattle.std.specs.Prelude.{◌≡◌, Some, None, IfOk};
 ghost use Rattle.lang_core.specs.declared.ids.Origin.TheVariants.{Outside};
 ghost use Rattle.service_events.specs.State.{me, flight_of};
-ghost use Rattle.world_events.specs.Events.{outcome_of, sent};
+ghost use Rattle.world_events.specs.Events.{live_packet, sent};
 ghost use Rattle.world_events.specs.declared.packet.Packet.{Packet};
-ghost use Rattle.world_core.specs.Backs.{answer_by, back_of, back_to, back_for};
+ghost use Rattle.world_core.specs.Backs.{answer_by, back_of, back_to, back_for, refusal_by};
 
 use crate::packets::Packets;
 use lang_base::both;
 use lang_core::{Copied, Name, NoMemory, Origin};
 use repair_messages::AnswerMessage;
 use service_core::Service;
-use service_events::Arrived;
+use service_events::{ArriveRefused, Arrived, Done};
 use std::alloc::Global;
-use world_events::{Live, Outcome, Packet};
+use world_events::{Live, Packet};
 
 /// The flight that sent a live call.
 #[derive(Drop)]
@@ -26,8 +26,8 @@ pub(crate) struct Back {
     pub number: u64,
 }
 
-/// What goes back to a flight, as a packet.
-pub(crate) fn reply(back: Back, reply: Live) -> Packet
+// What goes back to a flight, as a packet.
+fn reply(back: Back, reply: Live) -> Packet
     ensures { result ≡ Packet.CallReply back.to back.flight back.number reply }
 {
     Packet::CallReply {
@@ -47,8 +47,17 @@ fn answer_by(back: Option<Back>, answer: AnswerMessage) -> Option<Packet>
     }
 }
 
-/// What is sent of a live request of the service of this name: its next call, or its answer, which goes back there.
-pub(crate) fn sent(from: Name, back: Option<Back>, arrived: Arrived) -> Option<Packet>
+fn refusal_by(back: Option<Back>, why: ArriveRefused) -> Option<Packet>
+    ensures { result ≡ refusal_by back why }
+{
+    match back {
+        None => None,
+        Some(back) => Some(reply(back, Live::refused(why))),
+    }
+}
+
+// Its next call, or its answer.
+fn sent(from: Name, back: Option<Back>, arrived: Arrived) -> Option<Packet>
     ensures { result ≡ sent from (answer_by back) arrived }
 {
     match arrived {
@@ -58,20 +67,17 @@ pub(crate) fn sent(from: Name, back: Option<Back>, arrived: Arrived) -> Option<P
     }
 }
 
-/// What became of a live request, as it is told.
-pub(crate) fn outcome_of(arrived: &Arrived) -> Outcome
-    ensures { result ≡ outcome_of arrived.now }
+/// The packet of a live request of the service of this name, by what the service answered: its next call, or its answer or
+/// the refusal of its arrival, which go back there.
+pub(crate) fn live_packet(from: Name, back: Option<Back>, done: Done) -> Option<Packet>
+    ensures { result ≡ live_packet from (answer_by back) (refusal_by back) done }
 {
-    match arrived {
-        Arrived::Done { index, id, .. } => Outcome::Done {
-            index: *index,
-            id: *id,
-        },
-        Arrived::Call { flight, .. } => Outcome::Call { flight: *flight },
-        Arrived::Known(answer) => Outcome::Known {
-            id: answer.id,
-            answer_version: answer.answer_version,
-        },
+    match done {
+        Done::Arrive(Ok(arrived)) => sent(from, back, arrived),
+        Done::Arrive(Err(why)) => refusal_by(back, why),
+        Done::CallAnswered(Ok(arrived)) => sent(from, back, arrived),
+        Done::CallFailed(Ok(arrived)) => sent(from, back, arrived),
+        _ => None,
     }
 }
 

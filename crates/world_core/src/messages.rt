@@ -1,40 +1,32 @@
 // Messages that repair come to a service of a world.
 ghost use Rattle.std.specs.Prelude.{◌≡◌};
-ghost use Rattle.world_events.specs.Events.{take_served, take_answer_served, posted_served, set_reply, answer_reply};
+ghost use Rattle.world_events.specs.Events.{take_served, take_answer_served, post_packet, posted_served};
 ghost use Rattle.world_core.specs.Acting.{Serves};
 
-use crate::served::Served;
+use crate::served::{ReplyTo, Served, act};
 use lang_core::{Copied, Inputs, NoMemory};
-use repair_messages::{AnswerMessage, Post, SetMessage};
+use repair_messages::{AnswerMessage, Post, SetMessage, copied_pair};
 use service_core::Service;
-use service_events::{AnswerRefused, PostRefused, PostReply, PostWord, TakeRefused};
+use service_events::{Done, Event, PostReply};
 use std::alloc::Global;
-use world_events::{Packet, What};
+use world_events::Packet;
 
-fn refused(word: PostWord, number: u64) -> PostReply
-    ensures { result ≡ PostReply.Refused word number }
+fn replied(post: Post, reply: PostReply) -> Option<Packet>
+    ensures { result ≡ Some (Packet.PostReply post reply) }
 {
-    PostReply::Refused { word, number }
+    Some(Packet::PostReply { post, reply })
 }
 
-fn set_refusal(why: TakeRefused) -> PostReply
-    ensures { result ≡ set_reply (Err why) }
+/// What comes back of a post that came, by what its receiver answered.
+pub(crate) fn post_packet(post: Post, done: Done) -> Option<Packet>
+    ensures { result ≡ post_packet post done }
 {
-    match why {
-        TakeRefused::NoMemory => refused(PostWord::NoMemory, 0),
-        TakeRefused::Full(count) => refused(PostWord::Full, count),
-        TakeRefused::NotYet(number) => refused(PostWord::NotYet, number),
-        TakeRefused::Denied(rule) => refused(PostWord::Denied, u64::from(rule)),
-    }
-}
-
-fn answer_refusal(why: AnswerRefused) -> PostReply
-    ensures { result ≡ answer_reply (Err why) }
-{
-    match why {
-        AnswerRefused::NoMemory => refused(PostWord::NoMemory, 0),
-        AnswerRefused::Unknown(number) => refused(PostWord::Unknown, number),
-        AnswerRefused::Denied(rule) => refused(PostWord::Denied, u64::from(rule)),
+    match done {
+        Done::Take(Ok(taken)) => replied(post, PostReply::Acked(taken.ack)),
+        Done::Take(Err(why)) => replied(post, why.post_reply()),
+        Done::TakeAnswer(Ok(heard)) => replied(post, PostReply::Confirmed(heard.confirm)),
+        Done::TakeAnswer(Err(why)) => replied(post, why.post_reply()),
+        _ => None,
     }
 }
 
@@ -47,24 +39,9 @@ pub(crate) fn take(
 ) -> Result<Served, NoMemory>
     ensures { Serves (take_served set.now service.old inputs) service.old result service.new }
 {
-    let post = Post::Set(set.copied(alloc)?);
-    match service.take(alloc, set, inputs) {
-        Ok(taken) => Ok(Served {
-            what: What::Take(Ok(taken.rule)),
-            packet: Some(Packet::PostReply {
-                post,
-                reply: PostReply::Acked(taken.ack),
-            }),
-        }),
-        Err(TakeRefused::NoMemory) => Err(NoMemory),
-        Err(why) => Ok(Served {
-            what: What::Take(Err(why)),
-            packet: Some(Packet::PostReply {
-                post,
-                reply: set_refusal(why),
-            }),
-        }),
-    }
+    let (came, set) = copied_pair(alloc, set, set)?;
+    let to = ReplyTo::Poster(Post::Set(came));
+    act(alloc, service, Event::Take { set, inputs }, to)
 }
 
 /// An answer to a call comes by a message.
@@ -75,24 +52,9 @@ pub(crate) fn take_answer(
 ) -> Result<Served, NoMemory>
     ensures { Serves (take_answer_served answer.now service.old) service.old result service.new }
 {
-    let post = Post::Answer(answer.copied(alloc)?);
-    match service.take_answer(alloc, answer) {
-        Ok(heard) => Ok(Served {
-            what: What::TakeAnswer(Ok(heard.rule)),
-            packet: Some(Packet::PostReply {
-                post,
-                reply: PostReply::Confirmed(heard.confirm),
-            }),
-        }),
-        Err(AnswerRefused::NoMemory) => Err(NoMemory),
-        Err(why) => Ok(Served {
-            what: What::TakeAnswer(Err(why)),
-            packet: Some(Packet::PostReply {
-                post,
-                reply: answer_refusal(why),
-            }),
-        }),
-    }
+    let (came, answer) = copied_pair(alloc, answer, answer)?;
+    let to = ReplyTo::Poster(Post::Answer(came));
+    act(alloc, service, Event::TakeAnswer { answer }, to)
 }
 
 /// Something comes back of a post.
@@ -104,13 +66,13 @@ pub(crate) fn posted(
 ) -> Result<Served, NoMemory>
     ensures { Serves (posted_served post.now reply service.old) service.old result service.new }
 {
-    match service.posted(alloc, post, reply) {
-        Err(PostRefused::NoMemory) => Err(NoMemory),
-        posted => Ok(Served {
-            what: What::Posted(posted),
-            packet: None,
-        }),
-    }
+    let post = post.copied(alloc)?;
+    act(
+        alloc,
+        service,
+        Event::Posted { post, reply },
+        ReplyTo::Nobody,
+    )
 }
 
 /// A packet comes that brings what comes back of a post.

@@ -3,13 +3,13 @@
 ghost use Rattle.std.specs.Prelude.{◌≡◌, IfOk};
 ghost use Rattle.world_events.specs.Ends.{PostsTo};
 ghost use Rattle.world_events.specs.Events.{order_served, next_post_served, repair_step_served};
-ghost use Rattle.world_core.specs.Acting.{GivesUp, Serves, served};
+ghost use Rattle.world_core.specs.Acting.{given_up, GivesUp, Serves, served};
 
-use crate::served::Served;
+use crate::served::{ReplyTo, Served, act};
 use journal_rows::Command;
 use lang_core::{Inputs, Name, NoMemory, Text};
 use service_core::Service;
-use service_events::OrderRefused;
+use service_events::{Done, Event};
 use std::alloc::Global;
 use world_events::{Packet, What};
 
@@ -17,11 +17,7 @@ use world_events::{Packet, What};
 pub(crate) fn repair_step(alloc: Global, service: &mut Service) -> Result<Served, NoMemory>
     ensures { Serves (repair_step_served service.old) service.old result service.new }
 {
-    let stepped = service.repair_step(alloc)?;
-    Ok(Served {
-        what: What::RepairStep(stepped),
-        packet: None,
-    })
+    act(alloc, service, Event::Step, ReplyTo::Nobody)
 }
 
 /// An operator gives the service an order.
@@ -35,13 +31,13 @@ pub(crate) fn order(
 ) -> Result<Served, NoMemory>
     ensures { Serves (order_served command token who service.old inputs) service.old result service.new }
 {
-    match service.order(alloc, command, token, who, inputs) {
-        Err(OrderRefused::NoMemory) => Err(NoMemory),
-        ordered => Ok(Served {
-            what: What::Order(ordered),
-            packet: None,
-        }),
-    }
+    let event = Event::Order {
+        command,
+        token,
+        who,
+        inputs,
+    };
+    act(alloc, service, event, ReplyTo::Nobody)
 }
 
 /// The oldest outstanding post to the service of this name is written, if there is one. It goes there.
@@ -64,17 +60,24 @@ pub(crate) fn next_post(alloc: Global, service: &Service, to: &Name) -> Result<S
     }
 }
 
-/// The service gives its flight of this number up, which takes no memory; None exactly where there is none, and then nothing
-/// changes.
-pub(crate) fn abandon(service: &mut Service, flight: u64) -> Option<Served>
-    ensures { GivesUp flight service.old result service.new }
+// What is told where a flight was there that was given up.
+fn given_up(done: &Done) -> Option<Served>
+    ensures { result ≡ given_up done.now }
 {
-    if service.abandon(flight) {
-        Some(Served {
+    match done {
+        Done::Abandon(true) => Some(Served {
             what: What::Abandon(true),
             packet: None,
-        })
-    } else {
-        None
+        }),
+        _ => None,
     }
+}
+
+/// The service gives its flight of this number up, which takes no memory; None exactly where there is none, and then nothing
+/// changes.
+pub(crate) fn abandon(alloc: Global, service: &mut Service, flight: u64) -> Option<Served>
+    ensures { GivesUp flight service.old result service.new }
+{
+    let done = service.event(alloc, Event::Abandon { flight });
+    given_up(&done)
 }

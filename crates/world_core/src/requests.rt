@@ -6,17 +6,16 @@ ghost use Rattle.world_events.specs.declared.packet.Packet.{Packet};
 ghost use Rattle.service_events.specs.Event.{IsFailure};
 ghost use Rattle.world_core.specs.Acting.{Serves};
 
-use crate::backs::{Back, ends_of, outcome_of, reply, sent};
+use crate::backs::{Back, ends_of};
 use crate::packets::Packets;
-use crate::served::Served;
+use crate::served::{ReplyTo, Served, act};
 use call_registers::Why;
 use lang_base::both;
 use lang_core::{Copied, Inputs, Name, NoMemory, Origin, Request};
 use repair_messages::{AnswerMessage, SetMessage, copied_pair};
 use service_core::Service;
-use service_events::{ArriveRefused, CallRefused};
+use service_events::Event;
 use std::alloc::Global;
-use world_events::{Live, What};
 
 /// A request comes from outside. Whatever packets there are, its answer goes back to none of their senders.
 pub(crate) fn arrive(
@@ -28,17 +27,12 @@ pub(crate) fn arrive(
     ensures { (packets : List Packet) → Serves (arrive_served packets request service.old inputs) service.old result service.new }
 {
     let from = service.setting().me.copied(alloc)?;
-    match service.arrive(alloc, Origin::Outside, request, inputs) {
-        Ok(arrived) => Ok(Served {
-            what: What::Arrive(Ok(outcome_of(&arrived))),
-            packet: sent(from, None, arrived),
-        }),
-        Err(ArriveRefused::NoMemory) => Err(NoMemory),
-        Err(why) => Ok(Served {
-            what: What::Arrive(Err(why)),
-            packet: None,
-        }),
-    }
+    let event = Event::Arrive {
+        origin: Origin::Outside,
+        request,
+        inputs,
+    };
+    act(alloc, service, event, ReplyTo::Caller { from, back: None })
 }
 
 // The flight that sent a live call.
@@ -86,17 +80,13 @@ pub(crate) fn arrive_as_call(
 {
     let ((from, caller), (back, request)) = call_copies(alloc, service, flight, set, request)?;
     let number = set.number;
-    match service.arrive(alloc, Origin::Call { caller, number }, request, inputs) {
-        Ok(arrived) => Ok(Served {
-            what: What::Arrive(Ok(outcome_of(&arrived))),
-            packet: sent(from, Some(back), arrived),
-        }),
-        Err(ArriveRefused::NoMemory) => Err(NoMemory),
-        Err(why) => Ok(Served {
-            what: What::Arrive(Err(why)),
-            packet: Some(reply(back, Live::refused(why))),
-        }),
-    }
+    let event = Event::Arrive {
+        origin: Origin::Call { caller, number },
+        request,
+        inputs,
+    };
+    let back = Some(back);
+    act(alloc, service, event, ReplyTo::Caller { from, back })
 }
 
 /// The call for which a flight waits was answered. Where the flight is a call itself, these packets tell whose.
@@ -109,18 +99,10 @@ pub(crate) fn call_answered(
 ) -> Result<Served, NoMemory>
     ensures { Serves (call_answered_served packets.now.list flight answer.now service.old) service.old result service.new }
 {
-    let (from, back) = ends_of(alloc, packets, service, flight)?;
-    match service.call_answered(alloc, flight, answer) {
-        Ok(arrived) => Ok(Served {
-            what: What::CallAnswered(Ok(outcome_of(&arrived))),
-            packet: sent(from, back, arrived),
-        }),
-        Err(CallRefused::NoMemory) => Err(NoMemory),
-        Err(why) => Ok(Served {
-            what: What::CallAnswered(Err(why)),
-            packet: None,
-        }),
-    }
+    let ends = ends_of(alloc, packets, service, flight);
+    let ((from, back), answer) = both(ends, answer.copied(alloc))?;
+    let event = Event::CallAnswered { flight, answer };
+    act(alloc, service, event, ReplyTo::Caller { from, back })
 }
 
 /// The call of this number failed. Where its flight is a call itself, these packets tell whose.
@@ -136,15 +118,10 @@ pub(crate) fn call_failed(
     ensures { Serves (call_failed_served packets.now.list flight number why service.old) service.old result service.new }
 {
     let (from, back) = ends_of(alloc, packets, service, flight)?;
-    match service.call_failed(alloc, flight, number, why) {
-        Ok(arrived) => Ok(Served {
-            what: What::CallFailed(Ok(outcome_of(&arrived))),
-            packet: sent(from, back, arrived),
-        }),
-        Err(CallRefused::NoMemory) => Err(NoMemory),
-        Err(why) => Ok(Served {
-            what: What::CallFailed(Err(why)),
-            packet: None,
-        }),
-    }
+    let event = Event::CallFailed {
+        flight,
+        number,
+        why,
+    };
+    act(alloc, service, event, ReplyTo::Caller { from, back })
 }

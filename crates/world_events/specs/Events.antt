@@ -15,24 +15,22 @@ use Rattle.call_registers.specs.declared.register.Why.{Why}
 use Rattle.call_registers.specs.declared.register.Why.TheVariants.{Lost, Refused as WasRefused}
 use Rattle.flights.specs.declared.flight.Flight.{Flight}
 use Rattle.service_events.specs.State.{Kept, After, me, flight_of}
-use Rattle.service_events.specs.Arriving.{arrive_event, call_answered_event, call_failed_event, abandon_event}
-use Rattle.service_events.specs.Messages.{take_event, take_answer_event, posted_event}
-use Rattle.service_events.specs.Orders.{order_event}
+use Rattle.service_events.specs.Event.{event}
 use Rattle.service_events.specs.Posts.{next_post, write_post}
-use Rattle.service_events.specs.Steps.{step_event}
+use Rattle.service_events.specs.Refusals.{answer_refused, arrive_refusal, call_word, set_refused}
 use Rattle.service_events.specs.declared.answers.Arrived.{Arrived}
-use Rattle.service_events.specs.declared.answers.Arrived.TheVariants.{Done, Call as Sends, Known}
+use Rattle.service_events.specs.declared.answers.Arrived.TheVariants.{Done as Committed, Call as Sends, Known}
 use Rattle.service_events.specs.declared.answers.Heard.{Heard}
 use Rattle.service_events.specs.declared.answers.PostReply.{PostReply}
-use Rattle.service_events.specs.declared.answers.PostReply.TheVariants.{Acked, Confirmed, Refused as PostIsRefused, Lost as PostIsLost}
-use Rattle.service_events.specs.declared.answers.PostWord.TheVariants as word
+use Rattle.service_events.specs.declared.answers.PostReply.TheVariants.{Acked, Confirmed, Lost as PostIsLost}
 use Rattle.service_events.specs.declared.answers.Taken.{Taken}
+use Rattle.service_events.specs.declared.event.Done.{Done}
+use Rattle.service_events.specs.declared.event.Done.TheVariants as done
+use Rattle.service_events.specs.declared.event.Event.{Event as ServiceEvent}
+use Rattle.service_events.specs.declared.event.Event.TheVariants as events
 use Rattle.service_events.specs.declared.refusals.AnswerRefused.{AnswerRefused}
-use Rattle.service_events.specs.declared.refusals.AnswerRefused.TheVariants as answer
 use Rattle.service_events.specs.declared.refusals.ArriveRefused.{ArriveRefused}
-use Rattle.service_events.specs.declared.refusals.ArriveRefused.TheVariants as arrive
 use Rattle.service_events.specs.declared.refusals.TakeRefused.{TakeRefused}
-use Rattle.service_events.specs.declared.refusals.TakeRefused.TheVariants as take
 use Rattle.world_agreement.specs.Partners.{service_of}
 use Rattle.world_events.specs.Worlds.{World, with_service, packet_of, next_packet, next_inputs, once_drawn, loss_note, once_lost}
 use Rattle.world_events.specs.declared.event.Event.{Event}
@@ -98,10 +96,10 @@ drawing_at name w act = turn_at name w (once_drawn w) (λ s. act s (next_inputs 
 abbrev pub losing_at : List ℕ → World → (Kept → FaultNote → Served) → Turn
 losing_at name w act = turn_at name w (once_lost w) (λ s. act s (loss_note w))
 
--- ---- live requests
+-- ---- what is told of a service's answer
 
 abbrev pub outcome_of : Arrived → Outcome
-outcome_of (Done index id back) = came.Done index id
+outcome_of (Committed index id back) = came.Done index id
 outcome_of (Sends flight set) = came.Call flight
 outcome_of (Known a) = came.Known a.id a.answer_version
 
@@ -109,13 +107,54 @@ abbrev pub outcome : {E : Type 0} → Result Arrived E → Result Outcome E
 outcome (Ok arrived) = Ok (outcome_of arrived)
 outcome (Err why) = Err why
 
+abbrev pub taken_rule : Result Taken TakeRefused → Result (Option ℕ) TakeRefused
+taken_rule (Ok t) = Ok t.rule
+taken_rule (Err why) = Err why
+
+abbrev pub answer_rule : Result Heard AnswerRefused → Result (Option ℕ) AnswerRefused
+answer_rule (Ok h) = Ok h.rule
+answer_rule (Err why) = Err why
+
+-- An answer without the message that it carries, which goes into a packet. Nothing is told of a post that is written, which
+-- the answer told that named it, of a step that lacked memory, and where no event was made.
+abbrev pub what_of : Done → What
+what_of (done.Arrive result) = what.Arrive (outcome result)
+what_of (done.CallAnswered result) = what.CallAnswered (outcome result)
+what_of (done.CallFailed result) = what.CallFailed (outcome result)
+what_of (done.Abandon was_there) = what.Abandon was_there
+what_of (done.Take result) = what.Take (taken_rule result)
+what_of (done.TakeAnswer result) = what.TakeAnswer (answer_rule result)
+what_of (done.NextPost name) = what.NextPost name
+what_of (done.WritePost result) = what.Set
+what_of (done.Posted result) = what.Posted result
+what_of (done.Step (Ok stepped)) = what.RepairStep stepped
+what_of (done.Step (Err why)) = what.Set
+what_of (done.Order result) = what.Order result
+what_of done.Gone = what.Set
+
+-- ---- what an event comes to at its service
+
+-- the service that is left, what is told of its answer, and the packet that is written of it
+abbrev pub came_to : (Kept → Done → Option Packet) → After Done → Served
+came_to packet a = record { service = a.service; what = what_of a.answer; packet = packet a.service a.answer }
+
+-- what this event comes to, by the packet that is written of what it left and answered
+abbrev pub acts : (Kept → Done → Option Packet) → Kept → ServiceEvent → Served
+acts packet s e = came_to packet (event s e)
+
+-- no packet is written
+abbrev pub unwritten : Kept → Done → Option Packet
+unwritten s answer = None
+
+-- ---- live requests
+
 abbrev pub answered_back : (AnswerMessage → Option Packet) → Option AnswerMessage → Option Packet
 answered_back back None = None
 answered_back back (Some a) = back a
 
 -- what is sent of a live request: its next call, or what goes back to its caller
 abbrev pub sent : List ℕ → (AnswerMessage → Option Packet) → Arrived → Option Packet
-sent name back (Done index id a) = answered_back back a
+sent name back (Committed index id a) = answered_back back a
 sent name back (Sends flight set) = Some (Call name flight set)
 sent name back (Known a) = back a
 
@@ -123,14 +162,20 @@ abbrev pub sent_or : {E : Type 0} → List ℕ → (AnswerMessage → Option Pac
 sent_or name back refusal (Ok arrived) = sent name back arrived
 sent_or name back refusal (Err why) = refusal why
 
--- what an event of a live request comes to, by what tells of it, what goes back to its caller, and what its refusal is
-abbrev pub lives : {E : Type 0} → (Result Outcome E → What) → (AnswerMessage → Option Packet) → (E → Option Packet) → After (Result Arrived E) → Served
-lives tells back refusal a =
-    record { service = a.service; what = tells (outcome a.answer); packet = sent_or (me a.service) back refusal a.answer }
-
 -- nothing is written of it
 abbrev pub unsaid : {E : Type 0} → E → Option Packet
 unsaid why = None
+
+-- the packet of a live request of the service of this name, by what goes back to its caller, and what the refusal of its arrival is
+abbrev pub live_packet : List ℕ → (AnswerMessage → Option Packet) → (ArriveRefused → Option Packet) → Done → Option Packet
+live_packet name back refusal (done.Arrive result) = sent_or name back refusal result
+live_packet name back refusal (done.CallAnswered result) = sent_or name back unsaid result
+live_packet name back refusal (done.CallFailed result) = sent_or name back unsaid result
+live_packet name back refusal answer = None
+
+-- what an event of a live request comes to
+abbrev pub lives : (AnswerMessage → Option Packet) → (ArriveRefused → Option Packet) → Kept → ServiceEvent → Served
+lives back refusal s e = acts (λ t. live_packet (me t) back refusal) s e
 
 -- the packet is this call's
 abbrev pub is_call_of : List ℕ → ℕ → Packet → Bool
@@ -147,27 +192,24 @@ abbrev pub reply_among : List Packet → AnswerMessage → Option Packet
 reply_among packets a = reply_to a (find (is_call_of a.caller a.number) packets)
 
 abbrev pub arrive_served : List Packet → Request → Kept → Inputs → Served
-arrive_served packets q s i = lives what.Arrive (reply_among packets) unsaid (arrive_event s Outside q i)
+arrive_served packets q s i = lives (reply_among packets) unsaid s (events.Arrive Outside q i)
 
 -- refusals of arrivals, as they are numbered
 abbrev pub live_refusal : ArriveRefused → Live
-live_refusal arrive.NoMemory = LiveRefused 1 0
-live_refusal (arrive.Full n) = LiveRefused 2 n
-live_refusal (arrive.NotYet n) = LiveRefused 3 n
-live_refusal (arrive.Gone v) = LiveRefused 4 v
+live_refusal why = LiveRefused (call_word why) (arrive_refusal why).number
 
 -- a delivered call: its answer, or its refusal, goes back to the flight that sent it
 abbrev pub call_arrive_served : ℕ → SetMessage → Request → Kept → Inputs → Served
 call_arrive_served flight set q s i =
-    lives what.Arrive (λ a. Some (CallReply set.caller flight set.number (LiveAnswer a)))
+    lives (λ a. Some (CallReply set.caller flight set.number (LiveAnswer a)))
     (λ why. Some (CallReply set.caller flight set.number (live_refusal why)))
-    (arrive_event s (CallOrigin set.caller set.number) q i)
+    s (events.Arrive (CallOrigin set.caller set.number) q i)
 
 abbrev pub call_answered_served : List Packet → ℕ → AnswerMessage → Kept → Served
-call_answered_served packets flight a s = lives what.CallAnswered (reply_among packets) unsaid (call_answered_event s flight a)
+call_answered_served packets flight a s = lives (reply_among packets) unsaid s (events.CallAnswered flight a)
 
 abbrev pub call_failed_served : List Packet → ℕ → ℕ → Why → Kept → Served
-call_failed_served packets flight number why s = lives what.CallFailed (reply_among packets) unsaid (call_failed_event s flight number why)
+call_failed_served packets flight number why s = lives (reply_among packets) unsaid s (events.CallFailed flight number why)
 
 -- ---- posts
 
@@ -176,61 +218,39 @@ abbrev pub sender : Post → List ℕ
 sender (SetPost set) = set.caller
 sender (AnswerPost a) = a.callee
 
-abbrev pub taken_rule : Result Taken TakeRefused → Result (Option ℕ) TakeRefused
-taken_rule (Ok t) = Ok t.rule
-taken_rule (Err why) = Err why
-
 abbrev pub set_reply : Result Taken TakeRefused → PostReply
 set_reply (Ok t) = Acked t.ack
-set_reply (Err take.NoMemory) = PostIsRefused word.NoMemory 0
-set_reply (Err (take.Full n)) = PostIsRefused word.Full n
-set_reply (Err (take.NotYet n)) = PostIsRefused word.NotYet n
-set_reply (Err (take.Denied rule)) = PostIsRefused word.Denied rule
-
--- a version of a call is delivered, and what its receiver says goes back
-abbrev pub take_served : SetMessage → Kept → Inputs → Served
-take_served set s i =
-    record {
-      service = (take_event s set i).service;
-      what = what.Take (taken_rule (take_event s set i).answer);
-      packet = Some (PostReplyPacket (SetPost set) (set_reply (take_event s set i).answer));
-    }
-
-abbrev pub answer_rule : Result Heard AnswerRefused → Result (Option ℕ) AnswerRefused
-answer_rule (Ok h) = Ok h.rule
-answer_rule (Err why) = Err why
+set_reply (Err why) = set_refused why
 
 abbrev pub answer_reply : Result Heard AnswerRefused → PostReply
 answer_reply (Ok h) = Confirmed h.confirm
-answer_reply (Err answer.NoMemory) = PostIsRefused word.NoMemory 0
-answer_reply (Err (answer.Unknown n)) = PostIsRefused word.Unknown n
-answer_reply (Err (answer.Denied rule)) = PostIsRefused word.Denied rule
+answer_reply (Err why) = answer_refused why
+
+-- what comes back of a post that is delivered
+abbrev pub post_packet : Post → Done → Option Packet
+post_packet post (done.Take result) = Some (PostReplyPacket post (set_reply result))
+post_packet post (done.TakeAnswer result) = Some (PostReplyPacket post (answer_reply result))
+post_packet post answer = None
+
+-- a version of a call is delivered, and what its receiver says goes back
+abbrev pub take_served : SetMessage → Kept → Inputs → Served
+take_served set s i = acts (λ _. post_packet (SetPost set)) s (events.Take set i)
 
 -- an answer that was posted is delivered, and what its receiver says goes back
 abbrev pub take_answer_served : AnswerMessage → Kept → Served
-take_answer_served a s =
-    record {
-      service = (take_answer_event s a).service;
-      what = what.TakeAnswer (answer_rule (take_answer_event s a).answer);
-      packet = Some (PostReplyPacket (AnswerPost a) (answer_reply (take_answer_event s a).answer));
-    }
+take_answer_served a s = acts (λ _. post_packet (AnswerPost a)) s (events.TakeAnswer a)
 
 -- something comes back of a post
 abbrev pub posted_served : Post → PostReply → Kept → Served
-posted_served post reply s =
-    record {
-      service = (posted_event s post reply).service;
-      what = what.Posted (posted_event s post reply).answer;
-      packet = None;
-    }
+posted_served post reply s = acts unwritten s (events.Posted post reply)
 
 abbrev pub written : Kept → PostName → Option Packet
 written s name = option_map (λ post. PostPacket post) (write_post s name)
 
 -- the oldest outstanding post is written, if there is one
 abbrev pub next_post_written : Kept → Option PostName → Served
-next_post_written s None = record { service = s; what = what.NextPost None; packet = None }
-next_post_written s (Some name) = record { service = s; what = what.NextPost (Some name); packet = written s name }
+next_post_written s None = record { service = s; what = what_of (done.NextPost None); packet = None }
+next_post_written s (Some name) = record { service = s; what = what_of (done.NextPost (Some name)); packet = written s name }
 
 abbrev pub next_post_served : List ℕ → Kept → Served
 next_post_served to s = next_post_written s (next_post to s)
@@ -238,19 +258,13 @@ next_post_served to s = next_post_written s (next_post to s)
 -- ---- the other events of a service
 
 abbrev pub repair_step_served : Kept → Served
-repair_step_served s = record { service = (step_event s).service; what = what.RepairStep (step_event s).answer; packet = None }
+repair_step_served s = acts unwritten s events.Step
 
 abbrev pub abandon_served : ℕ → Kept → Served
-abandon_served flight s =
-    record { service = (abandon_event s flight).service; what = what.Abandon (abandon_event s flight).answer; packet = None }
+abandon_served flight s = acts unwritten s (events.Abandon flight)
 
 abbrev pub order_served : Command → List ℕ → List ℕ → Kept → Inputs → Served
-order_served command token who s i =
-    record {
-      service = (order_event s command token who i).service;
-      what = what.Order (order_event s command token who i).answer;
-      packet = None;
-    }
+order_served command token who s i = acts unwritten s (events.Order command token who i)
 
 -- ---- packets
 

@@ -4,7 +4,7 @@ use Rattle.lang_core.specs.declared.trace.CallMade.{CallMade}
 use Rattle.request_log.specs.Entries.{has_id, has_origin}
 use Rattle.request_log.specs.declared.entry.Entry.{Entry}
 use Rattle.request_log.specs.declared.entry.Made.{Made}
-use Rattle.local_repair.specs.Steps.{calls_of_made}
+use Rattle.world_agreement.specs.HandedOn.{calls_of_made}
 use Rattle.journal_rows.specs.declared.row.Row.{Row}
 use Rattle.journal_rows.specs.declared.row.Row.TheVariants.{Answered, Sent, SawAnswer}
 use Rattle.call_registers.specs.Registers.{register, consumed}

@@ -1,11 +1,14 @@
 // What an event came to.
+ghost use Rattle.std.specs.Prelude.{◌≡◌};
+ghost use Rattle.world_events.specs.Events.{outcome_of, what_of};
+
 use lang_core::Name;
-use local_repair::Stepped;
 use repair_messages::PostName;
 use service_events::{
-    AnswerRefused, ArriveRefused, CallRefused, OrderRefused, Ordered, PostRefused, Posted,
-    TakeRefused,
+    AnswerRefused, ArriveRefused, Arrived, CallRefused, Done, OrderRefused, Ordered, PostRefused,
+    Posted, TakeRefused,
 };
+use world_agreement::Stepped;
 
 /// What became of a live request.
 #[derive(Clone, Copy, PartialEq, Eq)]
@@ -18,7 +21,7 @@ pub enum Outcome {
     Known { id: u64, answer_version: u64 },
 }
 
-/// What happened, by the answer or the refusal of the service.
+/// What happened, by the answer or the refusal of the service (`what_of`), without the message that goes into a packet.
 #[derive(Clone, Copy, PartialEq, Eq)]
 pub enum What {
     /// A request came from outside, or a call came from another service.
@@ -41,8 +44,52 @@ pub enum What {
     Abandon(bool),
     /// An order.
     Order(Result<Ordered, OrderRefused>),
-    /// The clock or the random words were set.
+    /// No event of a service that is told: the clock or the random words were set.
     Set,
+}
+
+fn outcome_of(arrived: &Arrived) -> Outcome
+    ensures { result ≡ outcome_of arrived.now }
+{
+    match arrived {
+        Arrived::Done { index, id, .. } => Outcome::Done {
+            index: *index,
+            id: *id,
+        },
+        Arrived::Call { flight, .. } => Outcome::Call { flight: *flight },
+        Arrived::Known(answer) => Outcome::Known {
+            id: answer.id,
+            answer_version: answer.answer_version,
+        },
+    }
+}
+
+/// What is told of a service's answer to an event. The answer stays whole, since the packet that is written of it is made of
+/// its message: a copy could run out of memory once the service has changed. A post that is written is told by the answer
+/// that named it; and where memory lacks, or no event was made, there is nothing to tell.
+pub fn what_of(done: &Done) -> What
+    ensures { result ≡ what_of done.now }
+{
+    match done {
+        Done::Arrive(Ok(arrived)) => What::Arrive(Ok(outcome_of(arrived))),
+        Done::Arrive(Err(why)) => What::Arrive(Err(*why)),
+        Done::CallAnswered(Ok(arrived)) => What::CallAnswered(Ok(outcome_of(arrived))),
+        Done::CallAnswered(Err(why)) => What::CallAnswered(Err(*why)),
+        Done::CallFailed(Ok(arrived)) => What::CallFailed(Ok(outcome_of(arrived))),
+        Done::CallFailed(Err(why)) => What::CallFailed(Err(*why)),
+        Done::Abandon(was_there) => What::Abandon(*was_there),
+        Done::Take(Ok(taken)) => What::Take(Ok(taken.rule)),
+        Done::Take(Err(why)) => What::Take(Err(*why)),
+        Done::TakeAnswer(Ok(heard)) => What::TakeAnswer(Ok(heard.rule)),
+        Done::TakeAnswer(Err(why)) => What::TakeAnswer(Err(*why)),
+        Done::NextPost(name) => What::NextPost(*name),
+        Done::WritePost(_) => What::Set,
+        Done::Posted(posted) => What::Posted(*posted),
+        Done::Step(Ok(stepped)) => What::RepairStep(*stepped),
+        Done::Step(Err(_)) => What::Set,
+        Done::Order(ordered) => What::Order(*ordered),
+        Done::Gone => What::Set,
+    }
 }
 
 /// What happened at an event. What a message says stands in its packet, and what a request was answered in the journal.

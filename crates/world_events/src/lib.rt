@@ -10,5 +10,5 @@ mod happened;
 mod packet;
 
 pub use event::{Event, WorldStepRefused};
-pub use happened::{Happened, Outcome, What};
+pub use happened::{Happened, Outcome, What, what_of};
 pub use packet::{Live, Packet};

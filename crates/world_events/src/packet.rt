@@ -19,18 +19,14 @@ pub enum Live {
 }
 
 impl Live {
-    /// The callee refused the call. Refusals of arrivals are numbered so: NoMemory 1, Full 2, NotYet 3, Gone 4. What a reply
-    /// over the wire comes to has the same numbers.
+    /// The callee refused the call. What a reply over the wire comes to has the same number.
     pub fn refused(why: ArriveRefused) -> Live
         ensures { result ≡ live_refusal why }
     {
-        let (word, number) = match why {
-            ArriveRefused::NoMemory => (1, 0),
-            ArriveRefused::Full(count) => (2, count),
-            ArriveRefused::NotYet(number) => (3, number),
-            ArriveRefused::Gone(version) => (4, version),
-        };
-        Live::Refused { word, number }
+        Live::Refused {
+            word: why.call_word(),
+            number: why.refusal().number,
+        }
     }
 }
 

@@ -44,7 +44,7 @@ use Rattle.world_agreement.specs.Partners.{has_name, service_of, NamesDiffer}
 use Rattle.world_agreement.proofs.ListLemmas.{found_in}
 use Rattle.world_agreement.proofs.NameLemmas.{name_is}
 use Rattle.world_events.specs.Ends.{post_receiver, receiver, beginner, IsThere, HasEnds, AreClosed, IsClosed, PostsTo, PostsWell}
-use Rattle.world_events.specs.Events.{Served, refused, turned, if_there, turn_at, at_service, sent_or, lives, unsaid, is_call_of, reply_to, reply_among, arrive_served, live_refusal, call_arrive_served, call_answered_served, call_failed_served, sender, take_served, take_answer_served, posted_served, next_post_written, next_post_served, repair_step_served, abandon_served, order_served, call_delivered, reply_delivered, post_delivered, delivered, call_lost, lost, if_flying, turn, answer_to, after_event}
+use Rattle.world_events.specs.Events.{Served, refused, turned, if_there, turn_at, at_service, outcome, sent_or, unsaid, is_call_of, reply_to, reply_among, arrive_served, live_refusal, call_arrive_served, call_answered_served, call_failed_served, sender, take_served, take_answer_served, posted_served, next_post_written, next_post_served, repair_step_served, abandon_served, order_served, call_delivered, reply_delivered, post_delivered, delivered, call_lost, lost, if_flying, turn, answer_to, after_event}
 use Rattle.world_events.specs.Reach.{ArePeered, AnswersBy, missing, where_none}
 use Rattle.world_events.specs.Worlds.{World, loss_note, next_inputs, once_drawn, once_lost, packet_of, with_service}
 use Rattle.world_events.specs.declared.event.Event.{Event}
@@ -202,7 +202,8 @@ module _ (services : List Kept) (packets : List Packet) (h : AreClosed services 
   reply_ends a (Some (PostReplyPacket post reply)) found = tt
 
   live_writes : {E : Type 0} (a : After (Result Arrived E)) (tells : Result Outcome E → What) (back : AnswerMessage → Option Packet) (refusal : E → Option Packet) → Lives s a
-      → ((m : AnswerMessage) → IfSome (back m) (HasEnds services)) → ((why : E) → IfSome (refusal why) (HasEnds services)) → Writes services s (lives tells back refusal a)
+      → ((m : AnswerMessage) → IfSome (back m) (HasEnds services)) → ((why : E) → IfSome (refusal why) (HasEnds services))
+      → Writes services s (record { service = a.service; what = tells (outcome a.answer); packet = sent_or (me a.service) back refusal a.answer })
   live_writes {E} a tells back refusal l backs refuses = record { setting = l.setting; packet = said a.answer l.sends }
     where
       said : (r : Result Arrived E) → IfSends s r → IfSome (sent_or (me a.service) back refusal r) (HasEnds services)

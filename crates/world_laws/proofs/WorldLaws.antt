@@ -44,7 +44,7 @@ use Rattle.world_agreement.specs.Partners.{has_name, service_of, NamesDiffer, Is
 use Rattle.world_agreement.proofs.ListLemmas.{found_in, found_passes}
 use Rattle.world_agreement.proofs.NameLemmas.{name_is}
 use Rattle.world_events.specs.Worlds.{World, fresh_world, with_service, packet_of, next_inputs, once_drawn, once_lost, loss_note}
-use Rattle.world_events.specs.Events.{Turn, Served, refused, turned, if_there, turn_at, at_service, sent_or, lives, unsaid, is_call_of, reply_to, reply_among, arrive_served, live_refusal, call_arrive_served, call_answered_served, call_failed_served, sender, set_reply, take_served, answer_reply, take_answer_served, posted_served, next_post_written, next_post_served, repair_step_served, abandon_served, order_served, call_delivered, reply_delivered, post_delivered, delivered, call_lost, post_lost, lost, next_post_turn, if_flying, abandon_turn, turn, after_event, after_events}
+use Rattle.world_events.specs.Events.{Turn, Served, refused, turned, if_there, turn_at, at_service, outcome, sent_or, unsaid, is_call_of, reply_to, reply_among, arrive_served, live_refusal, call_arrive_served, call_answered_served, call_failed_served, sender, set_reply, take_served, answer_reply, take_answer_served, posted_served, next_post_written, next_post_served, repair_step_served, abandon_served, order_served, call_delivered, reply_delivered, post_delivered, delivered, call_lost, post_lost, lost, next_post_turn, if_flying, abandon_turn, turn, after_event, after_events}
 use Rattle.world_events.specs.Sound.{WasSent, WasAnswered, CallStands, ReplyStands, PostStands, PostReplyStands, PacketStands, OriginStands, FlightStands, FlightsStand, AreSound, IsSound, AreFew, AllFew}
 use Rattle.world_events.specs.declared.event.Event.{Event}
 use Rattle.world_events.specs.declared.event.Event.TheVariants.{Begin, Deliver, Lose, Post as Posts, Step, Abandon, Order, Clock, Seed}
@@ -119,7 +119,8 @@ module _ (services : List Kept) (packets : List Packet) (h : AreSound services p
   live_owes : {E : Type 0} (o : Origin) (a : After (Result Arrived E)) (tells : Result Outcome E → What) (back : AnswerMessage → Option Packet) (refusal : E → Option Packet)
       → Moves services s o a → (IsFew a.service → Fits a.service)
       → ((m : AnswerMessage) → IsGiven o a.service m → IfSome (back m) (PacketStands (put name a.service services)))
-      → ((why : E) → IfSome (refusal why) (PacketStands (put name a.service services))) → Owes services name s (lives tells back refusal a)
+      → ((why : E) → IfSome (refusal why) (PacketStands (put name a.service services)))
+      → Owes services name s (record { service = a.service; what = tells (outcome a.answer); packet = sent_or (me a.service) back refusal a.answer })
   live_owes {E} o a tells back refusal m fits backs refuses = record { turns = m.turns; fits = fits; packet = said a.answer m.says }
     where
       said : (r : Result Arrived E) → SaysOr o a.service r → IfSome (sent_or (me a.service) back refusal r) (PacketStands (put name a.service services))
