@@ -5,7 +5,7 @@ use Rattle.journal_rows.specs.declared.orders.About.{About}
 use Rattle.journal_rows.specs.declared.orders.About.TheVariants.{Request, Post}
 use Rattle.service_events.specs.declared.answers.Ordered.{Ordered}
 use Rattle.service_events.specs.declared.refusals.OrderRefused.{OrderRefused}
-use Rattle.report_text.specs.Notices.{post_name_text}
+use Rattle.service_reports.specs.HandedOn.{post_name_text}
 use Rattle.serde_json.specs.Data.{Data, string, object, no_members, member}
 use Rattle.serde_json.specs.Written.{compact_text}
 use Rattle.http_front.specs.declared.message.WireResponse.{WireResponse}

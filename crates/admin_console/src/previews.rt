@@ -7,6 +7,7 @@ use crate::fields::{number_at, object_in};
 use crate::replies::{bad, refused_reply, report_reply};
 use http_front::{AireHeader, WireResponse};
 use lang_core::{NoMemory, Text};
+use repair_messages::RefusalWord;
 use service_reports::{Service, Unshown, cancellation_shown};
 use std::alloc::Global;
 use wire_bytes::console_reply;
@@ -28,6 +29,7 @@ fn refusal_json(alloc: Global, word: &str, number: u64) -> Result<Text, NoMemory
     Text::shared(text)
 }
 
+// Such a refusal passes, as that of a call in flight does, and has its status.
 fn conflict(alloc: Global, field: &str, word: &str, number: u64) -> Result<WireResponse, NoMemory>
     ensures { IfOk result (λ response. response ≡ conflict field.now word.now number) }
 {
@@ -39,7 +41,7 @@ fn conflict(alloc: Global, field: &str, word: &str, number: u64) -> Result<WireR
         AireHeader::Refused,
         field.as_bytes(),
     )?;
-    response.status = 409;
+    response.status = RefusalWord::NotYet.status();
     Ok(response)
 }
 

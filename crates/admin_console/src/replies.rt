@@ -9,19 +9,20 @@ ghost use Rattle.admin_console.specs.Replies.{about_text, accepted_json, bad, or
 use http_front::WireResponse;
 use journal_rows::About;
 use lang_core::{Name, NoMemory, Text};
-use report_text::push_post_name;
 use request_names::push_id;
 use serde_json::{Value, json};
 use service_events::{OrderRefused, Ordered};
+use service_reports::push_post_name;
 use std::alloc::Global;
 use wire_bytes::{console_refusal, console_reply};
+use wire_fields::UnreadWord;
 use wire_words::order_told;
 
 /// The body was ill.
 pub fn bad(alloc: Global) -> Result<WireResponse, NoMemory>
     ensures { IfOk result (λ response. response ≡ bad) }
 {
-    console_refusal(alloc, "bad", 0)
+    console_refusal(alloc, UnreadWord::Bad.text(), 0)
 }
 
 // ---- orders

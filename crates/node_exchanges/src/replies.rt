@@ -10,7 +10,7 @@ use crate::served::Served;
 use http_front::{WireResponse, WriteRefused, write_response};
 use io_edge::{Connection, Failed, write_all};
 use lang_core::{Name, NoMemory, RequestId};
-use repair_messages::{AnswerMessage, copied_pair};
+use repair_messages::{AnswerMessage, RefusalWord, copied_pair};
 use std::alloc::Global;
 use wire_replies::{Outgoing, write_reply};
 use wire_words::refusal;
@@ -83,7 +83,7 @@ pub fn say_no_memory<C: Connection>(
     ensures said { SaysIt setup.now.setting.me setup.now.secret (option_copied to.entry) (RefusedBy (codes "nomemory") 0) (C.Sink.writes conn.old) (C.Sink.writes conn.new) result }
     ensures beside { C.Sink.beside conn.new ≡ C.Sink.beside conn.old }
 {
-    refuse(alloc, setup, conn, to, "nomemory", 0)
+    refuse(alloc, setup, conn, to, RefusalWord::NoMemory.text(), 0)
 }
 
 fn known_reply(alloc: Global, answer: AnswerMessage) -> Result<Outgoing, NoMemory>

@@ -20,6 +20,7 @@ use journal_rows::Command;
 use lang_core::{Copied, Inputs, NoMemory, Text};
 use node_core::{NodeDone, NodeEvent, Pass};
 use node_exchanges::{Served, write};
+use repair_messages::RefusalWord;
 use service_events::{OrderRefused, Ordered};
 use std::alloc::Global;
 use std::sync::Wait;
@@ -156,7 +157,7 @@ fn reply_or_want<R: Ledger, Q: Ledger, W: Wait>(
 {
     match reply(rt, alloc, desk, pass, request, inputs) {
         Ok(response) => Ok(response),
-        Err(_) => console_refusal(alloc, "nomemory", 0),
+        Err(_) => console_refusal(alloc, RefusalWord::NoMemory.text(), 0),
     }
 }
 

@@ -5,7 +5,7 @@ ghost use Rattle.report_text.specs.Notices.{hold_text, notice_line, notices_text
 use crate::rows::or_none;
 use call_registers::Hold;
 use lang_core::{NoMemory, Text};
-use repair_messages::PostName;
+use repair_messages::{PostName, RefusalWord};
 use repair_queue::{Notice, Notices};
 use std::alloc::Global;
 
@@ -35,7 +35,7 @@ fn push_hold(text: &mut String, hold: Hold) -> Result<(), NoMemory>
 {
     match hold {
         Hold::Rule(rule) => write!(text, "rule {rule}")?,
-        Hold::Unknown => text.push_str("unknown")?,
+        Hold::Unknown => text.push_str(RefusalWord::Unknown.text())?,
     }
     Ok(())
 }
