@@ -1,5 +1,5 @@
--- What an event of a live request tells of the journal.
-use Rattle.std.proofs.Common.{◌≡◌, ◌+◌, ℕ, List, Option, Some, None, Result, Ok, Err, IsSomeAnd, MatchOption, length, slice_get, sym, ap, ◌∙◌, subst, arith, length-append}
+-- What an event of a live request tells of the journal, and of its receipt.
+use Rattle.std.proofs.Common.{◌≡◌, ◌+◌, ℕ, List, Option, Some, None, Result, Ok, Err, IfSome, IsSomeAnd, MatchOption, length, slice_get, refl, sym, ap, ◌∙◌, subst, arith, length-append}
 use Rattle.lang_core.specs.declared.ids.Origin.{Origin}
 use Rattle.lang_core.specs.declared.inputs.Inputs.{Inputs}
 use Rattle.lang_core.specs.declared.request.Request.{Request}
@@ -9,22 +9,29 @@ use Rattle.service_events.specs.Commits.{live_rows, live_answer_of, Commits, Com
 use Rattle.service_events.specs.State.{Kept, flight_of}
 use Rattle.service_events.specs.declared.answers.Arrived.{Arrived}
 use Rattle.service_events.specs.declared.answers.Arrived.TheVariants as arrived
-use Rattle.node_core.specs.Doings.{commits_in, GetsReceipt, GetsReceiptOf, HasAnsweredIf, IsGivenReceipt, IsOpen, IsSameFlight, IsThere}
+use Rattle.node_core.specs.Doings.{commits_in, GetsReceipt, GetsReceiptOf, IsOpen, IsSameFlight, IsThere}
+use Rattle.node_core.specs.Memos.{committed_in, committed_of, count_of, IsGivenReceipt, IsIn}
 use Rattle.node_core.specs.declared.notes.Begun.{Begun}
 use Rattle.node_core.specs.declared.receipt.Receipt.{Receipt}
 
 -- as many live answers more as were committed
 pub counts : {E : Type 0} (o : Origin) (q : Request) (i : Inputs) (s t : Kept) (result : Result Arrived E) → Commits o q i s result t
-    → length (live_rows t.journal) ≡ length (live_rows s.journal) + commits_in result
+    → length (live_rows t.journal) ≡ length (live_rows s.journal) + count_of (committed_in q i result)
 counts o q i s t (Ok (arrived.Done index id answer)) h =
     ap length h.alone ∙ length-append (live_rows s.journal) _
 counts o q i s t (Ok (arrived.Call flight set)) h = omega (arith, ap length h.0.lives)
 counts o q i s t (Ok (arrived.Known answer)) h = omega (arith, ap length h.lives)
 counts o q i s t (Err why) h = omega (arith, ap (λ (k : Kept). length (live_rows k.journal)) h)
 
+pub counted : {E : Type 0} (q : Request) (i : Inputs) (result : Result Arrived E) → count_of (committed_in q i result) ≡ commits_in result
+counted q i (Ok (arrived.Done index id answer)) = refl
+counted q i (Ok (arrived.Call flight set)) = refl
+counted q i (Ok (arrived.Known answer)) = refl
+counted q i (Err why) = refl
+
 -- behind a commit the answer stands there
 pub answered : {E : Type 0} (o : Origin) (q : Request) (i : Inputs) (s t : Kept) (result : Result Arrived E) → Commits o q i s result t
-    → HasAnsweredIf t.journal q i result
+    → IfSome (committed_in q i result) (IsIn t.journal)
 answered o q i s t (Ok (arrived.Done index id answer)) h =
     record { origin = o; response = h.trace.response; there = h.there; asked_so = h.asks }
 answered o q i s t (Ok (arrived.Call flight set)) h = tt
@@ -33,7 +40,7 @@ answered o q i s t (Err why) h = tt
 
 -- a receipt of the answer there is of the live request that was committed
 pub gets : {E : Type 0} (o : Origin) (q : Request) (i : Inputs) (s t : Kept) (secret : List ℕ) (result : Result Arrived E) (before behind : List Receipt)
-    → Commits o q i s result t → IsGivenReceipt t secret q i result before behind → GetsReceipt t secret o q i result before behind
+    → Commits o q i s result t → IsGivenReceipt t secret (committed_in q i result) before behind → GetsReceipt t secret o q i result before behind
 gets o q i s t secret (Ok (arrived.Done index id answer)) before behind h given =
     let r = given.receipt in
     let row : Some r.row ≡ Some (Answered (live_answer_of id o h.trace.response)) =
@@ -68,19 +75,22 @@ flies flight (Some b) s t result opened there h =
 
 pub counts_open : {E : Type 0} (begun : Option Begun) (s t : Kept) (result : Result Arrived E)
     → IsSomeAnd begun (λ (b : Begun). Commits b.origin b.request b.inputs s result t)
-    → length (live_rows t.journal) ≡ length (live_rows s.journal) + commits_in result
+    → length (live_rows t.journal) ≡ length (live_rows s.journal) + count_of (committed_of begun result)
 counts_open None s t result h = absurd h
 counts_open (Some b) s t result h = counts b.origin b.request b.inputs s t result h
 
+pub counted_open : {E : Type 0} (begun : Option Begun) (P : Begun → Type 0) (result : Result Arrived E) → IsSomeAnd begun P
+    → count_of (committed_of begun result) ≡ commits_in result
+counted_open None P result h = absurd h
+counted_open (Some b) P result h = counted b.request b.inputs result
+
 pub answered_open : {E : Type 0} (begun : Option Begun) (s t : Kept) (result : Result Arrived E)
-    → IsSomeAnd begun (λ (b : Begun). Commits b.origin b.request b.inputs s result t)
-    → IsSomeAnd begun (λ (b : Begun). HasAnsweredIf t.journal b.request b.inputs result)
+    → IsSomeAnd begun (λ (b : Begun). Commits b.origin b.request b.inputs s result t) → IfSome (committed_of begun result) (IsIn t.journal)
 answered_open None s t result h = absurd h
 answered_open (Some b) s t result h = answered b.origin b.request b.inputs s t result h
 
 pub gets_open : {E : Type 0} (begun : Option Begun) (s t : Kept) (secret : List ℕ) (result : Result Arrived E) (before behind : List Receipt)
-    → IsSomeAnd begun (λ (b : Begun). Commits b.origin b.request b.inputs s result t)
-    → IsSomeAnd begun (λ (b : Begun). IsGivenReceipt t secret b.request b.inputs result before behind)
+    → IsSomeAnd begun (λ (b : Begun). Commits b.origin b.request b.inputs s result t) → IsGivenReceipt t secret (committed_of begun result) before behind
     → GetsReceiptOf t secret begun result before behind
 gets_open None s t secret result before behind h given = absurd h
 gets_open (Some b) s t secret result before behind h given = gets b.origin b.request b.inputs s t secret result before behind h given

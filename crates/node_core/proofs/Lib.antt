@@ -4,5 +4,5 @@ pub mod AskedLemmas
 pub mod ApartLemmas
 pub mod TwiceLemmas
 pub mod CommitLemmas
+pub mod EventLemmas
 pub mod WholeLemmas
-pub mod PostLemmas

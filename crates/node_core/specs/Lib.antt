@@ -3,3 +3,5 @@ pub mod Receipts
 pub mod Closings
 pub mod Notes
 pub mod Doings
+pub mod Memos
+pub mod HandedOn

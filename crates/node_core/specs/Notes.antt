@@ -1,32 +1,21 @@
 -- What a pass notes of an event.
 use Rattle.std.specs.Prelude.{ℕ, ◌+◌, ◌-◌, ◌^◌, List, Option, Some, None, Result, Ok, Err, min, option_map}
-use Rattle.lang_base.specs.declared.memory.NoMemory.{NoMemory as LacksMemory}
 use Rattle.repair_messages.specs.declared.messages.SetMessage.{SetMessage}
 use Rattle.repair_messages.specs.declared.posts.Post.{Post}
 use Rattle.repair_messages.specs.declared.posts.Post.TheVariants as posts
 use Rattle.repair_messages.specs.declared.posts.PostName.{PostName}
 use Rattle.repair_messages.specs.declared.posts.PostName.TheVariants as names
+use Rattle.repair_messages.specs.declared.refusals.Refusal.{Refusal}
 use Rattle.call_registers.specs.declared.register.Why.{Why}
 use Rattle.call_registers.specs.declared.register.Why.TheVariants as whys
+use Rattle.service_events.specs.Refusals.{refusal_in, refusal_of}
 use Rattle.service_events.specs.declared.answers.Arrived.{Arrived}
 use Rattle.service_events.specs.declared.answers.Arrived.TheVariants as arrived
 use Rattle.service_events.specs.declared.answers.Posted.{Posted}
-use Rattle.service_events.specs.declared.refusals.AnswerRefused.{AnswerRefused}
-use Rattle.service_events.specs.declared.refusals.AnswerRefused.TheVariants as answer
-use Rattle.service_events.specs.declared.refusals.ArriveRefused.{ArriveRefused}
-use Rattle.service_events.specs.declared.refusals.ArriveRefused.TheVariants as arrive
-use Rattle.service_events.specs.declared.refusals.CallRefused.{CallRefused}
-use Rattle.service_events.specs.declared.refusals.CallRefused.TheVariants as call
-use Rattle.service_events.specs.declared.refusals.OrderRefused.{OrderRefused}
-use Rattle.service_events.specs.declared.refusals.OrderRefused.TheVariants as order
-use Rattle.service_events.specs.declared.refusals.PostRefused.{PostRefused}
-use Rattle.service_events.specs.declared.refusals.PostRefused.TheVariants as post
-use Rattle.service_events.specs.declared.refusals.TakeRefused.{TakeRefused}
-use Rattle.service_events.specs.declared.refusals.TakeRefused.TheVariants as take
-use Rattle.node_core.specs.declared.asking.NodeDone.{NodeDone}
-use Rattle.node_core.specs.declared.asking.NodeDone.TheVariants as done
-use Rattle.node_core.specs.declared.asking.NodeEvent.{NodeEvent}
-use Rattle.node_core.specs.declared.asking.NodeEvent.TheVariants as events
+use Rattle.service_events.specs.declared.event.Done.{Done}
+use Rattle.service_events.specs.declared.event.Done.TheVariants as done
+use Rattle.service_events.specs.declared.event.Event.{Event}
+use Rattle.service_events.specs.declared.event.Event.TheVariants as events
 use Rattle.node_core.specs.declared.notes.Begun.{Begun}
 use Rattle.node_core.specs.declared.notes.Gave.{Gave}
 use Rattle.node_core.specs.declared.notes.Notes.{Notes}
@@ -34,73 +23,25 @@ use Rattle.node_core.specs.declared.notes.Posting.{Posting}
 use Rattle.node_core.specs.declared.notes.Posting.TheVariants as posting
 use Rattle.node_core.specs.declared.notes.Turn.{Turn}
 use Rattle.node_core.specs.declared.notes.Turn.TheVariants as turn
-use Rattle.node_core.specs.declared.notes.TurnWord.TheVariants as words
 
 -- ---- how an event was turned away
 
-abbrev pub arrive_turn : ArriveRefused → Turn
-arrive_turn arrive.NoMemory = turn.Refused words.NoMemory 0
-arrive_turn (arrive.Full n) = turn.Refused words.Full n
-arrive_turn (arrive.NotYet number) = turn.Refused words.NotYet number
-arrive_turn (arrive.Gone version) = turn.Refused words.Gone version
-
-abbrev pub call_turn : CallRefused → Turn
-call_turn call.NoMemory = turn.Refused words.NoMemory 0
-call_turn (call.NoFlight flight) = turn.Refused words.NoFlight flight
-
-abbrev pub take_turn : TakeRefused → Turn
-take_turn take.NoMemory = turn.Refused words.NoMemory 0
-take_turn (take.Full n) = turn.Refused words.Full n
-take_turn (take.NotYet number) = turn.Refused words.NotYet number
-take_turn (take.Denied rule) = turn.Refused words.Denied rule
-
-abbrev pub answer_turn : AnswerRefused → Turn
-answer_turn answer.NoMemory = turn.Refused words.NoMemory 0
-answer_turn (answer.Unknown number) = turn.Refused words.Unknown number
-answer_turn (answer.Denied rule) = turn.Refused words.Denied rule
-
-abbrev pub post_turn : PostRefused → Turn
-post_turn post.NoMemory = turn.Refused words.NoMemory 0
-post_turn post.Foreign = turn.Refused words.Foreign 0
-
-abbrev pub order_turn : OrderRefused → Turn
-order_turn order.NoMemory = turn.Refused words.NoMemory 0
-order_turn (order.NoSuchRequest id) = turn.Refused words.NoSuchRequest id
-order_turn (order.Denied rule) = turn.Refused words.Denied rule
-order_turn (order.Full n) = turn.Refused words.Full n
-order_turn order.NotHeld = turn.Refused words.NotHeld 0
-order_turn (order.NotOutside id) = turn.Refused words.NotOutside id
-
-abbrev pub memory_turn : LacksMemory → Turn
-memory_turn why = turn.Refused words.NoMemory 0
-
--- the reason of a refusal
-abbrev pub why_of : {A E : Type 0} → Result A E → Option E
-why_of (Ok a) = None
-why_of (Err why) = Some why
-
-abbrev pub turn_if : {A E : Type 0} → (E → Turn) → Result A E → Option Turn
-turn_if turned result = option_map turned (why_of result)
+-- by this refusal
+abbrev pub turn_by : Refusal → Turn
+turn_by r = turn.Refused r.word r.number
 
 -- by what refused it, if anything did
-abbrev pub turn_of : NodeDone → Option Turn
-turn_of (done.Arrive result) = turn_if arrive_turn result
-turn_of (done.CallAnswered result) = turn_if call_turn result
-turn_of (done.CallFailed result) = turn_if call_turn result
-turn_of (done.Abandon found) = None
-turn_of (done.Take result) = turn_if take_turn result
-turn_of (done.TakeAnswer result) = turn_if answer_turn result
-turn_of (done.NextPost name) = None
-turn_of (done.WritePost result) = turn_if memory_turn result
-turn_of (done.Posted result) = turn_if post_turn result
-turn_of (done.Step result) = turn_if memory_turn result
-turn_of (done.Order result) = turn_if order_turn result
+abbrev pub turn_if : {A E : Type 0} → (E → Refusal) → Result A E → Option Turn
+turn_if refused result = option_map turn_by (refusal_in refused result)
+
+abbrev pub turn_of : Done → Option Turn
 turn_of done.Gone = Some turn.Gone
+turn_of answer = option_map turn_by (refusal_of answer)
 
 -- ---- the open flight
 
 -- a flight of this service that waits for this call
-abbrev pub begun_as : List ℕ → NodeEvent → ℕ → SetMessage → Option Begun
+abbrev pub begun_as : List ℕ → Event → ℕ → SetMessage → Option Begun
 begun_as me (events.Arrive o q i) flight set = Some (record {
   service = me;
   flight = flight;
@@ -112,7 +53,7 @@ begun_as me (events.Arrive o q i) flight set = Some (record {
 })
 begun_as me event flight set = None
 
-abbrev pub begun_by : {E : Type 0} → List ℕ → NodeEvent → Option Begun → Result Arrived E → Option Begun
+abbrev pub begun_by : {E : Type 0} → List ℕ → Event → Option Begun → Result Arrived E → Option Begun
 begun_by me event before (Ok (arrived.Call flight set)) = begun_as me event flight set
 begun_by me event before result = before
 
@@ -126,7 +67,7 @@ goes_on_by before (Ok (arrived.Done index id answer)) = None
 goes_on_by before (Ok (arrived.Call flight set)) = option_map (waiting_for flight set) before
 goes_on_by before result = before
 
-abbrev pub begun_after : List ℕ → Option Begun → NodeEvent → NodeDone → Option Begun
+abbrev pub begun_after : List ℕ → Option Begun → Event → Done → Option Begun
 begun_after me before event (done.Arrive result) = begun_by me event before result
 begun_after me before event (done.CallAnswered result) = goes_on_by before result
 begun_after me before event (done.CallFailed result) = goes_on_by before result
@@ -144,18 +85,18 @@ abbrev pub next_posting : List ℕ → Option PostName → Option Posting
 next_posting dest None = Some (posting.Quiet dest)
 next_posting dest (Some name) = Some (posting.Next name)
 
-abbrev pub ended_posting : {E : Type 0} → Option Posting → Post → Result Posted E → Option Posting
-ended_posting before p (Ok posted) = Some (posting.Ended (post_name p) posted)
-ended_posting before p (Err why) = before
+abbrev pub ended_posting : {E : Type 0} → Option Posting → PostName → Result Posted E → Option Posting
+ended_posting before name (Ok posted) = Some (posting.Ended name posted)
+ended_posting before name (Err why) = before
 
-abbrev pub posting_of : Option Posting → NodeEvent → NodeDone → Option Posting
+abbrev pub posting_of : Option Posting → Event → Done → Option Posting
 posting_of before (events.NextPost dest) (done.NextPost name) = next_posting dest name
-posting_of before (events.Posted p reply) (done.Posted result) = ended_posting before p result
+posting_of before (events.Posted p reply) (done.Posted result) = ended_posting before (post_name p) result
 posting_of before event answer = before
 
 -- ---- what was asked that was neither committed nor begun
 
-abbrev pub gave : NodeEvent → NodeDone → Option Gave
+abbrev pub gave : Event → Done → Option Gave
 gave event answer = Some (record { asked = event; done = answer })
 
 abbrev pub gave_arrival : {E : Type 0} → Option Gave → Result Arrived E → Option Gave
@@ -163,7 +104,7 @@ gave_arrival given (Ok (arrived.Done index id answer)) = None
 gave_arrival given (Ok (arrived.Call flight set)) = None
 gave_arrival given result = given
 
-abbrev pub gave_after : Option Gave → NodeEvent → NodeDone → Option Gave
+abbrev pub gave_after : Option Gave → Event → Done → Option Gave
 gave_after before event (done.Arrive result) = gave_arrival (gave event (done.Arrive result)) result
 gave_after before event (done.Take result) = gave event (done.Take result)
 gave_after before event (done.TakeAnswer result) = gave event (done.TakeAnswer result)
@@ -188,11 +129,11 @@ abbrev pub if_accepted : {A E : Type 0} → ℕ → ℕ → Result A E → ℕ
 if_accepted before after (Ok a) = after
 if_accepted before after (Err why) = before
 
-abbrev pub lost_after : ℕ → NodeEvent → NodeDone → ℕ
+abbrev pub lost_after : ℕ → Event → Done → ℕ
 lost_after n (events.CallFailed flight number why) (done.CallFailed result) = if_accepted n (lost_by n why) result
 lost_after n event answer = n
 
-abbrev pub refused_after : ℕ → NodeEvent → NodeDone → ℕ
+abbrev pub refused_after : ℕ → Event → Done → ℕ
 refused_after n (events.CallFailed flight number why) (done.CallFailed result) = if_accepted n (refused_by n why) result
 refused_after n event answer = n
 
@@ -204,7 +145,7 @@ no_notes = record { begun = None; turn = None; posting = None; gave = None; lost
 
 -- of an event at the service of this name
 
-abbrev pub noted : List ℕ → Notes → NodeEvent → NodeDone → Notes
+abbrev pub noted : List ℕ → Notes → Event → Done → Notes
 noted me before event answer = record {
   begun = begun_after me before.begun event answer;
   turn = turn_of answer;
@@ -215,5 +156,5 @@ noted me before event answer = record {
 }
 
 -- all but how it was turned away
-abbrev pub unturned : List ℕ → Notes → NodeEvent → NodeDone → Notes
+abbrev pub unturned : List ℕ → Notes → Event → Done → Notes
 unturned me before event answer = record (noted me before event answer) { turn = before.turn }

@@ -1,83 +1,116 @@
-// One call on a node's service.
-ghost use Rattle.std.specs.Prelude.{◌≡◌, ◌+◌, OnErr, IfOk};
+// An event at a node's service.
+ghost use Rattle.std.specs.Prelude.{◌≡◌, ◌+◌, ◌<◌, OnErr, OnOk, IfOk, IfSome, vec_capacity, vec_len};
 ghost use Rattle.service_events.specs.State.{me};
-ghost use Rattle.node_core.specs.Doings.{commits, AsksMemory, HasReceipts, IsDone, MayAsk};
-ghost use Rattle.node_core.specs.Notes.{noted, unturned};
+ghost use Rattle.node_core.specs.Doings.{commits, AsksMemory, HasReceipts, IsDone, MayAsk, MayCommit};
+ghost use Rattle.node_core.specs.Memos.{count_of, memo_of, IsGivenReceipt, IsIn};
+ghost use Rattle.node_core.specs.Notes.{noted};
 
-use crate::asking::{NodeDone, NodeEvent};
-use crate::live::{abandon, arrive, call_answered, call_failed};
+use crate::flying::finds_flight;
+use crate::memos::{Memo, memo_of};
+use crate::notes::Turn;
+use crate::noting::{note, turn_of};
 use crate::pass::Pass;
-use crate::plain::{next_post, order, posted, step, take, take_answer, write_post};
+use crate::receipt::Receipt;
+use crate::receipts::{Committed, receipt_of};
 use crate::state::NodeState;
 use crate::tally::Tally;
-use crate::turns::turn_of;
-use lang_core::NoMemory;
+use lang_core::{NoMemory, Text};
+use service_core::Service;
+use service_events::{Done, Event};
 use std::alloc::Global;
 use std::sync::Wait;
-use std::sync::ledger::Ledger;
+use std::sync::ledger::{Ledger, Share};
 
-fn ask<R: Ledger, Q: Ledger, W: Wait>(
-    rt: &W,
-    alloc: Global,
-    tally: &Tally<R, Q>,
-    kept: &mut NodeState<R>,
-    pass: &mut Pass<Q>,
-    event: NodeEvent,
-) -> Result<NodeDone, NoMemory>
-    requires may { MayAsk kept.old.service pass.old.notes.begun event }
-    ensures done { IfOk result (λ done. IsDone kept.old.service pass.old.notes.begun event done kept.new.service) }
-    ensures rows { IfOk result (λ done. kept.new.share.amount ≡ kept.old.share.amount + commits done) }
-    ensures mine { IfOk result (λ done. pass.new.share.amount ≡ pass.old.share.amount + commits done) }
-    ensures receipts { IfOk result (λ done. HasReceipts kept.new.service kept.old.secret pass.old.notes.begun event done pass.old.receipts.items pass.new.receipts.items) }
-    ensures notes { IfOk result (λ done. pass.new.notes ≡ unturned (me kept.new.service) pass.old.notes event done) }
-    ensures others { (kept.new.secret ≡ kept.old.secret) × (kept.new.stopped ≡ kept.old.stopped) }
-    ensures service_err { OnErr result ((kept.new.service ≡ kept.old.service) × (kept.new.share ≡ kept.old.share)) }
-    ensures pass_err { OnErr result ((pass.new.receipts.items ≡ pass.old.receipts.items) × (pass.new.share ≡ pass.old.share) × (pass.new.notes ≡ pass.old.notes)) }
-    ensures memory { OnErr result (AsksMemory event) }
+/// What a reply takes at the limits: its body, its sealed bytes, and its own bytes, which may have as much room again.
+const LARGEST_RECEIPT: usize = 1 << 19;
+
+fn make_room(alloc: Global, receipts: &mut Vec<Receipt>) -> Result<(), NoMemory>
+    ensures room { OnOk result (vec_len receipts.new < vec_capacity receipts.new) }
+    ensures receipts { receipts.new.items ≡ receipts.old.items }
+{
+    receipts.reserve(1)?;
+    let room: Vec<u8> = Vec::with_capacity(alloc, LARGEST_RECEIPT)?;
+    drop(room);
+    Ok(())
+}
+
+// Asks for the memory of a receipt where there may be a commit, so that who has none is refused before anything happens. The
+// receipt is made after the commit, and waits where somebody else took that memory meanwhile.
+fn make_ready(alloc: Global, receipts: &mut Vec<Receipt>, event: &Event) -> Result<(), NoMemory>
+    ensures room { OnOk result (MayCommit event.now → vec_len receipts.new < vec_capacity receipts.new) }
+    ensures memory { OnErr result (AsksMemory event.now) }
+    ensures receipts { receipts.new.items ≡ receipts.old.items }
 {
     match event {
-        NodeEvent::Arrive {
-            origin,
-            request,
-            inputs,
-        } => arrive(rt, alloc, tally, kept, pass, origin, request, inputs),
-        NodeEvent::CallAnswered { flight, answer } => {
-            call_answered(rt, alloc, tally, kept, pass, flight, answer)
+        Event::Arrive { .. } | Event::CallAnswered { .. } | Event::CallFailed { .. } => {
+            make_room(alloc, receipts)
         }
-        NodeEvent::CallFailed {
-            flight,
-            number,
-            why,
-        } => call_failed(rt, alloc, tally, kept, pass, flight, number, why),
-        NodeEvent::Abandon { flight } => Ok(abandon(kept, pass, flight)),
-        NodeEvent::Take { set, inputs } => Ok(take(rt, alloc, kept, pass, set, inputs)),
-        NodeEvent::TakeAnswer { answer } => Ok(take_answer(rt, alloc, kept, pass, answer)),
-        NodeEvent::NextPost { dest } => Ok(next_post(kept, pass, dest)),
-        NodeEvent::WritePost { name } => Ok(write_post(alloc, kept, pass, name)),
-        NodeEvent::Posted { post, reply } => Ok(posted(alloc, kept, pass, post, reply)),
-        NodeEvent::Step => Ok(step(alloc, kept, pass)),
-        NodeEvent::Order {
-            command,
-            token,
-            who,
-            inputs,
-        } => order(alloc, kept, pass, command, token, who, inputs),
+        _ => Ok(()),
     }
 }
 
-/// Makes one call on the service behind a node's lock, which the worker holds: the one of the event's name. A flight that the
-/// worker began is looked for first, and where the service doesn't have it any more, no call is made. Where a live request is
+// Asks for all the memory that an event may be refused for, and answers what is kept of it.
+fn prepared<Q: Ledger>(alloc: Global, pass: &mut Pass<Q>, event: &Event) -> Result<Memo, NoMemory>
+    ensures memo { IfOk result (λ memo. memo ≡ memo_of event.now) }
+    ensures room { OnOk result (MayCommit event.now → vec_len pass.new.receipts < vec_capacity pass.new.receipts) }
+    ensures memory { OnErr result (AsksMemory event.now) }
+    ensures same { (pass.new.receipts.items ≡ pass.old.receipts.items) × (pass.new.share ≡ pass.old.share) × (pass.new.notes ≡ pass.old.notes) }
+{
+    let Pass {
+        share: _,
+        receipts,
+        notes: _,
+    } = pass;
+    make_ready(alloc, receipts, event)?;
+    memo_of(alloc, event)
+}
+
+// Counts a commit, if there was one, and gives the pass its receipt.
+fn count<R: Ledger, Q: Ledger, W: Wait>(
+    rt: &W,
+    alloc: Global,
+    tally: &Tally<R, Q>,
+    service: &Service,
+    secret: &Text,
+    share: &mut Share<R>,
+    pass: &mut Pass<Q>,
+    committed: Option<Committed>,
+)
+    requires part { 0 < share.old.parts }
+    requires room { IfSome committed (λ _. vec_len pass.old.receipts < vec_capacity pass.old.receipts) }
+    requires answered { IfSome committed (IsIn service.now.journal) }
+    ensures parts { share.new.parts ≡ share.old.parts }
+    ensures amount { share.new.amount ≡ share.old.amount + count_of committed }
+    ensures mine { pass.new.share.amount ≡ pass.old.share.amount + count_of committed }
+    ensures receipts { IsGivenReceipt service.now secret.now committed pass.old.receipts.items pass.new.receipts.items }
+    ensures notes { pass.new.notes ≡ pass.old.notes }
+{
+    let Some(committed) = committed else {
+        return;
+    };
+    let receipt = receipt_of(rt, alloc, service, secret, committed);
+    let Pass {
+        share: mine,
+        receipts,
+        notes: _,
+    } = pass;
+    tally.count(rt, share, mine);
+    receipts.push_reserved(receipt);
+}
+
+/// Makes one event at the service behind a node's lock, which the worker holds. A flight that the worker began is looked for
+/// first, and where the service doesn't have it any more, no event is made. Where a live request is
 /// committed, that is counted in both books and in both shares, and the pass gets its receipt; for that it waits for the
-/// tally's lock. Memory is asked for first, and only for a live request and for an order: refused, nothing has
-/// happened. Where it is wanting behind a commit or a change, for what is noted of it, this waits for it.
+/// tally's lock. Memory is asked for first: for a receipt, and for what is noted of a message, of an order and of who is posted to.
+/// Refused, nothing has happened. Where it is wanting behind a commit or a change, for what is noted of it, this waits for it.
 pub fn event<R: Ledger, Q: Ledger, W: Wait>(
     rt: &W,
     alloc: Global,
     tally: &Tally<R, Q>,
     kept: &mut NodeState<R>,
     pass: &mut Pass<Q>,
-    event: NodeEvent,
-) -> Result<NodeDone, NoMemory>
+    event: Event,
+) -> Result<Done, NoMemory>
     requires may { MayAsk kept.old.service pass.old.notes.begun event }
     ensures done { IfOk result (λ done. IsDone kept.old.service pass.old.notes.begun event done kept.new.service) }
     ensures rows { IfOk result (λ done. kept.new.share.amount ≡ kept.old.share.amount + commits done) }
@@ -89,7 +122,22 @@ pub fn event<R: Ledger, Q: Ledger, W: Wait>(
     ensures pass_err { OnErr result ((pass.new.receipts.items ≡ pass.old.receipts.items) × (pass.new.share ≡ pass.old.share) × (pass.new.notes ≡ pass.old.notes)) }
     ensures memory { OnErr result (AsksMemory event) }
 {
-    let done = ask(rt, alloc, tally, kept, pass, event)?;
+    if !finds_flight(&kept.service, &pass.notes.begun, &event) {
+        pass.notes.begun = None;
+        pass.notes.turn = Some(Turn::Gone);
+        return Ok(Done::Gone);
+    }
+    let memo = prepared(alloc, pass, &event)?;
+    let NodeState {
+        service,
+        share,
+        secret,
+        stopped: _,
+    } = kept;
+    let done = service.event(alloc, event);
+    let me = &service.setting().me;
+    let committed = note(rt, alloc, me, &mut pass.notes, memo, &done);
+    count(rt, alloc, tally, service, secret, share, pass, committed);
     pass.notes.turn = turn_of(&done);
     Ok(done)
 }

@@ -1,14 +1,15 @@
-// Whether a service still has a worker's open flight.
+// Whether a service still has the flight that an event is of.
 ghost use Rattle.std.specs.Prelude.{◌≡◌, ◌↔◌, IsSomeAnd, IsTrue};
 ghost use Rattle.call_registers.specs.Registers.{register};
 ghost use Rattle.service_events.specs.State.{flight_of};
-ghost use Rattle.node_core.specs.Doings.{IsSameCall, IsSameFlight, IsThere};
+ghost use Rattle.node_core.specs.Doings.{FindsFlight, IsSameCall, IsSameFlight, IsThere};
 
 use crate::notes::Begun;
 use call_registers::Register;
 use flights::Flight;
 use lang_core::{Inputs, Same};
 use service_core::Service;
+use service_events::Event;
 
 fn same_inputs(left: &Inputs, right: &Inputs) -> bool
     ensures { IsTrue result ↔ (left.now ≡ right.now) }
@@ -49,8 +50,8 @@ fn has_call(service: &Service, begun: &Begun) -> bool
     }
 }
 
-/// Whether the service has the flight, with its request and inputs, and this waits for its call at version 1.
-pub(crate) fn is_there(service: &Service, begun: &Begun) -> bool
+// Whether the service has the flight, with its request and inputs, and this waits for its call at version 1.
+fn is_there(service: &Service, begun: &Begun) -> bool
     ensures { IsTrue result ↔ IsThere service.now begun.now }
 {
     service.setting().me.is(&begun.service)
@@ -58,12 +59,23 @@ pub(crate) fn is_there(service: &Service, begun: &Begun) -> bool
         && has_call(service, begun)
 }
 
-/// Whether the service has the open flight.
-pub(crate) fn is_open(service: &Service, begun: &Option<Begun>) -> bool
+fn is_open(service: &Service, begun: &Option<Begun>) -> bool
     ensures { IsTrue result ↔ IsSomeAnd begun.now (IsThere service.now) }
 {
     match begun {
         None => false,
         Some(begun) => is_there(service, begun),
+    }
+}
+
+/// Whether the service has the flight that an event is of, which is the open one; an event of no flight needs none.
+pub(crate) fn finds_flight(service: &Service, begun: &Option<Begun>, event: &Event) -> bool
+    ensures { IsTrue result ↔ FindsFlight service.now begun.now event.now }
+{
+    match event {
+        Event::CallAnswered { .. } | Event::CallFailed { .. } | Event::Abandon { .. } => {
+            is_open(service, begun)
+        }
+        _ => true,
     }
 }

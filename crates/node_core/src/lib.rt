@@ -6,30 +6,28 @@
 //! answers.
 #![tactic(auto)]
 
-mod asking;
 mod closing;
 mod events;
 mod flying;
-mod live;
+mod memos;
 mod nodes;
 mod notes;
 mod noting;
 mod pass;
-mod plain;
 mod receipt;
 mod receipts;
 mod state;
 mod tally;
-mod turns;
 mod twice;
 mod waiting;
 
-pub use asking::{NodeDone, NodeEvent};
 pub use closing::{CloseRefused, Closed, close};
 pub use events::event;
 pub use nodes::{Node, Nodes, Opened};
-pub use notes::{Begun, Gave, LastGave, Notes, Posting, Turn, TurnWord};
+pub use notes::{Begun, Gave, LastGave, Notes, Posting, Turn};
 pub use pass::Pass;
 pub use receipt::Receipt;
+pub use repair_messages::RefusalWord as TurnWord;
+pub use service_events::{Done as NodeDone, Event as NodeEvent};
 pub use state::NodeState;
 pub use tally::Tally;

@@ -2,10 +2,9 @@
 ghost use Rattle.std.specs.Prelude.{◌≡◌, None, Some, IfOk};
 ghost use Rattle.std.specs.Option.{option_copied};
 
-use crate::asking::{NodeDone, NodeEvent};
 use lang_core::{Inputs, Name, NoMemory, Origin, Request};
-use repair_messages::PostName;
-use service_events::Posted;
+use repair_messages::{PostName, RefusalWord};
+use service_events::{Done, Event, Posted};
 use std::alloc::Global;
 use std::marker::Model;
 
@@ -26,27 +25,11 @@ pub struct Begun {
     pub inputs: Inputs,
 }
 
-/// Why a service refused an event.
-#[derive(Clone, Copy, PartialEq, Eq)]
-pub enum TurnWord {
-    NoMemory,
-    Full,
-    NotYet,
-    Gone,
-    NoFlight,
-    Denied,
-    Unknown,
-    Foreign,
-    NoSuchRequest,
-    NotOutside,
-    NotHeld,
-}
-
 /// How an event was turned away.
 #[derive(Clone, Copy, PartialEq, Eq)]
 pub enum Turn {
     /// The service refused it, with what the refusal carries, or 0.
-    Refused { word: TurnWord, number: u64 },
+    Refused { word: RefusalWord, number: u64 },
     /// The service hasn't the worker's open flight.
     Gone,
 }
@@ -71,8 +54,8 @@ impl Drop for Posting {
 
 /// What a worker asked that was neither committed nor begun, and what the service answered or why it refused.
 pub struct Gave {
-    pub asked: NodeEvent,
-    pub done: NodeDone,
+    pub asked: Event,
+    pub done: Done,
 }
 
 impl Drop for Gave {

@@ -4,10 +4,10 @@ ghost use Rattle.std.specs.Option.{option_copied};
 ghost use Rattle.journal_rows.specs.declared.row.Row.TheVariants.{Answered as AnsweredAs};
 ghost use Rattle.service_events.specs.Commits.{is_live_row};
 ghost use Rattle.node_core.specs.Replies.{answer_to, receiver, reply_of, reply_bytes};
-ghost use Rattle.node_core.specs.Receipts.{HasAnswered, IsReceiptAt};
+ghost use Rattle.node_core.specs.Memos.{IsIn};
+ghost use Rattle.node_core.specs.Receipts.{IsReceiptAt};
 
 use crate::receipt::Receipt;
-use crate::waiting::copied_at_last;
 use http_front::response_bytes;
 use journal_rows::{AnsweredRow, Row, Rows};
 use lang_core::{Bytes, Copied, Inputs, Name, NoMemory, Origin, Request, RequestId, Text};
@@ -160,28 +160,41 @@ fn written_at_last(
     unreachable!()
 }
 
-/// The receipt for the live request with this request and these inputs, whose answer stands at this place of the service's
-/// journal. The request is committed, and its receipt has to be made: so where memory is wanting it tries again until there
-/// is some.
+/// A live request that was committed.
+#[derive(Drop)]
+pub(crate) struct Committed {
+    pub request: Request,
+    pub inputs: Inputs,
+    /// The index of its answer in the journal.
+    pub index: u64,
+    /// The number of its entry.
+    pub id: u64,
+}
+
+/// The receipt for a live request whose answer stands in the service's journal. The request is committed, and its receipt has
+/// to be made: so where memory is wanting it tries again until there is some.
 pub(crate) fn receipt_of(
     rt: &impl Wait,
     alloc: Global,
     service: &Service,
     secret: &Text,
-    request: &Request,
-    inputs: Inputs,
-    place: u64,
-    id: u64,
+    committed: Committed,
 ) -> Receipt
-    requires { HasAnswered service.now.journal request.now inputs place id }
-    ensures { IsReceiptAt service.now secret.now request.now inputs place result }
+    requires { IsIn service.now.journal committed }
+    ensures { IsReceiptAt service.now secret.now committed.request committed.inputs committed.index result }
 {
-    let row = answer_at(service.journal(), place);
+    let Committed {
+        request,
+        inputs,
+        index,
+        id: _,
+    } = committed;
+    let row = answer_at(service.journal(), index);
     let written = written_at_last(rt, alloc, &service.setting().me, secret, row);
     Receipt {
         service: written.service,
-        index: place,
-        request: copied_at_last(rt, alloc, request),
+        index,
+        request,
         inputs,
         row: Row::Answered(written.row),
         secret: written.secret,

@@ -15,15 +15,15 @@ use Rattle.service_events.specs.Doing.{Does, arrive_memory, call_memory}
 use Rattle.service_events.specs.State.{After, Kept, after, is_crowded, is_heavy, me, or_else}
 use Rattle.service_events.specs.declared.answers.Arrived.{Arrived}
 use Rattle.service_events.specs.declared.answers.Arrived.TheVariants as arrived
+use Rattle.service_events.specs.declared.event.Done.{Done as NodeDone}
+use Rattle.service_events.specs.declared.event.Done.TheVariants as done
+use Rattle.service_events.specs.declared.event.Event.{Event as NodeEvent}
+use Rattle.service_events.specs.declared.event.Event.TheVariants as events
 use Rattle.service_events.specs.declared.refusals.ArriveRefused.{ArriveRefused}
 use Rattle.service_events.specs.declared.refusals.ArriveRefused.TheVariants as refusals
 use Rattle.service_events.specs.declared.refusals.CallRefused.{CallRefused}
 use Rattle.node_core.specs.Doings.{AsksMemory, GetsReceipt, GetsReceiptOf, HasReceipts, IsDone, IsOpen, MayAsk}
 use Rattle.node_core.specs.Notes.{begun_after, goes_on_by, if_accepted, lost_after, lost_by, noted, refused_after, refused_by, waiting_for}
-use Rattle.node_core.specs.declared.asking.NodeDone.{NodeDone}
-use Rattle.node_core.specs.declared.asking.NodeDone.TheVariants as done
-use Rattle.node_core.specs.declared.asking.NodeEvent.{NodeEvent}
-use Rattle.node_core.specs.declared.asking.NodeEvent.TheVariants as events
 use Rattle.node_core.specs.declared.notes.Begun.{Begun}
 use Rattle.node_core.specs.declared.notes.Notes.{Notes}
 use Rattle.node_core.specs.declared.receipt.Receipt.{Receipt}

@@ -19,16 +19,16 @@ use Rattle.service_events.specs.declared.answers.PostReply.{PostReply}
 use Rattle.service_events.specs.declared.answers.PostReply.TheVariants as back
 use Rattle.service_events.specs.declared.answers.Posted.{Posted}
 use Rattle.service_events.specs.declared.answers.Posted.TheVariants as became
+use Rattle.service_events.specs.declared.event.Done.TheVariants as done
+use Rattle.service_events.specs.declared.event.Event.TheVariants as events
 use Rattle.service_events.specs.declared.refusals.PostRefused.{PostRefused}
 use Rattle.service_events.specs.declared.refusals.PostRefused.TheVariants.{Foreign}
-use Rattle.service_posts.specs.Goes.{GoesTo}
+use Rattle.node_core.specs.HandedOn.{GoesTo}
 use Rattle.wire_bytes.specs.Sending.{receiver_of, sender_of}
 use Rattle.lang_base.specs.declared.memory.NoMemory.{NoMemory as LacksMemory}
 use Rattle.io_links.specs.Exchanges.{Exchanges}
 use Rattle.node_core.specs.Notes.{post_name}
 use Rattle.node_core.specs.declared.notes.Notes.{Notes}
-use Rattle.node_core.specs.declared.asking.NodeDone.TheVariants as done
-use Rattle.node_core.specs.declared.asking.NodeEvent.TheVariants as events
 use Rattle.node_core.specs.declared.notes.Posting.TheVariants as postings
 use Rattle.node_core.specs.declared.receipt.Receipt.{Receipt}
 use Rattle.node_exchanges.specs.Endpoints.{Endpoint}

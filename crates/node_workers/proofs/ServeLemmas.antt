@@ -8,15 +8,15 @@ use Rattle.repair_messages.specs.declared.messages.Ack.{Ack}
 use Rattle.repair_messages.specs.declared.messages.AnswerMessage.{AnswerMessage}
 use Rattle.repair_messages.specs.declared.messages.Confirm.{Confirm}
 use Rattle.repair_messages.specs.declared.messages.SetMessage.{SetMessage}
+use Rattle.service_events.specs.Refusals.{answer_refusal, arrive_refusal, take_refusal}
 use Rattle.service_events.specs.declared.answers.Arrived.TheVariants as arrived
 use Rattle.service_events.specs.declared.answers.Heard.{Heard}
 use Rattle.service_events.specs.declared.answers.Taken.{Taken}
+use Rattle.service_events.specs.declared.event.Done.TheVariants as done
 use Rattle.service_events.specs.declared.refusals.AnswerRefused.{AnswerRefused}
-use Rattle.service_events.specs.declared.refusals.AnswerRefused.TheVariants as answer
 use Rattle.service_events.specs.declared.refusals.ArriveRefused.{ArriveRefused}
 use Rattle.service_events.specs.declared.refusals.ArriveRefused.TheVariants as arrive
 use Rattle.service_events.specs.declared.refusals.TakeRefused.{TakeRefused}
-use Rattle.service_events.specs.declared.refusals.TakeRefused.TheVariants as take
 use Rattle.io_edge.specs.Edge.{ReadFails, Reads, Writes, Wrote}
 use Rattle.http_front.specs.Writing.{response_bytes}
 use Rattle.http_front.specs.declared.message.WireResponse.{WireResponse}
@@ -38,8 +38,7 @@ use Rattle.wire_bytes.specs.Hearing.{IsHeardFrom, IsKnownMessage}
 use Rattle.wire_bytes.specs.declared.hearing.Unheard.{Unheard}
 use Rattle.wire_bytes.specs.declared.hearing.Unheard.TheVariants as unheard
 use Rattle.node_core.proofs.SearchLemmas.{last_there}
-use Rattle.node_core.specs.Notes.{answer_turn, arrive_turn, take_turn}
-use Rattle.node_core.specs.declared.asking.NodeDone.TheVariants as done
+use Rattle.node_core.specs.Notes.{turn_by}
 use Rattle.node_core.specs.declared.notes.Notes.{Notes}
 use Rattle.node_core.specs.declared.notes.Turn.TheVariants as turns
 use Rattle.node_core.specs.declared.receipt.Receipt.{Receipt}
@@ -50,27 +49,10 @@ use Rattle.node_exchanges.specs.declared.served.Served.{Served}
 use Rattle.node_exchanges.specs.declared.served.Served.TheVariants as served
 use Rattle.node_workers.specs.Flying.{IsCaller, IsNoted, RefusesAs}
 use Rattle.node_workers.specs.Messages.{IsHeardSo, IsTakenSo}
-use Rattle.node_workers.specs.Serving.{Hears, IsCounted, IsForWorkers, IsLiveRequest, IsOperatorTold, IsPlainly, IsServed, IsToldOf, OneReceipt, Owes, ServesMessage, ServesRequest, TellsTurn, WantsMemory, client, sender}
+use Rattle.node_workers.specs.Serving.{Hears, IsCounted, IsForWorkers, IsLiveRequest, IsOperatorTold, IsPlainly, IsServed, IsToldOf, OneReceipt, Owes, ServesMessage, ServesRequest, WantsMemory, client, sender}
 use Rattle.node_workers.specs.Written.{IsCommitWritten, IsConsoleSo, last_of}
 
 -- ---- refusals
-
-pub arrive_tells : (why : ArriveRefused) → TellsTurn (arrive_turn why) (replies.Refused (arrive_told why).0 (arrive_told why).1)
-arrive_tells arrive.NoMemory = refl
-arrive_tells (arrive.Full n) = refl
-arrive_tells (arrive.NotYet n) = refl
-arrive_tells (arrive.Gone n) = refl
-
-pub take_tells : (why : TakeRefused) → TellsTurn (take_turn why) (replies.Refused (take_told why).0 (take_told why).1)
-take_tells take.NoMemory = refl
-take_tells (take.Full n) = refl
-take_tells (take.NotYet n) = refl
-take_tells (take.Denied n) = refl
-
-pub answer_tells : (why : AnswerRefused) → TellsTurn (answer_turn why) (replies.Refused (answer_told why).0 (answer_told why).1)
-answer_tells answer.NoMemory = refl
-answer_tells (answer.Unknown n) = refl
-answer_tells (answer.Denied n) = refl
 
 plain_known : (message : Incoming) (a : AnswerMessage) → IsPlainly message (known_reply a)
 plain_known (said.Outside q) a = tt
@@ -313,11 +295,11 @@ module _ (e : Endpoint) (i : Inputs) (now : Reads) (wrote wrote_now : Writes) (n
       live_said origin request to (known_reply a) answer whom (λ message live. inl (record { gave = _; noted = noted; of = (live, refl); so = inr refl; plainly = plain_known message a })) same says
 
   pub live_refused : (origin : Origin) (request : Request) (to : Option (List ℕ)) (why : ArriveRefused) (told : Told) (answer : Served) → to ≡ client origin
-      → IsNoted origin request i notes (done.Arrive (Err why)) → notes.turn ≡ Some (arrive_turn why) → RefusesAs origin why → have ≡ had → told ≡ arrive_told why
+      → IsNoted origin request i notes (done.Arrive (Err why)) → notes.turn ≡ Some (turn_by (arrive_refusal why)) → RefusesAs origin why → have ≡ had → told ≡ arrive_told why
       → SaysIt e.me e.secret to (replies.Refused told.0 told.1) wrote wrote_now answer → DoesLive origin request answer
   live_refused origin request to why told answer whom noted turn plainly same is says =
       live_said origin request to (replies.Refused (arrive_told why).0 (arrive_told why).1) answer whom
-      (λ message live. inl (record { gave = _; noted = noted; of = (live, refl); so = inl (arrive_turn why, turn, arrive_tells why); plainly = plain_refused message origin request why live plainly }))
+      (λ message live. inl (record { gave = _; noted = noted; of = (live, refl); so = inl (turn_by (arrive_refusal why), turn, refl); plainly = plain_refused message origin request why live plainly }))
       same (subst (λ (t : Told). SaysIt e.me e.secret to (replies.Refused t.0 t.1) wrote wrote_now answer) is says)
 
   pub live_gone : (origin : Origin) (request : Request) → notes.turn ≡ Some turns.Gone → have ≡ had → wrote_now ≡ wrote → DoesLive origin request served.Gone
@@ -346,7 +328,7 @@ module _ (e : Endpoint) (i : Inputs) (now : Reads) (wrote wrote_now : Writes) (n
       → told ≡ take_told why → SaysIt e.me e.secret (Some to) (replies.Refused told.0 told.1) wrote wrote_now answer → Does (said.Set set) answer
   set_refused set to why told answer whom so same is says before heard =
       said_well e i before now wrote wrote_now notes had have (said.Set set) (Some to) (replies.Refused (take_told why).0 (take_told why).1) answer heard (ap Some whom)
-      (inl (record { gave = _; noted = so.noted; of = (refl, refl); so = inl (take_turn why, so.turn, take_tells why); plainly = tt }))
+      (inl (record { gave = _; noted = so.noted; of = (refl, refl); so = inl (turn_by (take_refusal why), so.turn, refl); plainly = tt }))
       same (subst (λ (t : Told). SaysIt e.me e.secret (Some to) (replies.Refused t.0 t.1) wrote wrote_now answer) is says)
 
   pub answer_heard : (a : AnswerMessage) (to : List ℕ) (heard : Heard) (answer : Served) → to ≡ a.callee → IsHeardSo a notes (Ok heard) → have ≡ had
@@ -359,7 +341,7 @@ module _ (e : Endpoint) (i : Inputs) (now : Reads) (wrote wrote_now : Writes) (n
       → told ≡ answer_told why → SaysIt e.me e.secret (Some to) (replies.Refused told.0 told.1) wrote wrote_now answer → Does (said.Answer a) answer
   answer_refused a to why told answer whom so same is says before hears =
       said_well e i before now wrote wrote_now notes had have (said.Answer a) (Some to) (replies.Refused (answer_told why).0 (answer_told why).1) answer hears (ap Some whom)
-      (inl (record { gave = _; noted = so.noted; of = refl; so = inl (answer_turn why, so.turn, answer_tells why); plainly = tt }))
+      (inl (record { gave = _; noted = so.noted; of = refl; so = inl (turn_by (answer_refusal why), so.turn, refl); plainly = tt }))
       same (subst (λ (t : Told). SaysIt e.me e.secret (Some to) (replies.Refused t.0 t.1) wrote wrote_now answer) is says)
 
   -- memory was wanting for a message of a peer

@@ -2,10 +2,10 @@
 use Rattle.std.proofs.Common.{◌≡◌, ℕ, List, Result, Ok, Err, IfOk}
 use Rattle.lang_base.specs.declared.memory.NoMemory.{NoMemory as LacksMemory}
 use Rattle.service_events.specs.State.{Kept, me}
+use Rattle.service_events.specs.declared.event.Done.{Done as NodeDone}
+use Rattle.service_events.specs.declared.event.Event.{Event as NodeEvent}
 use Rattle.node_core.specs.Doings.{HasReceipts, IsDone}
 use Rattle.node_core.specs.Notes.{noted}
-use Rattle.node_core.specs.declared.asking.NodeDone.{NodeDone}
-use Rattle.node_core.specs.declared.asking.NodeEvent.{NodeEvent}
 use Rattle.node_core.specs.declared.notes.Notes.{Notes}
 use Rattle.node_core.specs.declared.receipt.Receipt.{Receipt}
 use Rattle.node_workers.specs.Turns.{Made}

@@ -9,18 +9,19 @@ use Rattle.lang_core.specs.declared.request.Request.{Request}
 use Rattle.repair_messages.specs.declared.messages.AnswerMessage.{AnswerMessage}
 use Rattle.repair_messages.specs.declared.messages.SetMessage.{SetMessage}
 use Rattle.call_registers.specs.declared.register.Why.{Why}
+use Rattle.service_events.specs.Refusals.{arrive_refusal}
 use Rattle.service_events.specs.declared.answers.Arrived.{Arrived}
 use Rattle.service_events.specs.declared.answers.Arrived.TheVariants as arrived
+use Rattle.service_events.specs.declared.event.Done.{Done as NodeDone}
+use Rattle.service_events.specs.declared.event.Done.TheVariants as done
+use Rattle.service_events.specs.declared.event.Event.{Event as NodeEvent}
+use Rattle.service_events.specs.declared.event.Event.TheVariants as events
 use Rattle.service_events.specs.declared.refusals.ArriveRefused.{ArriveRefused}
 use Rattle.service_events.specs.declared.refusals.ArriveRefused.TheVariants as refusals
 use Rattle.io_links.specs.Exchanges.{Exchanges}
 use Rattle.io_links.specs.declared.links.Exchanged.{Exchanged}
 use Rattle.node_core.specs.Doings.{IsOpen}
-use Rattle.node_core.specs.Notes.{arrive_turn}
-use Rattle.node_core.specs.declared.asking.NodeDone.{NodeDone}
-use Rattle.node_core.specs.declared.asking.NodeDone.TheVariants as done
-use Rattle.node_core.specs.declared.asking.NodeEvent.{NodeEvent}
-use Rattle.node_core.specs.declared.asking.NodeEvent.TheVariants as events
+use Rattle.node_core.specs.Notes.{turn_by}
 use Rattle.node_core.specs.declared.notes.Begun.{Begun}
 use Rattle.node_core.specs.declared.notes.Notes.{Notes}
 use Rattle.node_core.specs.declared.notes.Turn.TheVariants as turns
@@ -139,7 +140,7 @@ EndsSo e o q i now had have (ends.Committed index) = OneReceipt o q i index had 
 EndsSo e o q i now had have (ends.Known a) =
     IsNoted o q i now (done.Arrive (Ok (arrived.Known a))) × (a.callee ≡ e.me) × IsCaller a.caller o × (have ≡ had)
 EndsSo e o q i now had have (ends.Refused why) =
-    IsNoted o q i now (done.Arrive (Err why)) × (now.turn ≡ Some (arrive_turn why)) × RefusesAs o why × (have ≡ had)
+    IsNoted o q i now (done.Arrive (Err why)) × (now.turn ≡ Some (turn_by (arrive_refusal why))) × RefusesAs o why × (have ≡ had)
 EndsSo e o q i now had have ends.Gone = (now.turn ≡ Some turns.Gone) × (have ≡ had)
 EndsSo e o q i now had have ends.NoMemory = have ≡ had
 

@@ -3,6 +3,7 @@ use Rattle.std.specs.Prelude.{ℕ, ◌≡◌, ◌⊎◌, List, Option, Some, Non
 use Rattle.lang_base.specs.declared.memory.NoMemory.{NoMemory as LacksMemory}
 use Rattle.repair_messages.specs.declared.posts.Post.{Post}
 use Rattle.repair_messages.specs.declared.posts.PostName.{PostName}
+use Rattle.repair_messages.specs.declared.refusals.RefusalWord.TheVariants as words
 use Rattle.service_events.specs.Messages.{posted_event}
 use Rattle.service_events.specs.State.{Kept}
 use Rattle.service_events.specs.declared.answers.PostReply.{PostReply}
@@ -17,7 +18,6 @@ use Rattle.node_core.specs.Notes.{post_name}
 use Rattle.node_core.specs.declared.notes.Notes.{Notes}
 use Rattle.node_core.specs.declared.notes.Posting.TheVariants as postings
 use Rattle.node_core.specs.declared.notes.Turn.TheVariants as turns
-use Rattle.node_core.specs.declared.notes.TurnWord.TheVariants as words
 use Rattle.node_core.specs.declared.receipt.Receipt.{Receipt}
 use Rattle.node_exchanges.specs.Endpoints.{Endpoint}
 use Rattle.node_exchanges.specs.Posts.{PostsIt}

@@ -4,6 +4,7 @@ use Rattle.lang_core.specs.declared.ids.Origin.{Origin}
 use Rattle.lang_core.specs.declared.ids.Origin.TheVariants as origins
 use Rattle.lang_core.specs.declared.inputs.Inputs.{Inputs}
 use Rattle.lang_core.specs.declared.request.Request.{Request}
+use Rattle.repair_messages.specs.Refusals.{word_text}
 use Rattle.journal_rows.specs.declared.callee.AnsweredRow.{AnsweredRow}
 use Rattle.journal_rows.specs.declared.orders.Command.{Command}
 use Rattle.journal_rows.specs.declared.row.Row.TheVariants as rows
@@ -13,6 +14,10 @@ use Rattle.service_events.specs.declared.answers.Arrived.TheVariants as arrived
 use Rattle.service_events.specs.declared.answers.Heard.{Heard}
 use Rattle.service_events.specs.declared.answers.Ordered.{Ordered}
 use Rattle.service_events.specs.declared.answers.Taken.{Taken}
+use Rattle.service_events.specs.declared.event.Done.{Done as NodeDone}
+use Rattle.service_events.specs.declared.event.Done.TheVariants as done
+use Rattle.service_events.specs.declared.event.Event.{Event as NodeEvent}
+use Rattle.service_events.specs.declared.event.Event.TheVariants as events
 use Rattle.service_events.specs.declared.refusals.OrderRefused.{OrderRefused}
 use Rattle.io_edge.specs.Edge.{Reads, ReadFails, Writes, Wrote, WroteShort, WriteFails}
 use Rattle.http_front.specs.Writing.{response_bytes}
@@ -37,16 +42,10 @@ use Rattle.admin_console.specs.Reports.{report_of}
 use Rattle.admin_console.specs.declared.asking.Asked.{Asked}
 use Rattle.admin_console.specs.declared.asking.Asked.TheVariants as asks
 use Rattle.admin_console.specs.declared.asking.Report.{Report}
-use Rattle.node_core.specs.declared.asking.NodeDone.{NodeDone}
-use Rattle.node_core.specs.declared.asking.NodeDone.TheVariants as done
-use Rattle.node_core.specs.declared.asking.NodeEvent.{NodeEvent}
-use Rattle.node_core.specs.declared.asking.NodeEvent.TheVariants as events
 use Rattle.node_core.specs.declared.notes.Gave.{Gave}
 use Rattle.node_core.specs.declared.notes.Notes.{Notes}
 use Rattle.node_core.specs.declared.notes.Turn.{Turn}
 use Rattle.node_core.specs.declared.notes.Turn.TheVariants as turns
-use Rattle.node_core.specs.declared.notes.TurnWord.{TurnWord}
-use Rattle.node_core.specs.declared.notes.TurnWord.TheVariants as words
 use Rattle.node_core.specs.declared.receipt.Receipt.{Receipt}
 use Rattle.node_exchanges.specs.Endpoints.{Endpoint}
 use Rattle.node_exchanges.specs.Replies.{known_reply, refusal_bytes}
@@ -109,23 +108,9 @@ pub record Commits (e : Endpoint) (i : Inputs) (before now : Reads) (had have : 
   pub one : OneReceipt origin request i index had have
   pub reply : bytes ≡ one.receipt.reply
 
--- the word of a refusal; NoFlight and Foreign are told to no client
-abbrev pub word_of : TurnWord → List ℕ
-word_of words.NoMemory = codes "nomemory"
-word_of words.Full = codes "full"
-word_of words.NotYet = codes "notyet"
-word_of words.Gone = codes "gone"
-word_of words.NoFlight = codes "noflight"
-word_of words.Denied = codes "denied"
-word_of words.Unknown = codes "unknown"
-word_of words.Foreign = codes "foreign"
-word_of words.NoSuchRequest = codes "nosuchrequest"
-word_of words.NotOutside = codes "notoutside"
-word_of words.NotHeld = codes "notheld"
-
--- the reply tells how the event was turned away
+-- the reply tells how the event was turned away; NoFlight and Foreign are told to no client
 abbrev pub TellsTurn : Turn → Outgoing → Type 0
-TellsTurn (turns.Refused word n) reply = reply ≡ replies.Refused (word_of word) n
+TellsTurn (turns.Refused word n) reply = reply ≡ replies.Refused (word_text word) n
 TellsTurn turns.Gone reply = ⊥
 
 abbrev pub arrived_reply : {E : Type 0} → Result Arrived E → Option Outgoing

@@ -1,10 +1,10 @@
 -- One event of a worker at its node's service.
 use Rattle.std.specs.Prelude.{ℕ, ◌≡◌, List}
 use Rattle.service_events.specs.State.{Kept, me}
+use Rattle.service_events.specs.declared.event.Done.{Done as NodeDone}
+use Rattle.service_events.specs.declared.event.Event.{Event as NodeEvent}
 use Rattle.node_core.specs.Doings.{HasReceipts, IsDone}
 use Rattle.node_core.specs.Notes.{noted}
-use Rattle.node_core.specs.declared.asking.NodeDone.{NodeDone}
-use Rattle.node_core.specs.declared.asking.NodeEvent.{NodeEvent}
 use Rattle.node_core.specs.declared.notes.Notes.{Notes}
 use Rattle.node_core.specs.declared.receipt.Receipt.{Receipt}
 

@@ -2,7 +2,7 @@
 ghost use Rattle.std.specs.Prelude.{◌≡◌, ◌≤◌, IfOk, IsSomeAnd, Some};
 ghost use Rattle.service_events.specs.Posts.{write_post};
 ghost use Rattle.service_events.specs.State.{me};
-ghost use Rattle.service_posts.specs.Goes.{GoesTo};
+ghost use Rattle.node_core.specs.HandedOn.{GoesTo};
 ghost use Rattle.node_workers.specs.Desks.{at_desk};
 ghost use Rattle.node_workers.specs.Posting.{IsNextPost, IsTold, IsTurn, IsWrittenPost, Keeps, outcome};
 

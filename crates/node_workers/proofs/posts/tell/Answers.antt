@@ -1,6 +1,6 @@
 use Rattle.std.proofs.Common.{subst}
-use Rattle.node_core.specs.declared.asking.NodeDone.{NodeDone}
-use Rattle.node_core.specs.declared.asking.NodeEvent.TheVariants as events
+use Rattle.service_events.specs.declared.event.Done.{Done as NodeDone}
+use Rattle.service_events.specs.declared.event.Event.TheVariants as events
 use Rattle.node_workers.proofs.PostLemmas.{told_so}
 use Rattle.node_workers.specs.Turns.{Made}
 use Rattle.node_workers.proofs.posts.tell.Goals as goal

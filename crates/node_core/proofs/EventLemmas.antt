@@ -1,0 +1,160 @@
+-- What holds of each event that a service makes for a worker.
+use Rattle.std.proofs.Common.{◌≡◌, ◌+◌, ℕ, Bool, true, false, List, Option, Some, None, IfSome, IsSomeAnd, length, refl, ap, ◌∙◌, arith}
+use Rattle.lang_base.specs.Memory.{Unless}
+use Rattle.service_events.specs.Commits.{live_rows}
+use Rattle.service_events.specs.Event.{event, is_lacking, Happens, MayHappen}
+use Rattle.service_events.specs.State.{Kept, After, after}
+use Rattle.service_events.specs.declared.event.Done.{Done}
+use Rattle.service_events.specs.declared.event.Done.TheVariants as done
+use Rattle.service_events.specs.declared.event.Event.{Event}
+use Rattle.service_events.specs.declared.event.Event.TheVariants as events
+use Rattle.service_parts.proofs.SilentLaws.{event_answers_none, RunsNoRequest}
+use Rattle.service_core.specs.Answers.{Answers}
+use Rattle.node_core.proofs.CommitLemmas.{answered, answered_open, counted, counted_open, counts, counts_open, flies, gets, gets_open}
+use Rattle.node_core.specs.Doings.{commits, FindsFlight, HasReceipts, IsDone, IsOpen, IsThere, MayAsk, MayCommit}
+use Rattle.node_core.specs.Memos.{committed_by, count_of, memo_of, noted_by, IsGivenReceipt, IsIn}
+use Rattle.node_core.specs.Notes.{noted, unturned}
+use Rattle.node_core.specs.declared.notes.Begun.{Begun}
+use Rattle.node_core.specs.declared.notes.Notes.{Notes}
+use Rattle.node_core.specs.declared.notes.Turn.TheVariants as turns
+use Rattle.node_core.specs.declared.receipt.Receipt.{Receipt}
+use Rattle.node_core.specs.declared.receipts.Committed.{Committed}
+
+-- ---- before it
+
+pub may_happen : (s : Kept) (begun : Option Begun) (e : Event) → MayAsk s begun e → MayHappen s e
+may_happen s begun (events.CallFailed flight number why) may = may.1
+may_happen s begun (events.WritePost name) may = may
+may_happen s begun e may = tt
+
+opened : (begun : Option Begun) (flight number : ℕ) → IsSomeAnd begun (λ (b : Begun). (b.flight ≡ flight) × (b.number ≡ number)) → IsOpen flight begun
+opened None flight number h = absurd h
+opened (Some b) flight number h = h.0
+
+-- ---- where the flight isn't there
+
+lost : (s : Kept) (begun : Option Begun) (flight : ℕ) → IsOpen flight begun → ¬ IsSomeAnd begun (IsThere s) → IsSomeAnd begun (λ (b : Begun). ¬ IsThere s b)
+lost s None flight at none = absurd at
+lost s (Some b) flight at none = none
+
+pub gone_done : (s : Kept) (begun : Option Begun) (e : Event) → MayAsk s begun e → ¬ FindsFlight s begun e → IsDone s begun e done.Gone s
+gone_done s begun (events.CallAnswered flight a) may none = (lost s begun flight may none, refl)
+gone_done s begun (events.CallFailed flight number why) may none = (lost s begun flight (opened begun flight number may.0) none, refl)
+gone_done s begun (events.Abandon flight) may none = (lost s begun flight may none, refl)
+gone_done s begun e may none = absurd (none tt)
+
+pub gone_noted : (s : Kept) (me : List ℕ) (before : Notes) (e : Event) → ¬ FindsFlight s before.begun e
+    → record before { begun = None; turn = Some turns.Gone } ≡ noted me before e done.Gone
+gone_noted s me before (events.CallAnswered flight a) none = refl
+gone_noted s me before (events.CallFailed flight number why) none = refl
+gone_noted s me before (events.Abandon flight) none = refl
+gone_noted s me before e none = absurd (none tt)
+
+pub gone_receipts : (s : Kept) (secret : List ℕ) (begun : Option Begun) (e : Event) (had : List Receipt) → HasReceipts s secret begun e done.Gone had had
+gone_receipts s secret begun (events.Arrive o q i) had = refl
+gone_receipts s secret begun e had = refl
+
+-- ---- what it leaves of the journal
+
+-- as many live answers as before, where no live request runs by it
+silent : (s t : Kept) (e : Event) (d : Done) → RunsNoRequest e → Happens e s d t → live_rows t.journal ≡ live_rows s.journal
+silent s t e d runs happens = by (is_lacking d) happens
+  where
+    by : (lacking : Bool) → Unless lacking (after t d ≡ event s e) (t ≡ s) → live_rows t.journal ≡ live_rows s.journal
+    by true same = ap (λ (k : Kept). live_rows k.journal) same
+    by false is = ap (λ (a : After Done). live_rows a.service.journal) is ∙ event_answers_none s e runs
+
+-- ---- what it was answered
+
+module _ (s t : Kept) (begun : Option Begun) where
+  pub done_so : (e : Event) (d : Done) → FindsFlight s begun e → Answers s e d t → IsDone s begun e d t
+  done_so (events.CallAnswered flight a) (done.CallAnswered r) there h = (there, h)
+  done_so (events.CallAnswered flight a) d there h = absurd h
+  done_so (events.CallFailed flight number why) (done.CallFailed r) there h = (there, h)
+  done_so (events.CallFailed flight number why) d there h = absurd h
+  done_so (events.Abandon flight) (done.Abandon found) there h = (there, h)
+  done_so (events.Abandon flight) d there h = absurd h
+  done_so e d there h = h
+
+  -- as many live answers more as were committed
+  pub counts_by : (e : Event) (d : Done) → MayAsk s begun e → FindsFlight s begun e → Happens e s d t → Answers s e d t
+      → length (live_rows t.journal) ≡ length (live_rows s.journal) + count_of (committed_by begun (memo_of e) d)
+  counts_by (events.Arrive o q i) (done.Arrive r) may there happens h = counts o q i s t r h.1
+  counts_by (events.Arrive o q i) d may there happens h = absurd h
+  counts_by (events.CallAnswered flight a) (done.CallAnswered r) may there happens h = counts_open begun s t r (flies flight begun s t r may there h.1)
+  counts_by (events.CallAnswered flight a) d may there happens h = absurd h
+  counts_by (events.CallFailed flight number why) (done.CallFailed r) may there happens h =
+      counts_open begun s t r (flies flight begun s t r (opened begun flight number may.0) there h.1)
+  counts_by (events.CallFailed flight number why) d may there happens h = absurd h
+  counts_by e d may there happens h = omega (arith, ap length (silent s t e d tt happens))
+
+  pub counted_by : (e : Event) (d : Done) → FindsFlight s begun e → Answers s e d t → count_of (committed_by begun (memo_of e) d) ≡ commits d
+  counted_by (events.Arrive o q i) (done.Arrive r) there h = counted q i r
+  counted_by (events.CallAnswered flight a) (done.CallAnswered r) there h = counted_open begun (IsThere s) r there
+  counted_by (events.CallFailed flight number why) (done.CallFailed r) there h = counted_open begun (IsThere s) r there
+  counted_by (events.Abandon flight) (done.Abandon found) there h = refl
+  counted_by (events.Take set i) (done.Take r) there h = refl
+  counted_by (events.TakeAnswer a) (done.TakeAnswer r) there h = refl
+  counted_by (events.NextPost dest) (done.NextPost name) there h = refl
+  counted_by (events.WritePost name) (done.WritePost r) there h = refl
+  counted_by (events.Posted p reply) (done.Posted r) there h = refl
+  counted_by events.Step (done.Step r) there h = refl
+  counted_by (events.Order command token who i) (done.Order r) there h = refl
+  counted_by e d there h = absurd h
+
+  -- behind a commit the answer stands there
+  pub answered_by : (e : Event) (d : Done) → MayAsk s begun e → FindsFlight s begun e → Answers s e d t → IfSome (committed_by begun (memo_of e) d) (IsIn t.journal)
+  answered_by (events.Arrive o q i) (done.Arrive r) may there h = answered o q i s t r h.1
+  answered_by (events.Arrive o q i) d may there h = absurd h
+  answered_by (events.CallAnswered flight a) (done.CallAnswered r) may there h = answered_open begun s t r (flies flight begun s t r may there h.1)
+  answered_by (events.CallAnswered flight a) d may there h = absurd h
+  answered_by (events.CallFailed flight number why) (done.CallFailed r) may there h =
+      answered_open begun s t r (flies flight begun s t r (opened begun flight number may.0) there h.1)
+  answered_by (events.CallFailed flight number why) d may there h = absurd h
+  answered_by e d may there h = tt
+
+  -- the receipt that was given is the one that is due
+  pub gets_by : (e : Event) (d : Done) (secret : List ℕ) (had have : List Receipt) → MayAsk s begun e → FindsFlight s begun e → Answers s e d t
+      → IsGivenReceipt t secret (committed_by begun (memo_of e) d) had have → HasReceipts t secret begun e d had have
+  gets_by (events.Arrive o q i) (done.Arrive r) secret had have may there h given = gets o q i s t secret r had have h.1 given
+  gets_by (events.CallAnswered flight a) (done.CallAnswered r) secret had have may there h given =
+      gets_open begun s t secret r had have (flies flight begun s t r may there h.1) given
+  gets_by (events.CallFailed flight number why) (done.CallFailed r) secret had have may there h given =
+      gets_open begun s t secret r had have (flies flight begun s t r (opened begun flight number may.0) there h.1) given
+  gets_by (events.Abandon flight) (done.Abandon found) secret had have may there h given = given
+  gets_by (events.Take set i) (done.Take r) secret had have may there h given = given
+  gets_by (events.TakeAnswer a) (done.TakeAnswer r) secret had have may there h given = given
+  gets_by (events.NextPost dest) (done.NextPost name) secret had have may there h given = given
+  gets_by (events.WritePost name) (done.WritePost r) secret had have may there h given = given
+  gets_by (events.Posted p reply) (done.Posted r) secret had have may there h given = given
+  gets_by events.Step (done.Step r) secret had have may there h given = given
+  gets_by (events.Order command token who i) (done.Order r) secret had have may there h given = given
+  gets_by e d secret had have may there h given = absurd h
+
+-- what is noted by what is kept of the event is what is noted of it
+pub noted_so : (s t : Kept) (me : List ℕ) (before : Notes) (e : Event) (d : Done) → Answers s e d t → noted_by me before (memo_of e) d ≡ unturned me before e d
+noted_so s t me before (events.Arrive o q i) (done.Arrive r) h = refl
+noted_so s t me before (events.CallAnswered flight a) (done.CallAnswered r) h = refl
+noted_so s t me before (events.CallFailed flight number why) (done.CallFailed r) h = refl
+noted_so s t me before (events.Abandon flight) (done.Abandon found) h = refl
+noted_so s t me before (events.Take set i) (done.Take r) h = refl
+noted_so s t me before (events.TakeAnswer a) (done.TakeAnswer r) h = refl
+noted_so s t me before (events.NextPost dest) (done.NextPost name) h = refl
+noted_so s t me before (events.WritePost name) (done.WritePost r) h = refl
+noted_so s t me before (events.Posted p reply) (done.Posted r) h = refl
+noted_so s t me before events.Step (done.Step r) h = refl
+noted_so s t me before (events.Order command token who i) (done.Order r) h = refl
+noted_so s t me before e d h = absurd h
+
+-- ---- the room of a receipt
+
+if_any : (o : Option Committed) (P : Type 0) → P → IfSome o (λ (c : Committed). P)
+if_any None P p = tt
+if_any (Some c) P p = p
+
+-- there is some for what may be committed
+pub has_room : (begun : Option Begun) (e : Event) (d : Done) (P : Type 0) → (MayCommit e → P) → IfSome (committed_by begun (memo_of e) d) (λ (c : Committed). P)
+has_room begun (events.Arrive o q i) d P room = if_any (committed_by begun (memo_of (events.Arrive o q i)) d) P (room tt)
+has_room begun (events.CallAnswered flight a) d P room = if_any (committed_by begun (memo_of (events.CallAnswered flight a)) d) P (room tt)
+has_room begun (events.CallFailed flight number why) d P room = if_any (committed_by begun (memo_of (events.CallFailed flight number why)) d) P (room tt)
+has_room begun e d P room = tt
