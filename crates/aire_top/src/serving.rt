@@ -1,8 +1,11 @@
 // Serving, once a world is loaded.
-ghost use Rattle.std.specs.Prelude.{◌≡◌, ◌∷◌, ◌≤◌, ◌⊎◌, [], IfOk, Some, length};
+ghost use Rattle.std.specs.Prelude.{◌≡◌, ◌∷◌, ◌≤◌, ◌⊎◌, [], IfOk, IsErrOf, Some, length};
+ghost use Rattle.std.proofs.Props.{props};
 ghost use Rattle.command_ends.specs.Ends.{EndsWith};
+ghost use Rattle.io_edge.specs.Edge.{Rose};
 ghost use Rattle.report_text.specs.Reports.{IsVerdictOver};
 ghost use Rattle.world_file.specs.Worlds.{KnowEachOther};
+ghost use Rattle.node_run.specs.HandedOn.{Agrees, SamePlace};
 ghost use Rattle.node_run.specs.Ends.{IsGoodEnd};
 ghost use Rattle.node_run.specs.Stopping.{IsOfOne};
 ghost use Rattle.node_run.specs.declared.refused.RunRefused.TheVariants as refusals;
@@ -14,6 +17,7 @@ ghost use Rattle.aire_top.specs.Serves.{EndsRefused, HasServed, IsLacking, Serve
 use crate::announcing::AnnouncingDoor;
 use crate::ended::Ended;
 use crate::ending::without;
+use crate::starting::services_of;
 use crate::telling::{end_text, receipt_line};
 use command_ends::{AMISS, NO_DOOR, NO_WORKER, lacking, print, write_last};
 use io_edge::{Connection, Sink};
@@ -182,6 +186,89 @@ fn announce<D: AnnouncingDoor>(doors: &mut D, setups: &[Setup])
     }
 }
 
+// Setups that know each other.
+#[derive(Drop)]
+struct Peers {
+    setups: Vec<Setup>,
+    ghost know: { KnowEachOther setups.items } by { Prim.hlevel props },
+}
+
+impl Peers {
+    fn all(&self) -> &[Setup]
+        ensures same { result.now ≡ self.now.setups.items }
+        ensures know { KnowEachOther self.now.setups.items }
+    {
+        self.setups.as_slice()
+    }
+}
+
+// Tells a door of all services, and lets new services of these setups run, which know each other. They have answered nothing
+// yet: so what a journal answers at the end is what the run answered.
+fn run<
+    D: AnnouncingDoor,
+    L: Link + Send,
+    C: Clock + Send,
+    V: Words + Send,
+    P: Spawner,
+    W: Threads + Wait + time::Clock + Sync,
+>(
+    rt: &W,
+    alloc: Global,
+    peers: &Peers,
+    doors: &mut D,
+    links: &L,
+    clock: &mut C,
+    random: &mut V,
+    spawner: &mut P,
+) -> Result<Joined<<D::Ear as Ear>::Conn>, RunRefused>
+    ensures end { IfOk result (λ j. IsGoodEnd peers.now.setups.items j.services.items j.receipts.items j.verdict) }
+    ensures last { IfOk result (λ j. IsOfOne peers.now.setups.items j.last.service j.last.console) }
+    ensures door { IsErrOf result refusals.DoorFault → Rose (D.faults doors.old) (D.faults doors.new) }
+    ensures started { IsErrOf result refusals.NotStarted → Rose (P.faults spawner.old) (P.faults spawner.new) }
+    ensures differs { (r : _) (services : _) → IsErrOf result (refusals.Differs r services) → ¬ Agrees services.items r }
+    ensures twice { (r : _) (t : _) (services : _) → IsErrOf result (refusals.Twice r t services)
+        → SamePlace r t × (Agrees services.items r × Agrees services.items t) }
+{
+    let setups = peers.all();
+    announce(doors, setups);
+    match services_of(alloc, setups) {
+        Ok(services) => run_nodes(
+            rt, alloc, setups, setups, services, doors, links, clock, random, spawner, &OpenGate,
+        ),
+        Err(_) => Err(RunRefused::NoMemory),
+    }
+}
+
+// Lets the services of these setups run, and writes how that ended.
+fn serve_peers<
+    K: Sink,
+    D: AnnouncingDoor,
+    L: Link + Send,
+    C: Clock + Send,
+    V: Words + Send,
+    P: Spawner,
+    W: Threads + Wait + time::Clock + Sync,
+>(
+    rt: &W,
+    alloc: Global,
+    peers: &Peers,
+    out: &mut K,
+    doors: &mut D,
+    links: &L,
+    clock: &mut C,
+    random: &mut V,
+    spawner: &mut P,
+) -> Ended<<D::Ear as Ear>::Conn>
+    ensures { ServeEnds peers.now.setups.items (faults (D.faults doors.old) (P.faults spawner.old)) (faults (D.faults doors.new) (P.faults spawner.new))
+        (K.writes out.old) (K.writes out.new)
+        (ending_of result) }
+{
+    match run(rt, alloc, peers, doors, links, clock, random, spawner) {
+        Ok(joined) => told(alloc, out, joined),
+        Err(why) => refused(alloc, out, why),
+    }
+}
+
 /// Serves a world until an operator stops it, and writes for each service how many receipts it has, and then the verdict.
 ///
 /// It ends well (status 0, or 5 where a write failed) only where an operator of one of the services asked to stop; then each
@@ -212,12 +299,6 @@ pub fn serve<
         (K.writes out.old) (K.writes out.new)
         (ending_of result) }
 {
-    announce(doors, &setups);
-    let gate = OpenGate;
-    match run_nodes(
-        rt, alloc, setups, doors, links, clock, random, spawner, &gate,
-    ) {
-        Ok(joined) => told(alloc, out, joined),
-        Err(why) => refused(alloc, out, why),
-    }
+    let peers = Peers { setups };
+    serve_peers(rt, alloc, &peers, out, doors, links, clock, random, spawner)
 }

@@ -11,8 +11,8 @@ use script_run::{Service, World};
 use std::alloc::Global;
 use world_file::Setup;
 
-// New services that are set up so.
-fn services_of(alloc: Global, setups: &[Setup]) -> Result<Vec<Service>, NoMemory>
+/// New services that are set up so.
+pub(crate) fn services_of(alloc: Global, setups: &[Setup]) -> Result<Vec<Service>, NoMemory>
     ensures { IfOk result (λ services. services.items ≡ map fresh_service setups.now) }
 {
     let mut services = Vec::new(alloc);

@@ -1,19 +1,23 @@
 -- What holds of each event that a service makes for a worker.
-use Rattle.std.proofs.Common.{◌≡◌, ◌+◌, ℕ, Bool, true, false, List, Option, Some, None, IfSome, IsSomeAnd, length, refl, ap, ◌∙◌, arith}
+use Rattle.std.proofs.Common.{◌≡◌, ◌+◌, ◌≤◌, ℕ, Bool, true, false, List, Option, Some, None, IfSome, IsSomeAnd, length, refl, ap, ◌∙◌, arith}
 use Rattle.lang_base.specs.Memory.{Unless}
 use Rattle.service_events.specs.Commits.{live_rows}
 use Rattle.service_events.specs.Event.{event, is_lacking, Happens, MayHappen}
-use Rattle.service_events.specs.State.{Kept, After, after}
+use Rattle.service_events.specs.State.{Kept, After, after, me}
 use Rattle.service_events.specs.declared.event.Done.{Done}
 use Rattle.service_events.specs.declared.event.Done.TheVariants as done
 use Rattle.service_events.specs.declared.event.Event.{Event}
 use Rattle.service_events.specs.declared.event.Event.TheVariants as events
-use Rattle.service_parts.proofs.SilentLaws.{event_answers_none, RunsNoRequest}
+use Rattle.service_core.proofs.HandedOn.{event_answers_none, RunsNoRequest}
+use Rattle.service_core.proofs.GrowthLaws.{grown}
 use Rattle.service_core.specs.Answers.{Answers}
+use Rattle.node_core.proofs.SinceLemmas.{since_grown}
 use Rattle.node_core.proofs.CommitLemmas.{answered, answered_open, counted, counted_open, counts, counts_open, flies, gets, gets_open}
+use Rattle.node_core.specs.Closings.{live_since}
 use Rattle.node_core.specs.Doings.{commits, FindsFlight, HasReceipts, IsDone, IsOpen, IsThere, MayAsk, MayCommit}
 use Rattle.node_core.specs.Memos.{committed_by, count_of, memo_of, noted_by, IsGivenReceipt, IsIn}
-use Rattle.node_core.specs.Notes.{noted, unturned}
+use Rattle.node_core.specs.Notes.{noted, turn_of, unturned}
+use Rattle.node_core.specs.declared.memos.Memo.{Memo}
 use Rattle.node_core.specs.declared.notes.Begun.{Begun}
 use Rattle.node_core.specs.declared.notes.Notes.{Notes}
 use Rattle.node_core.specs.declared.notes.Turn.TheVariants as turns
@@ -88,6 +92,12 @@ module _ (s t : Kept) (begun : Option Begun) where
   counts_by (events.CallFailed flight number why) d may there happens h = absurd h
   counts_by e d may there happens h = omega (arith, ap length (silent s t e d tt happens))
 
+  -- from each index within the journal on
+  pub since_by : (first : ℕ) (e : Event) (d : Done) → first ≤ length s.journal → MayAsk s begun e → FindsFlight s begun e → Happens e s d t → Answers s e d t
+      → live_since first t ≡ live_since first s + count_of (committed_by begun (memo_of e) d)
+  since_by first e d within may there happens h =
+      since_grown first (count_of (committed_by begun (memo_of e) d)) s t within (grown s t e d happens) (counts_by e d may there happens h)
+
   pub counted_by : (e : Event) (d : Done) → FindsFlight s begun e → Answers s e d t → count_of (committed_by begun (memo_of e) d) ≡ commits d
   counted_by (events.Arrive o q i) (done.Arrive r) there h = counted q i r
   counted_by (events.CallAnswered flight a) (done.CallAnswered r) there h = counted_open begun (IsThere s) r there
@@ -145,6 +155,23 @@ noted_so s t me before (events.Posted p reply) (done.Posted r) h = refl
 noted_so s t me before events.Step (done.Step r) h = refl
 noted_so s t me before (events.Order command token who i) (done.Order r) h = refl
 noted_so s t me before e d h = absurd h
+
+-- ---- by what was kept of it
+
+-- what was handed out by that is what was committed
+pub committed_so : (before ready : Notes) (memo : Memo) (e : Event) (d : Done) (o : Option Committed) → ready ≡ before → memo ≡ memo_of e
+    → o ≡ committed_by ready.begun memo d → o ≡ committed_by before.begun (memo_of e) d
+committed_so before ready memo e d o same is by =
+    by ∙ ap (λ (n : Notes). committed_by n.begun memo d) same ∙ ap (λ (m : Memo). committed_by before.begun m d) is
+
+-- and what was noted by that, and of how it was turned away, is all that is noted
+pub notes_so : (s t : Kept) (name : List ℕ) (before ready left last : Notes) (memo : Memo) (e : Event) (d : Done) → Answers s e d t → name ≡ me t → ready ≡ before
+    → memo ≡ memo_of e → left ≡ noted_by name ready memo d → last ≡ left → record last { turn = turn_of d } ≡ noted (me t) before e d
+notes_so s t name before ready left last memo e d h named same is by then =
+    let of_it : noted_by name ready memo d ≡ noted_by (me t) before (memo_of e) d =
+    ap (λ (n : List ℕ). noted_by n ready memo d) named ∙ ap (λ (n : Notes). noted_by (me t) n memo d) same ∙ ap (λ (m : Memo). noted_by (me t) before m d) is in
+    let all : last ≡ unturned (me t) before e d = then ∙ by ∙ of_it ∙ noted_so s t (me t) before e d h in
+    ap (λ (n : Notes). record n { turn = turn_of d }) all
 
 -- ---- the room of a receipt
 

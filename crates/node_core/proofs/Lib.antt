@@ -6,3 +6,4 @@ pub mod TwiceLemmas
 pub mod CommitLemmas
 pub mod EventLemmas
 pub mod WholeLemmas
+pub mod SinceLemmas

@@ -173,7 +173,7 @@ apart_distinct f (a ∷ named) h = (
   apart_distinct f named (λ at other b c here there same. omega (arith, h (suc at) (suc other) b c here there same)),
 )
 
-spots_same : (p q : Spot) → same_spot p q ≡ true → (q.0 ≡ p.0) × (q.1 ≡ p.1)
+pub spots_same : (p q : Spot) → same_spot p q ≡ true → (q.0 ≡ p.0) × (q.1 ≡ p.1)
 spots_same p q h = (grind (arith, common_steps, nat_tests), grind (arith, common_steps, nat_tests))
 
 find_named : {A : Type 0} (f : A → Spot) (named : List A) (q : Spot) → list_any (same_spot q) (map f named) ≡ true → Found f named q

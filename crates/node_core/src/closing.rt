@@ -1,10 +1,10 @@
 // Taking nodes and passes apart, and comparing receipts with journals.
-ghost use Rattle.std.specs.Prelude.{◌≡◌, ◌<◌, ◌↔◌, ℕ, Some, None, find, flat_map, length, slice_get, sum_by, vec_len, IfOk, IfSome, IfNone, IsErrOf, IsTrue, option_map};
+ghost use Rattle.std.specs.Prelude.{◌≡◌, ◌<◌, ◌≤◌, ◌↔◌, ℕ, Some, None, find, flat_map, get_or, length, position, slice_get, vec_len, IfOk, IfSome, IfNone, IsErrOf, IsTrue, OnOk, option_map};
 ghost use Rattle.std.specs.Option.{option_copied};
 ghost use Rattle.journal_rows.specs.Words.{asked, asked_step};
 ghost use Rattle.lang_base.specs.Texts.{same_text};
 ghost use Rattle.service_events.specs.State.{me};
-ghost use Rattle.node_core.specs.Closings.{live_count, service_of, Agrees, AllAgree, AreAmong, IsAmong, IsWhole, SamePlace};
+ghost use Rattle.node_core.specs.Closings.{live_since, lives_since, service_of, since_of, Agrees, AgreesSince, AllAgreeSince, AreAmong, IsAmong, IsWholeSince, SamePlace};
 ghost use Rattle.node_core.specs.Receipts.{answered_id, AgreesWith, WasAskedSo};
 ghost use Rattle.node_core.specs.declared.closing.CloseRefused.TheVariants as refusals;
 
@@ -20,7 +20,8 @@ use service_core::Service;
 use std::alloc::Global;
 use std::sync::ledger::{Ledger, Share};
 
-/// The services of a run that ended, and the receipts of all its workers: one for each live request that was answered.
+/// The services of a run that ended, and the receipts of all its workers: one for each live request that was answered since the
+/// nodes were opened.
 #[derive(Drop)]
 pub struct Closed {
     pub services: Vec<Service>,
@@ -30,9 +31,11 @@ pub struct Closed {
 /// Why a run wasn't closed.
 #[derive(Drop)]
 pub enum CloseRefused {
-    /// There was no memory for it. Nodes and passes are gone.
+    /// There was no memory for it. Nodes and passes are gone. It is answered also where a node says that its journal had
+    /// another number of rows when it was opened.
     NoMemory,
-    /// This receipt doesn't agree with the journal of the service that it names.
+    /// This receipt doesn't agree with the journal of the service that it names, or is of an answer of before the node was
+    /// opened.
     Differs {
         receipt: Receipt,
         services: Vec<Service>,
@@ -53,28 +56,59 @@ impl From<NoMemory> for CloseRefused {
     }
 }
 
+// Whether the node of this place was opened when its journal had so many rows.
+fn was_opened_at(since: &[u64], place: usize, rows: u64) -> bool
+    ensures { IsTrue result → slice_get since.now place ≡ Some rows }
+{
+    match since.get(place) {
+        None => false,
+        Some(opened) => *opened == rows,
+    }
+}
+
+// What the node of this place leaves, where it was opened as it should be. Contracts don't see what stands behind its lock.
+fn left_of<R: Ledger>(
+    node: Node<R>,
+    since: &[u64],
+    place: usize,
+) -> Result<(Share<R>, Service), NoMemory>
+    ensures part { IfOk result (λ r. r.0.parts ≡ 1) }
+    ensures amount { IfOk result (λ r. r.0.amount ≡ live_since (get_or since.now place 0) r.1) }
+    ensures within { OnOk result (place < length since.now) }
+{
+    let Node { state, work: _ } = node;
+    let NodeState {
+        service,
+        share,
+        secret: _,
+        stopped: _,
+        since: rows,
+    } = state.into_inner();
+    if was_opened_at(since, place, rows) {
+        Ok((share, service))
+    } else {
+        Err(NoMemory)
+    }
+}
+
 // The services, and all their shares as one.
 fn gather_rows<R: Ledger>(
     alloc: Global,
     rest: Share<R>,
     nodes: Vec<Node<R>>,
+    since: &[u64],
 ) -> Result<(Share<R>, Vec<Service>), NoMemory>
     requires parts { rest.parts ≡ 0 }
     requires none { rest.amount ≡ 0 }
     ensures parts { IfOk result (λ r. r.0.parts ≡ vec_len nodes) }
-    ensures amount { IfOk result (λ r. r.0.amount ≡ sum_by live_count r.1.items) }
+    ensures amount { IfOk result (λ r. r.0.amount ≡ lives_since r.1.items since.now) }
     ensures len { IfOk result (λ r. vec_len r.1 ≡ vec_len nodes) }
+    ensures reach { IfOk result (λ r. vec_len r.1 ≤ length since.now) }
 {
     let mut all = rest;
     let mut services = Vec::new(alloc);
     for node in nodes {
-        let Node { state, work: _ } = node;
-        let NodeState {
-            service,
-            share,
-            secret: _,
-            stopped: _,
-        } = state.into_inner();
+        let (share, service) = left_of(node, since, services.len())?;
         all.merge(share);
         services.push(service)?;
     }
@@ -189,6 +223,24 @@ fn service_of<'a>(services: &'a [Service], name: &Name) -> Option<&'a Service>
     services.iter().find(|service| is_named(service, name))
 }
 
+fn place_of(services: &[Service], name: &Name) -> Option<usize>
+    ensures place { result ≡ position (λ s. same_text (me s) name.now) services.now }
+    ensures within { IfSome result (λ place. place < length services.now) }
+{
+    services.iter().position(|service| is_named(service, name))
+}
+
+// From which index on the journal of the service of this name counts.
+fn since_of(services: &[Service], since: &[u64], name: &Name) -> u64
+    requires { length services.now ≤ length since.now }
+    ensures { result ≡ since_of name.now since.now services.now }
+{
+    match place_of(services, name) {
+        None => 0,
+        Some(place) => since[place],
+    }
+}
+
 fn agrees(services: &[Service], receipt: &Receipt) -> bool
     ensures { IsTrue result ↔ Agrees services.now receipt.now }
 {
@@ -198,13 +250,22 @@ fn agrees(services: &[Service], receipt: &Receipt) -> bool
     }
 }
 
-// Where the first receipt stands that doesn't agree.
-fn first_differing(services: &[Service], receipts: &[Receipt]) -> Option<usize>
-    ensures none { IfNone result ((at : ℕ) (r : _) → slice_get receipts.now at ≡ Some r → Agrees services.now r) }
-    ensures some { IfSome result (λ at. (at < length receipts.now) × ((r : _) → slice_get receipts.now at ≡ Some r → ¬ Agrees services.now r)) }
+fn agrees_since(services: &[Service], since: &[u64], receipt: &Receipt) -> bool
+    requires { length services.now ≤ length since.now }
+    ensures { IsTrue result ↔ AgreesSince since.now services.now receipt.now }
+{
+    agrees(services, receipt) && since_of(services, since, &receipt.service) <= receipt.index
+}
+
+// Where the first receipt stands that doesn't agree, or is of an answer of before.
+fn first_differing(services: &[Service], since: &[u64], receipts: &[Receipt]) -> Option<usize>
+    requires { length services.now ≤ length since.now }
+    ensures none { IfNone result ((at : ℕ) (r : _) → slice_get receipts.now at ≡ Some r → AgreesSince since.now services.now r) }
+    ensures some { IfSome result (λ at. (at < length receipts.now)
+        × ((r : _) → slice_get receipts.now at ≡ Some r → ¬ AgreesSince since.now services.now r)) }
 {
     for (at, receipt) in receipts.iter().enumerate() {
-        if !agrees(services, receipt) {
+        if !agrees_since(services, since, receipt) {
             return Some(at);
         }
     }
@@ -214,18 +275,21 @@ fn first_differing(services: &[Service], receipts: &[Receipt]) -> Option<usize>
 // Compares each receipt with the journals, and all with one another, where there are as many as answers.
 fn compared(
     alloc: Global,
+    since: &[u64],
     services: Vec<Service>,
     mut found: Vec<Receipt>,
 ) -> Result<Closed, CloseRefused>
-    requires { length found.items ≡ sum_by live_count services.items }
-    ensures whole { IfOk result (λ closed. IsWhole closed.services.items closed.receipts.items) }
+    requires many { length found.items ≡ lives_since services.items since.now }
+    requires reach { vec_len services ≤ length since.now }
+    ensures whole { IfOk result (λ closed. IsWholeSince since.now closed.services.items closed.receipts.items) }
     ensures len { IfOk result (λ closed. vec_len closed.services ≡ vec_len services) }
     ensures receipts { IfOk result (λ closed. closed.receipts.items ≡ found.items) }
-    ensures differs { (r : _) (kept : _) → IsErrOf result (refusals.Differs r kept) → (¬ Agrees kept.items r) × IsAmong r found.items }
+    ensures differs { (r : _) (kept : _) → IsErrOf result (refusals.Differs r kept)
+        → (¬ AgreesSince since.now kept.items r) × IsAmong r found.items }
     ensures twice { (r : _) (t : _) (kept : _) → IsErrOf result (refusals.Twice r t kept)
-        → SamePlace r t × (AreAmong r t found.items × AllAgree kept.items found.items) }
+        → SamePlace r t × (AreAmong r t found.items × AllAgreeSince since.now kept.items found.items) }
 {
-    if let Some(at) = first_differing(&services, &found) {
+    if let Some(at) = first_differing(&services, since, &found) {
         let receipt = found.swap_remove(at);
         return Err(CloseRefused::Differs { receipt, services });
     }
@@ -246,9 +310,9 @@ fn compared(
 }
 
 /// Takes the nodes and the passes of a run apart, once all its workers have ended, and compares each receipt with the journal of
-/// the service that it names. Where all agree and no two are of one answer, each live request that a journal answers has
-/// exactly one receipt: none was lost and none counted twice, since the ledgers counted as many receipts as answers. The
-/// services are those of the nodes, in order.
+/// the service that it names. Where all agree, none is of an answer of before the nodes were opened, and no two are of one
+/// answer, each live request that a journal answers since then has exactly one receipt: none was lost and none counted
+/// twice, since the ledgers counted as many receipts as answers. The services are those of the nodes, in order.
 pub fn close<R: Ledger, Q: Ledger>(
     alloc: Global,
     nodes: Nodes<R, Q>,
@@ -256,18 +320,23 @@ pub fn close<R: Ledger, Q: Ledger>(
 ) -> Result<Closed, CloseRefused>
     requires nodes { vec_len nodes.nodes ≡ R.parts }
     requires passes { vec_len passes ≡ Q.parts }
-    ensures whole { IfOk result (λ closed. IsWhole closed.services.items closed.receipts.items) }
+    ensures whole { IfOk result (λ closed. IsWholeSince nodes.since.items closed.services.items closed.receipts.items) }
     ensures len { IfOk result (λ closed. vec_len closed.services ≡ vec_len nodes.nodes) }
     ensures receipts { IfOk result (λ closed. closed.receipts.items ≡ flat_map (λ p. p.receipts.items) passes.items) }
-    ensures differs { (r : _) (services : _) → IsErrOf result (refusals.Differs r services) → ¬ Agrees services.items r }
+    ensures differs { (r : _) (services : _) → IsErrOf result (refusals.Differs r services) → ¬ AgreesSince nodes.since.items services.items r }
     ensures twice { (r : _) (t : _) (services : _) → IsErrOf result (refusals.Twice r t services)
-        → SamePlace r t × (Agrees services.items r × Agrees services.items t) }
+        → SamePlace r t × (AgreesSince nodes.since.items services.items r × AgreesSince nodes.since.items services.items t) }
     ensures among { (r : _) (services : _) → IsErrOf result (refusals.Differs r services)
         → IsAmong r (flat_map (λ p. p.receipts.items) passes.items) }
     ensures two { (r : _) (t : _) (services : _) → IsErrOf result (refusals.Twice r t services)
-        → AreAmong r t (flat_map (λ p. p.receipts.items) passes.items) × AllAgree services.items (flat_map (λ p. p.receipts.items) passes.items) }
+        → AreAmong r t (flat_map (λ p. p.receipts.items) passes.items)
+        × AllAgreeSince nodes.since.items services.items (flat_map (λ p. p.receipts.items) passes.items) }
 {
-    let Nodes { nodes, tally } = nodes;
+    let Nodes {
+        nodes,
+        tally,
+        since,
+    } = nodes;
     let Tally { books } = tally;
     let Books {
         mut rows,
@@ -275,9 +344,9 @@ pub fn close<R: Ledger, Q: Ledger>(
         no_rows,
         no_receipts,
     } = books.into_inner();
-    let (mut all_rows, services) = gather_rows(alloc, no_rows, nodes)?;
+    let (mut all_rows, services) = gather_rows(alloc, no_rows, nodes, &since)?;
     let (mut all_receipts, found) = gather_receipts(alloc, no_receipts, passes)?;
     rows.audit(&mut all_rows);
     receipts.audit(&mut all_receipts);
-    compared(alloc, services, found)
+    compared(alloc, &since, services, found)
 }

@@ -133,6 +133,7 @@ pub fn event<R: Ledger, Q: Ledger, W: Wait>(
         share,
         secret,
         stopped: _,
+        since: _,
     } = kept;
     let done = service.event(alloc, event);
     let me = &service.setting().me;

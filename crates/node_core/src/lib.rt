@@ -1,9 +1,9 @@
 //! Nodes: services behind locks, the passes of workers that make events of them, and the receipts of what was answered.
 //!
 //! Two ledgers stand behind all nodes of a run, one of answers and one of receipts. Each node has a share of the first, whose
-//! amount is the number of live requests that its service's journal answers, and each pass a share of the second, whose amount
-//! is the number of its receipts. Both totals are equal, so when all nodes and passes are back there are as many receipts as
-//! answers.
+//! amount is the number of live requests that its service's journal answers since the node was opened, and each pass a share of
+//! the second, whose amount is the number of its receipts. Both totals are equal, so when all nodes and passes are back there
+//! are as many receipts as answers of that time.
 #![tactic(auto)]
 
 mod closing;

@@ -1,5 +1,6 @@
 // All nodes of a run, and the passes of its workers.
 ghost use Rattle.std.specs.Prelude.{◌≡◌, ◌+◌, ◌<◌, ℕ, [], vec_len, slice_get, None, Some, IfOk};
+ghost use Rattle.node_core.specs.Closings.{opened_at};
 ghost use Rattle.node_core.specs.Notes.{no_notes};
 
 use crate::notes::{LastGave, Notes};
@@ -19,11 +20,13 @@ pub struct Node<R: Ledger> {
     pub work: Condvar,
 }
 
-/// The nodes of a run, and the tally behind all of them.
+/// The nodes of a run, the tally behind all of them, and how many rows each service's journal had when its node was opened. Each
+/// node has that number behind its lock too, where contracts can't see it: so `close` compares them.
 #[derive(Drop)]
 pub struct Nodes<R: Ledger, Q: Ledger> {
     pub nodes: Vec<Node<R>>,
     pub tally: Tally<R, Q>,
+    pub since: Vec<u64>,
 }
 
 /// The nodes of a run that begins, and the passes of its workers.
@@ -33,18 +36,32 @@ pub struct Opened<R: Ledger, Q: Ledger> {
     pub passes: Vec<Pass<Q>>,
 }
 
-fn fresh_node<R: Ledger>(service: Service, secret: Text, share: Share<R>) -> Node<R>
-    requires empty { service.journal ≡ [] }
+// How many rows each journal has.
+fn opened_at(alloc: Global, services: &[Service]) -> Result<Vec<u64>, NoMemory>
+    ensures { IfOk result (λ since. since.items ≡ opened_at services.now) }
+{
+    let mut since = Vec::new(alloc);
+    for service in services {
+        since.push(service.journal().len())?;
+    }
+    Ok(since)
+}
+
+// The node of a service whose answers count from now on.
+fn new_node<R: Ledger>(service: Service, secret: Text, share: Share<R>) -> Node<R>
     requires one_part { share.parts ≡ 1 }
     requires none { share.amount ≡ 0 }
 {
+    let since = service.journal().len();
+    let state = NodeState {
+        service,
+        share,
+        secret,
+        stopped: false,
+        since,
+    };
     Node {
-        state: Mutex::new(NodeState {
-            service,
-            share,
-            secret,
-            stopped: false,
-        }),
+        state: Mutex::new(state),
         work: Condvar::new(),
     }
 }
@@ -57,7 +74,6 @@ fn node_each<R: Ledger>(
     rest: &mut Share<R>,
 ) -> Result<Vec<Node<R>>, NoMemory>
     requires secrets { vec_len secrets ≡ vec_len services }
-    requires empty { (i : ℕ) (s : _) → slice_get services.items i ≡ Some s → s.journal ≡ [] }
     requires parts { rest.old.parts ≡ vec_len services }
     requires none { rest.old.amount ≡ 0 }
     ensures len { IfOk result (λ nodes. vec_len nodes ≡ vec_len services) }
@@ -68,7 +84,7 @@ fn node_each<R: Ledger>(
         let Some(secret) = secrets.pop() else {
             unreachable!()
         };
-        nodes.push(fresh_node(service, secret, rest.split_off(1, 0)))?;
+        nodes.push(new_node(service, secret, rest.split_off(1, 0)))?;
     }
     nodes.reverse();
     Ok(nodes)
@@ -114,8 +130,8 @@ fn passes_of<Q: Ledger>(
 
 impl<R: Ledger, Q: Ledger> Nodes<R, Q> {
     /// A node for each service, in order, with its secret, and so many passes without receipts, of which each serves any node.
-    /// The services have answered nothing yet. Each of the two ledgers, of answers and of receipts, stands for one run alone:
-    /// so what is counted in it is what this run's nodes and passes count.
+    /// What a service answered before, of which its journal tells, is not counted. Each of the two ledgers, of answers and of
+    /// receipts, stands for one run alone: so what is counted in it is what this run's nodes and passes count.
     pub fn open(
         alloc: Global,
         services: Vec<Service>,
@@ -131,11 +147,12 @@ impl<R: Ledger, Q: Ledger> Nodes<R, Q> {
         requires one_each { R.parts ≡ vec_len services }
         requires one_pass_each { Q.parts ≡ passes }
         requires secrets { vec_len secrets ≡ vec_len services }
-        requires empty { (i : ℕ) (s : _) → slice_get services.items i ≡ Some s → s.journal ≡ [] }
         ensures nodes { IfOk result (λ o. vec_len o.nodes.nodes ≡ R.parts) }
         ensures passes { IfOk result (λ o. vec_len o.passes ≡ Q.parts) }
+        ensures since { IfOk result (λ o. o.nodes.since.items ≡ opened_at services.items) }
         ensures fresh { IfOk result (λ o. (i : ℕ) (p : _) → slice_get o.passes.items i ≡ Some p → (p.receipts.items ≡ []) × (p.notes ≡ no_notes)) }
     {
+        let since = opened_at(alloc, &services)?;
         let (rows, mut no_rows) = rows.open::<R>();
         let (receipts, mut no_receipts) = receipts.open::<Q>();
         let nodes = node_each(alloc, services, secrets, &mut no_rows)?;
@@ -147,7 +164,11 @@ impl<R: Ledger, Q: Ledger> Nodes<R, Q> {
             no_receipts,
         });
         Ok(Opened {
-            nodes: Nodes { nodes, tally },
+            nodes: Nodes {
+                nodes,
+                tally,
+                since,
+            },
             passes,
         })
     }

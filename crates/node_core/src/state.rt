@@ -1,23 +1,26 @@
 // What stands behind a node's lock.
-ghost use Rattle.std.specs.Prelude.{◌≡◌, length, true};
-ghost use Rattle.service_events.specs.Commits.{live_rows};
+ghost use Rattle.std.specs.Prelude.{◌≡◌, ◌≤◌, length, true};
+ghost use Rattle.node_core.specs.Closings.{live_since};
 
 use lang_core::Text;
 use service_core::Service;
 use std::sync::ledger::{Ledger, Share};
 
-/// A service, its share of the ledger of answers, the secret with which it seals, and whether it is to stop. Its type keeps that
-/// the share is one part of the ledger, and that its amount is the number of live requests that the service's journal answers;
-/// the service's own type keeps that the service fits its journal. So both hold whenever somebody gets the lock. Nothing
-/// outside of this crate makes one, copies one, or changes more of it than that it is to stop.
+/// A service, its share of the ledger of answers, the secret with which it seals, whether it is to stop, and how many rows its
+/// journal had when the node was opened. Its type keeps that the journal still has as many, that the share is one part of the
+/// ledger, and that its amount is the number of live requests that the journal answers since then; the service's own type
+/// keeps that the service fits its journal. So all of it holds whenever somebody gets the lock. Nothing outside of this crate
+/// makes one, copies one, or changes more of it than that it is to stop.
 #[derive(Drop)]
 pub struct NodeState<R: Ledger> {
     pub(crate) service: Service,
     pub(crate) share: Share<R>,
     pub(crate) secret: Text,
     pub(crate) stopped: bool,
+    pub(crate) since: u64,
     ghost one_part: { share.parts ≡ 1 },
-    ghost counted: { share.amount ≡ length (live_rows service.journal) },
+    ghost within: { since ≤ length service.journal },
+    ghost counted: { share.amount ≡ live_since since service },
 }
 
 impl<R: Ledger> NodeState<R> {
@@ -31,7 +34,7 @@ impl<R: Ledger> NodeState<R> {
     /// Its share of the ledger of answers.
     pub fn share(&self) -> &Share<R>
         ensures share { result.now ≡ self.now.share }
-        ensures counted { self.now.share.amount ≡ length (live_rows self.now.service.journal) }
+        ensures counted { self.now.share.amount ≡ live_since self.now.since self.now.service }
     {
         &self.share
     }
@@ -50,12 +53,21 @@ impl<R: Ledger> NodeState<R> {
         self.stopped
     }
 
+    /// How many rows its journal had when the node was opened.
+    pub fn since(&self) -> u64
+        ensures since { result ≡ self.now.since }
+        ensures within { self.now.since ≤ length self.now.service.journal }
+    {
+        self.since
+    }
+
     /// It is to stop. Nothing else changes.
     pub fn stop(&mut self)
         ensures stopped { self.new.stopped ≡ true }
         ensures service { self.new.service ≡ self.old.service }
         ensures share { self.new.share ≡ self.old.share }
         ensures secret { self.new.secret ≡ self.old.secret }
+        ensures since { self.new.since ≡ self.old.since }
     {
         self.stopped = true;
     }

@@ -14,8 +14,9 @@ use Rattle.service_events.specs.Fits.{Fits}
 use Rattle.service_events.specs.State.{Kept, me}
 use Rattle.service_core.proofs.ReplayLemmas.{replayed}
 use Rattle.world_agreement.specs.Partners.{NamesDiffer}
-use Rattle.world_file.specs.Worlds.{KnowEachOther, name_of}
+use Rattle.world_file.specs.Worlds.{name_of}
 use Rattle.world_file.specs.declared.setup.Setup.{Setup}
+use Rattle.node_run.specs.Peers.{AreApart}
 use Rattle.node_run.specs.SetSo.{AreSetSo, set_by, set_of}
 use Rattle.node_run.specs.Settled.{HaveSettled}
 use Rattle.journal_rows.specs.declared.verdict.Verdict.{Verdict}
@@ -24,9 +25,9 @@ use Rattle.report_text.specs.Reports.{IsVerdictOver, verdict_text}
 use Rattle.service_events.specs.Allowed.{IsAllowed}
 use Rattle.world_agreement.specs.Legal.{AreLegal}
 use Rattle.world_audit.specs.Verdicts.{IsVerdict}
-use Rattle.node_core.specs.Closings.{IsWhole}
+use Rattle.node_core.specs.Closings.{IsWholeSince}
 use Rattle.node_core.specs.declared.receipt.Receipt.{Receipt}
-use Rattle.node_run.specs.Ends.{IsGoodEnd, IsReplayed}
+use Rattle.node_run.specs.Ends.{IsGoodEndSince, IsReplayed}
 use Rattle.node_run.specs.Looking.{IsLiveVerdict}
 use Rattle.node_run.proofs.WholeKept.{whole_kept}
 
@@ -44,10 +45,10 @@ names_same (setup ∷ setups) (s ∷ services) same =
     let name : me s ≡ name_of setup = ap (λ (x : Setting). x.me) setting in
     let names = names_same setups services more in cc
 
-pub names_differ : (setups : List Setup) (services : List Kept) → KnowEachOther setups → AreSetSo setups services → NamesDiffer services
-names_differ setups services know same = λ i j d before inside alike.
+pub names_differ : (setups : List Setup) (services : List Kept) → AreApart setups → AreSetSo setups services → NamesDiffer services
+names_differ setups services apart same = λ i j d before inside alike.
     let D : List (List ℕ) → Type 0 = λ names. IsDistinct same_text names in
-    let distinct : IsDistinct same_text (map me services) = subst D (sym (names_same setups services same)) know.apart in
+    let distinct : IsDistinct same_text (map me services) = subst D (sym (names_same setups services same)) apart in
     let there : j < length (map me services) = rw (length-map services me) inside in
     let first = get_or-map me services i d (me d) (omega (arith, before, inside)) in
     let second = get_or-map me services j d (me d) inside in
@@ -70,17 +71,17 @@ all_replayed (s ∷ ss) (t ∷ ts) settled fits =
 
 -- ---- the end of a run
 
-pub good_end : (setups : List Setup) (before services : List Kept) (receipts : List Receipt) (verdict : Verdict) → KnowEachOther setups → IsWhole before receipts
-    → HaveSettled before services → AreSetSo setups services → All Fits services → All IsAllowed services → IsVerdict services verdict
-    → (NamesDiffer services → verdict ≡ Legal → AreLegal services) → IsGoodEnd setups services receipts verdict
-good_end setups before services receipts verdict know whole settled set_so fits allowed judged legal = record {
+pub good_end : (since : List ℕ) (setups : List Setup) (before services : List Kept) (receipts : List Receipt) (verdict : Verdict) → AreApart setups
+    → IsWholeSince since before receipts → HaveSettled before services → AreSetSo setups services → All Fits services → All IsAllowed services
+    → IsVerdict services verdict → (NamesDiffer services → verdict ≡ Legal → AreLegal services) → IsGoodEndSince since setups services receipts verdict
+good_end since setups before services receipts verdict apart whole settled set_so fits allowed judged legal = record {
   set_so = set_so;
   fits = fits;
   allowed = allowed;
   replayed = all_replayed before services settled fits;
-  whole = whole_kept before services receipts settled whole;
+  whole = whole_kept since before services receipts settled whole;
   judged = judged;
-  legal = legal (names_differ setups services know set_so);
+  legal = legal (names_differ setups services apart set_so);
 }
 
 -- ---- a verdict beside the workers

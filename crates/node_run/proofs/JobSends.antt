@@ -27,7 +27,7 @@ use Rattle.node_run.specs.contracts.jobs.Requests as requests
 use Rattle.node_run.specs.contracts.shared.Shared as shared
 
 state_send : (R : RattleType) (g : Ghosts R.Denot) → IsSend (state.the_row R g)
-state_send R g = recorded_send (state.the_field R g).row _ _ (state.the_type R g).to_one (struct_send (shape (state.the_type R g)) (service_send, (share.the_send R g, (text.the_send, (search sendable, tt)))))
+state_send R g = recorded_send (state.the_field R g).row _ _ (state.the_type R g).to_one (struct_send (shape (state.the_type R g)) (service_send, (share.the_send R g, (text.the_send, (search sendable, (search sendable, tt))))))
 
 node_sync : (R : RattleType) (g : Ghosts R.Denot) → IsSync (node.the_row R g)
 node_sync R g = recorded_sync (node.the_field R g).row _ _ (node.the_type R g).to_one (struct_sync (shape (node.the_type R g)) (search (sendable, crosses, state_send, condvar.the_field_sync) depth 20))
@@ -42,7 +42,7 @@ pub posts_send : (κ : NamedLft) (R Q W L : RattleType) (g : Ghosts R.Denot) (g'
 posts_send κ R Q W L g g' w l = recorded_send (posts.the_field κ R Q W L g g').row _ _ (posts.the_type κ R Q W L g g').to_one (struct_send (shape (posts.the_type κ R Q W L g g')) (shr_send _ _ _ w, (heap.the_field_send, (shr_send _ _ _ (desk_sync κ R Q g g'), (l, (pass.the_field_send Q g', tt))))))
 
 nodes_sync : (R Q : RattleType) (g : Ghosts R.Denot) (g' : Ghosts Q.Denot) → IsSync (nodes.the_row R Q g g')
-nodes_sync R Q g g' = recorded_sync (nodes.the_field R Q g g').row _ _ (nodes.the_type R Q g g').to_one (struct_sync (shape (nodes.the_type R Q g g')) (search (crosses, node_sync) depth 10, (tally.the_field_sync R Q g g', tt)))
+nodes_sync R Q g g' = recorded_sync (nodes.the_field R Q g g').row _ _ (nodes.the_type R Q g g').to_one (struct_sync (shape (nodes.the_type R Q g g')) (search (crosses, node_sync) depth 10, (tally.the_field_sync R Q g g', (search (sendable, crosses) depth 10, tt))))
 
 shared_sync : (κ : NamedLft) (R Q C D G : RattleType) (s : Source.Ghosts C.Denot) (k : Sink.Ghosts C.Denot) (g : Ghosts R.Denot) (g' : Ghosts Q.Denot) → IsSend C → IsSync D → IsSync G → IsSync (shared.the_row κ R Q C D G s k g g')
 shared_sync κ R Q C D G s k g g' c d e = recorded_sync (shared.the_field κ R Q C D G s k g g').row _ _ (shared.the_type κ R Q C D G s k g g').to_one (struct_sync (shape (shared.the_type κ R Q C D G s k g g'))

@@ -1,5 +1,4 @@
 pub mod EndingLemmas
-pub mod FreshLemmas
 pub mod JobSends
 pub mod JudgingLemmas
 pub mod PeerLemmas

@@ -1,6 +1,7 @@
--- Receipts and journals stay one to one where journals go on without another live answer.
-use Rattle.std.proofs.Common.{◌≡◌, ◌⊎◌, ℕ, zero, suc, Bool, true, false, List, [], ◌∷◌, ◌++◌, Option, Some, None, slice_get, nat_eq, refl, sym, ap, ◌∙◌, subst, inl, inr}
-use Rattle.std.specs.List.{filter, fold}
+-- Receipts and what journals answer since they were opened stay one to one where journals go on without another live answer.
+use Rattle.std.proofs.Common.{◌≡◌, ◌⊎◌, ◌+◌, ℕ, zero, suc, Bool, true, false, cond, not, List, [], ◌∷◌, ◌++◌, Option, Some, None, get_or, length, slice_get, nat_eq, nat_lt, refl, sym, ap, ap₂, ◌∙◌, subst, arith, inl, inr}
+use Rattle.std.specs.List.{filter, fold, position_or_len}
+use Rattle.std.specs.Option.{option_map_or}
 use Rattle.std.proofs.lemmas.Bool.{cases_Bool}
 use Rattle.std.proofs.lemmas.List.{append_cancel_left, append-nil}
 use Rattle.std.proofs.lemmas.List.Elements.{filter-append}
@@ -12,7 +13,7 @@ use Rattle.journal_rows.specs.declared.row.Row.{Row}
 use Rattle.journal_rows.specs.declared.row.Row.TheVariants as rows
 use Rattle.service_events.specs.Commits.{is_live_row, live_rows}
 use Rattle.service_events.specs.State.{Kept, me}
-use Rattle.node_core.specs.Closings.{Agrees, HasReceipt, IsWhole}
+use Rattle.node_core.specs.Closings.{Agrees, HasReceipt, IsWholeSince, since_of}
 use Rattle.node_core.specs.Receipts.{AgreesWith, WasAskedSo, answered_id}
 use Rattle.node_core.specs.declared.receipt.Receipt.{Receipt}
 use Rattle.node_core.proofs.SearchLemmas.{in_longer}
@@ -118,11 +119,29 @@ agree_still (x ∷ ss) (y ∷ ts) r h agrees =
           rw that (agree_still ss ts r h.1 more))
     ]
 
+-- names lead to the same places
+places_still : (ss ts : List Kept) (name : List ℕ) → HaveSettled ss ts
+    → (length ts ≡ length ss) × (position_or_len (λ (s : Kept). same_text (me s) name) ts ≡ position_or_len (λ (s : Kept). same_text (me s) name) ss)
+places_still [] [] name h = (refl, refl)
+places_still [] (y ∷ ts) name h = absurd h
+places_still (x ∷ ss) [] name h = absurd h
+places_still (x ∷ ss) (y ∷ ts) name h =
+    let same : same_text (me y) name ≡ same_text (me x) name = ap (λ one. same_text one name) h.0.goes.name in
+    let more = places_still ss ts name h.1 in
+    (ap suc more.0, ap₂ (λ b n. cond (not b) (1 + n) 0) same more.1)
+
+since_still : (since : List ℕ) (ss ts : List Kept) (name : List ℕ) → HaveSettled ss ts → since_of name since ts ≡ since_of name since ss
+since_still since ss ts name h =
+    let still = places_still ss ts name h in
+    ap₂ (λ many place. option_map_or (λ (n : ℕ). get_or since n 0) (cond (nat_lt place many) (Some place) None) 0) still.0 still.1
+
 -- receipts and live answers are one to one still
-pub whole_kept : (ss ts : List Kept) (receipts : List Receipt) → HaveSettled ss ts → IsWhole ss receipts → IsWhole ts receipts
-whole_kept ss ts receipts h whole = record {
-  agree = λ at r there. agree_still ss ts r h (whole.agree at r there);
-  each = λ k t place row here there live. (let w = was ss ts k t h here in
-      has_still w.before t w.goes place row receipts (whole.each k w.before place row w.there (stood w.before t w.goes place row there live) live));
+pub whole_kept : (since : List ℕ) (ss ts : List Kept) (receipts : List Receipt) → HaveSettled ss ts → IsWholeSince since ss receipts → IsWholeSince since ts receipts
+whole_kept since ss ts receipts h whole = record {
+  agree = λ at r there. (let before = whole.agree at r there in
+      let same = since_still since ss ts r.service h in
+      (agree_still ss ts r h before.0, (let later = before.1 in omega (arith, same, later))));
+  each = λ k t place row here later there live. (let w = was ss ts k t h here in
+      has_still w.before t w.goes place row receipts (whole.each k w.before place row w.there later (stood w.before t w.goes place row there live) live));
   once = whole.once;
 }

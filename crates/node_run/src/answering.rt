@@ -46,7 +46,7 @@ fn tell_verdict<R: Ledger, Q: Ledger, W: Wait, C: Connection, D, G>(
     shared: &Shared<'_, R, Q, C, D, G>,
     conn: &mut C,
 ) -> Result<(), NoMemory> {
-    let line = verdict_now(rt, alloc, shared.setups, &shared.nodes.nodes)?;
+    let line = verdict_now(rt, alloc, shared.here, &shared.nodes.nodes)?;
     let response = console_reply(alloc, verdict_json(alloc, &line)?)?;
     let _ = write_response(alloc, conn, &response);
     Ok(())

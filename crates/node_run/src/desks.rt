@@ -10,14 +10,14 @@ use std::sync::ledger::Ledger;
 use wire_fields::Secrets;
 use world_file::Setup;
 
-fn setup_of<'a>(setups: &'a [Setup], name: &Name) -> Option<&'a Setup> {
-    setups.iter().find(|setup| setup.setting.me.is(name))
+fn setup_of<'a>(known: &'a [Setup], name: &Name) -> Option<&'a Setup> {
+    known.iter().find(|setup| setup.setting.me.is(name))
 }
 
-// Adds the door and the secret of a peer, which is another one of the services.
+// Adds the door and the secret of a peer, which is one of the services that are known.
 fn add_peer(
     alloc: Global,
-    setups: &[Setup],
+    known: &[Setup],
     peer: &Name,
     doors: &mut Doors,
     secrets: &mut Secrets,
@@ -25,7 +25,7 @@ fn add_peer(
     ensures doors { OnOk result (names_of doors.new ≡ names_of doors.old ++ peer.now ∷ []) }
     ensures secrets { OnOk result (names_of secrets.new ≡ names_of secrets.old ++ peer.now ∷ []) }
 {
-    let Some(setup) = setup_of(setups, peer) else {
+    let Some(setup) = setup_of(known, peer) else {
         return Err(NoMemory);
     };
     let door = doors.add(peer.copied(alloc)?, setup.door.copied(alloc)?)?;
@@ -38,13 +38,13 @@ fn add_peer(
 }
 
 // The doors and the secrets of these peers.
-fn peers_of(alloc: Global, setups: &[Setup], peers: &[Name]) -> Result<(Doors, Secrets), NoMemory>
-    ensures { IfOk result (λ known. (names_of known.0 ≡ peers.now) × (names_of known.1 ≡ peers.now)) }
+fn peers_of(alloc: Global, known: &[Setup], peers: &[Name]) -> Result<(Doors, Secrets), NoMemory>
+    ensures { IfOk result (λ both. (names_of both.0 ≡ peers.now) × (names_of both.1 ≡ peers.now)) }
 {
     let mut doors = Doors::new(alloc);
     let mut secrets = Secrets::new(alloc);
     for peer in peers {
-        add_peer(alloc, setups, peer, &mut doors, &mut secrets)?;
+        add_peer(alloc, known, peer, &mut doors, &mut secrets)?;
     }
     Ok((doors, secrets))
 }
@@ -52,15 +52,16 @@ fn peers_of(alloc: Global, setups: &[Setup], peers: &[Name]) -> Result<(Doors, S
 // The desk of the service at this place.
 fn desk_at<'a, R: Ledger, Q: Ledger>(
     alloc: Global,
-    setups: &'a [Setup],
+    here: &'a [Setup],
+    known: &[Setup],
     nodes: &'a Nodes<R, Q>,
     place: usize,
 ) -> Result<Desk<'a, R, Q>, NoMemory>
     requires node { place < vec_len nodes.now.nodes }
-    requires setup { place < length setups.now }
+    requires setup { place < length here.now }
 {
-    let setup = &setups[place];
-    let (doors, secrets) = peers_of(alloc, setups, setup.setting.peers.as_slice())?;
+    let setup = &here[place];
+    let (doors, secrets) = peers_of(alloc, known, setup.setting.peers.as_slice())?;
     Ok(Desk {
         tally: &nodes.tally,
         node: &nodes.nodes[place],
@@ -70,18 +71,20 @@ fn desk_at<'a, R: Ledger, Q: Ledger>(
     })
 }
 
-/// A desk for each service, in order.
+/// A desk for each service that runs here, in order. The doors and the secrets of its peers are those of the setups that are
+/// known.
 pub fn desks_of<'a, R: Ledger, Q: Ledger>(
     alloc: Global,
-    setups: &'a [Setup],
+    here: &'a [Setup],
+    known: &[Setup],
     nodes: &'a Nodes<R, Q>,
 ) -> Result<Vec<Desk<'a, R, Q>>, NoMemory>
-    requires { vec_len nodes.now.nodes ≡ length setups.now }
-    ensures { IfOk result (λ desks. vec_len desks ≡ length setups.now) }
+    requires { vec_len nodes.now.nodes ≡ length here.now }
+    ensures { IfOk result (λ desks. vec_len desks ≡ length here.now) }
 {
-    let mut desks = Vec::with_capacity(alloc, setups.len())?;
-    for place in 0..setups.len() {
-        desks.push(desk_at(alloc, setups, nodes, place)?)?;
+    let mut desks = Vec::with_capacity(alloc, here.len())?;
+    for place in 0..here.len() {
+        desks.push(desk_at(alloc, here, known, nodes, place)?)?;
     }
     Ok(desks)
 }

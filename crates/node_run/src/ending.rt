@@ -1,10 +1,10 @@
 // The end of a run whose workers are joined.
-ghost use Rattle.std.specs.Prelude.{◌≡◌, flat_map, vec_len, IfErr, IfOk, IsErrOf};
-ghost use Rattle.world_file.specs.Worlds.{KnowEachOther};
-ghost use Rattle.node_core.specs.Closings.{Agrees, IsWhole, SamePlace};
+ghost use Rattle.std.specs.Prelude.{◌≡◌, List, ℕ, flat_map, vec_len, IfErr, IfOk, IsErrOf};
+ghost use Rattle.node_core.specs.Closings.{AgreesSince, IsWholeSince, SamePlace};
+ghost use Rattle.node_run.specs.Peers.{AreApart};
 ghost use Rattle.node_run.specs.SetSo.{AreSetSo};
 ghost use Rattle.node_run.specs.Settled.{HaveSettled};
-ghost use Rattle.node_run.specs.Ends.{IsGoodEnd};
+ghost use Rattle.node_run.specs.Ends.{IsGoodEndSince};
 ghost use Rattle.node_run.specs.Stopping.{IsOfOne};
 ghost use Rattle.node_run.specs.declared.refused.RunRefused.TheVariants as refusals;
 
@@ -27,7 +27,7 @@ use world_file::Setup;
 pub struct Joined<C: Connection> {
     /// The services, at rest.
     pub services: Vec<Service>,
-    /// One for each live request that was answered.
+    /// One for each live request that was answered since the run began.
     pub receipts: Vec<Receipt>,
     /// The verdict over the services.
     pub verdict: Verdict,
@@ -36,12 +36,12 @@ pub struct Joined<C: Connection> {
 }
 
 // The services at rest, where they are those of the setups.
-fn rested(alloc: Global, setups: &[Setup], services: Vec<Service>) -> Result<Vec<Service>, NoMemory>
+fn rested(alloc: Global, here: &[Setup], services: Vec<Service>) -> Result<Vec<Service>, NoMemory>
     ensures settled { IfOk result (λ rested. HaveSettled services.items rested.items) }
-    ensures set_so { IfOk result (λ rested. AreSetSo setups.now rested.items) }
+    ensures set_so { IfOk result (λ rested. AreSetSo here.now rested.items) }
 {
     let services = settle_all(alloc, services)?;
-    if are_set_so(alloc, &services, setups)? {
+    if are_set_so(alloc, &services, here)? {
         Ok(services)
     } else {
         Err(NoMemory)
@@ -51,21 +51,21 @@ fn rested(alloc: Global, setups: &[Setup], services: Vec<Service>) -> Result<Vec
 // The end of a run that was closed.
 fn ended<C: Connection + Drop>(
     alloc: Global,
-    setups: &[Setup],
+    here: &[Setup],
     closed: Closed,
     last: Last<C>,
 ) -> Result<Joined<C>, RunRefused>
-    requires know { KnowEachOther setups.now }
-    requires whole { IsWhole closed.services.items closed.receipts.items }
-    requires asked { IsOfOne setups.now last.service last.console }
-    ensures end { IfOk result (λ joined. IsGoodEnd setups.now joined.services.items joined.receipts.items joined.verdict) }
+    requires apart { AreApart here.now }
+    requires asked { IsOfOne here.now last.service last.console }
+    ensures end { (since : List ℕ) → IsWholeSince since closed.services.items closed.receipts.items
+        → IfOk result (λ joined. IsGoodEndSince since here.now joined.services.items joined.receipts.items joined.verdict) }
     ensures settled { IfOk result (λ joined. HaveSettled closed.services.items joined.services.items) }
     ensures receipts { IfOk result (λ joined. joined.receipts.items ≡ closed.receipts.items) }
-    ensures last { IfOk result (λ joined. IsOfOne setups.now joined.last.service joined.last.console) }
+    ensures last { IfOk result (λ joined. IsOfOne here.now joined.last.service joined.last.console) }
     ensures refused { IfErr result (λ why. why ≡ refusals.NoMemory) }
 {
     let Closed { services, receipts } = closed;
-    let Ok(services) = rested(alloc, setups, services) else {
+    let Ok(services) = rested(alloc, here, services) else {
         return Err(RunRefused::NoMemory);
     };
     let verdict = judge(&services);
@@ -81,26 +81,26 @@ fn ended<C: Connection + Drop>(
 /// and judged.
 pub fn joined_end<R: Ledger, Q: Ledger, C: Connection + Drop>(
     alloc: Global,
-    setups: &[Setup],
+    here: &[Setup],
     nodes: Nodes<R, Q>,
     passes: Vec<Pass<Q>>,
     last: Last<C>,
 ) -> Result<Joined<C>, RunRefused>
-    requires know { KnowEachOther setups.now }
-    requires asked { IsOfOne setups.now last.service last.console }
+    requires apart { AreApart here.now }
+    requires asked { IsOfOne here.now last.service last.console }
     requires nodes { vec_len nodes.nodes ≡ R.parts }
     requires passes { vec_len passes ≡ Q.parts }
-    ensures end { IfOk result (λ joined. IsGoodEnd setups.now joined.services.items joined.receipts.items joined.verdict) }
-    ensures last { IfOk result (λ joined. IsOfOne setups.now joined.last.service joined.last.console) }
+    ensures end { IfOk result (λ joined. IsGoodEndSince nodes.since.items here.now joined.services.items joined.receipts.items joined.verdict) }
+    ensures last { IfOk result (λ joined. IsOfOne here.now joined.last.service joined.last.console) }
     ensures receipts { IfOk result (λ joined. joined.receipts.items ≡ flat_map (λ p. p.receipts.items) passes.items) }
     ensures door { IsErrOf result refusals.DoorFault → ⊥ }
     ensures started { IsErrOf result refusals.NotStarted → ⊥ }
-    ensures differs { (r : _) (services : _) → IsErrOf result (refusals.Differs r services) → ¬ Agrees services.items r }
+    ensures differs { (r : _) (services : _) → IsErrOf result (refusals.Differs r services) → ¬ AgreesSince nodes.since.items services.items r }
     ensures twice { (r : _) (t : _) (services : _) → IsErrOf result (refusals.Twice r t services)
-        → SamePlace r t × (Agrees services.items r × Agrees services.items t) }
+        → SamePlace r t × (AgreesSince nodes.since.items services.items r × AgreesSince nodes.since.items services.items t) }
 {
     match close(alloc, nodes, passes) {
-        Ok(closed) => ended(alloc, setups, closed, last),
+        Ok(closed) => ended(alloc, here, closed, last),
         Err(why) => Err(unequal(why)),
     }
 }

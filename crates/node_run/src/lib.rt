@@ -26,3 +26,4 @@ pub use last::Last;
 pub use node_core::Receipt;
 pub use refused::RunRefused;
 pub use run::run_nodes;
+pub use service_core::Service;

@@ -16,21 +16,19 @@ use std::sync::ledger::Ledger;
 use world_file::Setup;
 
 // How many services have lesser names.
-fn rank_of(setups: &[Setup], setup: &Setup) -> usize {
+fn rank_of(here: &[Setup], setup: &Setup) -> usize {
     let name = setup.setting.me.text();
     let lesser = |other: &&Setup| other.setting.me.text().order(name) == Ordering::Less;
-    setups.iter().filter(lesser).count()
+    here.iter().filter(lesser).count()
 }
 
 // The node whose service's name comes so far in the order of names.
 fn node_of_rank<'a, R: Ledger>(
-    setups: &[Setup],
+    here: &[Setup],
     nodes: &'a [Node<R>],
     rank: usize,
 ) -> Option<&'a Node<R>> {
-    let place = setups
-        .iter()
-        .position(|setup| rank_of(setups, setup) == rank)?;
+    let place = here.iter().position(|setup| rank_of(here, setup) == rank)?;
     nodes.get(place)
 }
 
@@ -39,19 +37,19 @@ fn node_of_rank<'a, R: Ledger>(
 fn copies<R: Ledger, W: Wait>(
     rt: &W,
     alloc: Global,
-    setups: &[Setup],
+    here: &[Setup],
     nodes: &[Node<R>],
 ) -> Result<Vec<Service>, NoMemory> {
-    let mut held = Vec::with_capacity(alloc, setups.len())?;
-    for rank in 0..setups.len() {
-        let Some(node) = node_of_rank(setups, nodes, rank) else {
+    let mut held = Vec::with_capacity(alloc, here.len())?;
+    for rank in 0..here.len() {
+        let Some(node) = node_of_rank(here, nodes, rank) else {
             return Err(NoMemory);
         };
         held.push(node.state.lock(rt))?;
     }
-    let mut copies = Vec::with_capacity(alloc, setups.len())?;
-    for setup in setups {
-        let Some(state) = held.get(rank_of(setups, setup)) else {
+    let mut copies = Vec::with_capacity(alloc, here.len())?;
+    for setup in here {
+        let Some(state) = held.get(rank_of(here, setup)) else {
             return Err(NoMemory);
         };
         copies.push(state.service().copied(alloc)?)?;
@@ -59,30 +57,30 @@ fn copies<R: Ledger, W: Wait>(
     Ok(copies)
 }
 
-fn names_of(alloc: Global, setups: &[Setup]) -> Result<Names, NoMemory>
-    ensures { IfOk result (λ names. names ≡ map name_of setups.now) }
+fn names_of(alloc: Global, here: &[Setup]) -> Result<Names, NoMemory>
+    ensures { IfOk result (λ names. names ≡ map name_of here.now) }
 {
     let mut names = Names::new(alloc);
-    for setup in setups {
+    for setup in here {
         names.push(setup.setting.me.copied(alloc)?)?;
     }
     Ok(names)
 }
 
-/// The line of the verdict over all services as they are at one moment.
+/// The line of the verdict over all services that run here, as they are at one moment.
 #[tactic(auto, using(crate::proofs::EndingLemmas::live_line, crate::proofs::EndingLemmas::over_names))]
 pub fn verdict_now<R: Ledger, W: Wait>(
     rt: &W,
     alloc: Global,
-    setups: &[Setup],
+    here: &[Setup],
     nodes: &[Node<R>],
 ) -> Result<Text, NoMemory>
-    ensures { IfOk result (λ line. IsLiveVerdict setups.now line) }
+    ensures { IfOk result (λ line. IsLiveVerdict here.now line) }
 {
-    let services = copies(rt, alloc, setups, nodes)?;
-    if !are_set_so(alloc, &services, setups)? {
+    let services = copies(rt, alloc, here, nodes)?;
+    if !are_set_so(alloc, &services, here)? {
         return Err(NoMemory);
     }
-    let names = names_of(alloc, setups)?;
+    let names = names_of(alloc, here)?;
     verdict_text(alloc, &names, &judge(&services))
 }

@@ -11,7 +11,8 @@ use world_file::Setup;
 /// What all workers of a run share.
 #[derive(Drop)]
 pub struct Shared<'a, R: Ledger, Q: Ledger, C: Connection, D, G> {
-    pub setups: &'a [Setup],
+    /// The setups of the services that run here.
+    pub here: &'a [Setup],
     pub nodes: &'a Nodes<R, Q>,
     pub desks: Vec<Desk<'a, R, Q>>,
     /// Where inputs are drawn.

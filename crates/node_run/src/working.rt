@@ -54,7 +54,7 @@ fn work<
 ) -> Result<(Vec<Pass<Q>>, Last<E::Conn>), StartRefused>
     requires ears { length ears.now ≡ vec_len shared.now.desks }
     ensures kept { IfOk result (λ r. vec_len r.0 ≡ vec_len passes) }
-    ensures last { IfOk result (λ r. IsOfOne shared.now.setups.now r.1.service r.1.console) }
+    ensures last { IfOk result (λ r. IsOfOne shared.now.here.now r.1.service r.1.console) }
     ensures counted { P.faults spawner.old ≤ P.faults spawner.new }
     ensures started { IsErrOf result StartRefused.NotStarted → Rose (P.faults spawner.old) (P.faults spawner.new) }
     ensures door { IsErrOf result StartRefused.DoorFault → ⊥ }
@@ -73,7 +73,7 @@ fn work<
     );
     match started {
         Ok(()) => {
-            let last = shared.last.wait(rt, shared.setups);
+            let last = shared.last.wait(rt, shared.here);
             stop_all(rt, &shared.nodes.nodes, ears);
             join_all(rt, tickets, &mut passes)?;
             Ok((passes, last))
@@ -107,7 +107,7 @@ pub fn work_in_scope<
 ) -> Result<(Vec<Pass<Q>>, Last<E::Conn>), StartRefused>
     requires ears { length ears.now ≡ vec_len shared.now.desks }
     ensures kept { IfOk result (λ r. vec_len r.0 ≡ vec_len passes) }
-    ensures last { IfOk result (λ r. IsOfOne shared.now.setups.now r.1.service r.1.console) }
+    ensures last { IfOk result (λ r. IsOfOne shared.now.here.now r.1.service r.1.console) }
     ensures door { IsErrOf result StartRefused.DoorFault → ⊥ }
     ensures started { IsErrOf result StartRefused.NotStarted → Rose (P.faults spawner.old) (P.faults spawner.new) }
 {
@@ -117,7 +117,7 @@ pub fn work_in_scope<
         move |scope| -> (Result<(Vec<Pass<Q>>, Last<E::Conn>), StartRefused>, &mut P)
             requires ears { length ears.now ≡ vec_len shared.now.desks }
             ensures kept { IfOk result.0 (λ r. vec_len r.0 ≡ vec_len passes) }
-            ensures last { IfOk result.0 (λ r. IsOfOne shared.entry.now.setups.now r.1.service r.1.console) }
+            ensures last { IfOk result.0 (λ r. IsOfOne shared.entry.now.here.now r.1.service r.1.console) }
             ensures door { IsErrOf result.0 StartRefused.DoorFault → ⊥ }
             ensures back { result.1.ghost_name ≡ spawner.entry.ghost_name }
             ensures started { IsErrOf result.0 StartRefused.NotStarted → Rose (P.faults spawner.entry.now) (P.faults result.1.now) }

@@ -1,20 +1,26 @@
-use Rattle.std.proofs.Common.{◌≡◌, ◌<◌, List, Some, Result, Err, length, slice_get, refl, ap, ◌∙◌, subst, arith}
+use Rattle.std.proofs.Common.{◌≡◌, ◌<◌, ◌≤◌, ℕ, List, Some, Result, Err, length, slice_get, refl, sym, ap, ◌∙◌, subst, arith}
 use Rattle.std.proofs.lemmas.Option.{slice_get_read}
+use Rattle.service_events.specs.State.{Kept}
 use Rattle.node_core.proofs.WholeLemmas.{whole}
-use Rattle.node_core.specs.Closings.{Agrees, AllAgree, AreAmong, AreApart, IsAmong, SamePlace}
+use Rattle.node_core.specs.Closings.{AgreesSince, AllAgreeSince, AreAmong, AreApart, IsAmong, SamePlace}
 use Rattle.node_core.specs.declared.closing.CloseRefused.{CloseRefused}
 use Rattle.node_core.specs.declared.closing.Closed.{Closed}
 use Rattle.node_core.specs.declared.closing.CloseRefused.TheVariants as refusals
 use Rattle.node_core.specs.declared.receipt.Receipt.{Receipt}
 use Rattle.node_core.proofs.closing.compared.Goals as goal
 
-abbrev DiffersSo : List Receipt → Result Closed CloseRefused → Type 0
-DiffersSo found (Err (refusals.Differs r kept)) = (¬ Agrees kept.items r) × IsAmong r found
-DiffersSo found result = Unit {0}
+abbrev DiffersSo : List ℕ → List Receipt → Result Closed CloseRefused → Type 0
+DiffersSo since found (Err (refusals.Differs r kept)) = (¬ AgreesSince since kept.items r) × IsAmong r found
+DiffersSo since found result = Unit {0}
 
-abbrev IsTwiceSo : List Receipt → Result Closed CloseRefused → Type 0
-IsTwiceSo found (Err (refusals.Twice r t kept)) = SamePlace r t × (AreAmong r t found × AllAgree kept.items found)
-IsTwiceSo found result = Unit {0}
+abbrev IsTwiceSo : List ℕ → List Receipt → Result Closed CloseRefused → Type 0
+IsTwiceSo since found (Err (refusals.Twice r t kept)) = SamePlace r t × (AreAmong r t found × AllAgreeSince since kept.items found)
+IsTwiceSo since found result = Unit {0}
+
+pub first_differing-requires : goal.first_differing-requires
+first_differing-requires c =
+    subst (λ (services : List Kept). length services ≤ length c.args.since.now) (sym c.deref.ensures.value)
+    (omega (arith, c.args.services.ok.0, c.requires.reach))
 
 pub returns-in-Some-clause-differs : goal.returns-in-Some-clause-differs
 returns-in-Some-clause-differs c r kept same =
@@ -26,7 +32,7 @@ returns-in-Some-clause-differs c r kept same =
     let read : slice_get found at ≡ Some receipt = slice_get_read found (length found) at receipt refl within c.swap_remove-receipt.ensures.value in
     let no = c.in-Some.ensures.some.1 receipt (ap (λ xs. slice_get xs at) value ∙ read) in
     let among : IsAmong receipt found = record { at = at; there = read } in
-    subst (DiffersSo found) same (subst (λ xs. ¬ Agrees xs receipt) c.deref.ensures.value no, among)
+    subst (DiffersSo c.args.since.now found) same (subst (λ xs. ¬ AgreesSince c.args.since.now xs receipt) c.deref.ensures.value no, among)
 
 pub returns-in-Some-twice-clause-twice : goal.returns-in-Some-twice-clause-twice
 returns-in-Some-twice-clause-twice c r t kept same =
@@ -43,17 +49,17 @@ returns-in-Some-twice-clause-twice c r t kept same =
     let here : slice_get found at ≡ Some first =
     slice_get_read found (length found) at first refl (omega (arith, two.0, within)) (c.swap_remove-first.ensures.value ∙ kept) in
     let none = c.in_default.ensures.none in
-    let agree : AllAgree c.args.services.items found =
-    λ k u there. subst (λ xs. Agrees xs u) c.deref.ensures.value (none k u (ap (λ xs. slice_get xs k) c.deref-2.ensures.value ∙ there)) in
+    let agree : AllAgreeSince c.args.since.now c.args.services.items found =
+    λ k u there. subst (λ xs. AgreesSince c.args.since.now xs u) c.deref.ensures.value (none k u (ap (λ xs. slice_get xs k) c.deref-2.ensures.value ∙ there)) in
     let place : SamePlace first second = two.2 first second (ap (λ xs. slice_get xs at) value ∙ here) (ap (λ xs. slice_get xs other) value ∙ read) in
     let among : AreAmong first second found = record { at = at; other = other; before = two.0; here = here; there = read } in
-    subst (IsTwiceSo found) same (place, (among, agree))
+    subst (IsTwiceSo c.args.since.now found) same (place, (among, agree))
 
 pub returns-clause-whole : goal.returns-clause-whole
 returns-clause-whole c =
     let found = c.args.found.items in
     let none = c.in_default.ensures.none in
-    let agree : AllAgree c.args.services.items found =
-    λ k u there. subst (λ xs. Agrees xs u) c.deref.ensures.value (none k u (ap (λ xs. slice_get xs k) c.deref-2.ensures.value ∙ there)) in
+    let agree : AllAgreeSince c.args.since.now c.args.services.items found =
+    λ k u there. subst (λ xs. AgreesSince c.args.since.now xs u) c.deref.ensures.value (none k u (ap (λ xs. slice_get xs k) c.deref-2.ensures.value ∙ there)) in
     let apart : AreApart found = subst AreApart c.deref-3.ensures.value (rw c.in_default-twice.is at c.in_ok-twice.ensures.none) in
-    whole c.args.services.items found agree apart c.requires
+    whole c.args.since.now c.args.services.items found agree apart c.requires.many

@@ -1,5 +1,4 @@
-use Rattle.std.proofs.Common.{◌≡◌, ◌+◌, ℕ, [], vec_len, slice_get, Some}
-use Rattle.service_events.specs.State.{Kept}
+use Rattle.std.proofs.Common.{◌≡◌, ◌+◌, vec_len}
 use Rattle.node_core.proofs.nodes.node_each.Given as goal
 
 abbrev pub invariant-loop-service : goal.invariant-loop-service
@@ -8,7 +7,6 @@ invariant-loop-service g l = record {
   none : l.rest.amount ≡ 0;
   count : vec_len l.nodes + vec_len l.services ≡ vec_len l.fn.services;
   secrets : vec_len l.secrets ≡ vec_len l.services;
-  empty : (i : ℕ) (s : Kept) → slice_get l.services.items i ≡ Some s → s.journal ≡ [];
 }
 
 abbrev pub decreases-loop-service : goal.decreases-loop-service

@@ -10,12 +10,12 @@ use Rattle.node_run.proofs.EndingLemmas.{good_end}
 use Rattle.node_run.proofs.ending.ended.Goals as goal
 
 pub returns-clause-end : goal.returns-clause-end
-returns-clause-end g c =
+returns-clause-end g c since whole =
     let services = c.in-Ok.services.items in
     let verdict = c.judge-verdict.result in
     let same : c.deref.result.now ≡ services = c.deref.ensures.value in
     let judged = c.judge-verdict.ensures in
-    good_end c.args.setups.now c.args.closed.services.items services c.args.closed.receipts.items verdict c.requires.know c.requires.whole c.in-Ok.ensures.settled
+    good_end since c.args.here.now c.args.closed.services.items services c.args.closed.receipts.items verdict c.requires.apart whole c.in-Ok.ensures.settled
     c.in-Ok.ensures.set_so (subst (All Fits) same judged.fits) (subst (All IsAllowed) same judged.allowed)
     (subst (λ (all : List Kept). IsVerdict all verdict) same judged.verdict)
     (subst (λ (all : List Kept). NamesDiffer all → verdict ≡ Legal → AreLegal all) same judged.legal)
