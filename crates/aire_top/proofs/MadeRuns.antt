@@ -11,7 +11,7 @@ use Rattle.world_events.specs.Events.{Answer, after_events, answer_to}
 use Rattle.world_events.specs.Worlds.{World}
 use Rattle.world_events.specs.declared.event.Event.{Event}
 use Rattle.world_events.specs.declared.event.Event.TheVariants.{Order}
-use Rattle.world_laws.specs.Runs.{IsAsking}
+use Rattle.script_run.specs.HandedOn.{IsAsking}
 use Rattle.script_lines.specs.Lines.{Read, line_at}
 use Rattle.script_lines.specs.declared.line.Line.TheVariants.{Ask, Event as One, Settle}
 use Rattle.script_make.specs.Making.{ask_line, ask_lines, cancel_line, cancel_lines, made_script}

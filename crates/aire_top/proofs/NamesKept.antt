@@ -24,12 +24,12 @@ use Rattle.world_events.specs.declared.packet.Live.{Live}
 use Rattle.world_events.specs.declared.packet.Live.TheVariants.{Answer as LiveAnswer, Refused as LiveRefused}
 use Rattle.world_events.specs.declared.packet.Packet.{Packet}
 use Rattle.world_events.specs.declared.packet.Packet.TheVariants.{Call, CallReply, Post as PostPacket, PostReply as PostReplyPacket}
-use Rattle.world_laws.proofs.DeliveryLaws.{begin_writes_live}
-use Rattle.world_laws.proofs.PutLemmas.{put, with_is_put}
-use Rattle.world_laws.proofs.RunLaws.{hand_hands}
-use Rattle.world_laws.proofs.SendLaws.{arrive_lives, call_answered_lives, call_failed_lives}
-use Rattle.world_laws.specs.InHand.{IsInHand}
-use Rattle.world_laws.specs.Runs.{IsAsking, IsRun, written}
+use Rattle.script_run.proofs.HandedOn.{begin_writes_live}
+use Rattle.script_run.proofs.HandedOn.{put, with_is_put}
+use Rattle.script_run.proofs.HandedOn.{hand_hands}
+use Rattle.script_run.proofs.HandedOn.{arrive_lives, call_answered_lives, call_failed_lives}
+use Rattle.script_run.specs.HandedOn.{IsInHand}
+use Rattle.script_run.specs.HandedOn.{IsAsking, IsRun, written}
 
 -- ---- a service in place of one of the same setting
 

@@ -1,10 +1,10 @@
 -- A created entry, and where it goes in a log.
 use Rattle.std.specs.Prelude.{ℕ, ◌≡◌, ◌+◌, true, false, List, [], ◌∷◌, ◌++◌, length, Option, Some, None, unwrap_or, find, position, insert}
 use Rattle.request_log.specs.Entries.{has_id}
-use Rattle.lang_core.specs.declared.inputs.Inputs.{Inputs}
-use Rattle.lang_core.specs.declared.request.Request.{Request}
+use Rattle.request_log.specs.HandedOn.{Inputs}
+use Rattle.request_log.specs.HandedOn.{Request}
 use Rattle.request_log.specs.declared.entry.Entry.{Entry}
-use Rattle.lang_core.specs.declared.ids.Origin.TheVariants.{Outside}
+use Rattle.request_log.specs.HandedOn.{Outside}
 
 -- an entry from outside that never ran
 abbrev pub created : ℕ → Request → Inputs → Entry

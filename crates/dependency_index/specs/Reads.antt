@@ -5,8 +5,8 @@ use Rattle.lang_base.specs.Texts.{same_text, begins_with}
 use Rattle.lang_core.specs.Places.{Place, place_of, same_place}
 use Rattle.lang_core.specs.declared.trace.Read.{Read}
 use Rattle.lang_core.specs.declared.trace.Read.TheVariants as read
-use Rattle.place_order.specs.Labels.{place_in}
-use Rattle.place_order.specs.Rising.{is_before}
+use Rattle.key_labels.specs.HandedOn.{place_in}
+use Rattle.key_labels.specs.HandedOn.{is_before}
 use Rattle.dependency_index.specs.declared.reads.ReadAt.{ReadAt}
 use Rattle.dependency_index.specs.declared.reads.ReadKind.{ReadKind}
 use Rattle.dependency_index.specs.declared.reads.ReadKind.TheVariants.{Key, Scan}

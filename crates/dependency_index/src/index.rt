@@ -17,10 +17,9 @@ use crate::numbers::{put_number, seek_number};
 use crate::reads::ReadsAt;
 use crate::room::{IndexCall, ready_reads, take_reads};
 use crate::rows::{ReadRows, copied_reads, drop_labels, put_labels};
-use key_labels::{KeyRows, labels_at, labels_in};
+use key_labels::{KeyRows, Order, labels_at, labels_in};
 use lang_base::copied_items;
 use lang_core::{NoMemory, Reads, Seq, Text};
-use place_order::Order;
 use std::alloc::Global;
 use std::marker::Model;
 

@@ -1,15 +1,15 @@
 -- Histories, and which of them are legal executions.
 use Rattle.std.specs.Prelude.{ℕ, ◌≡◌, Bool, true, false, not, ◌&&◌, List, [], ◌∷◌, Option, Some, length, All, IfSome}
-use Rattle.lang_core.specs.Rows.{apply}
-use Rattle.lang_core.specs.Traces.{dead_trace}
-use Rattle.lang_core.specs.declared.cells.Cell.{Cell}
-use Rattle.lang_core.specs.declared.ids.Origin.{Origin}
-use Rattle.lang_core.specs.declared.inputs.Inputs.{Inputs}
-use Rattle.lang_core.specs.declared.request.Request.{Request}
-use Rattle.lang_core.specs.declared.request.Response.{Response}
-use Rattle.lang_core.specs.declared.setting.Setting.{Setting}
-use Rattle.lang_core.specs.declared.trace.CallMade.{CallMade}
-use Rattle.lang_core.specs.declared.trace.Trace.{Trace}
+use Rattle.handler_run.specs.HandedOn.{apply}
+use Rattle.handler_run.specs.HandedOn.{dead_trace}
+use Rattle.handler_run.specs.HandedOn.{Cell}
+use Rattle.handler_run.specs.HandedOn.{Origin}
+use Rattle.handler_run.specs.HandedOn.{Inputs}
+use Rattle.handler_run.specs.HandedOn.{Request}
+use Rattle.handler_run.specs.HandedOn.{Response}
+use Rattle.handler_run.specs.HandedOn.{Setting}
+use Rattle.handler_run.specs.HandedOn.{CallMade}
+use Rattle.handler_run.specs.HandedOn.{Trace}
 use Rattle.handler_run.specs.Handlers.{run_of}
 use Rattle.handler_run.specs.declared.state.Ran.TheVariants.{Done}
 

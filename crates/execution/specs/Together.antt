@@ -1,11 +1,11 @@
 -- Histories of services that call one another, and which of them are one legal execution.
 use Rattle.std.specs.Prelude.{ℕ, ◌≡◌, ◌⊎◌, Bool, true, List, [], ◌∷◌, Option, IsSomeAnd, All, Any, find, filter}
 use Rattle.lang_base.specs.Texts.{same_text}
-use Rattle.lang_core.specs.Origins.{is_call}
-use Rattle.lang_core.specs.declared.ids.Origin.{Origin}
-use Rattle.lang_core.specs.declared.ids.Origin.TheVariants.{Outside, Call}
-use Rattle.lang_core.specs.declared.request.Response.{Response}
-use Rattle.lang_core.specs.declared.trace.CallMade.{CallMade}
+use Rattle.handler_run.specs.HandedOn.{is_call}
+use Rattle.handler_run.specs.HandedOn.{Origin}
+use Rattle.handler_run.specs.HandedOn.{Outside, Call}
+use Rattle.handler_run.specs.HandedOn.{Response}
+use Rattle.handler_run.specs.HandedOn.{CallMade}
 use Rattle.execution.specs.Executions.{Act, History, survives, IsLegal}
 
 -- there is exactly one, and this holds of it

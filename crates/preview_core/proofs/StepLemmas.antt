@@ -23,7 +23,7 @@ use Rattle.service_events.specs.State.{Kept, answers, base}
 use Rattle.service_events.specs.Steps.{Stale, new_numbers, new_record, stale_in, step_by, step_event}
 use Rattle.service_events.proofs.CallLaws.{IsFew}
 use Rattle.service_events.proofs.StepForms.{Names, run_again, step_entries, step_names}
-use Rattle.service_parts.proofs.StepLaws.{step_as_many, step_further, step_steps, step_timely}
+use Rattle.service_core.proofs.HandedOn.{step_as_many, step_further, step_steps, step_timely}
 use Rattle.preview_core.specs.Repairs.{HasRepaired, HasRun, HaveRun, IsNoted, all_asks, asks, response_of}
 
 -- ---- which entries ran

@@ -2,7 +2,7 @@
 use Rattle.std.proofs.Common.{◌≡◌, ℕ, ◌+◌, suc, Bool, true, false, cond, not, List, [], ◌∷◌, length, set, get_or, Option, Some, None, IsSome, find, is_some, option_map, nat_lt, position, refl, sym, ap, ◌∙◌, subst, eqb-true, arith}
 use Rattle.std.specs.List.{position_or_len}
 use Rattle.request_log.specs.declared.entry.Entry.{Entry}
-use Rattle.lang_tree.specs.declared.method.Method.{Method}
+use Rattle.lang_core.specs.HandedOn.{Method}
 use Rattle.lang_core.specs.declared.request.Request.{Request}
 use Rattle.request_log.specs.Entries.{asking, changed, has_id, replace, request_at, with_call, IsDistinct, KeptLog}
 use Rattle.request_log.specs.Keys.{IsIndexed}

@@ -1,7 +1,7 @@
 -- Entries of a log: which are alive, and which has a number or comes from a call.
 use Rattle.std.specs.Prelude.{ℕ, ◌≡◌, ◌≤◌, Bool, ◌&&◌, not, List, [], ◌∷◌, Option, Some, None, nat_eq, length, find, slice_set, option_map, IsSomeAnd, if◌then◌else◌, map}
 use Rattle.std.specs.List.{position_or_len}
-use Rattle.lang_tree.specs.declared.method.Method.{Method}
+use Rattle.lang_core.specs.HandedOn.{Method}
 use Rattle.lang_core.specs.Origins.{is_call}
 use Rattle.lang_core.specs.declared.ids.Origin.{Origin}
 use Rattle.lang_core.specs.declared.ids.Origin.TheVariants.{Outside, Call}

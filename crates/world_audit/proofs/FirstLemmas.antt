@@ -2,7 +2,7 @@
 use Rattle.std.proofs.Common.{◌≡◌, ℕ, ◌<◌, List, [], ◌∷◌, length, get_or, All, IsSomeAnd, slice_get, subst, arith}
 use Rattle.std.specs.List.{AllWithin, HoldsAt}
 use Rattle.std.proofs.lemmas.List.{get_or_default}
-use Rattle.local_repair.proofs.TestLemmas.{none_first}
+use Rattle.world_agreement.proofs.HandedOn.{none_first}
 use Rattle.flights.specs.declared.flight.Flight.{Flight}
 use Rattle.service_events.specs.State.{Kept, answers}
 use Rattle.world_agreement.specs.Partners.{HasPartner}

@@ -1,8 +1,8 @@
 -- What each verdict says.
 use Rattle.std.specs.Prelude.{◌≡◌, ℕ, false, List, [], All, IsSomeAnd, slice_get}
 use Rattle.std.specs.List.{HoldsAt}
-use Rattle.local_repair.specs.Current.{AllCurrent}
-use Rattle.local_repair.specs.Repairs.{IsStaleId}
+use Rattle.world_agreement.specs.HandedOn.{AllCurrent}
+use Rattle.world_agreement.specs.HandedOn.{IsStaleId}
 use Rattle.journal_rows.specs.declared.verdict.Outstanding.{Outstanding}
 use Rattle.journal_rows.specs.declared.verdict.Outstanding.TheVariants.{Flight as OfFlight, Stale as OfEntry, Call as OfCall, Answer as OfAnswer}
 use Rattle.journal_rows.specs.declared.verdict.Verdict.{Verdict}

@@ -11,10 +11,10 @@ use Rattle.service_events.specs.Fits.{Fits}
 use Rattle.service_events.specs.Progress.{changes}
 use Rattle.service_events.specs.State.{Kept, answers, base, me}
 use Rattle.service_events.specs.Steps.{Stale, stale_in, step_by, step_event}
-use Rattle.service_events.specs.declared.event.Event.TheVariants as events
+use Rattle.service_events.specs.declared.event.Event.TheVariants.{Step as StepEvent}
 use Rattle.service_events.proofs.EventLaws.{event_fits}
 use Rattle.service_events.proofs.SearchLemmas.{found_all}
-use Rattle.service_parts.proofs.StepLaws.{step_as_many, step_further, step_steps, step_timely}
+use Rattle.world_laws.proofs.HandedOn.{step_as_many, step_further, step_steps, step_timely}
 use Rattle.world_agreement.specs.Partners.{has_name, service_of}
 use Rattle.world_agreement.proofs.TimelyLaws.{joined_timely}
 use Rattle.world_events.specs.Events.{Turn, after_events, at_service, if_there, refused, repair_step_served, turn, turned}
@@ -71,7 +71,7 @@ steps_on name (suc n) k w s found f timely current sum (e ∷ events) are few =
     let is : turn w e ≡ turned name w (repair_step_served s) =
     ap (turn w) are.0 ∙ step_turn w name ∙ ap (λ o. if_there o (refused w NoService) (λ x. turned name w (repair_step_served x))) found in
     subst After (sym is)
-    (after_step (λ all more few_all. steps_on name n (suc k) (turned name w (repair_step_served s)).world (step_event s).service there (event_fits s events.Step f (mine all)) (step_timely s f (mine all) timely)
+    (after_step (λ all more few_all. steps_on name n (suc k) (turned name w (repair_step_served s)).world (step_event s).service there (event_fits s StepEvent f (mine all)) (step_timely s f (mine all) timely)
     (step_further s f (mine all) timely k current) (let many = step_as_many s f (mine all) in omega (arith, many, sum)) events more few_all)) few.0 are.1 few.1
   where
     After : Turn → Type 0
