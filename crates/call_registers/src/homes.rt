@@ -64,7 +64,7 @@ impl Homes {
         }
     }
 
-    /// The same, without room for more.
+    /// A copy, without room for more.
     pub(crate) fn copied(&self, alloc: Global) -> Result<Homes, NoMemory> {
         let entries = Vec::from_slice(alloc, &self.entries)?;
         Ok(Homes { entries })

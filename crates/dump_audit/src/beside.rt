@@ -88,7 +88,7 @@ pub fn judge_beside<R: Threads + Sync>(
     workers: u64,
 ) -> Result<Judged, NoMemory>
     requires { 0 < workers }
-    // The same as one thread finds.
+    // What one thread finds.
     ensures exact { IfOk result (λ found. found ≡ judged dump.now.services) }
     // Legal exactly where its histories are one legal execution.
     ensures legal { IfOk result (λ found. (found ≡ Legal) ↔ IsLegalTogether (histories_of dump.now.services)) }

@@ -84,7 +84,7 @@ impl MemoryNetwork {
         Ok(Bytes::of(alloc, sink.bytes())?)
     }
 
-    /// The same as one exchange of a link, which fails where it is told to.
+    /// Calls a service as one exchange of a link, which fails where it is told to.
     pub(crate) fn exchange<W: Wait + Clock>(
         &self,
         rt: &W,
@@ -129,7 +129,7 @@ impl MemoryNetwork {
         self.changed.notify_all();
     }
 
-    /// The same, and the address is free.
+    /// Hears no call at an address any more, and the address is free: who waits there is refused.
     pub(crate) fn close<W: Wait>(&self, rt: &W, address: &str) {
         self.traffic.lock(rt).close(address);
         self.changed.notify_all();

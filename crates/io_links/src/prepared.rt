@@ -46,7 +46,7 @@ impl<'a> Link for PreparedLink<'a> {
 
     fn another(&self) -> Self
         ensures another { IsAnother (prepared_exchanges self.now) (prepared_exchanges result) }
-        // The same replies, from the first.
+        // One with these replies, from the first.
         ensures replies { prepared_replies result ≡ prepared_replies self.now }
         ensures made { prepared_next result ≡ 0 }
     {

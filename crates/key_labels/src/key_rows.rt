@@ -146,7 +146,7 @@ fn count_below(
     low + front
 }
 
-// The same, and whether a row stands at the key.
+// How many rows stand before the place of a key, looked for between two places, and whether a row stands at it.
 fn rank_between(
     slots: &Vec<KeyLabels>,
     order: &Vec<u32>,
@@ -187,7 +187,7 @@ pub(crate) fn rank_in(
     rank_between(slots, order, 0, order.len(), table, key)
 }
 
-// The same, where all rows before a place stand before the key. The row there is compared before any behind it.
+// What `rank_in` tells, where all rows before a place stand before the key. The row there is compared before any behind it.
 fn rank_from(
     slots: &Vec<KeyLabels>,
     order: &Vec<u32>,
@@ -214,7 +214,7 @@ fn rank_from(
     }
 }
 
-// The same, where the row at a place, which may be any, is compared first, and then the one behind it: keys are often made in
+// What `rank_in` tells. The row at a place, which may be any, is compared first, and then the one behind it: keys are often made in
 // order, so that a new one stands right behind the one before it.
 fn rank_near(
     slots: &Vec<KeyLabels>,

@@ -134,7 +134,7 @@ pub fn labels_in<'a>(rows: &'a KeyRows, table: &Text, key: &Text) -> &'a [u64]
     labels_near(rows, usize::MAX, table, key)
 }
 
-/// The same, where the row is looked for in a slot first.
+/// The labels in the row of a key, which is looked for in a slot first.
 pub fn labels_near<'a>(rows: &'a KeyRows, near: usize, table: &Text, key: &Text) -> &'a [u64]
     requires { IsOrdered row_place rows.now.items }
     ensures { result.now ≡ labels_in rows.now.items table.now key.now }
@@ -355,7 +355,7 @@ pub fn drop_label(rows: &mut KeyRows, table: &Text, key: &Text, label: u64)
     }
 }
 
-/// The same, where the labels of the row rise in an order, in which it is found by halves.
+/// Takes a label out of the row of a key, if it is there. The row's labels rise in an order, in which it is found by halves.
 pub fn drop_label_in(order: &Order, rows: &mut KeyRows, table: &Text, key: &Text, label: u64)
     requires ordered { IsOrdered row_place rows.old.items }
     requires rising { IsRising order.now.labels (labels_in rows.old.items table.now key.now) }

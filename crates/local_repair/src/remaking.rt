@@ -114,7 +114,7 @@ fn ready_made(
     marks.ready_set(alloc, &made.trace.reads)
 }
 
-// The same, once what looks at other writes is marked.
+// Marks what looks at other writes than before, and then makes room for what the new record wrote and for where it looked.
 fn ready_again(
     alloc: Global,
     rows: &mut EntryRows,

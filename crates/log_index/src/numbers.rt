@@ -147,7 +147,7 @@ impl Marks {
         }
     }
 
-    /// The same marks, and a place for the mark of each of so many entries.
+    /// A copy, with a place for the mark of each of so many entries.
     pub fn copied(&self, alloc: Global, count: usize) -> Result<Marks, NoMemory>
         requires { length self.now.items ≤ count }
         ensures items { IfOk result (λ copy. copy.items ≡ self.now.items) }

@@ -55,7 +55,7 @@ impl PlayedRows {
         self.rows.apply(alloc, writes)
     }
 
-    /// The same as a list.
+    /// The rows as a list.
     pub(crate) fn told(&self, alloc: Global) -> Result<Rows, NoMemory>
         ensures { IfOk result (λ told. told ≡ self.now) }
     {

@@ -56,7 +56,7 @@ pub fn id_of(text: &str) -> Option<(&str, u64)>
     }
 }
 
-// The same with the service as a name, for requests and calls alike.
+// The service, as a name of its own, and the number that a text names, for requests and calls alike.
 fn read_id(alloc: Global, text: &str) -> Result<(Name, u64), NameRefused>
     ensures id { IfOk result (λ id. id_at text.now ≡ Ok id) }
     ensures refused { IfErr (id_at text.now) (λ why. result ≡ Err why) }

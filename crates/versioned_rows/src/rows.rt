@@ -75,7 +75,7 @@ pub(crate) fn drop_labels(rows: &mut KeyRows, writes: &[Write], label: u64)
     }
 }
 
-/// The same, where the labels of each row rise in an order, in which it is found by halves.
+/// Takes a label out of the row of each key that these write, whose labels rise in an order, in which it is found by halves.
 pub(crate) fn drop_labels_in(order: &Order, rows: &mut KeyRows, writes: &[Write], label: u64)
     requires ordered { IsOrdered row_place rows.old.items }
     requires writes { IsOrdered write_place writes.now }
