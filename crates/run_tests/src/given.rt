@@ -1,9 +1,10 @@
-// Assertions, worlds, and what clients and an operator of the shop send.
-ghost use Rattle.std.specs.Prelude.{IfSome};
-ghost use Rattle.world_file.specs.Worlds.{KnowEachOther};
+// Assertions, worlds and their services, and what clients and operators send.
+ghost use Rattle.std.specs.Prelude.{◌≡◌, IfOk, IfSome, length, vec_len};
+ghost use Rattle.aire_top.specs.HandedOn.{AreApart};
 
+use aire_top::Service;
 use io_links::MemoryNetwork;
-use lang_core::Bytes;
+use lang_core::{Bytes, Copied, NoMemory};
 use std::alloc::Global;
 use std::process::Abort;
 use std::sync::Wait;
@@ -35,7 +36,7 @@ pub fn failing(rt: &(impl Abort + AllocGlobal), call: u64) -> Vec<u64> {
 
 // The world that comes with the program under this word.
 fn found(alloc: Global, word: &str) -> Option<Vec<Setup>>
-    ensures { IfSome result (λ setups. KnowEachOther setups.items) }
+    ensures { IfSome result (λ setups. AreApart setups.items) }
 {
     match built_in(alloc, word) {
         Ok(Some(setups)) => Some(setups),
@@ -45,7 +46,7 @@ fn found(alloc: Global, word: &str) -> Option<Vec<Setup>>
 
 /// A world that comes with the program.
 pub fn world(rt: &(impl Abort + AllocGlobal), word: &str) -> Vec<Setup>
-    ensures { KnowEachOther result.items }
+    ensures { AreApart result.items }
 {
     match found(rt.alloc(), word) {
         Some(setups) => setups,
@@ -53,15 +54,46 @@ pub fn world(rt: &(impl Abort + AllocGlobal), word: &str) -> Vec<Setup>
     }
 }
 
-/// What comes back to who sends this to the shop.
+// Services that are set up so and have answered nothing yet.
+fn services_of(alloc: Global, setups: &[Setup]) -> Result<Vec<Service>, NoMemory>
+    ensures { IfOk result (λ services. vec_len services ≡ length setups.now) }
+{
+    let mut services = Vec::new(alloc);
+    for setup in setups {
+        let setting = setup.setting.copied(alloc)?;
+        let rules = setup.rules.copied(alloc)?;
+        services.push(Service::new(alloc, setting, rules))?;
+    }
+    Ok(services)
+}
+
+/// Services that are set up so and have answered nothing yet.
+pub fn new_services(rt: &(impl Abort + AllocGlobal), setups: &[Setup]) -> Vec<Service>
+    ensures { vec_len result ≡ length setups.now }
+{
+    match services_of(rt.alloc(), setups) {
+        Ok(services) => services,
+        Err(_) => panic!(rt; "memory"),
+    }
+}
+
+/// What comes back to who sends this to a door.
+pub fn call_at<R: Abort + AllocGlobal + Wait + Clock>(
+    rt: &R,
+    network: &MemoryNetwork,
+    door: &str,
+    request: &str,
+) -> Option<Bytes> {
+    network.call(rt, rt.alloc(), door, request.as_bytes()).ok()
+}
+
+/// What comes back to who sends this to the first service of a world.
 pub fn call<R: Abort + AllocGlobal + Wait + Clock>(
     rt: &R,
     network: &MemoryNetwork,
     request: &str,
 ) -> Option<Bytes> {
-    network
-        .call(rt, rt.alloc(), "127.0.0.1:8101", request.as_bytes())
-        .ok()
+    call_at(rt, network, "127.0.0.1:8101", request)
 }
 
 /// Whether what came back has this status and this body.
