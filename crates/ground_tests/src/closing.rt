@@ -56,6 +56,11 @@ fn ends_once_closed(rt: HostRuntime) {
     gives_nobody(&rt, &ear);
     gives_nobody(&rt, &ear);
     let mut link = TcpLink::with_patience(&rt, &stop, patience());
-    lost(&rt, link.exchange(rt.alloc(), address, b"GET /b\n\n"), 0, 1);
+    lost(
+        &rt,
+        link.exchange(rt.alloc(), address, b"GET /b\n\n", 0),
+        0,
+        1,
+    );
     ended_soon(&rt, closed);
 }

@@ -14,10 +14,10 @@ use std::time::{Clock, Duration};
 // The second exchange of both links together fails. A client's call is none of them.
 fn ask_three<R: Abort + AllocGlobal + Wait + Clock>(rt: &R, network: &MemoryNetwork) {
     let mut link = MemoryLink::new(rt, rt.alloc(), network);
-    got(rt, link.exchange(rt.alloc(), "a", b"one"), "ok one");
+    got(rt, link.exchange(rt.alloc(), "a", b"one", 0), "ok one");
     let mut other = link.another();
-    lost(rt, other.exchange(rt.alloc(), "a", b"two"), 0, 1);
-    got(rt, other.exchange(rt.alloc(), "a", b"three"), "ok three");
+    lost(rt, other.exchange(rt.alloc(), "a", b"two", 0), 0, 1);
+    got(rt, other.exchange(rt.alloc(), "a", b"three", 0), "ok three");
     let reply = network.call(rt, rt.alloc(), "a", b"four");
     same(rt, reply.expect(rt, "a reply").as_slice(), "ok four");
 }
@@ -56,8 +56,8 @@ fn opens_and_closes_addresses(rt: HostRuntime) {
 fn gives_up_a_call(rt: HostRuntime) {
     let network = MemoryNetwork::new(rt.alloc(), Duration::from_millis(30), failing(&rt, 0));
     let mut link = MemoryLink::new(&rt, rt.alloc(), &network);
-    lost(&rt, link.exchange(rt.alloc(), "a", b"one"), 0, 1);
-    lost(&rt, link.exchange(rt.alloc(), "a", b"two"), 1, 2);
+    lost(&rt, link.exchange(rt.alloc(), "a", b"one", 0), 0, 1);
+    lost(&rt, link.exchange(rt.alloc(), "a", b"two", 0), 1, 2);
 }
 
 // Prepared replies come in order, and each link begins with the first.
@@ -68,11 +68,11 @@ fn gives_prepared_replies(rt: HostRuntime) {
     replies.push(Some(first)).expect(&rt, "memory");
     replies.push(None).expect(&rt, "memory");
     let mut link = PreparedLink::new(rt.alloc(), &replies);
-    got(&rt, link.exchange(rt.alloc(), "a", b"one"), "first");
-    lost(&rt, link.exchange(rt.alloc(), "b", b"two"), 0, 1);
-    lost(&rt, link.exchange(rt.alloc(), "b", b"three"), 1, 2);
+    got(&rt, link.exchange(rt.alloc(), "a", b"one", 0), "first");
+    lost(&rt, link.exchange(rt.alloc(), "b", b"two", 0), 0, 1);
+    lost(&rt, link.exchange(rt.alloc(), "b", b"three", 0), 1, 2);
     let mut other = link.another();
-    got(&rt, other.exchange(rt.alloc(), "a", b"four"), "first");
+    got(&rt, other.exchange(rt.alloc(), "a", b"four", 0), "first");
 }
 
 // A reply's bytes are a source.

@@ -1,6 +1,6 @@
 // Doors and links over loopback, where a peer is silent, late or gone. Each wait is bounded.
 use crate::given::{got, holds, lost, patience, same, serve};
-use io_edge::Source;
+use io_edge::{Source, write_all};
 use io_links::{Accepted, Door, Ear, Exchange, Link};
 use std::io::{Read, Write};
 use std::net::{Net, TcpListener, TcpStream};
@@ -21,7 +21,7 @@ fn ask<R: Abort + AllocGlobal + Net<Stream = TcpStream> + Wait + Clock>(
     bytes: &[u8],
 ) -> Exchange {
     let stop = StopSignal::new();
-    TcpLink::with_patience(rt, &stop, patience()).exchange(rt.alloc(), address, bytes)
+    TcpLink::with_patience(rt, &stop, patience()).exchange(rt.alloc(), address, bytes, 0)
 }
 
 /// A socket to this address, with a bound on its waits.
@@ -114,6 +114,30 @@ fn serves_a_whole_request_late(rt: HostRuntime) {
     comes(&rt, &mut late, "ok GET /b\n\n");
 }
 
+// Replies to one connection, but later than it may take to be read.
+fn serve_late<E: Ear, R: Wait + Clock>(rt: &R, ear: &E) -> bool {
+    for _ in 0..1000u32 {
+        if let Accepted::Conn(mut conn) = ear.accept() {
+            thread::sleep(rt, Duration::from_millis(600));
+            return write_all(&mut conn, b"late").is_ok();
+        }
+    }
+    false
+}
+
+// A reply has time of its own, however long it was in the making.
+#[test]
+fn replies_late(rt: HostRuntime) {
+    let address = "127.0.31.11:18431";
+    let stop = StopSignal::new();
+    let mut door = TcpDoor::with_patience(&rt, rt.alloc(), &stop, short());
+    let ear = door.listen(address).expect(&rt, "an ear");
+    let mut socket = client(&rt, address);
+    send(&rt, &mut socket, b"GET /a\n\n");
+    holds(&rt, "served", serve_late(&rt, &ear));
+    comes(&rt, &mut socket, "late");
+}
+
 // Takes one connection, and the first piece of what it sends, and hands it back unanswered.
 fn take_one(rt: &impl Abort, listener: &TcpListener) -> TcpStream {
     let (mut socket, _) = listener.accept().expect(rt, "a connection");
@@ -132,7 +156,7 @@ fn exchanges_with_peers_that_do_not_answer(rt: HostRuntime) {
     got(&rt, reply, "");
     let stop = StopSignal::new();
     let mut link = TcpLink::with_patience(&rt, &stop, short());
-    let exchange = || link.exchange(rt.alloc(), address, b"GET /a\n\n");
+    let exchange = || link.exchange(rt.alloc(), address, b"GET /a\n\n", 0);
     let (silent, reply) = thread::join(&rt, || take_one(&rt, &listener), exchange);
     lost(&rt, reply, 0, 1);
     drop(silent);

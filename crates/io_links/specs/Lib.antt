@@ -5,4 +5,5 @@ pub mod Memory
 pub mod Prepared
 pub mod Slices
 pub mod Spawners
+pub mod Times
 pub mod Told

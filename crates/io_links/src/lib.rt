@@ -19,6 +19,7 @@ mod network;
 mod prepared;
 mod slices;
 mod spawners;
+mod times;
 mod told;
 
 pub use doors::{Accepted, Door, Ear};
@@ -31,3 +32,4 @@ pub use network::{CallRefused, MemoryNetwork};
 pub use prepared::PreparedLink;
 pub use slices::SliceSource;
 pub use spawners::{MemorySpawner, SystemSpawner};
+pub use times::{PATIENCE, exchange_millis};

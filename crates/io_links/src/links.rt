@@ -58,12 +58,14 @@ pub trait Link: Drop {
     fn another(&self) -> Self
         ensures { IsAnother (exchanges self.now) (exchanges result) };
 
-    /// Sends these bytes to the peer at this address, and takes all that it sends back.
+    /// Sends these bytes to the peer at this address, and takes all that it sends back. `services` is how many stand in the chain
+    /// of the request that they spell, the sender among them, and 0 where they are a post: what takes longer than `exchange_millis`
+    /// has for it fails. No contract speaks of time.
     ///
     /// Where the link tells its exchanges, this one stands last afterwards, with its answer. A
     /// failure is answered with the count before and after, which rose or stands at the greatest
     /// `u64`. Want of memory leaves what the link tells as it was.
-    fn exchange(&mut self, alloc: Global, address: &str, bytes: &[u8]) -> Exchange
+    fn exchange(&mut self, alloc: Global, address: &str, bytes: &[u8], services: usize) -> Exchange
         ensures made { Leaves (exchanges self.old) (exchanges self.new) address.now bytes.now result }
         ensures counted { (exchanges self.old).faults ≤ (exchanges self.new).faults }
         ensures failed { Notes (exchanges self.old) (exchanges self.new) result };

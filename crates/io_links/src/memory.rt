@@ -261,7 +261,7 @@ impl<'a, W: Wait + Clock> Link for MemoryLink<'a, W> {
         MemoryLink::new(self.rt, self.alloc, self.network)
     }
 
-    fn exchange(&mut self, alloc: Global, address: &str, bytes: &[u8]) -> Exchange
+    fn exchange(&mut self, alloc: Global, address: &str, bytes: &[u8], services: usize) -> Exchange
         ensures made { Leaves (link_exchanges self.old) (link_exchanges self.new)
             address.now bytes.now result }
         ensures counted { (link_exchanges self.old).faults ≤ (link_exchanges self.new).faults }
@@ -270,7 +270,10 @@ impl<'a, W: Wait + Clock> Link for MemoryLink<'a, W> {
         let Ok(asked) = self.told.prepare(alloc, address, bytes) else {
             return Exchange::NoMemory;
         };
-        match self.network.exchange(self.rt, alloc, address, bytes) {
+        match self
+            .network
+            .exchange(self.rt, alloc, address, bytes, services)
+        {
             Ok(reply) => self.told.replied(alloc, asked, reply.bytes()),
             Err(CallRefused::NoMemory) => Exchange::NoMemory,
             Err(CallRefused::Failed) => self.told.failed(asked),

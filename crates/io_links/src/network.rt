@@ -2,6 +2,7 @@
 ghost use Rattle.std.specs.Prelude.{◌<◌, IfSome, vec_len};
 
 use crate::failing::FailingCalls;
+use crate::times::exchange_millis;
 use io_edge::{Failed, MemorySink};
 use lang_core::{Bytes, NoMemory, Text};
 use std::alloc::{AllocError, Global};
@@ -61,8 +62,9 @@ impl Drop for MemoryNetwork {
 }
 
 impl MemoryNetwork {
-    /// A network without doors. A call fails that has no reply after `patience`. Of the exchanges
-    /// of all links together, those with the numbers in `failing`, counted from 1, fail unsent.
+    /// A network without doors. A call fails that has no reply after `patience`, and an exchange of a
+    /// link after that or its own time, which is less. Of the exchanges of all links together, those
+    /// with the numbers in `failing`, counted from 1, fail unsent.
     pub fn new(alloc: Global, patience: Duration, failing: Vec<u64>) -> Self {
         MemoryNetwork {
             patience,
@@ -80,7 +82,7 @@ impl MemoryNetwork {
         address: &str,
         bytes: &[u8],
     ) -> Result<Bytes, CallRefused> {
-        let sink = self.reply(rt, alloc, address, bytes)?;
+        let sink = self.reply(rt, alloc, address, bytes, self.patience)?;
         Ok(Bytes::of(alloc, sink.bytes())?)
     }
 
@@ -91,25 +93,28 @@ impl MemoryNetwork {
         alloc: Global,
         address: &str,
         bytes: &[u8],
+        services: usize,
     ) -> Result<MemorySink, CallRefused> {
         self.traffic.lock(rt).exchanges.next()?;
-        self.reply(rt, alloc, address, bytes)
+        let most = Duration::from_millis(exchange_millis(services));
+        self.reply(rt, alloc, address, bytes, self.patience.min(most))
     }
 
-    // What was written to the connection that was given for a call.
+    // What was written within this time to the connection that was given for a call.
     fn reply<W: Wait + Clock>(
         &self,
         rt: &W,
         alloc: Global,
         address: &str,
         bytes: &[u8],
+        patience: Duration,
     ) -> Result<MemorySink, CallRefused> {
         let number = self.traffic.lock(rt).send(alloc, address, bytes)?;
         self.changed.notify_all();
         let traffic = self.traffic.lock(rt);
         let (mut traffic, _) = self
             .changed
-            .wait_timeout_while(rt, traffic, self.patience, |traffic| {
+            .wait_timeout_while(rt, traffic, patience, |traffic| {
                 traffic.is_under_way(number)
             });
         match traffic.take(number) {

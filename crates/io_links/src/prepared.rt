@@ -53,7 +53,7 @@ impl<'a> Link for PreparedLink<'a> {
         PreparedLink::new(self.alloc, self.replies)
     }
 
-    fn exchange(&mut self, alloc: Global, address: &str, bytes: &[u8]) -> Exchange
+    fn exchange(&mut self, alloc: Global, address: &str, bytes: &[u8], _services: usize) -> Exchange
         ensures made { Leaves (prepared_exchanges self.old) (prepared_exchanges self.new)
             address.now bytes.now result }
         ensures counted { (prepared_exchanges self.old).faults ≤ (prepared_exchanges self.new).faults }

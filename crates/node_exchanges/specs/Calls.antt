@@ -1,7 +1,8 @@
 -- The calls that a service makes to peers for a live request.
-use Rattle.std.specs.Prelude.{ℕ, ◌≡◌, ◌+◌, ◌++◌, ◌⊎◌, ◌&&◌, Bool, false, List, [], ◌∷◌, Option, Some, None, Result, Ok, Err, All, nat_eq, if◌then◌else◌}
+use Rattle.std.specs.Prelude.{ℕ, ◌≡◌, ◌+◌, ◌++◌, ◌⊎◌, ◌&&◌, Bool, false, List, [], ◌∷◌, Option, Some, None, Result, Ok, Err, All, length, nat_eq, if◌then◌else◌}
 use Rattle.std.specs.Option.{ForSome}
 use Rattle.lang_base.specs.declared.memory.NoMemory.{NoMemory as LacksMemory}
+use Rattle.lang_core.specs.declared.request.Request.{Request}
 use Rattle.repair_messages.specs.declared.messages.AnswerMessage.{AnswerMessage}
 use Rattle.repair_messages.specs.declared.messages.SetMessage.{SetMessage}
 use Rattle.call_registers.specs.declared.register.Why.{Why}
@@ -32,6 +33,11 @@ AtLeast P n [] = n ≡ 0
 AtLeast P n (x ∷ xs) = AtLeast P n xs ⊎ ((m : ℕ) × (n ≡ m + 1) × P x × AtLeast P m xs)
 
 -- ---- one exchange
+
+-- how many services stand in the chain of what is asked; none where nothing is
+abbrev pub chain_length : Option Request → ℕ
+chain_length None = 0
+chain_length (Some request) = length request.chain
 
 -- in this exchange the call was sent to its callee, which has this secret
 pub record CallSent (e : Endpoint) (set : SetMessage) (secret : List ℕ) (x : Exchanged) : Type 0 where

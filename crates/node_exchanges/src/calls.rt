@@ -1,7 +1,7 @@
 // A live call to a peer.
 ghost use Rattle.std.specs.Prelude.{◌≡◌, ◌≤◌, ◌<◌, Ok, IfOk};
 ghost use Rattle.io_edge.specs.Edge.{Rose};
-ghost use Rattle.node_exchanges.specs.Calls.{came_by, came_in, came_with, if_answer_to, lost_by_one, refused_by_one, CallsIt, CallsMade, FailsOnly};
+ghost use Rattle.node_exchanges.specs.Calls.{came_by, came_in, came_with, chain_length, if_answer_to, lost_by_one, refused_by_one, CallsIt, CallsMade, FailsOnly};
 ghost use Rattle.node_exchanges.specs.Endpoints.{at_place};
 
 use crate::exchanges::{Back, exchange};
@@ -63,6 +63,16 @@ fn came_with(
     }
 }
 
+// How many services stand in the chain of what the call asks, of which the caller is the last.
+fn chain_length(set: &SetMessage) -> usize
+    ensures { result ≡ chain_length set.now.desired }
+{
+    match &set.desired {
+        Some(request) => request.chain.as_slice().len(),
+        None => 0,
+    }
+}
+
 /// Makes a live call: the peer's answer, or why there is none. The gate is told of it before and after. A peer that isn't
 /// known is answered as memory that lacks.
 pub fn call<L: Link, G: Gate>(
@@ -88,7 +98,17 @@ pub fn call<L: Link, G: Gate>(
     };
     gate.call_starts(&set.dest);
     let me = &setup.setting.me;
-    let back = exchange(alloc, me, &set.dest, &peer, Asking::Call, bytes, link);
+    let services = chain_length(set);
+    let back = exchange(
+        alloc,
+        me,
+        &set.dest,
+        &peer,
+        Asking::Call,
+        bytes,
+        services,
+        link,
+    );
     gate.call_ends(&set.dest);
     came_with(set, back)
 }

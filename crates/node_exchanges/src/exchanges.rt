@@ -94,8 +94,9 @@ fn came_back(
     }
 }
 
-/// Sends these bytes from the service `me` to the peer `dest`, which is asked this, and reads what comes back. Of a reading
-/// that breaks off nothing is known, and it is answered as memory that lacks.
+/// Sends these bytes from the service `me` to the peer `dest`, which is asked this, and reads what comes back. So many services
+/// stand in the chain of what they spell, by which the exchange has its time. Of a reading that breaks off nothing is known, and it
+/// is answered as memory that lacks.
 pub(crate) fn exchange<L: Link>(
     alloc: Global,
     me: &Name,
@@ -103,11 +104,12 @@ pub(crate) fn exchange<L: Link>(
     peer: &Peer,
     asking: Asking,
     bytes: Bytes,
+    services: usize,
     link: &mut L,
 ) -> Result<Back, NoMemory>
     ensures made { IsExchanged me.now dest.now peer.now.secret.now asking peer.now.door.now bytes (L.exchanges link.old) (L.exchanges link.new) result }
     ensures counted { (L.exchanges link.old).faults ≤ (L.exchanges link.new).faults }
 {
-    let answer = link.exchange(alloc, peer.door.as_str(), bytes.as_slice());
+    let answer = link.exchange(alloc, peer.door.as_str(), bytes.as_slice(), services);
     came_back(alloc, me, dest, peer.secret, asking, &answer)
 }

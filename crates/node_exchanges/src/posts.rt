@@ -14,6 +14,9 @@ use std::alloc::Global;
 use wire_bytes::post_bytes;
 use wire_words::{asking_of, post_reply};
 
+/// How many services stand in a post's chain: no request waits for it, so it has all the time that an exchange may take.
+const NO_SERVICES: usize = 0;
+
 fn said_by(back: Back) -> Option<PostReply>
     ensures { result ≡ said_by back }
 {
@@ -59,5 +62,14 @@ pub fn post_to<L: Link>(
     };
     let bytes = post_bytes(alloc, peer.door, &setup.secret, post)?;
     let me = &setup.setting.me;
-    said_with(exchange(alloc, me, dest, &peer, asking_of(post), bytes, link))
+    said_with(exchange(
+        alloc,
+        me,
+        dest,
+        &peer,
+        asking_of(post),
+        bytes,
+        NO_SERVICES,
+        link,
+    ))
 }

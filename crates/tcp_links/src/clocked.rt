@@ -1,11 +1,11 @@
-// A socket whose calls all end by one moment.
+// A socket whose calls all end in time.
 ghost use Rattle.std.specs.Io.{ReadsAtMost, WritesAtMost};
 
 use crate::deadline::{Deadline, is_made_again, time_is_up};
 use std::io;
 use std::io::{Read, Write};
 use std::net::TcpStream;
-use std::time::Clock;
+use std::time::{Clock, Duration};
 
 /// How often a call is made again at most.
 const MOST_TURNS: u32 = 1_000_000;
@@ -15,6 +15,8 @@ const MOST_TURNS: u32 = 1_000_000;
 pub struct Clocked<'a, R: Clock> {
     pub stream: TcpStream,
     pub deadline: Deadline<'a, R>,
+    /// How long writes have from the first one on, which hasn't come yet; None where they end by the deadline as it is.
+    pub reply: Option<Duration>,
 }
 
 impl<'a, R: Clock> Clocked<'a, R> {
@@ -66,9 +68,14 @@ impl<'a, R: Clock> Clocked<'a, R> {
 
     /// Writes a front of the bytes, as `Write::write` does, within the time that is left. Once the program stops it doesn't
     /// wait for room, so that a reply that is at hand still goes out and a client that takes none holds up nobody.
+    ///
+    /// A reply has time of its own, which begins here: what was waited for until it was there doesn't count.
     pub fn write(&mut self, bytes: &[u8]) -> io::Result<usize>
         ensures { WritesAtMost result bytes.now }
     {
+        if let Some(most) = self.reply.take() {
+            self.deadline.renew(most)?;
+        }
         for _ in 0..MOST_TURNS {
             match self.write_once(bytes) {
                 Err(error) if is_made_again(error.kind()) => {}

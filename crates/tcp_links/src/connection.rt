@@ -12,7 +12,7 @@ use io_edge::{Connection, Failed, Sink, Source};
 use std::alloc::Global;
 use std::net::TcpStream;
 use std::sync::{Arc, Mutex, Wait};
-use std::time::Clock;
+use std::time::{Clock, Duration};
 
 /// The most bytes that one read of the socket asks for.
 const PIECE: usize = 4096;
@@ -20,9 +20,9 @@ const PIECE: usize = 4096;
 /// The sockets that wait for their peers to close, which an ear shares with its connections.
 pub type ClosingDoor = Arc<Mutex<Kept>, Global>;
 
-/// A connection over TCP. Reads and writes all end by one moment: what isn't done by then fails.
-/// Once the program stops a read beyond what came fails, and so does a write that finds no room.
-/// It tells no bytes.
+/// A connection over TCP. Reads and writes all end by one moment, but for a reply, which has time of
+/// its own from its first write on: what isn't done by then fails. Once the program stops a read
+/// beyond what came fails, and so does a write that finds no room. It tells no bytes.
 ///
 /// Dropped, its write half is shut, and where it came through a door the ear goes on to take what
 /// the peer still sends, within bounds, until the peer closes too: so a reply arrives whole, also
@@ -40,9 +40,11 @@ pub struct TcpConnection<'a, R: Clock + Wait> {
 impl<'a, R: Clock + Wait> TcpConnection<'a, R> {
     ghost use Rattle.tcp_links.specs.Connections.{tcp_reads, tcp_writes};
 
-    /// A connection over a socket, of which these bytes came already.
+    /// A connection over a socket, of which these bytes came already. Writes have as long as `reply`
+    /// says from the first of them on, or end by the deadline too.
     pub(crate) fn new(
         deadline: Deadline<'a, R>,
+        reply: Option<Duration>,
         stream: TcpStream,
         bytes: Vec<u8>,
         door: Option<ClosingDoor>,
@@ -50,7 +52,11 @@ impl<'a, R: Clock + Wait> TcpConnection<'a, R> {
         ensures { IsNew (tcp_reads result) (tcp_writes result) }
     {
         TcpConnection {
-            socket: Clocked { stream, deadline },
+            socket: Clocked {
+                stream,
+                deadline,
+                reply,
+            },
             bytes,
             at: 0,
             read_faults: 0,
@@ -91,7 +97,11 @@ impl<'a, R: Clock + Wait> Drop for TcpConnection<'a, R> {
             write_faults: _,
             door,
         } = self;
-        let Clocked { stream, deadline } = socket;
+        let Clocked {
+            stream,
+            deadline,
+            reply: _,
+        } = socket;
         if let Some(door) = door {
             linger(deadline.rt, &door, stream);
         }

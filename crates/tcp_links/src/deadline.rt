@@ -38,6 +38,13 @@ impl<'a, R: Clock> Deadline<'a, R> {
         })
     }
 
+    /// By `most` from now on, in place of what it was.
+    pub fn renew(&mut self, most: Duration) -> io::Result<()> {
+        self.since = Instant::now(self.rt)?;
+        self.most = most;
+        Ok(())
+    }
+
     /// How much time there is, which is more than nothing.
     pub fn left(&self) -> io::Result<Duration> {
         let spent = self.since.elapsed(self.rt)?;

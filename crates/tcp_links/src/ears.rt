@@ -13,7 +13,7 @@ use crate::deadline::Deadline;
 use crate::guests::{Guest, Guests};
 use crate::stopping::StopSignal;
 use io_edge::Failed;
-use io_links::{Accepted, Door, Ear};
+use io_links::{Accepted, Door, Ear, PATIENCE};
 use mio::Poll;
 use mio::net::TcpListener;
 use std::alloc::Global;
@@ -24,10 +24,6 @@ use std::time::{Clock, Duration, Instant};
 
 /// How long an ear looks before it says that nobody came, in milliseconds.
 const LOOK: u64 = 100;
-
-/// How long a connection may take to send its head, and then for all that it does, in
-/// milliseconds.
-const PATIENCE: u64 = 10_000;
 
 /// A door over TCP.
 #[derive(Drop)]
@@ -40,16 +36,16 @@ pub struct TcpDoor<'a, R: Net + Clock + Wait> {
 }
 
 impl<'a, R: Net + Clock + Wait> TcpDoor<'a, R> {
-    /// A door that listened nowhere so far, whose connections have 10 seconds. Its ears and their
-    /// connections end where this signal is raised, and closing one of its ears raises it.
+    /// A door that listened nowhere so far, whose connections have 10 seconds for each thing. Its ears
+    /// and their connections end where this signal is raised, and closing one of its ears raises it.
     pub fn new(rt: &'a R, alloc: Global, stop: &'a StopSignal) -> Self
         ensures { door_faults result ≡ 0 }
     {
         TcpDoor::with_patience(rt, alloc, stop, Duration::from_millis(PATIENCE))
     }
 
-    /// A door whose connections have so long to send their heads, and then as long again for all
-    /// that they do.
+    /// A door whose connections have so long to send their heads, as long again to send the rest, and
+    /// as long again for a reply, from when it is there.
     pub fn with_patience(rt: &'a R, alloc: Global, stop: &'a StopSignal, patience: Duration) -> Self
         ensures { door_faults result ≡ 0 }
     {
@@ -132,7 +128,8 @@ impl<'a, R: Net + Clock + Wait> TcpEar<'a, R> {
     }
 }
 
-// From a guest a connection, which ends by this deadline, or at once if it has waited that long and its head isn't whole.
+// From a guest a connection, which is read by this deadline, or not at all if it has waited that long and its head isn't whole. A
+// reply has as long from when it is there.
 fn connection<'a, R: Clock + Wait>(
     deadline: Deadline<'a, R>,
     guest: Guest,
@@ -141,6 +138,7 @@ fn connection<'a, R: Clock + Wait>(
     ensures { IfOk result (λ conn. IsNew (tcp_reads conn) (tcp_writes conn)) }
 {
     let mut deadline = deadline;
+    let reply = Some(deadline.most);
     if !guest.is_ready() && deadline.since.duration_since(guest.since) >= deadline.most {
         deadline.since = guest.since;
     }
@@ -148,7 +146,7 @@ fn connection<'a, R: Clock + Wait>(
     let stream = TcpStream::from(stream);
     stream.set_nonblocking(false)?;
     stream.set_nodelay(true)?;
-    Ok(TcpConnection::new(deadline, stream, bytes, Some(door)))
+    Ok(TcpConnection::new(deadline, reply, stream, bytes, Some(door)))
 }
 
 impl<'a, R: Clock + Wait + Sync> Ear for TcpEar<'a, R> {
@@ -191,7 +189,7 @@ impl<'a, R: Clock + Wait> TcpEar<'a, R> {
         Ok(guest)
     }
 
-    // A connection that may take as long as the door says from now on.
+    // A connection whose request may take as long as the door says from now on.
     fn connection(&self, guest: Guest) -> io::Result<TcpConnection<'a, R>>
         ensures { IfOk result (λ conn. IsNew (tcp_reads conn) (tcp_writes conn)) }
     {

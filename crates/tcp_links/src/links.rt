@@ -9,16 +9,13 @@ use crate::connection::TcpConnection;
 use crate::deadline::Deadline;
 use crate::exchanges::exchange_over;
 use crate::stopping::StopSignal;
-use io_links::{Exchange, Link};
+use io_links::{Exchange, Link, PATIENCE, exchange_millis};
 use lang_core::FaultNote;
 use std::alloc::Global;
 use std::io;
 use std::net::{Net, ToSocketAddrs};
 use std::sync::Wait;
 use std::time::{Clock, Duration};
-
-/// How long an exchange may take, in milliseconds.
-const PATIENCE: u64 = 10_000;
 
 /// The most bytes of a reply that are read: a head, a body, and one more.
 const LONGEST_REPLY: u64 = 81_921;
@@ -34,15 +31,15 @@ pub struct TcpLink<'a, R: Net + Clock + Wait> {
 }
 
 impl<'a, R: Net + Clock + Wait> TcpLink<'a, R> {
-    /// A link that made no exchange so far, each of which has 10 seconds, and fails where this signal
-    /// is raised.
+    /// A link that made no exchange so far, each of which has the time of what it sends, and fails
+    /// where this signal is raised.
     pub fn new(rt: &'a R, stop: &'a StopSignal) -> Self
         ensures { (tcp_exchanges result).faults ≡ 0 }
     {
         TcpLink::with_patience(rt, stop, Duration::from_millis(PATIENCE))
     }
 
-    /// A link of which each exchange has so long.
+    /// A link of which no exchange has longer than this.
     pub fn with_patience(rt: &'a R, stop: &'a StopSignal, patience: Duration) -> Self
         ensures { (tcp_exchanges result).faults ≡ 0 }
     {
@@ -54,13 +51,16 @@ impl<'a, R: Net + Clock + Wait> TcpLink<'a, R> {
         }
     }
 
-    // A connection for one exchange, which ends in its time.
-    fn connected(&self, alloc: Global, address: &str) -> io::Result<TcpConnection<'a, R>> {
-        connected(
-            Deadline::within(self.rt, self.stop, self.patience)?,
-            alloc,
-            address,
-        )
+    // A connection for one exchange of a request with so many services in its chain, which ends in its time.
+    fn connected(
+        &self,
+        alloc: Global,
+        address: &str,
+        services: usize,
+    ) -> io::Result<TcpConnection<'a, R>> {
+        let most = Duration::from_millis(exchange_millis(services));
+        let deadline = Deadline::within(self.rt, self.stop, self.patience.min(most))?;
+        connected(deadline, alloc, address)
     }
 
     // Counts a failed exchange.
@@ -86,7 +86,7 @@ fn connected<'a, R: Net + Clock + Wait>(
     for addr in address.to_socket_addrs(deadline.rt)? {
         match connect(&deadline, alloc, addr) {
             Ok(stream) => {
-                return Ok(TcpConnection::new(deadline, stream, Vec::new(alloc), None));
+                return Ok(TcpConnection::new(deadline, None, stream, Vec::new(alloc), None));
             }
             Err(error) => last = error,
         }
@@ -103,13 +103,13 @@ impl<'a, R: Net + Clock + Wait> Link for TcpLink<'a, R> {
         TcpLink::with_patience(self.rt, self.stop, self.patience)
     }
 
-    fn exchange(&mut self, alloc: Global, address: &str, bytes: &[u8]) -> Exchange
+    fn exchange(&mut self, alloc: Global, address: &str, bytes: &[u8], services: usize) -> Exchange
         ensures made { Leaves (tcp_exchanges self.old) (tcp_exchanges self.new)
             address.now bytes.now result }
         ensures counted { (tcp_exchanges self.old).faults ≤ (tcp_exchanges self.new).faults }
         ensures failed { Notes (tcp_exchanges self.old) (tcp_exchanges self.new) result }
     {
-        let Ok(mut conn) = self.connected(alloc, address) else {
+        let Ok(mut conn) = self.connected(alloc, address, services) else {
             return self.failed();
         };
         match exchange_over(alloc, &mut conn, bytes, LONGEST_REPLY) {
