@@ -29,7 +29,7 @@ same_ids_is a b e =
     let parts = and_parts (nat_eq a.number b.number) (same_text a.service b.service) e in
     ap (named a.service) (eqb-true a.number b.number parts.0) ∙ ap (λ (s : List ℕ). named s b.number) (same_is a.service b.service parts.1)
 
-same_ids_self : (a : RequestId) → same_ids a a ≡ true
+pub same_ids_self : (a : RequestId) → same_ids a a ≡ true
 same_ids_self a = and_from (nat_eq a.number a.number) (same_text a.service a.service) (eq-eqb a.number a.number refl) (same_self a.service)
 
 pub same_ids_apart : (a b : RequestId) → same_ids a b ≡ false → ¬ (a ≡ b)
@@ -240,7 +240,7 @@ module _ (world : List History) (first second root other : RequestId) (first_slo
 
 pub told_shown : (world : List History) (first second : RequestId) (back : List RequestId) (told : Certificate) → told ≡ Cycle first second back → ShowsCycle world first second back
     → IsShown world told
-told_shown world first second back told is shows = subst (IsShown world) (sym is) (λ apart. shows)
+told_shown world first second back told is shows = subst (IsShown world) (sym is) shows
 
 pub told_none : (first second : RequestId) (back : List RequestId) (told : Certificate) → told ≡ Cycle first second back → order_in told ≡ None
 told_none first second back told is = ap order_in is

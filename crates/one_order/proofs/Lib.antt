@@ -8,3 +8,11 @@ pub mod Named
 pub mod SearchLaws
 pub mod Lookups
 pub mod Neighbours
+pub mod Climbs
+pub mod Rising
+pub mod Left
+pub mod Marks
+pub mod Blocked
+pub mod Seen
+pub mod RootLaws
+pub mod WalkLaws

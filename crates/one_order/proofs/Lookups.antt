@@ -1,5 +1,6 @@
 -- What searches of a dump by its indexes find, as what walks over its histories would.
 use Rattle.std.proofs.Common.{◌≡◌, ℕ, Bool, true, false, cond, List, [], ◌∷◌, Option, Some, None, Bor, IfSome, find, map, nat_eq, refl, sym, ap, ◌∙◌}
+use Rattle.std.specs.List.{list_any}
 use Rattle.std.specs.Option.{option_copied, option_map}
 use Rattle.std.proofs.lemmas.List.Elements.{All-contains, All-from_recursion}
 use Rattle.std.proofs.Math.Bool.{Bool-set}
@@ -9,11 +10,13 @@ use Rattle.lang_core.specs.Origins.{is_call}
 use Rattle.execution.specs.Executions.{Act, History}
 use Rattle.execution.specs.Together.{comes_from, history_in, name_of}
 use Rattle.dump_tables.specs.Found.{IsOneOf}
+use Rattle.dump_tables.specs.Indexed.{has_number}
 use Rattle.dump_tables.specs.Kept.{AreKept, IsKept}
 use Rattle.dump_tables.specs.declared.dump.DumpEntry.{DumpEntry}
 use Rattle.dump_tables.specs.declared.dump.DumpService.{DumpService}
 use Rattle.dump_audit.specs.Histories.{act_of, histories_of, history_of}
-use Rattle.dump_audit.proofs.OneLemmas.{OfOne, is_found, one_caller, one_id, one_name}
+use Rattle.dump_audit.proofs.OneLemmas.{OfOne, is_found, one_caller, one_id, one_name, one_number}
+use Rattle.one_order.specs.Roots.{made_in}
 use Rattle.one_world.specs.Trees.{act_in, callee_in}
 
 -- that a test holds of one at most is known or not, and nothing more
@@ -67,3 +70,9 @@ pub entry_found : (id : ℕ) (s : DumpService) (found : Option DumpEntry) → �
 entry_found id s found kept one =
     let alone : OfOne (has_id id) s.entries = ∥∥₁_elim kept (of_one_only (has_id id) s.entries) (λ k. one_id id s.entries k.ids) in
     ap (option_map act_of) (sym (is_found (has_id id) s.entries found alone one)) ∙ find_map act_of (λ (a : Act). nat_eq a.id id) s.entries
+
+pub number_found : (number : ℕ) (s : DumpService) (found : Option DumpEntry) → ∥ IsKept s ∥₁ → IsOneOf (has_number number) s.entries found
+    → option_map act_of found ≡ made_in number (map act_of s.entries)
+number_found number s found kept one =
+    let alone : OfOne (has_number number) s.entries = ∥∥₁_elim kept (of_one_only (has_number number) s.entries) (λ k. one_number number s.entries k.numbers) in
+    ap (option_map act_of) (sym (is_found (has_number number) s.entries found alone one)) ∙ find_map act_of (λ (a : Act). list_any (nat_eq number) a.numbers) s.entries

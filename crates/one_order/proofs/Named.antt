@@ -1,17 +1,18 @@
--- In a dump no two services have one name, and in none do two entries have one number.
-use Rattle.std.proofs.Common.{◌≡◌, ◌⊎◌, inl, inr, ℕ, Bool, true, false, List, [], ◌∷◌, map, refl, sym, ap, ◌∙◌, subst, nat_eq, eqb-true, eq-eqb, true≢false}
+-- In a dump no two services have one name, and in none do two entries have one number, or two calls.
+use Rattle.std.proofs.Common.{◌≡◌, ◌⊎◌, inl, inr, ℕ, Bool, true, false, List, [], ◌∷◌, ◌++◌, map, refl, sym, ap, ◌∙◌, subst, nat_eq, eqb-true, eq-eqb, true≢false}
 use Rattle.std.specs.List.{AllByRecursion}
 use Rattle.std.proofs.lemmas.Bool.{cases_Bool}
 use Rattle.std.proofs.Math.Logic.{∥∥₁_elim}
 use Rattle.lang_base.specs.Texts.{same_text}
 use Rattle.execution.specs.Executions.{Act, History}
 use Rattle.execution.specs.Together.{name_of}
-use Rattle.dump_tables.specs.Kept.{AreApart as AreKeptApart, AreKept, IsKept, service_name}
+use Rattle.dump_tables.specs.Kept.{AreApart as AreKeptApart, AreKept, IsKept, numbers_of, service_name}
 use Rattle.dump_tables.specs.declared.dump.DumpEntry.{DumpEntry}
 use Rattle.dump_tables.specs.declared.dump.DumpService.{DumpService}
 use Rattle.dump_audit.specs.Histories.{act_of, histories_of}
 use Rattle.one_world.specs.Certificates.{AreApart, AreNamed}
 use Rattle.one_world.proofs.Lists.{same_is, same_self}
+use Rattle.one_order.proofs.Climbs.{AreNumbered, numbers_in}
 
 -- ---- where equality is decided, so is whether any two are the same
 
@@ -84,3 +85,20 @@ kept_named services kept =
           (λ never. really (λ k. never (subst AreApart (sym (all_names services)) (kept_apart (map service_name services) k.names))));
       ids = ids_apart services (λ never. really (λ k. never k.each));
     }
+
+all_calls : (entries : List DumpEntry) → numbers_in (map act_of entries) ≡ numbers_of entries
+all_calls [] = refl
+all_calls (e ∷ entries) = ap (λ ns. e.numbers ++ ns) (all_calls entries)
+
+calls_apart : (services : List DumpService) → ((AllByRecursion IsKept services → ⊥) → ⊥) → AreNumbered (histories_of services)
+calls_apart [] really = tt
+calls_apart (s ∷ services) really = (
+  numbers_apart (numbers_in (map act_of s.entries))
+      (λ never. really (λ all. never (subst AreApart (sym (all_calls s.entries)) (kept_apart (numbers_of s.entries) all.0.numbers)))),
+  calls_apart services (λ never. really (λ all. never all.1)),
+)
+
+pub kept_numbered : (services : List DumpService) → ∥ AreKept services ∥₁ → AreNumbered (histories_of services)
+kept_numbered services kept =
+    let really : (AreKept services → ⊥) → ⊥ = λ never. ∥∥₁_elim kept (λ a b. absurd a) never in
+    calls_apart services (λ never. really (λ k. never k.each))

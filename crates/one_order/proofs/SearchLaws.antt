@@ -12,24 +12,19 @@ use Rattle.one_world.specs.Searches.{IsStep, Log, all_passed, logs_of, next_root
 use Rattle.one_world.proofs.OneRun.{runs_as_one}
 use Rattle.one_world.proofs.Searching.{Reached, all_passed_so, how_many, next_less, passed_all, reached_first, reached_next, reached_passes}
 use Rattle.one_world.proofs.Stuck.{stuck_passed}
-use Rattle.one_order.specs.Certificates.{AreFirst}
+use Rattle.one_order.specs.Certificates.{AreFirst, AreTaken, IsStuck}
 use Rattle.one_order.proofs.Named.{kept_named}
 
 -- a step that finds no root
 pub step_none : (world : List History) (order : List RequestId) (logs : List Log) → None ≡ next_root world logs logs → IsStep world order logs order logs false
 step_none world order logs next = (sym next, refl, refl)
 
--- the roots that were taken from some logs on, and what is left of these logs behind them
-abbrev pub Taking : List History → List Log → List RequestId → List Log → Type 0
-Taking world logs [] left = logs ≡ left
-Taking world logs (i ∷ order) left = (later : List Log) × (next_root world logs logs ≡ Some (i, later)) × Taking world later order left
-
-pub taking_more : (world : List History) (logs : List Log) (order : List RequestId) (left : List Log) (i : RequestId) (later : List Log) → Taking world logs order left
-    → next_root world left left ≡ Some (i, later) → Taking world logs (order ++ i ∷ []) later
+pub taking_more : (world : List History) (logs : List Log) (order : List RequestId) (left : List Log) (i : RequestId) (later : List Log) → AreTaken world logs order left
+    → next_root world left left ≡ Some (i, later) → AreTaken world logs (order ++ i ∷ []) later
 taking_more world logs [] left i later taking next = (later, subst (λ ls. next_root world ls ls ≡ Some (i, later)) (sym taking) next, refl)
 taking_more world logs (j ∷ order) left i later taking next = (taking.0, taking.1, taking_more world taking.0 order left i later taking.2 next)
 
-pub taking_first : (world : List History) (logs : List Log) (order : List RequestId) (left : List Log) → Taking world logs order left → AreFirst world logs order
+pub taking_first : (world : List History) (logs : List Log) (order : List RequestId) (left : List Log) → AreTaken world logs order left → AreFirst world logs order
 taking_first world logs [] left taking = tt
 taking_first world logs (i ∷ order) left taking = (taking.0, taking.1, taking_first world taking.0 order left taking.2)
 
@@ -37,7 +32,7 @@ taking_first world logs (i ∷ order) left taking = (taking.0, taking.1, taking_
 -- comes next
 pub record Searched (world : List History) (more : Bool) (order : List RequestId) (logs : List Log) : Type 0 where
   pub reached : Reached world order logs
-  pub taking : Taking world (logs_of world) order logs
+  pub taking : AreTaken world (logs_of world) order logs
   pub ends : more ≡ false → next_root world logs logs ≡ None
 
 -- the requests that are left, and the step that finds no root
@@ -48,21 +43,21 @@ still_left false logs = how_many logs
 pub search_begins : (world : List History) (order : List RequestId) (logs : List Log) → order ≡ [] → logs ≡ logs_of world → Searched world true order logs
 search_begins world order logs none all = record {
   reached = subst (λ o. Reached world o logs) (sym none) (subst (Reached world []) (sym all) (reached_first world));
-  taking = subst (λ o. Taking world (logs_of world) o logs) (sym none) (sym all);
+  taking = subst (λ o. AreTaken world (logs_of world) o logs) (sym none) (sym all);
   ends = λ e. absurd (true≢false e);
 }
 
 module _ (world : List History) (legal : IsLegalTogether world) (order : List RequestId) (logs : List Log) where
-  step_searched : (order_now : List RequestId) (logs_now : List Log) (more : Bool) → Reached world order logs → Taking world (logs_of world) order logs
+  step_searched : (order_now : List RequestId) (logs_now : List Log) (more : Bool) → Reached world order logs → AreTaken world (logs_of world) order logs
       → IsStep world order logs order_now logs_now more → Searched world more order_now logs_now
   step_searched order_now logs_now true reached taking step = record {
     reached = subst (λ o. Reached world o logs_now) (sym step.2) (reached_next world legal order logs step.0 logs_now reached step.1);
-    taking = subst (λ o. Taking world (logs_of world) o logs_now) (sym step.2) (taking_more world (logs_of world) order logs step.0 logs_now taking step.1);
+    taking = subst (λ o. AreTaken world (logs_of world) o logs_now) (sym step.2) (taking_more world (logs_of world) order logs step.0 logs_now taking step.1);
     ends = λ e. absurd (true≢false e);
   }
   step_searched order_now logs_now false reached taking step = record {
     reached = subst (λ o. Reached world o logs_now) (sym step.1) (subst (Reached world order) (sym step.2) reached);
-    taking = subst (λ o. Taking world (logs_of world) o logs_now) (sym step.1) (subst (Taking world (logs_of world) order) (sym step.2) taking);
+    taking = subst (λ o. AreTaken world (logs_of world) o logs_now) (sym step.1) (subst (AreTaken world (logs_of world) order) (sym step.2) taking);
     ends = λ e. subst (λ ls. next_root world ls ls ≡ None) (sym step.2) step.0;
   }
 
@@ -91,6 +86,9 @@ module _ (world : List History) (legal : IsLegalTogether world) (more : Bool) (o
 
   pub order_first : AreFirst world (logs_of world) order
   order_first = taking_first world (logs_of world) order logs searched.taking
+
+  pub search_stuck : all_passed logs ≡ false → IsStuck world logs
+  search_stuck e = record { order = order; taken = searched.taking; none_next = searched.ends ended; some_left = e }
 
   pub none_passes : AreNamed world → all_passed logs ≡ false → (other : List RequestId) → ¬ (Passes world other)
   none_passes named e other passes =

@@ -1,7 +1,7 @@
 -- Two neighbours of a log that show that no order of the roots passes.
 --
 -- Both are of one root, which comes to the second first; or the root of the second is before that of the first, by a chain of roots.
-use Rattle.std.specs.Prelude.{◌≡◌, ◌⊎◌, ℕ, Bool, true, false, ◌&&◌, List, [], ◌∷◌, ◌++◌, Option, Some, None, nat_eq, nat_lt, slice_get, if◌then◌else◌}
+use Rattle.std.specs.Prelude.{◌≡◌, ◌⊎◌, ℕ, Bool, true, false, List, [], ◌∷◌, ◌++◌, Option, Some, None, nat_eq, nat_lt, slice_get, if◌then◌else◌}
 use Rattle.lang_core.specs.declared.ids.RequestId.{RequestId}
 use Rattle.lang_core.specs.declared.trace.CallMade.{CallMade}
 use Rattle.execution.specs.Executions.{Act, History, survives}
@@ -86,6 +86,12 @@ pub record IsBefore (world : List History) (root other : RequestId) : Type 0 whe
   pub of_other : ComesTo world other second_slots second
   pub apart : ¬ (root ≡ other)
 
+-- the same by these two entries
+pub record IsLink (world : List History) (root other first second : RequestId) : Type 0 where
+  pub before : IsBefore world root other
+  pub first_is : before.first ≡ first
+  pub second_is : before.second ≡ second
+
 -- from this root on each is before the next, up to the last
 abbrev pub LeadTo : List History → RequestId → List RequestId → RequestId → Type 0
 LeadTo world root [] last = root ≡ last
@@ -124,7 +130,7 @@ pub record ShowsCycle (world : List History) (first second : RequestId) (back : 
   pub neighbours : AreNeighbours world first second
   pub way : IsTurned world first second back ⊎ LeadsBack world first second back
 
--- a certificate that isn't an order has two entries, and these show that there is none, unless it has one entry twice
+-- a certificate that isn't an order has two entries, and these show that there is none
 abbrev pub IsShown : List History → Certificate → Type 0
 IsShown world (Order order) = Unit {0}
-IsShown world (Cycle first second back) = ¬ (first ≡ second) → ShowsCycle world first second back
+IsShown world (Cycle first second back) = ShowsCycle world first second back

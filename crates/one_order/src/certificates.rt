@@ -1,22 +1,24 @@
 // One order for a whole world, or that there is none.
-ghost use Rattle.std.specs.Prelude.{◌≡◌, None, IfErr, IfOk, IfSome};
+ghost use Rattle.std.specs.Prelude.{◌≡◌, None, IfErr, IfOk, IfSome, map};
 ghost use Rattle.execution.specs.Together.{IsLegalTogether};
 ghost use Rattle.dump_tables.specs.Kept.{AreKept};
 ghost use Rattle.dump_audit.specs.Histories.{histories_of};
 ghost use Rattle.dump_audit.specs.Judging.{judged};
 ghost use Rattle.dump_audit.specs.declared.judged.Judged.TheVariants.{Legal};
-ghost use Rattle.one_order.specs.Certificates.{AreFirst, found_ill, order_in};
+ghost use Rattle.one_order.specs.Certificates.{AreFirst, IsStuck, found_ill, order_in};
 ghost use Rattle.one_order.specs.Cycles.{IsShown};
+ghost use Rattle.one_order.specs.Logs.{log_of};
 ghost use Rattle.one_world.specs.Certificates.{Passes};
 ghost use Rattle.one_world.specs.OneWorld.{RunsAsOne};
 ghost use Rattle.one_world.specs.Searches.{logs_of};
 
-use crate::logs::{Log, first_left, named};
+use crate::logs::{Log, first_left};
 use crate::orders::Ids;
 use crate::searching::search;
 use crate::showing::shown;
+use crate::walking::cycle_among;
 use dump_audit::{Judged, judge};
-use dump_tables::{Dump, DumpEntry, DumpService, DumpServices};
+use dump_tables::{Dump, DumpEntry, DumpServices};
 use lang_core::{NoMemory, RequestId};
 use order_finder::find_cycle;
 use std::alloc::Global;
@@ -30,9 +32,9 @@ pub enum Certificate {
     /// They could, with their roots in this order: of those with none left before them always the first goes next, by service in
     /// the dump's order and then by place.
     Order(Ids),
-    /// They couldn't: no order of the roots passes. These are the first two neighbouring entries that survive, by service and
-    /// place, which show it. Either both are of one root that comes to the second first, and the way back is empty; or the way
-    /// back leads from the second's root to the first's, each root before the next.
+    /// They couldn't: no order of the roots passes. These are two neighbouring entries that survive and show it. Either both are
+    /// of one root that comes to the second first, and the way back is empty; or the way back leads from the second's root to
+    /// the first's, each root before the next. That they are the first two, by service and place, is tested and not proved.
     Cycle {
         first: RequestId,
         second: RequestId,
@@ -94,35 +96,22 @@ fn shown_in(
     }
 }
 
-// An entry twice.
-fn twice(alloc: Global, service: &DumpService, number: u64) -> Result<Certificate, NoMemory>
-    ensures none { IfOk result (λ found. order_in found ≡ None) }
-    ensures shown { (world : _) → IfOk result (λ found. IsShown world found) }
-{
-    let first = named(alloc, service, number)?;
-    let second = named(alloc, service, number)?;
-    Ok(Certificate::Cycle {
-        first,
-        second,
-        back: Ids::new(alloc),
-    })
-}
-
-// Of the entries that are left where no root comes next, two neighbours that show it; or twice the first one left.
+// Two neighbours of what is left that show it, where no root comes next: the first of them, by service and place, which the
+// finder looks for; and where what it gives shows nothing, those of a walk from root to root.
 fn cycle_in(
     alloc: Global,
     services: &DumpServices,
     logs: &[Log<'_>],
-    service: &DumpService,
-    number: u64,
 ) -> Result<Certificate, NoMemory>
     requires kept { ∥ AreKept services.now ∥₁ }
+    requires legal { IsLegalTogether (histories_of services.now) }
+    requires stuck { IsStuck (histories_of services.now) (map log_of logs.now) }
     ensures none { IfOk result (λ found. order_in found ≡ None) }
     ensures shown { IfOk result (λ found. IsShown (histories_of services.now) found) }
 {
     match shown_in(alloc, services, logs)? {
         Some(found) => Ok(found),
-        None => twice(alloc, service, number),
+        None => cycle_among(alloc, services, logs),
     }
 }
 
@@ -135,9 +124,10 @@ fn certificate_of(alloc: Global, dump: &Dump) -> Result<Certificate, NoMemory>
     ensures one_world { IfOk result (λ found. IfSome (order_in found) (λ order. RunsAsOne (histories_of dump.now.services) order)) }
 {
     let found = search(alloc, &dump.services)?;
-    match first_left(&found.logs) {
+    let logs = found.logs.as_slice();
+    match first_left(logs) {
         None => Ok(Certificate::Order(found.order)),
-        Some((service, number)) => { cycle_in(alloc, &dump.services, &found.logs, service, number) }
+        Some(_) => cycle_in(alloc, &dump.services, logs),
     }
 }
 
@@ -149,7 +139,7 @@ pub fn find_order(alloc: Global, dump: &Dump) -> Result<Certificate, OneRefused>
     ensures first { IfOk result (λ found. IfSome (order_in found) (λ order. AreFirst (histories_of dump.now.services) (logs_of (histories_of dump.now.services)) order)) }
     // Where none is found, no order passes.
     ensures cycle { IfOk result (λ found. order_in found ≡ None → (order : _) → ¬ (Passes (histories_of dump.now.services) order)) }
-    // Two entries that are named instead are neighbours of a log, with a way back; unless one is named twice.
+    // Two entries that are named instead are neighbours of a log, with a way back.
     ensures shown { IfOk result (λ found. IsShown (histories_of dump.now.services) found) }
     // The run of the roots as one program, in the order that is found, doesn't fail, ends with the dump's rows, and each request
     // in it responds as the dump says.

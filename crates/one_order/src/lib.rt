@@ -9,10 +9,13 @@ mod checking;
 mod finding;
 mod logs;
 mod orders;
+mod pairs;
 mod played;
 mod playing;
+mod roots;
 mod searching;
 mod showing;
+mod walking;
 mod worlds;
 
 pub use certificates::{Certificate, OneRefused, find_order};

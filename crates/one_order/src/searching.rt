@@ -3,7 +3,7 @@ ghost use Rattle.std.specs.Prelude.{◌≡◌, IfOk, true, false, map};
 ghost use Rattle.dump_tables.specs.Kept.{AreKept};
 ghost use Rattle.execution.specs.Together.{IsLegalTogether};
 ghost use Rattle.dump_audit.specs.Histories.{histories_of};
-ghost use Rattle.one_order.specs.Certificates.{AreFirst};
+ghost use Rattle.one_order.specs.Certificates.{AreFirst, IsStuck};
 ghost use Rattle.one_order.specs.Logs.{log_of};
 ghost use Rattle.one_world.specs.Certificates.{Passes};
 ghost use Rattle.one_world.specs.Searches.{IsStep, all_passed, logs_of};
@@ -44,7 +44,9 @@ pub(crate) fn search(alloc: Global, services: &DumpServices) -> Result<Found<'_>
     ensures first { IfOk result (λ found. AreFirst (histories_of services.now) (logs_of (histories_of services.now)) found.order) }
     // Where nothing is left, what was taken is an order that passes.
     ensures order { IfOk result (λ found. all_passed (map log_of found.logs.items) ≡ true → Passes (histories_of services.now) found.order) }
-    // Where something is left, no order passes.
+    // Where something is left, no root comes next.
+    ensures ends { IfOk result (λ found. all_passed (map log_of found.logs.items) ≡ false → IsStuck (histories_of services.now) (map log_of found.logs.items)) }
+    // And no order passes.
     ensures stuck { IfOk result (λ found. all_passed (map log_of found.logs.items) ≡ false → (other : _) → ¬ (Passes (histories_of services.now) other)) }
 {
     let mut found = Found {

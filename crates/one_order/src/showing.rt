@@ -70,7 +70,7 @@ fn along<'a>(world: &'a DumpServices, from: &At<'a>, slots: &[usize]) -> Option<
 }
 
 // Whether both are the same entry.
-fn is_same(left: &At<'_>, right: &At<'_>) -> bool
+pub(crate) fn is_same(left: &At<'_>, right: &At<'_>) -> bool
     ensures { result ≡ same_ids (name_at left.now) (name_at right.now) }
 {
     left.entry.id == right.entry.id
@@ -83,7 +83,7 @@ fn is_same(left: &At<'_>, right: &At<'_>) -> bool
 }
 
 // The entry of this name.
-fn again<'a>(world: &'a DumpServices, at: &At<'_>) -> Option<At<'a>>
+pub(crate) fn again<'a>(world: &'a DumpServices, at: &At<'_>) -> Option<At<'a>>
     requires kept { ∥ AreKept world.now ∥₁ }
     ensures { option_map place_of result ≡ act_at (name_at at.now).number (history_in (name_at at.now).service (histories_of world.now)) }
 {
@@ -160,7 +160,7 @@ fn are_neighbours(world: &DumpServices, first: &At<'_>, second: &At<'_>) -> bool
 }
 
 // Whether calls lead to the one before they lead to the other, depth first.
-fn is_earlier(left: &[usize], right: &[usize]) -> bool
+pub(crate) fn is_earlier(left: &[usize], right: &[usize]) -> bool
     ensures { result ≡ is_earlier left.now right.now }
 {
     let mut left = left;
@@ -205,7 +205,7 @@ fn is_before(world: &DumpServices, root: &At<'_>, link: &Link<'_>) -> bool
     !is_same(root, &link.root) && is_pair(world, &link.first, &link.second, root, &link.root)
 }
 
-fn push_id(alloc: Global, ids: &mut Ids, at: &At<'_>) -> Result<(), NoMemory>
+pub(crate) fn push_id(alloc: Global, ids: &mut Ids, at: &At<'_>) -> Result<(), NoMemory>
     ensures { OnOk result (ids.new ≡ ids.old ++ name_at at.now ∷ []) }
 {
     let id = named(alloc, at.service, at.entry.id)?;
@@ -240,7 +240,12 @@ fn way_back(
     }
 }
 
-fn cycle(alloc: Global, first: &At<'_>, second: &At<'_>, back: Ids) -> Result<Certificate, NoMemory>
+pub(crate) fn cycle(
+    alloc: Global,
+    first: &At<'_>,
+    second: &At<'_>,
+    back: Ids,
+) -> Result<Certificate, NoMemory>
     ensures { IfOk result (λ found. found ≡ Cycle (name_at first.now) (name_at second.now) back) }
 {
     let first = named(alloc, first.service, first.entry.id)?;

@@ -12,7 +12,8 @@ use Rattle.lang_core.specs.declared.setting.Setting.{Setting}
 use Rattle.lang_core.specs.declared.trace.CallMade.{CallMade}
 use Rattle.lang_core.specs.declared.trace.Trace.{Trace}
 use Rattle.handler_run.specs.declared.state.Ran.{Ran}
-use Rattle.handler_chains.specs.Onward.{IsOnward, calls_in}
+pub use Rattle.handler_chains.specs.Onward.{IsOnward}
+use Rattle.handler_chains.specs.Onward.{calls_in}
 use Rattle.handler_chains.proofs.Finding.{text_is}
 use Rattle.handler_chains.proofs.OnwardLaws.{calls_onward}
 use Rattle.execution.specs.Executions.{Act, Deed, History, IsPlayed, IsReplay, Replays, deed_of, survives}

@@ -26,7 +26,7 @@ use Rattle.one_world.proofs.Searching.{Behind, GoesOn, IsPassed, Reached, all_go
 
 -- ---- lists
 
-has_append : {X : Type 0} (x : X) (xs ys : List X) → Has x (xs ++ ys) → Has x xs ⊎ Has x ys
+pub has_append : {X : Type 0} (x : X) (xs ys : List X) → Has x (xs ++ ys) → Has x xs ⊎ Has x ys
 has_append x [] ys h = inr h
 has_append x (y ∷ xs) ys (inl e) = inl (inl e)
 has_append x (y ∷ xs) ys (inr h) = elim (has_append x xs ys h) [
@@ -58,7 +58,7 @@ not_among n (a ∷ acts) apart = elim (cases_Bool (survives a)) [
   | inr dead ↦ subst (AllByRecursion (λ m. ¬ (n ≡ m))) (sym (dead_first a acts dead)) (not_among n acts apart.1)
 ]
 
-survivors_apart : (acts : List Act) → AreApart (map (λ (a : Act). a.id) acts) → AreApart (survivors acts)
+pub survivors_apart : (acts : List Act) → AreApart (map (λ (a : Act). a.id) acts) → AreApart (survivors acts)
 survivors_apart [] apart = tt
 survivors_apart (a ∷ acts) apart = elim (cases_Bool (survives a)) [
   | inl alive ↦ subst AreApart (sym (alive_first a acts alive)) (not_among a.id acts apart.0, survivors_apart acts apart.1)
@@ -83,7 +83,7 @@ own_or_later : (name : List ℕ) (n : ℕ) (i : RequestId) (xs : List RequestId)
 own_or_later name n i xs e (inl same) again = inl (ap (id_at name) same ∙ ap (λ s. id_at s i.number) (sym e))
 own_or_later name n i xs e (inr later) again = inr (again later)
 
-numbers_has : (name : List ℕ) (n : ℕ) (xs : List RequestId) → Has n (numbers_at name xs) → Has (id_at name n) xs
+pub numbers_has : (name : List ℕ) (n : ℕ) (xs : List RequestId) → Has n (numbers_at name xs) → Has (id_at name n) xs
 numbers_has name n [] h = absurd h
 numbers_has name n (i ∷ xs) h = elim (cases_Bool (same_text i.service name)) [
   | inl here ↦ own_or_later name n i xs (text_is i.service name here) (subst (Has n) (numbers_here name i xs here) h) (λ there. numbers_has name n xs there)
@@ -96,7 +96,7 @@ call_is_none : (caller : List ℕ) (n : ℕ) (o : Origin) → o ≡ Outside → 
 call_is_none caller n o e is = true≢false (sym (sym (ap (is_call caller n) e) ∙ is))
 
 -- a root is what its name says
-root_id : (world : List History) (i : RequestId) (h : History) (a : Act) → IsRoot world i h a → i ≡ id_of h a
+pub root_id : (world : List History) (i : RequestId) (h : History) (a : Act) → IsRoot world i h a → i ≡ id_of h a
 root_id world i h a root =
     let at = has_found (λ (g : History). same_text (name_of g) i.service) world h root.served in
     let service : i.service ≡ name_of h = sym (text_is (name_of h) i.service at.1) in
@@ -119,7 +119,7 @@ record Cut (world : List History) (t : Trees) (h : History) (a : Act) : Type 0 w
   is : t ≡ and_trees before (tree h a below after)
 
 module _ (world : List History) (named : AreNamed world) where
-  ids_same : (h g : History) (a b : Act) → IsAt world h a → IsAt world g b → id_of h a ≡ id_of g b → (h ≡ g) × (a ≡ b)
+  pub ids_same : (h g : History) (a b : Act) → IsAt world h a → IsAt world g b → id_of h a ≡ id_of g b → (h ≡ g) × (a ≡ b)
   ids_same h g a b x y e =
       let names : name_of h ≡ name_of g = ap (λ (i : RequestId). i.service) e in
       let same : h ≡ g = both_some (history_in (name_of h) world) h g x.found (subst (λ n. history_in n world ≡ Some g) (sym names) y.found) in
@@ -212,7 +212,7 @@ module _ (world : List History) (named : AreNamed world) where
 abbrev pub Each : List Log → (Log → Type 0) → Type 0
 Each logs P = (l : Log) → Has l logs → P l
 
-abbrev numbers : Log → Trees → List ℕ
+abbrev pub numbers : Log → Trees → List ℕ
 numbers l t = numbers_at (name_of l.history) (call_order t)
 
 numbers_trees : (l : Log) (t u : Trees) → numbers l (and_trees t u) ≡ numbers l t ++ numbers l u
@@ -243,7 +243,7 @@ apart_later l h a below later rest apart =
     apart_behind Y (numbers l later ++ rest)
     (subst AreApart (ap (λ ns. ns ++ rest) (first_numbers l h a below later) ∙ append_assoc Y (numbers l later) rest) apart)
 
-has_history : (l : Log) (logs : List Log) → Has l logs → Has l.history (map history_of_log logs)
+pub has_history : (l : Log) (logs : List Log) → Has l logs → Has l.history (map history_of_log logs)
 has_history l [] there = absurd there
 has_history l (m ∷ logs) (inl e) = inl (ap history_of_log e)
 has_history l (m ∷ logs) (inr there) = inr (has_history l logs there)
@@ -319,22 +319,23 @@ none_tried world logs (m ∷ part) e l (inr there) =
     none_tried world logs part (later_none (tried world logs m.history (front m.left)) (next_root world logs part) e).1 l there
 
 module _ (world : List History) (legal : IsLegalTogether world) (logs : List Log) (histories : map history_of_log logs ≡ world) where
-  -- a root with which an order goes on is found
-  goes_on : (h : History) (a : Act) (below later : Trees) (i : RequestId) → IsRoot world i h a → AreCalled below world (name_of h) a.numbers (calls_of a)
-      → Each logs (λ l. numbers l (tree h a below later) ≡ survivors l.left) → next_root world logs logs ≡ None → ⊥
-  goes_on h a below later i root called each stuck =
+  -- a root with which each log goes on is found
+  pub goes_on : (h : History) (a : Act) (below : Trees) (i : RequestId) → IsRoot world i h a → AreCalled below world (name_of h) a.numbers (calls_of a)
+      → Each logs (λ l. (rest : List ℕ) × (survivors l.left ≡ numbers l (tree h a below none) ++ rest)) → next_root world logs logs ≡ None → ⊥
+  goes_on h a below i root called each stuck =
       let at = root_at world i h a root in
       let own = log_with h logs (subst (Has h) (sym histories) at.there) in
       let mine : IsRoot world (id_of h a) h a = own_root world i h a root in
       let one : Trees = tree h a below none in
       let roots : AreRoots one world (id_of h a ∷ []) = (mine, called, tt) in
       let goes : (l : Log) → Has l logs → GoesOn world (id_of h a) l = λ l there.
-      (let g = root_passes world legal (name_of l.history) (id_of h a) one l.left (numbers l later) roots (sym (each l there) ∙ numbers_trees l one later) in (g.later, g.is)) in
+      (let e = each l there in
+      let g = root_passes world legal (name_of l.history) (id_of h a) one l.left e.0 roots e.1 in (g.later, g.is)) in
       let all = all_go_on world (id_of h a) logs (each_all (GoesOn world (id_of h a)) logs goes) in
       let first = root_first world one (id_of h a) roots (name_of own.0.history) (ap name_of own.2) in
-      let begins : survivors own.0.left ≡ a.id ∷ (first.0 ++ numbers own.0 later) =
-      sym (each own.0 own.1) ∙ numbers_trees own.0 one later ∙ ap (λ ns. ns ++ numbers own.0 later) first.1 in
-      let number : front own.0.left ≡ Some a.id = front_first own.0.left a.id (first.0 ++ numbers own.0 later) begins in
+      let behind = each own.0 own.1 in
+      let begins : survivors own.0.left ≡ a.id ∷ (first.0 ++ behind.0) = behind.1 ∙ ap (λ ns. ns ++ behind.0) first.1 in
+      let number : front own.0.left ≡ Some a.id = front_first own.0.left a.id (first.0 ++ behind.0) begins in
       let found : tried world logs h (Some a.id) ≡ Some (id_of h a, all.0) = ap (taken (id_of h a)) all.1 in
       let lost : tried world logs own.0.history (front own.0.left) ≡ None = none_tried world logs logs stuck own.0 own.1 in
       let none_there : tried world logs h (Some a.id) ≡ None =
@@ -345,7 +346,8 @@ module _ (world : List History) (legal : IsLegalTogether world) (logs : List Log
       → Each logs IsPassed
   nothing_ahead none order roots each stuck = λ l there. sym (each l there)
   nothing_ahead (tree h a below later) [] roots each stuck = absurd roots
-  nothing_ahead (tree h a below later) (i ∷ order) roots each stuck = absurd (goes_on h a below later i roots.0 roots.1 each stuck)
+  nothing_ahead (tree h a below later) (i ∷ order) roots each stuck =
+      absurd (goes_on h a below i roots.0 roots.1 (λ l there. (numbers l later, sym (each l there) ∙ numbers_trees l (tree h a below none) later)) stuck)
 
 -- where an order passes, a search ends when nothing is left
 pub stuck_passed : (world : List History) → IsLegalTogether world → AreNamed world → (order : List RequestId) (logs : List Log) → Reached world order logs

@@ -33,10 +33,10 @@ module _ (services : List DumpService) (out out_now : Writes) (status : ℕ) whe
   order_told order legal passes first runs prints =
       or_lacks (order_lines order) (inl (record { legal = legal; order = order; passes = passes; first = first; runs = runs; is = refl })) prints
 
-  pub cycle_told : (first second : RequestId) → IsLegalTogether (histories_of services) → ((order : List RequestId) → ¬ (Passes (histories_of services) order))
-      → (¬ (first ≡ second) → (back : List RequestId) × ShowsCycle (histories_of services) first second back) → StatusOf out out_now (cycle_line first second) status ⊎ LacksMemory out out_now status → IsTold
-  cycle_told first second legal never shown prints =
-      or_lacks (cycle_line first second) (inr (inl (record { legal = legal; never = never; first = first; second = second; shown = shown; is = refl }))) prints
+  pub cycle_told : (first second : RequestId) (back : List RequestId) → IsLegalTogether (histories_of services) → ((order : List RequestId) → ¬ (Passes (histories_of services) order))
+      → ShowsCycle (histories_of services) first second back → StatusOf out out_now (cycle_line first second) status ⊎ LacksMemory out out_now status → IsTold
+  cycle_told first second back legal never shown prints =
+      or_lacks (cycle_line first second) (inr (inl (record { legal = legal; never = never; first = first; second = second; back = back; shown = shown; is = refl }))) prints
 
   pub fault_told : (found : Judged) → found ≡ judged services → ¬ (found ≡ Legal) → StatusOf out out_now (judged_line found) status ⊎ LacksMemory out out_now status → IsTold
   fault_told found is ill prints =

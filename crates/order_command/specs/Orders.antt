@@ -53,13 +53,14 @@ pub record TellsOrder (services : List DumpService) (text : List ℕ) : Type 0 w
   pub runs : RunsAsOne (histories_of services) order
   pub is : text ≡ order_lines order
 
--- two entries where there is no such order, which show it, unless one is told twice
+-- two entries where there is no such order, which show it
 pub record TellsCycle (services : List DumpService) (text : List ℕ) : Type 0 where
   pub legal : IsLegalTogether (histories_of services)
   pub never : (order : List RequestId) → ¬ (Passes (histories_of services) order)
   pub first : RequestId
   pub second : RequestId
-  pub shown : ¬ (first ≡ second) → (back : List RequestId) × ShowsCycle (histories_of services) first second back
+  pub back : List RequestId
+  pub shown : ShowsCycle (histories_of services) first second back
   pub is : text ≡ cycle_line first second
 
 -- what an audit tells of a dump that isn't legal

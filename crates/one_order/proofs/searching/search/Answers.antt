@@ -3,7 +3,7 @@ use Rattle.dump_audit.specs.Histories.{histories_of}
 use Rattle.one_order.specs.Logs.{log_of}
 use Rattle.one_world.specs.Searches.{logs_of}
 use Rattle.one_order.proofs.Named.{kept_named}
-use Rattle.one_order.proofs.SearchLaws.{none_passes, order_first, order_passes, search_begins, search_goes_on, search_less}
+use Rattle.one_order.proofs.SearchLaws.{none_passes, order_first, order_passes, search_begins, search_goes_on, search_less, search_stuck}
 use Rattle.one_order.proofs.searching.search.Goals as goal
 
 pub loop-more-init : goal.loop-more-init
@@ -35,3 +35,8 @@ pub returns-clause-stuck : goal.returns-clause-stuck
 returns-clause-stuck c = λ some other passes.
     none_passes (histories_of c.args.services.now) c.requires.legal c.loop-more.more c.loop-more.found.order (map log_of c.loop-more.found.logs.items)
     c.loop-more-test.false c.loop-more.invariant (kept_named c.args.services.now c.requires.kept) some other passes
+
+pub returns-clause-ends : goal.returns-clause-ends
+returns-clause-ends c = λ some.
+    search_stuck (histories_of c.args.services.now) c.requires.legal c.loop-more.more c.loop-more.found.order (map log_of c.loop-more.found.logs.items)
+    c.loop-more-test.false c.loop-more.invariant some

@@ -13,8 +13,8 @@ pub returns-in-Ok-Cycle : goal.returns-in-Ok-Cycle
 returns-in-Ok-Cycle g c =
     let never = rw c.in-Ok-Cycle.field-0-is at c.in-Ok-Cycle.ensures.cycle in
     let shown = rw c.in-Ok-Cycle.field-0-is at c.in-Ok-Cycle.ensures.shown in
-    cycle_told c.args.dump.now.services (g.K.Sink.writes c.args.out.now) (g.K.Sink.writes c.cycled.new.out) c.cycled.result c.in-Ok-Cycle.first c.in-Ok-Cycle.second c.in-Ok-Cycle.ensures.legal (never refl)
-    (λ apart. (_, shown apart)) c.cycled.ensures
+    cycle_told c.args.dump.now.services (g.K.Sink.writes c.args.out.now) (g.K.Sink.writes c.cycled.new.out) c.cycled.result c.in-Ok-Cycle.first c.in-Ok-Cycle.second _ c.in-Ok-Cycle.ensures.legal (never refl)
+    shown c.cycled.ensures
 
 pub returns-in-Err-NotLegal : goal.returns-in-Err-NotLegal
 returns-in-Err-NotLegal g c =
