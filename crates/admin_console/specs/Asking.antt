@@ -15,12 +15,12 @@ use Rattle.admin_console.specs.declared.asking.Asked.TheVariants as asked
 use Rattle.admin_console.specs.declared.asking.Report.{Report}
 use Rattle.admin_console.specs.declared.asking.Report.TheVariants as report
 
--- the word is one that workers answer, over all services
-abbrev pub is_for_workers : ConsoleWord → Bool
-is_for_workers word.Preview = true
-is_for_workers word.Audit = true
-is_for_workers word.Stop = true
-is_for_workers word = false
+-- The word is one that the run answers, and not a desk: an audit and a stop are of all services, and a preview is of one, but is tried on a copy of it.
+abbrev pub is_of_the_run : ConsoleWord → Bool
+is_of_the_run word.Preview = true
+is_of_the_run word.Audit = true
+is_of_the_run word.Stop = true
+is_of_the_run word = false
 
 -- ---- orders
 

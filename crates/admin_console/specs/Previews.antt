@@ -1,7 +1,7 @@
 -- The preview of a cancellation, as it is replied.
 use Rattle.std.specs.Prelude.{ℕ, ◌≡◌, List, [], ◌++◌, Option, MatchOption, Result, Ok, Err, codes, decimal, option_and_then}
 use Rattle.service_events.specs.State.{Kept}
-use Rattle.service_reports.specs.Previews.{IsShownOf}
+use Rattle.service_reports.specs.Previews.{IsShownOf, IsShownUntilIdle}
 use Rattle.service_reports.specs.declared.previews.Unshown.{Unshown}
 use Rattle.service_reports.specs.declared.previews.Unshown.TheVariants.{NotIdle, Order, Untimely}
 use Rattle.http_front.specs.declared.header.AireHeader.TheVariants as headers
@@ -27,9 +27,10 @@ shown_reply (Err NotIdle) = conflict (codes "notidle") (codes "notidle") 0
 shown_reply (Err (Untimely number)) = conflict (codes "untimely " ++ decimal number) (codes "untimely") number
 shown_reply (Err (Order why)) = refused_reply (order_told why)
 
--- it tells what is shown of the cancellation of this request, by this user and of a service as it is
+-- it tells what is shown of the cancellation of this request, by this user and of a service as it is, and of steps until one is
+-- idle, at most as many as there are entries
 abbrev pub TellsShown : ℕ → List ℕ → Kept → WireResponse → Type 0
-TellsShown id who s response = (shown : Result (List ℕ) Unshown) × IsShownOf id who s shown × (response ≡ shown_reply shown)
+TellsShown id who s response = (shown : Result (List ℕ) Unshown) × (IsShownUntilIdle id who s shown × IsShownOf id who s shown) × (response ≡ shown_reply shown)
 
 -- what is replied to a body
 abbrev pub IsPreviewReply : List ℕ → List ℕ → Kept → WireResponse → Type 0

@@ -2,7 +2,7 @@
 ghost use Rattle.std.specs.Prelude.{◌≡◌, false, Some, IfOk, OnErr};
 ghost use Rattle.service_events.specs.Commits.{live_rows};
 ghost use Rattle.admin_console.specs.Answers.{IsAnswered, IsDone, IsLeft, IsUnanswered, MakesOrder};
-ghost use Rattle.admin_console.specs.Asking.{is_for_workers};
+ghost use Rattle.admin_console.specs.Asking.{is_of_the_run};
 ghost use Rattle.admin_console.specs.declared.asking.Asked.TheVariants.{Order};
 
 use crate::asking::{Asked, asked_in};
@@ -30,13 +30,16 @@ fn make_order<O: Orders>(
     ensures service_err { OnErr result (IsLeft MakesOrder (O.kept desk.old) (Some (Order token command)) who inputs (O.kept desk.new)) }
     ensures silent { live_rows (O.kept desk.new).journal ≡ live_rows (O.kept desk.old).journal }
 {
-    let answer = desk.order(alloc, command, token, who, inputs);
-    order_reply(alloc, &desk.service().setting().me, answer)
+    let ordered = desk.order(alloc, command, token, who, inputs);
+    order_reply(alloc, &desk.service().setting().me, ordered)
 }
 
-// Does what is asked, if the body was no ill one.
+/// Does what was read of an operator's request, and makes its reply; of a body that was ill nothing was read. An order is made,
+/// once, and then its answer is told; a report is of the service as it is; a body that is ill is told so, and changes nothing.
+/// Where there is no memory nothing changed, or an order was made and couldn't be told: asked again under its token, it is
+/// answered as then. No live answer is made.
 #[tactic(auto, using(crate::proofs::AnswerLemmas::told_report, crate::proofs::AnswerLemmas::told_ill))]
-fn carry_out<O: Orders>(
+pub fn carry_out<O: Orders>(
     alloc: Global,
     desk: &mut O,
     asked: Option<Asked>,
@@ -58,10 +61,8 @@ fn carry_out<O: Orders>(
     }
 }
 
-/// Answers an operator's request, whose word isn't one that workers answer. An order is made, once, and then its answer is
-/// told; a report is of the service as it is; a body that is ill is told so, and changes nothing. Where there is no memory
-/// nothing changed, or an order was made and couldn't be told: asked again under its token, it is answered as then. No live
-/// answer is made.
+/// Answers an operator's request, whose word is none of the run: reads its body, and carries out what that asks. Who has a
+/// service behind a lock reads the body before he takes the lock, and carries it out behind that.
 #[tactic(auto, using(crate::proofs::AnswerLemmas::answered, crate::proofs::AnswerLemmas::unanswered, crate::proofs::AnswerLemmas::left_as_it_was))]
 pub fn answer<O: Orders>(
     alloc: Global,
@@ -69,7 +70,7 @@ pub fn answer<O: Orders>(
     request: &ConsoleRequest,
     inputs: Inputs,
 ) -> Result<WireResponse, NoMemory>
-    requires word { is_for_workers request.now.word ≡ false }
+    requires word { is_of_the_run request.now.word ≡ false }
     ensures desk { IfOk result (λ response. IsAnswered O.kept O.made desk.old request.now inputs response desk.new) }
     ensures service { IfOk result (λ response. IsAnswered (λ s. s) MakesOrder (O.kept desk.old) request.now inputs response (O.kept desk.new)) }
     ensures desk_err { OnErr result (IsUnanswered O.made desk.old request.now inputs desk.new) }

@@ -1,7 +1,7 @@
 // What an operator asks of a service.
 ghost use Rattle.std.specs.Prelude.{◌≡◌, IfOk};
 ghost use Rattle.serde_json.specs.View.{view};
-ghost use Rattle.admin_console.specs.Asking.{asked_at, asked_in, call_at, cancel_at, command_at, create_at, is_for_workers, neighbours_at, order_at, replace_at, report_named, request_at, restore_at, retry_at};
+ghost use Rattle.admin_console.specs.Asking.{asked_at, asked_in, call_at, cancel_at, command_at, create_at, is_of_the_run, neighbours_at, order_at, replace_at, report_named, request_at, restore_at, retry_at};
 
 use crate::fields::{
     body_at, method_at, neighbour_at, number_at, object_in, path_at, post_at, who_at,
@@ -32,9 +32,10 @@ pub enum Asked {
     Report(Report),
 }
 
-/// Whether the word is one that workers answer, over all services.
-pub fn is_for_workers(word: ConsoleWord) -> bool
-    ensures { result ≡ is_for_workers word }
+/// Whether the word is one that the run answers, and not a desk: `audit` and `stop` are of all services, and `preview` is of one,
+/// but is tried on a copy of it, without its lock.
+pub fn is_of_the_run(word: ConsoleWord) -> bool
+    ensures { result ≡ is_of_the_run word }
 {
     matches!(
         word,
@@ -197,7 +198,7 @@ fn asked_at(alloc: Global, word: ConsoleWord, object: &Value) -> Result<Option<A
 /// - `retry`: `token` and `name`, `call:N` or `reply:N`;
 /// - `notices`, `log` and `rows`: none.
 ///
-/// None exactly where the body is no such object, or the word is one that workers answer.
+/// None exactly where the body is no such object, or the word is one of the run.
 pub fn asked_in(alloc: Global, request: &ConsoleRequest) -> Result<Option<Asked>, NoMemory>
     ensures { IfOk result (λ asked. asked ≡ asked_in request.now) }
 {

@@ -1,7 +1,7 @@
 -- What is shown of the preview of a cancellation.
 use Rattle.std.specs.Prelude.{ℕ, ◌≡◌, List, [], ◌∷◌, Option, Some, None, Result, Ok, Err, option_map}
 use Rattle.service_events.specs.State.{Kept}
-use Rattle.preview_core.specs.Previews.{IsPreviewAtMost}
+use Rattle.preview_core.specs.Previews.{IsPreview, IsPreviewAtMost}
 use Rattle.preview_core.specs.declared.refused.PreviewRefused.{PreviewRefused}
 use Rattle.preview_core.specs.declared.refused.PreviewRefused.TheVariants as refused
 use Rattle.preview_core.specs.declared.told.Preview.{Preview}
@@ -10,10 +10,14 @@ use Rattle.service_reports.specs.Lines.{or_nothing, shown_text}
 use Rattle.service_reports.specs.declared.previews.Unshown.{Unshown}
 use Rattle.service_reports.specs.declared.previews.Unshown.TheVariants as unshown
 
--- what would come of the cancellation of this request by this user, and of steps until one is idle, at most as many as there
--- are entries
+-- what would come of the cancellation of this request by this user, and of steps until one is idle or there were as many as
+-- entries
 abbrev pub IsPreviewOf : ℕ → List ℕ → Kept → Result Preview PreviewRefused → Type 0
 IsPreviewOf id who s result = IsPreviewAtMost s (Cancel id ∷ []) who result
+
+-- the same, of steps until one is idle
+abbrev pub IsPreviewUntilIdle : ℕ → List ℕ → Kept → Result Preview PreviewRefused → Type 0
+IsPreviewUntilIdle id who s result = IsPreview s (Cancel id ∷ []) who result
 
 -- why nothing is shown; where memory was wanting there is no reason to tell
 abbrev pub reason : PreviewRefused → Option Unshown
@@ -30,3 +34,7 @@ shown_of s (Err why) = option_map Err (reason why)
 -- this is shown of it
 abbrev pub IsShownOf : ℕ → List ℕ → Kept → Result (List ℕ) Unshown → Type 0
 IsShownOf id who s shown = (result : Result Preview PreviewRefused) × IsPreviewOf id who s result × (shown_of s result ≡ Some shown)
+
+-- this is shown of it, of steps until one is idle
+abbrev pub IsShownUntilIdle : ℕ → List ℕ → Kept → Result (List ℕ) Unshown → Type 0
+IsShownUntilIdle id who s shown = (result : Result Preview PreviewRefused) × IsPreviewUntilIdle id who s result × (shown_of s result ≡ Some shown)

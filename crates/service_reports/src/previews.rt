@@ -3,7 +3,7 @@ ghost use Rattle.std.specs.Prelude.{◌≡◌, [], ◌∷◌, Some, IfOk};
 ghost use Rattle.lang_base.specs.Memory.{Unless, lacks};
 ghost use Rattle.preview_core.specs.Previews.{preview_memory};
 ghost use Rattle.preview_core.specs.declared.trial.Trial.TheVariants.{Cancel};
-ghost use Rattle.service_reports.specs.Previews.{IsPreviewOf, IsShownOf, reason};
+ghost use Rattle.service_reports.specs.Previews.{IsPreviewOf, IsPreviewUntilIdle, IsShownOf, IsShownUntilIdle, reason};
 
 use crate::lines::shown_lines;
 use lang_core::{NoMemory, Text};
@@ -37,7 +37,8 @@ fn preview_of(
     id: u64,
     who: &Text,
 ) -> Result<Preview, PreviewRefused>
-    ensures { Unless (lacks preview_memory result) (IsPreviewOf id who.now service.now result) Unit }
+    ensures exact { Unless (lacks preview_memory result) (IsPreviewUntilIdle id who.now service.now result) Unit }
+    ensures within { Unless (lacks preview_memory result) (IsPreviewOf id who.now service.now result) Unit }
 {
     let trials = cancellation(alloc, id)?;
     preview(alloc, service, &trials, who)
@@ -54,16 +55,19 @@ fn reason(why: PreviewRefused) -> Result<Unshown, NoMemory>
     }
 }
 
-/// What would come of the cancellation of this request, ordered by this user, as lines, or why nothing is shown. The service
-/// stays.
-#[tactic(auto, using(crate::proofs::PreviewLemmas::lines_shown, crate::proofs::PreviewLemmas::reason_shown))]
+/// What would come of the cancellation of this request, ordered by this user, and of repair steps until one is idle, as lines, or
+/// why nothing is shown. The service stays.
+#[tactic(auto, using(crate::proofs::PreviewLemmas::lines_shown, crate::proofs::PreviewLemmas::lines_until, crate::proofs::PreviewLemmas::reason_shown, crate::proofs::PreviewLemmas::reason_until))]
 pub fn cancellation_shown(
     alloc: Global,
     service: &Service,
     id: u64,
     who: &Text,
 ) -> Result<Result<Text, Unshown>, NoMemory>
-    ensures { IfOk result (IsShownOf id who.now service.now) }
+    ensures exact { IfOk result (IsShownUntilIdle id who.now service.now) }
+
+    // There are at most as many steps as entries.
+    ensures within { IfOk result (IsShownOf id who.now service.now) }
 {
     match preview_of(alloc, service, id, who) {
         Ok(shown) => Ok(Ok(shown_lines(alloc, service, &shown)?)),
