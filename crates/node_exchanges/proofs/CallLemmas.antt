@@ -22,7 +22,7 @@ use Rattle.wire_replies.specs.declared.replies.Outgoing.TheVariants as replies
 use Rattle.wire_words.specs.Failures.{arrive_refused, why_failed}
 use Rattle.wire_bytes.specs.Hearing.{IsReplied}
 use Rattle.wire_bytes.specs.declared.hearing.Replied.{Replied}
-use Rattle.node_exchanges.specs.Calls.{AreCalls, AtLeast, CallSent, CallsIt, CallsMade, CameOf, FailsOnly, IsCall, IsLost, IsRefused, answers_call, answers_in, came_by, came_in, came_of, came_with, is_answer_to, lost_by_one, refused_by_one, replies_so}
+use Rattle.node_exchanges.specs.Calls.{AreCalls, AtLeast, CallSent, CallsIt, CallsMade, CameOf, FailsOnly, IsCall, IsLost, IsRefused, LinkTells, SendsAtMost, answers_call, answers_in, came_by, came_in, came_of, came_with, is_answer_to, lost_by_one, refused_by_one, replies_so}
 use Rattle.node_exchanges.specs.Endpoints.{Endpoint}
 use Rattle.node_exchanges.specs.Exchanging.{ComesBack, IsExchanged, back_of, if_reply}
 use Rattle.node_exchanges.specs.declared.exchanges.Back.{Back}
@@ -64,9 +64,13 @@ calls_on e l m r q a b c one two all is =
 no_calls : (e : Endpoint) → AreCalls e 0 0 []
 no_calls e = record { calls = All-nil (IsCall e); lost_so = refl; refused_so = refl }
 
+-- no exchange was made
+pub none_told : (a b : Exchanges) → b ≡ a → LinkTells a b []
+none_told a b same all is = ap (λ (x : Exchanges). x.made) same ∙ is ∙ ap Some (sym (append-nil all))
+
 -- where no exchange was made
 pub none_made : (e : Endpoint) (a b : Exchanges) → b ≡ a → CallsMade e 0 0 a b
-none_made e a b same all is = ([], ap (λ (x : Exchanges). x.made) same ∙ is ∙ ap Some (sym (append-nil all)), no_calls e)
+none_made e a b same all is = ([], none_told a b same all is, no_calls e)
 
 -- ---- one call
 
@@ -104,7 +108,7 @@ reads_so set (Ok replied) = reads_in set replied.status replied.reply
 reads_so set (Err why) = refl
 
 -- what came of a call by its reply
-spelled_by : (e : Endpoint) (set : SetMessage) (secret bytes : List ℕ) (came : Result AnswerMessage Why) → CameOf e set secret (answers.Reply bytes) came
+pub spelled_by : (e : Endpoint) (set : SetMessage) (secret bytes : List ℕ) (came : Result AnswerMessage Why) → CameOf e set secret (answers.Reply bytes) came
     → (read : Result Replied FrontRefused) × (left : List ℕ) × IsReplied e.me set.dest secret asked.Call bytes read left × IsReadAs set (answers_call set read) came
 spelled_by e set secret bytes came of = (of.0, of.1, of.2, subst (IsReadAs set (answers_call set of.0)) (sym of.3) (reads_so set of.0))
 
@@ -163,14 +167,20 @@ module _ (e : Endpoint) (set : SetMessage) (secret address bytes : List ℕ) (be
   -- where something came of it, it was made
   call_made : (came : Result AnswerMessage Why) (answer : Exchange) → Sent answer → Leaves before now address bytes answer → CameOf e set secret answer came
       → CallsIt e set came before now
-  call_made came (answers.Reply back) sent made of = λ all is. (exchanged (answers.Reply back), made all is, record { secret = secret; sent = sent; so = of })
+  call_made came (answers.Reply back) sent made of = (exchanged (answers.Reply back), made, record { secret = secret; sent = sent; so = of })
   call_made came answers.NoMemory sent same of = absurd of
-  call_made came (answers.Failed note) sent made of = λ all is. (exchanged (answers.Failed note), made all is, record { secret = secret; sent = sent; so = of })
+  call_made came (answers.Failed note) sent made of = (exchanged (answers.Failed note), made, record { secret = secret; sent = sent; so = of })
 
   pub calls_it : (answer : Exchange) (came : Came) → Sent answer → Leaves before now address bytes answer → IfOk came (CameOf e set secret answer)
       → IfOk came (λ (c : Result AnswerMessage Why). CallsIt e set c before now)
   calls_it answer (Ok came) sent made of = call_made came answer sent made of
   calls_it answer (Err why) sent made of = tt
+
+  -- it was sent once at most
+  sent_at_most : (answer : Exchange) → Sent answer → Leaves before now address bytes answer → SendsAtMost e set before now
+  sent_at_most (answers.Reply back) sent made = inr (exchanged (answers.Reply back), made, (secret, sent))
+  sent_at_most answers.NoMemory sent same = inl same
+  sent_at_most (answers.Failed note) sent made = inr (exchanged (answers.Failed note), made, (secret, sent))
 
 -- ---- what was lost
 
@@ -224,6 +234,7 @@ pub record IsCalled (e : Endpoint) (set : SetMessage) (before now : Exchanges) (
   pub calls : CallsMade e (lost_by_one what) (refused_by_one what) before now
   pub rose : 0 < lost_by_one what → Rose before.faults now.faults
   pub failure : IfOk what FailsOnly
+  pub sends : SendsAtMost e set before now
 
 pub called : (e : Endpoint) (set : SetMessage) (secret address bytes : List ℕ) (before now : Exchanges) (came : Result Back LacksMemory)
     → ((answer : Exchange) → CallSent e set secret (record { address = address; bytes = bytes; answer = answer }))
@@ -236,4 +247,5 @@ called e set secret address bytes before now came sent made =
       calls = one_call e set secret address bytes before now answer (came_with set came) (sent answer) made.left of;
       rose = λ lost. made.rose (lost_by_failure e set secret answer (came_with set came) of lost);
       failure = fails_only e set secret answer (came_with set came) of;
+      sends = sent_at_most e set secret address bytes before now answer (sent answer) made.left;
     }

@@ -1,5 +1,5 @@
 -- What comes back of posts.
-use Rattle.std.proofs.Common.{◌≡◌, ℕ, List, [], ◌∷◌, ◌++◌, Option, Some, Result, Ok, Err, IfOk, refl, ap, ◌∙◌}
+use Rattle.std.proofs.Common.{◌≡◌, ℕ, List, [], ◌∷◌, ◌++◌, Option, Some, Result, Ok, Err, IfOk, inl, inr, refl, ap, ◌∙◌}
 use Rattle.std.specs.Option.{ForSome}
 use Rattle.lang_base.specs.declared.memory.NoMemory.{NoMemory as LacksMemory}
 use Rattle.repair_messages.specs.declared.posts.Post.{Post}
@@ -17,7 +17,7 @@ use Rattle.wire_bytes.specs.Sending.{SendsPost}
 use Rattle.wire_bytes.specs.declared.hearing.Replied.{Replied}
 use Rattle.node_exchanges.specs.Endpoints.{Endpoint}
 use Rattle.node_exchanges.specs.Exchanging.{ComesBack, IsExchanged, back_of, if_reply}
-use Rattle.node_exchanges.specs.Posts.{CameBack, PostsIt, said_by, said_in, said_of, said_with}
+use Rattle.node_exchanges.specs.Posts.{CameBack, PostSent, PostsAtMost, PostsIt, said_by, said_in, said_of, said_with}
 use Rattle.node_exchanges.specs.declared.exchanges.Back.{Back}
 use Rattle.node_exchanges.specs.declared.exchanges.Back.TheVariants as backs
 
@@ -42,11 +42,17 @@ said_from e dest secret p answer (Err why) of = tt
 
 module _ (e : Endpoint) (dest secret address bytes : List ℕ) (p : Post) (before now : Exchanges) (door : value_of dest e.doors ≡ Some address)
     (peer : value_of dest e.secrets ≡ Some secret) (sends : SendsPost e.me dest address e.secret p bytes) where
+  abbrev exchanged : Exchange → Exchanged
+  exchanged answer = record { address = address; bytes = bytes; answer = answer }
+
+  abbrev sent : (answer : Exchange) → PostSent e dest p (exchanged answer)
+  sent answer = record { door = door; secret = secret; peer = peer; sends = sends }
+
   sent_so : (answer : Exchange) (reply : Option PostReply)
-      → ForSome before.made (λ (all : List Exchanged). now.made ≡ Some (all ++ record { address = address; bytes = bytes; answer = answer } ∷ []))
+      → ForSome before.made (λ (all : List Exchanged). now.made ≡ Some (all ++ exchanged answer ∷ []))
       → CameBack e dest secret p answer reply → PostsIt e dest p reply before now
   sent_so answer reply made came all is =
-      (record { address = address; bytes = bytes; answer = answer }, made all is, record { door = door; secret = secret; peer = peer; sends = sends; came = came })
+      (exchanged answer, made all is, record { sent = sent answer; came = came })
 
   sent_back : (answer : Exchange) (said : Result (Option PostReply) LacksMemory) → Leaves before now address bytes answer
       → IfOk said (CameBack e dest secret p answer) → IfOk said (λ (reply : Option PostReply). PostsIt e dest p reply before now)
@@ -59,3 +65,9 @@ module _ (e : Endpoint) (dest secret address bytes : List ℕ) (p : Post) (befor
   pub posted : (came : Result Back LacksMemory) → IsExchanged e.me dest secret (asking_of p) address bytes before now came
       → IfOk (said_with came) (λ (reply : Option PostReply). PostsIt e dest p reply before now)
   posted came made = sent_back made.answer (said_with came) made.left (said_from e dest secret p made.answer came made.back)
+
+  -- and sent it once at most
+  pub posted_at_most : (answer : Exchange) → Leaves before now address bytes answer → PostsAtMost e dest p before now
+  posted_at_most (answers.Reply r) left = inr (exchanged (answers.Reply r), left, sent (answers.Reply r))
+  posted_at_most answers.NoMemory left = inl left
+  posted_at_most (answers.Failed note) left = inr (exchanged (answers.Failed note), left, sent (answers.Failed note))

@@ -100,6 +100,10 @@ pub record AreCalls (e : Endpoint) (lost refused : ℕ) (made : List Exchanged) 
   pub lost_so : AtLeast IsLost lost made
   pub refused_so : AtLeast (IsRefused e) refused made
 
+-- where the link tells its exchanges, these were made
+abbrev pub LinkTells : Exchanges → Exchanges → List Exchanged → Type 0
+LinkTells before now made = ForSome before.made (λ all. now.made ≡ Some (all ++ made))
+
 -- where the link tells its exchanges, such calls were made
 abbrev pub CallsMade : Endpoint → ℕ → ℕ → Exchanges → Exchanges → Type 0
 CallsMade e lost refused before now =
@@ -138,6 +142,11 @@ refused_by_one (Err why) = 0
 abbrev pub FailsOnly : Result AnswerMessage Why → Type 0
 FailsOnly (Err whys.Changes) = ⊥
 FailsOnly came = Unit {0}
+
+-- an answer is one of version 1 to the call of this number, from this service
+abbrev pub AnswersOnly : List ℕ → ℕ → Result AnswerMessage Why → Type 0
+AnswersOnly dest number (Ok a) = (a.callee ≡ dest) × (a.number ≡ number) × (a.version ≡ 1)
+AnswersOnly dest number (Err why) = Unit {0}
 
 -- ---- what comes of it
 
@@ -182,6 +191,14 @@ pub record IsCallOf (e : Endpoint) (set : SetMessage) (came : Result AnswerMessa
   pub sent : CallSent e set secret x
   pub so : CameOf e set secret x.answer came
 
--- where the link tells its exchanges, this one was made, and no other
+-- one exchange was made, and no other, where the link tells that: in it the call was made, and this came of it
 abbrev pub CallsIt : Endpoint → SetMessage → Result AnswerMessage Why → Exchanges → Exchanges → Type 0
-CallsIt e set came before now = ForSome before.made (λ all. (x : Exchanged) × (now.made ≡ Some (all ++ x ∷ [])) × IsCallOf e set came x)
+CallsIt e set came before now = (x : Exchanged) × LinkTells before now (x ∷ []) × IsCallOf e set came x
+
+-- the call was sent in this exchange
+abbrev pub IsSent : Endpoint → SetMessage → Exchanged → Type 0
+IsSent e set x = (secret : List ℕ) × CallSent e set secret x
+
+-- no exchange was made, or this one, where the link tells it
+abbrev pub SendsAtMost : Endpoint → SetMessage → Exchanges → Exchanges → Type 0
+SendsAtMost e set before now = (now ≡ before) ⊎ ((x : Exchanged) × LinkTells before now (x ∷ []) × IsSent e set x)

@@ -1,5 +1,5 @@
 -- The posts that a service sends to its peers.
-use Rattle.std.specs.Prelude.{ℕ, ◌≡◌, ◌++◌, ◌∷◌, List, [], Option, Some, None, Result, Ok, Err}
+use Rattle.std.specs.Prelude.{ℕ, ◌≡◌, ◌⊎◌, ◌++◌, ◌∷◌, List, [], Option, Some, None, Result, Ok, Err}
 use Rattle.std.specs.Option.{ForSome}
 use Rattle.lang_base.specs.declared.memory.NoMemory.{NoMemory as LacksMemory}
 use Rattle.repair_messages.specs.declared.posts.Post.{Post}
@@ -47,15 +47,24 @@ abbrev pub said_with : Result Back LacksMemory → Result (Option PostReply) Lac
 said_with (Ok came) = Ok (said_by came)
 said_with (Err why) = Err why
 
--- an exchange in which the post was sent to this peer, and this came back of it
-pub record PostSent (e : Endpoint) (dest : List ℕ) (post : Post) (reply : Option PostReply) (x : Exchanged) : Type 0 where
+-- an exchange in which the post was sent to this peer
+pub record PostSent (e : Endpoint) (dest : List ℕ) (post : Post) (x : Exchanged) : Type 0 where
   pub door : value_of dest e.doors ≡ Some x.address
   pub secret : List ℕ
   pub peer : value_of dest e.secrets ≡ Some secret
   pub sends : SendsPost e.me dest x.address e.secret post x.bytes
-  pub came : CameBack e dest secret post x.answer reply
+
+-- and this came back of it
+pub record PostAnswered (e : Endpoint) (dest : List ℕ) (post : Post) (reply : Option PostReply) (x : Exchanged) : Type 0 where
+  pub sent : PostSent e dest post x
+  pub came : CameBack e dest sent.secret post x.answer reply
 
 -- where the link tells its exchanges, this one was made, and no other
 abbrev pub PostsIt : Endpoint → List ℕ → Post → Option PostReply → Exchanges → Exchanges → Type 0
 PostsIt e dest post reply before now =
-    ForSome before.made (λ all. (x : Exchanged) × (now.made ≡ Some (all ++ x ∷ [])) × PostSent e dest post reply x)
+    ForSome before.made (λ all. (x : Exchanged) × (now.made ≡ Some (all ++ x ∷ [])) × PostAnswered e dest post reply x)
+
+-- no exchange was made, or this one, where the link tells it
+abbrev pub PostsAtMost : Endpoint → List ℕ → Post → Exchanges → Exchanges → Type 0
+PostsAtMost e dest post before now =
+    (now ≡ before) ⊎ ((x : Exchanged) × ForSome before.made (λ all. now.made ≡ Some (all ++ x ∷ [])) × PostSent e dest post x)

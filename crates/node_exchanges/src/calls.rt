@@ -1,7 +1,7 @@
 // A live call to a peer.
 ghost use Rattle.std.specs.Prelude.{◌≡◌, ◌≤◌, ◌<◌, Ok, IfOk};
 ghost use Rattle.io_edge.specs.Edge.{Rose};
-ghost use Rattle.node_exchanges.specs.Calls.{came_by, came_in, came_with, chain_length, if_answer_to, lost_by_one, refused_by_one, CallsIt, CallsMade, FailsOnly};
+ghost use Rattle.node_exchanges.specs.Calls.{came_by, came_in, came_with, chain_length, if_answer_to, lost_by_one, refused_by_one, CallsIt, CallsMade, FailsOnly, SendsAtMost};
 ghost use Rattle.node_exchanges.specs.Endpoints.{at_place};
 
 use crate::exchanges::{Back, exchange};
@@ -74,7 +74,7 @@ fn chain_length(set: &SetMessage) -> usize
 }
 
 /// Makes a live call: the peer's answer, or why there is none. The gate is told of it before and after. A peer that isn't
-/// known is answered as memory that lacks.
+/// known is answered as memory that lacks. The call is sent once at most.
 pub fn call<L: Link, G: Gate>(
     alloc: Global,
     place: &Place,
@@ -84,6 +84,7 @@ pub fn call<L: Link, G: Gate>(
 ) -> Result<Result<AnswerMessage, Why>, NoMemory>
     requires from { set.now.caller ≡ (at_place place.now).me }
     ensures came { IfOk result (λ came. CallsIt (at_place place.now) set.now came (L.exchanges link.old) (L.exchanges link.new)) }
+    ensures sends { SendsAtMost (at_place place.now) set.now (L.exchanges link.old) (L.exchanges link.new) }
     ensures calls { CallsMade (at_place place.now) (lost_by_one result) (refused_by_one result) (L.exchanges link.old) (L.exchanges link.new) }
     ensures rose { 0 < lost_by_one result → Rose (L.exchanges link.old).faults (L.exchanges link.new).faults }
     ensures failure { IfOk result FailsOnly }

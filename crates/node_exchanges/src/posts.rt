@@ -2,7 +2,7 @@
 ghost use Rattle.std.specs.Prelude.{◌≡◌, ◌≤◌, IfOk};
 ghost use Rattle.wire_bytes.specs.Sending.{receiver_of, sender_of};
 ghost use Rattle.node_exchanges.specs.Endpoints.{at_place};
-ghost use Rattle.node_exchanges.specs.Posts.{PostsIt, said_by, said_with};
+ghost use Rattle.node_exchanges.specs.Posts.{PostsAtMost, PostsIt, said_by, said_with};
 
 use crate::exchanges::{Back, exchange};
 use crate::place::{Place, peer_of};
@@ -43,7 +43,7 @@ fn said_with(back: Result<Back, NoMemory>) -> Result<Option<PostReply>, NoMemory
 }
 
 /// Sends the post to the peer, and what came back of it, if that says anything. A peer that isn't known is answered as memory
-/// that lacks.
+/// that lacks. The post is sent once at most.
 pub fn post_to<L: Link>(
     alloc: Global,
     place: &Place,
@@ -53,6 +53,7 @@ pub fn post_to<L: Link>(
 ) -> Result<Option<PostReply>, NoMemory>
     requires from { sender_of post.now ≡ (at_place place.now).me }
     requires goes { receiver_of post.now ≡ dest.now }
+    ensures sends { PostsAtMost (at_place place.now) dest.now post.now (L.exchanges link.old) (L.exchanges link.new) }
     ensures sent { IfOk result (λ reply. PostsIt (at_place place.now) dest.now post.now reply (L.exchanges link.old) (L.exchanges link.new)) }
     ensures counted { (L.exchanges link.old).faults ≤ (L.exchanges link.new).faults }
 {

@@ -18,4 +18,4 @@ returns g c =
     })
     c.exchange-back.ensures.made in
     let so = subst (λ (came : Came). IsCalled e set before now came) (sym c.came_with.ensures) made in
-    record { came = so.came; calls = so.calls; rose = so.rose; failure = so.failure; counted = c.exchange-back.ensures.counted }
+    record { came = so.came; sends = so.sends; calls = so.calls; rose = so.rose; failure = so.failure; counted = c.exchange-back.ensures.counted }
