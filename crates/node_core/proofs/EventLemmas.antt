@@ -1,7 +1,7 @@
 -- What holds of each event that a service makes for a worker.
-use Rattle.std.proofs.Common.{◌≡◌, ◌+◌, ◌≤◌, ℕ, Bool, true, false, List, Option, Some, None, IfSome, IsSomeAnd, length, refl, ap, ◌∙◌, arith}
+use Rattle.std.proofs.Common.{◌≡◌, ◌+◌, ◌≤◌, ℕ, Bool, true, false, List, Option, Some, None, IfSome, IsSomeAnd, length, refl, sym, ap, ◌∙◌, arith}
 use Rattle.lang_base.specs.Memory.{Unless}
-use Rattle.service_events.specs.Commits.{live_rows}
+use Rattle.service_events.specs.Commits.{is_live_row, live_rows}
 use Rattle.service_events.specs.Event.{event, is_lacking, Happens, MayHappen}
 use Rattle.service_events.specs.State.{Kept, After, after, me}
 use Rattle.service_events.specs.declared.event.Done.{Done}
@@ -11,16 +11,20 @@ use Rattle.service_events.specs.declared.event.Event.TheVariants as events
 use Rattle.service_core.proofs.HandedOn.{event_answers_none, RunsNoRequest}
 use Rattle.service_core.proofs.GrowthLaws.{grown}
 use Rattle.service_core.specs.Answers.{Answers}
+use Rattle.node_core.proofs.OrderLemmas.{counts_orders}
 use Rattle.node_core.proofs.SinceLemmas.{since_grown}
 use Rattle.node_core.proofs.CommitLemmas.{answered, answered_open, counted, counted_open, counts, counts_open, flies, gets, gets_open}
-use Rattle.node_core.specs.Closings.{live_since}
+use Rattle.node_core.specs.Closings.{live_since, told_since}
 use Rattle.node_core.specs.Doings.{commits, FindsFlight, HasReceipts, IsDone, IsOpen, IsThere, MayAsk, MayCommit}
 use Rattle.node_core.specs.Memos.{committed_by, count_of, memo_of, noted_by, IsGivenReceipt, IsIn}
-use Rattle.node_core.specs.Notes.{noted, turn_of, unturned}
+use Rattle.node_core.specs.Notes.{made_after, noted, noted_at, one_more, turn_of, unturned}
+use Rattle.node_core.specs.Orders.{is_order_row, order_written, with_note}
 use Rattle.node_core.specs.declared.memos.Memo.{Memo}
 use Rattle.node_core.specs.declared.notes.Begun.{Begun}
 use Rattle.node_core.specs.declared.notes.Notes.{Notes}
+use Rattle.node_core.specs.declared.notes.Turn.{Turn}
 use Rattle.node_core.specs.declared.notes.Turn.TheVariants as turns
+use Rattle.node_core.specs.declared.orders.OrderNote.{OrderNote}
 use Rattle.node_core.specs.declared.receipt.Receipt.{Receipt}
 use Rattle.node_core.specs.declared.receipts.Committed.{Committed}
 
@@ -47,12 +51,20 @@ gone_done s begun (events.CallFailed flight number why) may none = (lost s begun
 gone_done s begun (events.Abandon flight) may none = (lost s begun flight may none, refl)
 gone_done s begun e may none = absurd (none tt)
 
-pub gone_noted : (s : Kept) (me : List ℕ) (before : Notes) (e : Event) → ¬ FindsFlight s before.begun e
-    → record before { begun = None; turn = Some turns.Gone } ≡ noted me before e done.Gone
-gone_noted s me before (events.CallAnswered flight a) none = refl
-gone_noted s me before (events.CallFailed flight number why) none = refl
-gone_noted s me before (events.Abandon flight) none = refl
-gone_noted s me before e none = absurd (none tt)
+pub gone_noted : (s : Kept) (before : Notes) (e : Event) → ¬ FindsFlight s before.begun e
+    → record before { begun = None; turn = Some turns.Gone } ≡ noted_at s s before e done.Gone
+gone_noted s before (events.CallAnswered flight a) none = refl
+gone_noted s before (events.CallFailed flight number why) none = refl
+gone_noted s before (events.Abandon flight) none = refl
+gone_noted s before e none = absurd (none tt)
+
+-- no order was written
+pub gone_counts : (s : Kept) (begun : Option Begun) (e : Event) (amount : ℕ) → ¬ FindsFlight s begun e
+    → amount ≡ amount + (commits done.Gone + count_of (order_written s s e))
+gone_counts s begun (events.CallAnswered flight a) amount none = omega arith
+gone_counts s begun (events.CallFailed flight number why) amount none = omega arith
+gone_counts s begun (events.Abandon flight) amount none = omega arith
+gone_counts s begun e amount none = absurd (none tt)
 
 pub gone_receipts : (s : Kept) (secret : List ℕ) (begun : Option Begun) (e : Event) (had : List Receipt) → HasReceipts s secret begun e done.Gone had had
 gone_receipts s secret begun (events.Arrive o q i) had = refl
@@ -93,10 +105,18 @@ module _ (s t : Kept) (begun : Option Begun) where
   counts_by e d may there happens h = omega (arith, ap length (silent s t e d tt happens))
 
   -- from each index within the journal on
-  pub since_by : (first : ℕ) (e : Event) (d : Done) → first ≤ length s.journal → MayAsk s begun e → FindsFlight s begun e → Happens e s d t → Answers s e d t
+  since_by : (first : ℕ) (e : Event) (d : Done) → first ≤ length s.journal → MayAsk s begun e → FindsFlight s begun e → Happens e s d t → Answers s e d t
       → live_since first t ≡ live_since first s + count_of (committed_by begun (memo_of e) d)
   since_by first e d within may there happens h =
-      since_grown first (count_of (committed_by begun (memo_of e) d)) s t within (grown s t e d happens) (counts_by e d may there happens h)
+      since_grown is_live_row first (count_of (committed_by begun (memo_of e) d)) s t within (grown s t e d happens) (counts_by e d may there happens h)
+
+  -- with as many orders more as were written
+  pub told_by : (first : ℕ) (e : Event) (d : Done) → first ≤ length s.journal → MayAsk s begun e → FindsFlight s begun e → Happens e s d t → Answers s e d t
+      → told_since first t ≡ told_since first s + (count_of (committed_by begun (memo_of e) d) + count_of (order_written s t e))
+  told_by first e d within may there happens h =
+      let lives = since_by first e d within may there happens h in
+      let orders = since_grown is_order_row first (count_of (order_written s t e)) s t within (grown s t e d happens) (counts_orders s t e d happens h) in
+      omega (arith, lives, orders)
 
   pub counted_by : (e : Event) (d : Done) → FindsFlight s begun e → Answers s e d t → count_of (committed_by begun (memo_of e) d) ≡ commits d
   counted_by (events.Arrive o q i) (done.Arrive r) there h = counted q i r
@@ -156,6 +176,21 @@ noted_so s t me before events.Step (done.Step r) h = refl
 noted_so s t me before (events.Order command token who i) (done.Order r) h = refl
 noted_so s t me before e d h = absurd h
 
+-- an event that a service made is counted
+made_one : (s t : Kept) (n : ℕ) (e : Event) (d : Done) → Answers s e d t → made_after n d ≡ one_more n
+made_one s t n (events.Arrive o q i) (done.Arrive r) h = refl
+made_one s t n (events.CallAnswered flight a) (done.CallAnswered r) h = refl
+made_one s t n (events.CallFailed flight number why) (done.CallFailed r) h = refl
+made_one s t n (events.Abandon flight) (done.Abandon found) h = refl
+made_one s t n (events.Take set i) (done.Take r) h = refl
+made_one s t n (events.TakeAnswer a) (done.TakeAnswer r) h = refl
+made_one s t n (events.NextPost dest) (done.NextPost name) h = refl
+made_one s t n (events.WritePost name) (done.WritePost r) h = refl
+made_one s t n (events.Posted p reply) (done.Posted r) h = refl
+made_one s t n events.Step (done.Step r) h = refl
+made_one s t n (events.Order command token who i) (done.Order r) h = refl
+made_one s t n e d h = absurd h
+
 -- ---- by what was kept of it
 
 -- what was handed out by that is what was committed
@@ -166,12 +201,34 @@ committed_so before ready memo e d o same is by =
 
 -- and what was noted by that, and of how it was turned away, is all that is noted
 pub notes_so : (s t : Kept) (name : List ℕ) (before ready left last : Notes) (memo : Memo) (e : Event) (d : Done) → Answers s e d t → name ≡ me t → ready ≡ before
-    → memo ≡ memo_of e → left ≡ noted_by name ready memo d → last ≡ left → record last { turn = turn_of d } ≡ noted (me t) before e d
+    → memo ≡ memo_of e → left ≡ noted_by name ready memo d → last ≡ left
+    → record last { turn = turn_of d; made = one_more last.made } ≡ noted (me t) before e d
 notes_so s t name before ready left last memo e d h named same is by then =
     let of_it : noted_by name ready memo d ≡ noted_by (me t) before (memo_of e) d =
     ap (λ (n : List ℕ). noted_by n ready memo d) named ∙ ap (λ (n : Notes). noted_by (me t) n memo d) same ∙ ap (λ (m : Memo). noted_by (me t) before m d) is in
     let all : last ≡ unturned (me t) before e d = then ∙ by ∙ of_it ∙ noted_so s t (me t) before e d h in
-    ap (λ (n : Notes). record n { turn = turn_of d }) all
+    ap (λ (n : Notes). record n { turn = turn_of d; made = one_more n.made }) all
+    ∙ ap (λ (m : ℕ). record (noted (me t) before e d) { made = m }) (sym (made_one s t before.made e d h))
+
+-- with the order that was written
+with_order : (n last final : Notes) (turn : Option Turn) (written o : Option OrderNote) → record last { turn = turn; made = one_more last.made } ≡ n
+    → final ≡ record last { orders = with_note written last.orders } → written ≡ o
+    → record final { turn = turn; made = one_more final.made } ≡ record n { orders = with_note o n.orders }
+with_order n last final turn written o is then same =
+    ap (λ (m : Notes). record m { turn = turn; made = one_more m.made }) then
+    ∙ ap (λ (w : Option OrderNote). record last { turn = turn; made = one_more last.made; orders = with_note w last.orders }) same
+    ∙ ap (λ (m : Notes). record m { orders = with_note o m.orders }) is
+
+-- all that is noted
+pub all_noted : (s t : Kept) (before last final : Notes) (e : Event) (d : Done) (written : Option OrderNote)
+    → record last { turn = turn_of d; made = one_more last.made } ≡ noted (me t) before e d
+    → final ≡ record last { orders = with_note written last.orders } → written ≡ order_written s t e
+    → record final { turn = turn_of d; made = one_more final.made } ≡ noted_at s t before e d
+all_noted s t before last final e d written is then same = with_order (noted (me t) before e d) last final (turn_of d) written (order_written s t e) is then same
+
+pub orders_noted : (s t : Kept) (before now : Notes) (e : Event) (d : Done) → now ≡ noted_at s t before e d
+    → now.orders ≡ with_note (order_written s t e) before.orders
+orders_noted s t before now e d is = ap (λ (n : Notes). n.orders) is
 
 -- ---- the room of a receipt
 

@@ -1,9 +1,13 @@
+pub mod HandedOn
 pub mod Places
 pub mod SearchLemmas
+pub mod NodeLemmas
 pub mod AskedLemmas
 pub mod ApartLemmas
 pub mod TwiceLemmas
 pub mod CommitLemmas
+pub mod OrderRowLaws
+pub mod OrderLemmas
 pub mod EventLemmas
 pub mod WholeLemmas
 pub mod SinceLemmas

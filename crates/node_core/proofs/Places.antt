@@ -193,3 +193,10 @@ pub each_found : {A X : Type 0} (live : X → Bool) (xss : List (List X)) (f : A
 each_found live xss f named all apart many q h =
     find_named f named q
     (each_named live xss (map f named) (all_live live xss f named all) (apart_distinct f named apart) (length-map named f ∙ many) q h)
+
+-- and they are no more than there are live ones
+pub few_named : {A X : Type 0} (live : X → Bool) (xss : List (List X)) (f : A → Spot) (named : List A) → NameLive live xss f named → NameApart f named
+    → length named ≤ sum_by (lives live) xss
+few_named live xss f named all apart =
+    let few = at_most live xss (map f named) (all_live live xss f named all) (apart_distinct f named apart) in
+    omega (arith, few, length-map named f)

@@ -1,12 +1,16 @@
 -- What services and receipts come to at the end.
-use Rattle.std.specs.Prelude.{ℕ, ◌≡◌, ◌+◌, ◌<◌, ◌≤◌, true, List, [], ◌∷◌, Option, Some, IsSomeAnd, drop, find, get_or, length, map, position, slice_get}
+use Rattle.std.specs.Prelude.{ℕ, ◌≡◌, ◌+◌, ◌<◌, ◌≤◌, Bool, true, List, [], ◌∷◌, Option, Some, IsSomeAnd, drop, filter, find, get_or, length, map, position, slice_get}
 use Rattle.std.specs.Option.{option_map_or}
 use Rattle.lang_base.specs.Texts.{same_text}
 use Rattle.lang_lists.specs.Keys.{call_key}
+use Rattle.journal_rows.specs.declared.orders.OrderedRow.{OrderedRow}
 use Rattle.journal_rows.specs.declared.row.Row.{Row}
-use Rattle.service_events.specs.Commits.{is_live_row, live_rows}
+use Rattle.journal_rows.specs.declared.row.Row.TheVariants.{Ordered}
+use Rattle.service_events.specs.Commits.{is_live_row}
 use Rattle.service_events.specs.State.{Kept, me}
+use Rattle.node_core.specs.Orders.{is_order_row, order_note}
 use Rattle.node_core.specs.Receipts.{AgreesWith}
+use Rattle.node_core.specs.declared.orders.OrderNote.{OrderNote}
 use Rattle.node_core.specs.declared.receipt.Receipt.{Receipt}
 
 -- the service of a name; where several have it, the first
@@ -31,15 +35,31 @@ row_count s = length s.journal
 abbrev pub opened_at : List Kept → List ℕ
 opened_at services = map row_count services
 
--- how many live requests its journal answers from this index on
-abbrev pub live_since : ℕ → Kept → ℕ
-live_since first s = length (live_rows (drop first s.journal))
+-- how many rows of a kind its journal has from this index on
+abbrev pub kind_since : (Row → Bool) → ℕ → Kept → ℕ
+kind_since kind first s = length (filter kind (drop first s.journal))
 
--- how many they answer together, each from the index at its place on
-abbrev pub lives_since : List Kept → List ℕ → ℕ
-lives_since [] since = 0
-lives_since (s ∷ services) [] = live_since 0 s + lives_since services []
-lives_since (s ∷ services) (first ∷ since) = live_since first s + lives_since services since
+-- how many live requests it answers from there on
+abbrev pub live_since : ℕ → Kept → ℕ
+live_since first s = kind_since is_live_row first s
+
+-- how many orders it has from there on
+abbrev pub orders_since : ℕ → Kept → ℕ
+orders_since first s = kind_since is_order_row first s
+
+-- how many rows of a kind they have together, each from the index at its place on
+abbrev pub kinds_since : (Row → Bool) → List Kept → List ℕ → ℕ
+kinds_since kind [] since = 0
+kinds_since kind (s ∷ services) [] = kind_since kind 0 s + kinds_since kind services []
+kinds_since kind (s ∷ services) (first ∷ since) = kind_since kind first s + kinds_since kind services since
+
+-- how many live requests it answers and how many orders it has from there on
+abbrev pub told_since : ℕ → Kept → ℕ
+told_since first s = live_since first s + orders_since first s
+
+-- how many they answer and have together
+abbrev pub all_told_since : List Kept → List ℕ → ℕ
+all_told_since services since = kinds_since is_live_row services since + kinds_since is_order_row services since
 
 -- from which index on the journal of the service of a name counts; where several have it, that of the first
 abbrev pub since_of : List ℕ → List ℕ → List Kept → ℕ
@@ -54,25 +74,40 @@ AgreesSince since services r = Agrees services r × (since_of r.service since se
 abbrev pub AllAgreeSince : List ℕ → List Kept → List Receipt → Type 0
 AllAgreeSince since services receipts = (at : ℕ) (r : Receipt) → slice_get receipts at ≡ Some r → AgreesSince since services r
 
--- ---- receipts of one answer
+-- ---- what is of one row
 
 -- they name one service and index
-abbrev pub SamePlace : Receipt → Receipt → Type 0
-SamePlace r t = (r.service ≡ t.service) × (r.index ≡ t.index)
+abbrev pub SameRow : {A : Type 0} → (A → List ℕ) → (A → ℕ) → A → A → Type 0
+SameRow service index r t = (service r ≡ service t) × (index r ≡ index t)
 
 -- the key under which it is found, by the service's name and the index
-abbrev pub place_key : Receipt → ℕ
-place_key r = call_key r.service r.index
+abbrev pub row_key : {A : Type 0} → (A → List ℕ) → (A → ℕ) → A → ℕ
+row_key service index r = call_key (service r) (index r)
+
+-- no two of them are of one row
+abbrev pub ApartBy : {A : Type 0} → (A → List ℕ) → (A → ℕ) → List A → Type 0
+ApartBy {A} service index xs =
+    (at other : ℕ) (r t : A) → slice_get xs at ≡ Some r → slice_get xs other ≡ Some t → SameRow service index r t → at ≡ other
+
+-- receipts of one answer
+abbrev pub SamePlace : Receipt → Receipt → Type 0
+SamePlace r t = SameRow (λ (x : Receipt). x.service) (λ (x : Receipt). x.index) r t
 
 -- no two of them are of one answer
 abbrev pub AreApart : List Receipt → Type 0
-AreApart receipts =
-    (at other : ℕ) (r t : Receipt) → slice_get receipts at ≡ Some r → slice_get receipts other ≡ Some t → SamePlace r t → at ≡ other
+AreApart receipts = ApartBy (λ (x : Receipt). x.service) (λ (x : Receipt). x.index) receipts
 
 -- it stands among them
 pub record IsAmong (r : Receipt) (receipts : List Receipt) : Type 0 where
   pub at : ℕ
   pub there : slice_get receipts at ≡ Some r
+
+-- it is the first of them that doesn't agree, or is of an answer of before that was opened: it stands among them, and each before it agrees
+pub record IsFirstToDiffer (since : List ℕ) (services : List Kept) (r : Receipt) (receipts : List Receipt) : Type 0 where
+  pub at : ℕ
+  pub there : slice_get receipts at ≡ Some r
+  pub differs : ¬ AgreesSince since services r
+  pub before : (k : ℕ) (t : Receipt) → k < at → slice_get receipts k ≡ Some t → AgreesSince since services t
 
 -- they stand among them, this one before that one
 pub record AreAmong (r t : Receipt) (receipts : List Receipt) : Type 0 where
@@ -107,3 +142,31 @@ pub record IsWholeSince (since : List ℕ) (services : List Kept) (receipts : Li
   pub each : (k : ℕ) (s : Kept) (place : ℕ) (row : Row) → slice_get services k ≡ Some s → get_or since k 0 ≤ place → slice_get s.journal place ≡ Some row
       → is_live_row row ≡ true → HasReceipt s place row receipts
   pub once : AreApart receipts
+
+-- ---- orders
+
+-- its order's row stands at its index in the journal of the service that it names, and not before that was opened
+abbrev pub StandsSince : List ℕ → List Kept → OrderNote → Type 0
+StandsSince since services n =
+    IsSomeAnd (service_of n.service services) (λ (s : Kept). slice_get s.journal n.index ≡ Some (Ordered n.row))
+    × (since_of n.service since services ≤ n.index)
+
+-- each of them does
+abbrev pub AllStandSince : List ℕ → List Kept → List OrderNote → Type 0
+AllStandSince since services orders = (at : ℕ) (n : OrderNote) → slice_get orders at ≡ Some n → StandsSince since services n
+
+-- no two of them are of one row
+abbrev pub OrdersApart : List OrderNote → Type 0
+OrdersApart orders = ApartBy (λ (x : OrderNote). x.service) (λ (x : OrderNote). x.index) orders
+
+-- the note of the order at this place of this service's journal is one of these
+pub record HasNote (s : Kept) (place : ℕ) (row : OrderedRow) (orders : List OrderNote) : Type 0 where
+  pub at : ℕ
+  pub there : slice_get orders at ≡ Some (order_note (me s) place row)
+
+-- Each note is of an order that a journal got since it was opened; each such order has a note; and no two notes are of one order.
+pub record AreNoted (since : List ℕ) (services : List Kept) (orders : List OrderNote) : Type 0 where
+  pub stand : AllStandSince since services orders
+  pub each : (k : ℕ) (s : Kept) (place : ℕ) (row : OrderedRow) → slice_get services k ≡ Some s → get_or since k 0 ≤ place
+      → slice_get s.journal place ≡ Some (Ordered row) → HasNote s place row orders
+  pub once : OrdersApart orders

@@ -41,7 +41,7 @@ given_by before event (done.TakeAnswer result) = gave event (done.TakeAnswer res
 given_by before event (done.Order result) = gave event (done.Order result)
 given_by before event answer = before
 
--- what is noted, but for how the event was turned away
+-- what is noted, but for how the event was turned away, and that it was made
 abbrev pub noted_by : List ℕ → Notes → Memo → Done → Notes
 noted_by me before (memos.Arrival o q i) (done.Arrive result) = record before {
   begun = begun_by me (events.Arrive o q i) before.begun result;
@@ -78,9 +78,9 @@ committed_by begun (memos.Failed why) (done.CallFailed result) = committed_of be
 committed_by begun memo answer = None
 
 -- how many
-abbrev pub count_of : Option Committed → ℕ
+abbrev pub count_of : {A : Type 0} → Option A → ℕ
 count_of None = 0
-count_of (Some c) = 1
+count_of (Some a) = 1
 
 -- the journal has its answer, at its place
 abbrev pub IsIn : List Row → Committed → Type 0

@@ -1,5 +1,5 @@
 -- What a pass notes of an event.
-use Rattle.std.specs.Prelude.{ℕ, ◌+◌, ◌-◌, ◌^◌, List, Option, Some, None, Result, Ok, Err, min, option_map}
+use Rattle.std.specs.Prelude.{ℕ, ◌+◌, ◌-◌, ◌^◌, List, [], Option, Some, None, Result, Ok, Err, min, option_map}
 use Rattle.repair_messages.specs.declared.messages.SetMessage.{SetMessage}
 use Rattle.repair_messages.specs.declared.posts.Post.{Post}
 use Rattle.repair_messages.specs.declared.posts.Post.TheVariants as posts
@@ -9,6 +9,7 @@ use Rattle.repair_messages.specs.declared.refusals.Refusal.{Refusal}
 use Rattle.call_registers.specs.declared.register.Why.{Why}
 use Rattle.call_registers.specs.declared.register.Why.TheVariants as whys
 use Rattle.service_events.specs.Refusals.{refusal_in, refusal_of}
+use Rattle.service_events.specs.State.{Kept, me}
 use Rattle.service_events.specs.declared.answers.Arrived.{Arrived}
 use Rattle.service_events.specs.declared.answers.Arrived.TheVariants as arrived
 use Rattle.service_events.specs.declared.answers.Posted.{Posted}
@@ -16,6 +17,7 @@ use Rattle.service_events.specs.declared.event.Done.{Done}
 use Rattle.service_events.specs.declared.event.Done.TheVariants as done
 use Rattle.service_events.specs.declared.event.Event.{Event}
 use Rattle.service_events.specs.declared.event.Event.TheVariants as events
+use Rattle.node_core.specs.Orders.{order_written, with_note}
 use Rattle.node_core.specs.declared.notes.Begun.{Begun}
 use Rattle.node_core.specs.declared.notes.Gave.{Gave}
 use Rattle.node_core.specs.declared.notes.Notes.{Notes}
@@ -137,13 +139,20 @@ abbrev pub refused_after : ℕ → Event → Done → ℕ
 refused_after n (events.CallFailed flight number why) (done.CallFailed result) = if_accepted n (refused_by n why) result
 refused_after n event answer = n
 
+-- ---- events
+
+-- one more was made; where the worker's flight wasn't there, none was
+abbrev pub made_after : ℕ → Done → ℕ
+made_after n done.Gone = n
+made_after n answer = one_more n
+
 -- ---- all of it
 
 -- of a worker that has made no event yet
 abbrev pub no_notes : Notes
-no_notes = record { begun = None; turn = None; posting = None; gave = None; lost = 0; refused = 0 }
+no_notes = record { begun = None; turn = None; posting = None; gave = None; orders = []; lost = 0; refused = 0; made = 0 }
 
--- of an event at the service of this name
+-- of an event at the service of this name, but for the order that it wrote
 
 abbrev pub noted : List ℕ → Notes → Event → Done → Notes
 noted me before event answer = record {
@@ -151,10 +160,16 @@ noted me before event answer = record {
   turn = turn_of answer;
   posting = posting_of before.posting event answer;
   gave = gave_after before.gave event answer;
+  orders = before.orders;
   lost = lost_after before.lost event answer;
   refused = refused_after before.refused event answer;
+  made = made_after before.made answer;
 }
 
--- all but how it was turned away
+-- of an event that found this of the service and left that, with the order that it wrote
+abbrev pub noted_at : Kept → Kept → Notes → Event → Done → Notes
+noted_at s t before event answer = record (noted (me t) before event answer) { orders = with_note (order_written s t event) before.orders }
+
+-- all but the order that it wrote, how it was turned away, and that it was made
 abbrev pub unturned : List ℕ → Notes → Event → Done → Notes
-unturned me before event answer = record (noted me before event answer) { turn = before.turn }
+unturned me before event answer = record (noted me before event answer) { turn = before.turn; made = before.made }

@@ -1,14 +1,16 @@
 // Taking nodes and passes apart, and comparing receipts with journals.
-ghost use Rattle.std.specs.Prelude.{◌≡◌, ◌<◌, ◌≤◌, ◌↔◌, ℕ, Some, None, find, flat_map, get_or, length, position, slice_get, vec_len, IfOk, IfSome, IfNone, IsErrOf, IsTrue, OnOk, option_map};
+ghost use Rattle.std.specs.Prelude.{◌≡◌, ◌+◌, ◌<◌, ◌≤◌, ◌↔◌, ℕ, Some, None, find, flat_map, get_or, length, position, slice_get, vec_len, IfOk, IfSome, IfNone, IsErrOf, IsTrue, OnOk, option_map};
 ghost use Rattle.std.specs.Option.{option_copied};
 ghost use Rattle.journal_rows.specs.Words.{asked, asked_step};
 ghost use Rattle.lang_base.specs.Texts.{same_text};
 ghost use Rattle.service_events.specs.State.{me};
-ghost use Rattle.node_core.specs.Closings.{live_since, lives_since, service_of, since_of, Agrees, AgreesSince, AllAgreeSince, AreAmong, IsAmong, IsWholeSince, SamePlace};
+ghost use Rattle.node_core.specs.Closings.{all_told_since, service_of, told_since, since_of, Agrees, AgreesSince, AllAgreeSince, AreAmong, IsAmong, IsFirstToDiffer, IsWholeSince, AllStandSince, AreNoted, OrdersApart, SamePlace};
 ghost use Rattle.node_core.specs.Receipts.{answered_id, AgreesWith, WasAskedSo};
 ghost use Rattle.node_core.specs.declared.closing.CloseRefused.TheVariants as refusals;
 
 use crate::nodes::{Node, Nodes};
+use crate::noted::are_noted;
+use crate::orders::OrderNote;
 use crate::pass::Pass;
 use crate::receipt::Receipt;
 use crate::state::NodeState;
@@ -20,22 +22,23 @@ use service_core::Service;
 use std::alloc::Global;
 use std::sync::ledger::{Ledger, Share};
 
-/// The services of a run that ended, and the receipts of all its workers: one for each live request that was answered since the
-/// nodes were opened.
+/// The services of a run that ended, and the receipts and the notes of all its workers: a receipt for each live request that was
+/// answered since the nodes were opened, and a note for each order that was carried out since then.
 #[derive(Drop)]
 pub struct Closed {
     pub services: Vec<Service>,
     pub receipts: Vec<Receipt>,
+    pub orders: Vec<OrderNote>,
 }
 
 /// Why a run wasn't closed.
 #[derive(Drop)]
 pub enum CloseRefused {
     /// There was no memory for it. Nodes and passes are gone. It is answered also where a node says that its journal had
-    /// another number of rows when it was opened.
+    /// another number of rows when it was opened, and where the notes of orders aren't those of the journals.
     NoMemory,
-    /// This receipt doesn't agree with the journal of the service that it names, or is of an answer of before the node was
-    /// opened.
+    /// This receipt is the first that doesn't agree with the journal of the service that it names, or is of an answer of before
+    /// the node was opened.
     Differs {
         receipt: Receipt,
         services: Vec<Service>,
@@ -73,10 +76,14 @@ fn left_of<R: Ledger>(
     place: usize,
 ) -> Result<(Share<R>, Service), NoMemory>
     ensures part { IfOk result (λ r. r.0.parts ≡ 1) }
-    ensures amount { IfOk result (λ r. r.0.amount ≡ live_since (get_or since.now place 0) r.1) }
+    ensures amount { IfOk result (λ r. r.0.amount ≡ told_since (get_or since.now place 0) r.1) }
     ensures within { OnOk result (place < length since.now) }
 {
-    let Node { state, work: _ } = node;
+    let Node {
+        name: _,
+        state,
+        work: _,
+    } = node;
     let NodeState {
         service,
         share,
@@ -101,7 +108,7 @@ fn gather_rows<R: Ledger>(
     requires parts { rest.parts ≡ 0 }
     requires none { rest.amount ≡ 0 }
     ensures parts { IfOk result (λ r. r.0.parts ≡ vec_len nodes) }
-    ensures amount { IfOk result (λ r. r.0.amount ≡ lives_since r.1.items since.now) }
+    ensures amount { IfOk result (λ r. r.0.amount ≡ all_told_since r.1.items since.now) }
     ensures len { IfOk result (λ r. vec_len r.1 ≡ vec_len nodes) }
     ensures reach { IfOk result (λ r. vec_len r.1 ≤ length since.now) }
 {
@@ -115,30 +122,34 @@ fn gather_rows<R: Ledger>(
     Ok((all, services))
 }
 
-// The receipts, and all shares of theirs as one.
+// The receipts, the notes of orders, and all shares of theirs as one.
 fn gather_receipts<Q: Ledger>(
     alloc: Global,
     rest: Share<Q>,
     passes: Vec<Pass<Q>>,
-) -> Result<(Share<Q>, Vec<Receipt>), NoMemory>
+) -> Result<(Share<Q>, Vec<Receipt>, Vec<OrderNote>), NoMemory>
     requires parts { rest.parts ≡ 0 }
     requires none { rest.amount ≡ 0 }
     ensures parts { IfOk result (λ r. r.0.parts ≡ vec_len passes) }
-    ensures amount { IfOk result (λ r. r.0.amount ≡ vec_len r.1) }
+    ensures amount { IfOk result (λ r. r.0.amount ≡ vec_len r.1 + vec_len r.2) }
     ensures receipts { IfOk result (λ r. r.1.items ≡ flat_map (λ p. p.receipts.items) passes.items) }
+    ensures orders { IfOk result (λ r. r.2.items ≡ flat_map (λ p. p.notes.orders) passes.items) }
 {
     let mut all = rest;
     let mut found = Vec::new(alloc);
+    let mut orders = Vec::new(alloc);
     for pass in passes {
         let Pass {
             share,
             mut receipts,
-            notes: _,
+            notes,
         } = pass;
+        let mut noted = notes.into_orders();
         all.merge(share);
         found.append(&mut receipts)?;
+        orders.append(&mut noted)?;
     }
-    Ok((all, found))
+    Ok((all, found, orders))
 }
 
 // How a row made the entry of this number, if it did.
@@ -217,7 +228,8 @@ fn is_named(service: &Service, name: &Name) -> bool
     service.setting().me.text().is(name.text())
 }
 
-fn service_of<'a>(services: &'a [Service], name: &Name) -> Option<&'a Service>
+/// The service of this name.
+pub(crate) fn service_of<'a>(services: &'a [Service], name: &Name) -> Option<&'a Service>
     ensures { option_map (λ s. s.now) result ≡ service_of name.now services.now }
 {
     services.iter().find(|service| is_named(service, name))
@@ -230,8 +242,8 @@ fn place_of(services: &[Service], name: &Name) -> Option<usize>
     services.iter().position(|service| is_named(service, name))
 }
 
-// From which index on the journal of the service of this name counts.
-fn since_of(services: &[Service], since: &[u64], name: &Name) -> u64
+/// From which index on the journal of the service of this name counts.
+pub(crate) fn since_of(services: &[Service], since: &[u64], name: &Name) -> u64
     requires { length services.now ≤ length since.now }
     ensures { result ≡ since_of name.now since.now services.now }
 {
@@ -263,6 +275,7 @@ fn first_differing(services: &[Service], since: &[u64], receipts: &[Receipt]) ->
     ensures none { IfNone result ((at : ℕ) (r : _) → slice_get receipts.now at ≡ Some r → AgreesSince since.now services.now r) }
     ensures some { IfSome result (λ at. (at < length receipts.now)
         × ((r : _) → slice_get receipts.now at ≡ Some r → ¬ AgreesSince since.now services.now r)) }
+    ensures first { IfSome result (λ at. (k : ℕ) (r : _) → k < at → slice_get receipts.now k ≡ Some r → AgreesSince since.now services.now r) }
 {
     for (at, receipt) in receipts.iter().enumerate() {
         if !agrees_since(services, since, receipt) {
@@ -272,22 +285,31 @@ fn first_differing(services: &[Service], since: &[u64], receipts: &[Receipt]) ->
     None
 }
 
-// Compares each receipt with the journals, and all with one another, where there are as many as answers.
+// Compares each receipt with the journals, and all with one another, where the notes of orders are compared, and there are as many
+// of both as there are answers and orders.
 fn compared(
     alloc: Global,
     since: &[u64],
     services: Vec<Service>,
     mut found: Vec<Receipt>,
+    orders: Vec<OrderNote>,
 ) -> Result<Closed, CloseRefused>
-    requires many { length found.items ≡ lives_since services.items since.now }
+    requires many { length found.items + length orders.items ≡ all_told_since services.items since.now }
     requires reach { vec_len services ≤ length since.now }
+    requires stand { AllStandSince since.now services.items orders.items }
+    requires apart { OrdersApart orders.items }
     ensures whole { IfOk result (λ closed. IsWholeSince since.now closed.services.items closed.receipts.items) }
     ensures len { IfOk result (λ closed. vec_len closed.services ≡ vec_len services) }
     ensures receipts { IfOk result (λ closed. closed.receipts.items ≡ found.items) }
+    ensures noted { IfOk result (λ closed. AreNoted since.now closed.services.items closed.orders.items) }
+    ensures orders { IfOk result (λ closed. closed.orders.items ≡ orders.items) }
     ensures differs { (r : _) (kept : _) → IsErrOf result (refusals.Differs r kept)
         → (¬ AgreesSince since.now kept.items r) × IsAmong r found.items }
+    ensures first { (r : _) (kept : _) → IsErrOf result (refusals.Differs r kept) → IsFirstToDiffer since.now kept.items r found.items }
+    ensures counted { (r : _) (kept : _) → IsErrOf result (refusals.Differs r kept) → length found.items + length orders.items ≡ all_told_since kept.items since.now }
     ensures twice { (r : _) (t : _) (kept : _) → IsErrOf result (refusals.Twice r t kept)
         → SamePlace r t × (AreAmong r t found.items × AllAgreeSince since.now kept.items found.items) }
+    ensures both_counted { (r : _) (t : _) (kept : _) → IsErrOf result (refusals.Twice r t kept) → length found.items + length orders.items ≡ all_told_since kept.items since.now }
 {
     if let Some(at) = first_differing(&services, since, &found) {
         let receipt = found.swap_remove(at);
@@ -306,13 +328,15 @@ fn compared(
     Ok(Closed {
         services,
         receipts: found,
+        orders,
     })
 }
 
 /// Takes the nodes and the passes of a run apart, once all its workers have ended, and compares each receipt with the journal of
 /// the service that it names. Where all agree, none is of an answer of before the nodes were opened, and no two are of one
 /// answer, each live request that a journal answers since then has exactly one receipt: none was lost and none counted
-/// twice, since the ledgers counted as many receipts as answers. The services are those of the nodes, in order.
+/// twice, since the ledgers counted as many receipts as answers. So has each order that a journal got since then exactly one
+/// note. The services are those of the nodes, in order.
 pub fn close<R: Ledger, Q: Ledger>(
     alloc: Global,
     nodes: Nodes<R, Q>,
@@ -323,11 +347,21 @@ pub fn close<R: Ledger, Q: Ledger>(
     ensures whole { IfOk result (λ closed. IsWholeSince nodes.since.items closed.services.items closed.receipts.items) }
     ensures len { IfOk result (λ closed. vec_len closed.services ≡ vec_len nodes.nodes) }
     ensures receipts { IfOk result (λ closed. closed.receipts.items ≡ flat_map (λ p. p.receipts.items) passes.items) }
+    ensures noted { IfOk result (λ closed. AreNoted nodes.since.items closed.services.items closed.orders.items) }
+    ensures orders { IfOk result (λ closed. closed.orders.items ≡ flat_map (λ p. p.notes.orders) passes.items) }
     ensures differs { (r : _) (services : _) → IsErrOf result (refusals.Differs r services) → ¬ AgreesSince nodes.since.items services.items r }
     ensures twice { (r : _) (t : _) (services : _) → IsErrOf result (refusals.Twice r t services)
         → SamePlace r t × (AgreesSince nodes.since.items services.items r × AgreesSince nodes.since.items services.items t) }
     ensures among { (r : _) (services : _) → IsErrOf result (refusals.Differs r services)
         → IsAmong r (flat_map (λ p. p.receipts.items) passes.items) }
+    ensures first { (r : _) (services : _) → IsErrOf result (refusals.Differs r services)
+        → IsFirstToDiffer nodes.since.items services.items r (flat_map (λ p. p.receipts.items) passes.items) }
+    ensures counted { (r : _) (services : _) → IsErrOf result (refusals.Differs r services)
+        → length (flat_map (λ p. p.receipts.items) passes.items) + length (flat_map (λ p. p.notes.orders) passes.items)
+        ≡ all_told_since services.items nodes.since.items }
+    ensures both_counted { (r : _) (t : _) (services : _) → IsErrOf result (refusals.Twice r t services)
+        → length (flat_map (λ p. p.receipts.items) passes.items) + length (flat_map (λ p. p.notes.orders) passes.items)
+        ≡ all_told_since services.items nodes.since.items }
     ensures two { (r : _) (t : _) (services : _) → IsErrOf result (refusals.Twice r t services)
         → AreAmong r t (flat_map (λ p. p.receipts.items) passes.items)
         × AllAgreeSince nodes.since.items services.items (flat_map (λ p. p.receipts.items) passes.items) }
@@ -345,8 +379,11 @@ pub fn close<R: Ledger, Q: Ledger>(
         no_receipts,
     } = books.into_inner();
     let (mut all_rows, services) = gather_rows(alloc, no_rows, nodes, &since)?;
-    let (mut all_receipts, found) = gather_receipts(alloc, no_receipts, passes)?;
+    let (mut all_receipts, found, orders) = gather_receipts(alloc, no_receipts, passes)?;
     rows.audit(&mut all_rows);
     receipts.audit(&mut all_receipts);
-    compared(alloc, &since, services, found)
+    if !are_noted(alloc, &services, &since, &orders) {
+        return Err(CloseRefused::NoMemory);
+    }
+    compared(alloc, &since, services, found, orders)
 }

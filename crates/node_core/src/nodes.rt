@@ -1,21 +1,24 @@
 // All nodes of a run, and the passes of its workers.
-ghost use Rattle.std.specs.Prelude.{◌≡◌, ◌+◌, ◌<◌, ℕ, [], vec_len, slice_get, None, Some, IfOk};
+ghost use Rattle.std.specs.Prelude.{◌≡◌, ◌+◌, ◌++◌, ◌<◌, ◌∷◌, ℕ, [], map, vec_len, slice_get, None, Some, IfOk, OnOk};
+ghost use Rattle.service_events.specs.State.{me};
 ghost use Rattle.node_core.specs.Closings.{opened_at};
 ghost use Rattle.node_core.specs.Notes.{no_notes};
 
 use crate::notes::{LastGave, Notes};
+use crate::orders::OrderNotes;
 use crate::pass::Pass;
 use crate::state::NodeState;
 use crate::tally::{Books, Tally};
-use lang_core::{NoMemory, Text};
+use lang_core::{Copied, Name, NoMemory, Text};
 use service_core::Service;
 use std::alloc::Global;
 use std::sync::ledger::{Blank, Ledger, Share};
 use std::sync::{Condvar, Mutex};
 
-/// A service behind a lock, and what its workers wait at.
+/// A service behind a lock, and what its workers wait at. Contracts see the service's name, and not what the lock guards.
 #[derive(Drop)]
 pub struct Node<R: Ledger> {
+    pub name: Name,
     pub state: Mutex<NodeState<R>>,
     pub work: Condvar,
 }
@@ -47,26 +50,29 @@ fn opened_at(alloc: Global, services: &[Service]) -> Result<Vec<u64>, NoMemory>
     Ok(since)
 }
 
-// The node of a service whose answers count from now on.
-fn new_node<R: Ledger>(service: Service, secret: Text, share: Share<R>) -> Node<R>
+// Adds the node of a service whose answers count from now on.
+fn add_node<R: Ledger>(
+    alloc: Global,
+    nodes: &mut Vec<Node<R>>,
+    service: Service,
+    secret: Text,
+    share: Share<R>,
+) -> Result<(), NoMemory>
     requires one_part { share.parts ≡ 1 }
     requires none { share.amount ≡ 0 }
+    ensures len { OnOk result (vec_len nodes.new ≡ vec_len nodes.old + 1) }
+    ensures names { OnOk result (map (λ n. n.name) nodes.new.items ≡ map (λ n. n.name) nodes.old.items ++ me service ∷ []) }
 {
-    let since = service.journal().len();
-    let state = NodeState {
-        service,
-        share,
-        secret,
-        stopped: false,
-        since,
-    };
-    Node {
-        state: Mutex::new(state),
+    let name = service.setting().me.copied(alloc)?;
+    nodes.push(Node {
+        name,
+        state: Mutex::new(NodeState::fresh(service, secret, share)),
         work: Condvar::new(),
-    }
+    })?;
+    Ok(())
 }
 
-// A node for each service, whose shares are cut from one that has a part for each. They come from the last on.
+// A node for each service, in order, whose shares are cut from one that has a part for each. They come from the last on.
 fn node_each<R: Ledger>(
     alloc: Global,
     mut services: Vec<Service>,
@@ -77,6 +83,7 @@ fn node_each<R: Ledger>(
     requires parts { rest.old.parts ≡ vec_len services }
     requires none { rest.old.amount ≡ 0 }
     ensures len { IfOk result (λ nodes. vec_len nodes ≡ vec_len services) }
+    ensures names { IfOk result (λ nodes. map (λ n. n.name) nodes.items ≡ map me services.items) }
     ensures parts { IfOk result (λ _. (rest.new.parts ≡ 0) × (rest.new.amount ≡ 0)) }
 {
     let mut nodes = Vec::with_capacity(alloc, services.len())?;
@@ -84,14 +91,15 @@ fn node_each<R: Ledger>(
         let Some(secret) = secrets.pop() else {
             unreachable!()
         };
-        nodes.push(new_node(service, secret, rest.split_off(1, 0)))?;
+        add_node(alloc, &mut nodes, service, secret, rest.split_off(1, 0))?;
     }
     nodes.reverse();
     Ok(nodes)
 }
 
-fn no_notes(gave: LastGave) -> Notes
-    requires { gave ≡ None }
+fn no_notes(gave: LastGave, orders: OrderNotes) -> Notes
+    requires gave { gave ≡ None }
+    requires orders { orders ≡ [] }
     ensures { result ≡ no_notes }
 {
     Notes {
@@ -99,8 +107,10 @@ fn no_notes(gave: LastGave) -> Notes
         turn: None,
         posting: None,
         gave,
+        orders,
         lost: 0,
         refused: 0,
+        made: 0,
     }
 }
 
@@ -122,7 +132,7 @@ fn passes_of<Q: Ledger>(
         all.push(Pass {
             share: rest.split_off(1, 0),
             receipts: Vec::new(alloc),
-            notes: no_notes(gave),
+            notes: no_notes(gave, OrderNotes::none(alloc)),
         })?;
     }
     Ok(all)
@@ -130,8 +140,8 @@ fn passes_of<Q: Ledger>(
 
 impl<R: Ledger, Q: Ledger> Nodes<R, Q> {
     /// A node for each service, in order, with its secret, and so many passes without receipts, of which each serves any node.
-    /// What a service answered before, of which its journal tells, is not counted. Each of the two ledgers, of answers and of
-    /// receipts, stands for one run alone: so what is counted in it is what this run's nodes and passes count.
+    /// What a service answered and was ordered before, of which its journal tells, is not counted. Each of the two ledgers, of rows
+    /// and of receipts with notes, stands for one run alone: so what is counted in it is what this run's nodes and passes count.
     pub fn open(
         alloc: Global,
         services: Vec<Service>,
@@ -148,6 +158,7 @@ impl<R: Ledger, Q: Ledger> Nodes<R, Q> {
         requires one_pass_each { Q.parts ≡ passes }
         requires secrets { vec_len secrets ≡ vec_len services }
         ensures nodes { IfOk result (λ o. vec_len o.nodes.nodes ≡ R.parts) }
+        ensures names { IfOk result (λ o. map (λ n. n.name) o.nodes.nodes.items ≡ map me services.items) }
         ensures passes { IfOk result (λ o. vec_len o.passes ≡ Q.parts) }
         ensures since { IfOk result (λ o. o.nodes.since.items ≡ opened_at services.items) }
         ensures fresh { IfOk result (λ o. (i : ℕ) (p : _) → slice_get o.passes.items i ≡ Some p → (p.receipts.items ≡ []) × (p.notes ≡ no_notes)) }

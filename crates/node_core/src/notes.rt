@@ -1,7 +1,8 @@
-// What a pass keeps of its worker's last events.
+// What a pass keeps of its worker's events.
 ghost use Rattle.std.specs.Prelude.{◌≡◌, None, Some, IfOk};
 ghost use Rattle.std.specs.Option.{option_copied};
 
+use crate::orders::{OrderNote, OrderNotes};
 use lang_core::{Inputs, Name, NoMemory, Origin, Request};
 use repair_messages::{PostName, RefusalWord};
 use service_events::{Done, Event, Posted};
@@ -129,10 +130,14 @@ pub struct Notes {
     pub posting: Option<Posting>,
     /// Its last request, message or order that was neither committed nor begun.
     pub gave: LastGave,
+    /// The orders that its services wrote for it.
+    pub orders: OrderNotes,
     /// How many calls it gave up as lost; the greatest number of 64 bits where it doesn't hold that.
     pub lost: u64,
     /// How many calls it gave up as refused, as far as 64 bits hold it.
     pub refused: u64,
+    /// How many events it made, as far as 64 bits hold it. Where its flight wasn't there, none was made.
+    pub made: u64,
 }
 
 impl Drop for Notes {
@@ -142,8 +147,29 @@ impl Drop for Notes {
             turn: _,
             posting: _,
             gave: _,
+            orders: _,
             lost: _,
             refused: _,
+            made: _,
         } = self;
+    }
+}
+
+impl Notes {
+    /// The notes of orders alone.
+    pub(crate) fn into_orders(self) -> Vec<OrderNote>
+        ensures { result.items ≡ self.orders }
+    {
+        let Self {
+            begun: _,
+            turn: _,
+            posting: _,
+            gave: _,
+            orders,
+            lost: _,
+            refused: _,
+            made: _,
+        } = self;
+        orders.into_items()
     }
 }

@@ -2,7 +2,7 @@
 ghost use Rattle.std.specs.Prelude.{◌≡◌, Some};
 ghost use Rattle.service_events.specs.declared.event.Event.TheVariants as events;
 ghost use Rattle.node_core.specs.Memos.{committed_by, committed_of, given_by, noted_by};
-ghost use Rattle.node_core.specs.Notes.{begun_as, ended_posting, goes_on_by, if_accepted, lost_by, next_posting, refused_by, turn_by, turn_of, waiting_for};
+ghost use Rattle.node_core.specs.Notes.{begun_as, ended_posting, goes_on_by, if_accepted, lost_by, next_posting, one_more, refused_by, turn_by, turn_of, waiting_for};
 ghost use Rattle.node_core.specs.declared.memos.Memo.TheVariants as memos;
 
 use crate::memos::Memo;
@@ -218,7 +218,7 @@ fn ended_posting(
 
 // ---- all of it
 
-/// Notes an event, but for how it was turned away, and hands out the live request that was committed by it, if one was.
+/// Notes an event, but for how it was turned away and that it was made, and hands out the live request that was committed by it, if one was.
 pub(crate) fn note(
     rt: &impl Wait,
     alloc: Global,
@@ -280,12 +280,20 @@ fn refused(refusal: Refusal) -> Turn
     }
 }
 
-/// How an event was turned away that was answered so, if it was.
-pub(crate) fn turn_of(done: &Done) -> Option<Turn>
+// How an event was turned away that was answered so, if it was.
+fn turn_of(done: &Done) -> Option<Turn>
     ensures { result ≡ turn_of done.now }
 {
     match done {
         Done::Gone => Some(Turn::Gone),
         _ => done.refusal().map(refused),
     }
+}
+
+/// Notes that one event more was made, which was answered so, and how it was turned away, if it was.
+pub(crate) fn note_end(notes: &mut Notes, done: &Done)
+    ensures { notes.new ≡ record notes.old { turn = turn_of done.now; made = one_more notes.old.made } }
+{
+    notes.turn = turn_of(done);
+    notes.made = notes.made.saturating_add(1);
 }

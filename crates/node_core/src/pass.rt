@@ -1,28 +1,28 @@
 // What a worker carries from node to node.
-ghost use Rattle.std.specs.Prelude.{◌≡◌, None, vec_len};
+ghost use Rattle.std.specs.Prelude.{◌≡◌, ◌+◌, None, length, vec_len};
 ghost use Rattle.std.specs.Option.{option_copied};
 
 use crate::notes::{Begun, Gave, Notes, Posting, Turn};
 use crate::receipt::Receipt;
 use std::sync::ledger::{Ledger, Share};
 
-/// A worker's receipts, its share of their ledger, and what is kept of its last events. Its type keeps that the share is one
-/// part of the ledger, and that its amount is the number of receipts. Nothing outside of this crate makes one, copies one, or
-/// changes more of it than `forget_turn` does.
+/// A worker's receipts, its share of their ledger, and what is kept of its events, with the notes of its orders. Its type keeps
+/// that the share is one part of the ledger, and that its amount is the number of receipts and of these notes. Nothing outside
+/// of this crate makes one, copies one, or changes more of it than `forget_turn` does.
 #[derive(Drop)]
 pub struct Pass<Q: Ledger> {
     pub(crate) share: Share<Q>,
     pub(crate) receipts: Vec<Receipt>,
     pub(crate) notes: Notes,
     ghost one_part: { share.parts ≡ 1 },
-    ghost counted: { share.amount ≡ vec_len receipts },
+    ghost counted: { share.amount ≡ vec_len receipts + length notes.orders },
 }
 
 impl<Q: Ledger> Pass<Q> {
     /// Its receipts, one for each live request that it was told is committed, in the order of time.
     pub fn receipts(&self) -> &[Receipt]
         ensures receipts { result.now ≡ self.now.receipts.items }
-        ensures counted { self.now.share.amount ≡ vec_len self.now.receipts }
+        ensures counted { self.now.share.amount ≡ vec_len self.now.receipts + length self.now.notes.orders }
     {
         self.receipts.as_slice()
     }

@@ -3,6 +3,7 @@ ghost use Rattle.std.specs.Prelude.{◌≡◌, true};
 ghost use Rattle.service_events.specs.Commits.{is_live_row};
 ghost use Rattle.node_core.specs.Replies.{row_bytes};
 
+use crate::twice::OfRow;
 use journal_rows::Row;
 use lang_core::{Bytes, Inputs, Name, Request, Text};
 
@@ -36,5 +37,19 @@ impl Drop for Receipt {
             secret: _,
             reply: _,
         } = self;
+    }
+}
+
+impl OfRow for Receipt {
+    ghost service = { λ receipt. receipt.service };
+
+    ghost index = { λ receipt. receipt.index };
+
+    fn service(&self) -> &Name {
+        &self.service
+    }
+
+    fn index(&self) -> u64 {
+        self.index
     }
 }

@@ -1,16 +1,16 @@
 // What stands behind a node's lock.
-ghost use Rattle.std.specs.Prelude.{◌≡◌, ◌≤◌, length, true};
-ghost use Rattle.node_core.specs.Closings.{live_since};
+ghost use Rattle.std.specs.Prelude.{◌≡◌, ◌≤◌, length, false, true};
+ghost use Rattle.node_core.specs.Closings.{row_count, told_since};
 
 use lang_core::Text;
 use service_core::Service;
 use std::sync::ledger::{Ledger, Share};
 
-/// A service, its share of the ledger of answers, the secret with which it seals, whether it is to stop, and how many rows its
+/// A service, its share of the ledger of rows, the secret with which it seals, whether it is to stop, and how many rows its
 /// journal had when the node was opened. Its type keeps that the journal still has as many, that the share is one part of the
-/// ledger, and that its amount is the number of live requests that the journal answers since then; the service's own type
-/// keeps that the service fits its journal. So all of it holds whenever somebody gets the lock. Nothing outside of this crate
-/// makes one, copies one, or changes more of it than that it is to stop.
+/// ledger, and that its amount is the number of live requests that the journal answers since then, with that of the orders that
+/// it got; the service's own type keeps that the service fits its journal. So all of it holds whenever somebody gets the lock.
+/// Nothing outside of this crate makes one, copies one, or changes more of it than that it is to stop.
 #[derive(Drop)]
 pub struct NodeState<R: Ledger> {
     pub(crate) service: Service,
@@ -20,10 +20,31 @@ pub struct NodeState<R: Ledger> {
     pub(crate) since: u64,
     ghost one_part: { share.parts ≡ 1 },
     ghost within: { since ≤ length service.journal },
-    ghost counted: { share.amount ≡ live_since since service },
+    ghost counted: { share.amount ≡ told_since since service },
 }
 
 impl<R: Ledger> NodeState<R> {
+    /// That of a node which begins: nobody has told it to stop, and what its service answered before isn't counted. Each state is
+    /// made here.
+    pub(crate) fn fresh(service: Service, secret: Text, share: Share<R>) -> NodeState<R>
+        requires one_part { share.parts ≡ 1 }
+        requires none { share.amount ≡ 0 }
+        ensures service { result.service ≡ service }
+        ensures share { result.share ≡ share }
+        ensures secret { result.secret ≡ secret }
+        ensures stopped { result.stopped ≡ false }
+        ensures since { result.since ≡ row_count service }
+    {
+        let since = service.journal().len();
+        NodeState {
+            service,
+            share,
+            secret,
+            stopped: false,
+            since,
+        }
+    }
+
     /// The service.
     pub fn service(&self) -> &Service
         ensures { result.now ≡ self.now.service }
@@ -31,10 +52,10 @@ impl<R: Ledger> NodeState<R> {
         &self.service
     }
 
-    /// Its share of the ledger of answers.
+    /// Its share of the ledger of rows.
     pub fn share(&self) -> &Share<R>
         ensures share { result.now ≡ self.now.share }
-        ensures counted { self.now.share.amount ≡ live_since self.now.since self.now.service }
+        ensures counted { self.now.share.amount ≡ told_since self.now.since self.now.service }
     {
         &self.share
     }

@@ -4,7 +4,7 @@ ghost use Rattle.std.specs.Prelude.{◌≡◌, ◌+◌, ◌<◌};
 use std::sync::ledger::{Book, Ledger, Share};
 use std::sync::{Mutex, Wait};
 
-/// What stands behind the tally's lock: the book of answers and that of receipts. With them stand the shares that are left
+/// What stands behind the tally's lock: the book of rows, which are answers and orders, and that of receipts and notes. With them stand the shares that are left
 /// when each node and each pass has its own: they have no part, and to them all others are added at the end.
 #[derive(Drop)]
 pub(crate) struct Books<R: Ledger, Q: Ledger> {
@@ -36,8 +36,8 @@ impl<R: Ledger, Q: Ledger> Books<R, Q> {
     }
 }
 
-/// The two books behind a lock of their own: how many live requests all nodes answered, and how many receipts there are of it.
-/// Its type keeps that both are the same.
+/// The two books behind a lock of their own: how many live requests all nodes answered and how many orders they wrote, and how
+/// many receipts and notes there are of it. Its type keeps that both are the same.
 #[derive(Drop)]
 pub struct Tally<R: Ledger, Q: Ledger> {
     pub(crate) books: Mutex<Books<R, Q>>,
@@ -50,7 +50,7 @@ impl<R: Ledger, Q: Ledger> Tally<R, Q> {
         }
     }
 
-    /// Counts an answer and its receipt, in both books at once. It waits for the tally's lock.
+    /// Counts an answer and its receipt, or an order and its note, in both books at once. It waits for the tally's lock.
     pub(crate) fn count(&self, rt: &impl Wait, rows: &mut Share<R>, receipts: &mut Share<Q>)
         requires rows { 0 < rows.old.parts }
         requires receipts { 0 < receipts.old.parts }

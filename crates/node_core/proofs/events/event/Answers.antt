@@ -1,14 +1,13 @@
-use Rattle.std.proofs.Common.{◌+◌, ◌<◌, ◌∙◌, ℕ, List, Option, IfSome, ap, arith, sym, subst, vec_capacity, vec_len}
+use Rattle.std.proofs.Common.{◌<◌, ◌∙◌, List, Option, IfSome, ap, arith, sym, subst, vec_capacity, vec_len}
 use Rattle.lang_core.specs.declared.setting.Setting.{Setting}
-use Rattle.service_events.specs.State.{me}
 use Rattle.service_core.proofs.GrowthLaws.{grown}
-use Rattle.node_core.proofs.EventLemmas.{answered_by, committed_so, counted_by, done_so, gets_by, gone_done, gone_noted, has_room, may_happen, notes_so, since_by}
+use Rattle.node_core.proofs.EventLemmas.{all_noted, answered_by, committed_so, counted_by, done_so, gets_by, gone_counts, gone_done, gone_noted, has_room, may_happen, notes_so, orders_noted, told_by}
+use Rattle.node_core.proofs.OrderLemmas.{gone_orders, orders_so, written_so}
 use Rattle.node_core.proofs.SearchLemmas.{affirmed, refuted}
 use Rattle.node_core.proofs.SinceLemmas.{within_grown}
-use Rattle.node_core.specs.Closings.{live_since}
+use Rattle.node_core.specs.Doings.{HasReceipts}
 use Rattle.node_core.specs.Memos.{committed_by, count_of, memo_of, IsGivenReceipt, IsIn}
-use Rattle.node_core.specs.declared.notes.Notes.{Notes}
-use Rattle.node_core.specs.declared.notes.Turn.{Turn}
+use Rattle.node_core.specs.declared.orders.OrderNote.{OrderNote}
 use Rattle.node_core.specs.declared.receipt.Receipt.{Receipt}
 use Rattle.node_core.specs.declared.receipts.Committed.{Committed}
 use Rattle.node_core.proofs.events.event.Goals as goal
@@ -51,12 +50,16 @@ invariant_of-kept-2-clause-counted g c =
     let before = c.args.pass.now.notes in
     let d = c.event-done.result in
     let there = affirmed c.finds_flight.result c.finds_flight.ensures c.if-not-finds_flight.false in
-    let is = committed_so before c.prepared.new.pass.notes c.in_ok-memo.memo c.args.event d c.note-committed.result c.in_ok-memo.ensures.same.2
-    c.in_ok-memo.ensures.memo c.note-committed.ensures.committed in
-    c.count.ensures.amount
-    ∙ (ap (λ (n : ℕ). n + count_of c.note-committed.result) k.counted
-    ∙ (ap (λ (o : Option Committed). live_since k.since k.service + count_of o) is
-    ∙ sym (since_by k.service t before.begun k.since c.args.event d k.within c.requires.may there c.event-done.ensures.happens c.event-done.ensures.answers)))
+    let committed = ap count_of
+    (committed_so before c.prepared.new.pass.notes c.in_ok-memo.memo c.args.event d c.note-committed.result c.in_ok-memo.ensures.same.2 c.in_ok-memo.ensures.memo
+    c.note-committed.ensures.committed) in
+    let written = ap (λ (o : Option OrderNote). count_of o)
+    (written_so k.service t c.args.event d c.row_count-index.result c.note_if_ordered-written.result c.event-done.ensures.answers c.row_count-index.ensures c.note_if_ordered-written.ensures) in
+    let told = told_by k.service t before.begun k.since c.args.event d k.within c.requires.may there c.event-done.ensures.happens c.event-done.ensures.answers in
+    let commits = c.count.ensures.amount in
+    let orders = c.count_order.ensures.amount in
+    let counted = k.counted in
+    omega (arith, committed, written, told, commits, orders, counted)
 
 pub returns-clause-done : goal.returns-clause-done
 returns-clause-done g c =
@@ -71,7 +74,12 @@ returns-clause-rows g c =
     let is = committed_so before c.prepared.new.pass.notes c.in_ok-memo.memo c.args.event d c.note-committed.result c.in_ok-memo.ensures.same.2
     c.in_ok-memo.ensures.memo c.note-committed.ensures.committed in
     let counted = ap count_of is ∙ counted_by c.args.kept.now.service c.event-done.new.self before.begun c.args.event d there c.event-done.ensures.answers in
-    c.count.ensures.amount ∙ ap (λ (n : ℕ). c.args.kept.now.share.amount + n) counted
+    let written = ap (λ (o : Option OrderNote). count_of o)
+    (written_so c.args.kept.now.service c.event-done.new.self c.args.event d c.row_count-index.result c.note_if_ordered-written.result c.event-done.ensures.answers c.row_count-index.ensures
+    c.note_if_ordered-written.ensures) in
+    let commits = c.count.ensures.amount in
+    let orders = c.count_order.ensures.amount in
+    omega (arith, counted, written, commits, orders)
 
 pub returns-clause-mine : goal.returns-clause-mine
 returns-clause-mine g c =
@@ -81,9 +89,13 @@ returns-clause-mine g c =
     let is = committed_so before.notes c.prepared.new.pass.notes c.in_ok-memo.memo c.args.event d c.note-committed.result c.in_ok-memo.ensures.same.2
     c.in_ok-memo.ensures.memo c.note-committed.ensures.committed in
     let counted = ap count_of is ∙ counted_by c.args.kept.now.service c.event-done.new.self before.notes.begun c.args.event d there c.event-done.ensures.answers in
+    let written = ap (λ (o : Option OrderNote). count_of o)
+    (written_so c.args.kept.now.service c.event-done.new.self c.args.event d c.row_count-index.result c.note_if_ordered-written.result c.event-done.ensures.answers c.row_count-index.ensures
+    c.note_if_ordered-written.ensures) in
     let had = c.in_ok-memo.ensures.same.1 in
-    let mine = c.count.ensures.mine in
-    grind (arith, had, mine, counted)
+    let commits = c.count.ensures.mine in
+    let orders = c.count_order.ensures.mine in
+    grind (arith, had, counted, written, commits, orders)
 
 pub returns-clause-receipts : goal.returns-clause-receipts
 returns-clause-receipts g c =
@@ -98,17 +110,30 @@ returns-clause-receipts g c =
     let is = committed_so before.notes ready.notes c.in_ok-memo.memo c.args.event d c.note-committed.result c.in_ok-memo.ensures.same.2
     c.in_ok-memo.ensures.memo c.note-committed.ensures.committed in
     let given = subst (λ (o : Option Committed). IsGivenReceipt t secret o ready.receipts.items have) is c.count.ensures.receipts in
-    gets_by s t before.notes.begun c.args.event d secret before.receipts.items have c.requires.may there c.event-done.ensures.answers
-    (subst (λ (had : List Receipt). IsGivenReceipt t secret (committed_by before.notes.begun (memo_of c.args.event) d) had have) c.in_ok-memo.ensures.same.0 given)
+    let gets = gets_by s t before.notes.begun c.args.event d secret before.receipts.items have c.requires.may there c.event-done.ensures.answers
+    (subst (λ (had : List Receipt). IsGivenReceipt t secret (committed_by before.notes.begun (memo_of c.args.event) d) had have) c.in_ok-memo.ensures.same.0 given) in
+    subst (λ (xs : List Receipt). HasReceipts t secret before.notes.begun c.args.event d before.receipts.items xs) (sym c.count_order.ensures.receipts) gets
 
 pub returns-clause-notes : goal.returns-clause-notes
 returns-clause-notes g c =
+    let s = c.args.kept.now.service in
+    let t = c.event-done.new.self in
+    let d = c.event-done.result in
+    let written = written_so s t c.args.event d c.row_count-index.result c.note_if_ordered-written.result c.event-done.ensures.answers c.row_count-index.ensures c.note_if_ordered-written.ensures in
     let named = ap (λ (x : Setting). x.me) c.setting.ensures in
-    let last : Notes = c.count.new.pass.notes in
-    ap (λ (turn : Option Turn). record last { turn = turn }) c.turn_of-pass.ensures
-    ∙ notes_so c.args.kept.now.service c.event-done.new.self _ c.args.pass.now.notes c.prepared.new.pass.notes c.note-committed.new.notes c.count.new.pass.notes
-    c.in_ok-memo.memo c.args.event c.event-done.result c.event-done.ensures.answers named c.in_ok-memo.ensures.same.2 c.in_ok-memo.ensures.memo
-    c.note-committed.ensures.notes c.count.ensures.notes
+    let noted = notes_so s t _ c.args.pass.now.notes c.prepared.new.pass.notes c.note-committed.new.notes c.count.new.pass.notes c.in_ok-memo.memo c.args.event d
+    c.event-done.ensures.answers named c.in_ok-memo.ensures.same.2 c.in_ok-memo.ensures.memo c.note-committed.ensures.notes c.count.ensures.notes in
+    c.note_end.ensures
+    ∙ all_noted s t c.args.pass.now.notes c.count.new.pass.notes c.count_order.new.pass.notes c.args.event d c.note_if_ordered-written.result noted
+    c.count_order.ensures.notes written
+
+pub returns-clause-orders : goal.returns-clause-orders
+returns-clause-orders g c =
+    let s = c.args.kept.now.service in
+    let t = c.event-done.new.self in
+    let before = c.args.pass.now.notes in
+    orders_so s t c.args.event c.event-done.result before.orders c.note_end.new.notes.orders c.event-done.ensures.answers
+    (orders_noted s t before c.note_end.new.notes c.args.event c.event-done.result (returns-clause-notes g c))
 
 -- ---- where the flight isn't there
 
@@ -117,7 +142,19 @@ returns-then-not-finds_flight-clause-done g c =
     gone_done c.args.kept.now.service c.args.pass.now.notes.begun c.args.event c.requires.may
     (refuted c.finds_flight.result c.finds_flight.ensures c.if-not-finds_flight.true)
 
+pub returns-then-not-finds_flight-clause-rows : goal.returns-then-not-finds_flight-clause-rows
+returns-then-not-finds_flight-clause-rows g c =
+    gone_counts c.args.kept.now.service c.args.pass.now.notes.begun c.args.event c.args.kept.now.share.amount
+    (refuted c.finds_flight.result c.finds_flight.ensures c.if-not-finds_flight.true)
+
+pub returns-then-not-finds_flight-clause-mine : goal.returns-then-not-finds_flight-clause-mine
+returns-then-not-finds_flight-clause-mine g c =
+    gone_counts c.args.kept.now.service c.args.pass.now.notes.begun c.args.event c.args.pass.now.share.amount
+    (refuted c.finds_flight.result c.finds_flight.ensures c.if-not-finds_flight.true)
+
+pub returns-then-not-finds_flight-clause-orders : goal.returns-then-not-finds_flight-clause-orders
+returns-then-not-finds_flight-clause-orders g c = gone_orders c.args.kept.now.service c.args.event c.args.pass.now.notes.orders
+
 pub returns-then-not-finds_flight-clause-notes : goal.returns-then-not-finds_flight-clause-notes
 returns-then-not-finds_flight-clause-notes g c =
-    gone_noted c.args.kept.now.service (me c.args.kept.now.service) c.args.pass.now.notes c.args.event
-    (refuted c.finds_flight.result c.finds_flight.ensures c.if-not-finds_flight.true)
+    gone_noted c.args.kept.now.service c.args.pass.now.notes c.args.event (refuted c.finds_flight.result c.finds_flight.ensures c.if-not-finds_flight.true)
