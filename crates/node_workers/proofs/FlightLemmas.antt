@@ -1,46 +1,44 @@
 -- How a worker's events leave its open flight, its receipts and its counts.
-use Rattle.std.proofs.Common.{◌≡◌, ℕ, inl, inr, ◌+◌, ◌≤◌, ◌-◌, ◌^◌, Bool, List, Option, Some, None, Result, Ok, Err, IfErr, IfOk, OnErr, IsSomeAnd, min, refl, sym, ap, ◌∙◌, subst, arith}
+use Rattle.std.proofs.Common.{◌≡◌, ◌⊎◌, ℕ, inl, inr, ◌+◌, ◌≤◌, ◌-◌, ◌^◌, Bool, List, Option, Some, None, Result, Ok, Err, IfOk, OnErr, IsSomeAnd, min, refl, sym, ap, ◌∙◌, subst, arith}
 use Rattle.lang_base.specs.declared.memory.NoMemory.{NoMemory as LacksMemory}
 use Rattle.lang_core.specs.declared.ids.Origin.{Origin}
-use Rattle.lang_core.specs.declared.ids.Origin.TheVariants.{Outside, Call}
 use Rattle.lang_core.specs.declared.inputs.Inputs.{Inputs}
 use Rattle.lang_core.specs.declared.request.Request.{Request}
 use Rattle.repair_messages.specs.declared.messages.AnswerMessage.{AnswerMessage}
 use Rattle.repair_messages.specs.declared.messages.SetMessage.{SetMessage}
 use Rattle.call_registers.specs.declared.register.Why.{Why}
 use Rattle.call_registers.specs.declared.register.Why.TheVariants as whys
-use Rattle.service_events.specs.Arriving.{admitted, arrive_event, call_answered_event, call_failed_event}
+use Rattle.service_events.specs.Arriving.{call_answered_event, call_failed_event}
 use Rattle.service_events.specs.Commits.{live_answer_of}
-use Rattle.service_events.specs.Doing.{Does, arrive_memory, call_memory}
-use Rattle.service_events.specs.State.{After, Kept, after, is_crowded, is_heavy, me, or_else}
+use Rattle.service_events.specs.Doing.{Does, call_memory}
+use Rattle.service_events.specs.Fits.{Fits}
+use Rattle.service_events.specs.State.{After, Kept, me}
 use Rattle.service_events.specs.declared.answers.Arrived.{Arrived}
 use Rattle.service_events.specs.declared.answers.Arrived.TheVariants as arrived
 use Rattle.service_events.specs.declared.event.Done.{Done as NodeDone}
 use Rattle.service_events.specs.declared.event.Done.TheVariants as done
 use Rattle.service_events.specs.declared.event.Event.{Event as NodeEvent}
 use Rattle.service_events.specs.declared.event.Event.TheVariants as events
-use Rattle.service_events.specs.declared.refusals.ArriveRefused.{ArriveRefused}
-use Rattle.service_events.specs.declared.refusals.ArriveRefused.TheVariants as refusals
 use Rattle.service_events.specs.declared.refusals.CallRefused.{CallRefused}
 use Rattle.node_core.specs.Doings.{AsksMemory, GetsReceipt, GetsReceiptOf, HasReceipts, IsDone, IsOpen, MayAsk}
 use Rattle.node_core.specs.Notes.{begun_after, goes_on_by, if_accepted, lost_after, lost_by, noted, refused_after, refused_by, waiting_for}
 use Rattle.node_core.specs.declared.notes.Begun.{Begun}
 use Rattle.node_core.specs.declared.notes.Notes.{Notes}
 use Rattle.node_core.specs.declared.receipt.Receipt.{Receipt}
-use Rattle.node_exchanges.specs.Calls.{FailsOnly, lost_in, refused_in}
+use Rattle.node_exchanges.specs.Calls.{AnswersOnly, FailsOnly, lost_in, refused_in}
 use Rattle.node_workers.specs.Desks.{Endpoint}
-use Rattle.node_workers.specs.Flying.{ArrivesAs, BeginsSo, EndsSo, GoesOn, IfAccepted, IsGivenUp, IsTold, IsWaiting, NotesAtMost, RefusesAs, SentBy, began_of, end_of_call, went_by, went_of}
+use Rattle.node_workers.specs.Flying.{EndsSo, GivesUp, GoesOn, IfAccepted, IsGivenUp, IsTold, IsToldInVain, IsToldOnce, IsWaiting, IsWanting, NotesAtMost, SentBy, end_of_call, went_by, went_of}
 use Rattle.node_workers.specs.Serving.{OneReceipt}
-use Rattle.node_workers.specs.Turns.{Made}
+use Rattle.node_workers.specs.Turns.{IsUntouched, Made}
 use Rattle.node_workers.specs.declared.flying.Went.{Went}
 use Rattle.node_workers.specs.declared.flying.Went.TheVariants as went
 use Rattle.node_workers.specs.declared.live.Ending.{Ending}
 use Rattle.node_workers.specs.declared.live.Ending.TheVariants as ends
-use Rattle.node_workers.proofs.SentLemmas.{answered_sent, arrival_as, failed_sent}
+use Rattle.node_workers.proofs.SentLemmas.{answered_sent, failed_sent}
 
 -- ---- what there is
 
-map_some : {X : Type 0} (o : Option X) (P Q : X → Type 0) → ((x : X) → P x → Q x) → IsSomeAnd o P → IsSomeAnd o Q
+pub map_some : {X : Type 0} (o : Option X) (P Q : X → Type 0) → ((x : X) → P x → Q x) → IsSomeAnd o P → IsSomeAnd o Q
 map_some None P Q f h = absurd h
 map_some (Some x) P Q f h = f x h
 
@@ -50,7 +48,7 @@ from_some (Some x) P F f h = f x h
 
 -- ---- receipts
 
-received : (E : Type 0) (t : Kept) (secret : List ℕ) (o : Origin) (q : Request) (i : Inputs) (index id : ℕ) (answer : Option AnswerMessage) (had have : List Receipt)
+pub received : (E : Type 0) (t : Kept) (secret : List ℕ) (o : Origin) (q : Request) (i : Inputs) (index id : ℕ) (answer : Option AnswerMessage) (had have : List Receipt)
     → GetsReceipt {E = E} t secret o q i (Ok (arrived.Done index id answer)) had have → OneReceipt o q i index had have
 received E t secret o q i index id answer had have one =
     record {
@@ -71,12 +69,12 @@ module _ (e : Endpoint) (b : Begun) (flight : ℕ) (before now : Notes) (had hav
   went_on t secret (Ok (arrived.Done index id answer)) of begun one sent =
       (begun, received CallRefused t secret b.origin b.request b.inputs index id answer had have one)
   went_on t secret (Ok (arrived.Call next set)) of begun same sent =
-      (record { waiting = waiting_for next set b; is = begun; flight_so = refl; number = refl; of = refl; asked = refl; inputs = refl; from = sent }, same)
+      (record { waiting = waiting_for next set b; is = begun; flight_so = refl; number = refl; dest = refl; of = refl; asked = refl; inputs = refl; from = sent }, same)
   went_on t secret (Ok (arrived.Known a)) of begun same sent = absurd sent
   went_on t secret (Err why) of begun same sent = (subst (IsOpen flight) (sym begun) of, same)
 
 -- what holds of an event's answer holds of what a service answered
-accepted_by : {E : Type 0} (is_memory : E → Bool) (P : Arrived → Type 0) (event : After (Result Arrived E)) (s t : Kept) (result : Result Arrived E)
+pub accepted_by : {E : Type 0} (is_memory : E → Bool) (P : Arrived → Type 0) (event : After (Result Arrived E)) (s t : Kept) (result : Result Arrived E)
     → Does is_memory event s result t → IfAccepted P event.answer → IfAccepted P result
 accepted_by {E} is_memory P event s t (Ok a) does so = subst (IfAccepted P) (ap (λ (x : After (Result Arrived E)). x.answer) (sym does)) so
 accepted_by {E} is_memory P event s t (Err why) does so = tt
@@ -232,28 +230,6 @@ module _ (before now : Notes) (flight number : ℕ) where
 
 -- ---- in one event, or in two
 
-module _ (e : Endpoint) (flight number : ℕ) (before now : Notes) (had have : List Receipt) where
-  abbrev Told : Result AnswerMessage Why → Went → Type 0
-  Told came way = IsTold e flight number came before now had have way
-
-  -- how the open flight goes on
-  pub goes_told : (came : Result AnswerMessage Why) (way : Went) → Told came way → IsSomeAnd before.begun (λ (b : Begun). (b.flight ≡ flight) × (b.number ≡ number))
-      → IsSomeAnd before.begun (λ (b : Begun). GoesOn e b.origin b.request b.inputs flight now had have way)
-  goes_told came way told here =
-      subst (λ (o : Option Begun). IsSomeAnd o (λ (b : Begun). GoesOn e b.origin b.request b.inputs flight now had have way)) told.begun
-      (goes_so e flight number told.since now had have came told.answer way told.goes told.made told.nothing
-      (subst (λ (o : Option Begun). IsSomeAnd o (IsOf flight number)) (sym told.begun) here))
-
-  -- no more is counted than came of the call
-  pub most_told : (came : Result AnswerMessage Why) (way : Went) → Told came way → NotesAtMost before now (lost_in came) (refused_in came)
-  most_told came way told =
-      let most = told_most told.since now flight number e.me had have came told.answer told.made told.nothing in
-      let l = most.lost_at_most in
-      let r = most.refused_at_most in
-      let lost = told.lost in
-      let refused = told.refused in
-      record { lost_at_most = omega (arith, lost, l); refused_at_most = omega (arith, refused, r) }
-
 -- the open flight, and what is counted
 abbrev IsLeft : Notes → Notes → Type 0
 IsLeft before now = (now.begun ≡ before.begun) × (now.lost ≡ before.lost) × (now.refused ≡ before.refused)
@@ -307,110 +283,98 @@ module _ (e : Endpoint) (flight number : ℕ) (before now : Notes) (had have : L
   left_by (Err why) (Ok answer) m same lacks = left_failed why answer m lacks
   left_by came (Err why) m same lacks = (ap (λ (n : Notes). n.begun) same.0, ap (λ (n : Notes). n.lost) same.0, ap (λ (n : Notes). n.refused) same.0)
 
+wanting_way : (answer : NodeDone) → IsWanting answer → went.NoMemory ≡ went_of (Ok answer)
+wanting_way (done.CallAnswered (Err why)) wants = refl
+wanting_way (done.CallFailed (Err why)) wants = refl
+wanting_way (done.CallAnswered (Ok result)) wants = absurd wants
+wanting_way (done.CallFailed (Ok result)) wants = absurd wants
+wanting_way (done.Arrive result) wants = absurd wants
+wanting_way (done.Abandon found) wants = absurd wants
+wanting_way (done.Take result) wants = absurd wants
+wanting_way (done.TakeAnswer result) wants = absurd wants
+wanting_way (done.NextPost name) wants = absurd wants
+wanting_way (done.WritePost result) wants = absurd wants
+wanting_way (done.Posted result) wants = absurd wants
+wanting_way (done.Step result) wants = absurd wants
+wanting_way (done.Order result) wants = absurd wants
+wanting_way done.Gone wants = absurd wants
+
+-- likewise behind the first time that it was told, where memory was wanting
+first_left : (e : Endpoint) (flight number : ℕ) (came : Result AnswerMessage Why) (before since : Notes) (had : List Receipt)
+    → (since ≡ before) ⊎ IsToldInVain e flight number came before since had → IsLeft before since
+first_left e flight number came before since had (inl same) =
+    (ap (λ (n : Notes). n.begun) same, ap (λ (n : Notes). n.lost) same, ap (λ (n : Notes). n.refused) same)
+first_left e flight number came before since had (inr once) =
+    left_by e flight number before since had had came (Ok once.0) once.1 tt (wanting_way once.0 once.2)
+
+-- told once, where memory was wanting, it was told in vain, or not at all
+in_vain : (e : Endpoint) (flight number : ℕ) (came : Result AnswerMessage Why) (before since : Notes) (had : List Receipt) (answer : Result NodeDone LacksMemory)
+    → IfOk answer (Made e.me before since had had (end_of_call flight number came)) → OnErr answer (IsUntouched before since had had)
+    → IfOk answer IsWanting → (since ≡ before) ⊎ IsToldInVain e flight number came before since had
+in_vain e flight number came before since had (Ok d) made nothing wants = inr (d, made, wants)
+in_vain e flight number came before since had (Err why) made nothing wants = inl nothing.0
+
+module _ (e : Endpoint) (flight number : ℕ) (before now : Notes) (had have : List Receipt) where
+  abbrev Told : Result AnswerMessage Why → Went → Type 0
+  Told came way = IsTold e flight number came before now had have way
+
+  -- told once, it is told
+  pub once_told : (came : Result AnswerMessage Why) (way : Went) → IsToldOnce e flight number came before now had have way → Told came way
+  once_told came way once = record { since = before; first = inl refl; last = once }
+
+  -- how the open flight goes on
+  pub goes_told : (came : Result AnswerMessage Why) (way : Went) → Told came way → IsSomeAnd before.begun (λ (b : Begun). (b.flight ≡ flight) × (b.number ≡ number))
+      → IsSomeAnd before.begun (λ (b : Begun). GoesOn e b.origin b.request b.inputs flight now had have way)
+  goes_told came way told here =
+      let left = first_left e flight number came before told.since had told.first in
+      let last = told.last in
+      subst (λ (o : Option Begun). IsSomeAnd o (λ (b : Begun). GoesOn e b.origin b.request b.inputs flight now had have way)) left.0
+      (goes_so e flight number told.since now had have came last.answer way last.goes last.made last.nothing
+      (subst (λ (o : Option Begun). IsSomeAnd o (IsOf flight number)) (sym left.0) here))
+
+  -- no more is counted than came of the call
+  pub most_told : (came : Result AnswerMessage Why) (way : Went) → Told came way → NotesAtMost before now (lost_in came) (refused_in came)
+  most_told came way told =
+      let last = told.last in
+      let most = told_most told.since now flight number e.me had have came last.answer last.made last.nothing in
+      let left = first_left e flight number came before told.since had told.first in
+      let l = most.lost_at_most in
+      let r = most.refused_at_most in
+      let lost = left.1 in
+      let refused = left.2 in
+      record { lost_at_most = omega (arith, lost, l); refused_at_most = omega (arith, refused, r) }
+
 module _ (e : Endpoint) (flight number : ℕ) (came : Result AnswerMessage Why) (before mid : Notes) (had held : List Receipt)
-    (lacks : IsTold e flight number came before mid had held went.NoMemory) (here : IsSomeAnd before.begun (λ (b : Begun). (b.flight ≡ flight) × (b.number ≡ number))) where
+    (lacks : IsToldOnce e flight number came before mid had held went.NoMemory) (here : IsSomeAnd before.begun (λ (b : Begun). (b.flight ≡ flight) × (b.number ≡ number))) where
   left_so : IsLeft before mid
-  left_so =
-      let left = left_by e flight number lacks.since mid had held came lacks.answer lacks.made lacks.nothing lacks.goes in
-      (left.0 ∙ lacks.begun, left.1 ∙ lacks.lost, left.2 ∙ lacks.refused)
+  left_so = left_by e flight number before mid had held came lacks.answer lacks.made lacks.nothing lacks.goes
 
   no_receipt : held ≡ had
   no_receipt =
       from_some before.begun (λ (b : Begun). GoesOn e b.origin b.request b.inputs flight mid had held went.NoMemory) (held ≡ had) (λ b goes. goes.1)
-      (goes_told e flight number before mid had held came went.NoMemory lacks here)
+      (goes_told e flight number before mid had held came went.NoMemory (once_told e flight number before mid had held came went.NoMemory lacks) here)
 
   -- where memory was wanting, the flight waits for that call as before
   pub waits_again : IsSomeAnd mid.begun (λ (b : Begun). (b.flight ≡ flight) × (b.number ≡ number))
   waits_again = subst (λ (o : Option Begun). IsSomeAnd o (IsOf flight number)) (sym left_so.0) here
 
+  pub answers_again : (copy : Result AnswerMessage Why) → copy ≡ came → IsSomeAnd before.begun (λ (b : Begun). AnswersOnly b.dest b.number came)
+      → IsSomeAnd mid.begun (λ (b : Begun). AnswersOnly b.dest b.number copy)
+  answers_again copy same answers =
+      subst (λ (o : Option Begun). IsSomeAnd o (λ (b : Begun). AnswersOnly b.dest b.number copy)) (sym left_so.0)
+      (subst (λ (c : Result AnswerMessage Why). IsSomeAnd before.begun (λ (b : Begun). AnswersOnly b.dest b.number c)) (sym same) answers)
+
   -- and then it is told again
   pub told_again : (copy : Result AnswerMessage Why) (now : Notes) (have : List Receipt) (way : Went) → copy ≡ came
-      → IsTold e flight number copy mid now held have way → IsTold e flight number came before now had have way
+      → IsToldOnce e flight number copy mid now held have way → IsTold e flight number came before now had have way
   told_again copy now have way same told =
-      let again : IsTold e flight number came mid now had have way =
-      subst (λ (h : List Receipt). IsTold e flight number came mid now h have way) no_receipt
-      (subst (λ (c : Result AnswerMessage Why). IsTold e flight number c mid now held have way) same told) in
       record {
-        since = again.since;
-        begun = again.begun ∙ left_so.0;
-        lost = again.lost ∙ left_so.1;
-        refused = again.refused ∙ left_so.2;
-        answer = again.answer;
-        made = again.made;
-        nothing = again.nothing;
-        goes = again.goes;
+        since = mid;
+        first = (let once = subst (λ (h : List Receipt). IsToldOnce e flight number came before mid had h went.NoMemory) no_receipt lacks in
+            in_vain e flight number came before mid had once.answer once.made once.nothing (once.wanting refl));
+        last = subst (λ (h : List Receipt). IsToldOnce e flight number came mid now h have way) no_receipt
+            (subst (λ (c : Result AnswerMessage Why). IsToldOnce e flight number c mid now held have way) same told);
       }
-
--- ---- an arrival
-
--- it is for what there is too much of
-abbrev IsFull : ArriveRefused → Type 0
-IsFull why = (n : ℕ) × (why ≡ refusals.Full n)
-
-admitted_full : (s : Kept) (o : Origin) (q : Request) (i : Inputs) (much : Option ℕ) → IfErr (admitted s o q i much).answer IsFull
-admitted_full s o q i (Some n) = (n, refl)
-admitted_full s o q i None = tt
-
-by_event : (s t : Kept) (q : Request) (i : Inputs) (why : ArriveRefused) → after {A = Result Arrived ArriveRefused} t (Err why) ≡ arrive_event s Outside q i → IsFull why
-by_event s t q i why is =
-    subst (λ (a : After (Result Arrived ArriveRefused)). IfErr a.answer IsFull) (sym is) (admitted_full s Outside q i (or_else (is_crowded s) (is_heavy s)))
-
-refuses : (s t : Kept) (o : Origin) (q : Request) (i : Inputs) (why : ArriveRefused) → Does arrive_memory (arrive_event s o q i) s (Err why) t → RefusesAs o why
-refuses s t (Call caller number) q i why does = tt
-refuses s t Outside q i refusals.NoMemory does = inr refl
-refuses s t Outside q i (refusals.Full n) does = inl (n, refl)
-refuses s t Outside q i (refusals.NotYet n) does = inl (by_event s t q i (refusals.NotYet n) does)
-refuses s t Outside q i (refusals.Gone n) does = inl (by_event s t q i (refusals.Gone n) does)
-
-module _ (e : Endpoint) (o : Origin) (q : Request) (i : Inputs) (before now : Notes) (had have : List Receipt) (none : before.begun ≡ None) where
-  abbrev Begins : Result NodeDone LacksMemory → Type 0
-  Begins answer = BeginsSo e o q i now had have (began_of answer)
-
-  abbrev ArrivedSo : NodeDone → Type 0
-  ArrivedSo answer = Made e.me before now had have (events.Arrive o q i) answer
-
-  abbrev begun_here : Kept → ℕ → SetMessage → Begun
-  begun_here t flight set =
-      record { service = me t; flight = flight; dest = set.dest; number = set.number; origin = o; request = q; inputs = i }
-
-  begun_so : (answer : Result Arrived ArriveRefused) → ArrivedSo (done.Arrive answer) → IfAccepted (ArrivesAs e.me o) answer → Begins (Ok (done.Arrive answer))
-  begun_so (Ok (arrived.Done index id answer)) m how =
-      (received ArriveRefused m.left m.secret o q i index id answer had have m.receipts, ap (λ (n : Notes). n.begun) m.notes ∙ none)
-  begun_so (Ok (arrived.Call flight set)) m how =
-      (record { waiting = begun_here m.left flight set; is = ap (λ (n : Notes). n.begun) m.notes; flight_so = refl; number = refl; of = refl; asked = refl; inputs = refl; from = how }, m.receipts)
-  begun_so (Ok (arrived.Known a)) m how =
-      ((ap (λ (n : Notes). n.gave) m.notes, how.0, how.1, m.receipts), ap (λ (n : Notes). n.begun) m.notes ∙ none)
-  begun_so (Err why) m how =
-      ((ap (λ (n : Notes). n.gave) m.notes, ap (λ (n : Notes). n.turn) m.notes, refuses m.service m.left o q i why m.made.0, m.receipts), ap (λ (n : Notes). n.begun) m.notes ∙ none)
-
-  arrived_so : (answer : NodeDone) → ArrivedSo answer → Begins (Ok answer)
-  arrived_so (done.Arrive result) m =
-      begun_so result m
-      (subst (λ (name : List ℕ). IfAccepted (ArrivesAs name o) result) m.is
-      (accepted_by arrive_memory (ArrivesAs (me m.service) o) (arrive_event m.service o q i) m.service m.left result m.made.0 (arrival_as m.service o q i)))
-  arrived_so (done.CallAnswered result) m = absurd m.made
-  arrived_so (done.CallFailed result) m = absurd m.made
-  arrived_so (done.Abandon found) m = absurd m.made
-  arrived_so (done.Take result) m = absurd m.made
-  arrived_so (done.TakeAnswer result) m = absurd m.made
-  arrived_so (done.NextPost name) m = absurd m.made
-  arrived_so (done.WritePost result) m = absurd m.made
-  arrived_so (done.Posted result) m = absurd m.made
-  arrived_so (done.Step result) m = absurd m.made
-  arrived_so (done.Order result) m = absurd m.made
-  arrived_so done.Gone m = absurd m.made
-
-  -- how a live request begins
-  pub begins : (answer : Result NodeDone LacksMemory) → IfOk answer ArrivedSo → OnErr answer ((now ≡ before) × (have ≡ had)) → Begins answer
-  begins (Ok answer) m same = arrived_so answer m
-  begins (Err why) m same = (same.1, ap (λ (n : Notes). n.begun) same.0 ∙ none)
-
--- an arrival counts nothing as lost or as refused
-pub arrival_keeps : (name : List ℕ) (o : Origin) (q : Request) (i : Inputs) (before now : Notes) (had have : List Receipt) (answer : Result NodeDone LacksMemory)
-    → IfOk answer (Made name before now had have (events.Arrive o q i)) → OnErr answer ((now ≡ before) × (have ≡ had))
-    → (now.lost ≡ before.lost) × (now.refused ≡ before.refused)
-arrival_keeps name o q i before now had have (Ok answer) m same = (ap (λ (n : Notes). n.lost) m.notes, ap (λ (n : Notes). n.refused) m.notes)
-arrival_keeps name o q i before now had have (Err why) m same = (ap (λ (n : Notes). n.lost) same.0, ap (λ (n : Notes). n.refused) same.0)
 
 -- ---- a flight that is given up
 
@@ -446,10 +410,19 @@ module _ (s t : Kept) (secret : List ℕ) (flight : ℕ) (before now : Notes) (h
   given_up (Ok answer) made notes same memory = up_by answer made notes same
   given_up (Err why) made notes same memory = absurd memory
 
+  -- it is so in one event
+  pub given_up_by : (answer : Result NodeDone LacksMemory) → Fits s → IfOk answer (λ (d : NodeDone). IsDone s before.begun (events.Abandon flight) d t)
+      → IfOk answer (λ (d : NodeDone). now ≡ noted (me t) before (events.Abandon flight) d)
+      → IfOk answer (λ (d : NodeDone). HasReceipts t secret before.begun (events.Abandon flight) d had have)
+      → OnErr answer (AsksMemory (events.Abandon flight)) → GivesUp flight before now had have
+  given_up_by (Ok d) fits made notes receipts memory =
+      (me s, d, record { service = s; left = t; secret = secret; is = refl; fits = fits; made = made; notes = notes; receipts = receipts })
+  given_up_by (Err why) fits made notes receipts memory = absurd memory
+
 -- ---- the open flight
 
 -- what holds of the open flight's request holds of the request that it is of
-at_open : (e : Endpoint) (o : Origin) (q : Request) (i : Inputs) (begun : Option Begun) (flight : ℕ) (set : SetMessage) (P : Origin → Request → Inputs → Type 0)
+pub at_open : (e : Endpoint) (o : Origin) (q : Request) (i : Inputs) (begun : Option Begun) (flight : ℕ) (set : SetMessage) (P : Origin → Request → Inputs → Type 0)
     → IsWaiting e o q i begun flight set → IsSomeAnd begun (λ (b : Begun). P b.origin b.request b.inputs) → P o q i
 at_open e o q i begun flight set P w h =
     let here : P (w.waiting).origin (w.waiting).request (w.waiting).inputs =
@@ -463,7 +436,7 @@ pub waits_on : (e : Endpoint) (o : Origin) (q : Request) (i : Inputs) (begun : O
     → IsSomeAnd begun (λ (b : Begun). IsWaiting e b.origin b.request b.inputs begun flight set)
 waits_on e o q i begun flight set w =
     subst (λ (x : Option Begun). IsSomeAnd x (λ (b : Begun). IsWaiting e b.origin b.request b.inputs begun flight set)) (sym w.is)
-    (record { waiting = w.waiting; is = w.is; flight_so = w.flight_so; number = w.number; of = refl; asked = refl; inputs = refl; from = w.from })
+    (record { waiting = w.waiting; is = w.is; flight_so = w.flight_so; number = w.number; dest = w.dest; of = refl; asked = refl; inputs = refl; from = w.from })
 
 module _ (e : Endpoint) (flight : ℕ) (set : SetMessage) where
   -- the flight that was open first has gone on, and waits for this call
@@ -476,6 +449,14 @@ module _ (e : Endpoint) (flight : ℕ) (set : SetMessage) where
       from_some first (λ (b : Begun). IsWaiting e b.origin b.request b.inputs begun flight set)
       (IsSomeAnd begun (λ (b : Begun). (b.flight ≡ flight) × (b.number ≡ set.number)))
       (λ b w. subst (λ (x : Option Begun). IsSomeAnd x (λ (y : Begun). (y.flight ≡ flight) × (y.number ≡ set.number))) (sym w.is) (w.flight_so, w.number)) waits
+
+  -- what comes of that call
+  pub answers_of : (first begun : Option Begun) (came : Result AnswerMessage Why) → Waits first begun → AnswersOnly set.dest set.number came
+      → IsSomeAnd begun (λ (b : Begun). AnswersOnly b.dest b.number came)
+  answers_of first begun came waits answers =
+      from_some first (λ (b : Begun). IsWaiting e b.origin b.request b.inputs begun flight set) (IsSomeAnd begun (λ (b : Begun). AnswersOnly b.dest b.number came))
+      (λ b w. subst (λ (x : Option Begun). IsSomeAnd x (λ (y : Begun). AnswersOnly y.dest y.number came)) (sym w.is)
+      (subst (λ (d : List ℕ). AnswersOnly d (w.waiting).number came) (sym w.dest) (subst (λ (n : ℕ). AnswersOnly set.dest n came) (sym w.number) answers))) waits
 
   -- whose call it is
   pub caller_of : (first begun : Option Begun) → Waits first begun → set.caller ≡ e.me
@@ -545,11 +526,3 @@ module _ (e : Endpoint) (flight : ℕ) (first : Option Begun) (now : Notes) (had
   memory_ends last all goes same =
       map_some first (λ (b : Begun). GoesOn e b.origin b.request b.inputs flight now had have went.NoMemory)
       (λ (b : Begun). EndsSo e b.origin b.request b.inputs last had all ends.NoMemory) (λ b h. same ∙ h.1) goes
-
--- the flight of an arrival ends as the arrival does
-pub arrival_ends : (e : Endpoint) (o : Origin) (q : Request) (i : Inputs) (begun : Option Begun) (flight : ℕ) (set : SetMessage) (now : Notes) (had mid have : List Receipt)
-    (ending : Ending) → IsWaiting e o q i begun flight set → mid ≡ had → IsSomeAnd begun (λ (b : Begun). EndsSo e b.origin b.request b.inputs now mid have ending)
-    → EndsSo e o q i now had have ending
-arrival_ends e o q i begun flight set now had mid have ending waits same ended =
-    at_open e o q i begun flight set (λ o q i. EndsSo e o q i now had have ending) waits
-    (subst (λ (h : List Receipt). IsSomeAnd begun (λ (b : Begun). EndsSo e b.origin b.request b.inputs now h have ending)) same ended)

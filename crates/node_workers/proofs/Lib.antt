@@ -3,7 +3,11 @@ pub mod TurnLemmas
 pub mod CallLemmas
 pub mod SentLemmas
 pub mod FlightLemmas
+pub mod ArrivalLemmas
+pub mod WantLemmas
 pub mod CommitLemmas
 pub mod MessageLemmas
+pub mod HeldLemmas
 pub mod OperatorLemmas
 pub mod ServeLemmas
+pub mod NotedLemmas

@@ -1,5 +1,5 @@
 -- Which post a message is of, and what becomes of one that came back.
-use Rattle.std.proofs.Common.{◌≡◌, ◌&&◌, ℕ, inl, inr, Bool, true, false, cond, List, [], ◌∷◌, Option, Some, None, Result, Ok, Err, IfOk, IsSomeAnd, find, option_map, refl, sym, ap, ◌∙◌, subst, eqb-true}
+use Rattle.std.proofs.Common.{◌≡◌, ◌&&◌, ℕ, inl, inr, Bool, true, false, cond, List, [], ◌∷◌, Option, Some, None, Result, Ok, Err, IfOk, IsSome, IsSomeAnd, OnErr, find, option_map, refl, sym, ap, ◌∙◌, subst, eqb-true}
 use Rattle.request_log.specs.Entries.{has_id}
 use Rattle.request_log.specs.Records.{Record, record_of}
 use Rattle.request_log.specs.declared.entry.Entry.{Entry}
@@ -13,12 +13,13 @@ use Rattle.call_registers.specs.declared.register.Hold.{Hold}
 use Rattle.call_registers.specs.declared.register.Register.{Register}
 use Rattle.call_registers.specs.declared.reply.Reply.{Reply}
 use Rattle.service_events.specs.Messages.{had, held_back, held_where, hold_of, is_now, posted, posted_event, replies_to}
-use Rattle.service_events.specs.Posts.{answer_post, reply_post, set_message, where_there, write_post}
+use Rattle.service_events.specs.Posts.{answer_post, next_post, reply_post, set_message, where_there, write_post}
 use Rattle.service_events.specs.State.{After, Kept, after, me}
 use Rattle.service_events.specs.declared.answers.PostReply.{PostReply}
 use Rattle.service_events.specs.declared.answers.PostReply.TheVariants as back
 use Rattle.service_events.specs.declared.answers.Posted.{Posted}
 use Rattle.service_events.specs.declared.answers.Posted.TheVariants as became
+use Rattle.service_events.specs.declared.event.Done.{Done as NodeDone}
 use Rattle.service_events.specs.declared.event.Done.TheVariants as done
 use Rattle.service_events.specs.declared.event.Event.TheVariants as events
 use Rattle.service_events.specs.declared.refusals.PostRefused.{PostRefused}
@@ -28,13 +29,14 @@ use Rattle.wire_bytes.specs.Sending.{receiver_of, sender_of}
 use Rattle.lang_base.specs.declared.memory.NoMemory.{NoMemory as LacksMemory}
 use Rattle.io_links.specs.Exchanges.{Exchanges}
 use Rattle.node_core.specs.Notes.{post_name}
+use Rattle.node_core.specs.declared.notes.Begun.{Begun}
 use Rattle.node_core.specs.declared.notes.Notes.{Notes}
-use Rattle.node_core.specs.declared.notes.Posting.TheVariants as postings
 use Rattle.node_core.specs.declared.receipt.Receipt.{Receipt}
 use Rattle.node_exchanges.specs.Endpoints.{Endpoint}
-use Rattle.node_exchanges.specs.Posts.{PostsIt}
-use Rattle.node_workers.specs.Posting.{IsTold, IsTurn, IsWrittenPost, SaysSo, outcome}
-use Rattle.node_workers.specs.Turns.{Made}
+use Rattle.node_exchanges.specs.Posts.{PostsAtMost, PostsIt}
+use Rattle.node_workers.specs.Posting.{EndsTurn, GoesNext, IsNextPost, IsPosted, MakesNext, SaysSo, WasWritten, asked_next, asked_text, outcome}
+use Rattle.node_workers.specs.Turns.{IsUntouched, Made, MadeAt, MakesAll, MakesOnce}
+use Rattle.node_workers.proofs.TurnLemmas.{makes_then}
 
 -- ---- what a message is
 
@@ -51,6 +53,12 @@ found_passes p (y ∷ ys) x is = found_by p y ys x (found_passes p ys x) (p y) r
 receives : (dest : List ℕ) (p : Post) → GoesTo dest p → receiver_of p ≡ dest
 receives dest (Set set) goes = goes
 receives dest (Answer a) goes = goes
+
+-- the message of this name, from the service of this name to the peer
+record IsWrittenPost (from_name dest : List ℕ) (name : PostName) (post : Post) : Type 0 where
+  names : post_name post ≡ name
+  from : sender_of post ≡ from_name
+  goes : receiver_of post ≡ dest
 
 module _ (s : Kept) (dest : List ℕ) where
   call_written : (n : ℕ) (o : Option Register) → register n s.registers ≡ o → (p : Post) → option_map (λ r. Set (set_message s r)) o ≡ Some p → GoesTo dest p
@@ -80,7 +88,7 @@ module _ (s : Kept) (dest : List ℕ) where
       entry_written id q (eqb-true q.id id (found_passes (has_entry id) s.replies q found)) (find (has_id q.id) s.entries) refl p is goes
 
   -- the message of a name, where it goes there
-  pub written_post : (name : PostName) (p : Post) → write_post s name ≡ Some p → GoesTo dest p → IsWrittenPost (me s) dest name p
+  written_post : (name : PostName) (p : Post) → write_post s name ≡ Some p → GoesTo dest p → IsWrittenPost (me s) dest name p
   written_post (Call n) p is goes = call_written n (register n s.registers) refl p is goes
   written_post (OfReply id) p is goes = reply_written id (reply id s.replies) refl p is goes
 
@@ -112,32 +120,100 @@ posted_so s p reply made is = by (had s p && replies_to p reply) is
 
 -- ---- a turn
 
--- what is written in the hold in which it goes next
-pub written_there : (s : Kept) (dest : List ℕ) (name : PostName) (p : Post) → write_post s name ≡ Some p → IsSomeAnd (write_post s name) (GoesTo dest)
-    → IsWrittenPost (me s) dest name p
-written_there s dest name p is goes = written_post s dest name p is (subst (λ o. IsSomeAnd o (GoesTo dest)) is goes)
+-- what holds of an answer holds of what it says, if it says anything
+where_ok : {A E : Type 0} (P : Result A E → Type 0) (r : Result A E) → P r → IfOk r (λ (a : A). P (Ok a))
+where_ok P (Ok a) so = so
+where_ok P (Err why) so = tt
 
--- a turn in which something came back
-pub turn_told : (e : Endpoint) (dest : List ℕ) (p : Post) (reply : PostReply) (before now : Notes) (had have : Exchanges) (told : Result (Result Posted PostRefused) LacksMemory)
-    → before.posting ≡ Some (postings.Next (post_name p)) → PostsIt e dest p (Some reply) had have → IfOk told (IsTold p reply before now)
-    → IsTurn e dest now had have (outcome told)
-turn_told e dest p reply before now had have (Ok (Ok became)) next sent told =
-    record { post = p; reply = reply; posting = told.0; gave = told.1; so = posted_so told.1.0 p reply became told.1.1; sent = sent }
-turn_told e dest p reply before now had have (Ok (Err Foreign)) next sent told =
-    record { post = p; reply = reply; posting = told.0 ∙ next; turn = told.1; sent = sent }
-turn_told e dest p reply before now had have (Ok (Err PostRefused.NoMemory)) next sent told = tt
-turn_told e dest p reply before now had have (Err why) next sent told = tt
+-- where one goes on with what is there, it is there
+pub is_there : {X : Type 0} (o : Option X) (P : X → Type 0) → IsSomeAnd o P → IsSome o
+is_there None P so = absurd so
+is_there (Some x) P so = refl
 
--- the same of what a service answered
-pub if_written : (s : Kept) (dest : List ℕ) (name : PostName) (written : Result Post LacksMemory) → IfOk written (λ (p : Post). write_post s name ≡ Some p)
-    → IsSomeAnd (write_post s name) (GoesTo dest) → IfOk written (IsWrittenPost (me s) dest name)
-if_written s dest name (Ok p) is goes = written_there s dest name p is goes
-if_written s dest name (Err why) is goes = tt
+module _ (name dest : List ℕ) (next : PostName) where
+  -- a service that was asked which post goes next stays as it is
+  pub goes_next : (to : List ℕ) (s t : Kept) (begun : Option Begun) → to ≡ dest → MadeAt name s t begun (events.NextPost to) (done.NextPost (Some next))
+      → (next_post dest t ≡ Some next) × IsSomeAnd (write_post t next) (GoesTo dest)
+  goes_next to s t begun same at =
+      let told = at.made in
+      let K : Kept → Type 0 = λ k. (next_post to k ≡ Some next) × IsSomeAnd (write_post k next) (GoesTo to) in
+      let D : List ℕ → Type 0 = λ d. (next_post d t ≡ Some next) × IsSomeAnd (write_post t next) (GoesTo d) in
+      subst D same (subst K (sym told.1) (sym told.0.0, told.0.1.1))
 
--- what a worker was told at its node of what came back
-pub told_so : (name : List ℕ) (before now : Notes) (had have : List Receipt) (p : Post) (reply : PostReply) (posted : Result Posted PostRefused)
-    → Made name before now had have (events.Posted p reply) (done.Posted posted) → IsTold p reply before now posted
-told_so name before now had have p reply (Ok became) made =
-    (ap (λ (n : Notes). n.posting) made.notes, (made.service, sym (ap (λ (a : After (Result Posted PostRefused)). a.answer) made.made)))
-told_so name before now had have p reply (Err Foreign) made = (ap (λ (n : Notes). n.posting) made.notes, ap (λ (n : Notes). n.turn) made.notes)
-told_so name before now had have p reply (Err PostRefused.NoMemory) made = tt
+  module _ (s t : Kept) (begun : Option Begun) (p : Post) (at : MadeAt name s t begun (events.WritePost next) (done.WritePost (Ok p)))
+      (goes : IsSomeAnd (write_post s next) (GoesTo dest)) where
+    wrote : write_post s next ≡ Some p
+    wrote = at.made.0
+
+    message : IsWrittenPost (me s) dest next p
+    message = written_post s dest next p wrote (subst (λ o. IsSomeAnd o (GoesTo dest)) wrote goes)
+
+    -- what goes next is what was written in that hold
+    pub next_so : next_post dest s ≡ Some next → IsNextPost name dest (Some p)
+    next_so is =
+        let named : next ≡ post_name p = sym message.names in
+        let written : write_post s (post_name p) ≡ Some p = ap (λ (n : PostName). write_post s n) message.names ∙ wrote in
+        (message.from ∙ at.is, message.goes, record { service = s; is = at.is; fits = at.fits; next = is ∙ ap Some named; written = written })
+
+    pub next_makes : (mid now : Notes) (held have : List Receipt) → Made name mid now held have (events.WritePost next) (done.WritePost (Ok p))
+        → GoesNext name dest next mid now held have (Ok (Some p))
+    next_makes mid now held have made before had asked =
+        subst (λ (n : PostName). MakesAll name ((events.NextPost dest, done.NextPost (Some n)) ∷ (events.WritePost n, done.WritePost (Ok p)) ∷ []) before now had have)
+        (sym message.names) (mid, held, asked, (now, have, made, (refl, refl)))
+
+  -- where it couldn't be written
+  pub next_wants : (mid now : Notes) (held have : List Receipt) (lacks : LacksMemory) → MakesOnce name (events.WritePost next) mid now held have
+      → GoesNext name dest next mid now held have (Err lacks)
+  next_wants mid now held have lacks once before had asked = inr (next, mid, held, asked, once)
+
+module _ (name : List ℕ) (next : PostName) where
+  -- what was written, if it was
+  pub written_at : (s t : Kept) (begun : Option Begun) (written : Result Post LacksMemory) → MadeAt name s t begun (events.WritePost next) (done.WritePost written)
+      → IfOk written (λ (p : Post). MadeAt name s t begun (events.WritePost next) (done.WritePost (Ok p)))
+  written_at s t begun written at = where_ok (λ (w : Result Post LacksMemory). MadeAt name s t begun (events.WritePost next) (done.WritePost w)) written at
+
+  pub written_made : (before now : Notes) (had have : List Receipt) (written : Result Post LacksMemory)
+      → Made name before now had have (events.WritePost next) (done.WritePost written)
+      → IfOk written (λ (p : Post). Made name before now had have (events.WritePost next) (done.WritePost (Ok p)))
+  written_made before now had have written made =
+      where_ok (λ (w : Result Post LacksMemory). Made name before now had have (events.WritePost next) (done.WritePost w)) written made
+
+-- the service was asked which post goes to this peer
+pub asked_so : (name to dest : List ℕ) (next : Option PostName) (before now : Notes) (had have : List Receipt) (d : NodeDone) → to ≡ dest → d ≡ done.NextPost next
+    → Made name before now had have (events.NextPost to) d → Made name before now had have (events.NextPost dest) (done.NextPost next)
+asked_so name to dest next before now had have d same is made =
+    subst (λ (x : List ℕ). Made name before now had have (events.NextPost x) (done.NextPost next)) same
+    (subst (λ (x : NodeDone). Made name before now had have (events.NextPost to) x) is made)
+
+-- none is outstanding
+pub asked_none : (name dest : List ℕ) (before now : Notes) (had have : List Receipt) → Made name before now had have (events.NextPost dest) (done.NextPost None)
+    → MakesNext name dest (Ok None) before now had have
+asked_none name dest before now had have made = (now, have, made, (refl, refl))
+
+module _ (e : Endpoint) (dest : List ℕ) (p : Post) (mid now : Notes) (held have : List Receipt) (link link_now : Exchanges) (was : WasWritten e.me dest p) where
+  -- something came back, and was told to the service, which answered so
+  module _ (reply : PostReply) (sent : PostsIt e dest p (Some reply) link link_now) where
+    posted_by : (answer : Result Posted PostRefused) → IfOk answer (SaysSo reply) → Made e.me mid now held have (events.Posted p reply) (done.Posted answer)
+        → (before : Notes) (had : List Receipt) → MakesNext e.me dest (Ok (Some p)) before mid had held → IsPosted e dest answer before now had have link link_now
+    posted_by answer so made before had makes =
+        record {
+          post = p;
+          reply = reply;
+          written = was;
+          made = makes_then e.me (asked_next dest (Some (post_name p)) ∷ asked_text p ∷ []) before mid now had held have (events.Posted p reply) (done.Posted answer) makes made;
+          sent = sent;
+          so = so;
+        }
+
+    pub turn_told : PostsAtMost e dest p link link_now → (told : Result (Result Posted PostRefused) LacksMemory)
+        → IfOk told (λ (answer : Result Posted PostRefused). Made e.me mid now held have (events.Posted p reply) (done.Posted answer))
+        → OnErr told (IsUntouched mid now held have) → EndsTurn e dest p mid now held have link link_now (outcome told)
+    turn_told sends (Ok (Ok became)) made none before had makes =
+        let answered = sym (ap (λ (a : After (Result Posted PostRefused)). a.answer) made.made) in
+        posted_by (Ok became) (posted_so made.service p reply became answered) made before had makes
+    turn_told sends (Ok (Err Foreign)) made none before had makes = posted_by (Err Foreign) tt made before had makes
+    turn_told sends (Ok (Err PostRefused.NoMemory)) made none before had makes = inr (inr (posted_by (Err PostRefused.NoMemory) tt made before had makes))
+    turn_told sends (Err why) made none before had makes =
+        let here = subst (λ (h : List Receipt). MakesNext e.me dest (Ok (Some p)) before mid had h) (sym none.1) makes in
+        let whole = subst (λ (n : Notes). MakesNext e.me dest (Ok (Some p)) before n had have) (sym none.0) here in
+        inr (inl (record { post = p; written = was; made = whole; sends = sends }))

@@ -25,7 +25,7 @@ use Rattle.http_front.specs.declared.message.FrontRefused.TheVariants as front
 use Rattle.wire_fields.specs.Secrets.{Secrets}
 use Rattle.wire_fields.specs.declared.console.ConsoleRequest.{ConsoleRequest}
 use Rattle.wire_fields.specs.declared.console.ConsoleWord.{ConsoleWord}
-use Rattle.admin_console.specs.Asking.{is_for_workers}
+use Rattle.admin_console.specs.Asking.{is_of_the_run}
 use Rattle.wire_fields.specs.declared.refused.WireRefused.{WireRefused}
 use Rattle.wire_replies.specs.Writing.{IsFor, written}
 use Rattle.wire_replies.specs.declared.replies.Outgoing.{Outgoing}
@@ -49,7 +49,7 @@ use Rattle.node_exchanges.specs.declared.served.Served.{Served}
 use Rattle.node_exchanges.specs.declared.served.Served.TheVariants as served
 use Rattle.node_workers.specs.Flying.{IsCaller, IsNoted, RefusesAs}
 use Rattle.node_workers.specs.Messages.{IsHeardSo, IsTakenSo}
-use Rattle.node_workers.specs.Serving.{Hears, IsCounted, IsForWorkers, IsLiveRequest, IsOperatorTold, IsPlainly, IsServed, IsToldOf, OneReceipt, Owes, ServesMessage, ServesRequest, WantsMemory, client, sender}
+use Rattle.node_workers.specs.Serving.{Hears, IsCounted, IsForWorkers, IsLiveRequest, IsOperatorTold, IsPlainly, IsServed, IsToldOf, IsUntaken, OneReceipt, Owes, ServesMessage, ServesRequest, WantsMemory, client, sender}
 use Rattle.node_workers.specs.Written.{IsCommitWritten, IsConsoleSo, last_of}
 
 -- ---- refusals
@@ -87,7 +87,7 @@ counted_so why before now fails = tt
 
 -- ---- an operator's word
 
-pub not_for_workers : (word : ConsoleWord) → is_for_workers word ≡ false → ¬ IsForWorkers word
+pub not_for_workers : (word : ConsoleWord) → is_of_the_run word ≡ false → ¬ IsForWorkers word
 not_for_workers word not = λ works. absurd (cc (not, works))
 
 module _ (e : Endpoint) (i : Inputs) (asked : ConsoleRequest) (notes : Notes) (before now : Writes) (other : ¬ IsForWorkers asked.word) where
@@ -144,7 +144,7 @@ module _ (e : Endpoint) (i : Inputs) (before now : Reads) (wrote wrote_now : Wri
   Owed answer bytes = Owes e i before now notes had have answer bytes
 
   abbrev Why : Incoming → Outgoing → Type 0
-  Why message reply = IsToldOf i message notes reply ⊎ WantsMemory reply
+  Why message reply = IsToldOf i message notes reply ⊎ WantsMemory message notes reply
 
   cut_short : (answer : Served) (bytes : List ℕ) → Owed answer bytes → IsCutShort wrote wrote_now bytes → Well served.WriteFault
   cut_short answer bytes owed cut = record { answer = answer; bytes = bytes; owed = owed; short = cut.0; fails = cut.1 }
@@ -224,8 +224,14 @@ module _ (e : Endpoint) (i : Inputs) (before now : Reads) (wrote wrote_now : Wri
   console_well asked (served.WireRefused why) heard same so = absurd so.1.2
   console_well asked served.Gone heard same so = absurd so.1.2
 
-  gone_well : notes.turn ≡ Some turns.Gone → have ≡ had → wrote_now ≡ wrote → Well served.Gone
-  gone_well turn same none = record { bytes = []; owed = (turn, same, refl); wrote = wrote_nothing wrote wrote_now none }
+  gone_well : (message : Incoming) (origin : Origin) (request : Request) → Hears e before now message → IsLiveRequest message origin request → notes.turn ≡ Some turns.Gone
+      → have ≡ had → wrote_now ≡ wrote → Well served.Gone
+  gone_well message origin request heard live turn same none =
+      record {
+        bytes = [];
+        owed = (record { message = message; heard = heard; origin = origin; request = request; is = live; turn = turn }, same, refl);
+        wrote = wrote_nothing wrote wrote_now none;
+      }
 
   front_well : (why : FrontRefused) (answer : Served) → IsHeardFrom e.me e.secrets e.console before now (Err (unheard.Front why)) → IsCounted why before now → have ≡ had
       → IsAnsweredBy (front_word why) (served.FrontRefused why) wrote wrote_now answer → Well answer
@@ -284,7 +290,7 @@ module _ (e : Endpoint) (i : Inputs) (now : Reads) (wrote wrote_now : Writes) (n
       (subst (λ (o : Option Receipt). IsSomeAnd o (λ (r : Receipt). IsCommitWritten index r.reply wrote wrote_now answer)) last commit)
 
   live_said : (origin : Origin) (request : Request) (to : Option (List ℕ)) (reply : Outgoing) (answer : Served) → to ≡ client origin
-      → ((message : Incoming) → IsLiveRequest message origin request → IsToldOf i message notes reply ⊎ WantsMemory reply)
+      → ((message : Incoming) → IsLiveRequest message origin request → IsToldOf i message notes reply ⊎ WantsMemory message notes reply)
       → have ≡ had → SaysIt e.me e.secret to reply wrote wrote_now answer → DoesLive origin request answer
   live_said origin request to reply answer whom so same says message live before heard =
       said_well e i before now wrote wrote_now notes had have message to reply answer heard (whom ∙ client_is message origin request live) (so message live) same says
@@ -295,20 +301,28 @@ module _ (e : Endpoint) (i : Inputs) (now : Reads) (wrote wrote_now : Writes) (n
       live_said origin request to (known_reply a) answer whom (λ message live. inl (record { gave = _; noted = noted; of = (live, refl); so = inr refl; plainly = plain_known message a })) same says
 
   pub live_refused : (origin : Origin) (request : Request) (to : Option (List ℕ)) (why : ArriveRefused) (told : Told) (answer : Served) → to ≡ client origin
-      → IsNoted origin request i notes (done.Arrive (Err why)) → notes.turn ≡ Some (turn_by (arrive_refusal why)) → RefusesAs origin why → have ≡ had → told ≡ arrive_told why
+      → IsNoted origin request i notes (done.Arrive (Err why)) → RefusesAs origin why → have ≡ had → told ≡ arrive_told why
       → SaysIt e.me e.secret to (replies.Refused told.0 told.1) wrote wrote_now answer → DoesLive origin request answer
-  live_refused origin request to why told answer whom noted turn plainly same is says =
+  live_refused origin request to why told answer whom noted plainly same is says =
       live_said origin request to (replies.Refused (arrive_told why).0 (arrive_told why).1) answer whom
-      (λ message live. inl (record { gave = _; noted = noted; of = (live, refl); so = inl (turn_by (arrive_refusal why), turn, refl); plainly = plain_refused message origin request why live plainly }))
+      (λ message live. inl (record { gave = _; noted = noted; of = (live, refl); so = inl (turn_by (arrive_refusal why), refl, refl); plainly = plain_refused message origin request why live plainly }))
       same (subst (λ (t : Told). SaysIt e.me e.secret to (replies.Refused t.0 t.1) wrote wrote_now answer) is says)
 
   pub live_gone : (origin : Origin) (request : Request) → notes.turn ≡ Some turns.Gone → have ≡ had → wrote_now ≡ wrote → DoesLive origin request served.Gone
-  live_gone origin request turn same none message live before heard = gone_well e i before now wrote wrote_now notes had have turn same none
+  live_gone origin request turn same none message live before heard =
+      gone_well e i before now wrote wrote_now notes had have message origin request heard live turn same none
+
+  live_untaken : (message : Incoming) (origin : Origin) (request : Request) → IsLiveRequest message origin request → IsUntaken message notes
+  live_untaken (said.Outside q) origin request live = tt
+  live_untaken (said.Live set) origin request live = tt
+  live_untaken (said.Set set) origin request live = absurd live
+  live_untaken (said.Answer a) origin request live = absurd live
+  live_untaken (said.Console asked) origin request live = absurd live
 
   pub live_wants : (origin : Origin) (request : Request) (to : Option (List ℕ)) (answer : Served) → to ≡ client origin → have ≡ had
       → SaysIt e.me e.secret to (replies.Refused (codes "nomemory") 0) wrote wrote_now answer → DoesLive origin request answer
   live_wants origin request to answer whom same says =
-      live_said origin request to (replies.Refused (codes "nomemory") 0) answer whom (λ message live. inr refl) same says
+      live_said origin request to (replies.Refused (codes "nomemory") 0) answer whom (λ message live. inr (live_untaken message origin request live, refl)) same says
 
   -- a request from outside, and a peer's live call, is served as the live request that it is
   pub outside_served : (request : Request) (answer : Served) → DoesLive Outside request answer → Does (said.Outside request) answer
@@ -328,7 +342,7 @@ module _ (e : Endpoint) (i : Inputs) (now : Reads) (wrote wrote_now : Writes) (n
       → told ≡ take_told why → SaysIt e.me e.secret (Some to) (replies.Refused told.0 told.1) wrote wrote_now answer → Does (said.Set set) answer
   set_refused set to why told answer whom so same is says before heard =
       said_well e i before now wrote wrote_now notes had have (said.Set set) (Some to) (replies.Refused (take_told why).0 (take_told why).1) answer heard (ap Some whom)
-      (inl (record { gave = _; noted = so.noted; of = (refl, refl); so = inl (turn_by (take_refusal why), so.turn, refl); plainly = tt }))
+      (inl (record { gave = _; noted = so.noted; of = (refl, refl); so = inl (turn_by (take_refusal why), refl, refl); plainly = tt }))
       same (subst (λ (t : Told). SaysIt e.me e.secret (Some to) (replies.Refused t.0 t.1) wrote wrote_now answer) is says)
 
   pub answer_heard : (a : AnswerMessage) (to : List ℕ) (heard : Heard) (answer : Served) → to ≡ a.callee → IsHeardSo a notes (Ok heard) → have ≡ had
@@ -341,14 +355,14 @@ module _ (e : Endpoint) (i : Inputs) (now : Reads) (wrote wrote_now : Writes) (n
       → told ≡ answer_told why → SaysIt e.me e.secret (Some to) (replies.Refused told.0 told.1) wrote wrote_now answer → Does (said.Answer a) answer
   answer_refused a to why told answer whom so same is says before hears =
       said_well e i before now wrote wrote_now notes had have (said.Answer a) (Some to) (replies.Refused (answer_told why).0 (answer_told why).1) answer hears (ap Some whom)
-      (inl (record { gave = _; noted = so.noted; of = refl; so = inl (turn_by (answer_refusal why), so.turn, refl); plainly = tt }))
+      (inl (record { gave = _; noted = so.noted; of = refl; so = inl (turn_by (answer_refusal why), refl, refl); plainly = tt }))
       same (subst (λ (t : Told). SaysIt e.me e.secret (Some to) (replies.Refused t.0 t.1) wrote wrote_now answer) is says)
 
   -- memory was wanting for a message of a peer
-  pub message_wants : (message : Incoming) (to : Option (List ℕ)) (answer : Served) → to ≡ sender message → have ≡ had
+  pub message_wants : (message : Incoming) (to : Option (List ℕ)) (answer : Served) → to ≡ sender message → IsUntaken message notes → have ≡ had
       → SaysIt e.me e.secret to (replies.Refused (codes "nomemory") 0) wrote wrote_now answer → Does message answer
-  message_wants message to answer whom same says before heard =
-      said_well e i before now wrote wrote_now notes had have message to (replies.Refused (codes "nomemory") 0) answer heard whom (inr refl) same says
+  message_wants message to answer whom untaken same says before heard =
+      said_well e i before now wrote wrote_now notes had have message to (replies.Refused (codes "nomemory") 0) answer heard whom (inr (untaken, refl)) same says
 
   -- likewise even for its sender's name
   pub message_dropped : (message : Incoming) → have ≡ had → wrote_now ≡ wrote → Does message served.NoMemory

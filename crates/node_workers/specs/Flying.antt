@@ -1,6 +1,5 @@
 -- A live request from its arrival to its end.
 use Rattle.std.specs.Prelude.{ℕ, ◌≡◌, ◌≤◌, ◌+◌, ◌++◌, ◌⊎◌, ◌∷◌, List, [], Option, Some, None, Result, Ok, Err, IfOk, OnErr}
-use Rattle.std.specs.Option.{ForSome}
 use Rattle.lang_base.specs.declared.memory.NoMemory.{NoMemory as LacksMemory}
 use Rattle.lang_core.specs.declared.ids.Origin.{Origin}
 use Rattle.lang_core.specs.declared.ids.Origin.TheVariants.{Outside, Call}
@@ -18,6 +17,7 @@ use Rattle.service_events.specs.declared.event.Event.{Event as NodeEvent}
 use Rattle.service_events.specs.declared.event.Event.TheVariants as events
 use Rattle.service_events.specs.declared.refusals.ArriveRefused.{ArriveRefused}
 use Rattle.service_events.specs.declared.refusals.ArriveRefused.TheVariants as refusals
+use Rattle.service_events.specs.declared.refusals.CallRefused.TheVariants as call_refusals
 use Rattle.io_links.specs.Exchanges.{Exchanges}
 use Rattle.io_links.specs.declared.links.Exchanged.{Exchanged}
 use Rattle.node_core.specs.Doings.{IsOpen}
@@ -26,10 +26,10 @@ use Rattle.node_core.specs.declared.notes.Begun.{Begun}
 use Rattle.node_core.specs.declared.notes.Notes.{Notes}
 use Rattle.node_core.specs.declared.notes.Turn.TheVariants as turns
 use Rattle.node_core.specs.declared.receipt.Receipt.{Receipt}
-use Rattle.node_exchanges.specs.Calls.{IsCallOf}
+use Rattle.node_exchanges.specs.Calls.{IsCallOf, IsSent, LinkTells}
 use Rattle.node_workers.specs.Desks.{Endpoint}
 use Rattle.node_workers.specs.Serving.{OneReceipt}
-use Rattle.node_workers.specs.Turns.{Made}
+use Rattle.node_workers.specs.Turns.{IsUntouched, Made}
 use Rattle.node_workers.specs.declared.flying.Went.{Went}
 use Rattle.node_workers.specs.declared.flying.Went.TheVariants as went
 use Rattle.node_workers.specs.declared.live.Ending.{Ending}
@@ -45,6 +45,7 @@ pub record IsWaiting (e : Endpoint) (origin : Origin) (request : Request) (i : I
   pub is : begun ≡ Some waiting
   pub flight_so : waiting.flight ≡ flight
   pub number : waiting.number ≡ set.number
+  pub dest : waiting.dest ≡ set.dest
   pub of : waiting.origin ≡ origin
   pub asked : waiting.request ≡ request
   pub inputs : waiting.inputs ≡ i
@@ -71,17 +72,31 @@ abbrev pub end_of_call : ℕ → ℕ → Result AnswerMessage Why → NodeEvent
 end_of_call flight number (Ok answer) = events.CallAnswered flight answer
 end_of_call flight number (Err why) = events.CallFailed flight number why
 
--- What came of the open flight's call was told to the service, in one event, and in a second one where memory was wanting for the first,
--- which changes neither the open flight nor what is counted. By what the last answered, the flight goes on this way.
+-- the service answered that memory was wanting
+abbrev pub IsWanting : NodeDone → Type 0
+IsWanting (done.CallAnswered (Err call_refusals.NoMemory)) = Unit {0}
+IsWanting (done.CallFailed (Err call_refusals.NoMemory)) = Unit {0}
+IsWanting answer = ⊥
+
+-- What came of the open flight's call was told to the service, in one event, or none where there was no memory for it. By what it answered, the
+-- flight goes on this way; it waits as before for want of memory alone.
+pub record IsToldOnce (e : Endpoint) (flight number : ℕ) (came : Result AnswerMessage Why) (before now : Notes) (had have : List Receipt) (way : Went) : Type 0 where
+  pub answer : Result NodeDone LacksMemory
+  pub made : IfOk answer (Made e.me before now had have (end_of_call flight number came))
+  pub nothing : OnErr answer ((now ≡ before) × (have ≡ had))
+  pub goes : way ≡ went_of answer
+  pub wanting : way ≡ went.NoMemory → IfOk answer IsWanting
+
+-- it was told so in one event, and memory was wanting
+abbrev pub IsToldInVain : Endpoint → ℕ → ℕ → Result AnswerMessage Why → Notes → Notes → List Receipt → Type 0
+IsToldInVain e flight number came before now receipts =
+    (d : NodeDone) × Made e.me before now receipts receipts (end_of_call flight number came) d × IsWanting d
+
+-- it was told once; or twice, where memory was wanting the first time
 pub record IsTold (e : Endpoint) (flight number : ℕ) (came : Result AnswerMessage Why) (before now : Notes) (had have : List Receipt) (way : Went) : Type 0 where
   pub since : Notes
-  pub begun : since.begun ≡ before.begun
-  pub lost : since.lost ≡ before.lost
-  pub refused : since.refused ≡ before.refused
-  pub answer : Result NodeDone LacksMemory
-  pub made : IfOk answer (Made e.me since now had have (end_of_call flight number came))
-  pub nothing : OnErr answer ((now ≡ since) × (have ≡ had))
-  pub goes : way ≡ went_of answer
+  pub first : (since ≡ before) ⊎ IsToldInVain e flight number came before since had
+  pub last : IsToldOnce e flight number came since now had have way
 
 -- no more is counted as lost and as refused than this
 pub record NotesAtMost (before now : Notes) (lost refused : ℕ) : Type 0 where
@@ -181,48 +196,85 @@ MakesCalls e (x ∷ made) before now had have (went.Call flight set) way =
     × MakesCalls e made mid now held have next way
 MakesCalls e (x ∷ made) before now had have from way = ⊥
 
--- where the link tells its exchanges, those that were made
-abbrev pub FliesOn : Endpoint → Notes → Notes → List Receipt → List Receipt → Exchanges → Exchanges → Went → Went → Type 0
-FliesOn e before now had have was is from way =
-    ForSome was.made (λ all. (made : List Exchanged) × (is.made ≡ Some (all ++ made)) × MakesCalls e made before now had have from way)
+-- no exchange, or one in which the call was sent
+abbrev pub SentAtMost : Endpoint → SetMessage → List Exchanged → Type 0
+SentAtMost e set [] = Unit {0}
+SentAtMost e set (x ∷ []) = IsSent e set x
+SentAtMost e set (x ∷ y ∷ more) = ⊥
 
--- where memory was wanting, no more is said
-abbrev pub UnlessWanting : Went → Type 0 → Type 0
-UnlessWanting went.NoMemory this = Unit {0}
-UnlessWanting way this = this
+-- There was no memory for this call, or for what came of it: no exchange was made, or one in which it was sent, and no event was; or it was
+-- told to the service what came of that exchange, and memory was wanting.
+abbrev pub StopsAt : Endpoint → ℕ → SetMessage → List Exchanged → Notes → Notes → List Receipt → List Receipt → Type 0
+StopsAt e flight set made before now had have =
+    (SentAtMost e set made × IsUntouched before now had have)
+    ⊎ ((x : Exchanged) × (made ≡ x ∷ []) × MakesCall e flight set x before now had have went.NoMemory)
 
--- a flight that was committed flew so
-abbrev pub FliesSo : Endpoint → ℕ → SetMessage → Notes → Notes → List Receipt → List Receipt → Exchanges → Exchanges → Ending → Type 0
-FliesSo e flight set before now had have was is (ends.Committed index) =
-    FliesOn e before now had have was is (went.Call flight set) (went.Committed index)
-FliesSo e flight set before now had have was is other = Unit {0}
+-- a flight whose next call is this goes on this way, by these exchanges
+abbrev pub GoesBy : Endpoint → ℕ → SetMessage → List Exchanged → Notes → Notes → List Receipt → List Receipt → Went → Type 0
+GoesBy e flight set made before now had have went.NoMemory = StopsAt e flight set made before now had have
+GoesBy e flight set made before now had have way = MakesCalls e made before now had have (went.Call flight set) way
 
--- the arrival was one event, and the live request began by what the service answered
+-- the flight was given up, in one event; asked of a service that doesn't have it, nothing came of that
+abbrev pub GivesUp : ℕ → Notes → Notes → List Receipt → List Receipt → Type 0
+GivesUp flight before now had have = (name : List ℕ) × (d : NodeDone) × Made name before now had have (events.Abandon flight) d
+
+-- A flight that was given up for want of memory: the first of these exchanges were its calls, and memory was wanting for the call that the
+-- service named last, which was sent in the rest, if at all.
+pub record IsAbandoned (e : Endpoint) (flight : ℕ) (set : SetMessage) (made : List Exchanged) (before now : Notes) (had have : List Receipt) : Type 0 where
+  pub front : List Exchanged
+  pub rest : List Exchanged
+  pub is : made ≡ front ++ rest
+  pub last : ℕ
+  pub call : SetMessage
+  pub named : Notes
+  pub stopped : Notes
+  pub held : List Receipt
+  pub kept : List Receipt
+  pub calls : MakesCalls e front before named had held (went.Call flight set) (went.Call last call)
+  pub stops : StopsAt e last call rest named stopped held kept
+  pub up : GivesUp last stopped now kept have
+
+-- a flight that ended so, by all its exchanges and events
+abbrev pub FliesSo : Endpoint → ℕ → SetMessage → List Exchanged → Notes → Notes → List Receipt → List Receipt → Ending → Type 0
+FliesSo e flight set made before now had have (ends.Committed index) = MakesCalls e made before now had have (went.Call flight set) (went.Committed index)
+FliesSo e flight set made before now had have ends.Gone = MakesCalls e made before now had have (went.Call flight set) went.Gone
+FliesSo e flight set made before now had have ends.NoMemory = IsAbandoned e flight set made before now had have
+FliesSo e flight set made before now had have (ends.Known a) = ⊥
+FliesSo e flight set made before now had have (ends.Refused why) = ⊥
+
+-- the arrival was one event, or none where there was no memory for it, and the live request began by what the service answered
 pub record IsArrival (e : Endpoint) (o : Origin) (q : Request) (i : Inputs) (before now : Notes) (had have : List Receipt) (began : Began) : Type 0 where
   pub answer : Result NodeDone LacksMemory
   pub made : IfOk answer (Made e.me before now had have (events.Arrive o q i))
+  pub nothing : OnErr answer (IsUntouched before now had have)
   pub begins : began ≡ began_of answer
 
--- how a request goes on that began so
-abbrev pub way_of : Began → Went
-way_of (begins.Ended (ends.Committed index)) = went.Committed index
-way_of (begins.Ended ending) = went.NoMemory
-way_of (begins.Call flight set) = went.Call flight set
+-- what began so ended so: at once, without an exchange and another event, or as a flight
+abbrev pub EndsBy : Endpoint → Began → List Exchanged → Notes → Notes → List Receipt → List Receipt → Ending → Type 0
+EndsBy e (begins.Ended at) made before now had have ending = (at ≡ ending) × (made ≡ []) × IsUntouched before now had have
+EndsBy e (begins.Call flight set) made before now had have ending = FliesSo e flight set made before now had have ending
 
--- A live request that was committed, with all its events: its arrival, and for each call that the service named, until it named none, what
--- came of the exchange in which that call was made.
-pub record IsCommittedBy (e : Endpoint) (o : Origin) (q : Request) (i : Inputs) (before now : Notes) (had have : List Receipt) (was is : Exchanges) (index : ℕ) : Type 0 where
+-- A live request that ended so, with all its exchanges and events: its arrival, and for each call that the service named, until it named none,
+-- what came of the exchange in which that call was made.
+pub record LivesSo (e : Endpoint) (o : Origin) (q : Request) (i : Inputs) (made : List Exchanged) (before now : Notes) (had have : List Receipt) (ending : Ending) : Type 0 where
   pub notes : Notes
   pub receipts : List Receipt
   pub began : Began
   pub arrival : IsArrival e o q i before notes had receipts began
-  pub calls : FliesOn e notes now receipts have was is (way_of began) (went.Committed index)
+  pub goes : EndsBy e began made notes now receipts have ending
 
-abbrev pub LivesSo : Endpoint → Origin → Request → Inputs → Notes → Notes → List Receipt → List Receipt → Exchanges → Exchanges → Ending → Type 0
-LivesSo e o q i before now had have was is (ends.Committed index) = IsCommittedBy e o q i before now had have was is index
-LivesSo e o q i before now had have was is other = Unit {0}
+-- ---- what the link tells of them
 
--- where a live request was committed, it was by these events
-abbrev pub CommitsBy : Endpoint → Inputs → Notes → Notes → List Receipt → List Receipt → Exchanges → Exchanges → Type 0
-CommitsBy e i before now had have was is =
-    (have ≡ had) ⊎ ((o : Origin) × (q : Request) × (index : ℕ) × IsCommittedBy e o q i before now had have was is index)
+-- calls were made until the flight goes on this way
+abbrev pub FliesOn : Endpoint → Notes → Notes → List Receipt → List Receipt → Exchanges → Exchanges → Went → Went → Type 0
+FliesOn e before now had have was is from way = (made : List Exchanged) × LinkTells was is made × MakesCalls e made before now had have from way
+
+-- this call was next, and the flight goes on this way
+abbrev pub SendsNext : Endpoint → ℕ → SetMessage → Notes → Notes → List Receipt → List Receipt → Exchanges → Exchanges → Went → Type 0
+SendsNext e flight set before now had have was is way = (made : List Exchanged) × LinkTells was is made × GoesBy e flight set made before now had have way
+
+abbrev pub Flies : Endpoint → ℕ → SetMessage → Notes → Notes → List Receipt → List Receipt → Exchanges → Exchanges → Ending → Type 0
+Flies e flight set before now had have was is ending = (made : List Exchanged) × LinkTells was is made × FliesSo e flight set made before now had have ending
+
+abbrev pub Lives : Endpoint → Origin → Request → Inputs → Notes → Notes → List Receipt → List Receipt → Exchanges → Exchanges → Ending → Type 0
+Lives e o q i before now had have was is ending = (made : List Exchanged) × LinkTells was is made × LivesSo e o q i made before now had have ending

@@ -1,8 +1,11 @@
 pub mod Desks
 pub mod Turns
+pub mod Held
 pub mod Posting
 pub mod Calling
+pub mod Operators
 pub mod Serving
+pub mod Asking
 pub mod Flying
 pub mod Messages
 pub mod Written

@@ -8,7 +8,7 @@ use Rattle.repair_messages.specs.Refusals.{word_text}
 use Rattle.journal_rows.specs.declared.callee.AnsweredRow.{AnsweredRow}
 use Rattle.journal_rows.specs.declared.orders.Command.{Command}
 use Rattle.journal_rows.specs.declared.row.Row.TheVariants as rows
-use Rattle.service_events.specs.State.{Kept, me}
+use Rattle.service_events.specs.State.{Kept}
 use Rattle.service_events.specs.declared.answers.Arrived.{Arrived}
 use Rattle.service_events.specs.declared.answers.Arrived.TheVariants as arrived
 use Rattle.service_events.specs.declared.answers.Heard.{Heard}
@@ -35,13 +35,14 @@ use Rattle.aire_wire.specs.declared.incoming.Incoming.TheVariants as said
 use Rattle.wire_bytes.specs.Console.{console_refusal}
 use Rattle.wire_bytes.specs.Hearing.{IsHeardFrom, TakenSays}
 use Rattle.wire_bytes.specs.declared.hearing.Unheard.TheVariants as unheard
-use Rattle.admin_console.specs.Asking.{asked_in, is_for_workers}
+use Rattle.admin_console.specs.Asking.{asked_in, is_of_the_run}
 use Rattle.admin_console.specs.Previews.{IsPreviewReply}
 use Rattle.admin_console.specs.Replies.{bad, order_reply, report_reply}
 use Rattle.admin_console.specs.Reports.{report_of}
 use Rattle.admin_console.specs.declared.asking.Asked.{Asked}
 use Rattle.admin_console.specs.declared.asking.Asked.TheVariants as asks
 use Rattle.admin_console.specs.declared.asking.Report.{Report}
+use Rattle.node_core.specs.Notes.{turn_of}
 use Rattle.node_core.specs.declared.notes.Gave.{Gave}
 use Rattle.node_core.specs.declared.notes.Notes.{Notes}
 use Rattle.node_core.specs.declared.notes.Turn.{Turn}
@@ -51,6 +52,7 @@ use Rattle.node_exchanges.specs.Endpoints.{Endpoint}
 use Rattle.node_exchanges.specs.Replies.{known_reply, refusal_bytes}
 use Rattle.node_exchanges.specs.declared.served.Served.{Served}
 use Rattle.node_exchanges.specs.declared.served.Served.TheVariants as served
+use Rattle.node_workers.specs.Desks.{IsServiceOf}
 use Rattle.node_workers.specs.Messages.{IsOrderedSo}
 
 -- ---- the message read
@@ -108,6 +110,15 @@ pub record Commits (e : Endpoint) (i : Inputs) (before now : Reads) (had have : 
   pub one : OneReceipt origin request i index had have
   pub reply : bytes ≡ one.receipt.reply
 
+-- the message is a live request, and its flight wasn't there any more
+pub record IsGone (e : Endpoint) (before now : Reads) (notes : Notes) : Type 0 where
+  pub message : Incoming
+  pub heard : Hears e before now message
+  pub origin : Origin
+  pub request : Request
+  pub is : IsLiveRequest message origin request
+  pub turn : notes.turn ≡ Some turns.Gone
+
 -- the reply tells how the event was turned away; NoFlight and Foreign are told to no client
 abbrev pub TellsTurn : Turn → Outgoing → Type 0
 TellsTurn (turns.Refused word n) reply = reply ≡ replies.Refused (word_text word) n
@@ -137,21 +148,27 @@ abbrev pub IsPlainly : Incoming → Outgoing → Type 0
 IsPlainly (said.Outside q) (replies.Refused word n) = (word ≡ codes "full") ⊎ (word ≡ codes "nomemory")
 IsPlainly message reply = Unit {0}
 
--- The reply is what came of the message's own event, as the worker's notes have it: how it was turned away, or what was answered.
+-- The reply is what came of the message's own event, as the worker's notes have it: how that was turned away, or what was answered.
 pub record IsToldOf (i : Inputs) (message : Incoming) (notes : Notes) (reply : Outgoing) : Type 0 where
   pub gave : Gave
   pub noted : notes.gave ≡ Some gave
   pub of : AsksFor message i gave.asked
-  pub so : ((turn : Turn) × (notes.turn ≡ Some turn) × TellsTurn turn reply) ⊎ (answer_reply gave.done ≡ Some reply)
+  pub so : ((turn : Turn) × (turn_of gave.done ≡ Some turn) × TellsTurn turn reply) ⊎ (answer_reply gave.done ≡ Some reply)
   pub plainly : IsPlainly message reply
 
--- memory was wanting
-abbrev pub WantsMemory : Outgoing → Type 0
-WantsMemory reply = reply ≡ replies.Refused (codes "nomemory") 0
+-- the notes have no event of a version of a call, nor of an answer, and so none was made; what was made of a live request is told of its flight
+abbrev pub IsUntaken : Incoming → Notes → Type 0
+IsUntaken (said.Set set) notes = notes.gave ≡ None
+IsUntaken (said.Answer a) notes = notes.gave ≡ None
+IsUntaken message notes = Unit {0}
 
--- the word is one that workers answer, over all services
+-- memory was wanting, and nothing that a peer sent was taken
+abbrev pub WantsMemory : Incoming → Notes → Outgoing → Type 0
+WantsMemory message notes reply = IsUntaken message notes × (reply ≡ replies.Refused (codes "nomemory") 0)
+
+-- the word is one of the run, which isn't answered at a desk
 abbrev pub IsForWorkers : ConsoleWord → Type 0
-IsForWorkers word = is_for_workers word ≡ true
+IsForWorkers word = is_of_the_run word ≡ true
 
 -- the response, without a commit, to the message of a client read
 pub record Tells (e : Endpoint) (i : Inputs) (before now : Reads) (notes : Notes) (response : WireResponse) : Type 0 where
@@ -159,7 +176,7 @@ pub record Tells (e : Endpoint) (i : Inputs) (before now : Reads) (notes : Notes
   pub heard : Hears e before now message
   pub reply : Outgoing
   pub spelled : response ≡ written e.me (sender message) reply e.secret
-  pub so : IsToldOf i message notes reply ⊎ WantsMemory reply
+  pub so : IsToldOf i message notes reply ⊎ WantsMemory message notes reply
 
 -- ---- what an operator is told
 
@@ -170,9 +187,11 @@ pub record IsOrderTold (name : List ℕ) (command : Command) (token who : List �
   pub so : IsOrderedSo command token who i notes answer
   pub told : response ≡ order_reply name answer
 
--- a report of a service of this name, as it stood behind the lock at some moment
-abbrev pub IsReportOf : List ℕ → Report → WireResponse → Type 0
-IsReportOf name report response = (service : Kept) × (me service ≡ name) × (response ≡ report_reply (report_of report service))
+-- a report of a service of this name; that it is the one that the lock lends is said where the lock is held
+pub record IsReportOf (name : List ℕ) (report : Report) (response : WireResponse) : Type 0 where
+  pub service : Kept
+  pub of : IsServiceOf name service
+  pub told : response ≡ report_reply (report_of report service)
 
 -- what was asked is done and told; of a body that was ill it is told that it was
 abbrev pub IsDoneSo : Endpoint → Inputs → Notes → List ℕ → Option Asked → WireResponse → Type 0
@@ -180,16 +199,18 @@ IsDoneSo e i notes who None response = response ≡ bad
 IsDoneSo e i notes who (Some (asks.Order token command)) response = IsOrderTold e.me command token who i notes response
 IsDoneSo e i notes who (Some (asks.Report report)) response = IsReportOf e.me report response
 
--- memory was wanting
-abbrev pub IsWantTold : WireResponse → Type 0
-IsWantTold response = response ≡ console_refusal (codes "nomemory") 0
+-- memory was wanting, and the notes have no order: none was made
+abbrev pub IsWantTold : Notes → WireResponse → Type 0
+IsWantTold notes response = (notes.gave ≡ None) × (response ≡ console_refusal (codes "nomemory") 0)
 
 abbrev pub IsOperatorTold : Endpoint → Inputs → ConsoleRequest → Notes → WireResponse → Type 0
-IsOperatorTold e i asked notes response = IsDoneSo e i notes asked.who (asked_in asked) response ⊎ IsWantTold response
+IsOperatorTold e i asked notes response = IsDoneSo e i notes asked.who (asked_in asked) response ⊎ IsWantTold notes response
 
--- what is shown of the cancellation that is asked for, of a service of this name, as it stood behind the lock at some moment
-abbrev pub IsPreviewTold : List ℕ → ConsoleRequest → WireResponse → Type 0
-IsPreviewTold name request response = (service : Kept) × (me service ≡ name) × IsPreviewReply request.body request.who service response
+-- what is shown of the cancellation that is asked for, of a service of this name; that it is the one that the lock lends is said where the lock is held
+pub record IsPreviewTold (name : List ℕ) (request : ConsoleRequest) (response : WireResponse) : Type 0 where
+  pub service : Kept
+  pub of : IsServiceOf name service
+  pub told : IsPreviewReply request.body request.who service response
 
 -- the response to an operator's request read, whose word isn't one that workers answer
 pub record TellsOperator (e : Endpoint) (i : Inputs) (before now : Reads) (notes : Notes) (response : WireResponse) : Type 0 where
@@ -217,7 +238,7 @@ Owes e i before now notes had have (served.FrontRefused why) bytes =
     × (bytes ≡ refusal_bytes (front_word why))
 Owes e i before now notes had have (served.WireRefused why) bytes =
     IsHeardFrom e.me e.secrets e.console before now (Err (unheard.Wire why)) × (have ≡ had) × (bytes ≡ refusal_bytes (Some (wire_word why)))
-Owes e i before now notes had have served.Gone bytes = (notes.turn ≡ Some turns.Gone) × (have ≡ had) × (bytes ≡ [])
+Owes e i before now notes had have served.Gone bytes = IsGone e before now notes × (have ≡ had) × (bytes ≡ [])
 Owes e i before now notes had have served.WriteFault bytes = ⊥
 Owes e i before now notes had have served.NoMemory bytes = ⊥
 

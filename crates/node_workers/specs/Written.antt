@@ -4,6 +4,7 @@ use Rattle.lang_core.specs.declared.inputs.Inputs.{Inputs}
 use Rattle.io_edge.specs.Edge.{Writes, Wrote}
 use Rattle.http_front.specs.declared.message.WireResponse.{WireResponse}
 use Rattle.wire_fields.specs.declared.console.ConsoleRequest.{ConsoleRequest}
+use Rattle.admin_console.specs.Replies.{report_reply}
 use Rattle.node_core.specs.declared.notes.Notes.{Notes}
 use Rattle.node_core.specs.declared.receipt.Receipt.{Receipt}
 use Rattle.node_exchanges.specs.Endpoints.{Endpoint}
@@ -33,3 +34,7 @@ IsConsoleSo e i asked notes before now answer =
 abbrev pub IsPreviewSo : List ℕ → ConsoleRequest → Writes → Writes → Served → Type 0
 IsPreviewSo name request before now served.NoMemory = now ≡ before
 IsPreviewSo name request before now answer = (response : WireResponse) × IsPreviewTold name request response × IsSaid response before now answer
+
+-- what an operator is written who gets a report with this text
+abbrev pub IsTextSo : List ℕ → Writes → Writes → Served → Type 0
+IsTextSo text before now answer = IsSaid (report_reply text) before now answer

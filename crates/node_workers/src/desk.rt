@@ -2,7 +2,7 @@
 ghost use Rattle.std.specs.Prelude.{◌≡◌, ◌↔◌, IsTrue};
 ghost use Rattle.service_events.specs.State.{me};
 ghost use Rattle.node_exchanges.specs.Endpoints.{at_place};
-ghost use Rattle.node_workers.specs.Desks.{at_desk};
+ghost use Rattle.node_workers.specs.Desks.{at_desk, IsServiceOf};
 
 use admin_console::Service;
 use lang_core::Same;
@@ -42,4 +42,13 @@ pub(crate) fn is_set_up(service: &Service, setup: &Setup) -> bool
     ensures { IsTrue result ↔ (me service.now ≡ setup.now.setting.me) }
 {
     service.setting().me.is(&setup.setting.me)
+}
+
+/// Whether a service is the one that is set up so. What its type keeps of it goes along: it fits its journal, and its rules
+/// allowed each repair in that.
+pub(crate) fn is_service_of(service: &Service, setup: &Setup) -> bool
+    ensures { IsTrue result → IsServiceOf setup.now.setting.me service.now }
+{
+    let _journal = service.journal();
+    is_set_up(service, setup)
 }

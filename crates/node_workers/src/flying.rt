@@ -1,18 +1,18 @@
 // A flight, from its first call to its end.
 ghost use Rattle.std.specs.Prelude.{◌≡◌, None, IfOk, IsSomeAnd};
 ghost use Rattle.node_core.specs.Doings.{IsOpen};
-ghost use Rattle.node_exchanges.specs.Calls.{FailsOnly};
+ghost use Rattle.node_exchanges.specs.Calls.{AnswersOnly, FailsOnly};
 ghost use Rattle.node_workers.specs.Calling.{CountsCalls};
 ghost use Rattle.node_workers.specs.Desks.{at_desk};
-ghost use Rattle.node_workers.specs.Flying.{end_of_call, went_by, went_of, went_with, EndsSo, FliesOn, FliesSo, GoesOn, IsGivenUp, IsTold, IsWaiting, UnlessWanting};
+ghost use Rattle.node_workers.specs.Flying.{end_of_call, went_by, went_of, went_with, EndsSo, Flies, GivesUp, GoesOn, IsGivenUp, IsTold, IsToldOnce, IsWaiting, SendsNext};
 
 use crate::desk::Desk;
 use crate::live::Ending;
-use crate::turns::ask;
+use crate::turns::{ask, fits};
 use call_registers::Why;
 use io_links::{Gate, Link};
 use lang_core::{Copied, NoMemory};
-use node_core::{NodeDone, NodeEvent, Pass, event};
+use node_core::{NodeDone, NodeEvent, NodeState, Pass, event};
 use node_exchanges::call;
 use repair_messages::{AnswerMessage, SetMessage};
 use service_events::{Arrived, CallRefused};
@@ -100,6 +100,8 @@ fn tell_once<R: Ledger, Q: Ledger, W: Wait>(
 ) -> Went
     requires open { IsSomeAnd pass.old.notes.begun (λ b. (b.flight ≡ flight) × (b.number ≡ number)) }
     requires failure { FailsOnly came }
+    requires answers { IsSomeAnd pass.old.notes.begun (λ b. AnswersOnly b.dest b.number came) }
+    ensures once { IsToldOnce (at_desk desk.now) flight number came pass.old.notes pass.new.notes pass.old.receipts.items pass.new.receipts.items result }
     ensures told { IsTold (at_desk desk.now) flight number came pass.old.notes pass.new.notes pass.old.receipts.items pass.new.receipts.items result }
 {
     let told = end_of_call(flight, number, came);
@@ -119,6 +121,7 @@ fn tell<R: Ledger, Q: Ledger, W: Wait>(
 ) -> Went
     requires open { IsSomeAnd pass.old.notes.begun (λ b. (b.flight ≡ flight) × (b.number ≡ number)) }
     requires failure { FailsOnly came }
+    requires answers { IsSomeAnd pass.old.notes.begun (λ b. AnswersOnly b.dest b.number came) }
     ensures told { IsTold (at_desk desk.now) flight number came pass.old.notes pass.new.notes pass.old.receipts.items pass.new.receipts.items result }
 {
     let again = copied(alloc, &came);
@@ -145,7 +148,7 @@ fn send<R: Ledger, Q: Ledger, W: Wait, L: Link, G: Gate>(
     requires waits { IsSomeAnd pass.old.notes.begun (λ b. IsWaiting (at_desk desk.now) b.origin b.request b.inputs pass.old.notes.begun flight set.now) }
     ensures went { IsSomeAnd pass.old.notes.begun (λ b.
         GoesOn (at_desk desk.now) b.origin b.request b.inputs flight pass.new.notes pass.old.receipts.items pass.new.receipts.items result) }
-    ensures told { UnlessWanting result (FliesOn (at_desk desk.now) pass.old.notes pass.new.notes pass.old.receipts.items pass.new.receipts.items (L.exchanges link.old) (L.exchanges link.new) (Went.Call flight set.now) result) }
+    ensures told { SendsNext (at_desk desk.now) flight set.now pass.old.notes pass.new.notes pass.old.receipts.items pass.new.receipts.items (L.exchanges link.old) (L.exchanges link.new) result }
     ensures counts { CountsCalls (at_desk desk.now) pass.old.notes pass.new.notes (L.exchanges link.old) (L.exchanges link.new) }
 {
     match call(alloc, &desk.place(), set, link, gate) {
@@ -155,6 +158,26 @@ fn send<R: Ledger, Q: Ledger, W: Wait, L: Link, G: Gate>(
 }
 
 // For this no memory is needed.
+fn give_up_under_lock<R: Ledger, Q: Ledger, W: Wait>(
+    rt: &W,
+    alloc: Global,
+    desk: &Desk<R, Q>,
+    kept: &mut NodeState<R>,
+    pass: &mut Pass<Q>,
+    flight: u64,
+)
+    requires open { IsOpen flight pass.old.notes.begun }
+    ensures up { IsGivenUp pass.old.notes pass.new.notes }
+    ensures receipts { pass.new.receipts.items ≡ pass.old.receipts.items }
+    ensures made { GivesUp flight pass.old.notes pass.new.notes pass.old.receipts.items pass.new.receipts.items }
+{
+    fits(kept);
+    let asked = NodeEvent::Abandon { flight };
+    let Ok(_) = event(rt, alloc, desk.tally, kept, pass, asked) else {
+        unreachable!()
+    };
+}
+
 fn give_up<R: Ledger, Q: Ledger, W: Wait>(
     rt: &W,
     alloc: Global,
@@ -165,12 +188,10 @@ fn give_up<R: Ledger, Q: Ledger, W: Wait>(
     requires open { IsOpen flight pass.old.notes.begun }
     ensures up { IsGivenUp pass.old.notes pass.new.notes }
     ensures receipts { pass.new.receipts.items ≡ pass.old.receipts.items }
+    ensures made { GivesUp flight pass.old.notes pass.new.notes pass.old.receipts.items pass.new.receipts.items }
 {
     let mut state = desk.node.state.lock(rt);
-    let asked = NodeEvent::Abandon { flight };
-    let Ok(_) = event(rt, alloc, desk.tally, &mut *state, pass, asked) else {
-        unreachable!()
-    };
+    give_up_under_lock(rt, alloc, desk, &mut *state, pass, flight);
 }
 
 /// Makes the flight's calls, one after the other, until it ends.
@@ -188,7 +209,7 @@ pub(crate) fn fly<R: Ledger, Q: Ledger, W: Wait, L: Link, G: Gate>(
     ensures ends { IsSomeAnd pass.old.notes.begun (λ b.
         EndsSo (at_desk desk.now) b.origin b.request b.inputs pass.new.notes pass.old.receipts.items pass.new.receipts.items result) }
     ensures closed { pass.new.notes.begun ≡ None }
-    ensures told { FliesSo (at_desk desk.now) flight set pass.old.notes pass.new.notes pass.old.receipts.items pass.new.receipts.items (L.exchanges link.old) (L.exchanges link.new) result }
+    ensures told { Flies (at_desk desk.now) flight set pass.old.notes pass.new.notes pass.old.receipts.items pass.new.receipts.items (L.exchanges link.old) (L.exchanges link.new) result }
     ensures counts { CountsCalls (at_desk desk.now) pass.old.notes pass.new.notes (L.exchanges link.old) (L.exchanges link.new) }
 {
     let mut flight = flight;

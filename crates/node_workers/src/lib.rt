@@ -6,6 +6,7 @@
 
 mod desk;
 mod flying;
+mod held;
 mod live;
 mod messages;
 mod operators;
@@ -16,6 +17,6 @@ mod turns;
 
 pub use desk::Desk;
 pub use node_exchanges::{Doors, Served};
-pub use operators::tell_preview;
+pub use operators::{tell_preview, tell_text};
 pub use posts::{PostedOne, post_one};
 pub use serve::serve_one;

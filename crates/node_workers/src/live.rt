@@ -2,7 +2,7 @@
 ghost use Rattle.std.specs.Prelude.{◌≡◌, None};
 ghost use Rattle.node_workers.specs.Calling.{CountsCalls};
 ghost use Rattle.node_workers.specs.Desks.{at_desk};
-ghost use Rattle.node_workers.specs.Flying.{began_by, began_of, began_with, BeginsSo, EndsSo, IsArrival, LivesSo};
+ghost use Rattle.node_workers.specs.Flying.{began_by, began_of, began_with, BeginsSo, EndsSo, IsArrival, Lives};
 
 use crate::desk::Desk;
 use crate::flying::fly;
@@ -107,7 +107,7 @@ pub(crate) fn live<R: Ledger, Q: Ledger, W: Wait, L: Link, G: Gate>(
     requires none { pass.old.notes.begun ≡ None }
     ensures ends { EndsSo (at_desk desk.now) origin request inputs pass.new.notes pass.old.receipts.items pass.new.receipts.items result }
     ensures closed { pass.new.notes.begun ≡ None }
-    ensures told { LivesSo (at_desk desk.now) origin request inputs pass.old.notes pass.new.notes pass.old.receipts.items pass.new.receipts.items (L.exchanges link.old) (L.exchanges link.new) result }
+    ensures told { Lives (at_desk desk.now) origin request inputs pass.old.notes pass.new.notes pass.old.receipts.items pass.new.receipts.items (L.exchanges link.old) (L.exchanges link.new) result }
     ensures counts { CountsCalls (at_desk desk.now) pass.old.notes pass.new.notes (L.exchanges link.old) (L.exchanges link.new) }
 {
     match arrive(rt, alloc, desk, pass, origin, request, inputs) {

@@ -1,111 +1,60 @@
 // What operators ask of a node's service.
-ghost use Rattle.std.specs.Prelude.{◌≡◌, IfOk, Some};
-ghost use Rattle.service_events.specs.State.{me};
+ghost use Rattle.std.specs.Prelude.{◌≡◌, ◌⊎◌, IfOk, None};
 ghost use Rattle.admin_console.specs.Asking.{asked_in};
-ghost use Rattle.admin_console.specs.declared.asking.Asked.TheVariants.{Order};
-ghost use Rattle.node_workers.specs.Desks.{at_desk};
-ghost use Rattle.node_workers.specs.Messages.{IsOrderedSo};
+ghost use Rattle.node_workers.specs.Asking.{MakesAsked};
+ghost use Rattle.node_workers.specs.Desks.{at_desk, IsServiceOf};
+ghost use Rattle.node_workers.specs.Operators.{TellsReport};
 ghost use Rattle.node_workers.specs.Posting.{Keeps};
-ghost use Rattle.node_workers.specs.Serving.{IsDoneSo, IsForWorkers, IsOperatorTold, IsPreviewTold, IsReportOf};
-ghost use Rattle.node_workers.specs.Written.{IsConsoleSo, IsPreviewSo};
+ghost use Rattle.node_workers.specs.Serving.{IsDoneSo, IsForWorkers, IsOperatorTold, IsPreviewTold, IsWantTold};
+ghost use Rattle.node_workers.specs.Written.{IsConsoleSo, IsPreviewSo, IsTextSo};
 
-use crate::desk::{Desk, is_set_up};
-use crate::turns::ask;
-use admin_console::{
-    Asked, Report, Service, asked_in, bad, order_reply, preview_reply, service_report,
-};
+use crate::desk::{Desk, is_service_of};
+use crate::held::HeldNode;
+use admin_console::{Asked, Service, asked_in, carry_out, preview_reply, report_reply};
 use http_front::WireResponse;
 use io_edge::Connection;
-use journal_rows::Command;
 use lang_core::{Copied, Inputs, NoMemory, Text};
-use node_core::{NodeDone, NodeEvent, Pass};
+use node_core::{NodeState, Pass};
 use node_exchanges::{Served, write};
 use repair_messages::RefusalWord;
-use service_events::{OrderRefused, Ordered};
 use std::alloc::Global;
 use std::sync::Wait;
 use std::sync::ledger::Ledger;
 use wire_bytes::console_refusal;
 use wire_fields::ConsoleRequest;
 
-// ---- orders
+// ---- orders and reports
 
-// One event in one hold of the lock.
-fn order<R: Ledger, Q: Ledger, W: Wait>(
+// Carries out what was read of a request at the service behind the lock. One that isn't set up so is answered as memory that
+// lacks.
+fn reply_under_lock<R: Ledger, Q: Ledger, W: Wait>(
     rt: &W,
     alloc: Global,
     desk: &Desk<R, Q>,
+    state: &mut NodeState<R>,
     pass: &mut Pass<Q>,
-    command: Command,
-    token: Text,
-    who: Text,
-    inputs: Inputs,
-) -> Result<Result<Ordered, OrderRefused>, NoMemory>
-    ensures ordered { IfOk result (IsOrderedSo command token who inputs pass.new.notes) }
-    ensures keeps { Keeps pass.old.notes pass.new.notes pass.old.receipts.items pass.new.receipts.items }
-{
-    let asked = NodeEvent::Order {
-        command,
-        token,
-        who,
-        inputs,
-    };
-    match ask(rt, alloc, desk, pass, asked)? {
-        NodeDone::Order(ordered) => Ok(ordered),
-        _ => unreachable!(),
-    }
-}
-
-fn tell_order<R: Ledger, Q: Ledger, W: Wait>(
-    rt: &W,
-    alloc: Global,
-    desk: &Desk<R, Q>,
-    pass: &mut Pass<Q>,
-    token: Text,
-    command: Command,
+    asked: Option<Asked>,
     who: Text,
     inputs: Inputs,
 ) -> Result<WireResponse, NoMemory>
-    ensures told { IfOk result (IsDoneSo (at_desk desk.now) inputs pass.new.notes who (Some (Order token command))) }
-    ensures keeps { Keeps pass.old.notes pass.new.notes pass.old.receipts.items pass.new.receipts.items }
+    requires fresh { pass.old.notes.gave ≡ None }
+    ensures report { IfOk result (TellsReport asked state.old.service) }
+    ensures told { IfOk result (λ response. IsDoneSo (at_desk desk.now) inputs pass.new.notes who asked response ⊎ IsWantTold pass.new.notes response) }
+    ensures makes { MakesAsked (at_desk desk.now).me inputs who asked pass.old.notes pass.new.notes pass.old.receipts.items pass.new.receipts.items }
 {
-    let answer = order(rt, alloc, desk, pass, command, token, who, inputs)?;
-    order_reply(alloc, &desk.setup.setting.me, answer)
-}
-
-// ---- reports
-
-// A service that isn't set up so is answered as memory that lacks.
-fn report_under_lock<R: Ledger, Q: Ledger>(
-    alloc: Global,
-    desk: &Desk<R, Q>,
-    service: &Service,
-    which: Report,
-) -> Result<WireResponse, NoMemory>
-    ensures { IfOk result (IsReportOf (at_desk desk.now).me which) }
-{
-    if !is_set_up(service, desk.setup) {
+    if !is_service_of(state.service(), desk.setup) {
         return Err(NoMemory);
     }
-    service_report(alloc, service, which)
+    let mut held = HeldNode {
+        state,
+        pass,
+        rt,
+        tally: desk.tally,
+    };
+    carry_out(alloc, &mut held, asked, who, inputs)
 }
 
-fn tell_report<R: Ledger, Q: Ledger, W: Wait>(
-    rt: &W,
-    alloc: Global,
-    desk: &Desk<R, Q>,
-    which: Report,
-) -> Result<WireResponse, NoMemory>
-    ensures { IfOk result (IsReportOf (at_desk desk.now).me which) }
-{
-    let state = desk.node.state.lock(rt);
-    report_under_lock(alloc, desk, state.service(), which)
-}
-
-// ---- a request
-
-// Does what is asked, if the body was no ill one.
-fn carry_out<R: Ledger, Q: Ledger, W: Wait>(
+fn reply_at_node<R: Ledger, Q: Ledger, W: Wait>(
     rt: &W,
     alloc: Global,
     desk: &Desk<R, Q>,
@@ -114,16 +63,13 @@ fn carry_out<R: Ledger, Q: Ledger, W: Wait>(
     who: Text,
     inputs: Inputs,
 ) -> Result<WireResponse, NoMemory>
-    ensures told { IfOk result (IsDoneSo (at_desk desk.now) inputs pass.new.notes who asked) }
+    requires fresh { pass.old.notes.gave ≡ None }
+    ensures told { IfOk result (λ response. IsDoneSo (at_desk desk.now) inputs pass.new.notes who asked response ⊎ IsWantTold pass.new.notes response) }
+    ensures makes { MakesAsked (at_desk desk.now).me inputs who asked pass.old.notes pass.new.notes pass.old.receipts.items pass.new.receipts.items }
     ensures keeps { Keeps pass.old.notes pass.new.notes pass.old.receipts.items pass.new.receipts.items }
 {
-    match asked {
-        Some(Asked::Order { token, command }) => {
-            tell_order(rt, alloc, desk, pass, token, command, who, inputs)
-        }
-        Some(Asked::Report(which)) => tell_report(rt, alloc, desk, which),
-        None => bad(alloc),
-    }
+    let mut state = desk.node.state.lock(rt);
+    reply_under_lock(rt, alloc, desk, &mut *state, pass, asked, who, inputs)
 }
 
 // The body is read before the lock is taken.
@@ -135,15 +81,26 @@ fn reply<R: Ledger, Q: Ledger, W: Wait>(
     request: &ConsoleRequest,
     inputs: Inputs,
 ) -> Result<WireResponse, NoMemory>
-    ensures told { IfOk result (IsDoneSo (at_desk desk.now) inputs pass.new.notes request.now.who (asked_in request.now)) }
+    requires fresh { pass.old.notes.gave ≡ None }
+    ensures told { IfOk result (IsOperatorTold (at_desk desk.now) inputs request.now pass.new.notes) }
+    ensures makes { MakesAsked (at_desk desk.now).me inputs request.now.who (asked_in request.now) pass.old.notes pass.new.notes pass.old.receipts.items pass.new.receipts.items }
     ensures keeps { Keeps pass.old.notes pass.new.notes pass.old.receipts.items pass.new.receipts.items }
 {
     let who = request.who.copied(alloc)?;
     let asked = asked_in(alloc, request)?;
-    carry_out(rt, alloc, desk, pass, asked, who, inputs)
+    reply_at_node(rt, alloc, desk, pass, asked, who, inputs)
 }
 
-// Want of memory is told once more, in less of it.
+// Want of memory is told in less of it, where no order was made. Where one was made that couldn't be told, nothing is.
+fn want<Q: Ledger>(alloc: Global, pass: &Pass<Q>) -> Result<WireResponse, NoMemory>
+    ensures { IfOk result (IsWantTold pass.now.notes) }
+{
+    match pass.gave() {
+        Some(_) => Err(NoMemory),
+        None => console_refusal(alloc, RefusalWord::NoMemory.text(), 0),
+    }
+}
+
 fn reply_or_want<R: Ledger, Q: Ledger, W: Wait>(
     rt: &W,
     alloc: Global,
@@ -152,16 +109,19 @@ fn reply_or_want<R: Ledger, Q: Ledger, W: Wait>(
     request: &ConsoleRequest,
     inputs: Inputs,
 ) -> Result<WireResponse, NoMemory>
+    requires fresh { pass.old.notes.gave ≡ None }
     ensures told { IfOk result (IsOperatorTold (at_desk desk.now) inputs request.now pass.new.notes) }
+    ensures makes { MakesAsked (at_desk desk.now).me inputs request.now.who (asked_in request.now) pass.old.notes pass.new.notes pass.old.receipts.items pass.new.receipts.items }
     ensures keeps { Keeps pass.old.notes pass.new.notes pass.old.receipts.items pass.new.receipts.items }
 {
     match reply(rt, alloc, desk, pass, request, inputs) {
         Ok(response) => Ok(response),
-        Err(_) => console_refusal(alloc, RefusalWord::NoMemory.text(), 0),
+        Err(_) => want(alloc, pass),
     }
 }
 
-/// Tells an operator what came of a request, whose word isn't one that workers answer over all services.
+/// Tells an operator what came of a request, whose word isn't one of the run. The pass has no notes of what was asked before.
+/// Where memory is wanting for the reply of an order that was made, nothing is written.
 pub(crate) fn tell<R: Ledger, Q: Ledger, W: Wait, C: Connection>(
     rt: &W,
     alloc: Global,
@@ -172,8 +132,10 @@ pub(crate) fn tell<R: Ledger, Q: Ledger, W: Wait, C: Connection>(
     inputs: Inputs,
 ) -> Served
     requires here { ¬ IsForWorkers request.now.word }
+    requires fresh { pass.old.notes.gave ≡ None }
     ensures served { IsConsoleSo (at_desk desk.now) inputs request.now pass.new.notes (C.Sink.writes conn.old) (C.Sink.writes conn.new) result }
     ensures beside { C.Sink.beside conn.new ≡ C.Sink.beside conn.old }
+    ensures makes { MakesAsked (at_desk desk.now).me inputs request.now.who (asked_in request.now) pass.old.notes pass.new.notes pass.old.receipts.items pass.new.receipts.items }
     ensures keeps { Keeps pass.old.notes pass.new.notes pass.old.receipts.items pass.new.receipts.items }
 {
     match reply_or_want(rt, alloc, desk, pass, request, inputs) {
@@ -182,17 +144,29 @@ pub(crate) fn tell<R: Ledger, Q: Ledger, W: Wait, C: Connection>(
     }
 }
 
+/// Tells an operator a report with this text. Where there is no memory nothing is written.
+pub fn tell_text<C: Connection>(alloc: Global, conn: &mut C, text: &Text) -> Served
+    ensures served { IsTextSo text.now (C.Sink.writes conn.old) (C.Sink.writes conn.new) result }
+    ensures beside { C.Sink.beside conn.new ≡ C.Sink.beside conn.old }
+{
+    match report_reply(alloc, text) {
+        Ok(response) => write(alloc, conn, response),
+        Err(_) => Served::NoMemory,
+    }
+}
+
 // ---- previews
 
-// A copy of a service. One that isn't set up so is answered as memory that lacks.
+// A copy of the service behind the lock. One that isn't set up so is answered as memory that lacks.
 fn copy_under_lock<R: Ledger, Q: Ledger>(
     alloc: Global,
     desk: &Desk<R, Q>,
     service: &Service,
 ) -> Result<Service, NoMemory>
-    ensures { IfOk result (λ copy. me copy ≡ (at_desk desk.now).me) }
+    ensures same { IfOk result (λ copy. copy ≡ service.now) }
+    ensures of { IfOk result (λ _. IsServiceOf (at_desk desk.now).me service.now) }
 {
-    if !is_set_up(service, desk.setup) {
+    if !is_service_of(service, desk.setup) {
         return Err(NoMemory);
     }
     service.copied(alloc)
@@ -203,7 +177,7 @@ fn service_now<R: Ledger, Q: Ledger, W: Wait>(
     alloc: Global,
     desk: &Desk<R, Q>,
 ) -> Result<Service, NoMemory>
-    ensures { IfOk result (λ copy. me copy ≡ (at_desk desk.now).me) }
+    ensures { IfOk result (IsServiceOf (at_desk desk.now).me) }
 {
     let state = desk.node.state.lock(rt);
     copy_under_lock(alloc, desk, state.service())

@@ -1,16 +1,18 @@
 // A worker that posts.
-ghost use Rattle.std.specs.Prelude.{◌≡◌, ◌≤◌, IfOk, IsSomeAnd, Some};
-ghost use Rattle.service_events.specs.Posts.{write_post};
-ghost use Rattle.service_events.specs.State.{me};
+ghost use Rattle.std.specs.Prelude.{◌≡◌, ◌≤◌, IfOk, IsSome, IsSomeAnd, None, Ok, OnErr, Some};
+ghost use Rattle.service_events.specs.Posts.{next_post, write_post};
+ghost use Rattle.service_events.specs.declared.event.Done.TheVariants as done;
+ghost use Rattle.service_events.specs.declared.event.Event.TheVariants as events;
 ghost use Rattle.node_core.specs.HandedOn.{GoesTo};
 ghost use Rattle.node_workers.specs.Desks.{at_desk};
-ghost use Rattle.node_workers.specs.Posting.{IsNextPost, IsTold, IsTurn, IsWrittenPost, Keeps, outcome};
+ghost use Rattle.node_workers.specs.Posting.{EndsTurn, GoesNext, IsNextPost, IsTurn, Keeps, MakesNext, outcome};
+ghost use Rattle.node_workers.specs.Turns.{IsUntouched, Made, MadeAt, MakesOnce};
 
-use crate::desk::{Desk, is_set_up};
-use crate::turns::ask;
+use crate::desk::Desk;
+use crate::turns::{ask, ask_under_lock};
 use io_links::Link;
 use lang_core::{Copied, Name, NoMemory};
-use node_core::{NodeDone, NodeEvent, NodeState, Pass, Tally, event};
+use node_core::{NodeDone, NodeEvent, NodeState, Pass};
 use node_exchanges::post_to;
 use repair_messages::{Post, PostName};
 use service_events::{PostRefused, PostReply, Posted};
@@ -35,48 +37,73 @@ pub enum PostedOne {
 
 // ---- which post goes next
 
+// How the post of this name reads.
 fn written<R: Ledger, Q: Ledger, W: Wait>(
     rt: &W,
     alloc: Global,
-    tally: &Tally<R, Q>,
+    desk: &Desk<R, Q>,
     kept: &mut NodeState<R>,
     pass: &mut Pass<Q>,
     name: PostName,
-    dest: &Name,
 ) -> Result<Post, NoMemory>
-    requires goes { IsSomeAnd (write_post kept.old.service name) (GoesTo dest.now) }
-    ensures post { IfOk result (IsWrittenPost (me kept.old.service) dest.now name) }
-    ensures posting { pass.new.notes.posting ≡ pass.old.notes.posting }
+    requires some { IsSome (write_post kept.old.service name) }
+    ensures at { IfOk result (λ post. MadeAt (at_desk desk.now).me kept.old.service kept.new.service pass.old.notes.begun (events.WritePost name) (done.WritePost (Ok post))) }
+    ensures made { IfOk result (λ post. Made (at_desk desk.now).me pass.old.notes pass.new.notes pass.old.receipts.items pass.new.receipts.items (events.WritePost name) (done.WritePost (Ok post))) }
+    ensures makes { MakesOnce (at_desk desk.now).me (events.WritePost name) pass.old.notes pass.new.notes pass.old.receipts.items pass.new.receipts.items }
     ensures keeps { Keeps pass.old.notes pass.new.notes pass.old.receipts.items pass.new.receipts.items }
 {
-    match event(rt, alloc, tally, kept, pass, NodeEvent::WritePost { name })? {
+    match ask_under_lock(rt, alloc, desk, kept, pass, NodeEvent::WritePost { name })? {
         NodeDone::WritePost(written) => written,
         _ => unreachable!(),
     }
 }
 
+// The post of this name, which goes next, as it was asked in the event before.
+fn next_written<R: Ledger, Q: Ledger, W: Wait>(
+    rt: &W,
+    alloc: Global,
+    desk: &Desk<R, Q>,
+    kept: &mut NodeState<R>,
+    pass: &mut Pass<Q>,
+    name: PostName,
+    dest: &Name,
+) -> Result<Option<Post>, NoMemory>
+    requires next { next_post dest.now kept.old.service ≡ Some name }
+    requires goes { IsSomeAnd (write_post kept.old.service name) (GoesTo dest.now) }
+    ensures next { IfOk result (IsNextPost (at_desk desk.now).me dest.now) }
+    ensures makes { GoesNext (at_desk desk.now).me dest.now name pass.old.notes pass.new.notes pass.old.receipts.items pass.new.receipts.items result }
+    ensures keeps { Keeps pass.old.notes pass.new.notes pass.old.receipts.items pass.new.receipts.items }
+{
+    let post = written(rt, alloc, desk, kept, pass, name)?;
+    Ok(Some(post))
+}
+
 fn next_under_lock<R: Ledger, Q: Ledger, W: Wait>(
     rt: &W,
     alloc: Global,
-    tally: &Tally<R, Q>,
+    desk: &Desk<R, Q>,
     kept: &mut NodeState<R>,
     pass: &mut Pass<Q>,
     dest: &Name,
 ) -> Result<Option<Post>, NoMemory>
-    ensures next { IfOk result (IsNextPost (me kept.old.service) dest.now pass.new.notes) }
+    ensures next { IfOk result (IsNextPost (at_desk desk.now).me dest.now) }
+    ensures makes { MakesNext (at_desk desk.now).me dest.now result pass.old.notes pass.new.notes pass.old.receipts.items pass.new.receipts.items }
     ensures keeps { Keeps pass.old.notes pass.new.notes pass.old.receipts.items pass.new.receipts.items }
 {
-    let asked = NodeEvent::NextPost {
-        dest: dest.copied(alloc)?,
-    };
-    match event(rt, alloc, tally, kept, pass, asked)? {
-        NodeDone::NextPost(None) => Ok(None),
-        NodeDone::NextPost(Some(name)) => {
-            match written(rt, alloc, tally, kept, pass, name, dest) {
-                Ok(post) => Ok(Some(post)),
-                Err(why) => Err(why),
-            }
-        }
+    let to = dest.copied(alloc)?;
+    let done = ask_under_lock(
+        rt,
+        alloc,
+        desk,
+        kept,
+        pass,
+        NodeEvent::NextPost { dest: to },
+    )?;
+    match done {
+        NodeDone::NextPost(next) => match next {
+            Some(name) => next_written(rt, alloc, desk, kept, pass, name, dest),
+            None => Ok(None),
+        },
         _ => unreachable!(),
     }
 }
@@ -89,14 +116,12 @@ fn next_post<R: Ledger, Q: Ledger, W: Wait>(
     pass: &mut Pass<Q>,
     dest: &Name,
 ) -> Result<Option<Post>, NoMemory>
-    ensures next { IfOk result (IsNextPost (at_desk desk.now).me dest.now pass.new.notes) }
+    ensures next { IfOk result (IsNextPost (at_desk desk.now).me dest.now) }
+    ensures makes { MakesNext (at_desk desk.now).me dest.now result pass.old.notes pass.new.notes pass.old.receipts.items pass.new.receipts.items }
     ensures keeps { Keeps pass.old.notes pass.new.notes pass.old.receipts.items pass.new.receipts.items }
 {
     let mut state = desk.node.state.lock(rt);
-    if !is_set_up(state.service(), desk.setup) {
-        return Err(NoMemory);
-    }
-    next_under_lock(rt, alloc, desk.tally, &mut *state, pass, dest)
+    next_under_lock(rt, alloc, desk, &mut *state, pass, dest)
 }
 
 // ---- what is made of it
@@ -110,7 +135,8 @@ fn tell<R: Ledger, Q: Ledger, W: Wait>(
     post: Post,
     reply: PostReply,
 ) -> Result<Result<Posted, PostRefused>, NoMemory>
-    ensures told { IfOk result (IsTold post reply pass.old.notes pass.new.notes) }
+    ensures made { IfOk result (λ answer. Made (at_desk desk.now).me pass.old.notes pass.new.notes pass.old.receipts.items pass.new.receipts.items (events.Posted post reply) (done.Posted answer)) }
+    ensures err { OnErr result (IsUntouched pass.old.notes pass.new.notes pass.old.receipts.items pass.new.receipts.items) }
     ensures keeps { Keeps pass.old.notes pass.new.notes pass.old.receipts.items pass.new.receipts.items }
 {
     match ask(rt, alloc, desk, pass, NodeEvent::Posted { post, reply })? {
@@ -129,6 +155,7 @@ fn outcome(told: Result<Result<Posted, PostRefused>, NoMemory>) -> PostedOne
     }
 }
 
+// The post that goes next is sent, and the service told what came back of it.
 fn post_it<R: Ledger, Q: Ledger, W: Wait, L: Link>(
     rt: &W,
     alloc: Global,
@@ -138,8 +165,8 @@ fn post_it<R: Ledger, Q: Ledger, W: Wait, L: Link>(
     post: Post,
     link: &mut L,
 ) -> PostedOne
-    requires next { IsNextPost (at_desk desk.now).me dest.now pass.old.notes (Some post) }
-    ensures turn { IsTurn (at_desk desk.now) dest.now pass.new.notes (L.exchanges link.old) (L.exchanges link.new) result }
+    requires next { IsNextPost (at_desk desk.now).me dest.now (Some post) }
+    ensures turn { EndsTurn (at_desk desk.now) dest.now post pass.old.notes pass.new.notes pass.old.receipts.items pass.new.receipts.items (L.exchanges link.old) (L.exchanges link.new) result }
     ensures keeps { Keeps pass.old.notes pass.new.notes pass.old.receipts.items pass.new.receipts.items }
     ensures counted { (L.exchanges link.old).faults ≤ (L.exchanges link.new).faults }
 {
@@ -151,8 +178,11 @@ fn post_it<R: Ledger, Q: Ledger, W: Wait, L: Link>(
 }
 
 /// One turn for one peer: the post that goes there next is written, in one hold of the lock; then it is sent, without the
-/// lock; and then the service is told what came back. What is known of the post rests on that exchange alone. A peer that
-/// the desk doesn't know, and a service that isn't set up as the desk says, are answered as memory that lacks. It may wait.
+/// lock; and then the service is told what came back. These are the turn's events, and it makes no other: which post goes next,
+/// its text, and what came back of it. What is sent is the message as the service wrote it in that hold, and what is told of it
+/// is what came back in that exchange. A peer that the desk doesn't know, and a service that isn't set up as the desk says, are
+/// answered as memory that lacks. The pass has no notes of an earlier turn, so what its notes show afterwards is of this one. It
+/// may wait.
 pub fn post_one<R: Ledger, Q: Ledger, W: Wait, L: Link>(
     rt: &W,
     alloc: Global,
@@ -161,7 +191,8 @@ pub fn post_one<R: Ledger, Q: Ledger, W: Wait, L: Link>(
     dest: &Name,
     link: &mut L,
 ) -> PostedOne
-    ensures turn { IsTurn (at_desk desk.now) dest.now pass.new.notes (L.exchanges link.old) (L.exchanges link.new) result }
+    requires fresh { (pass.old.notes.posting ≡ None) × (pass.old.notes.turn ≡ None) }
+    ensures turn { IsTurn (at_desk desk.now) dest.now pass.old.notes pass.new.notes pass.old.receipts.items pass.new.receipts.items (L.exchanges link.old) (L.exchanges link.new) result }
     ensures keeps { Keeps pass.old.notes pass.new.notes pass.old.receipts.items pass.new.receipts.items }
     ensures counted { (L.exchanges link.old).faults ≤ (L.exchanges link.new).faults }
 {

@@ -4,10 +4,10 @@ ghost use Rattle.std.specs.Option.{option_copied};
 ghost use Rattle.http_front.specs.declared.message.FrontRefused.TheVariants.{ReadFault};
 ghost use Rattle.io_edge.specs.Edge.{ReadFails};
 ghost use Rattle.wire_bytes.specs.Hearing.{IsKnownMessage};
-ghost use Rattle.aire_wire.specs.declared.incoming.Incoming.TheVariants.{Answer as AnswerSaid, Live as LiveSaid, Set as SetSaid};
+ghost use Rattle.aire_wire.specs.declared.incoming.Incoming.TheVariants.{Answer as AnswerSaid, Console as ConsoleSaid, Live as LiveSaid, Set as SetSaid};
+ghost use Rattle.node_workers.specs.Asking.{MakesFor, MakesLive, MakesOne, MakesOnly, NotesOnlyRead};
 ghost use Rattle.node_workers.specs.Calling.{CountsCalls};
 ghost use Rattle.node_workers.specs.Desks.{at_desk};
-ghost use Rattle.node_workers.specs.Flying.{CommitsBy};
 ghost use Rattle.node_workers.specs.Posting.{Keeps};
 ghost use Rattle.node_workers.specs.Serving.{client, IsServed, ServesMessage, ServesRequest};
 ghost use Rattle.node_workers.specs.Written.{IsConsoleSo};
@@ -17,7 +17,7 @@ use crate::live::{Ending, live};
 use crate::messages::{take, take_answer};
 use crate::operators::tell;
 use crate::replies::write_last;
-use admin_console::is_for_workers;
+use admin_console::is_of_the_run;
 use aire_wire::Incoming;
 use io_edge::Connection;
 use io_links::{Gate, Link};
@@ -51,8 +51,8 @@ fn serve_live<R: Ledger, Q: Ledger, W: Wait, C: Connection, L: Link, G: Gate>(
     requires to { option_copied to ≡ client origin }
     ensures served { ServesRequest (at_desk desk.now) inputs origin request (C.Source.reads conn.old) (C.Sink.writes conn.old) (C.Sink.writes conn.new) pass.new.notes pass.old.receipts.items pass.new.receipts.items result }
     ensures beside { C.Sink.beside conn.new ≡ C.Sink.beside conn.old }
+    ensures makes { MakesLive (at_desk desk.now) origin request inputs pass.old.notes pass.new.notes pass.old.receipts.items pass.new.receipts.items (L.exchanges link.old) (L.exchanges link.new) }
     ensures closed { pass.new.notes.begun ≡ None }
-    ensures told { CommitsBy (at_desk desk.now) inputs pass.old.notes pass.new.notes pass.old.receipts.items pass.new.receipts.items (L.exchanges link.old) (L.exchanges link.new) }
     ensures counts { CountsCalls (at_desk desk.now) pass.old.notes pass.new.notes (L.exchanges link.old) (L.exchanges link.new) }
 {
     match live(rt, alloc, desk, pass, link, gate, origin, request, inputs) {
@@ -105,8 +105,8 @@ fn serve_call<R: Ledger, Q: Ledger, W: Wait, C: Connection, L: Link, G: Gate>(
     requires asks { IsSome set.desired }
     ensures served { ServesMessage (at_desk desk.now) inputs (LiveSaid set) (C.Source.reads conn.old) (C.Sink.writes conn.old) (C.Sink.writes conn.new) pass.new.notes pass.old.receipts.items pass.new.receipts.items result }
     ensures beside { C.Sink.beside conn.new ≡ C.Sink.beside conn.old }
+    ensures makes { MakesFor (at_desk desk.now) inputs (LiveSaid set) pass.old.notes pass.new.notes pass.old.receipts.items pass.new.receipts.items (L.exchanges link.old) (L.exchanges link.new) }
     ensures closed { pass.new.notes.begun ≡ None }
-    ensures told { CommitsBy (at_desk desk.now) inputs pass.old.notes pass.new.notes pass.old.receipts.items pass.new.receipts.items (L.exchanges link.old) (L.exchanges link.new) }
     ensures counts { CountsCalls (at_desk desk.now) pass.old.notes pass.new.notes (L.exchanges link.old) (L.exchanges link.new) }
 {
     let Ok(to) = set.caller.copied(alloc) else {
@@ -140,9 +140,11 @@ fn serve_set<R: Ledger, Q: Ledger, W: Wait, C: Connection>(
     set: SetMessage,
     inputs: Inputs,
 ) -> Served
+    requires fresh { pass.old.notes.gave ≡ None }
     requires dest { set.dest ≡ (at_desk desk.now).me }
     ensures served { ServesMessage (at_desk desk.now) inputs (SetSaid set) (C.Source.reads conn.old) (C.Sink.writes conn.old) (C.Sink.writes conn.new) pass.new.notes pass.old.receipts.items pass.new.receipts.items result }
     ensures beside { C.Sink.beside conn.new ≡ C.Sink.beside conn.old }
+    ensures makes { MakesOne (at_desk desk.now).me inputs (SetSaid set) pass.old.notes pass.new.notes pass.old.receipts.items pass.new.receipts.items }
     ensures keeps { Keeps pass.old.notes pass.new.notes pass.old.receipts.items pass.new.receipts.items }
 {
     let Ok(to) = set.caller.copied(alloc) else {
@@ -173,9 +175,11 @@ fn serve_answer<R: Ledger, Q: Ledger, W: Wait, C: Connection>(
     answer: AnswerMessage,
     inputs: Inputs,
 ) -> Served
+    requires fresh { pass.old.notes.gave ≡ None }
     requires caller { answer.caller ≡ (at_desk desk.now).me }
     ensures served { ServesMessage (at_desk desk.now) inputs (AnswerSaid answer) (C.Source.reads conn.old) (C.Sink.writes conn.old) (C.Sink.writes conn.new) pass.new.notes pass.old.receipts.items pass.new.receipts.items result }
     ensures beside { C.Sink.beside conn.new ≡ C.Sink.beside conn.old }
+    ensures makes { MakesOne (at_desk desk.now).me inputs (AnswerSaid answer) pass.old.notes pass.new.notes pass.old.receipts.items pass.new.receipts.items }
     ensures keeps { Keeps pass.old.notes pass.new.notes pass.old.receipts.items pass.new.receipts.items }
 {
     let Ok(to) = answer.callee.copied(alloc) else {
@@ -199,7 +203,7 @@ fn serve_answer<R: Ledger, Q: Ledger, W: Wait, C: Connection>(
 
 // ---- what operators ask
 
-// What is asked of all services is for the workers; what else an operator asks is told by this one.
+// What is asked of the run is handed on; what else an operator asks is told at this desk.
 fn serve_console<R: Ledger, Q: Ledger, W: Wait, C: Connection>(
     rt: &W,
     alloc: Global,
@@ -209,11 +213,13 @@ fn serve_console<R: Ledger, Q: Ledger, W: Wait, C: Connection>(
     asked: ConsoleRequest,
     inputs: Inputs,
 ) -> Served
+    requires fresh { pass.old.notes.gave ≡ None }
     ensures served { IsConsoleSo (at_desk desk.now) inputs asked pass.new.notes (C.Sink.writes conn.old) (C.Sink.writes conn.new) result }
     ensures beside { C.Sink.beside conn.new ≡ C.Sink.beside conn.old }
+    ensures makes { MakesOne (at_desk desk.now).me inputs (ConsoleSaid asked) pass.old.notes pass.new.notes pass.old.receipts.items pass.new.receipts.items }
     ensures keeps { Keeps pass.old.notes pass.new.notes pass.old.receipts.items pass.new.receipts.items }
 {
-    if is_for_workers(asked.word) {
+    if is_of_the_run(asked.word) {
         return Served::Console(asked);
     }
     tell(rt, alloc, desk, pass, conn, &asked, inputs)
@@ -234,11 +240,12 @@ fn serve<R: Ledger, Q: Ledger, W: Wait, C: Connection, L: Link, G: Gate>(
     inputs: Inputs,
 ) -> Served
     requires none { pass.old.notes.begun ≡ None }
+    requires fresh { pass.old.notes.gave ≡ None }
     requires known { IsKnownMessage (at_desk desk.now).me (at_desk desk.now).secrets (at_desk desk.now).console message }
     ensures served { ServesMessage (at_desk desk.now) inputs message (C.Source.reads conn.old) (C.Sink.writes conn.old) (C.Sink.writes conn.new) pass.new.notes pass.old.receipts.items pass.new.receipts.items result }
     ensures beside { C.Sink.beside conn.new ≡ C.Sink.beside conn.old }
+    ensures makes { MakesFor (at_desk desk.now) inputs message pass.old.notes pass.new.notes pass.old.receipts.items pass.new.receipts.items (L.exchanges link.old) (L.exchanges link.new) }
     ensures closed { pass.new.notes.begun ≡ None }
-    ensures told { CommitsBy (at_desk desk.now) inputs pass.old.notes pass.new.notes pass.old.receipts.items pass.new.receipts.items (L.exchanges link.old) (L.exchanges link.new) }
     ensures counts { CountsCalls (at_desk desk.now) pass.old.notes pass.new.notes (L.exchanges link.old) (L.exchanges link.new) }
 {
     match message {
@@ -262,15 +269,21 @@ fn serve<R: Ledger, Q: Ledger, W: Wait, C: Connection, L: Link, G: Gate>(
     }
 }
 
-/// Serves one connection: reads one message, does what it asks, and writes what came of it.
+/// Serves one connection: reads one message, does what it asks, and writes what came of it. The pass has no notes of an
+/// earlier turn, so what its notes show afterwards is of this one.
 ///
 /// A live request is run, and its calls are made over the link, each between two events and without the node's lock; the
 /// gate is told of each. The service is told of each just what came of it: what the reply's bytes spell, or that the exchange
-/// failed; once more where there is no memory for that, and then its flight is given up. What is answered is said of the message that was read alone: behind a commit its receipt's reply,
-/// else what the service answered to the message's own event, or why it didn't. An operator is told what came of the order,
-/// gets a report, or is told that the body was ill. A flight that can't go on for want of memory is given up, and none is open
-/// afterwards. A service that isn't set up as the desk says, and a peer that the desk doesn't
-/// know, are answered as memory that lacks. It may wait.
+/// failed; once more where there is no memory for that, and then its flight is given up. A flight that can't go on for want of
+/// memory is given up, and none is open afterwards. However a live request ends, it makes no other event and no other exchange.
+/// Where no message was read no event is made; a message of a peer is taken, and an operator's order made, once at most; and
+/// what else an operator asks makes none. So no order is noted but the one that was read under the console's seal.
+///
+/// What is answered is said of the message that was read alone: behind a commit its receipt's reply, else what the service
+/// answered to the message's own event, or why it didn't. An operator is told what came of the order, gets a report, or is told
+/// that the body was ill. Who is told that memory was wanting for his message or order may know that none was taken and none
+/// made. A service that isn't set up as the desk says, and a peer that the desk doesn't know, are answered as memory that lacks.
+/// It may wait.
 pub fn serve_one<R: Ledger, Q: Ledger, W: Wait, C: Connection, L: Link, G: Gate>(
     rt: &W,
     alloc: Global,
@@ -282,9 +295,11 @@ pub fn serve_one<R: Ledger, Q: Ledger, W: Wait, C: Connection, L: Link, G: Gate>
     gate: &G,
 ) -> Served
     requires none { pass.old.notes.begun ≡ None }
+    requires fresh { (pass.old.notes.turn ≡ None) × (pass.old.notes.gave ≡ None) }
     ensures served { IsServed (at_desk desk.now) inputs (C.Source.reads conn.old) (C.Source.reads conn.new) (C.Sink.writes conn.old) (C.Sink.writes conn.new) pass.new.notes pass.old.receipts.items pass.new.receipts.items result }
-    ensures told { CommitsBy (at_desk desk.now) inputs pass.old.notes pass.new.notes pass.old.receipts.items pass.new.receipts.items (L.exchanges link.old) (L.exchanges link.new) }
     ensures calls { CountsCalls (at_desk desk.now) pass.old.notes pass.new.notes (L.exchanges link.old) (L.exchanges link.new) }
+    ensures makes { MakesOnly (at_desk desk.now) inputs (C.Source.reads conn.old) (C.Source.reads conn.new) pass.old.notes pass.new.notes pass.old.receipts.items pass.new.receipts.items (L.exchanges link.old) (L.exchanges link.new) }
+    ensures orders { NotesOnlyRead (at_desk desk.now) (C.Source.reads conn.old) (C.Source.reads conn.new) pass.old.notes.orders pass.new.notes.orders }
     ensures closed { pass.new.notes.begun ≡ None }
     ensures fault { result ≡ Served.FrontRefused ReadFault → ReadFails (C.Source.reads conn.old) (C.Source.reads conn.new) }
     ensures whole { (C.Source.reads conn.new).whole ≡ (C.Source.reads conn.old).whole }

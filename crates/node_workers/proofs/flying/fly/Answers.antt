@@ -1,6 +1,6 @@
 use Rattle.std.proofs.Common.{refl}
 use Rattle.node_workers.proofs.CallLemmas.{counts_none, counts_on}
-use Rattle.node_workers.proofs.CommitLemmas.{flies_until_commit, flies_not, flies_until_call}
+use Rattle.node_workers.proofs.CommitLemmas.{flies_not, flies_until_call, flies_until_commit, flies_until_gone, flies_until_want}
 use Rattle.node_workers.proofs.FlightLemmas.{call_goes_on, commit_ends, flown, gone_ends, memory_ends, open_still, waits_now}
 use Rattle.node_workers.specs.Desks.{at_desk}
 use Rattle.node_workers.specs.declared.flying.Went.TheVariants as went
@@ -55,7 +55,8 @@ returns-in-Gone g c =
     record {
       ends = end.0;
       closed = end.1;
-      told = tt;
+      told = flies_until_gone e c.args.flight at.flight c.args.set at.set first.notes at.pass.notes now.notes first.receipts.items at.pass.receipts.items now.receipts.items
+          (g.L.Link.exchanges c.args.link.now) (g.L.Link.exchanges at.link) (g.L.Link.exchanges c.send.new.link) at.invariant.told made.told;
       counts = counts_on e first.notes at.pass.notes now.notes (g.L.Link.exchanges c.args.link.now) (g.L.Link.exchanges at.link) (g.L.Link.exchanges c.send.new.link)
           at.invariant.counts made.counts;
     }
@@ -86,7 +87,8 @@ returns-in-NoMemory g c =
     record {
       ends = memory_ends e at.flight first.notes.begun now.notes first.receipts.items now.receipts.items last.notes last.receipts.items goes c.give_up.ensures.receipts;
       closed = up.closed;
-      told = tt;
+      told = flies_until_want e c.args.flight at.flight c.args.set at.set first.notes at.pass.notes now.notes first.receipts.items at.pass.receipts.items now.receipts.items start
+          (g.L.Link.exchanges at.link) link at.invariant.told last.notes last.receipts.items made.told c.give_up.ensures.made;
       counts = counts_on e first.notes now.notes last.notes start link link
           (counts_on e first.notes at.pass.notes now.notes start (g.L.Link.exchanges at.link) link at.invariant.counts made.counts)
           (counts_none e now.notes last.notes link link up.lost up.refused refl);

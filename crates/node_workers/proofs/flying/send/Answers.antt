@@ -1,9 +1,10 @@
 use Rattle.std.proofs.Common.{◌≡◌, subst, sym}
 use Rattle.node_workers.proofs.CallLemmas.{counts_one, counts_untold}
-use Rattle.node_workers.proofs.CommitLemmas.{one_told}
-use Rattle.node_workers.proofs.FlightLemmas.{call_of, caller_of, goes_told, most_told, still_open}
-use Rattle.node_exchanges.specs.Calls.{CallsIt, CallsMade, lost_in, refused_in}
-use Rattle.node_exchanges.specs.Endpoints.{Endpoint}
+use Rattle.node_workers.proofs.CommitLemmas.{one_told, one_untold}
+use Rattle.node_workers.proofs.FlightLemmas.{answers_of, call_of, caller_of, goes_told, most_told, still_open}
+use Rattle.node_exchanges.proofs.AnswerLemmas.{call_answers}
+use Rattle.node_exchanges.specs.Calls.{CallsIt, CallsMade, SendsAtMost, lost_in, refused_in}
+use Rattle.node_exchanges.specs.Endpoints.{Endpoint, at_place}
 use Rattle.node_workers.specs.Desks.{at_desk}
 use Rattle.node_workers.proofs.flying.send.Goals as goal
 
@@ -18,9 +19,12 @@ call-requires g c =
 pub tell-requires : goal.tell-requires
 tell-requires g c =
     let begun = c.args.pass.now.notes.begun in
+    let e = at_place c.place.result in
     record {
       «open» = call_of (at_desk c.args.desk.now) c.args.flight c.args.set.now begun begun c.requires.waits;
       failure = c.in-Ok.ensures.failure;
+      answers = answers_of (at_desk c.args.desk.now) c.args.flight c.args.set.now begun begun c.in-Ok.came c.requires.waits
+          (call_answers e c.args.set.now (g.L.Link.exchanges c.args.link.now) (g.L.Link.exchanges c.call.new.link) c.in-Ok.came c.in-Ok.ensures.came);
     }
 
 pub returns-in-Ok-clause-went : goal.returns-in-Ok-clause-went
@@ -42,6 +46,15 @@ returns-in-Ok-clause-told g c =
     let came = subst (λ (e : Endpoint). CallsIt e a.set.now c.in-Ok.came had have) c.place.ensures c.in-Ok.ensures.came in
     one_told (at_desk a.desk.now) a.flight a.set.now before.notes now.notes before.receipts.items now.receipts.items had have c.in-Ok.came c.tell.result came
     c.tell.ensures.told
+
+pub returns-in-Err-clause-told : goal.returns-in-Err-clause-told
+returns-in-Err-clause-told g c =
+    let a = c.args in
+    let pass = a.pass.now in
+    let had = g.L.Link.exchanges a.link.now in
+    let have = g.L.Link.exchanges c.call.new.link in
+    one_untold (at_desk a.desk.now) a.flight a.set.now pass.notes pass.receipts.items had have
+    (subst (λ (e : Endpoint). SendsAtMost e a.set.now had have) c.place.ensures c.in-Err.ensures.sends)
 
 pub returns-in-Ok-clause-counts : goal.returns-in-Ok-clause-counts
 returns-in-Ok-clause-counts g c =

@@ -1,5 +1,5 @@
 use Rattle.std.proofs.Common.{subst, sym}
-use Rattle.node_workers.proofs.FlightLemmas.{arrival_keeps, begins}
+use Rattle.node_workers.proofs.ArrivalLemmas.{arrival_keeps, begins}
 use Rattle.node_workers.specs.Desks.{at_desk}
 use Rattle.node_workers.specs.Flying.{BeginsSo}
 use Rattle.node_workers.proofs.live.arrive.Goals as goal
@@ -14,7 +14,7 @@ returns-clause-begins g c =
     (begins e a.origin a.request a.inputs before.notes now.notes before.receipts.items now.receipts.items c.requires.none c.ask.result c.ask.ensures.made c.ask.ensures.err)
 
 pub returns-clause-arrival : goal.returns-clause-arrival
-returns-clause-arrival g c = record { answer = c.ask.result; made = c.ask.ensures.made; begins = c.began_of.ensures }
+returns-clause-arrival g c = record { answer = c.ask.result; made = c.ask.ensures.made; nothing = c.ask.ensures.err; begins = c.began_of.ensures }
 
 pub returns-clause-lost : goal.returns-clause-lost
 returns-clause-lost g c =

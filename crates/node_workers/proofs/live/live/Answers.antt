@@ -1,7 +1,8 @@
 use Rattle.std.proofs.Common.{refl}
 use Rattle.node_workers.proofs.CallLemmas.{counts_none, counts_on}
 use Rattle.node_workers.proofs.CommitLemmas.{ends_at_once, ends_flown}
-use Rattle.node_workers.proofs.FlightLemmas.{arrival_ends, waits_on}
+use Rattle.node_workers.proofs.ArrivalLemmas.{arrival_ends}
+use Rattle.node_workers.proofs.FlightLemmas.{waits_on}
 use Rattle.node_workers.specs.Desks.{at_desk}
 use Rattle.node_workers.proofs.live.live.Goals as goal
 

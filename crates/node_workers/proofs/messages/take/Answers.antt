@@ -13,3 +13,10 @@ returns-clause-taken g c =
     let made = subst (λ (d : NodeDone). Made name before.notes now.notes before.receipts.items now.receipts.items (events.Take c.args.set c.args.inputs) d)
     c.in-Take.is c.in_ok-taken.ensures.made in
     taken_so name before.notes now.notes before.receipts.items now.receipts.items c.args.set c.args.inputs c.in-Take.taken made
+
+pub returns-clause-made : goal.returns-clause-made
+returns-clause-made g c =
+    let name = c.args.desk.now.setup.now.setting.me in
+    let before = c.args.pass.now in
+    let now = c.ask.new.pass in
+    subst (λ (d : NodeDone). Made name before.notes now.notes before.receipts.items now.receipts.items (events.Take c.args.set c.args.inputs) d) c.in-Take.is c.in_ok-taken.ensures.made

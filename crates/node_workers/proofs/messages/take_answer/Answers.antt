@@ -13,3 +13,10 @@ returns-clause-heard g c =
     let made = subst (λ (d : NodeDone). Made name before.notes now.notes before.receipts.items now.receipts.items (events.TakeAnswer c.args.answer) d)
     c.in-TakeAnswer.is c.in_ok-heard.ensures.made in
     heard_so name before.notes now.notes before.receipts.items now.receipts.items c.args.answer c.in-TakeAnswer.heard made
+
+pub returns-clause-made : goal.returns-clause-made
+returns-clause-made g c =
+    let name = c.args.desk.now.setup.now.setting.me in
+    let before = c.args.pass.now in
+    let now = c.ask.new.pass in
+    subst (λ (d : NodeDone). Made name before.notes now.notes before.receipts.items now.receipts.items (events.TakeAnswer c.args.answer) d) c.in-TakeAnswer.is c.in_ok-heard.ensures.made

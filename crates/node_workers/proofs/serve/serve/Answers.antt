@@ -1,8 +1,9 @@
-use Rattle.std.proofs.Common.{inl, ◌∙◌, refl, subst, sym}
+use Rattle.std.proofs.Common.{◌∙◌, refl, subst, sym}
 use Rattle.aire_wire.specs.declared.incoming.Incoming.{Incoming}
 use Rattle.wire_bytes.specs.Hearing.{IsKnownMessage}
 use Rattle.node_workers.proofs.CallLemmas.{counts_none}
 use Rattle.node_workers.proofs.ServeLemmas.{asks_so, console_served, outside_served}
+use Rattle.node_workers.specs.Asking.{MakesFor}
 use Rattle.node_workers.specs.Desks.{at_desk}
 use Rattle.node_workers.specs.Serving.{ServesMessage}
 use Rattle.node_workers.proofs.serve.serve.Goals as goal
@@ -16,13 +17,13 @@ pub serve_set-requires : goal.serve_set-requires
 serve_set-requires g c =
     let e = at_desk c.args.desk.now in
     let known = subst (λ (m : Incoming). IsKnownMessage e.me e.secrets e.console m) c.in-Set.is c.requires.known in
-    record { dest = known.1.dest }
+    record { fresh = c.requires.fresh; dest = known.1.dest }
 
 pub serve_answer-requires : goal.serve_answer-requires
 serve_answer-requires g c =
     let e = at_desk c.args.desk.now in
     let known = subst (λ (m : Incoming). IsKnownMessage e.me e.secrets e.console m) c.in-Answer.is c.requires.known in
-    record { caller = known.1.caller }
+    record { fresh = c.requires.fresh; caller = known.1.caller }
 
 pub returns-in-Outside-clause-served : goal.returns-in-Outside-clause-served
 returns-in-Outside-clause-served g c =
@@ -51,9 +52,6 @@ returns-in-Set-clause-served g c =
 pub returns-in-Set-clause-closed : goal.returns-in-Set-clause-closed
 returns-in-Set-clause-closed g c = c.serve_set.ensures.keeps.1 ∙ c.requires.none
 
-pub returns-in-Set-clause-told : goal.returns-in-Set-clause-told
-returns-in-Set-clause-told g c = inl c.serve_set.ensures.keeps.0
-
 pub returns-in-Set-clause-counts : goal.returns-in-Set-clause-counts
 returns-in-Set-clause-counts g c =
     let exchanges = g.L.Link.exchanges c.args.link.now in
@@ -68,9 +66,6 @@ returns-in-Answer-clause-served g c =
 
 pub returns-in-Answer-clause-closed : goal.returns-in-Answer-clause-closed
 returns-in-Answer-clause-closed g c = c.serve_answer.ensures.keeps.1 ∙ c.requires.none
-
-pub returns-in-Answer-clause-told : goal.returns-in-Answer-clause-told
-returns-in-Answer-clause-told g c = inl c.serve_answer.ensures.keeps.0
 
 pub returns-in-Answer-clause-counts : goal.returns-in-Answer-clause-counts
 returns-in-Answer-clause-counts g c =
@@ -93,11 +88,33 @@ returns-in-Console-clause-served g c =
 pub returns-in-Console-clause-closed : goal.returns-in-Console-clause-closed
 returns-in-Console-clause-closed g c = c.serve_console.ensures.keeps.1 ∙ c.requires.none
 
-pub returns-in-Console-clause-told : goal.returns-in-Console-clause-told
-returns-in-Console-clause-told g c = inl c.serve_console.ensures.keeps.0
-
 pub returns-in-Console-clause-counts : goal.returns-in-Console-clause-counts
 returns-in-Console-clause-counts g c =
     let exchanges = g.L.Link.exchanges c.args.link.now in
     let keeps = c.serve_console.ensures.keeps in
     counts_none (at_desk c.args.desk.now) c.args.pass.now.notes c.serve_console.new.pass.notes exchanges exchanges keeps.2 keeps.3 refl
+
+pub returns-in-Outside-clause-makes : goal.returns-in-Outside-clause-makes
+returns-in-Outside-clause-makes g c =
+    subst (λ (m : Incoming). MakesFor (at_desk c.args.desk.now) c.args.inputs m c.args.pass.now.notes c.serve_live.new.pass.notes c.args.pass.now.receipts.items
+    c.serve_live.new.pass.receipts.items (g.L.Link.exchanges c.args.link.now) (g.L.Link.exchanges c.serve_live.new.link)) (sym c.in-Outside.is) c.serve_live.ensures.makes
+
+pub returns-in-Live-clause-makes : goal.returns-in-Live-clause-makes
+returns-in-Live-clause-makes g c =
+    subst (λ (m : Incoming). MakesFor (at_desk c.args.desk.now) c.args.inputs m c.args.pass.now.notes c.serve_call.new.pass.notes c.args.pass.now.receipts.items
+    c.serve_call.new.pass.receipts.items (g.L.Link.exchanges c.args.link.now) (g.L.Link.exchanges c.serve_call.new.link)) (sym c.in-Live.is) c.serve_call.ensures.makes
+
+pub returns-in-Set-clause-makes : goal.returns-in-Set-clause-makes
+returns-in-Set-clause-makes g c =
+    subst (λ (m : Incoming). MakesFor (at_desk c.args.desk.now) c.args.inputs m c.args.pass.now.notes c.serve_set.new.pass.notes c.args.pass.now.receipts.items
+    c.serve_set.new.pass.receipts.items (g.L.Link.exchanges c.args.link.now) (g.L.Link.exchanges c.args.link.now)) (sym c.in-Set.is) (c.serve_set.ensures.makes, refl)
+
+pub returns-in-Answer-clause-makes : goal.returns-in-Answer-clause-makes
+returns-in-Answer-clause-makes g c =
+    subst (λ (m : Incoming). MakesFor (at_desk c.args.desk.now) c.args.inputs m c.args.pass.now.notes c.serve_answer.new.pass.notes c.args.pass.now.receipts.items
+    c.serve_answer.new.pass.receipts.items (g.L.Link.exchanges c.args.link.now) (g.L.Link.exchanges c.args.link.now)) (sym c.in-Answer.is) (c.serve_answer.ensures.makes, refl)
+
+pub returns-in-Console-clause-makes : goal.returns-in-Console-clause-makes
+returns-in-Console-clause-makes g c =
+    subst (λ (m : Incoming). MakesFor (at_desk c.args.desk.now) c.args.inputs m c.args.pass.now.notes c.serve_console.new.pass.notes c.args.pass.now.receipts.items
+    c.serve_console.new.pass.receipts.items (g.L.Link.exchanges c.args.link.now) (g.L.Link.exchanges c.args.link.now)) (sym c.in-Console.is) (c.serve_console.ensures.makes, refl)

@@ -1,7 +1,8 @@
-use Rattle.std.proofs.Common.{inl, inr, refl}
+use Rattle.std.proofs.Common.{refl}
 use Rattle.std.specs.Option.{option_copied}
 use Rattle.node_workers.proofs.ServeLemmas.{has_last, known_for, live_committed, live_gone, live_known, live_refused, live_wants}
 use Rattle.node_workers.specs.Desks.{at_desk}
+use Rattle.node_workers.specs.declared.live.Ending.TheVariants as ends
 use Rattle.node_workers.proofs.serve.serve_live.Goals as goal
 
 pub write_last-requires : goal.write_last-requires
@@ -33,8 +34,8 @@ pub returns-in-Refused-clause-served : goal.returns-in-Refused-clause-served
 returns-in-Refused-clause-served g c =
     live_refused (at_desk c.args.desk.now) c.args.inputs (g.C.Source.reads c.args.conn.now) (g.C.Sink.writes c.args.conn.now) (g.C.Sink.writes c.refuse.new.conn)
     c.live.new.pass.notes c.args.pass.now.receipts.items c.live.new.pass.receipts.items c.args.origin c.args.request (option_copied c.args.to) c.in-Refused.why
-    (c.arrive_told-number.result.0.now, c.arrive_told-number.result.1) c.refuse.result c.requires.to c.in-Refused.ensures.ends.0 c.in-Refused.ensures.ends.1
-    c.in-Refused.ensures.ends.2 c.in-Refused.ensures.ends.3 c.arrive_told-number.ensures.told c.refuse.ensures.said
+    (c.arrive_told-number.result.0.now, c.arrive_told-number.result.1) c.refuse.result c.requires.to c.in-Refused.ensures.ends.0 c.in-Refused.ensures.ends.2
+    c.in-Refused.ensures.ends.3 c.arrive_told-number.ensures.told c.refuse.ensures.said
 
 pub returns-in-Gone-clause-served : goal.returns-in-Gone-clause-served
 returns-in-Gone-clause-served g c =
@@ -47,17 +48,17 @@ returns-in-NoMemory-clause-served g c =
     c.live.new.pass.notes c.args.pass.now.receipts.items c.live.new.pass.receipts.items c.args.origin c.args.request (option_copied c.args.to) c.say_no_memory.result
     c.requires.to c.in-NoMemory.ensures.ends c.say_no_memory.ensures.said
 
-pub returns-in-Committed-clause-told : goal.returns-in-Committed-clause-told
-returns-in-Committed-clause-told g c = inr (c.args.origin, c.args.request, c.in-Committed.index, c.in-Committed.ensures.told)
+pub returns-in-Committed-clause-makes : goal.returns-in-Committed-clause-makes
+returns-in-Committed-clause-makes g c = (ends.Committed c.in-Committed.index, c.in-Committed.ensures.told)
 
-pub returns-in-Known-clause-told : goal.returns-in-Known-clause-told
-returns-in-Known-clause-told g c = inl c.in-Known.ensures.ends.3
+pub returns-in-Known-clause-makes : goal.returns-in-Known-clause-makes
+returns-in-Known-clause-makes g c = (ends.Known c.in-Known.answer, c.in-Known.ensures.told)
 
-pub returns-in-Refused-clause-told : goal.returns-in-Refused-clause-told
-returns-in-Refused-clause-told g c = inl c.in-Refused.ensures.ends.3
+pub returns-in-Refused-clause-makes : goal.returns-in-Refused-clause-makes
+returns-in-Refused-clause-makes g c = (ends.Refused c.in-Refused.why, c.in-Refused.ensures.told)
 
-pub returns-in-Gone-clause-told : goal.returns-in-Gone-clause-told
-returns-in-Gone-clause-told g c = inl c.in-Gone.ensures.ends.1
+pub returns-in-Gone-clause-makes : goal.returns-in-Gone-clause-makes
+returns-in-Gone-clause-makes g c = (ends.Gone, c.in-Gone.ensures.told)
 
-pub returns-in-NoMemory-clause-told : goal.returns-in-NoMemory-clause-told
-returns-in-NoMemory-clause-told g c = inl c.in-NoMemory.ensures.ends
+pub returns-in-NoMemory-clause-makes : goal.returns-in-NoMemory-clause-makes
+returns-in-NoMemory-clause-makes g c = (ends.NoMemory, c.in-NoMemory.ensures.told)

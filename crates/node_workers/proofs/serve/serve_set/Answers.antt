@@ -1,8 +1,9 @@
-use Rattle.std.proofs.Common.{Result, Some, ap, refl, subst}
+use Rattle.std.proofs.Common.{inl, Result, Some, ◌∙◌, ap, refl, subst}
 use Rattle.aire_wire.specs.declared.incoming.Incoming.TheVariants.{Set}
 use Rattle.service_events.specs.declared.answers.Taken.{Taken}
 use Rattle.service_events.specs.declared.refusals.TakeRefused.{TakeRefused}
 use Rattle.node_workers.proofs.ServeLemmas.{ack_for, message_dropped, message_wants, set_refused, set_taken}
+use Rattle.node_core.specs.declared.notes.Notes.{Notes}
 use Rattle.node_workers.specs.Desks.{at_desk}
 use Rattle.node_workers.specs.Messages.{IsTakenSo}
 use Rattle.node_workers.proofs.serve.serve_set.Goals as goal
@@ -40,4 +41,16 @@ pub returns-clause-served : goal.returns-clause-served
 returns-clause-served g c =
     message_wants (at_desk c.args.desk.now) c.args.inputs (g.C.Source.reads c.args.conn.now) (g.C.Sink.writes c.args.conn.now) (g.C.Sink.writes c.say_no_memory.new.conn)
     c.take.new.pass.notes c.args.pass.now.receipts.items c.take.new.pass.receipts.items (Set c.args.set) (Some c.in-Ok.to) c.say_no_memory.result (ap Some c.in-Ok.ensures)
-    c.take.ensures.keeps.0 c.say_no_memory.ensures.said
+    (ap (λ (n : Notes). n.gave) c.in-Err.ensures.err ∙ c.requires.fresh) c.take.ensures.keeps.0 c.say_no_memory.ensures.said
+
+pub returns-in_default-clause-makes : goal.returns-in_default-clause-makes
+returns-in_default-clause-makes g c = inl (refl, refl)
+
+pub returns-in-Ok-Ok-clause-makes : goal.returns-in-Ok-Ok-clause-makes
+returns-in-Ok-Ok-clause-makes g c = c.take.ensures.makes
+
+pub returns-in-Ok-Err-clause-makes : goal.returns-in-Ok-Err-clause-makes
+returns-in-Ok-Err-clause-makes g c = c.take.ensures.makes
+
+pub returns-clause-makes : goal.returns-clause-makes
+returns-clause-makes g c = c.take.ensures.makes
