@@ -1,5 +1,5 @@
 -- From services that are brought to rest to what a run comes to.
-use Rattle.std.proofs.Common.{◌≡◌, ◌≢◌, ℕ, ◌<◌, List, [], ◌∷◌, All, IfOk, Result, Ok, Err, length, map, refl, sym, ap, ◌∙◌, subst, arith}
+use Rattle.std.proofs.Common.{◌≡◌, ℕ, ◌<◌, List, [], ◌∷◌, All, IfOk, Result, Ok, Err, length, map, refl, sym, ap, ◌∙◌, subst, arith}
 use Rattle.std.specs.Prelude.{None}
 use Rattle.std.specs.List.{IsDistinct}
 use Rattle.std.specs.Cmp.Lexicographic.{bytes_decides}
@@ -27,8 +27,8 @@ use Rattle.world_agreement.specs.Legal.{AreLegal}
 use Rattle.world_audit.specs.Verdicts.{IsVerdict}
 use Rattle.node_core.specs.Closings.{IsWholeSince}
 use Rattle.node_core.specs.declared.receipt.Receipt.{Receipt}
-use Rattle.node_run.specs.Ends.{IsGoodEndSince, IsReplayed}
-use Rattle.node_run.specs.Looking.{IsLiveVerdict}
+use Rattle.node_run.specs.Ends.{IsGoodEndSince, IsReplayed, IsSealedBy}
+use Rattle.node_run.specs.Looking.{IsLiveVerdict, SaysVerdict}
 use Rattle.node_run.proofs.WholeKept.{whole_kept}
 
 -- ---- names
@@ -72,14 +72,15 @@ all_replayed (s ∷ ss) (t ∷ ts) settled fits =
 -- ---- the end of a run
 
 pub good_end : (since : List ℕ) (setups : List Setup) (before services : List Kept) (receipts : List Receipt) (verdict : Verdict) → AreApart setups
-    → IsWholeSince since before receipts → HaveSettled before services → AreSetSo setups services → All Fits services → All IsAllowed services
+    → IsWholeSince since before receipts → All (IsSealedBy setups) receipts → HaveSettled before services → AreSetSo setups services → All Fits services → All IsAllowed services
     → IsVerdict services verdict → (NamesDiffer services → verdict ≡ Legal → AreLegal services) → IsGoodEndSince since setups services receipts verdict
-good_end since setups before services receipts verdict apart whole settled set_so fits allowed judged legal = record {
+good_end since setups before services receipts verdict apart whole sealed settled set_so fits allowed judged legal = record {
   set_so = set_so;
   fits = fits;
   allowed = allowed;
   replayed = all_replayed before services settled fits;
   whole = whole_kept since before services receipts settled whole;
+  sealed = sealed;
   judged = judged;
   legal = legal (names_differ setups services apart set_so);
 }
@@ -87,17 +88,22 @@ good_end since setups before services receipts verdict apart whole settled set_s
 -- ---- a verdict beside the workers
 
 pub live_line : (setups : List Setup) (services : List Kept) (names : List (List ℕ)) (verdict : Verdict) (line : Result (List ℕ) NoMemory)
-    → AreSetSo setups services → All Fits services → IsVerdict services verdict → names ≡ map name_of setups → IfOk line (λ text. text ≡ verdict_text names verdict)
-    → IfOk line (IsLiveVerdict setups)
-live_line setups services names verdict (Err why) set_so fits is same says = tt
-live_line setups services names verdict (Ok line) set_so fits is same says = record {
-  services = services;
+    → AreSetSo setups services → All Fits services → All IsAllowed services → IsVerdict services verdict → names ≡ map name_of setups
+    → IfOk line (λ text. text ≡ verdict_text names verdict) → IfOk line (SaysVerdict setups services)
+live_line setups services names verdict (Err why) set_so fits allowed is same says = tt
+live_line setups services names verdict (Ok line) set_so fits allowed is same says = record {
   set_so = set_so;
   fits = fits;
+  allowed = allowed;
   verdict = verdict;
   is = is;
   says = says ∙ ap (λ (all : List (List ℕ)). verdict_text all verdict) same;
 }
+
+-- it is one of services at one moment
+pub said_live : (setups : List Setup) (services : List Kept) (line : Result (List ℕ) NoMemory) → IfOk line (SaysVerdict setups services) → IfOk line (IsLiveVerdict setups)
+said_live setups services (Err why) says = tt
+said_live setups services (Ok line) says = (services, says)
 
 -- there are as many names as services
 pub over_names : (setups : List Setup) (services : List Kept) (names : List (List ℕ)) (verdict : Verdict) → AreSetSo setups services → names ≡ map name_of setups

@@ -12,6 +12,7 @@ use Rattle.std.specs.declared.sync.ledger.Ledger.{Ghosts}
 use Rattle.io_edge.specs.declared.traits.Sink as Sink
 use Rattle.io_edge.specs.declared.traits.Source as Source
 use Rattle.lang_base.proofs.text.Text.TheSendSync as text
+use Rattle.lang_core.proofs.ids.Name.TheSendSync as name
 use Rattle.wire_fields.proofs.named.ByName.TheSendSync as by_name
 use Rattle.node_core.proofs.tally.Tally.TheSendSync as tally
 use Rattle.node_core.proofs.pass.Pass.TheSendSync as pass
@@ -30,7 +31,7 @@ state_send : (R : RattleType) (g : Ghosts R.Denot) → IsSend (state.the_row R g
 state_send R g = recorded_send (state.the_field R g).row _ _ (state.the_type R g).to_one (struct_send (shape (state.the_type R g)) (service_send, (share.the_send R g, (text.the_send, (search sendable, (search sendable, tt))))))
 
 node_sync : (R : RattleType) (g : Ghosts R.Denot) → IsSync (node.the_row R g)
-node_sync R g = recorded_sync (node.the_field R g).row _ _ (node.the_type R g).to_one (struct_sync (shape (node.the_type R g)) (search (sendable, crosses, state_send, condvar.the_field_sync) depth 20))
+node_sync R g = recorded_sync (node.the_field R g).row _ _ (node.the_type R g).to_one (struct_sync (shape (node.the_type R g)) (name.the_sync, search (sendable, crosses, state_send, condvar.the_field_sync) depth 20))
 
 desk_sync : (κ : NamedLft) (R Q : RattleType) (g : Ghosts R.Denot) (g' : Ghosts Q.Denot) → IsSync (desk.the_row κ R Q g g')
 desk_sync κ R Q g g' = recorded_sync (desk.the_field κ R Q g g').row _ _ (desk.the_type κ R Q g g').to_one (struct_sync (shape (desk.the_type κ R Q g g')) (shr_sync _ _ _ (tally.the_sync R Q g g'), (shr_sync _ _ _ (node_sync R g), (shr_sync _ _ _ setup_sync, (by_name.the_sync _ text.the_sync, (by_name.the_sync _ text.the_sync, tt))))))

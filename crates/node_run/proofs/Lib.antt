@@ -1,8 +1,11 @@
+pub mod DeskLemmas
 pub mod EndingLemmas
 pub mod JobSends
 pub mod JudgingLemmas
+pub mod LookingLemmas
 pub mod PeerLemmas
 pub mod RefusedLemmas
+pub mod TurnLemmas
 pub mod SameLemmas
 pub mod ServiceSends
 pub mod SettlingLemmas

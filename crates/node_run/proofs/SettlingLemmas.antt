@@ -17,13 +17,15 @@ use Rattle.service_events.specs.Progress.{GoesFurther, IsLocalStep}
 use Rattle.service_events.specs.State.{After, Kept, after, answers, base}
 use Rattle.service_events.specs.Steps.{Stale, answer_rows, new_record, sent_rows, stale_in, step_by, step_event}
 use Rattle.service_events.proofs.SearchLemmas.{none_mid, splits}
+use Rattle.node_core.proofs.OrderRowLaws.{step_orders_none}
+use Rattle.node_core.specs.Orders.{ordered_rows}
 use Rattle.node_run.specs.Settled.{GoesOnFrom, HasSettled, HaveSettled, IsAtRest, is_early}
 use Rattle.node_run.specs.Stepping.{ComesToRest, HasStepped, has_run}
 
 -- ---- journals that go on
 
 pub goes_none : (s : Kept) → GoesOnFrom s s
-goes_none s = record { name = refl; rows = []; is = sym (append-nil s.journal); silent = refl }
+goes_none s = record { name = refl; rows = []; is = sym (append-nil s.journal); silent = refl; unordered = refl }
 
 pub goes_more : (s t u : Kept) → GoesOnFrom s t → GoesOnFrom t u → GoesOnFrom s u
 goes_more s t u first second = record {
@@ -31,15 +33,17 @@ goes_more s t u first second = record {
   rows = first.rows ++ second.rows;
   is = second.is ∙ (ap (λ xs. xs ++ second.rows) first.is ∙ append_assoc s.journal first.rows second.rows);
   silent = second.silent ∙ first.silent;
+  unordered = second.unordered ∙ first.unordered;
 }
 
 -- ---- a repair step
 
-goes_by : (s : Kept) (o : Option Stale) → live_rows (step_by s o).service.journal ≡ live_rows s.journal → GoesOnFrom s (step_by s o).service
-goes_by s None silent = goes_none s
-goes_by s (Some x) silent =
+goes_by : (s : Kept) (o : Option Stale) → live_rows (step_by s o).service.journal ≡ live_rows s.journal
+    → ordered_rows (step_by s o).service.journal ≡ ordered_rows s.journal → GoesOnFrom s (step_by s o).service
+goes_by s None silent unordered = goes_none s
+goes_by s (Some x) silent unordered =
     let m = new_record s x.rows x.entry in
-    record { name = refl; rows = sent_rows s x.entry m ++ answer_rows x.entry m; is = refl; silent = silent }
+    record { name = refl; rows = sent_rows s x.entry m ++ answer_rows x.entry m; is = refl; silent = silent; unordered = unordered }
 
 many_by : (s t : Kept) (stepped : Stepped) → IsLocalStep s stepped t → length t.entries ≡ length s.entries
 many_by s t Idle local = ap length local.1
@@ -63,7 +67,7 @@ has_stepped s t stepped ran is local further silent told =
     let first : t ≡ (step_event s).service = ap (λ (a : After Stepped). a.service) is in
     let L : Kept → Type 0 = λ k. live_rows k.journal ≡ live_rows s.journal in
     record {
-      goes = subst (GoesOnFrom s) (sym first) (goes_by s (stale_in (answers s) (base s) s.entries) (subst L first silent));
+      goes = subst (GoesOnFrom s) (sym first) (goes_by s (stale_in (answers s) (base s) s.entries) (subst L first silent) (step_orders_none s));
       many = many_by s t stepped local;
       further = further;
       idle = λ none. idle_rests s t stepped is local (sym told ∙ none);

@@ -1,5 +1,5 @@
 -- A request to stop, from the connection on which it was heard to the one to which the reply was written.
-use Rattle.std.proofs.Common.{◌≡◌, ◌≢◌, ◌⊎◌, inl, inr, ℕ, ◌+◌, ◌<◌, ◌^◌, List, [], ◌++◌, Some, Result, Ok, Err, OnOk, OnErr, length, take, drop, refl, sym, subst, ap, ◌∙◌, arith}
+use Rattle.std.proofs.Common.{◌≡◌, inl, inr, ℕ, ◌+◌, ◌<◌, List, [], ◌++◌, Some, Result, Ok, Err, OnOk, OnErr, length, take, drop, refl, sym, subst, ap, ◌∙◌, arith}
 use Rattle.std.proofs.Math.Seq.{take-append_seam, take-length}
 use Rattle.std.proofs.lemmas.List.{append_assoc, take-append-drop}
 use Rattle.lang_core.specs.declared.inputs.Inputs.{Inputs}

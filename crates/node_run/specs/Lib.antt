@@ -1,3 +1,4 @@
+pub mod Drawn
 pub mod Ends
 pub mod HandedOn
 pub mod Looking
@@ -6,4 +7,7 @@ pub mod Refused
 pub mod SetSo
 pub mod Settled
 pub mod Stepping
+pub mod Turns
+pub mod Repairing
+pub mod Workers
 pub mod Stopping

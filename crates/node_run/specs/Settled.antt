@@ -8,6 +8,7 @@ use Rattle.call_registers.specs.declared.register.Register.{Register}
 use Rattle.local_repair.specs.Current.{AllCurrent}
 use Rattle.service_events.specs.Commits.{live_rows}
 use Rattle.service_events.specs.State.{Kept, answers, base, me}
+use Rattle.node_core.specs.Orders.{ordered_rows}
 
 -- no entry of it is stale
 abbrev pub IsAtRest : Kept → Type 0
@@ -17,12 +18,13 @@ IsAtRest s = AllCurrent (answers s) (base s) s.entries
 abbrev pub is_early : Register → Bool
 is_early r = option_map_or (λ (a : Answer). nat_lt r.version a.version) r.answer false
 
--- a service of the same name, whose journal goes on from the one's and answers no live request more
+-- a service of the same name, whose journal goes on from the one's, and answers no live request and has no order more
 pub record GoesOnFrom (s t : Kept) : Type 0 where
   pub name : me t ≡ me s
   pub rows : List Row
   pub is : t.journal ≡ s.journal ++ rows
   pub silent : live_rows t.journal ≡ live_rows s.journal
+  pub unordered : ordered_rows t.journal ≡ ordered_rows s.journal
 
 -- and which is at rest, if it is timely
 pub record HasSettled (s t : Kept) : Type 0 where

@@ -1,10 +1,18 @@
 // The three kinds of worker.
+ghost use Rattle.io_links.specs.Connections.{GivesNew, IsNew};
+ghost use Rattle.io_links.specs.Exchanges.{Exchanges};
+ghost use Rattle.node_workers.specs.Desks.{at_desk};
+ghost use Rattle.node_run.specs.Repairing.{StepsAlone, StepsOnce};
+ghost use Rattle.node_run.specs.Turns.{Turns};
+ghost use Rattle.node_run.specs.Workers.{standing, PostsOrRests, ServesNext};
+
 use crate::answering::{make_ready, serve};
 use crate::drawing::Draw;
 use crate::resting::{pause, rest_from_posts, rest_from_repair};
 use crate::shared::{Shared, is_stopped};
+use io_edge::Connection;
 use io_links::{Accepted, Ear, Gate, Job, Link};
-use lang_core::NoMemory;
+use lang_core::{Name, NoMemory};
 use local_repair::Stepped;
 use node_core::{NodeDone, NodeEvent, NodeState, Pass, event};
 use node_workers::{Desk, PostedOne, post_one};
@@ -26,6 +34,39 @@ pub struct Requests<'a, R: Ledger, Q: Ledger, W, E: Ear, L: Link, D, G> {
     pub pass: Pass<Q>,
 }
 
+// Serves the connection that has just come, if one did; whether the worker goes on.
+fn serve_next<
+    R: Ledger,
+    Q: Ledger,
+    W: Wait + Clock,
+    C: Connection + Drop,
+    L: Link,
+    D: Draw,
+    G: Gate,
+>(
+    rt: &W,
+    alloc: Global,
+    shared: &Shared<'_, R, Q, C, D, G>,
+    desk: &Desk<'_, R, Q>,
+    pass: &mut Pass<Q>,
+    accepted: Accepted<C>,
+    link: &mut L,
+) -> bool
+    requires new { GivesNew (λ conn. IsNew (C.Source.reads conn) (C.Sink.writes conn)) accepted }
+    ensures turn { ServesNext (at_desk desk.now)
+        (standing pass.old.notes pass.old.receipts.items (L.exchanges link.old))
+        (standing pass.new.notes pass.new.receipts.items (L.exchanges link.new)) }
+{
+    match accepted {
+        Accepted::Conn(conn) => serve(rt, alloc, shared, desk, pass, conn, link),
+        Accepted::Nobody => true,
+        Accepted::Failed => {
+            pause(rt, desk.node);
+            true
+        }
+    }
+}
+
 impl<
     'a,
     R: Ledger + Send + Sync,
@@ -38,7 +79,11 @@ impl<
 > Job for Requests<'a, R, Q, W, E, L, D, G> {
     type Out = Pass<Q>;
 
-    fn run(self) -> Pass<Q> {
+    fn run(self) -> Pass<Q>
+        ensures turns { (link : Exchanges) × Turns (ServesNext (at_desk self.entry.desk.now))
+            (standing self.entry.pass.notes self.entry.pass.receipts.items (L.exchanges self.entry.link))
+            (standing result.notes result.receipts.items link) }
+    {
         let Requests {
             rt,
             alloc,
@@ -48,22 +93,14 @@ impl<
             mut link,
             mut pass,
         } = self;
-        for _ in rt.forever() {
-            let goes_on = match ear.accept() {
-                Accepted::Conn(conn) => {
-                    serve(rt, alloc, shared, desk, &mut pass, conn, &mut link)
-                }
-                Accepted::Nobody => true,
-                Accepted::Failed => {
-                    pause(rt, desk.node);
-                    true
-                }
-            };
+        for _turn in rt.forever() {
+            let accepted = ear.accept();
+            let goes_on = serve_next(rt, alloc, shared, desk, &mut pass, accepted, &mut link);
             if !goes_on || is_stopped(rt, desk.node) {
-                break;
+                return pass;
             }
         }
-        pass
+        unreachable!()
     }
 }
 
@@ -83,10 +120,13 @@ fn step_under_lock<R: Ledger, Q: Ledger, W: Wait>(
     desk: &Desk<'_, R, Q>,
     kept: &mut NodeState<R>,
     pass: &mut Pass<Q>,
-) -> Result<Stepped, NoMemory> {
-    match event(rt, alloc, desk.tally, kept, pass, NodeEvent::Step)? {
-        NodeDone::Step(stepped) => stepped,
-        _ => unreachable!(),
+) -> Result<Stepped, NoMemory>
+    ensures steps { StepsOnce pass.old.notes pass.new.notes }
+{
+    match event(rt, alloc, desk.tally, kept, pass, NodeEvent::Step) {
+        Ok(NodeDone::Step(stepped)) => stepped,
+        Ok(_) => unreachable!(),
+        Err(why) => Err(why),
     }
 }
 
@@ -96,7 +136,9 @@ fn step<R: Ledger, Q: Ledger, W: Wait>(
     alloc: Global,
     desk: &Desk<'_, R, Q>,
     pass: &mut Pass<Q>,
-) -> Result<Stepped, NoMemory> {
+) -> Result<Stepped, NoMemory>
+    ensures steps { StepsOnce pass.old.notes pass.new.notes }
+{
     let mut state = desk.node.state.lock(rt);
     step_under_lock(rt, alloc, desk, &mut *state, pass)
 }
@@ -107,7 +149,9 @@ fn repair<R: Ledger, Q: Ledger, W: Wait + Clock>(
     alloc: Global,
     desk: &Desk<'_, R, Q>,
     pass: &mut Pass<Q>,
-) {
+)
+    ensures steps { StepsOnce pass.old.notes pass.new.notes }
+{
     match step(rt, alloc, desk, pass) {
         Ok(Stepped::Ran { .. }) => desk.node.work.notify_all(),
         Ok(Stepped::Idle) => rest_from_repair(rt, desk.node),
@@ -119,20 +163,22 @@ impl<'a, R: Ledger + Send + Sync, Q: Ledger + Send + Sync, W: Wait + Clock + Syn
     for Repairs<'a, R, Q, W> {
     type Out = Pass<Q>;
 
-    fn run(self) -> Pass<Q> {
+    fn run(self) -> Pass<Q>
+        ensures steps { StepsAlone self.entry.pass.notes result.notes }
+    {
         let Repairs {
             rt,
             alloc,
             desk,
             mut pass,
         } = self;
-        for _ in rt.forever() {
+        for _turn in rt.forever() {
             if is_stopped(rt, desk.node) {
-                break;
+                return pass;
             }
             repair(rt, alloc, desk, &mut pass);
         }
-        pass
+        unreachable!()
     }
 }
 
@@ -155,6 +201,43 @@ struct Round {
     stuck: bool,
 }
 
+impl Round {
+    // The same, with what came of one turn more.
+    fn with(self, came: PostedOne) -> Round {
+        match came {
+            PostedOne::Nothing => self,
+            PostedOne::Posted(Posted::Acked | Posted::Confirmed | Posted::Held) => Round {
+                moved: true,
+                stuck: self.stuck,
+            },
+            _ => Round {
+                moved: self.moved,
+                stuck: true,
+            },
+        }
+    }
+}
+
+// Takes a turn to this peer, if the pass is ready for one.
+fn post_to<R: Ledger, Q: Ledger, W: Wait, L: Link>(
+    rt: &W,
+    alloc: Global,
+    desk: &Desk<'_, R, Q>,
+    link: &mut L,
+    pass: &mut Pass<Q>,
+    peer: &Name,
+) -> Option<PostedOne>
+    ensures turn { PostsOrRests (at_desk desk.now)
+        (standing pass.old.notes pass.old.receipts.items (L.exchanges link.old))
+        (standing pass.new.notes pass.new.receipts.items (L.exchanges link.new)) }
+{
+    if make_ready(pass) {
+        Some(post_one(rt, alloc, desk, pass, peer, link))
+    } else {
+        None
+    }
+}
+
 // Takes a turn to each peer.
 fn post_to_all<R: Ledger, Q: Ledger, W: Wait, L: Link>(
     rt: &W,
@@ -162,21 +245,18 @@ fn post_to_all<R: Ledger, Q: Ledger, W: Wait, L: Link>(
     desk: &Desk<'_, R, Q>,
     link: &mut L,
     pass: &mut Pass<Q>,
-) -> Round {
+) -> Round
+    ensures turns { Turns (PostsOrRests (at_desk desk.now))
+        (standing pass.old.notes pass.old.receipts.items (L.exchanges link.old))
+        (standing pass.new.notes pass.new.receipts.items (L.exchanges link.new)) }
+{
     let mut round = Round {
         moved: false,
         stuck: false,
     };
     for peer in desk.setup.setting.peers.as_slice() {
-        if !make_ready(pass) {
-            break;
-        }
-        match post_one(rt, alloc, desk, pass, peer, link) {
-            PostedOne::Nothing => {}
-            PostedOne::Posted(Posted::Acked | Posted::Confirmed | Posted::Held) => {
-                round.moved = true;
-            }
-            _ => round.stuck = true,
+        if let Some(came) = post_to(rt, alloc, desk, link, pass, peer) {
+            round = round.with(came);
         }
     }
     round
@@ -189,7 +269,11 @@ fn post<R: Ledger, Q: Ledger, W: Wait + Clock, L: Link>(
     desk: &Desk<'_, R, Q>,
     link: &mut L,
     pass: &mut Pass<Q>,
-) {
+)
+    ensures turns { Turns (PostsOrRests (at_desk desk.now))
+        (standing pass.old.notes pass.old.receipts.items (L.exchanges link.old))
+        (standing pass.new.notes pass.new.receipts.items (L.exchanges link.new)) }
+{
     let round = post_to_all(rt, alloc, desk, link, pass);
     if round.moved {
         desk.node.work.notify_all();
@@ -209,7 +293,11 @@ impl<
 > Job for Posts<'a, R, Q, W, L> {
     type Out = Pass<Q>;
 
-    fn run(self) -> Pass<Q> {
+    fn run(self) -> Pass<Q>
+        ensures turns { (link : Exchanges) × Turns (PostsOrRests (at_desk self.entry.desk.now))
+            (standing self.entry.pass.notes self.entry.pass.receipts.items (L.exchanges self.entry.link))
+            (standing result.notes result.receipts.items link) }
+    {
         let Posts {
             rt,
             alloc,
@@ -217,12 +305,12 @@ impl<
             mut link,
             mut pass,
         } = self;
-        for _ in rt.forever() {
+        for _turn in rt.forever() {
             if is_stopped(rt, desk.node) {
-                break;
+                return pass;
             }
             post(rt, alloc, desk, &mut link, &mut pass);
         }
-        pass
+        unreachable!()
     }
 }

@@ -12,8 +12,8 @@ use journal_rows::Verdict;
 use service_core::Service;
 use world_audit::audit;
 
-// Each fits its journal, and allowed each repair in it, which its type keeps.
-fn look_at_all(services: &[Service])
+/// Changes nothing: it shows what a service's type keeps, that it fits its journal and that its rules allowed each repair in that.
+pub fn look_at_all(services: &[Service])
     ensures fits { All Fits services.now }
     ensures allowed { All IsAllowed services.now }
 {

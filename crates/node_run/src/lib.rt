@@ -22,6 +22,7 @@ mod stopping;
 mod working;
 
 pub use ending::Joined;
+pub use judging::look_at_all;
 pub use last::Last;
 pub use node_core::Receipt;
 pub use refused::RunRefused;

@@ -1,7 +1,7 @@
 // The verdict over services that are being served.
-ghost use Rattle.std.specs.Prelude.{◌≡◌, IfOk, map};
+ghost use Rattle.std.specs.Prelude.{◌≡◌, ◌++◌, ◌∷◌, [], IfOk, OnOk, map};
 ghost use Rattle.world_file.specs.Worlds.{name_of};
-ghost use Rattle.node_run.specs.Looking.{IsLiveVerdict};
+ghost use Rattle.node_run.specs.Looking.{IsLiveVerdict, SaysVerdict};
 
 use crate::judging::judge;
 use crate::same::are_set_so;
@@ -32,8 +32,17 @@ fn node_of_rank<'a, R: Ledger>(
     nodes.get(place)
 }
 
+// Adds a copy of a service that its guard lends.
+fn add_copy(alloc: Global, copies: &mut Vec<Service>, lent: &Service) -> Result<(), NoMemory>
+    ensures { OnOk result (copies.new.items ≡ copies.old.items ++ lent.now ∷ []) }
+{
+    copies.push(lent.copied(alloc)?)?;
+    Ok(())
+}
+
 // Copies of all services as they are at one moment. The locks are taken in the order of names, as everybody does who takes
-// several, so nobody waits for one that waits for him.
+// several, so nobody waits for one that waits for him. What a lock guards is told to no contract before it is taken: so none says
+// that these are the nodes' services, and `add_copy` says that each is the one that is lent to it.
 fn copies<R: Ledger, W: Wait>(
     rt: &W,
     alloc: Global,
@@ -52,7 +61,7 @@ fn copies<R: Ledger, W: Wait>(
         let Some(state) = held.get(rank_of(here, setup)) else {
             return Err(NoMemory);
         };
-        copies.push(state.service().copied(alloc)?)?;
+        add_copy(alloc, &mut copies, state.service())?;
     }
     Ok(copies)
 }
@@ -67,8 +76,20 @@ fn names_of(alloc: Global, here: &[Setup]) -> Result<Names, NoMemory>
     Ok(names)
 }
 
-/// The line of the verdict over all services that run here, as they are at one moment.
+// The line of the verdict over services, if they are those of the setups.
 #[tactic(auto, using(crate::proofs::EndingLemmas::live_line, crate::proofs::EndingLemmas::over_names))]
+fn verdict_over(alloc: Global, here: &[Setup], services: &[Service]) -> Result<Text, NoMemory>
+    ensures { IfOk result (SaysVerdict here.now services.now) }
+{
+    if !are_set_so(alloc, services, here)? {
+        return Err(NoMemory);
+    }
+    let names = names_of(alloc, here)?;
+    verdict_text(alloc, &names, &judge(services))
+}
+
+/// The line of the verdict over all services that run here, as they are at one moment.
+#[tactic(auto, using(crate::proofs::EndingLemmas::said_live))]
 pub fn verdict_now<R: Ledger, W: Wait>(
     rt: &W,
     alloc: Global,
@@ -78,9 +99,5 @@ pub fn verdict_now<R: Ledger, W: Wait>(
     ensures { IfOk result (λ line. IsLiveVerdict here.now line) }
 {
     let services = copies(rt, alloc, here, nodes)?;
-    if !are_set_so(alloc, &services, here)? {
-        return Err(NoMemory);
-    }
-    let names = names_of(alloc, here)?;
-    verdict_text(alloc, &names, &judge(&services))
+    verdict_over(alloc, here, &services)
 }

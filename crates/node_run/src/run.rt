@@ -1,9 +1,9 @@
 // A run of nodes.
-ghost use Rattle.std.specs.Prelude.{◌≡◌, ◌≤◌, IfOk, IsErrOf, length, vec_len};
+ghost use Rattle.std.specs.Prelude.{◌≡◌, ◌≤◌, IfOk, IsErrOf, length, map, vec_len};
 ghost use Rattle.io_edge.specs.Edge.{Rose};
-ghost use Rattle.node_core.specs.Closings.{opened_at, AgreesSince, SamePlace};
+ghost use Rattle.node_core.specs.Closings.{opened_at, AgreesSince, AreNoted, SamePlace};
 ghost use Rattle.node_run.specs.Ends.{IsGoodEndSince};
-ghost use Rattle.node_run.specs.Peers.{AreApart};
+ghost use Rattle.node_run.specs.Peers.{secret_of, AreApart};
 ghost use Rattle.node_run.specs.Stopping.{IsOfOne};
 ghost use Rattle.node_run.specs.declared.refused.RunRefused.TheVariants as refusals;
 
@@ -49,7 +49,8 @@ fn listen_all<D: Door>(
 }
 
 fn secrets_of(alloc: Global, here: &[Setup]) -> Result<Vec<Text>, NoMemory>
-    ensures { IfOk result (λ secrets. vec_len secrets ≡ length here.now) }
+    ensures len { IfOk result (λ secrets. vec_len secrets ≡ length here.now) }
+    ensures secrets { IfOk result (λ secrets. secrets.items ≡ map secret_of here.now) }
 {
     let mut secrets = Vec::new(alloc);
     for setup in here {
@@ -167,6 +168,7 @@ fn run_with<
     requires one_each { R.parts ≡ length here.now }
     requires one_pass_each { Q.parts ≡ passes }
     ensures end { IfOk result (λ j. IsGoodEndSince (opened_at services.items) here.now j.services.items j.receipts.items j.verdict) }
+    ensures noted { IfOk result (λ j. AreNoted (opened_at services.items) j.services.items j.orders.items) }
     ensures last { IfOk result (λ j. IsOfOne here.now j.last.service j.last.console) }
     ensures door { IsErrOf result refusals.DoorFault → Rose (D.faults doors.old) (D.faults doors.new) }
     ensures started { IsErrOf result refusals.NotStarted → Rose (P.faults spawner.old) (P.faults spawner.new) }
@@ -198,7 +200,8 @@ fn run_with<
 /// clock and these words. The services may have a past, which isn't counted: a run has receipts of what it answered itself.
 ///
 /// Where it ends well, each live request that a journal answers since the run began has exactly one receipt, with its request
-/// and the reply's bytes; each service has its setup's setting and rules, fits its journal, and is the replay of its
+/// and the reply's bytes, and each order that it got since then has exactly one note of the worker that read it; each service has
+/// its setup's setting and rules, fits its journal, and is the replay of its
 /// surviving requests, if it is timely; a Legal verdict says that all services are one legal execution; and `last` is the
 /// connection on which `stop` was read. `DoorFault` comes only where the door's count of faults rose, `NotStarted` only
 /// where the spawner's did; a receipt that `Differs` doesn't agree with the services that are handed back, or is of an answer of
@@ -227,6 +230,7 @@ pub fn run_nodes<
     requires apart { AreApart here.now }
     requires services { vec_len services ≡ length here.now }
     ensures end { IfOk result (λ j. IsGoodEndSince (opened_at services.items) here.now j.services.items j.receipts.items j.verdict) }
+    ensures noted { IfOk result (λ j. AreNoted (opened_at services.items) j.services.items j.orders.items) }
     ensures last { IfOk result (λ j. IsOfOne here.now j.last.service j.last.console) }
     ensures door { IsErrOf result refusals.DoorFault → Rose (D.faults doors.old) (D.faults doors.new) }
     ensures started { IsErrOf result refusals.NotStarted → Rose (P.faults spawner.old) (P.faults spawner.new) }

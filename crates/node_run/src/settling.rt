@@ -21,7 +21,6 @@ fn has_run(stepped: Stepped) -> bool
 }
 
 // A repair step; whether an entry ran.
-#[tactic(auto, using(crate::proofs::SettlingLemmas::has_stepped))]
 fn step(alloc: Global, service: &mut Service) -> Result<bool, NoMemory>
     ensures { IfOk result (λ ran. HasStepped service.old ran service.new) }
 {
@@ -89,7 +88,7 @@ fn settle(alloc: Global, service: &mut Service) -> Result<(), NoMemory>
 }
 
 /// The services, each brought to rest by repair steps: none that is timely has a stale entry any more, and none answers a live
-/// request more. They are the same services, in order, and their journals go on.
+/// request or has an order more. They are the same services, in order, and their journals go on.
 #[tactic(auto, using(crate::proofs::SettlingLemmas::settled_next))]
 pub fn settle_all(alloc: Global, services: Vec<Service>) -> Result<Vec<Service>, NoMemory>
     ensures { IfOk result (λ settled. HaveSettled services.items settled.items) }
