@@ -7,7 +7,7 @@ use Rattle.node_run.specs.HandedOn.{IsWhole, Receipt}
 use Rattle.audit_command.proofs.Ends.{ends_well as audit_well}
 use Rattle.order_command.proofs.Ends.{ends_well as order_well}
 use Rattle.aire_top.specs.Commands.{AnswersBy, Ends, EndsBy, EndsOffline, EndsPlainly, HasAudited, HasOrdered, IsDone, IsDoneAs, IsDoneBy, IsGoodBy, IsGoodCommand, IsGoodOffline, IsGoodPlain, command_of, is_make, offline_command}
-use Rattle.aire_top.specs.Ended.{Ending, Faults, Whose, ending, last_of, plain}
+use Rattle.aire_top.specs.Ended.{Ending, Faults, Whose, ending, last_of}
 use Rattle.aire_top.specs.Endings.{Answer, Outside}
 use Rattle.aire_top.specs.Top.{words_of}
 use Rattle.aire_top.specs.declared.words.Command.{Command}

@@ -38,6 +38,7 @@ good_from setups opened services receipts verdict fresh end = record {
   allowed = end.allowed;
   replayed = end.replayed;
   whole = whole_from (opened_at opened) services receipts (from_start setups opened fresh) end.whole;
+  sealed = end.sealed;
   judged = end.judged;
   legal = end.legal;
 }

@@ -1,8 +1,8 @@
 -- What the command words mean and name.
-use Rattle.std.specs.Prelude.{◌≡◌, ℕ, Bool, List, [], ◌∷◌, length, Option, Some, None, option_map, Result, Ok, Err, if◌then◌else◌, nat_lt, codes}
-use Rattle.std.specs.Option.{ForSome}
+use Rattle.std.specs.Prelude.{ℕ, Bool, List, [], ◌∷◌, length, Option, Some, None, option_map, Result, Ok, Err, if◌then◌else◌, nat_lt, codes}
 use Rattle.lang_base.specs.Texts.{same_text}
 use Rattle.command_ends.specs.Words.{is_file_word, misfit_from}
+pub use Rattle.audit_command.specs.Audits.{Is}
 pub use Rattle.aire_top.specs.Fresh.{fresh, fresh_service}
 use Rattle.world_file.specs.declared.setup.Setup.{Setup}
 use Rattle.world_file.specs.declared.refused.WorldRefused.{WorldRefused}
@@ -51,10 +51,6 @@ fitting world script = record { misfit = None; world = world; script = script }
 -- What the outside tells of something that is loaded: None where it doesn't tell, Some None where there is none.
 abbrev pub Loaded : Type 0 → Type 0
 Loaded X = Option (Option X)
-
--- where it is told, it is there, and is this
-abbrev pub Is : {X : Type 0} → Loaded X → X → Type 0
-Is told x = ForSome told (λ there. there ≡ Some x)
 
 abbrev pub file_told : Option (List ℕ → Option (List ℕ)) → List ℕ → Loaded (List ℕ)
 file_told files path = option_map (λ at. at path) files

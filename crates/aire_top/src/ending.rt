@@ -2,6 +2,7 @@
 ghost use Rattle.std.specs.Prelude.{◌≡◌, All, IfSome, None, Some, codes};
 ghost use Rattle.journal_rows.specs.declared.verdict.Verdict.TheVariants.{Legal};
 ghost use Rattle.service_events.specs.Allowed.{IsAllowed};
+ghost use Rattle.service_events.specs.Fits.{Fits};
 ghost use Rattle.script_run.specs.Audits.{SaysForged};
 ghost use Rattle.world_agreement.specs.Legal.{AreLegal};
 ghost use Rattle.world_agreement.specs.Partners.{IsJoined};
@@ -16,6 +17,7 @@ use crate::loading::NoWorld;
 use crate::outcome::Outcome;
 use command_ends::{REFUSED, lacking, unread, write_last};
 use io_edge::{Connection, Sink};
+use node_run::look_at_all;
 use script_run::{World, judge};
 use std::alloc::Global;
 use std::mem;
@@ -25,6 +27,7 @@ use world_file::WorldRefused;
 pub fn without<C: Connection + Drop>(alloc: Global, status: u8) -> Ended<C>
     ensures ends { ending_of result ≡ plain (nothing status) }
     ensures verdict { result.verdict ≡ None }
+    ensures kept { All Fits result.services.items × All IsAllowed result.services.items }
 {
     Ended {
         status,
@@ -42,12 +45,14 @@ pub fn closed<C: Connection + Drop>(alloc: Global, outcome: Outcome) -> Ended<C>
     ensures legal { result.verdict ≡ Some Legal → AreLegal result.services.items }
     ensures joined { IfSome result.verdict (λ v. ¬ (SaysForged v)) }
     ensures allowed { IfSome result.verdict (λ v. All IsAllowed result.services.items) }
+    ensures kept { All Fits result.services.items × All IsAllowed result.services.items }
 {
     let Outcome { status, world } = outcome;
     match world {
         None => without(alloc, status),
         Some(world) => {
             let verdict = judge(&world);
+            look_at_all(world.services());
             Ended {
                 status,
                 services: world.into_services(),

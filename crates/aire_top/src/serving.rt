@@ -63,6 +63,7 @@ fn finished<C: Connection + Drop>(status: u8, joined: Joined<C>) -> Ended<C>
     let Joined {
         services,
         receipts,
+        orders: _,
         verdict,
         last,
     } = joined;

@@ -3,6 +3,7 @@ ghost use Rattle.std.specs.Prelude.{◌≡◌, All, IfSome, Some, map, string_by
 ghost use Rattle.journal_rows.specs.declared.verdict.Verdict.TheVariants.{Legal};
 ghost use Rattle.world_events.specs.Live.{IsLiveWorld};
 ghost use Rattle.service_events.specs.Allowed.{IsAllowed};
+ghost use Rattle.service_events.specs.Fits.{Fits};
 ghost use Rattle.world_events.specs.Sound.{IsSound};
 ghost use Rattle.script_run.specs.Audits.{SaysForged};
 ghost use Rattle.world_agreement.specs.Legal.{AreLegal};
@@ -29,6 +30,7 @@ use audit_command::audit;
 use command_ends::{DONE, UNWRITTEN};
 use io_edge::{Connection, Files, ReadRefused, Sink, Source};
 use io_links::{Ear, Link, Spawner};
+use node_run::look_at_all;
 use order_command::order;
 use recorded_inputs::{Clock, Words};
 use script_run::{ScriptRefused, World, run_script};
@@ -161,6 +163,9 @@ pub fn offline<X: Connection + Drop, F: Files, S: Source, K: Sink>(
 
     // Where there is a verdict, Legal or not, each repair that a service applied was allowed by its rules, as things stood before it.
     ensures allowed { IfSome result.verdict (λ v. All IsAllowed result.services.items) }
+
+    // So it was of all services, and each fits its journal, which a service's type keeps.
+    ensures kept { All Fits result.services.items × All IsAllowed result.services.items }
 {
     closed(alloc, done(alloc, words, files, input, out))
 }
@@ -178,9 +183,19 @@ fn audited<X: Connection + Drop, R: Threads + Sync, F: Files, K: Sink>(
         (outside (F.loads files.new) reads (K.writes out.new))
         (ending_of result) }
     ensures verdict { result.verdict ≡ None }
+    ensures kept { All Fits result.services.items × All IsAllowed result.services.items }
 {
     let status = audit(rt, alloc, words, files, out);
     without(alloc, status)
+}
+
+// The same end, with what the services' type keeps of each.
+fn looked_at<X: Connection + Drop>(ended: Ended<X>) -> Ended<X>
+    ensures same { ending_of result ≡ ending_of ended }
+    ensures kept { All Fits result.services.items × All IsAllowed result.services.items }
+{
+    look_at_all(&ended.services);
+    ended
 }
 
 // Looks for one order of the roots of a dump.
@@ -195,6 +210,7 @@ fn ordered<X: Connection + Drop, F: Files, K: Sink>(
         (outside (F.loads files.new) reads (K.writes out.new))
         (ending_of result) }
     ensures verdict { result.verdict ≡ None }
+    ensures kept { All Fits result.services.items × All IsAllowed result.services.items }
 {
     let status = order(alloc, words, files, out);
     without(alloc, status)
@@ -257,6 +273,9 @@ pub fn aire<
     ensures joined { ¬ (command_of (map string_bytes words.now) ≡ Serve) → IfSome result.verdict (λ v. ¬ (SaysForged v)) }
     ensures allowed { IfSome result.verdict (λ v. All IsAllowed result.services.items) }
 
+    // Whatever the status, each service fits its journal, and its rules allowed each repair in that, as things stood before it.
+    ensures kept { All Fits result.services.items × All IsAllowed result.services.items }
+
     // Where an operator stopped services, each receipt is that of an answer in a journal, with its request and the bytes of its
     // reply, and each live request that a journal answers has exactly one.
     ensures receipts { IfSome result.last (λ _. IsWhole result.services.items result.receipts.items) }
@@ -266,8 +285,8 @@ pub fn aire<
         Command::Make => offline(alloc, words, files, input, out),
         Command::Audit => audited(rt, alloc, words, files, out),
         Command::Order => ordered(alloc, words, files, out),
-        Command::Serve => served(
+        Command::Serve => looked_at(served(
             rt, alloc, words, files, out, doors, links, clock, random, spawner,
-        ),
+        )),
     }
 }

@@ -1,6 +1,7 @@
 use Rattle.std.proofs.Common.{All, IfSome, List, Option, subst, sym}
 use Rattle.journal_rows.specs.declared.verdict.Verdict.TheVariants.{Legal}
 use Rattle.service_events.specs.Allowed.{IsAllowed}
+use Rattle.service_events.specs.Fits.{Fits}
 use Rattle.service_events.specs.State.{Kept}
 use Rattle.world_agreement.specs.Legal.{AreLegal}
 use Rattle.world_agreement.specs.Partners.{IsJoined}
@@ -24,3 +25,8 @@ returns-in-Some-clause-allowed g c =
     let Joins : Option World → Type 0 = λ o. ∥ IfSome o (λ w. IsJoined w.services) ∥₁ in
     let P : List Kept → Type 0 = λ services. All IsAllowed services in
     subst P (sym c.into_services.ensures) (allowed_where c.in-Some.world.services (subst Joins c.in-Some.is c.args.outcome.joined) c.judge-verdict.ensures.allowed)
+
+pub returns-in-Some-clause-kept : goal.returns-in-Some-clause-kept
+returns-in-Some-clause-kept g c =
+    let P : List Kept → Type 0 = λ services. All Fits services × All IsAllowed services in
+    subst P (sym c.into_services.ensures) (subst P c.services.ensures.services (c.look_at_all.ensures.fits, c.look_at_all.ensures.allowed))

@@ -1,8 +1,9 @@
-use Rattle.std.proofs.Common.{map, sym, ◌∙◌}
+use Rattle.std.proofs.Common.{map, subst, sym, ◌∙◌}
 use Rattle.std.specs.String.{string_bytes}
 use Rattle.aire_top.specs.Commands.{command_of}
 use Rattle.aire_top.specs.Ended.{faults, whose}
 use Rattle.aire_top.specs.Endings.{outside}
+use Rattle.aire_top.specs.Serving.{ServingEnds}
 use Rattle.aire_top.specs.declared.words.Command.TheVariants.{Audit, Order, Serve}
 use Rattle.aire_top.proofs.Commands.{command_well, command_whole, ends_as, ends_make, ends_run}
 use Rattle.aire_top.proofs.ServingLaws.{if_verdict, serving_allowed, serving_legal}
@@ -111,7 +112,7 @@ returns-in-Serve-clause-ends g c =
     let later = faults (g.D.Door.faults c.served.new.doors) (g.P.Spawner.faults c.served.new.spawner) in
     let before = outside (g.F.Files.loads c.args.files.now) (g.S.Source.reads c.args.input.now) (g.K.Sink.writes c.args.out.now) in
     let now = outside (g.F.Files.loads c.served.new.files) (g.S.Source.reads c.args.input.now) (g.K.Sink.writes c.served.new.out) in
-    ends_as (command_of words) Serve (sym c.command_of.ensures ∙ c.in-Serve.is) words earlier later before now _ (c.served.ensures (g.S.Source.reads c.args.input.now))
+    ends_as (command_of words) Serve (sym c.command_of.ensures ∙ c.in-Serve.is) words earlier later before now _ (subst (ServingEnds words earlier later before now) (sym c.looked_at.ensures.same) (c.served.ensures (g.S.Source.reads c.args.input.now)))
 
 pub returns-in-Serve-clause-complete : goal.returns-in-Serve-clause-complete
 returns-in-Serve-clause-complete g c = λ good.
@@ -120,7 +121,7 @@ returns-in-Serve-clause-complete g c = λ good.
     let later = faults (g.D.Door.faults c.served.new.doors) (g.P.Spawner.faults c.served.new.spawner) in
     let before = outside (g.F.Files.loads c.args.files.now) (g.S.Source.reads c.args.input.now) (g.K.Sink.writes c.args.out.now) in
     let now = outside (g.F.Files.loads c.served.new.files) (g.S.Source.reads c.args.input.now) (g.K.Sink.writes c.served.new.out) in
-    command_well words earlier later before now _ good (ends_as (command_of words) Serve (sym c.command_of.ensures ∙ c.in-Serve.is) words earlier later before now _ (c.served.ensures (g.S.Source.reads c.args.input.now)))
+    command_well words earlier later before now _ good (ends_as (command_of words) Serve (sym c.command_of.ensures ∙ c.in-Serve.is) words earlier later before now _ (subst (ServingEnds words earlier later before now) (sym c.looked_at.ensures.same) (c.served.ensures (g.S.Source.reads c.args.input.now))))
 
 pub returns-in-Serve-clause-receipts : goal.returns-in-Serve-clause-receipts
 returns-in-Serve-clause-receipts g c =
@@ -129,7 +130,7 @@ returns-in-Serve-clause-receipts g c =
     let later = faults (g.D.Door.faults c.served.new.doors) (g.P.Spawner.faults c.served.new.spawner) in
     let before = outside (g.F.Files.loads c.args.files.now) (g.S.Source.reads c.args.input.now) (g.K.Sink.writes c.args.out.now) in
     let now = outside (g.F.Files.loads c.served.new.files) (g.S.Source.reads c.args.input.now) (g.K.Sink.writes c.served.new.out) in
-    command_whole words earlier later before now _ _ _ _ _ (λ l. whose l.service l.console) (ends_as (command_of words) Serve (sym c.command_of.ensures ∙ c.in-Serve.is) words earlier later before now _ (c.served.ensures (g.S.Source.reads c.args.input.now)))
+    command_whole words earlier later before now _ _ _ _ _ (λ l. whose l.service l.console) (ends_as (command_of words) Serve (sym c.command_of.ensures ∙ c.in-Serve.is) words earlier later before now _ (subst (ServingEnds words earlier later before now) (sym c.looked_at.ensures.same) (c.served.ensures (g.S.Source.reads c.args.input.now))))
 
 pub returns-in-Serve-clause-legal : goal.returns-in-Serve-clause-legal
 returns-in-Serve-clause-legal g c =
@@ -138,7 +139,7 @@ returns-in-Serve-clause-legal g c =
     let later = faults (g.D.Door.faults c.served.new.doors) (g.P.Spawner.faults c.served.new.spawner) in
     let before = outside (g.F.Files.loads c.args.files.now) (g.S.Source.reads c.args.input.now) (g.K.Sink.writes c.args.out.now) in
     let now = outside (g.F.Files.loads c.served.new.files) (g.S.Source.reads c.args.input.now) (g.K.Sink.writes c.served.new.out) in
-    serving_legal words earlier later before now _ (c.served.ensures (g.S.Source.reads c.args.input.now))
+    serving_legal words earlier later before now _ (subst (ServingEnds words earlier later before now) (sym c.looked_at.ensures.same) (c.served.ensures (g.S.Source.reads c.args.input.now)))
 
 pub returns-in-Serve-clause-joined : goal.returns-in-Serve-clause-joined
 returns-in-Serve-clause-joined g c = λ other. absurd (other (sym c.command_of.ensures ∙ c.in-Serve.is))
@@ -150,4 +151,4 @@ returns-in-Serve-clause-allowed g c =
     let later = faults (g.D.Door.faults c.served.new.doors) (g.P.Spawner.faults c.served.new.spawner) in
     let before = outside (g.F.Files.loads c.args.files.now) (g.S.Source.reads c.args.input.now) (g.K.Sink.writes c.args.out.now) in
     let now = outside (g.F.Files.loads c.served.new.files) (g.S.Source.reads c.args.input.now) (g.K.Sink.writes c.served.new.out) in
-    if_verdict _ _ (λ v is. serving_allowed words earlier later before now _ (c.served.ensures (g.S.Source.reads c.args.input.now)) v is)
+    if_verdict _ _ (λ v is. serving_allowed words earlier later before now _ (subst (ServingEnds words earlier later before now) (sym c.looked_at.ensures.same) (c.served.ensures (g.S.Source.reads c.args.input.now))) v is)
