@@ -1,22 +1,31 @@
-// Runs of services that have a past.
+// Runs of services that have a past, and of one service of a world.
+ghost use Rattle.std.specs.Prelude.{◌≡◌, IfOk};
+ghost use Rattle.aire_top.specs.HandedOn.{AreApart};
 
-use crate::given::{call, failing, holds, new_services, patience, replies, world};
+use crate::given::{call, call_at, failing, holds, new_services, patience, replies, world};
 use crate::runs::{joined, live_answers};
 use aire_top::Service;
 use io_links::MemoryNetwork;
 use journal_rows::Verdict;
-use lang_core::{Inputs, Method, Names, Origin, Request, Text};
+use lang_core::{Inputs, Method, Names, NoMemory, Origin, Request, Text};
 use recorded_inputs::{ScriptClock, ScriptWords, draw};
+use std::alloc::Global;
 use std::process::Abort;
 use std::sync::Wait;
 use std::thread::{self, Threads};
 use std::time::Clock;
+use world_file::Setup;
 
 const GET: &str = "GET /n/a HTTP/1.1\r\n\r\n";
 
-// Stops the notes, sealed by openssl with the secret `c`.
+// Stops the notes, and the bank, sealed by openssl with the secret `c`.
 const STOP_NOTES: &str =
     "POST /aire/console/stop HTTP/1.1\r\nAire-Dest: notes\r\nAire-Who: root\r\nAire-Seal: ff834ed3278cea576796dbbee5b99928a01f2351cb06d30a7b588f947906a88f\r\nContent-Length: 2\r\n\r\n{}";
+
+const STOP_BANK: &str =
+    "POST /aire/console/stop HTTP/1.1\r\nAire-Dest: bank\r\nAire-Who: root\r\nAire-Seal: 7dc44abe2dda86fe7fd3e634b804b8f02524036e0802216c4ec7f1856d683218\r\nContent-Length: 2\r\n\r\n{}";
+
+const PAY: &str = "POST /pay/x HTTP/1.1\r\nAire-Who: ann\r\nContent-Length: 1\r\n\r\n5";
 
 const OK: &str = "HTTP/1.1 200 OK\r\n";
 
@@ -108,4 +117,58 @@ fn notes_run<R: Abort + AllocGlobal + Threads + Wait + Clock + Sync>(
 fn what_was_answered_before_has_no_receipt(rt: HostRuntime) {
     let network = MemoryNetwork::new(rt.alloc(), patience(), failing(&rt, 0));
     let ((), ()) = thread::join(&rt, || notes_run(&rt, &network), || visit(&rt, &network));
+}
+
+fn pay<R: Abort + AllocGlobal + Wait + Clock>(rt: &R, network: &MemoryNetwork) {
+    let door = "127.0.0.1:8102";
+    let paid = call_at(rt, network, door, PAY);
+    holds(rt, "paid", replies(&paid, OK, "\r\n\r\nok 5"));
+    let stopped = call_at(rt, network, door, STOP_BANK);
+    holds(
+        rt,
+        "stopped",
+        replies(&stopped, OK, "\r\n\r\n{\"stopped\":true}"),
+    );
+}
+
+// One setup can be told apart from all others.
+fn only(alloc: Global, setup: Setup) -> Result<Vec<Setup>, NoMemory>
+    ensures { IfOk result (λ here. AreApart here.items) }
+{
+    let mut here = Vec::new(alloc);
+    here.push(setup)?;
+    Ok(here)
+}
+
+fn alone(rt: &(impl Abort + AllocGlobal), setup: Setup) -> Vec<Setup>
+    ensures { AreApart result.items }
+{
+    match only(rt.alloc(), setup) {
+        Ok(here) => here,
+        Err(_) => panic!(rt; "memory"),
+    }
+}
+
+// Runs the bank without the shop, which it knows.
+fn bank_run<R: Abort + AllocGlobal + Threads + Wait + Clock + Sync>(
+    rt: &R,
+    network: &MemoryNetwork,
+) {
+    let known = world(rt, "@shops");
+    let Some(bank) = world(rt, "@shops").pop() else {
+        panic!(rt; "the bank");
+    };
+    let here = alone(rt, bank);
+    let services = new_services(rt, &here);
+    let Ok(joined) = joined(rt, network, 0, &here, &known, services) else {
+        panic!(rt; "a good end");
+    };
+    holds(rt, "one service", joined.services.len() == 1);
+    holds(rt, "one receipt", joined.receipts.len() == 1);
+}
+
+#[test]
+fn a_service_runs_without_its_peers(rt: HostRuntime) {
+    let network = MemoryNetwork::new(rt.alloc(), patience(), failing(&rt, 0));
+    let ((), ()) = thread::join(&rt, || bank_run(&rt, &network), || pay(&rt, &network));
 }
