@@ -1,5 +1,5 @@
 -- What a service writes as a post, and what it gives up.
-use Rattle.std.proofs.Common.{◌≡◌, ℕ, Bool, true, false, List, Option, Some, None, IsSome, IfSome, IsSomeAnd, refl, sym, ap, subst}
+use Rattle.std.proofs.Common.{◌≡◌, ℕ, Bool, true, false, List, Option, Some, None, IsSome, IfSome, IsSomeAnd, refl, sym, ap, ◌∙◌, subst}
 use Rattle.flights.specs.declared.flight.Flight.{Flight}
 use Rattle.repair_messages.specs.declared.posts.Post.{Post}
 use Rattle.repair_messages.specs.declared.posts.Post.TheVariants.{Set, Answer}
@@ -7,16 +7,12 @@ use Rattle.repair_messages.specs.declared.posts.PostName.{PostName}
 use Rattle.service_events.specs.Arriving.{abandon_event, abandoned}
 use Rattle.service_events.specs.Posts.{next_post, write_post}
 use Rattle.service_events.specs.State.{Kept, After, after, flight_of}
-use Rattle.service_events.specs.declared.event.Done.{Done}
-use Rattle.service_events.specs.declared.event.Done.TheVariants as done
-use Rattle.service_events.specs.declared.event.Event.TheVariants as events
-use Rattle.service_core.specs.Answers.{Answers}
 use Rattle.service_core.specs.HandedOn.{GoesTo}
 use Rattle.world_events.specs.Ends.{PostsTo, post_receiver}
 use Rattle.world_events.specs.Events as world
-use Rattle.world_events.specs.Events.{abandon_served}
 use Rattle.world_events.specs.declared.happened.What.TheVariants.{Abandon}
-use Rattle.world_core.specs.Acting.{given_up, GivesUp, served}
+use Rattle.world_core.specs.Acting.{GivesUp, served}
+use Rattle.world_core.specs.declared.served.Served.{Served}
 
 -- ---- a post
 
@@ -49,18 +45,12 @@ was_there : (s s' : Kept) (o : Option Flight) → after s' true ≡ abandoned s 
 was_there s s' None is = sym (ap (λ (a : After Bool). a.answer) is)
 was_there s s' (Some f) is = refl
 
-was_given_up : (s s' : Kept) (flight : ℕ) → after s' true ≡ abandon_event s flight → (served s' (record { what = Abandon true; packet = None }) ≡ abandon_served flight s) × IsSome (flight_of flight s)
-was_given_up s s' flight is = (ap told_of is, was_there s s' (flight_of flight s) is)
+pub gives_up : (s s' : Kept) (flight : ℕ) (m : Served) → m ≡ record { what = Abandon true; packet = None } → after s' true ≡ abandon_event s flight → GivesUp flight s (Some m) s'
+gives_up s s' flight m told is = (ap (served s') told ∙ ap told_of is, was_there s s' (flight_of flight s) is)
 
 was_none : (s s' : Kept) (o : Option Flight) → after s' false ≡ abandoned s o → (s' ≡ s) × (o ≡ None)
 was_none s s' None is = (ap (λ (a : After Bool). a.service) is, refl)
 was_none s s' (Some f) is = (let clash : false ≡ true = ap (λ (a : After Bool). a.answer) is in cc)
 
-not_there : (s s' : Kept) (flight : ℕ) → after s' false ≡ abandon_event s flight → (s' ≡ s) × (flight_of flight s ≡ None)
+pub not_there : (s s' : Kept) (flight : ℕ) → after s' false ≡ abandon_event s flight → GivesUp flight s None s'
 not_there s s' flight is = was_none s s' (flight_of flight s) is
-
--- an event that gives a flight up is answered by whether it was there
-pub gives_up : (s s' : Kept) (flight : ℕ) (answer : Done) → Answers s (events.Abandon flight) answer s' → GivesUp flight s (given_up answer) s'
-gives_up s s' flight (done.Abandon true) answers = was_given_up s s' flight answers
-gives_up s s' flight (done.Abandon false) answers = not_there s s' flight answers
-gives_up s s' flight answer answers = absurd answers

@@ -1,11 +1,9 @@
 -- What a service does in its world: which world that leaves, and what is told of it.
-use Rattle.std.specs.Prelude.{ℕ, ◌≡◌, ◌+◌, ◌++◌, true, List, [], Option, Some, None, IsSome, Result, Ok, Err, IfOk, is_err, length, option_map, option_to_list}
+use Rattle.std.specs.Prelude.{ℕ, ◌≡◌, ◌+◌, ◌++◌, List, [], Option, Some, None, IsSome, Result, Ok, Err, IfOk, is_err, length, option_map, option_to_list}
 use Rattle.std.specs.Option.{ok_or}
 use Rattle.lang_base.specs.Memory.{Unless, lacks}
 use Rattle.lang_base.specs.declared.memory.NoMemory.{NoMemory}
 use Rattle.service_events.specs.State.{Kept, flight_of}
-use Rattle.service_events.specs.declared.event.Done.{Done}
-use Rattle.service_events.specs.declared.event.Done.TheVariants.{Abandon}
 use Rattle.world_agreement.specs.Partners.{service_of}
 use Rattle.world_events.specs.Events as events
 use Rattle.world_events.specs.Events.{Answer, Turn, abandon_served}
@@ -13,7 +11,6 @@ use Rattle.world_events.specs.Turns.{turned_to, world_memory}
 use Rattle.world_events.specs.Worlds.{World, with_service}
 use Rattle.world_events.specs.declared.event.WorldStepRefused.{WorldStepRefused}
 use Rattle.world_events.specs.declared.event.WorldStepRefused.TheVariants.{NoService}
-use Rattle.world_events.specs.declared.happened.What.TheVariants as what
 use Rattle.world_events.specs.declared.packet.Packet.{Packet}
 use Rattle.world_core.specs.Environments.{Environment, world_of}
 use Rattle.world_core.specs.declared.parts.Parts.{Parts}
@@ -32,11 +29,6 @@ served s m = record { service = s; what = m.what; packet = m.packet }
 -- the service that is left, what happened and the packet are these; for want of memory, nothing changed
 abbrev pub Serves : events.Served → Kept → Result Served NoMemory → Kept → Type 0
 Serves d s result s' = Unless (is_err result) (IfOk result (λ m. served s' m ≡ d)) (s' ≡ s)
-
--- what is told where an answer says that a flight was there that was given up
-abbrev pub given_up : Done → Option Served
-given_up (Abandon true) = Some (record { what = what.Abandon true; packet = None })
-given_up answer = None
 
 -- the flight is given up, if it is there
 abbrev pub GivesUp : ℕ → Kept → Option Served → Kept → Type 0

@@ -1,18 +1,14 @@
--- To whom the answer of a service goes back, and as which packet.
+-- To whom the answer of a live request goes back, and as which packet.
 use Rattle.std.specs.Prelude.{List, Option, Some, None, find, option_and_then}
 use Rattle.lang_core.specs.declared.ids.Origin.{Origin}
 use Rattle.lang_core.specs.declared.ids.Origin.TheVariants.{Outside, Call as CallOrigin}
 use Rattle.repair_messages.specs.declared.messages.AnswerMessage.{AnswerMessage}
 use Rattle.flights.specs.declared.flight.Flight.{Flight}
-use Rattle.service_events.specs.declared.event.Done.{Done}
-use Rattle.service_events.specs.declared.refusals.ArriveRefused.{ArriveRefused}
-use Rattle.world_events.specs.Events.{is_call_of, live_packet, live_refusal, post_packet}
+use Rattle.world_events.specs.Events.{is_call_of}
 use Rattle.world_events.specs.declared.packet.Live.TheVariants.{Answer}
 use Rattle.world_events.specs.declared.packet.Packet.{Packet}
 use Rattle.world_events.specs.declared.packet.Packet.TheVariants.{Call, CallReply}
 use Rattle.world_core.specs.declared.backs.Back.{Back}
-use Rattle.world_core.specs.declared.served.ReplyTo.{ReplyTo}
-use Rattle.world_core.specs.declared.served.ReplyTo.TheVariants.{Nobody, Caller, Poster}
 
 -- an answer as a packet, where it goes back to somebody
 abbrev pub answer_by : Option Back → AnswerMessage → Option Packet
@@ -31,14 +27,3 @@ back_to packets (CallOrigin caller number) = option_and_then back_of (find (is_c
 abbrev pub back_for : List Packet → Option Flight → Option Back
 back_for packets None = None
 back_for packets (Some f) = back_to packets f.origin
-
--- the refusal of an arrival as a packet, where it goes back to somebody
-abbrev pub refusal_by : Option Back → ArriveRefused → Option Packet
-refusal_by None why = None
-refusal_by (Some back) why = Some (CallReply back.to back.flight back.number (live_refusal why))
-
--- the packet of a service's answer, by whom it goes to
-abbrev pub packet_by : ReplyTo → Done → Option Packet
-packet_by Nobody answer = None
-packet_by (Caller from back) answer = live_packet from (answer_by back) (refusal_by back) answer
-packet_by (Poster post) answer = post_packet post answer

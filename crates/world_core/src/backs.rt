@@ -2,18 +2,18 @@
 ghost use Rattle.std.specs.Prelude.{◌≡◌, Some, None, IfOk};
 ghost use Rattle.lang_core.specs.declared.ids.Origin.TheVariants.{Outside};
 ghost use Rattle.service_events.specs.State.{me, flight_of};
-ghost use Rattle.world_events.specs.Events.{live_packet, sent};
+ghost use Rattle.world_events.specs.Events.{answered_back, outcome_of, sent};
 ghost use Rattle.world_events.specs.declared.packet.Packet.{Packet};
-ghost use Rattle.world_core.specs.Backs.{answer_by, back_of, back_to, back_for, refusal_by};
+ghost use Rattle.world_core.specs.Backs.{answer_by, back_of, back_to, back_for};
 
 use crate::packets::Packets;
 use lang_base::both;
 use lang_core::{Copied, Name, NoMemory, Origin};
 use repair_messages::AnswerMessage;
 use service_core::Service;
-use service_events::{ArriveRefused, Arrived, Done};
+use service_events::Arrived;
 use std::alloc::Global;
-use world_events::{Live, Packet};
+use world_events::{Live, Outcome, Packet};
 
 /// The flight that sent a live call.
 #[derive(Drop)]
@@ -26,8 +26,8 @@ pub(crate) struct Back {
     pub number: u64,
 }
 
-// What goes back to a flight, as a packet.
-fn reply(back: Back, reply: Live) -> Packet
+/// What goes back to a flight, as a packet.
+pub(crate) fn reply(back: Back, reply: Live) -> Packet
     ensures { result ≡ Packet.CallReply back.to back.flight back.number reply }
 {
     Packet::CallReply {
@@ -47,37 +47,34 @@ fn answer_by(back: Option<Back>, answer: AnswerMessage) -> Option<Packet>
     }
 }
 
-fn refusal_by(back: Option<Back>, why: ArriveRefused) -> Option<Packet>
-    ensures { result ≡ refusal_by back why }
+// An answer as a packet, where there is one and it goes back to somebody.
+fn answered_back(back: Option<Back>, answer: Option<AnswerMessage>) -> Option<Packet>
+    ensures { result ≡ answered_back (answer_by back) answer }
 {
-    match back {
-        None => None,
-        Some(back) => Some(reply(back, Live::refused(why))),
-    }
+    answer_by(back, answer?)
 }
 
-// Its next call, or its answer.
-fn sent(from: Name, back: Option<Back>, arrived: Arrived) -> Option<Packet>
-    ensures { result ≡ sent from (answer_by back) arrived }
+/// What is told of a live request of the service of this name that went on, and what is sent of it: its next call, or its
+/// answer, which goes back there.
+pub(crate) fn went_on(from: Name, back: Option<Back>, arrived: Arrived) -> (Outcome, Option<Packet>)
+    ensures told { result.0 ≡ outcome_of arrived }
+    ensures sent { result.1 ≡ sent from (answer_by back) arrived }
 {
     match arrived {
-        Arrived::Done { answer, .. } => answer_by(back, answer?),
-        Arrived::Call { flight, set } => Some(Packet::Call { from, flight, set }),
-        Arrived::Known(answer) => answer_by(back, answer),
-    }
-}
-
-/// The packet of a live request of the service of this name, by what the service answered: its next call, or its answer or
-/// the refusal of its arrival, which go back there.
-pub(crate) fn live_packet(from: Name, back: Option<Back>, done: Done) -> Option<Packet>
-    ensures { result ≡ live_packet from (answer_by back) (refusal_by back) done }
-{
-    match done {
-        Done::Arrive(Ok(arrived)) => sent(from, back, arrived),
-        Done::Arrive(Err(why)) => refusal_by(back, why),
-        Done::CallAnswered(Ok(arrived)) => sent(from, back, arrived),
-        Done::CallFailed(Ok(arrived)) => sent(from, back, arrived),
-        _ => None,
+        Arrived::Done { index, id, answer } => {
+            (Outcome::Done { index, id }, answered_back(back, answer))
+        }
+        Arrived::Call { flight, set } => (
+            Outcome::Call { flight },
+            Some(Packet::Call { from, flight, set }),
+        ),
+        Arrived::Known(answer) => {
+            let told = Outcome::Known {
+                id: answer.id,
+                answer_version: answer.answer_version,
+            };
+            (told, answer_by(back, answer))
+        }
     }
 }
 

@@ -64,16 +64,11 @@ fn step(alloc: Global, world: &mut Parts, service: Name) -> Result<Happened, Wor
     Ok(tell(&mut world.packets, service, served))
 }
 
-fn abandon(
-    alloc: Global,
-    world: &mut Parts,
-    service: Name,
-    flight: u64,
-) -> Result<Happened, WorldStepRefused>
+fn abandon(world: &mut Parts, service: Name, flight: u64) -> Result<Happened, WorldStepRefused>
     ensures { Turns (turn (seen world.old) (Event.Abandon service flight)) (seen world.old) result (seen world.new) }
 {
     let at = ready(&world.services, &mut world.packets, &service)?;
-    match crate::orders::abandon(alloc, &mut world.services[at], flight) {
+    match crate::orders::abandon(&mut world.services[at], flight) {
         None => Err(WorldStepRefused::NoFlight(flight)),
         Some(served) => Ok(tell(&mut world.packets, service, served)),
     }
@@ -139,7 +134,7 @@ pub(crate) fn happen(
         Event::Lose(number) => lose(alloc, world, number),
         Event::Post { from, to } => post(alloc, world, from, to),
         Event::Step { service } => step(alloc, world, service),
-        Event::Abandon { service, flight } => abandon(alloc, world, service, flight),
+        Event::Abandon { service, flight } => abandon(world, service, flight),
         Event::Order {
             service,
             command,

@@ -1,32 +1,24 @@
 // Messages that repair come to a service of a world.
-ghost use Rattle.std.specs.Prelude.{◌≡◌};
-ghost use Rattle.world_events.specs.Events.{take_served, take_answer_served, post_packet, posted_served};
+ghost use Rattle.std.specs.Prelude.{◌≡◌, Some};
+ghost use Rattle.world_events.specs.Events.{take_served, take_answer_served, posted_served};
+ghost use Rattle.world_events.specs.declared.packet.Packet.{Packet};
 ghost use Rattle.world_core.specs.Acting.{Serves};
 
-use crate::served::{ReplyTo, Served, act};
+use crate::served::{Served, unwritten};
 use lang_core::{Copied, Inputs, NoMemory};
-use repair_messages::{AnswerMessage, Post, SetMessage, copied_pair};
+use repair_messages::{AnswerMessage, Post, SetMessage};
 use service_core::Service;
-use service_events::{Done, Event, PostReply};
+use service_events::{AnswerRefused, PostRefused, PostReply, TakeRefused};
 use std::alloc::Global;
-use world_events::Packet;
+use world_events::{Packet, What};
 
-fn replied(post: Post, reply: PostReply) -> Option<Packet>
-    ensures { result ≡ Some (Packet.PostReply post reply) }
+// The post comes back with this reply.
+fn replied(what: What, post: Post, reply: PostReply) -> Served
+    ensures { result ≡ record { what = what; packet = Some (Packet.PostReply post reply) } }
 {
-    Some(Packet::PostReply { post, reply })
-}
-
-/// What comes back of a post that came, by what its receiver answered.
-pub(crate) fn post_packet(post: Post, done: Done) -> Option<Packet>
-    ensures { result ≡ post_packet post done }
-{
-    match done {
-        Done::Take(Ok(taken)) => replied(post, PostReply::Acked(taken.ack)),
-        Done::Take(Err(why)) => replied(post, why.post_reply()),
-        Done::TakeAnswer(Ok(heard)) => replied(post, PostReply::Confirmed(heard.confirm)),
-        Done::TakeAnswer(Err(why)) => replied(post, why.post_reply()),
-        _ => None,
+    Served {
+        what,
+        packet: Some(Packet::PostReply { post, reply }),
     }
 }
 
@@ -39,9 +31,15 @@ pub(crate) fn take(
 ) -> Result<Served, NoMemory>
     ensures { Serves (take_served set.now service.old inputs) service.old result service.new }
 {
-    let (came, set) = copied_pair(alloc, set, set)?;
-    let to = ReplyTo::Poster(Post::Set(came));
-    act(alloc, service, Event::Take { set, inputs }, to)
+    let post = Post::Set(set.copied(alloc)?);
+    match service.take(alloc, set, inputs) {
+        Ok(taken) => {
+            let told = What::Take(Ok(taken.rule));
+            Ok(replied(told, post, PostReply::Acked(taken.ack)))
+        }
+        Err(TakeRefused::NoMemory) => Err(NoMemory),
+        Err(why) => Ok(replied(What::Take(Err(why)), post, why.post_reply())),
+    }
 }
 
 /// An answer to a call comes by a message.
@@ -52,9 +50,15 @@ pub(crate) fn take_answer(
 ) -> Result<Served, NoMemory>
     ensures { Serves (take_answer_served answer.now service.old) service.old result service.new }
 {
-    let (came, answer) = copied_pair(alloc, answer, answer)?;
-    let to = ReplyTo::Poster(Post::Answer(came));
-    act(alloc, service, Event::TakeAnswer { answer }, to)
+    let post = Post::Answer(answer.copied(alloc)?);
+    match service.take_answer(alloc, answer) {
+        Ok(heard) => {
+            let told = What::TakeAnswer(Ok(heard.rule));
+            Ok(replied(told, post, PostReply::Confirmed(heard.confirm)))
+        }
+        Err(AnswerRefused::NoMemory) => Err(NoMemory),
+        Err(why) => Ok(replied(What::TakeAnswer(Err(why)), post, why.post_reply())),
+    }
 }
 
 /// Something comes back of a post.
@@ -66,13 +70,10 @@ pub(crate) fn posted(
 ) -> Result<Served, NoMemory>
     ensures { Serves (posted_served post.now reply service.old) service.old result service.new }
 {
-    let post = post.copied(alloc)?;
-    act(
-        alloc,
-        service,
-        Event::Posted { post, reply },
-        ReplyTo::Nobody,
-    )
+    match service.posted(alloc, post, reply) {
+        Err(PostRefused::NoMemory) => Err(NoMemory),
+        posted => Ok(unwritten(What::Posted(posted))),
+    }
 }
 
 /// A packet comes that brings what comes back of a post.

@@ -3,13 +3,13 @@
 ghost use Rattle.std.specs.Prelude.{◌≡◌, IfOk};
 ghost use Rattle.world_events.specs.Ends.{PostsTo};
 ghost use Rattle.world_events.specs.Events.{order_served, next_post_served, repair_step_served};
-ghost use Rattle.world_core.specs.Acting.{given_up, GivesUp, Serves, served};
+ghost use Rattle.world_core.specs.Acting.{GivesUp, Serves, served};
 
-use crate::served::{ReplyTo, Served, act};
+use crate::served::{Served, unwritten};
 use journal_rows::Command;
 use lang_core::{Inputs, Name, NoMemory, Text};
 use service_core::Service;
-use service_events::{Done, Event};
+use service_events::OrderRefused;
 use std::alloc::Global;
 use world_events::{Packet, What};
 
@@ -17,7 +17,8 @@ use world_events::{Packet, What};
 pub(crate) fn repair_step(alloc: Global, service: &mut Service) -> Result<Served, NoMemory>
     ensures { Serves (repair_step_served service.old) service.old result service.new }
 {
-    act(alloc, service, Event::Step, ReplyTo::Nobody)
+    let stepped = service.repair_step(alloc)?;
+    Ok(unwritten(What::RepairStep(stepped)))
 }
 
 /// An operator gives the service an order.
@@ -31,13 +32,10 @@ pub(crate) fn order(
 ) -> Result<Served, NoMemory>
     ensures { Serves (order_served command token who service.old inputs) service.old result service.new }
 {
-    let event = Event::Order {
-        command,
-        token,
-        who,
-        inputs,
-    };
-    act(alloc, service, event, ReplyTo::Nobody)
+    match service.order(alloc, command, token, who, inputs) {
+        Err(OrderRefused::NoMemory) => Err(NoMemory),
+        ordered => Ok(unwritten(What::Order(ordered))),
+    }
 }
 
 /// The oldest outstanding post to the service of this name is written, if there is one. It goes there.
@@ -46,10 +44,7 @@ pub(crate) fn next_post(alloc: Global, service: &Service, to: &Name) -> Result<S
     ensures goes { PostsTo to.now service.now }
 {
     match service.next_post(to) {
-        None => Ok(Served {
-            what: What::NextPost(None),
-            packet: None,
-        }),
+        None => Ok(unwritten(What::NextPost(None))),
         Some(name) => {
             let post = service.write_post(alloc, name)?;
             Ok(Served {
@@ -60,24 +55,14 @@ pub(crate) fn next_post(alloc: Global, service: &Service, to: &Name) -> Result<S
     }
 }
 
-// What is told where a flight was there that was given up.
-fn given_up(done: &Done) -> Option<Served>
-    ensures { result ≡ given_up done.now }
-{
-    match done {
-        Done::Abandon(true) => Some(Served {
-            what: What::Abandon(true),
-            packet: None,
-        }),
-        _ => None,
-    }
-}
-
 /// The service gives its flight of this number up, which takes no memory; None exactly where there is none, and then nothing
 /// changes.
-pub(crate) fn abandon(alloc: Global, service: &mut Service, flight: u64) -> Option<Served>
+pub(crate) fn abandon(service: &mut Service, flight: u64) -> Option<Served>
     ensures { GivesUp flight service.old result service.new }
 {
-    let done = service.event(alloc, Event::Abandon { flight });
-    given_up(&done)
+    if service.abandon(flight) {
+        Some(unwritten(What::Abandon(true)))
+    } else {
+        None
+    }
 }

@@ -6,16 +6,17 @@ ghost use Rattle.world_events.specs.declared.packet.Packet.{Packet};
 ghost use Rattle.service_events.specs.Event.{IsFailure};
 ghost use Rattle.world_core.specs.Acting.{Serves};
 
-use crate::backs::{Back, ends_of};
+use crate::backs::{Back, ends_of, reply, went_on};
 use crate::packets::Packets;
-use crate::served::{ReplyTo, Served, act};
+use crate::served::{Served, unwritten};
 use call_registers::Why;
 use lang_base::both;
 use lang_core::{Copied, Inputs, Name, NoMemory, Origin, Request};
 use repair_messages::{AnswerMessage, SetMessage, copied_pair};
 use service_core::Service;
-use service_events::Event;
+use service_events::{ArriveRefused, CallRefused};
 use std::alloc::Global;
+use world_events::{Live, What};
 
 /// A request comes from outside. Whatever packets there are, its answer goes back to none of their senders.
 pub(crate) fn arrive(
@@ -27,12 +28,17 @@ pub(crate) fn arrive(
     ensures { (packets : List Packet) → Serves (arrive_served packets request service.old inputs) service.old result service.new }
 {
     let from = service.setting().me.copied(alloc)?;
-    let event = Event::Arrive {
-        origin: Origin::Outside,
-        request,
-        inputs,
-    };
-    act(alloc, service, event, ReplyTo::Caller { from, back: None })
+    match service.arrive(alloc, Origin::Outside, request, inputs) {
+        Ok(arrived) => {
+            let (told, packet) = went_on(from, None, arrived);
+            Ok(Served {
+                what: What::Arrive(Ok(told)),
+                packet,
+            })
+        }
+        Err(ArriveRefused::NoMemory) => Err(NoMemory),
+        Err(why) => Ok(unwritten(What::Arrive(Err(why)))),
+    }
 }
 
 // The flight that sent a live call.
@@ -80,13 +86,20 @@ pub(crate) fn arrive_as_call(
 {
     let ((from, caller), (back, request)) = call_copies(alloc, service, flight, set, request)?;
     let number = set.number;
-    let event = Event::Arrive {
-        origin: Origin::Call { caller, number },
-        request,
-        inputs,
-    };
-    let back = Some(back);
-    act(alloc, service, event, ReplyTo::Caller { from, back })
+    match service.arrive(alloc, Origin::Call { caller, number }, request, inputs) {
+        Ok(arrived) => {
+            let (told, packet) = went_on(from, Some(back), arrived);
+            Ok(Served {
+                what: What::Arrive(Ok(told)),
+                packet,
+            })
+        }
+        Err(ArriveRefused::NoMemory) => Err(NoMemory),
+        Err(why) => Ok(Served {
+            what: What::Arrive(Err(why)),
+            packet: Some(reply(back, Live::refused(why))),
+        }),
+    }
 }
 
 /// The call for which a flight waits was answered. Where the flight is a call itself, these packets tell whose.
@@ -99,10 +112,18 @@ pub(crate) fn call_answered(
 ) -> Result<Served, NoMemory>
     ensures { Serves (call_answered_served packets.now.list flight answer.now service.old) service.old result service.new }
 {
-    let ends = ends_of(alloc, packets, service, flight);
-    let ((from, back), answer) = both(ends, answer.copied(alloc))?;
-    let event = Event::CallAnswered { flight, answer };
-    act(alloc, service, event, ReplyTo::Caller { from, back })
+    let (from, back) = ends_of(alloc, packets, service, flight)?;
+    match service.call_answered(alloc, flight, answer) {
+        Ok(arrived) => {
+            let (told, packet) = went_on(from, back, arrived);
+            Ok(Served {
+                what: What::CallAnswered(Ok(told)),
+                packet,
+            })
+        }
+        Err(CallRefused::NoMemory) => Err(NoMemory),
+        Err(why) => Ok(unwritten(What::CallAnswered(Err(why)))),
+    }
 }
 
 /// The call of this number failed. Where its flight is a call itself, these packets tell whose.
@@ -118,10 +139,15 @@ pub(crate) fn call_failed(
     ensures { Serves (call_failed_served packets.now.list flight number why service.old) service.old result service.new }
 {
     let (from, back) = ends_of(alloc, packets, service, flight)?;
-    let event = Event::CallFailed {
-        flight,
-        number,
-        why,
-    };
-    act(alloc, service, event, ReplyTo::Caller { from, back })
+    match service.call_failed(alloc, flight, number, why) {
+        Ok(arrived) => {
+            let (told, packet) = went_on(from, back, arrived);
+            Ok(Served {
+                what: What::CallFailed(Ok(told)),
+                packet,
+            })
+        }
+        Err(CallRefused::NoMemory) => Err(NoMemory),
+        Err(why) => Ok(unwritten(What::CallFailed(Err(why)))),
+    }
 }
