@@ -1,5 +1,5 @@
 """Proves and builds the program, by the gate's own command, side by side and on a copy of the crates that it stands on, without
-their wrong bodies. What passes is kept on this machine: the gate doesn't prove it again, and what the gate proved isn't proved here.
+their wrong bodies. Where the toolchain keeps on the machine what `rt ci` proved, neither this nor the gate proves it again.
 """
 import os
 import re
@@ -30,7 +30,9 @@ def copy_crates(to):
 
 
 class Telling:
-    """Tells how far it is by the lines of `rt ci`, which has those that it says of a crate stand before the crate's verdict."""
+    """Tells how far it is by the lines of `rt ci`, which has those that it says of a crate stand before the crate's verdict.
+
+    A crate that the toolchain kept from an earlier run has a verdict of its own, with toolchains that keep any."""
 
     def __init__(self, total):
         self.total, self.ended, self.began, self.lines = total, 0, time.monotonic(), []
