@@ -13,7 +13,7 @@ pub enum Kind {
     Replace,
     /// That an entry has no effect any more.
     Delete,
-    /// Another answer to a call.
+    /// Another answer to a call, which a token announces.
     ReplaceResponse,
     /// That a post which was refused is sent again.
     Retry,

@@ -25,7 +25,7 @@ pub struct SetMessage {
     pub who: Text,
 }
 
-/// An answer to a call, from the service that was called to its caller.
+/// An answer to a call, from the service that was called to its caller: live, or fetched.
 #[derive(Drop)]
 pub struct AnswerMessage {
     /// The service that made the call.
@@ -42,8 +42,38 @@ pub struct AnswerMessage {
     pub version: u64,
     /// What is answered.
     pub response: Response,
-    /// For whom it is sent, from 1 to 64 visible characters; of a live answer the callee's name.
+    /// The callee's name, whoever had it announced.
     pub who: Text,
+}
+
+/// Announces that a call has another answer, from the service that was called to its caller, who fetches it.
+#[derive(Drop)]
+pub struct TokenMessage {
+    /// The service that made the call.
+    pub caller: Name,
+    /// The service that was called.
+    pub callee: Name,
+    /// The number of the callee's entry, from 1.
+    pub id: u64,
+    /// The caller's number for the call, from 1.
+    pub number: u64,
+    /// Which answer of that entry is announced, from 1.
+    pub answer_version: u64,
+    /// For whom it is sent, from 1 to 64 visible characters.
+    pub who: Text,
+}
+
+/// Asks for an answer that was announced, from the caller to the service that was called.
+#[derive(Drop)]
+pub struct Fetch {
+    /// The service that made the call.
+    pub caller: Name,
+    /// The service that was called.
+    pub callee: Name,
+    /// The caller's number for the call, from 1.
+    pub number: u64,
+    /// Which answer is asked for, from 1.
+    pub answer_version: u64,
 }
 
 /// Says that a version of a call was taken, or one above it before.
@@ -69,7 +99,7 @@ impl Drop for Ack {
     }
 }
 
-/// Says that an answer was seen, or one above it before.
+/// Says that a token was noted, or that it told nothing new.
 #[derive(Drop)]
 pub struct Confirm {
     /// The service that made the call.
@@ -78,7 +108,7 @@ pub struct Confirm {
     pub callee: Name,
     /// The caller's number for the call, from 1.
     pub number: u64,
-    /// The answer's version.
+    /// The version of the answer that was announced.
     pub answer_version: u64,
 }
 
@@ -112,6 +142,33 @@ impl Copied for AnswerMessage {
             version: self.version,
             response,
             who,
+        })
+    }
+}
+
+impl Copied for TokenMessage {
+    fn copied(&self, alloc: Global) -> Result<TokenMessage, NoMemory> {
+        let (caller, callee) = copied_pair(alloc, &self.caller, &self.callee)?;
+        let who = self.who.copied(alloc)?;
+        Ok(TokenMessage {
+            caller,
+            callee,
+            id: self.id,
+            number: self.number,
+            answer_version: self.answer_version,
+            who,
+        })
+    }
+}
+
+impl Copied for Fetch {
+    fn copied(&self, alloc: Global) -> Result<Fetch, NoMemory> {
+        let (caller, callee) = copied_pair(alloc, &self.caller, &self.callee)?;
+        Ok(Fetch {
+            caller,
+            callee,
+            number: self.number,
+            answer_version: self.answer_version,
         })
     }
 }
@@ -163,6 +220,26 @@ impl Same for AnswerMessage {
             && self.version == other.version
             && self.response.is(&other.response)
             && self.who.is(&other.who)
+    }
+}
+
+impl Same for TokenMessage {
+    fn is(&self, other: &TokenMessage) -> bool {
+        self.caller.is(&other.caller)
+            && self.callee.is(&other.callee)
+            && self.id == other.id
+            && self.number == other.number
+            && self.answer_version == other.answer_version
+            && self.who.is(&other.who)
+    }
+}
+
+impl Same for Fetch {
+    fn is(&self, other: &Fetch) -> bool {
+        self.caller.is(&other.caller)
+            && self.callee.is(&other.callee)
+            && self.number == other.number
+            && self.answer_version == other.answer_version
     }
 }
 

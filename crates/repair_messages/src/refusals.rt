@@ -18,7 +18,7 @@ pub enum RefusalWord {
     NoFlight,
     /// The rule of this number denies it; 0 where no rule matches.
     Denied,
-    /// No call has this number.
+    /// No call has this number, or it has no such answer.
     Unknown,
     /// The service never had that post.
     Foreign,
