@@ -1,16 +1,22 @@
 -- A search along the rows of a key.
-use Rattle.std.proofs.Common.{◌≡◌, ℕ, Bool, true, false, cond, List, Option, Some, None, Bor, is_some, nat_eq, refl, sym, ap, ◌∙◌}
+use Rattle.std.proofs.Common.{◌≡◌, ℕ, Bool, true, false, ◌&&◌, cond, List, Option, Some, None, Bor, is_some, nat_eq, refl, sym, ap, ◌∙◌, arith}
+use Rattle.std.proofs.lemmas.Bool.Decides.{nat_tests}
 use Rattle.std.specs.Option.{option_copied}
 use Rattle.lang_lists.specs.Keys.{text_key, call_key}
 use Rattle.lang_lists.proofs.KeyLemmas.{text_other, call_other}
 use Rattle.lang_lists.proofs.SearchLemmas.{IsQuiet}
 use Rattle.lang_base.specs.Texts.{same_text}
+use Rattle.lang_core.specs.Origins.{is_call}
+use Rattle.lang_core.specs.declared.ids.Origin.{Origin}
+use Rattle.lang_core.specs.declared.ids.Origin.TheVariants.{Outside, Call}
+use Rattle.journal_rows.specs.declared.callee.AnsweredRow.{AnsweredRow}
 use Rattle.journal_rows.specs.declared.callee.TookRow.{TookRow}
+use Rattle.journal_rows.specs.declared.caller.NotedRow.{NotedRow}
 use Rattle.journal_rows.specs.declared.orders.OrderedRow.{OrderedRow}
 use Rattle.journal_rows.specs.declared.row.Row.{Row}
-use Rattle.journal_rows.specs.declared.row.Row.TheVariants.{Took, Ordered}
-use Rattle.journal_rows.specs.Keys.{row_key}
-use Rattle.journal_rows.specs.Words.{is_version_of, taken_step, order_step}
+use Rattle.journal_rows.specs.declared.row.Row.TheVariants.{Took, Answered, Noted, Ordered}
+use Rattle.journal_rows.specs.Keys.{origin_key, row_key}
+use Rattle.journal_rows.specs.Words.{is_version_of, taken_step, announces, announced_step, gives, given_step, order_step}
 
 not_chosen : {X : Type 0} (b : Bool) (x : X) (s : Option X) → b ≡ false → cond b (Some x) s ≡ s
 not_chosen true x s h = cc
@@ -62,3 +68,43 @@ order_found token s row h = cc
 pub order_passed : (token : List ℕ) (s : Option OrderedRow) (row : Row) → is_some (order_step token None row) ≡ false → order_step token s row ≡ s
 order_passed token s (Ordered o) h = passed (same_text o.token token) o s h
 order_passed token s row h = refl
+
+-- ---- tokens that announced an answer
+
+not_both : (b d : Bool) → b ≡ false → (b && d) ≡ false
+not_both true d h = cc
+not_both false d h = refl
+
+flipped : (m n : ℕ) → nat_eq m n ≡ false → nat_eq n m ≡ false
+flipped m n h = grind (arith, nat_tests)
+
+noted_stays : (number version : ℕ) (s : Option NotedRow) (row : Row) → nat_eq number (row_key row) ≡ false → announced_step number version s row ≡ s
+noted_stays number version s (Noted n) h =
+    not_chosen (announces number version n) n s (not_both (nat_eq n.number number) (nat_eq n.answer_version version) (flipped number n.number h))
+noted_stays number version s row h = refl
+
+pub noted_quiet : (number version : ℕ) → IsQuiet row_key (announced_step number version) number
+noted_quiet number version = record { stays = noted_stays number version }
+
+pub noted_passed : (number version : ℕ) (s : Option NotedRow) (row : Row) → is_some (announced_step number version None row) ≡ false → announced_step number version s row ≡ s
+noted_passed number version s (Noted n) h = passed (announces number version n) n s h
+noted_passed number version s row h = refl
+
+-- ---- answers of a version
+
+another_call : (caller : List ℕ) (number id : ℕ) (o : Origin) → nat_eq (call_key caller number) (origin_key id o) ≡ false → is_call caller number o ≡ false
+another_call caller number id Outside h = refl
+another_call caller number id (Call c n) h = call_other caller c number n h
+
+given_stays : (caller : List ℕ) (number version : ℕ) (s : Option AnsweredRow) (row : Row) → nat_eq (call_key caller number) (row_key row) ≡ false → given_step caller number version s row ≡ s
+given_stays caller number version s (Answered a) h =
+    not_chosen (gives caller number version a) a s (not_both (is_call caller number a.origin) (nat_eq a.answer_version version) (another_call caller number a.id a.origin h))
+given_stays caller number version s row h = refl
+
+pub given_quiet : (caller : List ℕ) (number version : ℕ) → IsQuiet row_key (given_step caller number version) (call_key caller number)
+given_quiet caller number version = record { stays = given_stays caller number version }
+
+pub given_passed : (caller : List ℕ) (number version : ℕ) (s : Option AnsweredRow) (row : Row) → is_some (given_step caller number version None row) ≡ false
+    → given_step caller number version s row ≡ s
+given_passed caller number version s (Answered a) h = passed (gives caller number version a) a s h
+given_passed caller number version s row h = refl

@@ -4,7 +4,7 @@ use Rattle.lang_lists.specs.Keys.{text_key, call_key}
 use Rattle.lang_core.specs.declared.ids.Origin.{Origin}
 use Rattle.lang_core.specs.declared.ids.Origin.TheVariants.{Outside, Call}
 use Rattle.journal_rows.specs.declared.row.Row.{Row}
-use Rattle.journal_rows.specs.declared.row.Row.TheVariants.{Asked, Took, Acked, Answered, WasConfirmed, Sent, SawAck, SawAnswer, Confirmed, Ordered}
+use Rattle.journal_rows.specs.declared.row.Row.TheVariants.{Asked, Took, Acked, Answered, WasConfirmed, Sent, SawAck, Noted, SawAnswer, Confirmed, Ordered}
 
 -- of an entry of this number: that of its call, else its number
 abbrev pub origin_key : ℕ → Origin → ℕ
@@ -20,6 +20,7 @@ row_key (Answered a) = origin_key a.id a.origin
 row_key (WasConfirmed c) = c.number
 row_key (Sent s) = s.number
 row_key (SawAck a) = a.number
+row_key (Noted n) = n.number
 row_key (SawAnswer a) = a.number
 row_key (Confirmed c) = c.number
 row_key (Ordered o) = text_key o.token

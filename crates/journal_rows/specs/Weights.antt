@@ -5,7 +5,7 @@ use Rattle.journal_rows.specs.declared.orders.Command.{Command}
 use Rattle.journal_rows.specs.declared.orders.Command.TheVariants.{Replace, Create}
 use Rattle.journal_rows.specs.declared.orders.OrderedRow.{OrderedRow}
 use Rattle.journal_rows.specs.declared.row.Row.{Row}
-use Rattle.journal_rows.specs.declared.row.Row.TheVariants.{Asked, Took, Answered, Sent, SawAnswer, Ordered}
+use Rattle.journal_rows.specs.declared.row.Row.TheVariants.{Asked, Took, Answered, Sent, Noted, SawAnswer, Ordered}
 
 -- the bytes of a request's path, body and user
 abbrev pub request_bytes : Request → ℕ
@@ -31,6 +31,7 @@ row_bytes (Asked a) = request_bytes a.request
 row_bytes (Took t) = wanted_bytes t.desired + length t.who
 row_bytes (Answered a) = length a.response.body
 row_bytes (Sent s) = wanted_bytes s.desired
+row_bytes (Noted n) = length n.who
 row_bytes (SawAnswer a) = length a.response.body + length a.who
 row_bytes (Ordered o) = order_bytes o
 row_bytes row = 0

@@ -2,6 +2,7 @@
 use Rattle.std.specs.Prelude.{ℕ, ◌+◌, Bool, true, false, ◌&&◌, if◌then◌else◌, List, Option, Some, None, is_some, fold, max, nat_eq}
 use Rattle.std.specs.Option.{option_map_or}
 use Rattle.lang_base.specs.Texts.{same_text}
+use Rattle.lang_core.specs.Origins.{is_call}
 use Rattle.lang_core.specs.declared.ids.Origin.{Origin}
 use Rattle.lang_core.specs.declared.ids.Origin.TheVariants.{Outside, Call}
 use Rattle.lang_core.specs.declared.request.Request.{Request}
@@ -10,6 +11,7 @@ use Rattle.journal_rows.specs.declared.callee.AskedRow.{AskedRow}
 use Rattle.journal_rows.specs.declared.callee.TookRow.{TookRow}
 use Rattle.journal_rows.specs.declared.caller.AckHow.{AckHow}
 use Rattle.journal_rows.specs.declared.caller.AckHow.TheVariants.{WithAnswer, ToPost}
+use Rattle.journal_rows.specs.declared.caller.NotedRow.{NotedRow}
 use Rattle.journal_rows.specs.declared.caller.SawAnswerRow.{SawAnswerRow}
 use Rattle.journal_rows.specs.declared.caller.SentRow.{SentRow}
 use Rattle.journal_rows.specs.declared.orders.About.{About}
@@ -18,7 +20,7 @@ use Rattle.journal_rows.specs.declared.orders.Command.{Command}
 use Rattle.journal_rows.specs.declared.orders.Command.TheVariants.{Cancel, Restore, Replace}
 use Rattle.journal_rows.specs.declared.orders.OrderedRow.{OrderedRow}
 use Rattle.journal_rows.specs.declared.row.Row.{Row}
-use Rattle.journal_rows.specs.declared.row.Row.TheVariants.{Asked, Took, Acked, Answered, WasConfirmed, Sent, SawAck, SawAnswer, Confirmed, Ordered}
+use Rattle.journal_rows.specs.declared.row.Row.TheVariants.{Asked, Took, Acked, Answered, WasConfirmed, Sent, SawAck, Noted, SawAnswer, Confirmed, Ordered}
 use Rattle.journal_rows.specs.declared.words.Mark.{Mark}
 use Rattle.journal_rows.specs.declared.words.Mark.TheVariants.{Unsettled, AnsweredLive, ConfirmedAt}
 
@@ -65,12 +67,43 @@ with_ack most ToPost = most
 
 abbrev pub claim_step : ℕ → ℕ → Row → ℕ
 claim_step number most (SawAck a) = if nat_eq a.number number then with_ack most a.how else most
-claim_step number most (Confirmed c) = if nat_eq c.number number then max most c.answer_version else most
 claim_step number most row = most
 
--- the greatest answer version that a live acknowledgement or a confirmation speaks of, or 0
+-- the greatest answer version that a live acknowledgement speaks of, or 0
 abbrev pub claimed : ℕ → List Row → ℕ
 claimed number journal = fold (claim_step number) 0 journal
+
+-- ---- of the answers to an own call that were announced, by its number
+
+abbrev pub noting_step : ℕ → Option NotedRow → Row → Option NotedRow
+noting_step number last (Noted n) = if nat_eq n.number number then Some n else last
+noting_step number last row = last
+
+-- the last token that was noted
+abbrev pub last_noted : ℕ → List Row → Option NotedRow
+last_noted number journal = fold (noting_step number) None journal
+
+abbrev pub noted_version : Option NotedRow → ℕ
+noted_version last = option_map_or (λ (n : NotedRow). n.answer_version) last 0
+
+abbrev pub announces : ℕ → ℕ → NotedRow → Bool
+announces number answer_version n = nat_eq n.number number && nat_eq n.answer_version answer_version
+
+abbrev pub announced_step : ℕ → ℕ → Option NotedRow → Row → Option NotedRow
+announced_step number answer_version last (Noted n) = if announces number answer_version n then Some n else last
+announced_step number answer_version last row = last
+
+-- the token that announced the answer of this version
+abbrev pub noted_at : ℕ → ℕ → List Row → Option NotedRow
+noted_at number answer_version journal = fold (announced_step number answer_version) None journal
+
+abbrev pub confirm_step : ℕ → ℕ → Row → ℕ
+confirm_step number most (Confirmed c) = if nat_eq c.number number then max most c.answer_version else most
+confirm_step number most row = most
+
+-- the greatest answer version that was confirmed, or 0
+abbrev pub confirmed_version : ℕ → List Row → ℕ
+confirmed_version number journal = fold (confirm_step number) 0 journal
 
 -- ---- of a call of another service, by its caller and number
 
@@ -100,6 +133,17 @@ acked_step caller number most row = most
 -- the greatest version that was acknowledged, or 0
 abbrev pub acknowledged : List ℕ → ℕ → List Row → ℕ
 acknowledged caller number journal = fold (acked_step caller number) 0 journal
+
+abbrev pub gives : List ℕ → ℕ → ℕ → AnsweredRow → Bool
+gives caller number answer_version a = is_call caller number a.origin && nat_eq a.answer_version answer_version
+
+abbrev pub given_step : List ℕ → ℕ → ℕ → Option AnsweredRow → Row → Option AnsweredRow
+given_step caller number answer_version last (Answered a) = if gives caller number answer_version a then Some a else last
+given_step caller number answer_version last row = last
+
+-- its answer of this version
+abbrev pub given_at : List ℕ → ℕ → ℕ → List Row → Option AnsweredRow
+given_at caller number answer_version journal = fold (given_step caller number answer_version) None journal
 
 -- ---- of an entry's origin
 

@@ -8,8 +8,8 @@ use std::alloc::Global;
 pub enum SawHow {
     /// In reply to the live call.
     Live,
-    /// By a message that repairs.
-    Message,
+    /// By a fetch, for it was announced.
+    Fetch,
 }
 
 /// How an acknowledgement came.
@@ -52,6 +52,29 @@ pub struct SawAckRow {
     pub how: AckHow,
 }
 
+/// A token announced an answer to a call, and was noted.
+pub struct NotedRow {
+    /// The call's number.
+    pub number: u64,
+    /// The version of the answer that is announced.
+    pub answer_version: u64,
+    /// For whom the token was sent.
+    pub who: Text,
+    /// The number of the rule that allowed it, from 1.
+    pub rule: u32,
+}
+
+impl Drop for NotedRow {
+    fn drop(self) {
+        let Self {
+            number: _,
+            answer_version: _,
+            who: _,
+            rule: _,
+        } = self;
+    }
+}
+
 /// An answer to a call was seen.
 pub struct SawAnswerRow {
     /// The call's number.
@@ -61,9 +84,9 @@ pub struct SawAnswerRow {
     pub version: u64,
     pub response: Response,
     pub how: SawHow,
-    /// For whom it was sent.
+    /// For whom the token that announced it was sent; of a live one the callee's name.
     pub who: Text,
-    /// The number of the rule that allowed it, from 1; 0 where it was live.
+    /// The number of the rule that allowed that token, from 1; 0 where it was live.
     pub rule: u32,
 }
 
@@ -81,7 +104,7 @@ impl Drop for SawAnswerRow {
     }
 }
 
-/// A message with an answer to a call was confirmed.
+/// A token that announced an answer to a call was confirmed.
 #[derive(Clone, Copy, PartialEq, Eq)]
 pub struct ConfirmedRow {
     /// The call's number.
@@ -97,6 +120,17 @@ impl Copied for SentRow {
             dest,
             version: self.version,
             desired,
+        })
+    }
+}
+
+impl Copied for NotedRow {
+    fn copied(&self, alloc: Global) -> Result<NotedRow, NoMemory> {
+        Ok(NotedRow {
+            number: self.number,
+            answer_version: self.answer_version,
+            who: self.who.copied(alloc)?,
+            rule: self.rule,
         })
     }
 }
@@ -122,6 +156,15 @@ impl Same for SentRow {
             && self.dest.is(&other.dest)
             && self.version == other.version
             && self.desired.is(&other.desired)
+    }
+}
+
+impl Same for NotedRow {
+    fn is(&self, other: &NotedRow) -> bool {
+        self.number == other.number
+            && self.answer_version == other.answer_version
+            && self.who.is(&other.who)
+            && self.rule == other.rule
     }
 }
 

@@ -28,6 +28,7 @@ pub(crate) fn row_key(row: &Row) -> u64
         Row::WasConfirmed(row) => row.number,
         Row::Sent(row) => row.number,
         Row::SawAck(row) => row.number,
+        Row::Noted(row) => row.number,
         Row::SawAnswer(row) => row.number,
         Row::Confirmed(row) => row.number,
         Row::Ordered(row) => text_key(&row.get().token),

@@ -10,11 +10,12 @@ mod orders;
 mod row;
 mod rows;
 mod verdict;
+mod versions;
 mod weights;
 mod words;
 
 pub use callee::{AckedRow, AnsweredRow, AskedRow, TookHow, TookRow, WasConfirmedRow};
-pub use caller::{AckHow, ConfirmedRow, SawAckRow, SawAnswerRow, SawHow, SentRow};
+pub use caller::{AckHow, ConfirmedRow, NotedRow, SawAckRow, SawAnswerRow, SawHow, SentRow};
 pub use orders::{About, Command, OrderedRow};
 pub use row::Row;
 pub use rows::Rows;

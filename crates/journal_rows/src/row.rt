@@ -3,7 +3,7 @@ ghost use Rattle.std.specs.Prelude.{◌≡◌, IfOk};
 ghost use Rattle.journal_rows.specs.declared.row.Row.{Row};
 
 use crate::callee::{AckedRow, AnsweredRow, AskedRow, TookRow, WasConfirmedRow};
-use crate::caller::{ConfirmedRow, SawAckRow, SawAnswerRow, SentRow};
+use crate::caller::{ConfirmedRow, NotedRow, SawAckRow, SawAnswerRow, SentRow};
 use crate::orders::OrderedRow;
 use lang_core::{Boxed, Copied, NoMemory, Same};
 use std::alloc::Global;
@@ -24,9 +24,11 @@ pub enum Row {
     Sent(SentRow),
     /// A version of an own call was seen to be acknowledged.
     SawAck(SawAckRow),
+    /// A token announced an answer to an own call.
+    Noted(NotedRow),
     /// An answer to an own call was seen.
     SawAnswer(SawAnswerRow),
-    /// A message with an answer to an own call was confirmed.
+    /// A token that announced an answer to an own call was confirmed.
     Confirmed(ConfirmedRow),
     /// An order was accepted. Its row is the largest by far and the rarest, so it stands apart.
     Ordered(Boxed<OrderedRow>),
@@ -42,6 +44,7 @@ impl Drop for Row {
             | Self::WasConfirmed(_)
             | Self::Sent(_)
             | Self::SawAck(_)
+            | Self::Noted(_)
             | Self::SawAnswer(_)
             | Self::Confirmed(_)
             | Self::Ordered(_) => {}
@@ -71,6 +74,7 @@ impl Copied for Row {
             Row::WasConfirmed(row) => row.copied(alloc).map(Row::WasConfirmed),
             Row::Sent(row) => row.copied(alloc).map(Row::Sent),
             Row::SawAck(row) => Ok(Row::SawAck(*row)),
+            Row::Noted(row) => row.copied(alloc).map(Row::Noted),
             Row::SawAnswer(row) => row.copied(alloc).map(Row::SawAnswer),
             Row::Confirmed(row) => Ok(Row::Confirmed(*row)),
             Row::Ordered(row) => Row::ordered(alloc, row.get().copied(alloc)?),
@@ -88,6 +92,7 @@ impl Same for Row {
             (Row::WasConfirmed(left), Row::WasConfirmed(right)) => left.is(right),
             (Row::Sent(left), Row::Sent(right)) => left.is(right),
             (Row::SawAck(left), Row::SawAck(right)) => *left == *right,
+            (Row::Noted(left), Row::Noted(right)) => left.is(right),
             (Row::SawAnswer(left), Row::SawAnswer(right)) => left.is(right),
             (Row::Confirmed(left), Row::Confirmed(right)) => *left == *right,
             (Row::Ordered(left), Row::Ordered(right)) => left.get().is(right.get()),

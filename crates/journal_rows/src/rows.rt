@@ -4,14 +4,15 @@ ghost use Rattle.std.specs.Option.{option_copied};
 ghost use Rattle.lang_lists.specs.Ends.{last_end};
 ghost use Rattle.journal_rows.specs.Keys.{row_key};
 ghost use Rattle.journal_rows.specs.Weights.{journal_weight};
-ghost use Rattle.journal_rows.specs.Words.{last_taken, ordered};
+ghost use Rattle.journal_rows.specs.Words.{given_at, last_taken, noted_at, ordered};
 
-use crate::callee::TookRow;
+use crate::callee::{AnsweredRow, TookRow};
+use crate::caller::NotedRow;
 use crate::keys::row_key;
 use crate::orders::OrderedRow;
 use crate::row::Row;
 use crate::weights::weight;
-use crate::words;
+use crate::{versions, words};
 use lang_base::{both, copied_items};
 use lang_core::{Name, NoMemory, Text};
 use lang_lists::HashIndex;
@@ -103,6 +104,22 @@ impl Rows {
         ensures { option_copied result ≡ ordered token.now self.now.rows }
     {
         words::ordered(&self.rows, &self.index, token)
+    }
+
+    /// The token that announced the answer of this version to an own call; None exactly where none was noted. It costs with
+    /// the rows of the call's number.
+    pub fn noted_at(&self, number: u64, answer_version: u64) -> Option<&NotedRow>
+        ensures { option_copied result ≡ noted_at number answer_version self.now.rows }
+    {
+        versions::noted_at(&self.rows, &self.index, number, answer_version)
+    }
+
+    /// The answer of this version to a caller's call; None exactly where none was given. It costs with the rows of the call's
+    /// key.
+    pub fn given_at(&self, caller: &Name, number: u64, answer_version: u64) -> Option<&AnsweredRow>
+        ensures { option_copied result ≡ given_at caller.now number answer_version self.now.rows }
+    {
+        versions::given_at(&self.rows, &self.index, caller, number, answer_version)
     }
 
     /// One past the place of the last row of a key; 0 where none has it.

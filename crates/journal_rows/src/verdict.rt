@@ -9,6 +9,8 @@ pub enum Outstanding {
     Stale(u64),
     /// A call whose last version isn't acknowledged, by its number.
     Call(u64),
+    /// An answer that was announced and isn't fetched yet, by its call's number.
+    Fetch(u64),
     /// An answer that is due, by its entry's number.
     Answer(u64),
 }

@@ -64,6 +64,7 @@ fn row_bytes(row: &Row) -> u64
         Row::Took(row) => desired_bytes(&row.desired).saturating_add(row.who.len()),
         Row::Answered(row) => row.response.body.len(),
         Row::Sent(row) => desired_bytes(&row.desired),
+        Row::Noted(row) => row.who.len(),
         Row::SawAnswer(row) => row.response.body.len().saturating_add(row.who.len()),
         Row::Ordered(row) => order_bytes(row.get()),
         _ => 0,
