@@ -6,7 +6,7 @@ use Rattle.call_registers.specs.Changes.{change}
 use Rattle.call_registers.specs.Registers.{has_number, CountFrom, IsNumbered, IsThere, register, at_number, changed, is_newer}
 use Rattle.call_registers.specs.declared.register.Register.{Register}
 use Rattle.call_registers.specs.declared.register.RegisterChange.{RegisterChange}
-use Rattle.call_registers.specs.declared.register.RegisterChange.TheVariants.{Send, Ack, SeeAnswer, Tell, Hold, Release}
+use Rattle.call_registers.specs.declared.register.RegisterChange.TheVariants.{Send, Ack, SeeAnswer, Note, Tell, Hold, Release}
 use Rattle.lang_base.proofs.EqualLemmas.{nat_same}
 
 -- where numbers begin above it, a number isn't there
@@ -108,6 +108,7 @@ pub number_stays : (change : RegisterChange) (r : Register) → (changed change 
 number_stays (Send desired since) r = refl
 number_stays (Ack version) r = refl
 number_stays (SeeAnswer answer) r = kept_number (is_newer r.answer answer.answer_version) r (record r { answer = Some answer }) refl
+number_stays (Note answer_version who rule since) r = refl
 number_stays (Tell why) r = refl
 number_stays (Hold hold) r = refl
 number_stays (Release who) r = refl

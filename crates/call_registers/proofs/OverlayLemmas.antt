@@ -11,7 +11,7 @@ use Rattle.call_registers.specs.Registers.{has_number, CountFrom, IsNumbered, re
 use Rattle.call_registers.specs.Overlays.{put, put_all, numbered, numbered_from, later}
 use Rattle.call_registers.specs.declared.register.Register.{Register}
 use Rattle.call_registers.specs.declared.register.RegisterChange.{RegisterChange}
-use Rattle.call_registers.specs.declared.register.RegisterChange.TheVariants.{Send, Ack, SeeAnswer, Tell, Hold, Release}
+use Rattle.call_registers.specs.declared.register.RegisterChange.TheVariants.{Send, Ack, SeeAnswer, Note, Tell, Hold, Release}
 use Rattle.call_registers.proofs.ChangeLemmas.{at_place, fail, none_below, not_same, number_stays, pass, skip}
 
 -- ---- the register of a number
@@ -179,6 +179,7 @@ change_numbered : (c : RegisterChange) (m : ℕ) (r : Register) → changed c (n
 change_numbered (Send desired since) m r = refl
 change_numbered (Ack version) m r = refl
 change_numbered (SeeAnswer answer) m r = sym (cond_number (is_newer r.answer answer.answer_version) m (record r { answer = Some answer }) r)
+change_numbered (Note answer_version who rule since) m r = refl
 change_numbered (Tell why) m r = refl
 change_numbered (Hold hold) m r = refl
 change_numbered (Release who) m r = refl

@@ -1,12 +1,12 @@
--- The queue of the registers that wait.
-use Rattle.std.proofs.Common.{◌≡◌, ℕ, zero, suc, ◌+◌, ◌-◌, ◌<◌, List, [], ◌∷◌, Some, length, get_or, slice_get, nat_lt, sym, ap, ◌∙◌, arith}
+-- The queues of the registers that are to be posted.
+use Rattle.std.proofs.Common.{◌≡◌, ℕ, zero, suc, ◌+◌, ◌-◌, ◌<◌, List, [], ◌∷◌, Some, length, get_or, slice_get, nat_lt, refl, sym, ap, ◌∙◌, arith}
 use Rattle.std.proofs.lemmas.Option.{cond_some, slice_get-get_or}
 use Rattle.lang_lists.specs.Keys.{text_key}
 use Rattle.lang_lists.specs.Ages.{of_code, IsRising}
 use Rattle.lang_lists.specs.declared.age_keys.AgeKey.{AgeKey}
 use Rattle.call_registers.specs.Queues.{IsQueue}
-use Rattle.call_registers.specs.Registers.{has_number, register, CountFrom, IsNumbered}
-use Rattle.call_registers.specs.Waiting.{age_key, waiting_key, AreWaiting}
+use Rattle.call_registers.specs.Registers.{has_number, owes_fetch, register, CountFrom, IsNumbered}
+use Rattle.call_registers.specs.Waiting.{age_key, waiting_key, AreWaiting, fetch_key, noted_key, AreFetched}
 use Rattle.call_registers.specs.declared.register.Register.{Register}
 use Rattle.call_registers.proofs.ChangeLemmas.{found_at}
 use Rattle.call_registers.proofs.QueueLemmas.{are_oldest_first}
@@ -29,7 +29,15 @@ found_itself rs i d h lt =
 named : (r : Register) (k : AgeKey) → waiting_key r ≡ Some k → k.number ≡ r.number
 named r k e = ap (λ (x : AgeKey). x.number) (sym (cond_some (nat_lt r.acked r.version) (age_key r) k e).1)
 
-pub are_waiting : (registers : List Register) (keys : List AgeKey) → IsNumbered registers → IsQueue waiting_key registers keys → (dest : List ℕ) (code : ℕ) (found : List AgeKey) → code ≡ text_key dest
-    → found ≡ of_code code keys → IsRising found → AreWaiting dest registers found
-are_waiting registers keys numbered queued dest code found same is rising =
-    are_oldest_first waiting_key (λ r. r.number) has_number registers keys named (λ i d lt. found_itself registers i d numbered lt) queued (text_key dest) code found same is rising
+pub are_waiting : (registers : List Register) (keys : List AgeKey) → IsNumbered registers → IsQueue waiting_key registers keys → (dest : List ℕ) (found : List AgeKey)
+    → found ≡ of_code (text_key dest) keys → IsRising found → AreWaiting dest registers found
+are_waiting registers keys numbered queued dest found is rising =
+    are_oldest_first waiting_key (λ r. r.number) has_number registers keys named (λ i d lt. found_itself registers i d numbered lt) queued (text_key dest) (text_key dest) found refl is rising
+
+fetch_named : (r : Register) (k : AgeKey) → fetch_key r ≡ Some k → k.number ≡ r.number
+fetch_named r k e = ap (λ (x : AgeKey). x.number) (sym (cond_some (owes_fetch r) (noted_key r) k e).1)
+
+pub are_fetched : (registers : List Register) (keys : List AgeKey) → IsNumbered registers → IsQueue fetch_key registers keys → (dest : List ℕ) (found : List AgeKey)
+    → found ≡ of_code (text_key dest) keys → IsRising found → AreFetched dest registers found
+are_fetched registers keys numbered queued dest found is rising =
+    are_oldest_first fetch_key (λ r. r.number) has_number registers keys fetch_named (λ i d lt. found_itself registers i d numbered lt) queued (text_key dest) (text_key dest) found refl is rising

@@ -1,11 +1,11 @@
 -- Registers: which call has a number, what it consumes, and what each change makes of them.
-use Rattle.std.specs.Prelude.{ℕ, ◌≡◌, ◌+◌, ◌≤◌, Bool, true, List, [], ◌∷◌, ◌++◌, Option, Some, None, IsSome, IfSome, if◌then◌else◌, nat_eq, nat_lt, max, length, find}
+use Rattle.std.specs.Prelude.{ℕ, ◌≡◌, ◌+◌, ◌≤◌, Bool, true, ◌&&◌, List, [], ◌∷◌, ◌++◌, Option, Some, None, IsSome, IfSome, if◌then◌else◌, nat_eq, nat_lt, is_some, max, length, find}
 use Rattle.lang_core.specs.declared.request.Request.{Request}
 use Rattle.lang_core.specs.declared.request.Response.{Response}
 use Rattle.call_registers.specs.Changes.{change, raised}
 use Rattle.call_registers.specs.declared.register.Answer.{Answer}
 use Rattle.call_registers.specs.declared.register.RegisterChange.{RegisterChange}
-use Rattle.call_registers.specs.declared.register.RegisterChange.TheVariants.{Send, Ack, SeeAnswer, Tell, Hold as HoldBack, Release}
+use Rattle.call_registers.specs.declared.register.RegisterChange.TheVariants.{Send, Ack, SeeAnswer, Note, Tell, Hold as HoldBack, Release}
 use Rattle.call_registers.specs.declared.register.Hold.{Hold}
 use Rattle.call_registers.specs.declared.register.Register.{Register}
 use Rattle.call_registers.specs.declared.register.Why.{Why}
@@ -67,6 +67,10 @@ first_register number dest q since =
       desired = Some q;
       acked = 0;
       answer = None;
+      noted = 0;
+      noted_who = q.who;
+      noted_rule = 0;
+      noted_since = 0;
       told = None;
       held = None;
       repair_who = q.who;
@@ -101,6 +105,24 @@ is_newer (Some held) answer_version = nat_lt held.answer_version answer_version
 abbrev pub with_answer : Answer → Register → Register
 with_answer a r = if is_newer r.answer a.answer_version then record r { answer = Some a } else r
 
+-- the version of the answer that is held, or 0
+abbrev pub held_version : Option Answer → ℕ
+held_version None = 0
+held_version (Some held) = held.answer_version
+
+-- an answer of this version is news: it is above the one that is held, and above the one that was noted
+abbrev pub is_news : Register → ℕ → Bool
+is_news r answer_version = nat_lt (max (held_version r.answer) r.noted) answer_version
+
+-- an answer was noted that is above the one that is held, and the call is wanted
+abbrev pub owes_fetch : Register → Bool
+owes_fetch r = is_some r.desired && nat_lt (held_version r.answer) r.noted
+
+-- an answer of this version was announced, at this index of the journal
+abbrev pub with_note : ℕ → List ℕ → ℕ → ℕ → Register → Register
+with_note answer_version who rule since r =
+    record r { noted = answer_version; noted_who = who; noted_rule = rule; noted_since = since }
+
 abbrev pub with_cause : Why → Register → Register
 with_cause why r = record r { told = Some why }
 
@@ -115,6 +137,7 @@ abbrev pub changed : RegisterChange → Register → Register
 changed (Send desired since) r = sent_anew desired since r
 changed (Ack version) r = with_ack version r
 changed (SeeAnswer answer) r = with_answer answer r
+changed (Note answer_version who rule since) r = with_note answer_version who rule since r
 changed (Tell why) r = with_cause why r
 changed (HoldBack hold) r = with_hold hold r
 changed (Release who) r = released who r

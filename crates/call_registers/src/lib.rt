@@ -5,6 +5,7 @@
 
 mod changes;
 mod homes;
+mod queues;
 mod register;
 mod register_list;
 mod registers;
@@ -12,7 +13,9 @@ mod replies;
 mod reply;
 
 pub use changes::RegisterChanges;
-pub use register::{Answer, Hold, Register, RegisterChange, Why, is_newer};
+pub use register::{
+    Answer, Hold, Register, RegisterChange, Why, held_version, is_newer, is_news, owes_fetch,
+};
 pub use registers::Registers;
 pub use replies::{Replies, RepliesCall};
 pub use reply::Reply;

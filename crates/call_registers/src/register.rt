@@ -1,7 +1,8 @@
 // A register: what is kept of one call.
 ghost use Rattle.std.specs.Prelude.{◌≡◌, IfOk};
-ghost use Rattle.call_registers.specs.Registers.{first_register, sent_anew, with_answer, is_newer, released, changed};
+ghost use Rattle.call_registers.specs.Registers.{first_register, sent_anew, held_version, is_news, is_newer, owes_fetch, with_answer, with_note, released, changed};
 
+use lang_base::both;
 use lang_core::{Copied, FaultNote, Name, NoMemory, Request, Response, Text};
 use repair_messages::copied_pair;
 use std::alloc::Global;
@@ -50,6 +51,15 @@ pub struct Register {
     pub acked: u64,
     /// The answer of the greatest answer version that was seen.
     pub answer: Option<Answer>,
+    /// The version of the last answer that was announced, or 0. Where it is above that of the answer that was seen, and the
+    /// call is wanted, that answer is to be fetched.
+    pub noted: u64,
+    /// For whom the token was sent that announced it: at first the service's own name.
+    pub noted_who: Text,
+    /// The number of the rule that allowed that token, or 0.
+    pub noted_rule: u32,
+    /// The index in the journal at which it was noted, or 0.
+    pub noted_since: u64,
     /// Why it went on without an answer, if it did.
     pub told: Option<Why>,
     /// Why its post isn't sent, if it was refused.
@@ -69,6 +79,10 @@ impl Drop for Register {
             desired: _,
             acked: _,
             answer: _,
+            noted: _,
+            noted_who: _,
+            noted_rule: _,
+            noted_since: _,
             told: _,
             held: _,
             repair_who: _,
@@ -89,7 +103,8 @@ impl Copied for Answer {
 
 impl Copied for Register {
     fn copied(&self, alloc: Global) -> Result<Register, NoMemory> {
-        let (dest, repair_who) = copied_pair(alloc, &self.dest, &self.repair_who)?;
+        let users = copied_pair(alloc, &self.repair_who, &self.noted_who);
+        let (dest, users) = both(self.dest.copied(alloc), users)?;
         let (desired, answer) = copied_pair(alloc, &self.desired, &self.answer)?;
         Ok(Register {
             number: self.number,
@@ -98,9 +113,13 @@ impl Copied for Register {
             desired,
             acked: self.acked,
             answer,
+            noted: self.noted,
+            noted_who: users.1,
+            noted_rule: self.noted_rule,
+            noted_since: self.noted_since,
             told: self.told,
             held: self.held,
-            repair_who,
+            repair_who: users.0,
             since: self.since,
         })
     }
@@ -116,7 +135,7 @@ pub(crate) fn new_register(
 ) -> Result<Register, NoMemory>
     ensures { IfOk result (λ register. register ≡ first_register number dest.now request.now since) }
 {
-    let repair_who = request.who.copied(alloc)?;
+    let (repair_who, noted_who) = copied_pair(alloc, &request.who, &request.who)?;
     let (dest, request) = copied_pair(alloc, dest, request)?;
     Ok(Register {
         number,
@@ -125,6 +144,10 @@ pub(crate) fn new_register(
         desired: Some(request),
         acked: 0,
         answer: None,
+        noted: 0,
+        noted_who,
+        noted_rule: 0,
+        noted_since: 0,
         told: None,
         held: None,
         repair_who,
@@ -144,6 +167,13 @@ pub enum RegisterChange {
     Ack(u64),
     /// This answer was seen.
     SeeAnswer(Answer),
+    /// A token for this user announced an answer of this version, which this rule allowed, at this index of the journal.
+    Note {
+        answer_version: u64,
+        who: Text,
+        rule: u32,
+        since: u64,
+    },
     /// The call goes on without an answer.
     Tell(Why),
     /// The post was refused.
@@ -171,6 +201,31 @@ pub fn is_newer(held: &Option<Answer>, answer_version: u64) -> bool
     }
 }
 
+/// The version of the answer that is held, or 0.
+pub fn held_version(held: &Option<Answer>) -> u64
+    ensures { result ≡ held_version held.now }
+{
+    match held {
+        None => 0,
+        Some(held) => held.answer_version,
+    }
+}
+
+/// Whether a token that announces an answer of this version tells anything new: it is above the answer that is held, and
+/// above the one that was noted.
+pub fn is_news(register: &Register, answer_version: u64) -> bool
+    ensures { result ≡ is_news register.now answer_version }
+{
+    held_version(&register.answer).max(register.noted) < answer_version
+}
+
+/// Whether an answer is to be fetched: one was noted that is above the one that is held, and the call is wanted.
+pub fn owes_fetch(register: &Register) -> bool
+    ensures { result ≡ owes_fetch register.now }
+{
+    register.desired.is_some() && held_version(&register.answer) < register.noted
+}
+
 // The answer is held where its answer version is the greatest so far.
 fn see_answer(register: &mut Register, answer: Answer)
     ensures { register.new ≡ with_answer answer register.old }
@@ -178,6 +233,15 @@ fn see_answer(register: &mut Register, answer: Answer)
     if is_newer(&register.answer, answer.answer_version) {
         register.answer = Some(answer);
     }
+}
+
+fn note(register: &mut Register, answer_version: u64, who: Text, rule: u32, since: u64)
+    ensures { register.new ≡ with_note answer_version who rule since register.old }
+{
+    register.noted = answer_version;
+    register.noted_who = who;
+    register.noted_rule = rule;
+    register.noted_since = since;
 }
 
 fn release(register: &mut Register, who: Text)
@@ -195,6 +259,12 @@ pub(crate) fn apply(register: &mut Register, change: RegisterChange)
         RegisterChange::Send { desired, since } => send_anew(register, desired, since),
         RegisterChange::Ack(version) => register.acked = register.acked.max(version),
         RegisterChange::SeeAnswer(answer) => see_answer(register, answer),
+        RegisterChange::Note {
+            answer_version,
+            who,
+            rule,
+            since,
+        } => note(register, answer_version, who, rule, since),
         RegisterChange::Tell(why) => register.told = Some(why),
         RegisterChange::Hold(hold) => register.held = Some(hold),
         RegisterChange::Release(who) => release(register, who),

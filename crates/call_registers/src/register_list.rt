@@ -1,31 +1,29 @@
-// Registers in the order of their numbers, with a queue of those that wait for an acknowledgement.
+// Registers in the order of their numbers, with queues of those that are to be posted.
 ghost use Rattle.std.specs.Prelude.{◌≡◌, ◌+◌, ◌<◌, ◌≤◌, [], ◌∷◌, ◌++◌, length, slice_get, is_some, IfOk, OnOk, vec_len, vec_capacity};
 ghost use Rattle.std.specs.Option.{option_copied};
 ghost use Rattle.call_registers.specs.Registers.{register, IsThere, IsNumbered, next_number, at_number, changed};
 ghost use Rattle.call_registers.specs.Overlays.{put};
-ghost use Rattle.call_registers.specs.Waiting.{waiting_key, AreWaiting, IsListed};
+ghost use Rattle.call_registers.specs.Waiting.{fetch_key, waiting_key, AreFetched, AreWaiting, IsListed};
 
+use crate::queues::{CallKeys, CallQueues, keys_of, no_keys};
 use crate::register::{Register, RegisterChange, apply};
 use lang_base::copied_items;
 use lang_core::{Name, NoMemory};
-use lang_lists::{AgeKey, AgeQueue, text_key};
+use lang_lists::AgeKey;
 use std::alloc::Global;
 use std::marker::Model;
 
 /// Registers in the order of their numbers, which are 1, 2, 3 and so on, with the keys of those whose last version isn't
-/// acknowledged. Contracts see the registers, and for how many there are places; a change of one takes no memory.
+/// acknowledged and of those of which an answer is to be fetched. Contracts see the registers, and for how many there are places; a change of one takes no memory.
 pub(crate) struct RegisterList {
     list: Vec<Register>,
-    // It has a place for each register.
-    waiting: AgeQueue,
+    // They have a place for each register.
+    queues: CallQueues,
 }
 
 impl Drop for RegisterList {
     fn drop(self) {
-        let Self {
-            list: _,
-            waiting: _,
-        } = self;
+        let Self { list: _, queues: _ } = self;
     }
 }
 
@@ -35,24 +33,9 @@ impl Model for RegisterList {
 
     ghost Value = { KeptList };
 
-    ghost view = { λ l. record { list = l.list.items; places = min (vec_capacity l.list) l.waiting.places } };
+    ghost view = { λ l. record { list = l.list.items; places = min (vec_capacity l.list) l.queues.places } };
 
-    ghost invariant = { λ l. IsListed l.list.items l.waiting.keys l.waiting.places };
-}
-
-// The key of a call whose last version isn't acknowledged.
-fn waiting_key(register: &Register) -> Option<AgeKey>
-    ensures { result ≡ waiting_key register.now }
-{
-    if register.acked < register.version {
-        Some(AgeKey {
-            code: text_key(register.dest.text()),
-            since: register.since,
-            number: register.number,
-        })
-    } else {
-        None
-    }
+    ghost invariant = { λ l. IsListed l.list.items l.queues };
 }
 
 fn item_at(list: &[Register], place: usize) -> Option<&Register>
@@ -93,62 +76,64 @@ fn is_there(list: &[Register], number: u64) -> bool
     find_in(list, number).is_some()
 }
 
-// Changes the register so; its key before and after.
-fn change_key(register: &mut Register, change: RegisterChange) -> (Option<AgeKey>, Option<AgeKey>)
+// Changes the register so; its keys before and after.
+fn change_keys(register: &mut Register, change: RegisterChange) -> (CallKeys, CallKeys)
     ensures register { register.new ≡ changed change register.old }
-    ensures before { result.0 ≡ waiting_key register.old }
-    ensures after { result.1 ≡ waiting_key register.new }
+    ensures waiting_before { result.0.waiting ≡ waiting_key register.old }
+    ensures waiting_after { result.1.waiting ≡ waiting_key register.new }
+    ensures fetched_before { result.0.fetched ≡ fetch_key register.old }
+    ensures fetched_after { result.1.fetched ≡ fetch_key register.new }
 {
-    let before = waiting_key(register);
+    let before = keys_of(register);
     apply(register, change);
-    (before, waiting_key(register))
+    (before, keys_of(register))
 }
 
-fn change_in(list: &mut Vec<Register>, waiting: &mut AgeQueue, number: u64, change: RegisterChange)
-    requires listed { IsListed list.old.items waiting.old.keys waiting.old.places }
+fn change_in(list: &mut Vec<Register>, queues: &mut CallQueues, number: u64, change: RegisterChange)
+    requires listed { IsListed list.old.items queues.old }
     requires there { IsThere number list.old.items }
     ensures items { list.new.items ≡ at_number number (changed change) list.old.items }
-    ensures listed { IsListed list.new.items waiting.new.keys waiting.new.places }
+    ensures listed { IsListed list.new.items queues.new }
     ensures len { vec_len list.new ≡ vec_len list.old }
     ensures capacity { vec_capacity list.new ≡ vec_capacity list.old }
-    ensures places { waiting.old.places ≤ waiting.new.places }
+    ensures places { queues.old.places ≤ queues.new.places }
 {
     let place = place_of(list, number);
-    let (before, after) = change_key(&mut list[place], change);
-    waiting.exchange(before, after);
+    let (before, after) = change_keys(&mut list[place], change);
+    queues.exchange(before, after);
 }
 
 // A register stands in place of the one of its number, where there is one.
-fn put_in(list: &mut Vec<Register>, waiting: &mut AgeQueue, register: Register)
-    requires { IsListed list.old.items waiting.old.keys waiting.old.places }
+fn put_in(list: &mut Vec<Register>, queues: &mut CallQueues, register: Register)
+    requires { IsListed list.old.items queues.old }
     ensures items { list.new.items ≡ put list.old.items register }
-    ensures listed { IsListed list.new.items waiting.new.keys waiting.new.places }
+    ensures listed { IsListed list.new.items queues.new }
     ensures len { vec_len list.new ≡ vec_len list.old }
     ensures capacity { vec_capacity list.new ≡ vec_capacity list.old }
-    ensures places { waiting.old.places ≤ waiting.new.places }
+    ensures places { queues.old.places ≤ queues.new.places }
 {
     if is_there(list, register.number) {
         let place = place_of(list, register.number);
-        let before = waiting_key(&list[place]);
-        let after = waiting_key(&register);
+        let before = keys_of(&list[place]);
+        let after = keys_of(&register);
         list[place] = register;
-        waiting.exchange(before, after);
+        queues.exchange(before, after);
     }
 }
 
-fn push_in(list: &mut Vec<Register>, waiting: &mut AgeQueue, register: Register)
-    requires listed { IsListed list.old.items waiting.old.keys waiting.old.places }
+fn push_in(list: &mut Vec<Register>, queues: &mut CallQueues, register: Register)
+    requires listed { IsListed list.old.items queues.old }
     requires number { register.number ≡ next_number list.old.items }
     requires room { vec_len list.old < vec_capacity list.old }
-    requires place { length list.old.items < waiting.old.places }
+    requires place { length list.old.items < queues.old.places }
     ensures items { list.new.items ≡ list.old.items ++ register ∷ [] }
-    ensures listed { IsListed list.new.items waiting.new.keys waiting.new.places }
+    ensures listed { IsListed list.new.items queues.new }
     ensures capacity { vec_capacity list.new ≡ vec_capacity list.old }
-    ensures places { waiting.old.places ≤ waiting.new.places }
+    ensures places { queues.old.places ≤ queues.new.places }
 {
-    let key = waiting_key(&register);
+    let keys = keys_of(&register);
     list.push_reserved(register);
-    waiting.exchange(None, key);
+    queues.exchange(no_keys(), keys);
 }
 
 impl RegisterList {
@@ -158,7 +143,7 @@ impl RegisterList {
     {
         RegisterList {
             list: Vec::new(alloc),
-            waiting: AgeQueue::new(alloc),
+            queues: CallQueues::new(alloc),
         }
     }
 
@@ -196,7 +181,16 @@ impl RegisterList {
         ensures waiting { AreWaiting dest.now self.now.list result.now }
         ensures numbered { IsNumbered self.now.list }
     {
-        self.waiting.of_code(text_key(dest.text()))
+        self.queues.waiting(dest)
+    }
+
+    /// The keys of the calls of which an answer is to be fetched, from services whose names have the key of this name, the
+    /// oldest first.
+    pub(crate) fn fetched(&self, dest: &Name) -> &[AgeKey]
+        ensures fetched { AreFetched dest.now self.now.list result.now }
+        ensures numbered { IsNumbered self.now.list }
+    {
+        self.queues.fetched(dest)
     }
 
     /// Changes the register of a number that is there.
@@ -206,7 +200,7 @@ impl RegisterList {
         ensures len { length self.new.list ≡ length self.old.list }
         ensures places { self.old.places ≤ self.new.places }
     {
-        change_in(&mut self.list, &mut self.waiting, number, change);
+        change_in(&mut self.list, &mut self.queues, number, change);
     }
 
     /// A register stands in place of the one of its number, where there is one.
@@ -215,7 +209,7 @@ impl RegisterList {
         ensures len { length self.new.list ≡ length self.old.list }
         ensures places { self.old.places ≤ self.new.places }
     {
-        put_in(&mut self.list, &mut self.waiting, register);
+        put_in(&mut self.list, &mut self.queues, register);
     }
 
     /// Puts a register last, which has the number that comes next, and for which there has to be a place.
@@ -225,7 +219,7 @@ impl RegisterList {
         ensures list { self.new.list ≡ self.old.list ++ register ∷ [] }
         ensures places { self.old.places ≤ self.new.places }
     {
-        push_in(&mut self.list, &mut self.waiting, register);
+        push_in(&mut self.list, &mut self.queues, register);
     }
 
     /// Makes places for so many registers more. Refused, the registers stay.
@@ -235,7 +229,7 @@ impl RegisterList {
         ensures ok { OnOk result (length self.new.list + more ≤ self.new.places) }
     {
         self.list.reserve(more)?;
-        self.waiting.make_places(self.list.capacity())
+        self.queues.make_places(self.list.capacity())
     }
 
     /// Equal registers; nothing is said of places for more.
@@ -243,8 +237,8 @@ impl RegisterList {
         ensures list { IfOk result (λ copy. copy.list ≡ self.now.list) }
         ensures places { IfOk result (λ copy. length copy.list ≤ copy.places) }
     {
-        let waiting = self.waiting.copied(alloc, self.list.len())?;
+        let queues = self.queues.copied(alloc, self.list.len())?;
         let list = copied_items(alloc, &self.list)?;
-        Ok(RegisterList { list, waiting })
+        Ok(RegisterList { list, queues })
     }
 }

@@ -1,9 +1,9 @@
 // The registers of a service.
 ghost use Rattle.std.specs.Prelude.{◌≡◌, ◌+◌, ◌≤◌, [], ◌++◌, Some, length, IfOk, OnOk, OnErr, vec_len};
 ghost use Rattle.std.specs.Option.{option_copied};
-ghost use Rattle.call_registers.specs.Registers.{register, IsThere, IsNumbered, consumed, answer_to, next_number, with_call, at_number, sent_anew, with_ack, with_answer, with_cause, with_hold, released, changed};
+ghost use Rattle.call_registers.specs.Registers.{register, IsThere, IsNumbered, consumed, answer_to, next_number, with_call, at_number, sent_anew, with_ack, with_answer, with_note, with_cause, with_hold, released, changed};
 ghost use Rattle.call_registers.specs.Overlays.{overlaid, put_all, numbered_from};
-ghost use Rattle.call_registers.specs.Waiting.{AreWaiting};
+ghost use Rattle.call_registers.specs.Waiting.{AreFetched, AreWaiting};
 ghost use Rattle.call_registers.specs.declared.register.RegisterChange.{RegisterChange};
 
 use crate::changes::RegisterChanges;
@@ -16,7 +16,8 @@ use std::alloc::Global;
 use std::marker::Model;
 
 /// The registers of a service, in the order of their numbers, which are 1, 2, 3 and so on, with spare room for more. Of those
-/// whose last version isn't acknowledged it keeps the order by receiver and age.
+/// whose last version isn't acknowledged, and of those of which an answer is to be fetched, it keeps the order by receiver and
+/// age.
 pub struct Registers {
     list: RegisterList,
     // Nothing that contracts see.
@@ -109,6 +110,15 @@ impl Registers {
         self.list.waiting(dest)
     }
 
+    /// The keys of the calls of which an answer is to be fetched from this service, the oldest first, found by halves. Those to
+    /// another service are among them where the names of both have one key.
+    pub fn fetched(&self, dest: &Name) -> &[AgeKey]
+        ensures fetched { AreFetched dest.now self.now.list result.now }
+        ensures numbered { IsNumbered self.now.list }
+    {
+        self.list.fetched(dest)
+    }
+
     /// The answer that a call consumes: the one that is held, where it answers the call's version. None is the tentative
     /// answer.
     pub fn consumed(&self, number: u64) -> Option<&Response>
@@ -177,6 +187,23 @@ impl Registers {
         ensures { self.new.list ≡ at_number number (with_answer answer) self.old.list }
     {
         self.change(number, RegisterChange::SeeAnswer(answer));
+    }
+
+    /// Notes that a token for this user announced an answer of this version to a call that is there, that this rule allowed it,
+    /// and that it stands at this index of the journal.
+    pub fn note(&mut self, number: u64, answer_version: u64, who: Text, rule: u32, since: u64)
+        requires { IsThere number self.old.list }
+        ensures { self.new.list ≡ at_number number (with_note answer_version who rule since) self.old.list }
+    {
+        self.change(
+            number,
+            RegisterChange::Note {
+                answer_version,
+                who,
+                rule,
+                since,
+            },
+        );
     }
 
     /// The post of a call that is there was refused: it isn't sent before it is released or has a new version.

@@ -2,21 +2,34 @@ use Rattle.std.proofs.Common.{arith}
 use Rattle.std.proofs.lemmas.List.{length-set}
 use Rattle.call_registers.proofs.OverlayLemmas.{numbered_put, put_none, put_set}
 use Rattle.call_registers.proofs.QueueLemmas.{key_room, key_there, replaced}
-use Rattle.call_registers.specs.Waiting.{waiting_key}
+use Rattle.call_registers.specs.Waiting.{fetch_key, waiting_key}
 use Rattle.call_registers.proofs.register_list.put_in.Goals as goal
 
-pub exchange-requires-clause-there : goal.exchange-requires-clause-there
-exchange-requires-clause-there c =
+pub exchange-requires-clause-there_waiting : goal.exchange-requires-clause-there_waiting
+exchange-requires-clause-there_waiting c =
     let within = rw c.deref-then-is_there.ensures.value at c.place_of-place.ensures.within in
-    rw c.waiting_key-before.ensures
-    (key_there waiting_key c.args.list.now.items c.args.waiting.now.keys c.requires.queued c.place_of-place.result c.index.result.now within c.index.ensures)
+    rw c.keys_of-before.ensures.waiting
+    (key_there waiting_key c.args.list.now.items c.args.queues.now.waiting c.requires.waiting c.place_of-place.result c.index.result.now within c.index.ensures)
 
-pub exchange-requires-clause-room : goal.exchange-requires-clause-room
-exchange-requires-clause-room c =
+pub exchange-requires-clause-there_fetched : goal.exchange-requires-clause-there_fetched
+exchange-requires-clause-there_fetched c =
     let within = rw c.deref-then-is_there.ensures.value at c.place_of-place.ensures.within in
-    let room = key_room waiting_key c.args.list.now.items c.args.waiting.now.keys c.requires.queued c.place_of-place.result c.index.result.now within c.index.ensures c.args.register in
+    rw c.keys_of-before.ensures.fetched
+    (key_there fetch_key c.args.list.now.items c.args.queues.now.fetched c.requires.fetched c.place_of-place.result c.index.result.now within c.index.ensures)
+
+pub exchange-requires-clause-room_waiting : goal.exchange-requires-clause-room_waiting
+exchange-requires-clause-room_waiting c =
+    let within = rw c.deref-then-is_there.ensures.value at c.place_of-place.ensures.within in
+    let room = key_room waiting_key c.args.list.now.items c.args.queues.now.waiting c.requires.waiting c.place_of-place.result c.index.result.now within c.index.ensures c.args.register in
     let fits = c.requires.fits in
-    rw (c.waiting_key-before.ensures, c.waiting_key-after.ensures) (omega arith)
+    rw (c.keys_of-before.ensures.waiting, c.keys_of-after.ensures.waiting) (omega arith)
+
+pub exchange-requires-clause-room_fetched : goal.exchange-requires-clause-room_fetched
+exchange-requires-clause-room_fetched c =
+    let within = rw c.deref-then-is_there.ensures.value at c.place_of-place.ensures.within in
+    let room = key_room fetch_key c.args.list.now.items c.args.queues.now.fetched c.requires.fetched c.place_of-place.result c.index.result.now within c.index.ensures c.args.register in
+    let fits = c.requires.fits in
+    rw (c.keys_of-before.ensures.fetched, c.keys_of-after.ensures.fetched) (omega arith)
 
 pub returns-then-is_there-clause-items : goal.returns-then-is_there-clause-items
 returns-then-is_there-clause-items c =
@@ -27,11 +40,13 @@ returns-then-is_there-clause-listed c =
     let items = c.args.list.now.items in
     let place = c.place_of-place.result in
     let within = rw c.deref-then-is_there.ensures.value at c.place_of-place.ensures.within in
-    let exchanged = rw (c.waiting_key-before.ensures, c.waiting_key-after.ensures) at c.exchange.ensures.keys in
+    let waited = rw (c.keys_of-before.ensures.waiting, c.keys_of-after.ensures.waiting) at c.exchange.ensures.waiting in
+    let fetched = rw (c.keys_of-before.ensures.fetched, c.keys_of-after.ensures.fetched) at c.exchange.ensures.fetched in
     let same = length-set items place c.args.register in
     record {
       numbered = numbered_put items place c.args.register c.requires.numbered c.place_of-place.ensures.place;
-      queued = replaced waiting_key items c.args.waiting.now.keys c.requires.queued place c.index.result.now within c.index.ensures c.args.register c.exchange.new.self.keys exchanged;
+      waiting = replaced waiting_key items c.args.queues.now.waiting c.requires.waiting place c.index.result.now within c.index.ensures c.args.register c.exchange.new.self.waiting waited;
+      fetched = replaced fetch_key items c.args.queues.now.fetched c.requires.fetched place c.index.result.now within c.index.ensures c.args.register c.exchange.new.self.fetched fetched;
       fits = omega (arith, same, c.requires.fits, c.exchange.ensures.places);
     }
 
