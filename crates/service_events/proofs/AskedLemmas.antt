@@ -5,8 +5,8 @@ use Rattle.lang_core.specs.declared.ids.Origin.TheVariants.{Call}
 use Rattle.lang_core.specs.declared.inputs.Inputs.{Inputs}
 use Rattle.lang_core.specs.declared.request.Request.{Request}
 use Rattle.request_log.specs.Entries.{find_call}
-use Rattle.repair_messages.specs.declared.messages.AnswerMessage.{AnswerMessage}
 use Rattle.repair_messages.specs.declared.messages.SetMessage.{SetMessage}
+use Rattle.repair_messages.specs.declared.messages.TokenMessage.{TokenMessage}
 use Rattle.repair_messages.specs.declared.posts.Post.{Post}
 use Rattle.journal_rows.specs.Words.{last_taken}
 use Rattle.call_registers.specs.declared.register.Register.{Register}
@@ -29,8 +29,8 @@ pub take_either : (s : Kept) (set : SetMessage) (i : Inputs) (P : After (Result 
 take_either s set i P denied allowed =
     cond_both (is_denied (take_decision s set)) (take_denied s set) (take_allowed s set i) P (λ _. denied) (λ _. allowed)
 
--- of an answer
-pub hear_either : (s : Kept) (a : AnswerMessage) (r : Register) (P : After (Result Heard AnswerRefused) → Type 0) → P (hear_denied s a r) → P (hear_allowed s a r) → P (hear_new s a r)
+-- of a token
+pub hear_either : (s : Kept) (a : TokenMessage) (r : Register) (P : After (Result Heard AnswerRefused) → Type 0) → P (hear_denied s a r) → P (hear_allowed s a r) → P (hear_new s a r)
 hear_either s a r P denied allowed =
     cond_both (is_denied (hear_decision s a r)) (hear_denied s a r) (hear_allowed s a r) P (λ _. denied) (λ _. allowed)
 

@@ -12,7 +12,7 @@ use Rattle.service_events.specs.Calls.{noted}
 use Rattle.service_events.specs.Fits.{EachAfter, FitsSent, FitsSeen, FitsPlaces, FitsFlights, OrdersOn, Fits, SendsOn, call_in, places, calls_of_entry, calls_of_flight}
 use Rattle.service_events.proofs.CallRowLemmas.{Each, EachAfter-append, EachAfter-behind, kind_follows, IsUnseen, IsUnordered}
 use Rattle.service_events.proofs.SentLemmas.{IsAside, fits_aside}
-use Rattle.service_events.proofs.SeenLemmas.{seen_unseen, seen_aside}
+use Rattle.service_events.proofs.SeenLemmas.{LeavesSeen, seen_unseen, seen_aside}
 use Rattle.service_events.proofs.PlaceLemmas.{places_aside}
 use Rattle.service_events.proofs.FittingLemmas.{Book, entered, HasRoom, Fitting}
 
@@ -90,7 +90,7 @@ noted_calls s es fs ps rows few unseen unordered f fits flights = record {
 
 pub record IsMinor (f : Register → Register) : Type 0 where
   pub aside : IsAside f
-  pub seen : (r : Register) → ((f r).acked ≡ r.acked) × ((f r).answer ≡ r.answer)
+  pub seen : LeavesSeen f
   pub wants : (r : Register) → call_in (Some (f r)) ≡ call_in (Some r)
 
 abbrev pub at_register : ℕ → (Register → Register) → Kept → Kept

@@ -3,7 +3,7 @@ use Rattle.std.proofs.Common.{◌≡◌, List, [], ◌∷◌, ◌++◌, All, fol
 use Rattle.std.proofs.lemmas.List.Elements.{All-nil, All-cons, All-head, All-tail}
 use Rattle.std.proofs.lemmas.List.Sums.{fold-append}
 use Rattle.journal_rows.specs.declared.row.Row.{Row}
-use Rattle.journal_rows.specs.declared.row.Row.TheVariants.{Took, Sent, SawAck, SawAnswer, Confirmed, Ordered}
+use Rattle.journal_rows.specs.declared.row.Row.TheVariants.{Took, Sent, SawAck, Noted, SawAnswer, Confirmed, Ordered}
 use Rattle.service_events.specs.Fits.{EachAfter}
 
 -- ---- each of a list
@@ -110,6 +110,7 @@ IsUnsent row = Unit {0}
 -- it tells nothing that was seen of own calls
 abbrev pub IsUnseen : Row → Type 0
 IsUnseen (SawAck a) = ⊥
+IsUnseen (Noted n) = ⊥
 IsUnseen (SawAnswer a) = ⊥
 IsUnseen (Confirmed c) = ⊥
 IsUnseen row = Unit {0}
@@ -128,6 +129,7 @@ IsUnordered row = Unit {0}
 abbrev pub IsPlain : Row → Type 0
 IsPlain (Sent s) = ⊥
 IsPlain (SawAck a) = ⊥
+IsPlain (Noted n) = ⊥
 IsPlain (SawAnswer a) = ⊥
 IsPlain row = Unit {0}
 

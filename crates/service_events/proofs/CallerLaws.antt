@@ -12,7 +12,7 @@ use Rattle.journal_rows.specs.Words.{asked_step, count_step, taken_step, last_ta
 use Rattle.journal_rows.specs.declared.callee.AskedRow.{AskedRow}
 use Rattle.journal_rows.specs.declared.callee.TookRow.{TookRow}
 use Rattle.journal_rows.specs.declared.row.Row.{Row}
-use Rattle.journal_rows.specs.declared.row.Row.TheVariants.{Sent, SawAck, SawAnswer, Confirmed}
+use Rattle.journal_rows.specs.declared.row.Row.TheVariants.{Sent, SawAck, Noted, SawAnswer, Confirmed}
 use Rattle.call_registers.specs.declared.reply.Reply.{Reply}
 use Rattle.service_events.specs.Fits.{EachAfter, TakesOn, AsksOn, AnswersOn, ConfirmsOn, takes_request}
 use Rattle.service_events.specs.State.{same_call_origin}
@@ -26,6 +26,7 @@ use Rattle.service_events.proofs.SearchLemmas.{none_first, or_none}
 abbrev pub IsCallerRow : Row → Type 0
 IsCallerRow (Sent s) = Unit {0}
 IsCallerRow (SawAck a) = Unit {0}
+IsCallerRow (Noted t) = Unit {0}
 IsCallerRow (SawAnswer a) = Unit {0}
 IsCallerRow (Confirmed c) = Unit {0}
 IsCallerRow row = ⊥
@@ -41,6 +42,7 @@ each_weaker P Q w (x ∷ xs) h = (w x h.0, each_weaker P Q w xs h.1)
 caller_of : (id : ℕ) (o : Origin) (row : Row) → IsCallerRow row → IsOf id o row
 caller_of id o (Sent s) h = tt
 caller_of id o (SawAck a) h = tt
+caller_of id o (Noted t) h = tt
 caller_of id o (SawAnswer a) h = tt
 caller_of id o (Confirmed c) h = tt
 caller_of id o row h = absurd h
@@ -48,6 +50,7 @@ caller_of id o row h = absurd h
 made_caller : (id : ℕ) (first : Option AskedRow) (row : Row) → IsCallerRow row → asked_step id first row ≡ first
 made_caller id first (Sent s) h = refl
 made_caller id first (SawAck a) h = refl
+made_caller id first (Noted t) h = refl
 made_caller id first (SawAnswer a) h = refl
 made_caller id first (Confirmed c) h = refl
 made_caller id first row h = absurd h
@@ -55,6 +58,7 @@ made_caller id first row h = absurd h
 count_caller : (many : ℕ) (row : Row) → IsCallerRow row → count_step many row ≡ many
 count_caller many (Sent s) h = refl
 count_caller many (SawAck a) h = refl
+count_caller many (Noted t) h = refl
 count_caller many (SawAnswer a) h = refl
 count_caller many (Confirmed c) h = refl
 count_caller many row h = absurd h
@@ -62,6 +66,7 @@ count_caller many row h = absurd h
 taken_caller : (c : List ℕ) (n : ℕ) (last : Option TookRow) (row : Row) → IsCallerRow row → taken_step c n last row ≡ last
 taken_caller c n last (Sent s) h = refl
 taken_caller c n last (SawAck a) h = refl
+taken_caller c n last (Noted t) h = refl
 taken_caller c n last (SawAnswer a) h = refl
 taken_caller c n last (Confirmed r) h = refl
 taken_caller c n last row h = absurd h
@@ -69,6 +74,7 @@ taken_caller c n last row h = absurd h
 takes_caller : (c : List ℕ) (n : ℕ) (row : Row) → IsCallerRow row → takes_request c n row ≡ false
 takes_caller c n (Sent s) h = refl
 takes_caller c n (SawAck a) h = refl
+takes_caller c n (Noted t) h = refl
 takes_caller c n (SawAnswer a) h = refl
 takes_caller c n (Confirmed r) h = refl
 takes_caller c n row h = absurd h
@@ -85,6 +91,7 @@ each_after Follows may (row ∷ rows) before h = (may before row h.0, each_after
 takes_on : (before : List Row) (row : Row) → IsCallerRow row → TakesOn before row
 takes_on before (Sent s) h = tt
 takes_on before (SawAck a) h = tt
+takes_on before (Noted t) h = tt
 takes_on before (SawAnswer a) h = tt
 takes_on before (Confirmed c) h = tt
 takes_on before row h = absurd h
@@ -92,6 +99,7 @@ takes_on before row h = absurd h
 asks_on : (before : List Row) (row : Row) → IsCallerRow row → AsksOn before row
 asks_on before (Sent s) h = tt
 asks_on before (SawAck a) h = tt
+asks_on before (Noted t) h = tt
 asks_on before (SawAnswer a) h = tt
 asks_on before (Confirmed c) h = tt
 asks_on before row h = absurd h
@@ -99,6 +107,7 @@ asks_on before row h = absurd h
 answers_on : (before : List Row) (row : Row) → IsCallerRow row → AnswersOn before row
 answers_on before (Sent s) h = tt
 answers_on before (SawAck a) h = tt
+answers_on before (Noted t) h = tt
 answers_on before (SawAnswer a) h = tt
 answers_on before (Confirmed c) h = tt
 answers_on before row h = absurd h
@@ -106,6 +115,7 @@ answers_on before row h = absurd h
 confirms_on : (before : List Row) (row : Row) → IsCallerRow row → ConfirmsOn before row
 confirms_on before (Sent s) h = tt
 confirms_on before (SawAck a) h = tt
+confirms_on before (Noted t) h = tt
 confirms_on before (SawAnswer a) h = tt
 confirms_on before (Confirmed c) h = tt
 confirms_on before row h = absurd h

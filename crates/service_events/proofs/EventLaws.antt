@@ -16,12 +16,12 @@ use Rattle.service_events.proofs.CallLaws.{FitsCalls, Goes, IsFew, calls_of_fits
 use Rattle.service_events.proofs.LiveCallLaws.{arrives_goes, outside_apart, call_goes, answered_goes, failed_goes, abandoned_goes}
 use Rattle.service_events.proofs.LiveEntryLaws.{LeavesLogged, arrives_logged, unless_gone_logged, answered_logged, failed_logged, abandoned_logged}
 use Rattle.service_events.proofs.LiveRuns.{admitted_runs, call_runs, answered_runs, failed_runs, abandoned_runs}
-use Rattle.service_events.proofs.MessageLaws.{take_by_goes, answer_taken_where_goes, posted_goes}
+use Rattle.service_events.proofs.MessageLaws.{take_by_goes, token_taken_where_goes, posted_goes}
 use Rattle.service_events.proofs.OrderLaw.{order_where_logged}
 use Rattle.service_events.proofs.OrderLaws.{order_where_goes}
 use Rattle.service_events.proofs.PartLemmas.{IsLogged, logged}
-use Rattle.service_events.proofs.PostedLaw.{answer_taken_where_logged, posted_logged_by}
-use Rattle.service_events.proofs.RepairRuns.{LeavesRuns, step_by_runs, take_admitted_runs, answer_taken_where_runs, posted_by_runs, order_where_runs}
+use Rattle.service_events.proofs.PostedLaw.{token_taken_where_logged, posted_logged_by}
+use Rattle.service_events.proofs.RepairRuns.{LeavesRuns, step_by_runs, take_admitted_runs, token_taken_where_runs, posted_by_runs, order_where_runs}
 use Rattle.service_events.proofs.StepLaw.{step_by_logged}
 use Rattle.service_events.proofs.StepLaws.{step_by_goes}
 use Rattle.service_events.proofs.TakeLaw.{take_admitted_logged}
@@ -42,7 +42,8 @@ goes_where_fits s events.Step f = f
 goes_where_fits s (events.CallAnswered id a) f = tt
 goes_where_fits s (events.CallFailed id number why) f = tt
 goes_where_fits s (events.Abandon id) f = tt
-goes_where_fits s (events.TakeAnswer a) f = tt
+goes_where_fits s (events.TakeToken t) f = tt
+goes_where_fits s (events.Give x) f = tt
 goes_where_fits s (events.NextPost dest) f = tt
 goes_where_fits s (events.WritePost name) f = tt
 goes_where_fits s (events.Posted post reply) f = tt
@@ -56,7 +57,8 @@ event_goes s (events.CallAnswered id a) _ = answered_goes s id a (flight_of id s
 event_goes s (events.CallFailed id number why) _ = failed_goes s id number why (flight_of id s) refl
 event_goes s (events.Abandon id) _ = abandoned_goes s id (flight_of id s) refl
 event_goes s (events.Take set i) f = take_by_goes s set i (is_in_flight (origin_of set) s) f.asked.distinct refl
-event_goes s (events.TakeAnswer a) _ = answer_taken_where_goes s a (register a.number s.registers) refl
+event_goes s (events.TakeToken t) _ = token_taken_where_goes s t (register t.number s.registers) refl
+event_goes s (events.Give f) _ = goes_same s
 event_goes s (events.NextPost dest) _ = goes_same s
 event_goes s (events.WritePost name) _ = goes_same s
 event_goes s (events.Posted post reply) _ = posted_either s post reply (λ a. Goes s a.service) (goes_same s) (posted_goes s post reply)
@@ -74,7 +76,8 @@ event_logged s (events.CallAnswered id a) l flights few = answered_logged s l fl
 event_logged s (events.CallFailed id number why) l flights few = failed_logged s l flights id number why (flight_of id s) refl
 event_logged s (events.Abandon id) l flights few = abandoned_logged s l (flight_of id s)
 event_logged s (events.Take set i) l flights few = takes_either s set i LeavesLogged l (take_admitted_logged s l set i (is_too_much s set))
-event_logged s (events.TakeAnswer a) l flights few = answer_taken_where_logged s l a (register a.number s.registers)
+event_logged s (events.TakeToken t) l flights few = token_taken_where_logged s l t (register t.number s.registers)
+event_logged s (events.Give f) l flights few = l
 event_logged s (events.NextPost dest) l flights few = l
 event_logged s (events.WritePost name) l flights few = l
 event_logged s (events.Posted post reply) l flights few = posted_either s post reply LeavesLogged l (posted_logged_by s l post reply)
@@ -90,7 +93,8 @@ event_runs s (events.CallAnswered id a) f = answered_runs s f id a (flight_of id
 event_runs s (events.CallFailed id number why) f = failed_runs s f id number why (flight_of id s) refl
 event_runs s (events.Abandon id) f = abandoned_runs s f (flight_of id s)
 event_runs s (events.Take set i) f = takes_either s set i LeavesRuns f.runs (take_admitted_runs s f.runs set i (is_too_much s set))
-event_runs s (events.TakeAnswer a) f = answer_taken_where_runs s f.runs a (register a.number s.registers)
+event_runs s (events.TakeToken t) f = token_taken_where_runs s f.runs t (register t.number s.registers)
+event_runs s (events.Give x) f = f.runs
 event_runs s (events.NextPost dest) f = f.runs
 event_runs s (events.WritePost name) f = f.runs
 event_runs s (events.Posted post reply) f = posted_either s post reply LeavesRuns f.runs (λ _ _. posted_by_runs s f.runs post reply)

@@ -9,7 +9,7 @@ use Rattle.lang_core.specs.declared.trace.CallMade.{CallMade}
 use Rattle.journal_rows.specs.Words.{last_sent, named}
 use Rattle.journal_rows.specs.declared.caller.SentRow.{SentRow}
 use Rattle.journal_rows.specs.declared.row.Row.{Row}
-use Rattle.journal_rows.specs.declared.row.Row.TheVariants.{Sent, SawAck, SawAnswer}
+use Rattle.journal_rows.specs.declared.row.Row.TheVariants.{Sent, SawAck, Noted, SawAnswer}
 use Rattle.call_registers.specs.Changes.{raised}
 use Rattle.call_registers.specs.Registers.{register, next_number, answer_to, consumed_in, IsTimely}
 use Rattle.call_registers.specs.declared.register.Register.{Register}
@@ -76,6 +76,7 @@ plain_sends before row h = tt
 plain_row : (at : ℕ) (now : List Register) (row : Row) → IsPlain row → after_row at now row ≡ now
 plain_row at now (Sent s) h = absurd h
 plain_row at now (SawAck a) h = absurd h
+plain_row at now (Noted n) h = absurd h
 plain_row at now (SawAnswer a) h = absurd h
 plain_row at now row h = refl
 

@@ -219,7 +219,7 @@ goes_changed s f k c within =
 -- ---- a call that isn't sent
 
 pub minor_cause : (why : Why) → IsMinor (with_cause why)
-minor_cause why = record { aside = record { number = λ r. refl; sent = λ r. refl }; seen = λ r. (refl, refl); wants = λ r. refl }
+minor_cause why = record { aside = record { number = λ r. refl; sent = λ r. refl }; seen = λ r. (refl, refl, refl); wants = λ r. refl }
 
 pub goes_untold : (s : Kept) (n : ℕ) (why : Why) → Goes s (at_register n (with_cause why) s)
 goes_untold s n why = record { grows = record { rows = []; is = sym (append-nil s.journal); setting = refl }; keeps = λ few h. register_calls s n (with_cause why) (minor_cause why) h }

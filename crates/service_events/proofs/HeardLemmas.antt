@@ -3,19 +3,22 @@ use Rattle.std.proofs.Common.{◌≡◌, ℕ, ◌+◌, ◌^◌, ◌<◌, ◌≤�
 use Rattle.std.proofs.lemmas.Bool.{cases_Bool}
 use Rattle.std.specs.List.{list_any}
 use Rattle.std.proofs.lemmas.List.Sums.{fold_push, fold-append}
-use Rattle.journal_rows.specs.Words.{sent_step, last_sent, seen_acked, seen_step, last_seen, seen_version, claim_step, claimed}
+use Rattle.journal_rows.specs.Words.{sent_step, last_sent, seen_acked, seen_step, last_seen, seen_version, claim_step, claimed, noting_step, last_noted, noted_version, confirm_step, confirmed_version}
 use Rattle.journal_rows.specs.declared.caller.AckHow.TheVariants.{WithAnswer}
 use Rattle.journal_rows.specs.declared.caller.SawAnswerRow.{SawAnswerRow}
+use Rattle.journal_rows.specs.declared.caller.SawHow.{SawHow}
+use Rattle.journal_rows.specs.declared.caller.SawHow.TheVariants.{Live as SeenLive}
 use Rattle.journal_rows.specs.declared.row.Row.{Row}
-use Rattle.journal_rows.specs.declared.row.Row.TheVariants.{Sent, SawAck, SawAnswer}
-use Rattle.call_registers.specs.Registers.{register, with_ack, with_answer, is_newer}
+use Rattle.journal_rows.specs.declared.row.Row.TheVariants.{Sent, SawAck, Noted, SawAnswer}
+use Rattle.call_registers.specs.Registers.{register, with_ack, with_answer, with_note, is_newer}
 use Rattle.call_registers.specs.declared.register.Answer.{Answer}
 use Rattle.call_registers.specs.declared.register.Register.{Register}
 use Rattle.service_events.specs.State.{Kept}
 use Rattle.service_events.specs.Calls.{noted, seen_answer, after_row, after_rows}
-use Rattle.service_events.specs.Fits.{EachAfter, SendsOn, sent_by, SeesOn, HasSeen, tells_of_answer, NumberedCalls, call_in, FitsPlaces, places}
+use Rattle.service_events.specs.Fits.{EachAfter, SendsOn, sent_by, SeesOn, ComesBy, HasNoted, HasSeen, tells_of_answer, NumberedCalls, call_in, FitsPlaces, places}
 use Rattle.service_events.proofs.CallRowLemmas.{Each, kind_follows, IsUnsent, IsUntaken, IsUnordered}
-use Rattle.service_events.proofs.SentLemmas.{fits_rows, ack_aside, answer_aside}
+use Rattle.service_events.proofs.NoteLemmas.{told_more}
+use Rattle.service_events.proofs.SentLemmas.{fits_rows, ack_aside, answer_aside, note_aside}
 use Rattle.service_events.proofs.SeenLemmas.{sees_rows, answered_more}
 use Rattle.service_events.proofs.PlaceLemmas.{places_aside}
 use Rattle.service_events.proofs.FlightLemmas.{flies_from, flies_fit, flies_rows}
@@ -39,6 +42,8 @@ answer_wants a r = elim (cases_Bool (is_newer r.answer a.answer_version)) [
 places_row : (at : ℕ) (now : List Register) (row : Row) (ps : List NumberedCalls) → IsUnsent row → FitsPlaces now ps → FitsPlaces (after_row at now row) ps
 places_row at now (Sent s) ps h f = absurd h
 places_row at now (SawAck a) ps h f = places_aside now a.number (with_ack a.version) ps (ack_aside a.version).number (λ r. refl) f
+places_row at now (Noted t) ps h f =
+    places_aside now t.number (with_note t.answer_version t.who t.rule at) ps (note_aside t.answer_version t.who t.rule at).number (λ r. refl) f
 places_row at now (SawAnswer a) ps h f =
     places_aside now a.number (with_answer (seen_answer a)) ps (answer_aside (seen_answer a)).number (answer_wants (seen_answer a)) f
 places_row at now row ps h f = f
@@ -52,6 +57,8 @@ abbrev pub HeardAfter : List Row → ℕ → List Row → Type 0
 HeardAfter journal n rows =
     (list_any (tells_of_answer n) rows ≡ true → IsSome (fold (seen_step n) (last_seen n journal) rows))
     × (fold (claim_step n) (claimed n journal) rows ≤ seen_version (fold (seen_step n) (last_seen n journal) rows))
+    × (fold (confirm_step n) (confirmed_version n journal) rows
+    ≤ max (seen_version (fold (seen_step n) (last_seen n journal) rows)) (noted_version (fold (noting_step n) (last_noted n journal) rows)))
 
 pub false_is_not_true : false ≡ true → ⊥
 false_is_not_true h = cc
@@ -73,6 +80,7 @@ goes_heard s rows unsent untaken unordered sees heard = record {
           registers = seen.registers;
           answered = λ n. answered_more s.journal rows n (f.seen.answered n) (heard f n).0;
           heard = λ n. rw (fold-append (claim_step n) 0 s.journal rows, fold-append (seen_step n) None s.journal rows) (heard f n).1;
+          told = λ n. rw (fold-append (confirm_step n) 0 s.journal rows, fold-append (seen_step n) None s.journal rows, fold-append (noting_step n) None s.journal rows) (heard f n).2;
         };
         places = places_rows (length s.journal) s.registers rows (places s) unsent f.places;
         flights = flies_fit (s.journal ++ rows) s.flights (flies_rows s.journal rows s.flights untaken (flies_from s.journal s.flights f.flights));
@@ -86,13 +94,15 @@ goes_heard s rows unsent untaken unordered sees heard = record {
 pub record Known (s : Kept) (n : ℕ) (r : Register) : Type 0 where
   pub sent : IsSome (last_sent n s.journal)
   pub answer : r.answer ≡ option_map seen_answer (last_seen n s.journal)
+  pub noted : HasNoted (last_noted n s.journal) r
 
 pub known : (s : Kept) (n : ℕ) (r : Register) → register n s.registers ≡ Some r → FitsCalls s → Known s n r
 known s n r found f =
-    let P : Option Register → Type 0 = λ o. IfSome o (HasSeen (seen_acked n s.journal) (option_map seen_answer (last_seen n s.journal))) in
+    let P : Option Register → Type 0 = λ o. IfSome o (HasSeen (seen_acked n s.journal) (option_map seen_answer (last_seen n s.journal)) (last_noted n s.journal)) in
     record {
       sent = subst IsSome (sym (ap (option_map sent_by) found) ∙ f.sent.registers n) refl;
       answer = (subst P found (f.seen.registers n)).answer;
+      noted = (subst P found (f.seen.registers n)).noted;
     }
 
 pub older_by : (o : Option Answer) (v : ℕ) (last : Option SawAnswerRow) → o ≡ option_map seen_answer last → is_newer o v ≡ true
@@ -128,9 +138,9 @@ claims_below c v (Some l) h new = omega (arith, h, new)
 
 -- ---- a live answer
 
-pub live_new : (s : Kept) (n v version : ℕ) (a : SawAnswerRow) (r : Register) → a.number ≡ n → a.answer_version ≡ v → register n s.registers ≡ Some r
+pub live_new : (s : Kept) (n v version : ℕ) (a : SawAnswerRow) (r : Register) → a.number ≡ n → a.answer_version ≡ v → a.how ≡ SeenLive → register n s.registers ≡ Some r
     → is_newer r.answer v ≡ true → Goes s (noted (SawAck (record { number = n; version = version; how = WithAnswer v }) ∷ (SawAnswer a ∷ [])) s)
-live_new s n v version a r an av found new =
+live_new s n v version a r an av live found new =
     let ack : Row = SawAck (record { number = n; version = version; how = WithAnswer v }) in
     goes_heard s (ack ∷ (SawAnswer a ∷ [])) (tt, (tt, tt)) (tt, (tt, tt)) (tt, (tt, tt))
     (λ f. (let k = known s n r found f in
@@ -144,6 +154,7 @@ live_new s n v version a r an av found new =
         (
           subst S (sym an) (subst IsSome (sym (fold_push (sent_step n) None s.journal ack)) k.sent),
           subst A (sym an) (subst B (sym av) (subst L (sym (fold_push (seen_step n) None s.journal ack)) older)),
+          (let H : SawHow → Type 0 = λ h. ComesBy h (s.journal ++ ack ∷ []) a in subst H (sym live) tt),
         ),
         tt,
       ),
@@ -153,14 +164,22 @@ live_new s n v version a r an av found new =
           let R : ℕ → Type 0 = λ j. max (claimed j s.journal) v ≤ a.answer_version in
           let below = subst R (eqb-true n m is) (above k f) in
           let also : nat_eq a.number m ≡ true = ap (λ j. nat_eq j m) an ∙ is in
-          rw (is, also) ((λ told. refl), below))
-      | inr differs ↦ (let also : nat_eq a.number m ≡ false = ap (λ j. nat_eq j m) an ∙ differs in rw (differs, also) ((λ told. absurd (false_is_not_true told)), f.seen.heard m))
+          let T : ℕ → Type 0 = λ j. confirmed_version j s.journal ≤ max a.answer_version (noted_version (last_noted j s.journal)) in
+          let told_of = subst T (eqb-true n m is) (under k f) in
+          rw (is, also) ((λ told. refl), below, told_of))
+      | inr differs ↦ (let also : nat_eq a.number m ≡ false = ap (λ j. nat_eq j m) an ∙ differs in rw (differs, also) ((λ told. absurd (false_is_not_true told)), f.seen.heard m, f.seen.told m))
     ])
   where
     above : Known s n r → FitsCalls s → max (claimed n s.journal) v ≤ a.answer_version
     above k f =
         let older = older_by r.answer v (last_seen n s.journal) k.answer new in
         let most = claims_below (claimed n s.journal) v (last_seen n s.journal) (f.seen.heard n) older in
+        omega (arith, most, av)
+
+    under : Known s n r → FitsCalls s → confirmed_version n s.journal ≤ max a.answer_version (noted_version (last_noted n s.journal))
+    under k f =
+        let older = older_by r.answer v (last_seen n s.journal) k.answer new in
+        let most = told_more (confirmed_version n s.journal) v (noted_version (last_noted n s.journal)) (last_seen n s.journal) older (f.seen.told n) in
         omega (arith, most, av)
 
 pub live_old : (s : Kept) (n v version : ℕ) (r : Register) → register n s.registers ≡ Some r → is_newer r.answer v ≡ false
@@ -173,8 +192,8 @@ live_old s n v version r found old =
           let R : ℕ → Type 0 = λ j. max (claimed j s.journal) v ≤ seen_version (last_seen j s.journal) in
           let S : ℕ → Type 0 = λ j. IsSome (last_seen j s.journal) in
           let some = subst S (eqb-true n m is) (seen_by r.answer v (last_seen n s.journal) k.answer old) in
-          rw is ((λ told. some), subst R (eqb-true n m is) (above k f)))
-      | inr differs ↦ rw differs ((λ told. absurd (false_is_not_true told)), f.seen.heard m)
+          rw is ((λ told. some), subst R (eqb-true n m is) (above k f), f.seen.told m))
+      | inr differs ↦ rw differs ((λ told. absurd (false_is_not_true told)), f.seen.heard m, f.seen.told m)
     ])
   where
     above : Known s n r → FitsCalls s → max (claimed n s.journal) v ≤ seen_version (last_seen n s.journal)

@@ -20,7 +20,7 @@ use Rattle.journal_rows.specs.declared.orders.Command.TheVariants.{Cancel, Resto
 use Rattle.journal_rows.specs.declared.orders.OrderedRow.{OrderedRow}
 use Rattle.journal_rows.specs.declared.row.Row.{Row}
 use Rattle.journal_rows.specs.declared.row.Row.TheVariants.{Asked, Took, Ordered}
-use Rattle.repair_messages.specs.declared.posts.PostName.TheVariants.{Call as OfCall, Reply as OfReply}
+use Rattle.repair_messages.specs.declared.posts.PostName.TheVariants.{Call as OfCall, Reply as OfReply, Fetch as OfFetch}
 use Rattle.call_registers.specs.Registers.{register}
 use Rattle.call_registers.specs.declared.register.Register.{Register}
 use Rattle.service_events.specs.Allowed.{known_step, or_else_before, request_known, request_sent, subject_in}
@@ -200,3 +200,4 @@ subject_as_told s f (Replace id method path body) = found_as_told s (logged s f)
 subject_as_told s f (Create before after q) = refl
 subject_as_told s f (Retry (OfCall number)) = sent_as_told s f.sent number
 subject_as_told s f (Retry (OfReply id)) = found_as_told s (logged s f) id
+subject_as_told s f (Retry (OfFetch number)) = refl

@@ -27,6 +27,7 @@ pub mod KnownLaws
 pub mod LiveRuns
 pub mod CallRowLemmas
 pub mod RegisterLemmas
+pub mod NoteLemmas
 pub mod SentLemmas
 pub mod SeenLemmas
 pub mod PlaceLemmas

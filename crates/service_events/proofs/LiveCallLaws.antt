@@ -162,7 +162,7 @@ answered_by s a (Some r) is h = record { made = r; found = is }
 
 answer_taken_by_goes : (s : Kept) (a : AnswerMessage) (r : Register) (b : Bool) → register a.number s.registers ≡ Some r → is_newer r.answer a.answer_version ≡ b
     → Goes s (noted (SawAck (record { number = a.number; version = a.version; how = WithAnswer a.answer_version }) ∷ (if b then seen_live a ∷ [] else [])) s)
-answer_taken_by_goes s a r true found is = live_new s a.number a.answer_version a.version ((record { number = a.number; answer_version = a.answer_version; version = a.version; response = a.response; how = Live; who = a.who; rule = 0 })) r refl refl found is
+answer_taken_by_goes s a r true found is = live_new s a.number a.answer_version a.version ((record { number = a.number; answer_version = a.answer_version; version = a.version; response = a.response; how = Live; who = a.who; rule = 0 })) r refl refl refl found is
 answer_taken_by_goes s a r false found is = live_old s a.number a.answer_version a.version r found is
 
 pub heard_goes : (s : Kept) (a : AnswerMessage) (r : Register) → register a.number s.registers ≡ Some r → Goes s (noted (live_answer_rows s a) s)

@@ -1,5 +1,5 @@
--- Events of repair messages keep what fits of calls: a version is taken, an answer is taken, something comes back of a post.
-use Rattle.std.proofs.Common.{◌≡◌, ℕ, ◌+◌, ◌≤◌, Bool, true, false, not, ◌&&◌, List, [], ◌∷◌, ◌++◌, Option, Some, None, Ok, Err, IsSome, max, map, length, insert, nat_eq, is_some, refl, sym, ap, ◌∙◌, subst, inl, inr, arith, eqb-true, if◌then◌else◌, append-nil}
+-- Events of repair messages keep what fits of calls: a version is taken, a token is taken, something comes back of a post.
+use Rattle.std.proofs.Common.{◌≡◌, ℕ, ◌+◌, ◌<◌, ◌≤◌, Bool, true, false, not, ◌&&◌, List, [], ◌∷◌, ◌++◌, Option, Some, None, Ok, Err, IsSome, IfSome, IsSomeAnd, max, map, length, insert, nat_eq, is_some, refl, sym, ap, ◌∙◌, subst, inl, inr, arith, eqb-true, if◌then◌else◌, append-nil}
 use Rattle.std.proofs.lemmas.Bool.{cases_Bool, and_parts}
 use Rattle.std.proofs.lemmas.List.Sums.{fold_push}
 use Rattle.lang_base.specs.Texts.{same_text}
@@ -12,30 +12,33 @@ use Rattle.request_log.specs.declared.entry.Entry.{Entry}
 use Rattle.repair_messages.specs.declared.messages.Ack.{Ack}
 use Rattle.repair_messages.specs.declared.messages.AnswerMessage.{AnswerMessage}
 use Rattle.repair_messages.specs.declared.messages.SetMessage.{SetMessage}
+use Rattle.repair_messages.specs.declared.messages.TokenMessage.{TokenMessage}
 use Rattle.repair_messages.specs.declared.posts.Post.{Post}
-use Rattle.repair_messages.specs.declared.posts.Post.TheVariants.{Set, Answer}
-use Rattle.journal_rows.specs.Words.{sent_step, last_sent, last_seen, seen_version, claimed, comes_from}
+use Rattle.repair_messages.specs.declared.posts.Post.TheVariants.{Set, Token, Fetch}
+use Rattle.journal_rows.specs.Words.{sent_step, last_sent, last_seen, seen_version, claimed, last_noted, noted_version, noted_at, confirmed_version, comes_from}
 use Rattle.journal_rows.specs.declared.callee.TookRow.{TookRow}
 use Rattle.journal_rows.specs.declared.callee.TookHow.TheVariants.{Message}
+use Rattle.journal_rows.specs.declared.caller.NotedRow.{NotedRow}
 use Rattle.journal_rows.specs.declared.row.Row.{Row}
 use Rattle.journal_rows.specs.declared.row.Row.TheVariants.{Asked, Ordered}
-use Rattle.call_registers.specs.Registers.{register, with_hold, is_newer}
+use Rattle.call_registers.specs.Registers.{register, with_hold, is_news, is_newer}
 use Rattle.call_registers.specs.declared.register.Hold.{Hold}
 use Rattle.call_registers.specs.declared.register.Register.{Register}
 use Rattle.call_registers.specs.Replies.{reply, at_entry, with_taken, made_due}
 use Rattle.flights.specs.declared.flight.Flight.{Flight}
 use Rattle.service_events.specs.State.{Kept, after, me, next_id, is_in_flight, same_call_origin}
 use Rattle.service_events.specs.Calls.{noted}
-use Rattle.service_events.specs.Messages.{take_decision, take_rule, take_new, origin_of, is_known, is_too_much, acked_row, took_row, at_reply_of, acked_again, created_entry, created_reply, created_place, at_version, taken_by, take_admitted, confirmed_row, hear_decision, seen_row, heard, hear_rule, hear_allowed, hear_new, answer_taken_where, had_call, is_ack_of, replies_to, had, is_now, hold_of, held_back, held_where, saw_ack_row, was_confirmed_row, confirmed_reply, posted}
+use Rattle.service_events.specs.Messages.{take_decision, take_rule, take_new, origin_of, is_known, is_too_much, acked_row, took_row, at_reply_of, acked_again, created_entry, created_reply, created_place, at_version, taken_by, take_admitted, confirmed_row, hear_decision, noted_row, heard, hear_rule, hear_allowed, hear_new, token_taken_where, fetched_row, fetched_by, fetched, had_call, is_ack_of, replies_to, had, is_now, hold_of, held_back, held_where, saw_ack_row, was_confirmed_row, confirmed_reply, posted}
 use Rattle.service_events.specs.Questions.{is_denied}
 use Rattle.service_events.specs.declared.answers.PostReply.{PostReply}
-use Rattle.service_events.specs.declared.answers.PostReply.TheVariants.{Acked as WasAcked, Confirmed as WasConfirmedBack, Refused, Lost}
+use Rattle.service_events.specs.declared.answers.PostReply.TheVariants.{Acked as WasAcked, Confirmed as WasConfirmedBack, Given, Refused, Lost}
 use Rattle.service_events.specs.declared.refusals.AnswerRefused.TheVariants.{Unknown}
 use Rattle.service_events.specs.declared.refusals.TakeRefused.TheVariants.{NotYet}
 use Rattle.service_events.specs.Fits.{OrdersOn, calls_of_flight}
 use Rattle.service_events.proofs.CallRowLemmas.{Each, kind_follows, IsPlain, IsUnseen, IsUnordered}
 use Rattle.service_events.proofs.FlightLemmas.{LeavesOrigin, same_flips, any_none, flies_rows, flies_took}
-use Rattle.service_events.proofs.HeardLemmas.{goes_heard, false_is_not_true, seen_by, known, older_by, as_new_by, claims_below}
+use Rattle.service_events.proofs.HeardLemmas.{goes_heard, false_is_not_true, known, older_by, claims_below}
+use Rattle.service_events.proofs.NoteLemmas.{news_above, no_news_below, told_more}
 use Rattle.service_events.proofs.CallLaws.{FitsCalls, Goes, goes_same, goes_then, IsMinor, register_calls}
 use Rattle.service_events.proofs.EntryPlaces.{found_stands, places_insert, places_with}
 use Rattle.service_events.proofs.PlainLaws.{goes_entries, goes_plain}
@@ -115,72 +118,118 @@ pub take_by_goes : (s : Kept) (set : SetMessage) (i : Inputs) (b : Bool) → IsD
 take_by_goes s set i true distinct is = goes_same s
 take_by_goes s set i false distinct is = admitted_goes s set i (is_too_much s set) distinct is
 
--- ---- an answer
+-- ---- a token
 
-heard_new : (s : Kept) (a : AnswerMessage) (r : Register) → register a.number s.registers ≡ Some r → is_newer r.answer a.answer_version ≡ true
-    → Goes s (hear_allowed s a r).service
-heard_new s a r found new =
-    let n = a.number in
-    let v = a.answer_version in
-    goes_heard s (seen_row (hear_rule s a r) a ∷ (confirmed_row a ∷ [])) (tt, (tt, tt)) (tt, (tt, tt)) (tt, (tt, tt))
+heard_new : (s : Kept) (t : TokenMessage) (r : Register) → register t.number s.registers ≡ Some r → is_news r t.answer_version ≡ true
+    → Goes s (hear_allowed s t r).service
+heard_new s t r found new =
+    let n = t.number in
+    let v = t.answer_version in
+    goes_heard s (noted_row (hear_rule s t r) t ∷ (confirmed_row t ∷ [])) (tt, (tt, tt)) (tt, (tt, tt)) (tt, (tt, tt))
     (λ f. (let k = known s n r found f in
-    ((k.sent, older_by r.answer v (last_seen n s.journal) k.answer new), (subst IsSome (sym (fold_push (sent_step n) None s.journal (seen_row (hear_rule s a r) a))) k.sent, tt))))
+    let above = news_above r v (last_noted n s.journal) (last_seen n s.journal) k.noted k.answer new in
+    ((k.sent, record { announced = above.0; seen = above.1 }), (subst IsSome (sym (fold_push (sent_step n) None s.journal (noted_row (hear_rule s t r) t))) k.sent, tt))))
     (λ f m. elim (cases_Bool (nat_eq n m)) [
-      | inl is ↦ (let R : ℕ → Type 0 = λ j. max (claimed j s.journal) v ≤ v in rw is ((λ told. refl), subst R (eqb-true n m is) (above f)))
-      | inr differs ↦ rw differs ((λ told. absurd (false_is_not_true told)), f.seen.heard m)
+      | inl is ↦ (let R : ℕ → Type 0 = λ j. max (confirmed_version j s.journal) v ≤ max (seen_version (last_seen j s.journal)) v in
+          rw is ((λ told. absurd (false_is_not_true told)), f.seen.heard m, subst R (eqb-true n m is) (under f)))
+      | inr differs ↦ rw differs ((λ told. absurd (false_is_not_true told)), f.seen.heard m, f.seen.told m)
     ])
   where
-    above : FitsCalls s → max (claimed a.number s.journal) a.answer_version ≤ a.answer_version
-    above f =
-        let k = known s a.number r found f in
-        claims_below (claimed a.number s.journal) a.answer_version (last_seen a.number s.journal) (f.seen.heard a.number)
-        (older_by r.answer a.answer_version (last_seen a.number s.journal) k.answer new)
+    under : FitsCalls s → max (confirmed_version t.number s.journal) t.answer_version ≤ max (seen_version (last_seen t.number s.journal)) t.answer_version
+    under f =
+        let k = known s t.number r found f in
+        let above = news_above r t.answer_version (last_noted t.number s.journal) (last_seen t.number s.journal) k.noted k.answer new in
+        let told = f.seen.told t.number in
+        omega (arith, above.0, above.1, told)
 
-heard_old : (s : Kept) (a : AnswerMessage) (r : Register) → register a.number s.registers ≡ Some r → is_newer r.answer a.answer_version ≡ false
-    → Goes s (noted (confirmed_row a ∷ []) s)
-heard_old s a r found old =
-    let n = a.number in
-    let v = a.answer_version in
-    goes_heard s (confirmed_row a ∷ []) (tt, tt) (tt, tt) (tt, tt) (λ f. ((known s n r found f).sent, tt))
+heard_old : (s : Kept) (t : TokenMessage) (r : Register) → register t.number s.registers ≡ Some r → is_news r t.answer_version ≡ false
+    → Goes s (noted (confirmed_row t ∷ []) s)
+heard_old s t r found old =
+    let n = t.number in
+    let v = t.answer_version in
+    goes_heard s (confirmed_row t ∷ []) (tt, tt) (tt, tt) (tt, tt) (λ f. ((known s n r found f).sent, tt))
     (λ f m. elim (cases_Bool (nat_eq n m)) [
-      | inl is ↦ (let R : ℕ → Type 0 = λ j. max (claimed j s.journal) v ≤ seen_version (last_seen j s.journal) in
-          let S : ℕ → Type 0 = λ j. IsSome (last_seen j s.journal) in
-          let some = seen_by r.answer v (last_seen n s.journal) (known s n r found f).answer old in
-          rw is ((λ told. subst S (eqb-true n m is) some), subst R (eqb-true n m is) (above f)))
-      | inr differs ↦ rw differs ((λ told. absurd (false_is_not_true told)), f.seen.heard m)
+      | inl is ↦ (let R : ℕ → Type 0 = λ j. max (confirmed_version j s.journal) v ≤ max (seen_version (last_seen j s.journal)) (noted_version (last_noted j s.journal)) in
+          rw is ((λ told. absurd (false_is_not_true told)), f.seen.heard m, subst R (eqb-true n m is) (under f)))
+      | inr differs ↦ rw differs ((λ told. absurd (false_is_not_true told)), f.seen.heard m, f.seen.told m)
     ])
   where
-    above : FitsCalls s → max (claimed a.number s.journal) a.answer_version ≤ seen_version (last_seen a.number s.journal)
-    above f =
-        let k = known s a.number r found f in
-        let most = as_new_by r.answer a.answer_version (last_seen a.number s.journal) k.answer old in
-        let heard = f.seen.heard a.number in omega (arith, most, heard)
+    under : FitsCalls s
+        → max (confirmed_version t.number s.journal) t.answer_version ≤ max (seen_version (last_seen t.number s.journal)) (noted_version (last_noted t.number s.journal))
+    under f =
+        let k = known s t.number r found f in
+        let below = no_news_below r t.answer_version (last_noted t.number s.journal) (last_seen t.number s.journal) k.noted k.answer old in
+        let told = f.seen.told t.number in
+        omega (arith, below, told)
 
-answer_taken_by_cases : (s : Kept) (a : AnswerMessage) (r : Register) (same new : Bool) → register a.number s.registers ≡ Some r → is_newer r.answer a.answer_version ≡ new
+token_taken_by_cases : (s : Kept) (t : TokenMessage) (r : Register) (same new : Bool) → register t.number s.registers ≡ Some r → is_news r t.answer_version ≡ new
     → Goes s
-    (if not same then after s (Err (Unknown a.number))
+    (if not same then after s (Err (Unknown t.number))
     else (if new
-    then hear_new s a r
-    else after (noted (confirmed_row a ∷ []) s) (Ok (heard a None)))).service
-answer_taken_by_cases s a r false new found is = goes_same s
-answer_taken_by_cases s a r true true found is = elim (cases_Bool (is_denied (hear_decision s a r))) [
+    then hear_new s t r
+    else after (noted (confirmed_row t ∷ []) s) (Ok (heard t None)))).service
+token_taken_by_cases s t r false new found is = goes_same s
+token_taken_by_cases s t r true true found is = elim (cases_Bool (is_denied (hear_decision s t r))) [
   | inl denied ↦ rw denied (goes_same s)
-  | inr allowed ↦ rw allowed (heard_new s a r found is)
+  | inr allowed ↦ rw allowed (heard_new s t r found is)
 ]
-answer_taken_by_cases s a r true false found is = heard_old s a r found is
+token_taken_by_cases s t r true false found is = heard_old s t r found is
 
-pub answer_taken_where_goes : (s : Kept) (a : AnswerMessage) (o : Option Register) → register a.number s.registers ≡ o → Goes s (answer_taken_where s a o).service
-answer_taken_where_goes s a None is = goes_same s
-answer_taken_where_goes s a (Some r) is = answer_taken_by_cases s a r (same_text r.dest a.callee) (is_newer r.answer a.answer_version) is refl
+pub token_taken_where_goes : (s : Kept) (t : TokenMessage) (o : Option Register) → register t.number s.registers ≡ o → Goes s (token_taken_where s t o).service
+token_taken_where_goes s t None is = goes_same s
+token_taken_where_goes s t (Some r) is = token_taken_by_cases s t r (same_text r.dest t.callee) (is_news r t.answer_version) is refl
+
+-- ---- an answer that was fetched
+
+fetched_new : (s : Kept) (a : AnswerMessage) (r : Register) (n : NotedRow) → register a.number s.registers ≡ Some r → noted_at a.number a.answer_version s.journal ≡ Some n
+    → is_newer r.answer a.answer_version ≡ true → Goes s (noted (fetched_row a n ∷ []) s)
+fetched_new s a r n found announced new =
+    goes_heard s (fetched_row a n ∷ []) (tt, tt) (tt, tt) (tt, tt)
+    (λ f. (let k = known s a.number r found f in
+    let P : Option NotedRow → Type 0 = λ o. IsSomeAnd o (λ (x : NotedRow). (x.who ≡ n.who) × (x.rule ≡ n.rule)) in
+    ((k.sent, older_by r.answer a.answer_version (last_seen a.number s.journal) k.answer new, subst P (sym announced) (refl, refl)), tt)))
+    (λ f m. elim (cases_Bool (nat_eq a.number m)) [
+      | inl is ↦ (let R : ℕ → Type 0 = λ j. claimed j s.journal ≤ a.answer_version in
+          let T : ℕ → Type 0 = λ j. confirmed_version j s.journal ≤ max a.answer_version (noted_version (last_noted j s.journal)) in
+          rw is ((λ told. refl), subst R (eqb-true a.number m is) (above f), subst T (eqb-true a.number m is) (under f)))
+      | inr differs ↦ rw differs ((λ told. absurd (false_is_not_true told)), f.seen.heard m, f.seen.told m)
+    ])
+  where
+    older : FitsCalls s → IfSome (last_seen a.number s.journal) (λ l. l.answer_version < a.answer_version)
+    older f = older_by r.answer a.answer_version (last_seen a.number s.journal) (known s a.number r found f).answer new
+
+    above : FitsCalls s → claimed a.number s.journal ≤ a.answer_version
+    above f =
+        let most = claims_below (claimed a.number s.journal) a.answer_version (last_seen a.number s.journal) (f.seen.heard a.number) (older f) in
+        omega (arith, most)
+
+    under : FitsCalls s → confirmed_version a.number s.journal ≤ max a.answer_version (noted_version (last_noted a.number s.journal))
+    under f =
+        told_more (confirmed_version a.number s.journal) a.answer_version (noted_version (last_noted a.number s.journal)) (last_seen a.number s.journal)
+        (older f) (f.seen.told a.number)
+
+fetched_by_goes : (s : Kept) (a : AnswerMessage) (r : Register) (n : NotedRow) → register a.number s.registers ≡ Some r → noted_at a.number a.answer_version s.journal ≡ Some n
+    → Goes s (fetched_by s a r n).service
+fetched_by_goes s a r n found announced = elim (cases_Bool (is_newer r.answer a.answer_version)) [
+  | inl new ↦ rw new (fetched_new s a r n found announced new)
+  | inr old ↦ rw old (goes_same s)
+]
+
+fetched_goes : (s : Kept) (a : AnswerMessage) (o : Option Register) (n : Option NotedRow) → register a.number s.registers ≡ o
+    → noted_at a.number a.answer_version s.journal ≡ n → Goes s (fetched s a o n).service
+fetched_goes s a None n found announced = goes_same s
+fetched_goes s a (Some r) None found announced = goes_same s
+fetched_goes s a (Some r) (Some n) found announced = fetched_by_goes s a r n found announced
 
 -- ---- what comes back of a post
 
 pub minor_hold : (hold : Hold) → IsMinor (with_hold hold)
-minor_hold hold = record { aside = record { number = λ r. refl; sent = λ r. refl }; seen = λ r. (refl, refl); wants = λ r. refl }
+minor_hold hold = record { aside = record { number = λ r. refl; sent = λ r. refl }; seen = λ r. (refl, refl, refl); wants = λ r. refl }
 
 goes_held_back : (s : Kept) (post : Post) (hold : Hold) → Goes s (held_back s post hold)
 goes_held_back s (Set set) hold = record { grows = record { rows = []; is = sym (append-nil s.journal); setting = refl }; keeps = λ few h. register_calls s set.number (with_hold hold) (minor_hold hold) h }
-goes_held_back s (Answer a) hold = goes_entries s s.entries (held_back s (Answer a) hold).replies (λ h. h)
+goes_held_back s (Token t) hold = goes_entries s s.entries (held_back s (Token t) hold).replies (λ h. h)
+goes_held_back s (Fetch f) hold = goes_same s
 
 held_goes : (s : Kept) (post : Post) (hold : Option Hold) → Goes s (held_where s post hold).service
 held_goes s post None = goes_same s
@@ -196,15 +245,16 @@ call_sent s set None is h f = cc
 call_sent s set (Some r) is h f = (known s set.number r is f).sent
 
 acked_goes : (s : Kept) (post : Post) (ack : Ack) → had s post ≡ true → replies_to post (WasAcked ack) ≡ true → Goes s (noted (saw_ack_row ack ∷ []) s)
-acked_goes s (Answer a) ack have reply = cc
+acked_goes s (Token t) ack have reply = cc
+acked_goes s (Fetch f) ack have reply = cc
 acked_goes s (Set set) ack have reply =
     goes_heard s (saw_ack_row ack ∷ []) (tt, tt) (tt, tt) (tt, tt)
     (λ f. (let S : ℕ → Type 0 = λ n. IsSome (last_sent n s.journal) in
     let parts = and_parts (same_text set.caller (me s)) (had_call set (register set.number s.registers)) have in
     (subst S (sym (number_of set ack reply)) (call_sent s set (register set.number s.registers) refl parts.1 f), tt)))
     (λ f m. elim (cases_Bool (nat_eq ack.number m)) [
-      | inl is ↦ rw is ((λ told. absurd (false_is_not_true told)), f.seen.heard m)
-      | inr differs ↦ rw differs ((λ told. absurd (false_is_not_true told)), f.seen.heard m)
+      | inl is ↦ rw is ((λ told. absurd (false_is_not_true told)), f.seen.heard m, f.seen.told m)
+      | inr differs ↦ rw differs ((λ told. absurd (false_is_not_true told)), f.seen.heard m, f.seen.told m)
     ])
   where
     number_by : (a b c d : Bool) → (a && b && c && d) ≡ true → c ≡ true
@@ -225,5 +275,7 @@ posted_goes s post (WasConfirmedBack c) have reply =
     let t = record s { replies = ps } in
     goes_then s t (noted (was_confirmed_row c ∷ []) t) (goes_entries s s.entries ps (λ h. h))
     (goes_plain t (was_confirmed_row c ∷ []) (tt, tt) (tt, tt) (λ h. (tt, tt)) (λ h. flies_rows s.journal (was_confirmed_row c ∷ []) s.flights (tt, tt) h))
+posted_goes s post (Given a) have reply =
+    fetched_goes s a (register a.number s.registers) (noted_at a.number a.answer_version s.journal) refl refl
 posted_goes s post (Refused word number) have reply = held_goes s post (hold_of word number)
 posted_goes s post (Lost note) have reply = goes_same s

@@ -14,7 +14,7 @@ use Rattle.lang_tree.specs.declared.method.Method.{Method}
 use Rattle.request_log.specs.Entries.{has_id, changed, mark, replace, with_call}
 use Rattle.request_log.specs.declared.entry.Entry.{Entry}
 use Rattle.repair_messages.specs.declared.posts.PostName.{PostName}
-use Rattle.repair_messages.specs.declared.posts.PostName.TheVariants.{Call as OfCall, Reply as OfReply}
+use Rattle.repair_messages.specs.declared.posts.PostName.TheVariants.{Call as OfCall, Reply as OfReply, Fetch as OfFetch}
 use Rattle.create_placement.specs.Placement.{place_between, created}
 use Rattle.journal_rows.specs.Words.{first_asked, asked_step, asked, count_step, taken_step, last_taken_of, version_in, wants, request_step, request_now, struck_by, struck_step, is_struck, replaced_by, answered_step, mark_step, or_before, is_about, settles}
 use Rattle.journal_rows.specs.declared.callee.TookRow.{TookRow}
@@ -154,6 +154,7 @@ module _ (s : Kept) (h : IsLogged s.journal s.entries s.replies) where
 
   retried : (j : List Row) (who : List ℕ) (name : PostName) → IsLogged j s.entries s.replies → IsLogged j (released_post who name s).entries (released_post who name s).replies
   retried j who (OfCall number) l = l
+  retried j who (OfFetch number) l = l
   retried j who (OfReply id) l = replies_changed j s.entries s.replies id (released_reply who) (λ p. record { id = refl; caller = refl; number = refl; version = refl; wanted = refl; answer_version = refl; due = refl }) l
 
   -- ---- an order that makes an entry
@@ -318,6 +319,7 @@ module _ (s : Kept) (h : IsLogged s.journal s.entries s.replies) where
           journal_stays (Create x y q) who i = refl
           journal_stays (Retry (OfCall n)) who i = refl
           journal_stays (Retry (OfReply n)) who i = refl
+          journal_stays (Retry (OfFetch n)) who i = refl
 
   pub order_where_logged : (command : Command) (token who : List ℕ) (i : Inputs) (o : Option OrderedRow) → LeavesLogged (order_where s command token who i o)
   order_where_logged command token who i (Some o) = h

@@ -6,7 +6,7 @@ use Rattle.request_log.specs.Entries.{has_id, changed, mark, replace}
 use Rattle.request_log.specs.declared.entry.Entry.{Entry}
 use Rattle.create_placement.specs.Placement.{place_between, created}
 use Rattle.repair_messages.specs.declared.posts.PostName.{PostName}
-use Rattle.repair_messages.specs.declared.posts.PostName.TheVariants.{Call as OfCall, Reply as OfReply}
+use Rattle.repair_messages.specs.declared.posts.PostName.TheVariants.{Call as OfCall, Reply as OfReply, Fetch as OfFetch}
 use Rattle.journal_rows.specs.Words.{ordered}
 use Rattle.journal_rows.specs.declared.orders.Command.{Command}
 use Rattle.journal_rows.specs.declared.orders.Command.TheVariants.{Cancel, Restore, Replace, Create, Retry}
@@ -41,11 +41,12 @@ goes_at_id s id f same =
     ]
 
 pub minor_released : (who : List ℕ) → IsMinor (released who)
-minor_released who = record { aside = record { number = λ r. refl; sent = λ r. refl }; seen = λ r. (refl, refl); wants = λ r. refl }
+minor_released who = record { aside = record { number = λ r. refl; sent = λ r. refl }; seen = λ r. (refl, refl, refl); wants = λ r. refl }
 
 goes_released : (s : Kept) (who : List ℕ) (name : PostName) → Goes s (released_post who name s)
 goes_released s who (OfCall n) = record { grows = record { rows = []; is = sym (append-nil s.journal); setting = refl }; keeps = λ few h. register_calls s n (released who) (minor_released who) h }
 goes_released s who (OfReply id) = goes_entries s s.entries (released_post who (OfReply id) s).replies (λ h. h)
+goes_released s who (OfFetch n) = goes_same s
 
 goes_carried_out : (s : Kept) (command : Command) (who : List ℕ) (i : Inputs) → Goes s (carried_out s command who i)
 goes_carried_out s (Cancel id) who i = goes_at_id s id (mark true) (λ e. refl)
@@ -64,6 +65,7 @@ same_journal s (Replace id method path body) who i = refl
 same_journal s (Create before after q) who i = refl
 same_journal s (Retry (OfCall n)) who i = refl
 same_journal s (Retry (OfReply id)) who i = refl
+same_journal s (Retry (OfFetch n)) who i = refl
 
 -- ---- its rows
 

@@ -1,4 +1,4 @@
--- What comes back of a post, and an answer that is taken, keep how entries and replies follow from the journal.
+-- What comes back of a post, and a token that is taken, keep how entries and replies follow from the journal.
 use Rattle.std.proofs.Common.{◌≡◌, ℕ, ◌≤◌, true, not, ◌&&◌, cond, List, [], ◌∷◌, ◌++◌, Option, Some, None, IsSome, IsSomeAnd, Ok, Err, find, length, option_map, refl, sym, ap, ◌∙◌, subst, nat_eq, nat_le, arith, eqb-true, leb-true}
 use Rattle.std.proofs.lemmas.Bool.{cond_both, cond-true, and_parts}
 use Rattle.std.proofs.lemmas.List.Sums.{fold_push}
@@ -10,23 +10,25 @@ use Rattle.request_log.specs.Entries.{has_id}
 use Rattle.request_log.specs.declared.entry.Entry.{Entry}
 use Rattle.repair_messages.specs.declared.messages.AnswerMessage.{AnswerMessage}
 use Rattle.repair_messages.specs.declared.messages.Confirm.{Confirm}
+use Rattle.repair_messages.specs.declared.messages.TokenMessage.{TokenMessage}
 use Rattle.repair_messages.specs.declared.posts.Post.{Post}
-use Rattle.repair_messages.specs.declared.posts.Post.TheVariants.{Set, Answer}
-use Rattle.journal_rows.specs.Words.{asked, count_step, answered_step, mark_step, last_mark, settles}
+use Rattle.repair_messages.specs.declared.posts.Post.TheVariants.{Set, Token, Fetch}
+use Rattle.journal_rows.specs.Words.{asked, noted_at, count_step, answered_step, mark_step, last_mark, settles}
+use Rattle.journal_rows.specs.declared.caller.NotedRow.{NotedRow}
 use Rattle.journal_rows.specs.declared.row.Row.{Row}
 use Rattle.journal_rows.specs.declared.words.Mark.TheVariants.{Unsettled, ConfirmedAt}
-use Rattle.call_registers.specs.Registers.{is_newer}
+use Rattle.call_registers.specs.Registers.{is_news, is_newer, register}
 use Rattle.call_registers.specs.Replies.{has_entry, reply, at_entry, with_confirm, with_hold}
 use Rattle.call_registers.specs.declared.register.Hold.{Hold}
 use Rattle.call_registers.specs.declared.register.Register.{Register}
 use Rattle.call_registers.specs.declared.reply.Reply.{Reply}
 use Rattle.service_events.specs.Calls.{noted}
 use Rattle.service_events.specs.Fits.{IsAsNow, HasAnswered, HasReply, IsReply, made_as, asked_as, answer_given}
-use Rattle.service_events.specs.Messages.{heard, seen_row, hear_rule, hear_new, confirmed_row, answer_taken_by, answer_taken_where, is_version, had_answer, is_confirm_of, replies_to, had, is_now, hold_of, held_back, held_where, saw_ack_row, was_confirmed_row, posted}
+use Rattle.service_events.specs.Messages.{heard, noted_row, hear_rule, hear_new, confirmed_row, token_taken_by, token_taken_where, fetched_row, fetched, is_version, had_answer, is_confirm_of, replies_to, had, is_now, hold_of, held_back, held_where, saw_ack_row, was_confirmed_row, posted}
 use Rattle.service_events.specs.State.{Kept, after, me}
 use Rattle.service_events.specs.declared.answers.PostReply.{PostReply}
-use Rattle.service_events.specs.declared.answers.PostReply.TheVariants.{Acked as WasAcked, Confirmed as WasConfirmedBack, Refused, Lost}
-use Rattle.service_events.specs.declared.answers.Posted.TheVariants.{Held, Left}
+use Rattle.service_events.specs.declared.answers.PostReply.TheVariants.{Acked as WasAcked, Confirmed as WasConfirmedBack, Given, Refused, Lost}
+use Rattle.service_events.specs.declared.answers.Posted.TheVariants.{Saw, Knew, Held, Left}
 use Rattle.service_events.specs.declared.refusals.AnswerRefused.{AnswerRefused}
 use Rattle.service_events.proofs.AskedLemmas.{hear_either}
 use Rattle.service_events.proofs.CallerLaws.{callers_logged}
@@ -38,23 +40,33 @@ use Rattle.service_events.proofs.ReplyLemmas.{change_own, change_other, rising_c
 use Rattle.service_events.proofs.HoldLaw.{replies_changed}
 use Rattle.service_events.proofs.SearchLemmas.{splits, found_all, text_is}
 
--- ---- an answer is taken
+-- ---- a token is taken
 
-module _ (s : Kept) (h : IsLogged s.journal s.entries s.replies) (a : AnswerMessage) where
-  answer_taken_by_logged : (r : Register) → LeavesLogged (answer_taken_by s a r)
-  answer_taken_by_logged r =
+module _ (s : Kept) (h : IsLogged s.journal s.entries s.replies) (a : TokenMessage) where
+  token_taken_by_logged : (r : Register) → LeavesLogged (token_taken_by s a r)
+  token_taken_by_logged r =
       cond_both (not (same_text r.dest a.callee)) (after s (Err (AnswerRefused.Unknown a.number)))
-      (cond (is_newer r.answer a.answer_version) (hear_new s a r) (after (noted (confirmed_row a ∷ []) s) (Ok (heard a None)))) LeavesLogged
+      (cond (is_news r a.answer_version) (hear_new s a r) (after (noted (confirmed_row a ∷ []) s) (Ok (heard a None)))) LeavesLogged
       (λ _. h)
-      (λ _. cond_both (is_newer r.answer a.answer_version) (hear_new s a r) (after (noted (confirmed_row a ∷ []) s) (Ok (heard a None))) LeavesLogged
-      (λ _. hear_either s a r LeavesLogged h (callers_logged s.journal (seen_row (hear_rule s a r) a ∷ (confirmed_row a ∷ [])) s.entries s.replies (tt, (tt, tt)) h))
+      (λ _. cond_both (is_news r a.answer_version) (hear_new s a r) (after (noted (confirmed_row a ∷ []) s) (Ok (heard a None))) LeavesLogged
+      (λ _. hear_either s a r LeavesLogged h (callers_logged s.journal (noted_row (hear_rule s a r) a ∷ (confirmed_row a ∷ [])) s.entries s.replies (tt, (tt, tt)) h))
       (λ _. callers_logged s.journal (confirmed_row a ∷ []) s.entries s.replies (tt, tt) h))
 
-  pub answer_taken_where_logged : (o : Option Register) → LeavesLogged (answer_taken_where s a o)
-  answer_taken_where_logged None = h
-  answer_taken_where_logged (Some r) = answer_taken_by_logged r
+  pub token_taken_where_logged : (o : Option Register) → LeavesLogged (token_taken_where s a o)
+  token_taken_where_logged None = h
+  token_taken_where_logged (Some r) = token_taken_by_logged r
 
--- ---- a confirmation of an answer
+-- ---- an answer that was fetched
+
+module _ (s : Kept) (h : IsLogged s.journal s.entries s.replies) (a : AnswerMessage) where
+  pub fetched_logged : (o : Option Register) (n : Option NotedRow) → LeavesLogged (fetched s a o n)
+  fetched_logged None n = h
+  fetched_logged (Some r) None = h
+  fetched_logged (Some r) (Some n) =
+      cond_both (is_newer r.answer a.answer_version) (after (noted (fetched_row a n ∷ []) s) (Ok Saw)) (after s (Ok Knew)) LeavesLogged
+      (λ _. callers_logged s.journal (fetched_row a n ∷ []) s.entries s.replies (tt, tt) h) (λ _. h)
+
+-- ---- a confirmation of a token
 
 -- the reply that is there is of an entry
 pub record IsOfEntry (j : List Row) (log : List Entry) (p : Reply) : Type 0 where
@@ -157,7 +169,7 @@ confirmed_logged j log kept id p c since h there caller number given =
 
 -- ---- what comes back
 
-had_it : (a : AnswerMessage) (o : Option Reply) → had_answer a o ≡ true → (p : Reply) × (o ≡ Some p) × (p.caller ≡ a.caller) × (p.number ≡ a.number) × (a.answer_version ≤ p.answer_version)
+had_it : (a : TokenMessage) (o : Option Reply) → had_answer a o ≡ true → (p : Reply) × (o ≡ Some p) × (p.caller ≡ a.caller) × (p.number ≡ a.number) × (a.answer_version ≤ p.answer_version)
 had_it a None h = cc
 had_it a (Some p) h =
     let first = and_parts (same_text p.caller a.caller && nat_eq p.number a.number) (is_version a.answer_version p.answer_version) h in
@@ -165,7 +177,7 @@ had_it a (Some p) h =
     let third = and_parts (nat_le 1 a.answer_version) (nat_le a.answer_version p.answer_version) first.1 in
     (p, refl, text_is p.caller a.caller second.0, eqb-true p.number a.number second.1, leb-true a.answer_version p.answer_version third.1)
 
-of_it : (a : AnswerMessage) (c : Confirm) → is_confirm_of a c ≡ true → (c.caller ≡ a.caller) × (c.number ≡ a.number) × (c.answer_version ≡ a.answer_version)
+of_it : (a : TokenMessage) (c : Confirm) → is_confirm_of a c ≡ true → (c.caller ≡ a.caller) × (c.number ≡ a.number) × (c.answer_version ≡ a.answer_version)
 of_it a c h =
     let first = and_parts ((same_text c.caller a.caller && same_text c.callee a.callee) && nat_eq c.number a.number) (nat_eq c.answer_version a.answer_version) h in
     let second = and_parts (same_text c.caller a.caller && same_text c.callee a.callee) (nat_eq c.number a.number) first.0 in
@@ -175,7 +187,8 @@ of_it a c h =
 module _ (s : Kept) (h : IsLogged s.journal s.entries s.replies) where
   held_logged : (post : Post) (hold : Hold) → IsLogged (held_back s post hold).journal (held_back s post hold).entries (held_back s post hold).replies
   held_logged (Set set) hold = h
-  held_logged (Answer a) hold = replies_changed s.journal s.entries s.replies a.id (with_hold hold) (λ p. record { id = refl; caller = refl; number = refl; version = refl; wanted = refl; answer_version = refl; due = refl }) h
+  held_logged (Fetch f) hold = h
+  held_logged (Token a) hold = replies_changed s.journal s.entries s.replies a.id (with_hold hold) (λ p. record { id = refl; caller = refl; number = refl; version = refl; wanted = refl; answer_version = refl; due = refl }) h
 
   held_where_logged : (post : Post) (o : Option Hold) → LeavesLogged (held_where s post o)
   held_where_logged post None = h
@@ -185,7 +198,9 @@ module _ (s : Kept) (h : IsLogged s.journal s.entries s.replies) where
   pub posted_logged_by : (post : Post) (answer : PostReply) → had s post ≡ true → replies_to post answer ≡ true → LeavesLogged (posted s post answer)
   posted_logged_by post (WasAcked ack) had replies = callers_logged s.journal (saw_ack_row ack ∷ []) s.entries s.replies (tt, tt) h
   posted_logged_by (Set set) (WasConfirmedBack c) had replies = cc
-  posted_logged_by (Answer a) (WasConfirmedBack c) had replies =
+  posted_logged_by (Fetch f) (WasConfirmedBack c) had replies = cc
+  posted_logged_by post (Given a) had replies = fetched_logged s h a (register a.number s.registers) (noted_at a.number a.answer_version s.journal)
+  posted_logged_by (Token a) (WasConfirmedBack c) had replies =
       let it = had_it a (reply a.id s.replies) (and_parts (same_text a.callee (me s)) (had_answer a (reply a.id s.replies)) had).1 in
       let of = of_it a c replies in
       let most = it.4 in

@@ -78,6 +78,10 @@ module _ (setting : Setting) (buy pay : Request) (i : Inputs) (read : List Read)
         desired = desired;
         acked = acked;
         answer = answer;
+        noted = 0;
+        noted_who = pay.who;
+        noted_rule = 0;
+        noted_since = 0;
         told = None;
         held = None;
         repair_who = pay.who;

@@ -8,26 +8,29 @@ use Rattle.request_log.specs.Entries.{has_origin, find_call, mark, replace}
 use Rattle.request_log.specs.declared.entry.Entry.{Entry}
 use Rattle.repair_messages.specs.declared.messages.AnswerMessage.{AnswerMessage}
 use Rattle.repair_messages.specs.declared.messages.SetMessage.{SetMessage}
+use Rattle.repair_messages.specs.declared.messages.TokenMessage.{TokenMessage}
 use Rattle.repair_messages.specs.declared.posts.Post.{Post}
-use Rattle.repair_messages.specs.declared.posts.Post.TheVariants.{Set, Answer}
-use Rattle.repair_messages.specs.declared.posts.PostName.TheVariants.{Call as OfCall, Reply as OfReply}
+use Rattle.repair_messages.specs.declared.posts.Post.TheVariants.{Set, Token, Fetch}
+use Rattle.repair_messages.specs.declared.posts.PostName.TheVariants.{Call as OfCall, Reply as OfReply, Fetch as OfFetch}
 use Rattle.local_repair.specs.Current.{AllRuns}
 use Rattle.local_repair.specs.Steps.{remade}
+use Rattle.journal_rows.specs.Words.{noted_at}
+use Rattle.journal_rows.specs.declared.caller.NotedRow.{NotedRow}
 use Rattle.journal_rows.specs.declared.orders.Command.{Command}
 use Rattle.journal_rows.specs.declared.orders.Command.TheVariants.{Cancel, Restore, Replace, Create, Retry}
 use Rattle.journal_rows.specs.declared.orders.OrderedRow.{OrderedRow}
-use Rattle.call_registers.specs.Registers.{is_newer}
+use Rattle.call_registers.specs.Registers.{is_news, is_newer, register}
 use Rattle.call_registers.specs.declared.register.Hold.{Hold}
 use Rattle.call_registers.specs.declared.register.Register.{Register}
 use Rattle.create_placement.specs.Placement.{place_between, created}
 use Rattle.service_events.specs.Calls.{noted}
-use Rattle.service_events.specs.Messages.{taken, take_new, origin_of, is_known, acked_again, created_entry, created_place, at_version, taken_by, take_admitted, heard, hear_new, confirmed_row, answer_taken_by, answer_taken_where, is_now, hold_of, held_back, held_where, posted}
+use Rattle.service_events.specs.Messages.{taken, take_new, origin_of, is_known, acked_again, created_entry, created_place, at_version, taken_by, take_admitted, heard, hear_new, confirmed_row, token_taken_by, token_taken_where, fetched_row, fetched, is_now, hold_of, held_back, held_where, posted}
 use Rattle.service_events.specs.Orders.{refused, carried_out, order_by, order_where}
 use Rattle.service_events.specs.State.{Kept, After, after, next_id}
 use Rattle.service_events.specs.Steps.{new_record, new_numbers, Stale, step_by}
 use Rattle.service_events.specs.declared.answers.PostReply.{PostReply}
-use Rattle.service_events.specs.declared.answers.PostReply.TheVariants.{Acked as WasAcked, Confirmed as WasConfirmedBack, Refused, Lost}
-use Rattle.service_events.specs.declared.answers.Posted.TheVariants.{Held, Left}
+use Rattle.service_events.specs.declared.answers.PostReply.TheVariants.{Acked as WasAcked, Confirmed as WasConfirmedBack, Given, Refused, Lost}
+use Rattle.service_events.specs.declared.answers.Posted.TheVariants.{Saw, Knew, Held, Left}
 use Rattle.service_events.specs.declared.refusals.AnswerRefused.{AnswerRefused}
 use Rattle.service_events.specs.declared.refusals.OrderRefused.{OrderRefused}
 use Rattle.service_events.proofs.AskedLemmas.{take_either, hear_either}
@@ -62,35 +65,43 @@ module _ (s : Kept) (h : AllRuns s.setting s.entries) where
       (λ _. h)
       (λ _. take_either s set i LeavesRuns h (taken_by_runs set i (find_call (origin_of set) s.entries) set.desired refl))
 
-  -- ---- an answer
+  -- ---- a token
 
-  answer_taken_by_runs : (a : AnswerMessage) (r : Register) → LeavesRuns (answer_taken_by s a r)
-  answer_taken_by_runs a r =
+  token_taken_by_runs : (a : TokenMessage) (r : Register) → LeavesRuns (token_taken_by s a r)
+  token_taken_by_runs a r =
       cond_both (not (same_text r.dest a.callee)) (after s (Err (AnswerRefused.Unknown a.number)))
-      (cond (is_newer r.answer a.answer_version) (hear_new s a r) (after (noted (confirmed_row a ∷ []) s) (Ok (heard a None)))) LeavesRuns
+      (cond (is_news r a.answer_version) (hear_new s a r) (after (noted (confirmed_row a ∷ []) s) (Ok (heard a None)))) LeavesRuns
       (λ _. h)
-      (λ _. cond_both (is_newer r.answer a.answer_version) (hear_new s a r) (after (noted (confirmed_row a ∷ []) s) (Ok (heard a None))) LeavesRuns
+      (λ _. cond_both (is_news r a.answer_version) (hear_new s a r) (after (noted (confirmed_row a ∷ []) s) (Ok (heard a None))) LeavesRuns
       (λ _. hear_either s a r LeavesRuns h h)
       (λ _. h))
 
-  pub answer_taken_where_runs : (a : AnswerMessage) (o : Option Register) → LeavesRuns (answer_taken_where s a o)
-  answer_taken_where_runs a None = h
-  answer_taken_where_runs a (Some r) = answer_taken_by_runs a r
+  pub token_taken_where_runs : (a : TokenMessage) (o : Option Register) → LeavesRuns (token_taken_where s a o)
+  token_taken_where_runs a None = h
+  token_taken_where_runs a (Some r) = token_taken_by_runs a r
 
   -- ---- what comes back of a post
 
   held_runs : (post : Post) (hold : Hold) → AllRuns (held_back s post hold).setting (held_back s post hold).entries
   held_runs (Set set) hold = h
-  held_runs (Answer a) hold = h
+  held_runs (Token t) hold = h
+  held_runs (Fetch f) hold = h
 
   held_where_runs : (post : Post) (o : Option Hold) → LeavesRuns (held_where s post o)
   held_where_runs post None = h
   held_where_runs post (Some hold) =
       cond_both (is_now s post) (after (held_back s post hold) (Ok Held)) (after s (Ok Left)) LeavesRuns (λ _. held_runs post hold) (λ _. h)
 
+  fetched_runs : (a : AnswerMessage) (o : Option Register) (n : Option NotedRow) → LeavesRuns (fetched s a o n)
+  fetched_runs a None n = h
+  fetched_runs a (Some r) None = h
+  fetched_runs a (Some r) (Some n) =
+      cond_both (is_newer r.answer a.answer_version) (after (noted (fetched_row a n ∷ []) s) (Ok Saw)) (after s (Ok Knew)) LeavesRuns (λ _. h) (λ _. h)
+
   pub posted_by_runs : (post : Post) (answer : PostReply) → LeavesRuns (posted s post answer)
   posted_by_runs post (WasAcked ack) = h
   posted_by_runs post (WasConfirmedBack c) = h
+  posted_by_runs post (Given a) = fetched_runs a (register a.number s.registers) (noted_at a.number a.answer_version s.journal)
   posted_by_runs post (Refused word number) = held_where_runs post (hold_of word number)
   posted_by_runs post (Lost note) = h
 
@@ -103,6 +114,7 @@ module _ (s : Kept) (h : AllRuns s.setting s.entries) where
   carried_runs (Create before after q) who i = runs_insert s.setting s.entries (place_between before after s.entries) (created (next_id s) q i) tt h
   carried_runs (Retry (OfCall n)) who i = h
   carried_runs (Retry (OfReply n)) who i = h
+  carried_runs (Retry (OfFetch n)) who i = h
 
   order_by_runs : (command : Command) (token who : List ℕ) (i : Inputs) (o : Option OrderRefused) → LeavesRuns (order_by s command token who i o)
   order_by_runs command token who i (Some why) = h

@@ -6,15 +6,16 @@ use Rattle.lang_core.specs.declared.request.Request.{Request}
 use Rattle.journal_rows.specs.Words.{sent_step, last_sent, named_step, named}
 use Rattle.journal_rows.specs.declared.caller.SentRow.{SentRow}
 use Rattle.journal_rows.specs.declared.row.Row.{Row}
-use Rattle.journal_rows.specs.declared.row.Row.TheVariants.{Sent, SawAck, SawAnswer}
+use Rattle.journal_rows.specs.declared.row.Row.TheVariants.{Sent, SawAck, Noted, SawAnswer}
 use Rattle.call_registers.specs.Changes.{raised}
-use Rattle.call_registers.specs.Registers.{register, at_number, first_register, next_number, sent_anew, with_ack, with_answer, is_newer, IsNumbered}
+use Rattle.call_registers.specs.Registers.{register, at_number, first_register, next_number, sent_anew, with_ack, with_answer, with_note, is_newer, IsNumbered}
 use Rattle.call_registers.specs.declared.register.Answer.{Answer}
 use Rattle.call_registers.specs.declared.register.Register.{Register}
 use Rattle.call_registers.proofs.ChangeLemmas.{numbered_push}
 use Rattle.service_events.specs.Calls.{first_sent, put_sent, seen_answer, after_row, after_rows}
 use Rattle.service_events.specs.Fits.{EachAfter, SendsOn, FitsSent, sent_by}
 use Rattle.service_events.proofs.CallRowLemmas.{EachAfter-append, go_on, all_follow}
+use Rattle.service_events.proofs.NoteLemmas.{KeepsNotes}
 use Rattle.service_events.proofs.RegisterLemmas.{found_number, next_none, found_within, find-change, length-change, numbered_change, find-push}
 
 -- ---- numbers that were named
@@ -102,6 +103,7 @@ pub record Put (journal : List Row) (now : List Register) (s : SentRow) (end : L
   pub sent : sent_by made ≡ s
   pub acked : made.acked ≡ acked_in (register s.number now)
   pub answer : made.answer ≡ answer_in (register s.number now)
+  pub notes : KeepsNotes (register s.number now) made
   pub count : length end ≡ max (named journal) s.number
   pub numbered : IsNumbered end
 
@@ -125,6 +127,7 @@ put_first journal now at s (Some q) f is none may =
       sent = sent_is s (next_number now) s.dest 1 (Some q) next refl (sym may.1) (sym is);
       acked = sym (ap acked_in none);
       answer = sym (ap answer_in none);
+      notes = (let P : Option Register → Type 0 = λ o. KeepsNotes o made in subst P (sym none) (refl, refl, refl));
       count = (let new = may.0 in let one = length-append now (made ∷ []) in omega (arith, new, one, f.count));
       numbered = numbered_push now made f.numbered refl;
     }
@@ -144,6 +147,7 @@ put_next journal now at s r l f few found last same may =
       sent = sent_is s r.number r.dest (raised r.version) s.desired (found_number s.number now r found) (ap (λ (x : SentRow). x.dest) same ∙ sym may.0) version refl;
       acked = sym (ap acked_in found);
       answer = sym (ap answer_in found);
+      notes = (let P : Option Register → Type 0 = λ o. KeepsNotes o (again r) in subst P (sym found) refl);
       count = length-change (λ x. nat_eq x.number s.number) again now ∙ omega (arith, f.count, below);
       numbered = numbered_change s.number again (λ x. refl) now f.numbered;
     }
@@ -208,6 +212,9 @@ answer_aside a = record {
   ]);
 }
 
+pub note_aside : (answer_version : ℕ) (who : List ℕ) (rule since : ℕ) → IsAside (with_note answer_version who rule since)
+note_aside answer_version who rule since = record { number = λ r. refl; sent = λ r. refl }
+
 sent_choice : (b : Bool) (made : Register) (s : SentRow) (o : Option Register) (last : Option SentRow) → sent_by made ≡ s → option_map sent_by o ≡ last
     → option_map sent_by (cond b (Some made) o) ≡ cond b (Some s) last
 sent_choice true made s o last e h = ap Some e
@@ -239,6 +246,9 @@ fits_row journal now (Sent s) few may f =
 fits_row journal now (SawAck a) few may f =
     fits_unsent journal (after_row (length journal) now (SawAck a)) (SawAck a) tt (λ n last. refl) (λ most. refl)
     (fits_aside journal now a.number (with_ack a.version) (ack_aside a.version) f)
+fits_row journal now (Noted t) few may f =
+    fits_unsent journal (after_row (length journal) now (Noted t)) (Noted t) tt (λ n last. refl) (λ most. refl)
+    (fits_aside journal now t.number (with_note t.answer_version t.who t.rule (length journal)) (note_aside t.answer_version t.who t.rule (length journal)) f)
 fits_row journal now (SawAnswer a) few may f =
     fits_unsent journal (after_row (length journal) now (SawAnswer a)) (SawAnswer a) tt (λ n last. refl) (λ most. refl)
     (fits_aside journal now a.number (with_answer (seen_answer a)) (answer_aside (seen_answer a)) f)

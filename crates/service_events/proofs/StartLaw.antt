@@ -16,7 +16,7 @@ pub fits_start : (setting : Setting) (rules : List Rule) → Fits (fresh setting
 fits_start setting rules =
     record {
       sent = record { rows = tt; registers = λ n. refl; count = refl; numbered = tt };
-      seen = record { rows = tt; registers = λ n. tt; answered = λ n told. absurd (false_is_not_true told); heard = λ n. omega arith };
+      seen = record { rows = tt; registers = λ n. tt; answered = λ n told. absurd (false_is_not_true told); heard = λ n. omega arith; told = λ n. omega arith };
       taken = tt;
       asked = record {
         rows = tt;

@@ -2,7 +2,7 @@
 use Rattle.std.specs.Prelude.{ℕ, ◌≡◌, List, [], Option, Some, None, IsSomeAnd, fold, if◌then◌else◌, option_map}
 use Rattle.std.specs.Option.{option_map_or}
 use Rattle.lang_core.specs.declared.request.Request.{Request}
-use Rattle.repair_messages.specs.declared.posts.PostName.TheVariants.{Call as OfCall, Reply as OfReply}
+use Rattle.repair_messages.specs.declared.posts.PostName.TheVariants.{Call as OfCall, Reply as OfReply, Fetch as OfFetch}
 use Rattle.authorise_rules.specs.Deciding.{Question, decision}
 use Rattle.authorise_rules.specs.declared.asked.Decision.TheVariants.{Allow}
 use Rattle.authorise_rules.specs.declared.rule.Rule.{Rule}
@@ -10,13 +10,13 @@ use Rattle.journal_rows.specs.Words.{is_version_of, last_sent}
 use Rattle.journal_rows.specs.declared.callee.TookHow.{TookHow}
 use Rattle.journal_rows.specs.declared.callee.TookHow.TheVariants.{Live, Message}
 use Rattle.journal_rows.specs.declared.caller.SawHow.{SawHow}
-use Rattle.journal_rows.specs.declared.caller.SawHow.TheVariants.{Live as SeenLive, Message as SeenMessage}
+use Rattle.journal_rows.specs.declared.caller.SawHow.TheVariants.{Live as SeenLive, Fetch as Fetched}
 use Rattle.journal_rows.specs.declared.caller.SentRow.{SentRow}
 use Rattle.journal_rows.specs.declared.orders.About.TheVariants.{Request as AboutRequest}
 use Rattle.journal_rows.specs.declared.orders.Command.{Command}
 use Rattle.journal_rows.specs.declared.orders.Command.TheVariants.{Cancel, Restore, Replace, Create, Retry}
 use Rattle.journal_rows.specs.declared.row.Row.{Row}
-use Rattle.journal_rows.specs.declared.row.Row.TheVariants.{Took, SawAnswer, Ordered}
+use Rattle.journal_rows.specs.declared.row.Row.TheVariants.{Took, Noted, SawAnswer, Ordered}
 use Rattle.service_events.specs.State.{Kept}
 use Rattle.service_events.specs.Questions.{version_question, answer_question, command_question}
 use Rattle.service_events.specs.Orders.{request_put}
@@ -48,6 +48,7 @@ subject_in (Replace id method path body) journal = request_found (AboutRequest i
 subject_in (Create before after q) journal = None
 subject_in (Retry (OfCall number)) journal = request_sent number journal
 subject_in (Retry (OfReply id)) journal = request_found (AboutRequest id) journal
+subject_in (Retry (OfFetch number)) journal = None
 
 -- ---- a row
 
@@ -60,16 +61,18 @@ abbrev pub AllowsTook : TookHow → List Rule → Question → ℕ → Type 0
 AllowsTook Live rules q rule = rule ≡ 0
 AllowsTook Message rules q rule = Allows rules q rule
 
-abbrev pub AllowsSeen : SawHow → List Rule → Option Question → ℕ → Type 0
-AllowsSeen SeenLive rules asked rule = rule ≡ 0
-AllowsSeen SeenMessage rules asked rule = IsSomeAnd asked (λ q. Allows rules q rule)
+-- of one that is fetched, rules were asked when it was announced
+abbrev pub AllowsSeen : SawHow → ℕ → Type 0
+AllowsSeen SeenLive rule = rule ≡ 0
+AllowsSeen Fetched rule = Unit {0}
 
 -- a repair may stand after these rows: it carries the number of the rule that allows it
 abbrev pub AllowedOn : List Rule → List Row → Row → Type 0
 AllowedOn rules before (Took t) =
     AllowsTook t.how rules (version_question t.caller t.who (request_known t.caller t.number before) t.desired) t.rule
-AllowedOn rules before (SawAnswer a) =
-    AllowsSeen a.how rules (option_map (λ (sent : SentRow). answer_question sent.dest a.who sent.desired) (last_sent a.number before)) a.rule
+AllowedOn rules before (Noted n) =
+    IsSomeAnd (option_map (λ (sent : SentRow). answer_question sent.dest n.who sent.desired) (last_sent n.number before)) (λ q. Allows rules q n.rule)
+AllowedOn rules before (SawAnswer a) = AllowsSeen a.how a.rule
 AllowedOn rules before (Ordered o) =
     Allows rules (command_question o.command o.who (subject_in o.command before) (request_put o.command (subject_in o.command before))) o.rule
 AllowedOn rules before row = Unit {0}

@@ -8,9 +8,9 @@ use Rattle.local_repair.specs.Steps.{same_call}
 use Rattle.journal_rows.specs.declared.caller.SawAnswerRow.{SawAnswerRow}
 use Rattle.journal_rows.specs.declared.caller.SentRow.{SentRow}
 use Rattle.journal_rows.specs.declared.row.Row.{Row}
-use Rattle.journal_rows.specs.declared.row.Row.TheVariants.{Sent, SawAck, SawAnswer}
+use Rattle.journal_rows.specs.declared.row.Row.TheVariants.{Sent, SawAck, Noted, SawAnswer}
 use Rattle.call_registers.specs.Changes.{raised}
-use Rattle.call_registers.specs.Registers.{register, with_call, at_number, sent_anew, with_ack, with_answer}
+use Rattle.call_registers.specs.Registers.{register, with_call, at_number, sent_anew, with_ack, with_answer, with_note}
 use Rattle.call_registers.specs.declared.register.Answer.{Answer}
 use Rattle.call_registers.specs.declared.register.Register.{Register}
 use Rattle.service_events.specs.State.{Kept}
@@ -32,6 +32,7 @@ seen_answer a = record { answer_version = a.answer_version; version = a.version;
 abbrev pub after_row : ℕ → List Register → Row → List Register
 after_row at registers (Sent s) = put_sent at s (register s.number registers) registers
 after_row at registers (SawAck a) = at_number a.number (with_ack a.version) registers
+after_row at registers (Noted n) = at_number n.number (with_note n.answer_version n.who n.rule at) registers
 after_row at registers (SawAnswer a) = at_number a.number (with_answer (seen_answer a)) registers
 after_row at registers row = registers
 

@@ -5,6 +5,7 @@ use Rattle.service_events.specs.State.{Kept, After, after}
 use Rattle.service_events.specs.declared.refusals.AnswerRefused.{AnswerRefused}
 use Rattle.service_events.specs.declared.refusals.ArriveRefused.{ArriveRefused}
 use Rattle.service_events.specs.declared.refusals.CallRefused.{CallRefused}
+use Rattle.service_events.specs.declared.refusals.GiveRefused.{GiveRefused}
 use Rattle.service_events.specs.declared.refusals.OrderRefused.{OrderRefused}
 use Rattle.service_events.specs.declared.refusals.PostRefused.{PostRefused}
 use Rattle.service_events.specs.declared.refusals.TakeRefused.{TakeRefused}
@@ -26,6 +27,10 @@ take_memory why = false
 abbrev pub answer_memory : AnswerRefused → Bool
 answer_memory AnswerRefused.NoMemory = true
 answer_memory why = false
+
+abbrev pub give_memory : GiveRefused → Bool
+give_memory GiveRefused.NoMemory = true
+give_memory why = false
 
 abbrev pub post_memory : PostRefused → Bool
 post_memory PostRefused.NoMemory = true

@@ -6,8 +6,8 @@ use Rattle.call_registers.specs.declared.register.Why.{Why}
 use Rattle.call_registers.specs.declared.register.Why.TheVariants.{Changes}
 use Rattle.service_events.specs.State.{Kept, After, after}
 use Rattle.service_events.specs.Arriving.{abandon_event, arrive_event, call_answered_event, call_failed_event}
-use Rattle.service_events.specs.Doing.{answer_memory, arrive_memory, call_memory, order_memory, post_memory, take_memory}
-use Rattle.service_events.specs.Messages.{posted_event, take_answer_event, take_event}
+use Rattle.service_events.specs.Doing.{answer_memory, arrive_memory, call_memory, give_memory, order_memory, post_memory, take_memory}
+use Rattle.service_events.specs.Messages.{give_event, posted_event, take_event, take_token_event}
 use Rattle.service_events.specs.Orders.{order_event}
 use Rattle.service_events.specs.Posts.{next_post, write_post}
 use Rattle.service_events.specs.Steps.{step_event}
@@ -29,7 +29,8 @@ event s (events.CallAnswered flight a) = telling done.CallAnswered (call_answere
 event s (events.CallFailed flight number why) = telling done.CallFailed (call_failed_event s flight number why)
 event s (events.Abandon flight) = telling done.Abandon (abandon_event s flight)
 event s (events.Take set i) = telling done.Take (take_event s set i)
-event s (events.TakeAnswer a) = telling done.TakeAnswer (take_answer_event s a)
+event s (events.TakeToken t) = telling done.TakeToken (take_token_event s t)
+event s (events.Give f) = telling done.Give (give_event s f)
 event s (events.NextPost dest) = after s (done.NextPost (next_post dest s))
 event s (events.WritePost name) = after s (done.WritePost (ok_or (write_post s name) (record {})))
 event s (events.Posted p reply) = telling done.Posted (posted_event s p reply)
@@ -57,7 +58,8 @@ is_lacking (done.Arrive result) = lacks arrive_memory result
 is_lacking (done.CallAnswered result) = lacks call_memory result
 is_lacking (done.CallFailed result) = lacks call_memory result
 is_lacking (done.Take result) = lacks take_memory result
-is_lacking (done.TakeAnswer result) = lacks answer_memory result
+is_lacking (done.TakeToken result) = lacks answer_memory result
+is_lacking (done.Give result) = lacks give_memory result
 is_lacking (done.WritePost result) = is_err result
 is_lacking (done.Posted result) = lacks post_memory result
 is_lacking (done.Step result) = is_err result

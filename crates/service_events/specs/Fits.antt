@@ -1,5 +1,5 @@
 -- How what a service keeps follows from its journal.
-use Rattle.std.specs.Prelude.{ℕ, ◌≡◌, ◌+◌, ◌<◌, ◌≤◌, Bool, true, false, ◌&&◌, not, List, [], ◌∷◌, ◌++◌, Option, Some, None, IsSome, IfSome, IsSomeAnd, MatchOption, All, AllPairs, if◌then◌else◌, map, length, find, nat_eq, option_map, is_some, ◌↔◌}
+use Rattle.std.specs.Prelude.{ℕ, ◌≡◌, ◌+◌, ◌<◌, ◌≤◌, Bool, true, false, ◌&&◌, not, List, [], ◌∷◌, ◌++◌, Option, Some, None, IsSome, IfSome, IsSomeAnd, MatchOption, All, AllPairs, if◌then◌else◌, map, max, length, find, nat_eq, option_map, is_some, ◌↔◌}
 use Rattle.std.specs.List.{list_any}
 use Rattle.std.specs.Option.{option_map_or}
 use Rattle.lang_core.specs.declared.ids.Origin.{Origin}
@@ -11,12 +11,16 @@ use Rattle.request_log.specs.Entries.{has_id, find_call, IsDistinct}
 use Rattle.request_log.specs.Records.{Record, record_of, recorded_calls}
 use Rattle.request_log.specs.declared.entry.Entry.{Entry}
 use Rattle.local_repair.specs.Current.{AllRuns}
-use Rattle.journal_rows.specs.Words.{last_sent, named, seen_acked, last_seen, seen_version, claimed, taken_version, taken_version_of, last_taken_of, is_version_of, wants, asked, asked_count, last_answered, given_version, request_now, is_struck, last_mark, settles, ordered, last_row}
+use Rattle.journal_rows.specs.Words.{last_sent, named, seen_acked, last_seen, seen_version, claimed, last_noted, noted_version, noted_at, confirmed_version, taken_version, taken_version_of, last_taken_of, is_version_of, wants, asked, asked_count, last_answered, given_version, request_now, is_struck, last_mark, settles, ordered, last_row}
 use Rattle.journal_rows.specs.declared.callee.AnsweredRow.{AnsweredRow}
 use Rattle.journal_rows.specs.declared.callee.AskedRow.{AskedRow}
 use Rattle.journal_rows.specs.declared.caller.AckHow.{AckHow}
 use Rattle.journal_rows.specs.declared.caller.AckHow.TheVariants.{WithAnswer, ToPost}
 use Rattle.journal_rows.specs.declared.callee.TookHow.TheVariants.{Live, Message}
+use Rattle.journal_rows.specs.declared.caller.NotedRow.{NotedRow}
+use Rattle.journal_rows.specs.declared.caller.SawAnswerRow.{SawAnswerRow}
+use Rattle.journal_rows.specs.declared.caller.SawHow.{SawHow}
+use Rattle.journal_rows.specs.declared.caller.SawHow.TheVariants.{Live as SeenLive, Fetch as Fetched}
 use Rattle.journal_rows.specs.declared.caller.SentRow.{SentRow}
 use Rattle.journal_rows.specs.declared.callee.TookHow.{TookHow}
 use Rattle.journal_rows.specs.declared.orders.About.{About}
@@ -25,7 +29,7 @@ use Rattle.journal_rows.specs.declared.orders.Command.{Command}
 use Rattle.journal_rows.specs.declared.orders.Command.TheVariants.{Cancel, Restore, Replace}
 use Rattle.journal_rows.specs.declared.orders.OrderedRow.{OrderedRow}
 use Rattle.journal_rows.specs.declared.row.Row.{Row}
-use Rattle.journal_rows.specs.declared.row.Row.TheVariants.{Asked, Took, Acked, Answered, WasConfirmed, Sent, SawAck, SawAnswer, Confirmed, Ordered}
+use Rattle.journal_rows.specs.declared.row.Row.TheVariants.{Asked, Took, Acked, Answered, WasConfirmed, Sent, SawAck, Noted, SawAnswer, Confirmed, Ordered}
 use Rattle.call_registers.specs.Registers.{register, IsNumbered}
 use Rattle.call_registers.specs.Replies.{IsRising}
 use Rattle.call_registers.specs.declared.register.Answer.{Answer}
@@ -63,11 +67,27 @@ pub record FitsSent (journal : List Row) (kept : List Register) : Type 0 where
 
 -- ---- b. What was seen of own calls
 
+-- a token announced the answer before, for the same user, and the same rule allowed it
+abbrev pub WasAnnounced : List Row → SawAnswerRow → Type 0
+WasAnnounced before a = IsSomeAnd (noted_at a.number a.answer_version before) (λ (n : NotedRow). (n.who ≡ a.who) × (n.rule ≡ a.rule))
+
+-- an answer that isn't live was announced
+abbrev pub ComesBy : SawHow → List Row → SawAnswerRow → Type 0
+ComesBy SeenLive before a = Unit {0}
+ComesBy Fetched before a = WasAnnounced before a
+
+-- what is announced is above all that was announced or seen of the call before
+pub record IsNewTo (before : List Row) (n : NotedRow) : Type 0 where
+  pub announced : noted_version (last_noted n.number before) < n.answer_version
+  pub seen : seen_version (last_seen n.number before) < n.answer_version
+
 -- what is seen is of a call that was sent, and answer versions rise
 abbrev pub SeesOn : List Row → Row → Type 0
 SeesOn before (SawAck a) = IsSome (last_sent a.number before)
+SeesOn before (Noted n) = IsSome (last_sent n.number before) × IsNewTo before n
 SeesOn before (SawAnswer a) =
     IsSome (last_sent a.number before) × IfSome (last_seen a.number before) (λ last. last.answer_version < a.answer_version)
+    × ComesBy a.how before a
 SeesOn before (Confirmed c) = IsSome (last_sent c.number before)
 SeesOn before row = Unit {0}
 
@@ -75,23 +95,34 @@ abbrev pub is_with_answer : AckHow → Bool
 is_with_answer (WithAnswer answer_version) = true
 is_with_answer ToPost = false
 
--- a register has this greatest version that was acknowledged and this last answer
-pub record HasSeen (greatest : ℕ) (last : Option Answer) (r : Register) : Type 0 where
+-- what a register says of answers that were announced is what the last token said, or as at first; at which index it stands is told with
+-- ages
+abbrev pub HasNoted : Option NotedRow → Register → Type 0
+HasNoted None r = (r.noted ≡ 0) × (r.noted_rule ≡ 0) × (r.noted_since ≡ 0)
+HasNoted (Some n) r = (r.noted ≡ n.answer_version) × (r.noted_who ≡ n.who) × (r.noted_rule ≡ n.rule)
+
+-- a register has this greatest version that was acknowledged, this last answer and this last token
+pub record HasSeen (greatest : ℕ) (last : Option Answer) (token : Option NotedRow) (r : Register) : Type 0 where
   pub acked : r.acked ≡ greatest
   pub answer : r.answer ≡ last
+  pub noted : HasNoted token r
 
--- the row says that an answer to the call of this number was seen
+-- the row says that a live answer to the call of this number was seen
 abbrev pub tells_of_answer : ℕ → Row → Bool
 tells_of_answer number (SawAck a) = nat_eq a.number number && is_with_answer a.how
-tells_of_answer number (Confirmed c) = nat_eq c.number number
 tells_of_answer number row = false
+
+-- the greatest answer version that was announced or seen, or 0
+abbrev pub known_version : ℕ → List Row → ℕ
+known_version number journal = max (seen_version (last_seen number journal)) (noted_version (last_noted number journal))
 
 pub record FitsSeen (journal : List Row) (kept : List Register) : Type 0 where
   pub rows : EachAfter SeesOn [] journal
   pub registers : (number : ℕ)
-      → IfSome (register number kept) (HasSeen (seen_acked number journal) (option_map seen_answer (last_seen number journal)))
+      → IfSome (register number kept) (HasSeen (seen_acked number journal) (option_map seen_answer (last_seen number journal)) (last_noted number journal))
   pub answered : (number : ℕ) → list_any (tells_of_answer number) journal ≡ true → IsSome (last_seen number journal)
   pub heard : (number : ℕ) → claimed number journal ≤ seen_version (last_seen number journal)
+  pub told : (number : ℕ) → confirmed_version number journal ≤ known_version number journal
 
 -- ---- c. What was taken of other services' calls
 

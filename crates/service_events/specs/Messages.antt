@@ -1,4 +1,4 @@
--- Events of repair messages: a version of a call is taken, an answer is taken, something comes back of a post.
+-- Events of repair messages: a version of a call is taken, a token is taken, an answer is given, something comes back of a post.
 use Rattle.std.specs.Prelude.{ℕ, ◌+◌, Bool, true, false, ◌&&◌, not, List, [], ◌∷◌, ◌++◌, Option, Some, None, Result, Ok, Err, if◌then◌else◌, nat_eq, nat_le, length, find, insert, is_some, option_map}
 use Rattle.lang_base.specs.Texts.{same_text}
 use Rattle.lang_core.specs.declared.ids.Origin.{Origin}
@@ -11,18 +11,22 @@ use Rattle.create_placement.specs.Placement.{place_between}
 use Rattle.repair_messages.specs.declared.messages.Ack.{Ack}
 use Rattle.repair_messages.specs.declared.messages.AnswerMessage.{AnswerMessage}
 use Rattle.repair_messages.specs.declared.messages.Confirm.{Confirm}
+use Rattle.repair_messages.specs.declared.messages.Fetch.{Fetch as FetchMessage}
 use Rattle.repair_messages.specs.declared.messages.SetMessage.{SetMessage}
+use Rattle.repair_messages.specs.declared.messages.TokenMessage.{TokenMessage}
 use Rattle.repair_messages.specs.declared.posts.Post.{Post}
-use Rattle.repair_messages.specs.declared.posts.Post.TheVariants.{Set, Answer}
+use Rattle.repair_messages.specs.declared.posts.Post.TheVariants.{Set, Token, Fetch}
 use Rattle.authorise_rules.specs.Deciding.{decision}
 use Rattle.authorise_rules.specs.declared.asked.Decision.{Decision}
-use Rattle.journal_rows.specs.Words.{taken_version, or_before}
+use Rattle.journal_rows.specs.Words.{given_at, noted_at, taken_version, or_before}
+use Rattle.journal_rows.specs.declared.callee.AnsweredRow.{AnsweredRow}
 use Rattle.journal_rows.specs.declared.caller.AckHow.TheVariants.{ToPost}
 use Rattle.journal_rows.specs.declared.callee.TookHow.TheVariants.{Message}
-use Rattle.journal_rows.specs.declared.caller.SawHow.TheVariants.{Message as SeenMessage}
+use Rattle.journal_rows.specs.declared.caller.NotedRow.{NotedRow}
+use Rattle.journal_rows.specs.declared.caller.SawHow.TheVariants.{Fetch as Fetched}
 use Rattle.journal_rows.specs.declared.row.Row.{Row}
-use Rattle.journal_rows.specs.declared.row.Row.TheVariants.{Asked, Took, Acked, WasConfirmed, SawAck, SawAnswer, Confirmed}
-use Rattle.call_registers.specs.Registers.{register, at_number, with_hold, is_newer}
+use Rattle.journal_rows.specs.declared.row.Row.TheVariants.{Asked, Took, Acked, WasConfirmed, SawAck, Noted, SawAnswer, Confirmed}
+use Rattle.call_registers.specs.Registers.{register, at_number, with_hold, is_news, is_newer}
 use Rattle.call_registers.specs.Replies.{reply, at_entry, with_taken, with_confirm, made_due, with_hold as with_reply_hold}
 use Rattle.call_registers.specs.declared.register.Hold.{Hold}
 use Rattle.call_registers.specs.declared.register.Hold.TheVariants.{Rule, Unknown as Unheard}
@@ -33,14 +37,16 @@ use Rattle.service_events.specs.Calls.{noted}
 use Rattle.service_events.specs.Questions.{version_question, answer_question, is_denied, rule_of}
 use Rattle.service_events.specs.declared.answers.Heard.{Heard}
 use Rattle.service_events.specs.declared.answers.PostReply.{PostReply}
-use Rattle.service_events.specs.declared.answers.PostReply.TheVariants.{Acked as WasAcked, Confirmed as WasConfirmedBack, Refused, Lost}
+use Rattle.service_events.specs.declared.answers.PostReply.TheVariants.{Acked as WasAcked, Confirmed as WasConfirmedBack, Given, Refused, Lost}
 use Rattle.service_events.specs.declared.answers.PostWord.{PostWord}
 use Rattle.service_events.specs.declared.answers.PostWord.TheVariants.{Denied as DeniedPost, Unknown as UnknownPost}
 use Rattle.service_events.specs.declared.answers.Posted.{Posted}
-use Rattle.service_events.specs.declared.answers.Posted.TheVariants.{Acked as PostAcked, Confirmed as PostConfirmed, Held, Left}
+use Rattle.service_events.specs.declared.answers.Posted.TheVariants.{Acked as PostAcked, Confirmed as PostConfirmed, Saw as PostSaw, Knew as PostKnew, Held, Left}
 use Rattle.service_events.specs.declared.answers.Taken.{Taken}
 use Rattle.service_events.specs.declared.refusals.AnswerRefused.{AnswerRefused}
 use Rattle.service_events.specs.declared.refusals.AnswerRefused.TheVariants.{Unknown, Denied as DeniedAnswer}
+use Rattle.service_events.specs.declared.refusals.GiveRefused.{GiveRefused}
+use Rattle.service_events.specs.declared.refusals.GiveRefused.TheVariants.{Unknown as Ungiven}
 use Rattle.service_events.specs.declared.refusals.PostRefused.{PostRefused}
 use Rattle.service_events.specs.declared.refusals.PostRefused.TheVariants.{Foreign}
 use Rattle.service_events.specs.declared.refusals.TakeRefused.{TakeRefused}
@@ -188,59 +194,74 @@ abbrev pub take_event : Kept → SetMessage → Inputs → After (Result Taken T
 take_event s set i =
     if is_in_flight (origin_of set) s then after s (Err (NotYet set.number)) else take_admitted s set i (is_too_much s set)
 
--- ---- an answer
+-- ---- a token
 
-abbrev pub confirm_of : AnswerMessage → Confirm
-confirm_of a = record { caller = a.caller; callee = a.callee; number = a.number; answer_version = a.answer_version }
+abbrev pub confirm_of : TokenMessage → Confirm
+confirm_of t = record { caller = t.caller; callee = t.callee; number = t.number; answer_version = t.answer_version }
 
-abbrev pub confirmed_row : AnswerMessage → Row
-confirmed_row a = Confirmed (record { number = a.number; answer_version = a.answer_version })
+abbrev pub confirmed_row : TokenMessage → Row
+confirmed_row t = Confirmed (record { number = t.number; answer_version = t.answer_version })
 
--- what the service's rules decide of an answer to the call of this register
-abbrev pub hear_decision : Kept → AnswerMessage → Register → Decision
-hear_decision s a r = decision s.rules (answer_question r.dest a.who r.desired)
+-- what the service's rules decide of another answer to the call of this register
+abbrev pub hear_decision : Kept → TokenMessage → Register → Decision
+hear_decision s t r = decision s.rules (answer_question r.dest t.who r.desired)
 
 -- with the number of the rule that allowed it
-abbrev pub seen_row : ℕ → AnswerMessage → Row
-seen_row rule a =
-    SawAnswer (record {
-      number = a.number;
+abbrev pub noted_row : ℕ → TokenMessage → Row
+noted_row rule t = Noted (record { number = t.number; answer_version = t.answer_version; who = t.who; rule = rule })
+
+abbrev pub heard : TokenMessage → Option ℕ → Heard
+heard t rule = record { confirm = confirm_of t; rule = rule }
+
+abbrev pub hear_rule : Kept → TokenMessage → Register → ℕ
+hear_rule s t r = rule_of (hear_decision s t r)
+
+abbrev pub hear_denied : Kept → TokenMessage → Register → After (Result Heard AnswerRefused)
+hear_denied s t r = after s (Err (DeniedAnswer (hear_rule s t r)))
+
+abbrev pub hear_allowed : Kept → TokenMessage → Register → After (Result Heard AnswerRefused)
+hear_allowed s t r =
+    after (noted (noted_row (hear_rule s t r) t ∷ (confirmed_row t ∷ [])) s) (Ok (heard t (Some (hear_rule s t r))))
+
+-- of one that tells anything new, rules are asked
+abbrev pub hear_new : Kept → TokenMessage → Register → After (Result Heard AnswerRefused)
+hear_new s t r = if is_denied (hear_decision s t r) then hear_denied s t r else hear_allowed s t r
+
+abbrev pub token_taken_by : Kept → TokenMessage → Register → After (Result Heard AnswerRefused)
+token_taken_by s t r =
+    if not (same_text r.dest t.callee) then after s (Err (Unknown t.number))
+    else (if is_news r t.answer_version then hear_new s t r else after (noted (confirmed_row t ∷ []) s) (Ok (heard t None)))
+
+abbrev pub token_taken_where : Kept → TokenMessage → Option Register → After (Result Heard AnswerRefused)
+token_taken_where s t None = after s (Err (Unknown t.number))
+token_taken_where s t (Some r) = token_taken_by s t r
+
+abbrev pub take_token_event : Kept → TokenMessage → After (Result Heard AnswerRefused)
+take_token_event s t = token_taken_where s t (register t.number s.registers)
+
+-- ---- an answer is given to who fetches it
+
+-- as it was given when it was made
+abbrev pub answer_again : Kept → FetchMessage → AnsweredRow → AnswerMessage
+answer_again s f a =
+    record {
+      caller = f.caller;
+      callee = me s;
+      id = a.id;
+      number = f.number;
       answer_version = a.answer_version;
       version = a.version;
       response = a.response;
-      how = SeenMessage;
-      who = a.who;
-      rule = rule;
-    })
+      who = me s;
+    }
 
-abbrev pub heard : AnswerMessage → Option ℕ → Heard
-heard a rule = record { confirm = confirm_of a; rule = rule }
+abbrev pub given_where : Kept → FetchMessage → Option AnsweredRow → Result AnswerMessage GiveRefused
+given_where s f None = Err (Ungiven f.number)
+given_where s f (Some a) = Ok (answer_again s f a)
 
-abbrev pub hear_rule : Kept → AnswerMessage → Register → ℕ
-hear_rule s a r = rule_of (hear_decision s a r)
-
-abbrev pub hear_denied : Kept → AnswerMessage → Register → After (Result Heard AnswerRefused)
-hear_denied s a r = after s (Err (DeniedAnswer (hear_rule s a r)))
-
-abbrev pub hear_allowed : Kept → AnswerMessage → Register → After (Result Heard AnswerRefused)
-hear_allowed s a r =
-    after (noted (seen_row (hear_rule s a r) a ∷ (confirmed_row a ∷ [])) s) (Ok (heard a (Some (hear_rule s a r))))
-
--- of one that is newer than the answer that is held, rules are asked
-abbrev pub hear_new : Kept → AnswerMessage → Register → After (Result Heard AnswerRefused)
-hear_new s a r = if is_denied (hear_decision s a r) then hear_denied s a r else hear_allowed s a r
-
-abbrev pub answer_taken_by : Kept → AnswerMessage → Register → After (Result Heard AnswerRefused)
-answer_taken_by s a r =
-    if not (same_text r.dest a.callee) then after s (Err (Unknown a.number))
-    else (if is_newer r.answer a.answer_version then hear_new s a r else after (noted (confirmed_row a ∷ []) s) (Ok (heard a None)))
-
-abbrev pub answer_taken_where : Kept → AnswerMessage → Option Register → After (Result Heard AnswerRefused)
-answer_taken_where s a None = after s (Err (Unknown a.number))
-answer_taken_where s a (Some r) = answer_taken_by s a r
-
-abbrev pub take_answer_event : Kept → AnswerMessage → After (Result Heard AnswerRefused)
-take_answer_event s a = answer_taken_where s a (register a.number s.registers)
+-- the answer of the version that is asked for, whatever was answered since; nothing changes
+abbrev pub give_event : Kept → FetchMessage → After (Result AnswerMessage GiveRefused)
+give_event s f = after s (given_where s f (given_at f.caller f.number f.answer_version s.journal))
 
 -- ---- what comes back of a post
 
@@ -254,30 +275,47 @@ had_call set None = false
 had_call set (Some r) = same_text r.dest set.dest && is_version set.version r.version
 
 -- the service had that answer, to that call
-abbrev pub had_answer : AnswerMessage → Option Reply → Bool
-had_answer a None = false
-had_answer a (Some p) = same_text p.caller a.caller && nat_eq p.number a.number && is_version a.answer_version p.answer_version
+abbrev pub had_answer : TokenMessage → Option Reply → Bool
+had_answer t None = false
+had_answer t (Some p) = same_text p.caller t.caller && nat_eq p.number t.number && is_version t.answer_version p.answer_version
+
+-- the service has that call, to that service
+abbrev pub has_call : FetchMessage → Option Register → Bool
+has_call f None = false
+has_call f (Some r) = same_text r.dest f.callee
 
 abbrev pub is_ack_of : SetMessage → Ack → Bool
 is_ack_of set ack =
     same_text ack.caller set.caller && same_text ack.dest set.dest && nat_eq ack.number set.number && nat_eq ack.version set.version
 
-abbrev pub is_confirm_of : AnswerMessage → Confirm → Bool
-is_confirm_of a c =
-    same_text c.caller a.caller && same_text c.callee a.callee && nat_eq c.number a.number && nat_eq c.answer_version a.answer_version
+abbrev pub is_confirm_of : TokenMessage → Confirm → Bool
+is_confirm_of t c =
+    same_text c.caller t.caller && same_text c.callee t.callee && nat_eq c.number t.number && nat_eq c.answer_version t.answer_version
+
+-- the answer is the one that is asked for
+abbrev pub is_given_to : FetchMessage → AnswerMessage → Bool
+is_given_to f a = same_text a.callee f.callee && nat_eq a.number f.number && nat_eq a.answer_version f.answer_version
 
 -- the reply is one to that post
 abbrev pub replies_to : Post → PostReply → Bool
 replies_to (Set set) (WasAcked ack) = is_ack_of set ack
-replies_to (Answer a) (WasConfirmedBack c) = is_confirm_of a c
 replies_to (Set set) (WasConfirmedBack c) = false
-replies_to (Answer a) (WasAcked ack) = false
+replies_to (Set set) (Given a) = false
+replies_to (Token t) (WasAcked ack) = false
+replies_to (Token t) (WasConfirmedBack c) = is_confirm_of t c
+replies_to (Token t) (Given a) = false
+replies_to (Fetch f) (WasAcked ack) = false
+replies_to (Fetch f) (WasConfirmedBack c) = false
+replies_to (Fetch f) (Given a) = is_given_to f a
 replies_to post (Refused word number) = true
 replies_to post (Lost note) = true
 
+-- of a fetch: a token announced that answer
 abbrev pub had : Kept → Post → Bool
 had s (Set set) = same_text set.caller (me s) && had_call set (register set.number s.registers)
-had s (Answer a) = same_text a.callee (me s) && had_answer a (reply a.id s.replies)
+had s (Token t) = same_text t.callee (me s) && had_answer t (reply t.id s.replies)
+had s (Fetch f) =
+    same_text f.caller (me s) && has_call f (register f.number s.registers) && is_some (noted_at f.number f.answer_version s.journal)
 
 abbrev pub call_is_now : ℕ → Option Register → Bool
 call_is_now version None = false
@@ -287,10 +325,11 @@ abbrev pub answer_is_now : ℕ → Option Reply → Bool
 answer_is_now answer_version None = false
 answer_is_now answer_version (Some p) = nat_eq answer_version p.answer_version
 
--- its version is the current one
+-- its version is the current one; a fetch is never held
 abbrev pub is_now : Kept → Post → Bool
 is_now s (Set set) = call_is_now set.version (register set.number s.registers)
-is_now s (Answer a) = answer_is_now a.answer_version (reply a.id s.replies)
+is_now s (Token t) = answer_is_now t.answer_version (reply t.id s.replies)
+is_now s (Fetch f) = false
 
 -- whether a refusal with this word holds a post, and how
 abbrev pub hold_of : PostWord → ℕ → Option Hold
@@ -300,7 +339,8 @@ hold_of word number = None
 
 abbrev pub held_back : Kept → Post → Hold → Kept
 held_back s (Set set) hold = record s { registers = at_number set.number (with_hold hold) s.registers }
-held_back s (Answer a) hold = record s { replies = at_entry a.id (with_reply_hold hold) s.replies }
+held_back s (Token t) hold = record s { replies = at_entry t.id (with_reply_hold hold) s.replies }
+held_back s (Fetch f) hold = s
 
 abbrev pub held_where : Kept → Post → Option Hold → After (Result Posted PostRefused)
 held_where s post None = after s (Ok Left)
@@ -315,13 +355,38 @@ was_confirmed_row c =
 
 -- the reply of the entry that this post is about
 abbrev pub confirmed_reply : Kept → Post → ℕ → List Reply
-confirmed_reply s (Answer a) answer_version = at_entry a.id (with_confirm answer_version (length s.journal)) s.replies
-confirmed_reply s (Set set) answer_version = s.replies
+confirmed_reply s (Token t) answer_version = at_entry t.id (with_confirm answer_version (length s.journal)) s.replies
+confirmed_reply s post answer_version = s.replies
+
+-- the row of an answer that was fetched: for whom the token was sent that announced it, and the rule that allowed that
+abbrev pub fetched_row : AnswerMessage → NotedRow → Row
+fetched_row a n =
+    SawAnswer (record {
+      number = a.number;
+      answer_version = a.answer_version;
+      version = a.version;
+      response = a.response;
+      how = Fetched;
+      who = n.who;
+      rule = n.rule;
+    })
+
+-- an answer that isn't above the one that is held changes nothing
+abbrev pub fetched_by : Kept → AnswerMessage → Register → NotedRow → After (Result Posted PostRefused)
+fetched_by s a r n =
+    if is_newer r.answer a.answer_version then after (noted (fetched_row a n ∷ []) s) (Ok PostSaw) else after s (Ok PostKnew)
+
+-- the service has that call, and a token announced that answer; the other cases never come
+abbrev pub fetched : Kept → AnswerMessage → Option Register → Option NotedRow → After (Result Posted PostRefused)
+fetched s a (Some r) (Some n) = fetched_by s a r n
+fetched s a (Some r) None = after s (Ok Left)
+fetched s a None o = after s (Ok Left)
 
 abbrev pub posted : Kept → Post → PostReply → After (Result Posted PostRefused)
 posted s post (WasAcked ack) = after (noted (saw_ack_row ack ∷ []) s) (Ok PostAcked)
 posted s post (WasConfirmedBack c) =
     after (noted (was_confirmed_row c ∷ []) (record s { replies = confirmed_reply s post c.answer_version })) (Ok PostConfirmed)
+posted s post (Given a) = fetched s a (register a.number s.registers) (noted_at a.number a.answer_version s.journal)
 posted s post (Refused word number) = held_where s post (hold_of word number)
 posted s post (Lost note) = after s (Ok Left)
 

@@ -9,7 +9,7 @@ use Rattle.request_log.specs.Entries.{has_id, changed, mark, replace, with_call}
 use Rattle.request_log.specs.declared.entry.Entry.{Entry}
 use Rattle.create_placement.specs.Placement.{place_between, created}
 use Rattle.repair_messages.specs.declared.posts.PostName.{PostName}
-use Rattle.repair_messages.specs.declared.posts.PostName.TheVariants.{Call as OfCall, Reply as OfReply}
+use Rattle.repair_messages.specs.declared.posts.PostName.TheVariants.{Call as OfCall, Reply as OfReply, Fetch as OfFetch}
 use Rattle.authorise_rules.specs.Deciding.{decision}
 use Rattle.authorise_rules.specs.declared.asked.Decision.{Decision}
 use Rattle.journal_rows.specs.Words.{ordered}
@@ -57,6 +57,7 @@ unless_held (Some hold) = None
 abbrev pub hold_on : Kept → PostName → Option Hold
 hold_on s (OfCall number) = option_map_or (λ (r : Register). r.held) (register number s.registers) None
 hold_on s (OfReply id) = option_map_or (λ (p : Reply). p.held) (reply id s.replies) None
+hold_on s (OfFetch number) = None
 
 -- why an order can't be about what it names
 abbrev pub misnamed : Kept → Command → Option OrderRefused
@@ -89,6 +90,7 @@ subject s (Replace id method path body) = request_of id s
 subject s (Create before after q) = None
 subject s (Retry (OfCall number)) = request_retried number s
 subject s (Retry (OfReply id)) = request_of id s
+subject s (Retry (OfFetch number)) = None
 
 -- the request that a command puts there, where it finds this one
 abbrev pub request_put : Command → Option Request → Option Request
@@ -151,6 +153,7 @@ order_rows s command token who i =
 abbrev pub released_post : List ℕ → PostName → Kept → Kept
 released_post who (OfCall number) s = record s { registers = at_number number (released who) s.registers }
 released_post who (OfReply id) s = record s { replies = at_entry id (released_reply who) s.replies }
+released_post who (OfFetch number) s = s
 
 -- what it makes of the service, but its rows
 abbrev pub carried_out : Kept → Command → List ℕ → Inputs → Kept

@@ -1,23 +1,23 @@
 -- What a service is to post to another one: which posts are outstanding, which of them is the oldest, and what its message says.
-use Rattle.std.specs.Prelude.{ℕ, Bool, false, ◌&&◌, not, List, ◌++◌, Option, Some, None, if◌then◌else◌, nat_eq, nat_lt, filter, find, flat_map, fold, is_none, map, option_map, slice_get}
+use Rattle.std.specs.Prelude.{ℕ, Bool, false, ◌&&◌, not, List, ◌++◌, Option, Some, None, if◌then◌else◌, nat_eq, nat_lt, filter, flat_map, fold, is_none, map, option_map, slice_get}
 use Rattle.std.specs.List.{after_first, before_first, last_or, list_any}
 use Rattle.std.specs.Option.{option_map_or}
 use Rattle.lang_base.specs.Texts.{same_text}
 use Rattle.lang_core.specs.declared.trace.CallMade.{CallMade}
-use Rattle.request_log.specs.Entries.{has_id}
-use Rattle.request_log.specs.Records.{Record, record_of}
 use Rattle.request_log.specs.declared.entry.Entry.{Entry}
+use Rattle.repair_messages.specs.declared.messages.Fetch.{Fetch as FetchMessage}
 use Rattle.repair_messages.specs.declared.messages.SetMessage.{SetMessage}
+use Rattle.repair_messages.specs.declared.messages.TokenMessage.{TokenMessage}
 use Rattle.repair_messages.specs.declared.posts.Post.{Post}
-use Rattle.repair_messages.specs.declared.posts.Post.TheVariants.{Set, Answer}
+use Rattle.repair_messages.specs.declared.posts.Post.TheVariants.{Set, Token, Fetch}
 use Rattle.repair_messages.specs.declared.posts.PostName.{PostName}
-use Rattle.repair_messages.specs.declared.posts.PostName.TheVariants.{Call, Reply as OfReply}
-use Rattle.call_registers.specs.Registers.{register}
+use Rattle.repair_messages.specs.declared.posts.PostName.TheVariants.{Call, Reply as OfReply, Fetch as OfFetch}
+use Rattle.call_registers.specs.Registers.{owes_fetch, register}
 use Rattle.call_registers.specs.Replies.{reply}
 use Rattle.call_registers.specs.declared.register.Register.{Register}
 use Rattle.call_registers.specs.declared.reply.Reply.{Reply}
 use Rattle.service_events.specs.Fits.{wanted_call}
-use Rattle.service_events.specs.Flying.{awaited, last_answer}
+use Rattle.service_events.specs.Flying.{awaited}
 use Rattle.service_events.specs.State.{Kept, me}
 
 -- ---- the oldest outstanding post
@@ -27,9 +27,13 @@ abbrev pub is_unacknowledged : List ℕ → List ℕ → Register → Bool
 is_unacknowledged awaited dest r =
     same_text r.dest dest && nat_lt r.acked r.version && is_none r.held && not (list_any (nat_eq r.number) awaited)
 
--- a reply to a call of this service that is due: it has an answer, and nothing holds it
+-- a reply to a call of this service that is due: it has an answer to announce, and nothing holds it
 abbrev pub is_owed : List ℕ → Reply → Bool
 is_owed caller p = same_text p.caller caller && p.due && nat_lt 0 p.answer_version && is_none p.held
+
+-- a call of which an answer is to be fetched from this service, whether or not a flight awaits it
+abbrev pub is_to_fetch : List ℕ → Register → Bool
+is_to_fetch dest r = owes_fetch r && same_text r.dest dest
 
 -- a post, and the index in the journal from which on it is to be sent
 pub record Aged : Type 0 where
@@ -42,10 +46,14 @@ aged_call r = record { name = Call r.number; since = r.since }
 abbrev pub aged_reply : Reply → Aged
 aged_reply p = record { name = OfReply p.id; since = p.since }
 
+abbrev pub aged_fetch : Register → Aged
+aged_fetch r = record { name = OfFetch r.number; since = r.noted_since }
+
 -- those for this service, where flights await these numbers
 abbrev pub outstanding : List Register → List Reply → List ℕ → List ℕ → List Aged
 outstanding registers replies awaited dest =
-    map aged_call (filter (is_unacknowledged awaited dest) registers) ++ map aged_reply (filter (is_owed dest) replies)
+    (map aged_call (filter (is_unacknowledged awaited dest) registers) ++ map aged_reply (filter (is_owed dest) replies))
+    ++ map aged_fetch (filter (is_to_fetch dest) registers)
 
 abbrev pub older : Option Aged → Aged → Option Aged
 older None post = Some post
@@ -95,19 +103,35 @@ set_message s r =
       who = r.repair_who;
     }
 
--- an entry's last answer, to the call that its reply is to
-abbrev pub answer_post : Kept → Reply → Entry → Record → Post
-answer_post s p e r = Answer (record (last_answer s p.caller p.number e r) { who = p.repair_who })
+-- the token of a reply's last answer
+abbrev pub token_message : Kept → Reply → TokenMessage
+token_message s p =
+    record {
+      caller = p.caller;
+      callee = me s;
+      id = p.id;
+      number = p.number;
+      answer_version = p.answer_version;
+      who = p.repair_who;
+    }
 
-abbrev pub reply_post : Kept → Reply → Option Entry → Option Post
-reply_post s p None = None
-reply_post s p (Some e) = option_map (answer_post s p e) (record_of e)
+-- a reply has one once it has an answer
+abbrev pub token_post : Kept → Option Reply → Option Post
+token_post s None = None
+token_post s (Some p) = if nat_lt 0 p.answer_version then Some (Token (token_message s p)) else None
 
-abbrev pub where_there : Kept → Option Reply → Option Post
-where_there s None = None
-where_there s (Some p) = reply_post s p (find (has_id p.id) s.entries)
+-- the fetch of the last answer to a call that was announced
+abbrev pub fetch_message : Kept → Register → FetchMessage
+fetch_message s r = record { caller = me s; callee = r.dest; number = r.number; answer_version = r.noted }
 
--- the message of a post as it is now, where there is such a call, or such a reply with an answer
+-- there is one once any was announced
+abbrev pub fetch_post : Kept → Option Register → Option Post
+fetch_post s None = None
+fetch_post s (Some r) = if nat_lt 0 r.noted then Some (Fetch (fetch_message s r)) else None
+
+-- the message of a post as it is now, where there is such a call, such a reply with an answer, or such a call of which an answer was
+-- announced
 abbrev pub write_post : Kept → PostName → Option Post
 write_post s (Call number) = option_map (λ r. Set (set_message s r)) (register number s.registers)
-write_post s (OfReply id) = where_there s (reply id s.replies)
+write_post s (OfReply id) = token_post s (reply id s.replies)
+write_post s (OfFetch number) = fetch_post s (register number s.registers)

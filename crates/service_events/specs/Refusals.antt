@@ -16,6 +16,8 @@ use Rattle.service_events.specs.declared.refusals.ArriveRefused.{ArriveRefused}
 use Rattle.service_events.specs.declared.refusals.ArriveRefused.TheVariants as arrive
 use Rattle.service_events.specs.declared.refusals.CallRefused.{CallRefused}
 use Rattle.service_events.specs.declared.refusals.CallRefused.TheVariants as call
+use Rattle.service_events.specs.declared.refusals.GiveRefused.{GiveRefused}
+use Rattle.service_events.specs.declared.refusals.GiveRefused.TheVariants as give
 use Rattle.service_events.specs.declared.refusals.OrderRefused.{OrderRefused}
 use Rattle.service_events.specs.declared.refusals.OrderRefused.TheVariants as order
 use Rattle.service_events.specs.declared.refusals.PostRefused.{PostRefused}
@@ -47,6 +49,10 @@ answer_refusal answer.NoMemory = refusal NoMemory 0
 answer_refusal (answer.Unknown number) = refusal Unknown number
 answer_refusal (answer.Denied rule) = refusal Denied rule
 
+abbrev pub give_refusal : GiveRefused → Refusal
+give_refusal give.NoMemory = refusal NoMemory 0
+give_refusal (give.Unknown number) = refusal Unknown number
+
 abbrev pub post_refusal : PostRefused → Refusal
 post_refusal post.NoMemory = refusal NoMemory 0
 post_refusal post.Foreign = refusal Foreign 0
@@ -73,7 +79,8 @@ refusal_of (done.Arrive result) = refusal_in arrive_refusal result
 refusal_of (done.CallAnswered result) = refusal_in call_refusal result
 refusal_of (done.CallFailed result) = refusal_in call_refusal result
 refusal_of (done.Take result) = refusal_in take_refusal result
-refusal_of (done.TakeAnswer result) = refusal_in answer_refusal result
+refusal_of (done.TakeToken result) = refusal_in answer_refusal result
+refusal_of (done.Give result) = refusal_in give_refusal result
 refusal_of (done.WritePost result) = refusal_in memory_refusal result
 refusal_of (done.Posted result) = refusal_in post_refusal result
 refusal_of (done.Step result) = refusal_in memory_refusal result
@@ -107,8 +114,13 @@ set_refused (take.Full n) = back.Refused words.Full n
 set_refused (take.NotYet number) = back.Refused words.NotYet number
 set_refused (take.Denied rule) = back.Refused words.Denied rule
 
--- and of one that brought an answer
+-- of one that brought a token
 abbrev pub answer_refused : AnswerRefused → PostReply
 answer_refused answer.NoMemory = back.Refused words.NoMemory 0
 answer_refused (answer.Unknown number) = back.Refused words.Unknown number
 answer_refused (answer.Denied rule) = back.Refused words.Denied rule
+
+-- and of a fetch
+abbrev pub give_refused : GiveRefused → PostReply
+give_refused give.NoMemory = back.Refused words.NoMemory 0
+give_refused (give.Unknown number) = back.Refused words.Unknown number

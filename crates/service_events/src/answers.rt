@@ -34,11 +34,11 @@ pub struct Taken {
     pub rule: Option<u32>,
 }
 
-/// An answer was confirmed.
+/// A token was confirmed.
 #[derive(Drop)]
 pub struct Heard {
     pub confirm: Confirm,
-    /// The number of the rule that allowed it; None where it was known, or one above it.
+    /// The number of the rule that allowed it; None where it told nothing new.
     pub rule: Option<u32>,
 }
 
@@ -57,8 +57,10 @@ pub enum PostWord {
 pub enum PostReply {
     /// The version was acknowledged.
     Acked(Ack),
-    /// The answer was confirmed.
+    /// The token was confirmed.
     Confirmed(Confirm),
+    /// The answer that was fetched.
+    Given(AnswerMessage),
     /// The receiver refused it, with what its refusal carries.
     Refused { word: PostWord, number: u64 },
     /// The exchange failed.
@@ -70,8 +72,12 @@ pub enum PostReply {
 pub enum Posted {
     /// The version was acknowledged.
     Acked,
-    /// The answer was confirmed.
+    /// The token was confirmed.
     Confirmed,
+    /// The answer was fetched, and is held.
+    Saw,
+    /// The answer was fetched, and isn't above the one that is held.
+    Knew,
     /// It was refused, and isn't sent again before somebody retries it or it has a new version or answer.
     Held,
     /// It stays to be sent.
@@ -141,6 +147,7 @@ impl Copied for PostReply {
         match self {
             PostReply::Acked(ack) => Ok(PostReply::Acked(ack.copied(alloc)?)),
             PostReply::Confirmed(confirm) => Ok(PostReply::Confirmed(confirm.copied(alloc)?)),
+            PostReply::Given(answer) => Ok(PostReply::Given(answer.copied(alloc)?)),
             PostReply::Refused { word, number } => Ok(PostReply::Refused {
                 word: *word,
                 number: *number,

@@ -4,15 +4,17 @@ ghost use Rattle.service_events.specs.Refusals.{memory_refusal, refusal_of};
 
 use crate::answers::{Arrived, Heard, Ordered, PostReply, Posted, Taken};
 use crate::refusals::{
-    AnswerRefused, ArriveRefused, CallRefused, OrderRefused, PostRefused, TakeRefused,
+    AnswerRefused, ArriveRefused, CallRefused, GiveRefused, OrderRefused, PostRefused, TakeRefused,
 };
 use call_registers::Why;
 use journal_rows::Command;
 use lang_core::{Inputs, Name, NoMemory, Origin, Request, Text};
 use local_repair::Stepped;
-use repair_messages::{AnswerMessage, Post, PostName, Refusal, RefusalWord, SetMessage};
+use repair_messages::{
+    AnswerMessage, Fetch, Post, PostName, Refusal, RefusalWord, SetMessage, TokenMessage,
+};
 
-/// An event of a service. `NextPost` and `WritePost` only ask, and leave it as it is.
+/// An event of a service. `Give`, `NextPost` and `WritePost` only ask, and leave it as it is.
 #[derive(Drop)]
 pub enum Event {
     /// A live request arrives.
@@ -41,9 +43,13 @@ pub enum Event {
         set: SetMessage,
         inputs: Inputs,
     },
-    /// An answer to an own call came by a message.
-    TakeAnswer {
-        answer: AnswerMessage,
+    /// A token came, which announces an answer to an own call.
+    TakeToken {
+        token: TokenMessage,
+    },
+    /// Another service asks for an answer that was announced to it.
+    Give {
+        fetch: Fetch,
     },
     /// Which post goes there next?
     NextPost {
@@ -78,7 +84,8 @@ pub enum Done {
     /// Whether there was such a flight.
     Abandon(bool),
     Take(Result<Taken, TakeRefused>),
-    TakeAnswer(Result<Heard, AnswerRefused>),
+    TakeToken(Result<Heard, AnswerRefused>),
+    Give(Result<AnswerMessage, GiveRefused>),
     NextPost(Option<PostName>),
     WritePost(Result<Post, NoMemory>),
     Posted(Result<Posted, PostRefused>),
@@ -106,7 +113,8 @@ impl Done {
             Done::Arrive(Err(why)) => Some(why.refusal()),
             Done::CallAnswered(Err(why)) | Done::CallFailed(Err(why)) => Some(why.refusal()),
             Done::Take(Err(why)) => Some(why.refusal()),
-            Done::TakeAnswer(Err(why)) => Some(why.refusal()),
+            Done::TakeToken(Err(why)) => Some(why.refusal()),
+            Done::Give(Err(why)) => Some(why.refusal()),
             Done::WritePost(Err(why)) => Some(lacking(why)),
             Done::Posted(Err(why)) => Some(why.refusal()),
             Done::Step(Err(why)) => Some(lacking(why)),

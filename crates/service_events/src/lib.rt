@@ -11,5 +11,5 @@ mod refusals;
 pub use answers::{Arrived, Heard, Ordered, PostReply, PostWord, Posted, Taken};
 pub use event::{Done, Event};
 pub use refusals::{
-    AnswerRefused, ArriveRefused, CallRefused, OrderRefused, PostRefused, TakeRefused,
+    AnswerRefused, ArriveRefused, CallRefused, GiveRefused, OrderRefused, PostRefused, TakeRefused,
 };

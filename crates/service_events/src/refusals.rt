@@ -1,6 +1,6 @@
 // Why events of a service are refused. A refused event changes nothing.
 ghost use Rattle.std.specs.Prelude.{◌≡◌};
-ghost use Rattle.service_events.specs.Refusals.{answer_refusal, answer_refused, arrive_refusal, call_refusal, call_word, order_refusal, post_refusal, set_refused, take_refusal};
+ghost use Rattle.service_events.specs.Refusals.{answer_refusal, answer_refused, arrive_refusal, call_refusal, call_word, give_refusal, give_refused, order_refusal, post_refusal, set_refused, take_refusal};
 
 use crate::answers::{PostReply, PostWord};
 use lang_core::NoMemory;
@@ -41,7 +41,7 @@ pub enum TakeRefused {
     Denied(u32),
 }
 
-/// Why an answer wasn't taken.
+/// Why a token wasn't taken.
 #[derive(Clone, Copy, PartialEq, Eq)]
 pub enum AnswerRefused {
     /// There was no memory for it.
@@ -50,6 +50,15 @@ pub enum AnswerRefused {
     Unknown(u64),
     /// The rule of this number denies it; 0 where no rule matches.
     Denied(u32),
+}
+
+/// Why an answer wasn't given.
+#[derive(Clone, Copy, PartialEq, Eq)]
+pub enum GiveRefused {
+    /// There was no memory for it.
+    NoMemory,
+    /// The call of this number has no answer of that version.
+    Unknown(u64),
 }
 
 /// Why what came back of a post wasn't noted.
@@ -115,6 +124,16 @@ impl From<NoMemory> for AnswerRefused {
 
     fn from(_: NoMemory) -> AnswerRefused {
         AnswerRefused::NoMemory
+    }
+}
+
+impl From<NoMemory> for GiveRefused {
+    ghost use Rattle.service_events.specs.declared.refusals.GiveRefused.{GiveRefused};
+
+    ghost from_gives = { λ _ why. why ≡ GiveRefused.NoMemory };
+
+    fn from(_: NoMemory) -> GiveRefused {
+        GiveRefused::NoMemory
     }
 }
 
@@ -226,7 +245,7 @@ impl AnswerRefused {
         }
     }
 
-    /// What comes back of the post that brought the answer.
+    /// What comes back of the post that brought the token.
     pub fn post_reply(self) -> PostReply
         ensures { result ≡ answer_refused self }
     {
@@ -234,6 +253,28 @@ impl AnswerRefused {
             AnswerRefused::NoMemory => refused_post(PostWord::NoMemory, 0),
             AnswerRefused::Unknown(number) => refused_post(PostWord::Unknown, number),
             AnswerRefused::Denied(rule) => refused_post(PostWord::Denied, u64::from(rule)),
+        }
+    }
+}
+
+impl GiveRefused {
+    /// In a word, with what it carries.
+    pub fn refusal(self) -> Refusal
+        ensures { result ≡ give_refusal self }
+    {
+        match self {
+            GiveRefused::NoMemory => refusal(RefusalWord::NoMemory, 0),
+            GiveRefused::Unknown(number) => refusal(RefusalWord::Unknown, number),
+        }
+    }
+
+    /// What comes back of the fetch.
+    pub fn post_reply(self) -> PostReply
+        ensures { result ≡ give_refused self }
+    {
+        match self {
+            GiveRefused::NoMemory => refused_post(PostWord::NoMemory, 0),
+            GiveRefused::Unknown(number) => refused_post(PostWord::Unknown, number),
         }
     }
 }
