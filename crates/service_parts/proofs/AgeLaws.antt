@@ -28,7 +28,7 @@ use Rattle.flights.specs.Moves.{calls_in, next_move}
 use Rattle.flights.specs.declared.flight.Flight.{Flight}
 use Rattle.flights.specs.declared.flight.Move.{Move}
 use Rattle.flights.specs.declared.flight.Move.TheVariants.{Commit, Name, Change}
-use Rattle.service_events.specs.Ages.{HasAges, marks_reply}
+use Rattle.service_events.specs.Ages.{HasAges, IsNotedAt, marks_reply}
 use Rattle.service_events.specs.Arriving.{new_flight, admitted, known_by, arrives_or_known, by_version, unless_gone, is_for, is_new_to, seen_live, live_answer_rows, answered_flight, told, failed_flight, abandoned}
 use Rattle.service_events.specs.Calls.{noted, named, all_deleted}
 use Rattle.service_events.specs.Fits.{Fits}
@@ -45,7 +45,7 @@ use Rattle.service_events.proofs.FlightLaws.{sends_change}
 use Rattle.service_events.proofs.KindLemmas.{sends_deleted, sends_settled}
 use Rattle.service_events.proofs.RegisterLemmas.{flip_false}
 use Rattle.service_events.proofs.CallRowLemmas.{Each, each_append, each_weaker, each_of_all, all_of_each, IsSending}
-use Rattle.service_parts.proofs.AgeLemmas.{Ages, ages, ages_stay, ages_noted, ages_then, ages_same, KeepsAge, calls_aged, IsAged, IsMarked, IsUnmarked, MarksNone, all_unmarked, unmarked, unmarked-append, replies_stay, reply_marked, none_any, last_here}
+use Rattle.service_parts.proofs.AgeLemmas.{Ages, ages, ages_stay, ages_noted, ages_then, ages_same, KeepsAge, calls_aged, fetches_aged, IsAged, IsMarked, IsUnmarked, MarksNone, all_unmarked, unmarked, unmarked-append, replies_stay, reply_marked, none_any, last_here}
 
 abbrev pub AllMarked : Kept → Type 0
 AllMarked s = Each (IsMarked s.journal) s.replies
@@ -58,6 +58,8 @@ pub keeps_ages : (s t : Kept) → Fits s → Fits t → IsFew t → Ages s t →
 keeps_ages s t before fits few calls replies h = record {
   calls = all_of_each (IsAged t.journal) t.registers
       (calls_aged s t before.sent fits.sent few calls (each_of_all (IsAged s.journal) s.registers h.calls));
+  fetches = all_of_each (IsNotedAt t.journal) t.registers
+      (fetches_aged s t before.sent fits.sent few calls (each_of_all (IsNotedAt s.journal) s.registers h.fetches));
   replies = all_of_each (IsMarked t.journal) t.replies (replies (each_of_all (IsMarked s.journal) s.replies h.replies));
 }
 
@@ -86,7 +88,7 @@ step_none s t same kept entries replies =
     record { rows = []; is = same ∙ sym (append-nil s.journal); none = tt; calls = ages_stay s t same kept; entries = entries; replies = replies }
 
 cause_keeps : (why : Why) → KeepsAge (with_cause why)
-cause_keeps why r = (refl, refl)
+cause_keeps why r = refl
 
 step_told : (s : Kept) (number : ℕ) (why : Why) → IsStep s (told number why s)
 step_told s number why = step_none s (told number why s) refl (ages_same number (with_cause why) s.registers (cause_keeps why)) refl refl

@@ -19,22 +19,24 @@ use Rattle.local_repair.specs.Alone.{trace_or_dead}
 use Rattle.local_repair.specs.Steps.{calls_of_made, is_new_answer, raised}
 use Rattle.repair_messages.specs.declared.messages.AnswerMessage.{AnswerMessage}
 use Rattle.repair_messages.specs.declared.messages.SetMessage.{SetMessage}
+use Rattle.repair_messages.specs.declared.messages.TokenMessage.{TokenMessage}
 use Rattle.repair_messages.specs.declared.posts.Post.{Post}
-use Rattle.repair_messages.specs.declared.posts.Post.TheVariants.{Set, Answer}
-use Rattle.repair_messages.specs.declared.posts.PostName.TheVariants.{Call as OfCall, Reply as OfReply}
+use Rattle.repair_messages.specs.declared.posts.Post.TheVariants.{Set, Token, Fetch}
+use Rattle.repair_messages.specs.declared.posts.PostName.TheVariants.{Call as OfCall, Reply as OfReply, Fetch as OfFetch}
 use Rattle.authorise_rules.specs.Deciding.{decision}
 use Rattle.authorise_rules.specs.declared.asked.Decision.{Decision}
 use Rattle.authorise_rules.specs.declared.asked.Decision.TheVariants.{Allow, Deny}
 use Rattle.authorise_rules.specs.declared.rule.Rule.{Rule}
-use Rattle.journal_rows.specs.Words.{last_sent, last_taken, ordered}
+use Rattle.journal_rows.specs.Words.{last_sent, last_taken, noted_at, ordered}
 use Rattle.journal_rows.specs.declared.callee.TookRow.{TookRow}
+use Rattle.journal_rows.specs.declared.caller.NotedRow.{NotedRow}
 use Rattle.journal_rows.specs.declared.caller.SentRow.{SentRow}
 use Rattle.journal_rows.specs.declared.orders.Command.{Command}
 use Rattle.journal_rows.specs.declared.orders.Command.TheVariants.{Cancel, Restore, Replace, Create, Retry}
 use Rattle.journal_rows.specs.declared.orders.OrderedRow.{OrderedRow}
 use Rattle.journal_rows.specs.declared.row.Row.{Row}
 use Rattle.journal_rows.specs.declared.row.Row.TheVariants.{Asked, Answered, Sent}
-use Rattle.call_registers.specs.Registers.{register, next_number, is_newer}
+use Rattle.call_registers.specs.Registers.{register, next_number, is_news, is_newer}
 use Rattle.call_registers.specs.declared.register.Hold.{Hold}
 use Rattle.call_registers.specs.declared.register.Register.{Register}
 use Rattle.call_registers.specs.declared.register.Why.{Why}
@@ -48,7 +50,7 @@ use Rattle.service_events.specs.Calls.{all_deleted, named, noted}
 use Rattle.service_events.specs.Event.{event}
 use Rattle.service_events.specs.Fits.{EachAfter, Fits, sent_by}
 use Rattle.service_events.specs.Flying.{awaited, before_answer, call_or_none, change_rows, changed, changed_unsent, committed, completed, completing, flight_run, goes_on, live_answer, moved, named_unsent, surplus_rows, took_rows, waits, wanted_of, with_change, with_slot}
-use Rattle.service_events.specs.Messages.{acked_again, acked_row, answer_taken_where, confirmed_row, hear_decision, hear_denied, hear_allowed, hear_new, hear_rule, heard, held_back, held_where, hold_of, is_known, is_now, is_too_much, origin_of, posted, saw_ack_row, seen_row, take_admitted, take_allowed, take_decision, take_denied, take_new, take_rule, taken, taken_by, took_row, was_confirmed_row}
+use Rattle.service_events.specs.Messages.{acked_again, acked_row, token_taken_where, fetched_row, fetched, confirmed_row, hear_decision, hear_denied, hear_allowed, hear_new, hear_rule, heard, held_back, held_where, hold_of, is_known, is_now, is_too_much, origin_of, posted, saw_ack_row, noted_row, take_admitted, take_allowed, take_decision, take_denied, take_new, take_rule, taken, taken_by, took_row, was_confirmed_row}
 use Rattle.service_events.specs.Orders.{asked_rows, carried_out, is_too_much as is_too_much_for, misnamed, order_by, order_decision, order_rows, order_rule, order_where, refused, request_put, subject, unless_allowed}
 use Rattle.service_events.specs.Questions.{answer_question, command_question, is_denied, rule_of, version_question}
 use Rattle.service_events.specs.State.{Kept, After, after, answers, base, flight_of, fresh, is_crowded, is_heavy, next_id, or_else}
@@ -57,8 +59,8 @@ use Rattle.service_events.specs.declared.answers.Arrived.{Arrived}
 use Rattle.service_events.specs.declared.event.Event.{Event}
 use Rattle.service_events.specs.declared.event.Event.TheVariants as events
 use Rattle.service_events.specs.declared.answers.PostReply.{PostReply}
-use Rattle.service_events.specs.declared.answers.PostReply.TheVariants.{Acked as WasAcked, Confirmed as WasConfirmedBack, Refused, Lost}
-use Rattle.service_events.specs.declared.answers.Posted.TheVariants.{Held, Left}
+use Rattle.service_events.specs.declared.answers.PostReply.TheVariants.{Acked as WasAcked, Confirmed as WasConfirmedBack, Given, Refused, Lost}
+use Rattle.service_events.specs.declared.answers.Posted.TheVariants.{Saw, Knew, Held, Left}
 use Rattle.service_events.specs.declared.refusals.AnswerRefused.TheVariants.{Unknown}
 use Rattle.service_events.specs.declared.refusals.ArriveRefused.{ArriveRefused}
 use Rattle.service_events.specs.declared.refusals.CallRefused.TheVariants.{NoFlight}
@@ -236,18 +238,28 @@ stepped_stays s (Some x) h =
 
 back_stays : (s : Kept) (post : Post) (hold : Hold) → IsAllowed s → IsAllowed (held_back s post hold)
 back_stays s (Set set) hold h = h
-back_stays s (Answer a) hold h = h
+back_stays s (Token t) hold h = h
+back_stays s (Fetch f) hold h = h
 
 held_stays : (s : Kept) (post : Post) (hold : Option Hold) → IsAllowed s → IsAllowed (held_where s post hold).service
 held_stays s post None h = h
 held_stays s post (Some hold) h =
     cond_both (is_now s post) (after (held_back s post hold) (Ok Held)) (after s (Ok Left)) (λ a. IsAllowed a.service) (λ _. back_stays s post hold h) (λ _. h)
 
+-- of an answer that is fetched no rule is asked: one was, when it was announced
+fetched_stays : (s : Kept) (a : AnswerMessage) (o : Option Register) (n : Option NotedRow) → IsAllowed s → IsAllowed (fetched s a o n).service
+fetched_stays s a None n h = h
+fetched_stays s a (Some r) None h = h
+fetched_stays s a (Some r) (Some n) h =
+    cond_both (is_newer r.answer a.answer_version) (after (noted (fetched_row a n ∷ []) s) (Ok Saw)) (after s (Ok Knew)) (λ x. IsAllowed x.service)
+    (λ _. free_stays s (noted (fetched_row a n ∷ []) s) (fetched_row a n ∷ []) refl refl (λ rules before. tt, tt) h) (λ _. h)
+
 reply_stays : (s : Kept) (post : Post) (answer : PostReply) → IsAllowed s → IsAllowed (posted s post answer).service
 reply_stays s post (WasAcked ack) h =
     free_stays s (posted s post (WasAcked ack)).service (saw_ack_row ack ∷ []) refl refl (λ rules before. tt, tt) h
 reply_stays s post (WasConfirmedBack c) h =
     free_stays s (posted s post (WasConfirmedBack c)).service (was_confirmed_row c ∷ []) refl refl (λ rules before. tt, tt) h
+reply_stays s post (Given a) h = fetched_stays s a (register a.number s.registers) (noted_at a.number a.answer_version s.journal) h
 reply_stays s post (Refused word number) h = held_stays s post (hold_of word number) h
 reply_stays s post (Lost note) h = h
 
@@ -286,11 +298,11 @@ module _ (s : Kept) (f : Fits s) (set : SetMessage) where
       cond_both (is_known s set) (after (acked_again s set) (Ok (taken set None))) (take_new s set i) (λ a. IsAllowed a.service)
       (λ _. free_stays s (acked_again s set) (acked_row set ∷ []) refl refl (λ rules before. tt, tt) h) (λ _. new_stays i h)
 
--- ---- an answer
+-- ---- a token
 
-module _ (s : Kept) (f : Fits s) (a : AnswerMessage) (r : Register) (found : register a.number s.registers ≡ Some r) where
+module _ (s : Kept) (f : Fits s) (a : TokenMessage) (r : Register) (found : register a.number s.registers ≡ Some r) where
   -- the question by the register is the question by the journal
-  hear_question : is_denied (hear_decision s a r) ≡ false → AllowedOn s.rules s.journal (seen_row (hear_rule s a r) a)
+  hear_question : is_denied (hear_decision s a r) ≡ false → AllowedOn s.rules s.journal (noted_row (hear_rule s a r) a)
   hear_question allowed =
       let sent : Some (sent_by r) ≡ last_sent a.number s.journal = sym (ap (option_map sent_by) found) ∙ f.sent.registers a.number in
       subst
@@ -299,7 +311,7 @@ module _ (s : Kept) (f : Fits s) (a : AnswerMessage) (r : Register) (found : reg
 
   hear_stays : IsAllowed s → IsAllowed (hear_new s a r).service
   hear_stays h =
-      let rows = seen_row (hear_rule s a r) a ∷ (confirmed_row a ∷ []) in
+      let rows = noted_row (hear_rule s a r) a ∷ (confirmed_row a ∷ []) in
       cond_both (is_denied (hear_decision s a r)) (hear_denied s a r) (hear_allowed s a r) (λ a. IsAllowed a.service) (λ _. h)
       (λ allowed. stays_by s (noted rows s) rows refl refl (hear_question allowed, (tt, tt)) h)
 
@@ -309,9 +321,9 @@ module _ (s : Kept) (f : Fits s) (a : AnswerMessage) (r : Register) (found : reg
   heard_stays true true h = hear_stays h
   heard_stays true false h = free_stays s (noted (confirmed_row a ∷ []) s) (confirmed_row a ∷ []) refl refl (λ rules before. tt, tt) h
 
-answer_stays : (s : Kept) (f : Fits s) (a : AnswerMessage) (o : Option Register) → register a.number s.registers ≡ o → IsAllowed s → IsAllowed (answer_taken_where s a o).service
-answer_stays s f a None found h = h
-answer_stays s f a (Some r) found h = heard_stays s f a r found (same_text r.dest a.callee) (is_newer r.answer a.answer_version) h
+token_stays : (s : Kept) (f : Fits s) (a : TokenMessage) (o : Option Register) → register a.number s.registers ≡ o → IsAllowed s → IsAllowed (token_taken_where s a o).service
+token_stays s f a None found h = h
+token_stays s f a (Some r) found h = heard_stays s f a r found (same_text r.dest a.callee) (is_news r a.answer_version) h
 
 -- ---- an order
 
@@ -329,6 +341,7 @@ same_rules s (Replace id method path body) who i = refl
 same_rules s (Create before after q) who i = refl
 same_rules s (Retry (OfCall number)) who i = refl
 same_rules s (Retry (OfReply id)) who i = refl
+same_rules s (Retry (OfFetch number)) who i = refl
 
 module _ (s : Kept) (f : Fits s) (command : Command) (token who : List ℕ) (i : Inputs) where
   undenied : (d : Decision) → unless_allowed d ≡ None → is_denied d ≡ false
@@ -368,7 +381,8 @@ event_stays_allowed s (events.CallAnswered id a) f h = answered_stays s id a (fl
 event_stays_allowed s (events.CallFailed id number why) f h = failed_stays s id number why (flight_of id s) h
 event_stays_allowed s (events.Abandon id) f h = abandoned_stays s (flight_of id s) h
 event_stays_allowed s (events.Take set i) f h = takes_either s set i (λ a. IsAllowed a.service) h (version_taken_stays s f set i (is_too_much s set) h)
-event_stays_allowed s (events.TakeAnswer a) f h = answer_stays s f a (register a.number s.registers) refl h
+event_stays_allowed s (events.TakeToken a) f h = token_stays s f a (register a.number s.registers) refl h
+event_stays_allowed s (events.Give x) f h = h
 event_stays_allowed s (events.NextPost dest) f h = h
 event_stays_allowed s (events.WritePost name) f h = h
 event_stays_allowed s (events.Posted post reply) f h = posted_either s post reply (λ a. IsAllowed a.service) h (λ _ _. reply_stays s post reply h)

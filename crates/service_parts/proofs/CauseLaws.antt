@@ -14,9 +14,9 @@ use Rattle.repair_messages.specs.declared.messages.AnswerMessage.{AnswerMessage}
 use Rattle.journal_rows.specs.declared.caller.AckHow.TheVariants.{WithAnswer}
 use Rattle.journal_rows.specs.declared.caller.SentRow.{SentRow}
 use Rattle.journal_rows.specs.declared.row.Row.{Row}
-use Rattle.journal_rows.specs.declared.row.Row.TheVariants.{Asked, Sent, SawAck, SawAnswer}
+use Rattle.journal_rows.specs.declared.row.Row.TheVariants.{Asked, Sent, SawAck, Noted, SawAnswer}
 use Rattle.call_registers.specs.Changes.{raised}
-use Rattle.call_registers.specs.Registers.{first_register, IsNumbered, CountFrom, has_number, register, next_number, at_number, sent_anew, with_ack, with_answer, with_cause, is_newer}
+use Rattle.call_registers.specs.Registers.{first_register, IsNumbered, CountFrom, has_number, register, next_number, at_number, sent_anew, with_ack, with_answer, with_note, with_cause, is_newer}
 use Rattle.call_registers.specs.declared.register.Answer.{Answer}
 use Rattle.call_registers.specs.declared.register.Register.{Register}
 use Rattle.call_registers.specs.declared.register.Why.{Why}
@@ -61,6 +61,7 @@ put_tells at s (Some r) rs gone = same_causes s.number (sent_anew s.desired at) 
 pub row_tells : (at : ℕ) (rs : List Register) (row : Row) → IsUnnaming row → causes_in (after_row at rs row) ≡ causes_in rs
 row_tells at rs (Sent s) gone = put_tells at s (register s.number rs) rs gone
 row_tells at rs (SawAck a) h = same_causes a.number (with_ack a.version) (λ r. refl) rs
+row_tells at rs (Noted t) h = same_causes t.number (with_note t.answer_version t.who t.rule at) (λ r. refl) rs
 row_tells at rs (SawAnswer a) h = same_causes a.number (with_answer (seen_answer a)) (answer_tells (seen_answer a)) rs
 row_tells at rs row h = refl
 

@@ -18,7 +18,7 @@ use Rattle.service_events.proofs.EventLaws.{event_fits}
 use Rattle.service_parts.proofs.AgeLaws.{AgesOf, GoesAged, abandoned_step, admitted_aged, aged_same, aged_step, answered_aged, call_aged, failed_aged, gone_aged, keeps_ages, stepped_aged, unreplied}
 use Rattle.service_parts.proofs.BoundLaws.{IsBounded, abandoned_bounded, answered_bounded, arrives_bounded, call_bounded, failed_bounded, gone_bounded}
 use Rattle.service_parts.proofs.MessageAges.{heard_aged, order_where_aged, reply_aged, take_admitted_aged}
-use Rattle.service_parts.proofs.MessageBounds.{answer_taken_where_bounded, reply_bounded, take_admitted_bounded}
+use Rattle.service_parts.proofs.MessageBounds.{token_taken_where_bounded, reply_bounded, take_admitted_bounded}
 use Rattle.service_parts.proofs.StepBoundLaws.{order_where_bounded, step_by_bounded}
 
 -- ---- there aren't too many entries and flights
@@ -33,7 +33,8 @@ event_bounded s (events.CallAnswered id a) h = answered_bounded s id a (flight_o
 event_bounded s (events.CallFailed id number why) h = failed_bounded s id number why (flight_of id s) refl h
 event_bounded s (events.Abandon id) h = abandoned_bounded s (flight_of id s) h
 event_bounded s (events.Take set i) h = takes_either s set i (λ a. IsBounded a.service) h (take_admitted_bounded s set i (is_too_much s set) refl h)
-event_bounded s (events.TakeAnswer a) h = answer_taken_where_bounded s a (register a.number s.registers) h
+event_bounded s (events.TakeToken a) h = token_taken_where_bounded s a (register a.number s.registers) h
+event_bounded s (events.Give f) h = h
 event_bounded s (events.NextPost dest) h = h
 event_bounded s (events.WritePost name) h = h
 event_bounded s (events.Posted post reply) h = posted_either s post reply (λ a. IsBounded a.service) h (λ _ _. reply_bounded s post reply h)
@@ -52,7 +53,8 @@ event_aged s (events.CallAnswered id a) f = answered_aged s id a (flight_of id s
 event_aged s (events.CallFailed id number why) f = failed_aged s id number why (flight_of id s)
 event_aged s (events.Abandon id) f = aged_step s (event s (events.Abandon id)).service (abandoned_step s (flight_of id s))
 event_aged s (events.Take set i) f = takes_either s set i (λ a. GoesAged s a.service) (aged_same s) (take_admitted_aged s f set i (is_too_much s set))
-event_aged s (events.TakeAnswer a) f = heard_aged s a (register a.number s.registers)
+event_aged s (events.TakeToken a) f = heard_aged s a (register a.number s.registers)
+event_aged s (events.Give x) f = aged_same s
 event_aged s (events.NextPost dest) f = aged_same s
 event_aged s (events.WritePost name) f = aged_same s
 event_aged s (events.Posted post reply) f = posted_either s post reply (λ a. GoesAged s a.service) (aged_same s) (reply_aged s f post reply)

@@ -10,15 +10,18 @@ use Rattle.request_log.specs.declared.entry.Entry.{Entry}
 use Rattle.repair_messages.specs.declared.messages.AnswerMessage.{AnswerMessage}
 use Rattle.repair_messages.specs.declared.messages.Confirm.{Confirm}
 use Rattle.repair_messages.specs.declared.messages.SetMessage.{SetMessage}
+use Rattle.repair_messages.specs.declared.messages.TokenMessage.{TokenMessage}
 use Rattle.repair_messages.specs.declared.posts.Post.{Post}
-use Rattle.repair_messages.specs.declared.posts.Post.TheVariants.{Set, Answer}
-use Rattle.repair_messages.specs.declared.posts.PostName.TheVariants.{Call as OfCall, Reply as OfReply}
+use Rattle.repair_messages.specs.declared.posts.Post.TheVariants.{Set, Token, Fetch}
+use Rattle.repair_messages.specs.declared.posts.PostName.TheVariants.{Call as OfCall, Reply as OfReply, Fetch as OfFetch}
+use Rattle.journal_rows.specs.Words.{noted_at}
+use Rattle.journal_rows.specs.declared.caller.NotedRow.{NotedRow}
 use Rattle.journal_rows.specs.declared.orders.Command.{Command}
 use Rattle.journal_rows.specs.declared.orders.Command.TheVariants.{Cancel, Restore, Replace, Create, Retry}
 use Rattle.journal_rows.specs.declared.orders.OrderedRow.{OrderedRow}
 use Rattle.journal_rows.specs.declared.row.Row.{Row}
 use Rattle.journal_rows.specs.declared.row.Row.TheVariants.{Asked}
-use Rattle.call_registers.specs.Registers.{is_newer, with_hold, released}
+use Rattle.call_registers.specs.Registers.{is_news, is_newer, register, with_hold, released}
 use Rattle.call_registers.specs.Replies.{has_entry, reply, at_entry, with_taken, with_confirm, made_due, with_hold as with_reply_hold, released as released_reply}
 use Rattle.call_registers.specs.declared.register.Hold.{Hold}
 use Rattle.call_registers.specs.declared.register.Register.{Register}
@@ -26,12 +29,12 @@ use Rattle.call_registers.specs.declared.reply.Reply.{Reply}
 use Rattle.service_events.specs.Ages.{marks_reply}
 use Rattle.service_events.specs.Calls.{noted}
 use Rattle.service_events.specs.Fits.{Fits}
-use Rattle.service_events.specs.Messages.{take_new, origin_of, is_known, acked_row, took_row, at_reply_of, acked_again, created_reply, taken_by, taken, take_admitted, seen_row, hear_rule, hear_new, confirmed_row, heard, answer_taken_where, had, had_answer, is_version, replies_to, is_now, hold_of, held_back, held_where, saw_ack_row, was_confirmed_row, posted}
+use Rattle.service_events.specs.Messages.{take_new, origin_of, is_known, acked_row, took_row, at_reply_of, acked_again, created_reply, taken_by, taken, take_admitted, noted_row, hear_rule, hear_new, confirmed_row, heard, token_taken_where, fetched_row, fetched, had, had_answer, is_version, replies_to, is_now, hold_of, held_back, held_where, saw_ack_row, was_confirmed_row, posted}
 use Rattle.service_events.specs.Orders.{refused, asked_rows, order_rows, carried_out, order_by, order_where}
 use Rattle.service_events.specs.State.{Kept, After, after, me, next_id}
 use Rattle.service_events.specs.declared.answers.PostReply.{PostReply}
-use Rattle.service_events.specs.declared.answers.PostReply.TheVariants.{Acked as WasAcked, Confirmed as WasConfirmedBack, Refused, Lost}
-use Rattle.service_events.specs.declared.answers.Posted.TheVariants.{Held, Left}
+use Rattle.service_events.specs.declared.answers.PostReply.TheVariants.{Acked as WasAcked, Confirmed as WasConfirmedBack, Given, Refused, Lost}
+use Rattle.service_events.specs.declared.answers.Posted.TheVariants.{Saw, Knew, Held, Left}
 use Rattle.service_events.specs.declared.refusals.AnswerRefused.TheVariants.{Unknown}
 use Rattle.service_events.specs.declared.refusals.OrderRefused.{OrderRefused}
 use Rattle.service_events.proofs.AskedLemmas.{take_either, hear_either}
@@ -121,11 +124,11 @@ take_admitted_aged s f set i None =
     (λ _. again_aged s f set)
     (λ _. take_either s set i (LeavesAged s) (aged_same s) (taken_aged s f set i (find_call (origin_of set) s.entries) set.desired refl))
 
--- ---- an answer
+-- ---- a token
 
-pub heard_aged : (s : Kept) (a : AnswerMessage) (o : Option Register) → LeavesAged s (answer_taken_where s a o)
+pub heard_aged : (s : Kept) (a : TokenMessage) (o : Option Register) → LeavesAged s (token_taken_where s a o)
 heard_aged s a None = aged_same s
-heard_aged s a (Some r) = by_test (not (same_text r.dest a.callee)) (is_newer r.answer a.answer_version)
+heard_aged s a (Some r) = by_test (not (same_text r.dest a.callee)) (is_news r a.answer_version)
   where
     by_test : (b c : Bool)
         → LeavesAged s
@@ -135,7 +138,7 @@ heard_aged s a (Some r) = by_test (not (same_text r.dest a.callee)) (is_newer r.
         else after (noted (confirmed_row a ∷ []) s) (Ok (heard a None))))
     by_test true c = aged_same s
     by_test false true =
-        let rows = seen_row (hear_rule s a r) a ∷ (confirmed_row a ∷ []) in
+        let rows = noted_row (hear_rule s a r) a ∷ (confirmed_row a ∷ []) in
         hear_either s a r (LeavesAged s) (aged_same s)
         (aged_step s (noted rows s) (step_noted s (noted rows s) rows (tt, (tt, tt)) refl refl refl refl))
     by_test false false =
@@ -145,13 +148,14 @@ heard_aged s a (Some r) = by_test (not (same_text r.dest a.callee)) (is_newer r.
 -- ---- what comes back of a post
 
 hold_keeps : (hold : Hold) → KeepsAge (with_hold hold)
-hold_keeps hold r = (refl, refl)
+hold_keeps hold r = refl
 
 held_back_aged : (s : Kept) (post : Post) (hold : Hold) → GoesAged s (held_back s post hold)
 held_back_aged s (Set set) hold =
     record { calls = ages_stay s (held_back s (Set set) hold) refl (ages_same set.number (with_hold hold) s.registers (hold_keeps hold)); replies = λ _ h. h }
-held_back_aged s (Answer a) hold = record {
-  calls = ages_stay s (held_back s (Answer a) hold) refl refl;
+held_back_aged s (Fetch f) hold = aged_same s
+held_back_aged s (Token a) hold = record {
+  calls = ages_stay s (held_back s (Token a) hold) refl refl;
   replies = λ _. replies_kept s.journal a.id (with_reply_hold hold) s.replies (λ p m. m);
 }
 
@@ -165,7 +169,7 @@ not_both : false ≡ true → ⊥
 not_both h = cc
 
 -- a confirmation marks the reply that was posted
-module _ (s : Kept) (f : Fits s) (a : AnswerMessage) (c : Confirm) (had_it : had s (Answer a) ≡ true) (answers : replies_to (Answer a) (WasConfirmedBack c) ≡ true) where
+module _ (s : Kept) (f : Fits s) (a : TokenMessage) (c : Confirm) (had_it : had s (Token a) ≡ true) (answers : replies_to (Token a) (WasConfirmedBack c) ≡ true) where
   abbrev row : Row
   row = was_confirmed_row c
 
@@ -221,12 +225,23 @@ module _ (s : Kept) (f : Fits s) (a : AnswerMessage) (c : Confirm) (had_it : had
     | inr some ↦ confirmed_by some.0 some.1 h
   ]
 
+-- an answer that was fetched
+fetched_aged : (s : Kept) (a : AnswerMessage) (o : Option Register) (n : Option NotedRow) → LeavesAged s (fetched s a o n)
+fetched_aged s a None n = aged_same s
+fetched_aged s a (Some r) None = aged_same s
+fetched_aged s a (Some r) (Some n) =
+    let rows = fetched_row a n ∷ [] in
+    cond_both (is_newer r.answer a.answer_version) (after (noted rows s) (Ok Saw)) (after s (Ok Knew)) (LeavesAged s)
+    (λ _. aged_step s (noted rows s) (step_noted s (noted rows s) rows (tt, tt) refl refl refl refl)) (λ _. aged_same s)
+
 pub reply_aged : (s : Kept) (f : Fits s) (post : Post) (answer : PostReply) → had s post ≡ true → replies_to post answer ≡ true → LeavesAged s (posted s post answer)
 reply_aged s f post (WasAcked ack) h r =
     let rows = saw_ack_row ack ∷ [] in aged_step s (noted rows s) (step_noted s (noted rows s) rows (tt, tt) refl refl refl refl)
 reply_aged s f (Set set) (WasConfirmedBack c) h r = absurd (not_both r)
-reply_aged s f (Answer a) (WasConfirmedBack c) h r = record {
-  calls = ages_noted s (posted s (Answer a) (WasConfirmedBack c)).service (was_confirmed_row c ∷ []) refl refl;
+reply_aged s f (Fetch x) (WasConfirmedBack c) h r = absurd (not_both r)
+reply_aged s f post (Given a) h r = fetched_aged s a (register a.number s.registers) (noted_at a.number a.answer_version s.journal)
+reply_aged s f (Token a) (WasConfirmedBack c) h r = record {
+  calls = ages_noted s (posted s (Token a) (WasConfirmedBack c)).service (was_confirmed_row c ∷ []) refl refl;
   replies = λ _. confirmed_marked s f a c h r;
 }
 reply_aged s f post (Refused word number) h r = held_aged s post (hold_of word number)
@@ -235,7 +250,7 @@ reply_aged s f post (Lost note) h r = aged_same s
 -- ---- an order
 
 release_keeps : (who : List ℕ) → KeepsAge (released who)
-release_keeps who r = (refl, refl)
+release_keeps who r = refl
 
 carried_calls : (s : Kept) (command : Command) (who : List ℕ) (i : Inputs) → Ages s (carried_out s command who i)
 carried_calls s (Cancel id) who i = ages_stay s (carried_out s (Cancel id) who i) refl refl
@@ -245,6 +260,7 @@ carried_calls s (Create before behind q) who i = ages_stay s (carried_out s (Cre
 carried_calls s (Retry (OfCall number)) who i =
     ages_stay s (carried_out s (Retry (OfCall number)) who i) refl (ages_same number (released who) s.registers (release_keeps who))
 carried_calls s (Retry (OfReply id)) who i = ages_stay s (carried_out s (Retry (OfReply id)) who i) refl refl
+carried_calls s (Retry (OfFetch number)) who i = ages_stay s (carried_out s (Retry (OfFetch number)) who i) refl refl
 
 carried_marked : (s : Kept) (command : Command) (who : List ℕ) (i : Inputs) → AllMarked s → AllMarked (carried_out s command who i)
 carried_marked s (Cancel id) who i h = h
@@ -252,6 +268,7 @@ carried_marked s (Restore id) who i h = h
 carried_marked s (Replace id method path body) who i h = h
 carried_marked s (Create before behind q) who i h = h
 carried_marked s (Retry (OfCall number)) who i h = h
+carried_marked s (Retry (OfFetch number)) who i h = h
 carried_marked s (Retry (OfReply id)) who i h = replies_kept s.journal id (released_reply who) s.replies (λ p m. m) h
 
 asked_none : (s : Kept) (command : Command) (i : Inputs) → Each MarksNone (asked_rows s command i)

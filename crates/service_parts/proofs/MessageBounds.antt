@@ -9,19 +9,22 @@ use Rattle.request_log.specs.Entries.{has_id, find_call}
 use Rattle.request_log.specs.declared.entry.Entry.{Entry}
 use Rattle.repair_messages.specs.declared.messages.AnswerMessage.{AnswerMessage}
 use Rattle.repair_messages.specs.declared.messages.SetMessage.{SetMessage}
+use Rattle.repair_messages.specs.declared.messages.TokenMessage.{TokenMessage}
 use Rattle.repair_messages.specs.declared.posts.Post.{Post}
-use Rattle.repair_messages.specs.declared.posts.Post.TheVariants.{Set, Answer}
-use Rattle.call_registers.specs.Registers.{is_newer}
+use Rattle.repair_messages.specs.declared.posts.Post.TheVariants.{Set, Token, Fetch}
+use Rattle.journal_rows.specs.Words.{noted_at}
+use Rattle.journal_rows.specs.declared.caller.NotedRow.{NotedRow}
+use Rattle.call_registers.specs.Registers.{is_news, is_newer, register}
 use Rattle.call_registers.specs.declared.register.Hold.{Hold}
 use Rattle.call_registers.specs.declared.register.Register.{Register}
 use Rattle.service_events.specs.State.{Kept, after, in_all, or_else, where_needed, is_crowded, is_heavy}
 use Rattle.service_events.specs.Calls.{noted}
-use Rattle.service_events.specs.Messages.{take_new, origin_of, is_known, makes_entry, is_too_much, acked_again, created_entry, created_place, at_version, taken_by, taken, take_admitted, hear_new, confirmed_row, heard, answer_taken_where, is_now, hold_of, held_back, held_where, posted}
+use Rattle.service_events.specs.Messages.{take_new, origin_of, is_known, makes_entry, is_too_much, acked_again, created_entry, created_place, at_version, taken_by, taken, take_admitted, hear_new, confirmed_row, heard, token_taken_where, fetched_row, fetched, is_now, hold_of, held_back, held_where, posted}
 use Rattle.service_events.specs.declared.answers.PostReply.{PostReply}
 use Rattle.service_events.specs.declared.answers.Taken.{Taken}
 use Rattle.service_events.specs.declared.refusals.TakeRefused.{TakeRefused}
-use Rattle.service_events.specs.declared.answers.PostReply.TheVariants.{Acked, Confirmed, Refused, Lost}
-use Rattle.service_events.specs.declared.answers.Posted.TheVariants.{Held, Left}
+use Rattle.service_events.specs.declared.answers.PostReply.TheVariants.{Acked, Confirmed, Given, Refused, Lost}
+use Rattle.service_events.specs.declared.answers.Posted.TheVariants.{Saw, Knew, Held, Left}
 use Rattle.service_events.specs.declared.refusals.AnswerRefused.TheVariants.{Unknown}
 use Rattle.service_events.proofs.AskedLemmas.{take_either, hear_either}
 use Rattle.service_events.proofs.SearchLemmas.{length_insert}
@@ -62,9 +65,9 @@ pub take_admitted_bounded : (s : Kept) (set : SetMessage) (i : Inputs) (full : O
 take_admitted_bounded s set i (Some n) is h = h
 take_admitted_bounded s set i None is h = known_or_new s set i (is_known s set) is h
 
--- ---- an answer, and what comes back of a post
+-- ---- a token, and what comes back of a post
 
-heard_bounded : (s : Kept) (a : AnswerMessage) (r : Register) (known new : Bool) → IsBounded s
+heard_bounded : (s : Kept) (a : TokenMessage) (r : Register) (known new : Bool) → IsBounded s
     → IsBounded (if not known then after s (Err (Unknown a.number))
     else (if new
     then hear_new s a r
@@ -73,13 +76,14 @@ heard_bounded s a r false new h = h
 heard_bounded s a r true true h = hear_either s a r (λ a. IsBounded a.service) h h
 heard_bounded s a r true false h = h
 
-pub answer_taken_where_bounded : (s : Kept) (a : AnswerMessage) (o : Option Register) → IsBounded s → IsBounded (answer_taken_where s a o).service
-answer_taken_where_bounded s a None h = h
-answer_taken_where_bounded s a (Some r) h = heard_bounded s a r (same_text r.dest a.callee) (is_newer r.answer a.answer_version) h
+pub token_taken_where_bounded : (s : Kept) (a : TokenMessage) (o : Option Register) → IsBounded s → IsBounded (token_taken_where s a o).service
+token_taken_where_bounded s a None h = h
+token_taken_where_bounded s a (Some r) h = heard_bounded s a r (same_text r.dest a.callee) (is_news r a.answer_version) h
 
 held_back_bounded : (s : Kept) (post : Post) (hold : Hold) → IsBounded s → IsBounded (held_back s post hold)
 held_back_bounded s (Set set) hold h = h
-held_back_bounded s (Answer a) hold h = h
+held_back_bounded s (Token t) hold h = h
+held_back_bounded s (Fetch f) hold h = h
 
 held_bounded : (s : Kept) (post : Post) (hold : Option Hold) → IsBounded s → IsBounded (held_where s post hold).service
 held_bounded s post None h = h
@@ -87,8 +91,15 @@ held_bounded s post (Some hold) h =
     cond_both (is_now s post) (after (held_back s post hold) (Ok Held)) (after s (Ok Left)) (λ a. IsBounded a.service)
     (λ _. held_back_bounded s post hold h) (λ _. h)
 
+fetched_bounded : (s : Kept) (a : AnswerMessage) (o : Option Register) (n : Option NotedRow) → IsBounded s → IsBounded (fetched s a o n).service
+fetched_bounded s a None n h = h
+fetched_bounded s a (Some r) None h = h
+fetched_bounded s a (Some r) (Some n) h =
+    cond_both (is_newer r.answer a.answer_version) (after (noted (fetched_row a n ∷ []) s) (Ok Saw)) (after s (Ok Knew)) (λ x. IsBounded x.service) (λ _. h) (λ _. h)
+
 pub reply_bounded : (s : Kept) (post : Post) (answer : PostReply) → IsBounded s → IsBounded (posted s post answer).service
 reply_bounded s post (Acked ack) h = h
 reply_bounded s post (Confirmed c) h = h
+reply_bounded s post (Given a) h = fetched_bounded s a (register a.number s.registers) (noted_at a.number a.answer_version s.journal) h
 reply_bounded s post (Refused word number) h = held_bounded s post (hold_of word number) h
 reply_bounded s post (Lost note) h = h

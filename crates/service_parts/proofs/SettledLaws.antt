@@ -14,8 +14,8 @@ use Rattle.local_repair.specs.Settling.{IsSettled}
 use Rattle.local_repair.specs.Steps.{answer_or_tentative, answers_for, calls_of_made, IsFreshOr, StandOnce}
 use Rattle.journal_rows.specs.declared.caller.SentRow.{SentRow}
 use Rattle.journal_rows.specs.declared.row.Row.{Row}
-use Rattle.journal_rows.specs.declared.row.Row.TheVariants.{Sent, SawAck, SawAnswer}
-use Rattle.call_registers.specs.Registers.{IsNumbered, register, next_number, consumed_in, sent_anew, with_ack, with_answer, has_number, IsTimely}
+use Rattle.journal_rows.specs.declared.row.Row.TheVariants.{Sent, SawAck, Noted, SawAnswer}
+use Rattle.call_registers.specs.Registers.{IsNumbered, register, next_number, consumed_in, sent_anew, with_ack, with_answer, with_note, has_number, IsTimely}
 use Rattle.call_registers.specs.declared.register.Register.{Register}
 use Rattle.service_events.specs.Calls.{first_sent, put_sent, seen_answer, after_row, after_rows, keeps_number, next_after, settling_rows, settling_numbers}
 use Rattle.service_events.specs.Fits.{NumberedCalls, WantsItsCalls, calls_of_entry, count, wanted_call, call_in}
@@ -124,6 +124,7 @@ put_longer at s (Some r) rs = (let same = length-change (has_number s.number) (s
 row_longer : (at : ℕ) (rs : List Register) (row : Row) → length rs ≤ length (after_row at rs row)
 row_longer at rs (Sent s) = put_longer at s (register s.number rs) rs
 row_longer at rs (SawAck a) = (let same = length-change (has_number a.number) (with_ack a.version) rs in omega (arith, same))
+row_longer at rs (Noted t) = (let same = length-change (has_number t.number) (with_note t.answer_version t.who t.rule at) rs in omega (arith, same))
 row_longer at rs (SawAnswer a) = (let same = length-change (has_number a.number) (with_answer (seen_answer a)) rs in omega (arith, same))
 row_longer at rs row = omega arith
 

@@ -10,14 +10,16 @@ use Rattle.request_log.specs.declared.entry.Made.{Made}
 use Rattle.local_repair.specs.Steps.{calls_of_made, is_new_answer, raised}
 use Rattle.repair_messages.specs.declared.messages.AnswerMessage.{AnswerMessage}
 use Rattle.repair_messages.specs.declared.messages.SetMessage.{SetMessage}
+use Rattle.repair_messages.specs.declared.messages.TokenMessage.{TokenMessage}
 use Rattle.repair_messages.specs.declared.posts.Post.{Post}
-use Rattle.repair_messages.specs.declared.posts.Post.TheVariants.{Set, Answer}
-use Rattle.journal_rows.specs.Words.{ordered}
+use Rattle.repair_messages.specs.declared.posts.Post.TheVariants.{Set, Token, Fetch}
+use Rattle.journal_rows.specs.Words.{noted_at, ordered}
+use Rattle.journal_rows.specs.declared.caller.NotedRow.{NotedRow}
 use Rattle.journal_rows.specs.declared.orders.Command.{Command}
 use Rattle.journal_rows.specs.declared.orders.Command.TheVariants.{Cancel, Restore, Replace, Create, Retry}
 use Rattle.journal_rows.specs.declared.orders.OrderedRow.{OrderedRow}
 use Rattle.journal_rows.specs.declared.row.Row.TheVariants.{Asked, Answered}
-use Rattle.call_registers.specs.Registers.{register, next_number, is_newer}
+use Rattle.call_registers.specs.Registers.{register, next_number, is_news, is_newer}
 use Rattle.call_registers.specs.declared.register.Hold.{Hold}
 use Rattle.call_registers.specs.declared.register.Register.{Register}
 use Rattle.flights.specs.declared.flight.Flight.{Flight}
@@ -26,14 +28,14 @@ use Rattle.service_events.specs.Calls.{noted, all_deleted}
 use Rattle.service_events.specs.Arriving.{abandoned}
 use Rattle.service_events.specs.Commits.{live_rows}
 use Rattle.service_events.specs.Steps.{sent_rows, answer_rows, new_record, Stale, stale_in, step_by}
-use Rattle.service_events.specs.Messages.{take_new, origin_of, is_known, is_too_much, acked_row, took_row, acked_again, taken_by, taken, take_admitted, seen_row, hear_rule, hear_new, confirmed_row, heard, answer_taken_where, is_now, hold_of, held_back, held_where, saw_ack_row, was_confirmed_row, posted}
+use Rattle.service_events.specs.Messages.{take_new, origin_of, is_known, is_too_much, acked_row, took_row, acked_again, taken_by, taken, take_admitted, noted_row, hear_rule, hear_new, confirmed_row, heard, token_taken_where, fetched_row, fetched, is_now, hold_of, held_back, held_where, saw_ack_row, was_confirmed_row, posted}
 use Rattle.service_events.specs.Orders.{refused, asked_rows, order_rows, carried_out, order_by, order_where}
 use Rattle.service_events.specs.Event.{event}
 use Rattle.service_events.specs.declared.answers.PostReply.{PostReply}
 use Rattle.service_events.specs.declared.event.Event.{Event}
 use Rattle.service_events.specs.declared.event.Event.TheVariants as events
-use Rattle.service_events.specs.declared.answers.PostReply.TheVariants.{Acked as WasAcked, Confirmed as WasConfirmedBack, Refused, Lost}
-use Rattle.service_events.specs.declared.answers.Posted.TheVariants.{Held, Left}
+use Rattle.service_events.specs.declared.answers.PostReply.TheVariants.{Acked as WasAcked, Confirmed as WasConfirmedBack, Given, Refused, Lost}
+use Rattle.service_events.specs.declared.answers.Posted.TheVariants.{Saw, Knew, Held, Left}
 use Rattle.service_events.specs.declared.refusals.AnswerRefused.TheVariants.{Unknown}
 use Rattle.service_events.specs.declared.refusals.OrderRefused.{OrderRefused}
 use Rattle.service_events.proofs.AskedLemmas.{take_either, hear_either, takes_either, posted_either}
@@ -83,11 +85,11 @@ admitted_none s set i None =
     (λ _. live_same s.journal (acked_row set ∷ []) (tt, tt))
     (λ _. take_either s set i (AnswersNone s) refl (taken_none s set i (find_call (origin_of set) s.entries) set.desired))
 
--- an answer
-heard_none : (s : Kept) (a : AnswerMessage) (o : Option Register) → AnswersNone s (answer_taken_where s a o)
+-- a token
+heard_none : (s : Kept) (a : TokenMessage) (o : Option Register) → AnswersNone s (token_taken_where s a o)
 heard_none s a None = refl
 heard_none s a (Some r) =
-    by_test (not (same_text r.dest a.callee)) (is_newer r.answer a.answer_version)
+    by_test (not (same_text r.dest a.callee)) (is_news r a.answer_version)
   where
     by_test : (b c : Bool)
         → AnswersNone s
@@ -96,22 +98,31 @@ heard_none s a (Some r) =
         then hear_new s a r
         else after (noted (confirmed_row a ∷ []) s) (Ok (heard a None))))
     by_test true c = refl
-    by_test false true = hear_either s a r (AnswersNone s) refl (live_same s.journal (seen_row (hear_rule s a r) a ∷ (confirmed_row a ∷ [])) (tt, (tt, tt)))
+    by_test false true = hear_either s a r (AnswersNone s) refl (live_same s.journal (noted_row (hear_rule s a r) a ∷ (confirmed_row a ∷ [])) (tt, (tt, tt)))
     by_test false false = live_same s.journal (confirmed_row a ∷ []) (tt, tt)
 
 -- what comes back of a post
 back_none : (s : Kept) (post : Post) (hold : Hold) → live_rows (held_back s post hold).journal ≡ live_rows s.journal
 back_none s (Set set) hold = refl
-back_none s (Answer a) hold = refl
+back_none s (Token t) hold = refl
+back_none s (Fetch f) hold = refl
 
 held_none : (s : Kept) (post : Post) (hold : Option Hold) → AnswersNone s (held_where s post hold)
 held_none s post None = refl
 held_none s post (Some hold) =
     cond_both (is_now s post) (after (held_back s post hold) (Ok Held)) (after s (Ok Left)) (AnswersNone s) (λ _. back_none s post hold) (λ _. refl)
 
+fetched_none : (s : Kept) (a : AnswerMessage) (o : Option Register) (n : Option NotedRow) → AnswersNone s (fetched s a o n)
+fetched_none s a None n = refl
+fetched_none s a (Some r) None = refl
+fetched_none s a (Some r) (Some n) =
+    cond_both (is_newer r.answer a.answer_version) (after (noted (fetched_row a n ∷ []) s) (Ok Saw)) (after s (Ok Knew)) (AnswersNone s)
+    (λ _. live_same s.journal (fetched_row a n ∷ []) (tt, tt)) (λ _. refl)
+
 posted_none : (s : Kept) (post : Post) (answer : PostReply) → AnswersNone s (posted s post answer)
 posted_none s post (WasAcked ack) = live_same s.journal (saw_ack_row ack ∷ []) (tt, tt)
 posted_none s post (WasConfirmedBack c) = live_same s.journal (was_confirmed_row c ∷ []) (tt, tt)
+posted_none s post (Given a) = fetched_none s a (register a.number s.registers) (noted_at a.number a.answer_version s.journal)
 posted_none s post (Refused word number) = held_none s post (hold_of word number)
 posted_none s post (Lost note) = refl
 
@@ -148,7 +159,8 @@ event_answers_none s (events.CallAnswered id a) runs = absurd runs
 event_answers_none s (events.CallFailed id number why) runs = absurd runs
 event_answers_none s (events.Abandon id) runs = abandoned_none s (flight_of id s)
 event_answers_none s (events.Take set i) runs = takes_either s set i (AnswersNone s) refl (admitted_none s set i (is_too_much s set))
-event_answers_none s (events.TakeAnswer a) runs = heard_none s a (register a.number s.registers)
+event_answers_none s (events.TakeToken a) runs = heard_none s a (register a.number s.registers)
+event_answers_none s (events.Give f) runs = refl
 event_answers_none s (events.NextPost dest) runs = refl
 event_answers_none s (events.WritePost name) runs = refl
 event_answers_none s (events.Posted post reply) runs = posted_either s post reply (AnswersNone s) refl (λ _ _. posted_none s post reply)

@@ -6,7 +6,7 @@ use Rattle.std.proofs.lemmas.Bool.Decides.{nat_tests}
 use Rattle.lang_core.specs.declared.inputs.Inputs.{Inputs}
 use Rattle.request_log.specs.Entries.{has_id, mark, replace}
 use Rattle.create_placement.specs.Placement.{created, place_between}
-use Rattle.repair_messages.specs.declared.posts.PostName.TheVariants.{Call as OfCall, Reply as OfReply}
+use Rattle.repair_messages.specs.declared.posts.PostName.TheVariants.{Call as OfCall, Reply as OfReply, Fetch as OfFetch}
 use Rattle.local_repair.specs.Steps.{remade}
 use Rattle.journal_rows.specs.declared.orders.Command.{Command}
 use Rattle.journal_rows.specs.declared.orders.Command.TheVariants.{Cancel, Restore, Replace, Create, Retry}
@@ -69,6 +69,7 @@ carried_bounded s (Create before after q) who i none h =
     omega (arith, few, more)
 carried_bounded s (Retry (OfCall number)) who i none h = h
 carried_bounded s (Retry (OfReply id)) who i none h = h
+carried_bounded s (Retry (OfFetch number)) who i none h = h
 
 by_bounded : (s : Kept) (command : Command) (token who : List ℕ) (i : Inputs) (why : Option OrderRefused) → refused s command who ≡ why → in_all s ≤ 100000
     → in_all (order_by s command token who i why).service ≤ 100000

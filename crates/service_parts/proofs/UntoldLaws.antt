@@ -8,17 +8,19 @@ use Rattle.request_log.specs.Entries.{find_call}
 use Rattle.request_log.specs.declared.entry.Entry.{Entry}
 use Rattle.repair_messages.specs.declared.messages.AnswerMessage.{AnswerMessage}
 use Rattle.repair_messages.specs.declared.messages.SetMessage.{SetMessage}
+use Rattle.repair_messages.specs.declared.messages.TokenMessage.{TokenMessage}
 use Rattle.repair_messages.specs.declared.posts.Post.{Post}
-use Rattle.repair_messages.specs.declared.posts.Post.TheVariants.{Set, Answer}
-use Rattle.repair_messages.specs.declared.posts.PostName.TheVariants.{Call as OfCall, Reply as OfReply}
-use Rattle.journal_rows.specs.Words.{ordered}
+use Rattle.repair_messages.specs.declared.posts.Post.TheVariants.{Set, Token, Fetch}
+use Rattle.repair_messages.specs.declared.posts.PostName.TheVariants.{Call as OfCall, Reply as OfReply, Fetch as OfFetch}
+use Rattle.journal_rows.specs.Words.{noted_at, ordered}
+use Rattle.journal_rows.specs.declared.caller.NotedRow.{NotedRow}
 use Rattle.journal_rows.specs.declared.caller.SentRow.{SentRow}
 use Rattle.journal_rows.specs.declared.orders.Command.{Command}
 use Rattle.journal_rows.specs.declared.orders.Command.TheVariants.{Cancel, Restore, Replace, Create, Retry}
 use Rattle.journal_rows.specs.declared.orders.OrderedRow.{OrderedRow}
 use Rattle.journal_rows.specs.declared.row.Row.{Row}
 use Rattle.journal_rows.specs.declared.row.Row.TheVariants.{Asked, Sent}
-use Rattle.call_registers.specs.Registers.{register, first_register, next_number, at_number, sent_anew, is_newer, released, with_hold}
+use Rattle.call_registers.specs.Registers.{register, first_register, next_number, at_number, sent_anew, is_news, is_newer, released, with_hold}
 use Rattle.call_registers.specs.declared.register.Hold.{Hold}
 use Rattle.call_registers.specs.declared.register.Register.{Register}
 use Rattle.call_registers.specs.declared.register.Why.{Why}
@@ -27,15 +29,15 @@ use Rattle.service_events.specs.State.{Kept, after, answers, next_id, flight_of,
 use Rattle.service_events.specs.Arriving.{abandoned}
 use Rattle.service_events.specs.Calls.{first_sent, put_sent, after_row, after_rows, noted, all_deleted}
 use Rattle.service_events.specs.Causes.{causes_in, causes, AddsCauses}
-use Rattle.service_events.specs.Messages.{take_new, origin_of, is_known, is_too_much, acked_row, took_row, acked_again, taken_by, taken, take_admitted, seen_row, hear_rule, hear_new, confirmed_row, heard, answer_taken_where, is_now, hold_of, held_back, held_where, saw_ack_row, was_confirmed_row, posted}
+use Rattle.service_events.specs.Messages.{take_new, origin_of, is_known, is_too_much, acked_row, took_row, acked_again, taken_by, taken, take_admitted, noted_row, hear_rule, hear_new, confirmed_row, heard, token_taken_where, fetched_row, fetched, is_now, hold_of, held_back, held_where, saw_ack_row, was_confirmed_row, posted}
 use Rattle.service_events.specs.Orders.{refused, order_rows, carried_out, order_by, order_where}
 use Rattle.service_events.specs.Steps.{sent_rows, answer_rows, new_record, Stale, stale_in, step_by}
 use Rattle.service_events.specs.Event.{event}
 use Rattle.service_events.specs.declared.answers.PostReply.{PostReply}
 use Rattle.service_events.specs.declared.event.Event.{Event}
 use Rattle.service_events.specs.declared.event.Event.TheVariants as events
-use Rattle.service_events.specs.declared.answers.PostReply.TheVariants.{Acked as WasAcked, Confirmed as WasConfirmedBack, Refused, Lost}
-use Rattle.service_events.specs.declared.answers.Posted.TheVariants.{Held, Left}
+use Rattle.service_events.specs.declared.answers.PostReply.TheVariants.{Acked as WasAcked, Confirmed as WasConfirmedBack, Given, Refused, Lost}
+use Rattle.service_events.specs.declared.answers.Posted.TheVariants.{Saw, Knew, Held, Left}
 use Rattle.service_events.specs.declared.refusals.AnswerRefused.TheVariants.{Unknown}
 use Rattle.service_events.specs.declared.refusals.OrderRefused.{OrderRefused}
 use Rattle.service_events.proofs.AskedLemmas.{take_either, hear_either, takes_either, posted_either}
@@ -122,9 +124,9 @@ admitted_untold s set i None =
     (λ _. tells_none s (acked_again s set) (rows_add (length s.journal) s.registers (acked_row set ∷ [])))
     (λ _. take_either s set i (λ a. TellsNone s a.service) (same_tells_none s s refl) (taken_untold s set i (find_call (origin_of set) s.entries) set.desired))
 
-heard_untold : (s : Kept) (a : AnswerMessage) (o : Option Register) → TellsNone s (answer_taken_where s a o).service
+heard_untold : (s : Kept) (a : TokenMessage) (o : Option Register) → TellsNone s (token_taken_where s a o).service
 heard_untold s a None = same_tells_none s s refl
-heard_untold s a (Some r) = by_test (not (same_text r.dest a.callee)) (is_newer r.answer a.answer_version)
+heard_untold s a (Some r) = by_test (not (same_text r.dest a.callee)) (is_news r a.answer_version)
   where
     noted_tells : (rows : List Row) → TellsNone s (noted rows s)
     noted_tells rows = tells_none s (noted rows s) (rows_add (length s.journal) s.registers rows)
@@ -136,12 +138,13 @@ heard_untold s a (Some r) = by_test (not (same_text r.dest a.callee)) (is_newer 
         then hear_new s a r
         else after (noted (confirmed_row a ∷ []) s) (Ok (heard a None)))).service
     by_test true c = same_tells_none s s refl
-    by_test false true = hear_either s a r (λ h. TellsNone s h.service) (same_tells_none s s refl) (noted_tells (seen_row (hear_rule s a r) a ∷ (confirmed_row a ∷ [])))
+    by_test false true = hear_either s a r (λ h. TellsNone s h.service) (same_tells_none s s refl) (noted_tells (noted_row (hear_rule s a r) a ∷ (confirmed_row a ∷ [])))
     by_test false false = noted_tells (confirmed_row a ∷ [])
 
 back_untold : (s : Kept) (post : Post) (hold : Hold) → TellsNone s (held_back s post hold)
 back_untold s (Set set) hold = same_tells_none s (held_back s (Set set) hold) (same_causes set.number (with_hold hold) (λ r. refl) s.registers)
-back_untold s (Answer a) hold = same_tells_none s (held_back s (Answer a) hold) refl
+back_untold s (Token t) hold = same_tells_none s (held_back s (Token t) hold) refl
+back_untold s (Fetch f) hold = same_tells_none s s refl
 
 held_untold : (s : Kept) (post : Post) (hold : Option Hold) → TellsNone s (held_where s post hold).service
 held_untold s post None = same_tells_none s s refl
@@ -149,10 +152,18 @@ held_untold s post (Some hold) =
     cond_both (is_now s post) (after (held_back s post hold) (Ok Held)) (after s (Ok Left)) (λ a. TellsNone s a.service)
     (λ _. back_untold s post hold) (λ _. same_tells_none s s refl)
 
+fetched_untold : (s : Kept) (a : AnswerMessage) (o : Option Register) (n : Option NotedRow) → TellsNone s (fetched s a o n).service
+fetched_untold s a None n = same_tells_none s s refl
+fetched_untold s a (Some r) None = same_tells_none s s refl
+fetched_untold s a (Some r) (Some n) =
+    cond_both (is_newer r.answer a.answer_version) (after (noted (fetched_row a n ∷ []) s) (Ok Saw)) (after s (Ok Knew)) (λ x. TellsNone s x.service)
+    (λ _. tells_none s (noted (fetched_row a n ∷ []) s) (rows_add (length s.journal) s.registers (fetched_row a n ∷ []))) (λ _. same_tells_none s s refl)
+
 back_of_post_untold : (s : Kept) (post : Post) (answer : PostReply) → TellsNone s (posted s post answer).service
 back_of_post_untold s post (WasAcked ack) = tells_none s (posted s post (WasAcked ack)).service (rows_add (length s.journal) s.registers (saw_ack_row ack ∷ []))
 back_of_post_untold s post (WasConfirmedBack c) =
     tells_none s (posted s post (WasConfirmedBack c)).service (rows_add (length s.journal) s.registers (was_confirmed_row c ∷ []))
+back_of_post_untold s post (Given a) = fetched_untold s a (register a.number s.registers) (noted_at a.number a.answer_version s.journal)
 back_of_post_untold s post (Refused word number) = held_untold s post (hold_of word number)
 back_of_post_untold s post (Lost note) = same_tells_none s s refl
 
@@ -163,6 +174,7 @@ carried_same s (Replace id method path body) who i = refl
 carried_same s (Create before after q) who i = refl
 carried_same s (Retry (OfCall number)) who i = same_causes number (released who) (λ r. refl) s.registers
 carried_same s (Retry (OfReply id)) who i = refl
+carried_same s (Retry (OfFetch number)) who i = refl
 
 by_untold : (s : Kept) (command : Command) (token who : List ℕ) (i : Inputs) (why : Option OrderRefused) → TellsNone s (order_by s command token who i why).service
 by_untold s command token who i (Some why) = same_tells_none s s refl
@@ -187,7 +199,8 @@ event_untold s (events.CallFailed id number why) runs = absurd runs
 event_untold s (events.Abandon id) runs = abandoned_untold s (flight_of id s)
 event_untold s (events.Take set i) runs =
     takes_either s set i (λ a. TellsNone s a.service) (same_tells_none s s refl) (admitted_untold s set i (is_too_much s set))
-event_untold s (events.TakeAnswer a) runs = heard_untold s a (register a.number s.registers)
+event_untold s (events.TakeToken a) runs = heard_untold s a (register a.number s.registers)
+event_untold s (events.Give f) runs = same_tells_none s s refl
 event_untold s (events.NextPost dest) runs = same_tells_none s s refl
 event_untold s (events.WritePost name) runs = same_tells_none s s refl
 event_untold s (events.Posted post reply) runs =

@@ -1,13 +1,13 @@
 // Rows as changes of registers.
 ghost use Rattle.std.specs.Prelude.{◌≡◌, IfOk, OnOk, is_some};
 ghost use Rattle.service_events.specs.Calls.{put_sent, after_row, after_rows};
-ghost use Rattle.call_registers.specs.Registers.{register, with_ack, with_answer, at_number, sent_anew};
+ghost use Rattle.call_registers.specs.Registers.{register, with_ack, with_answer, with_note, at_number, sent_anew};
 ghost use Rattle.call_registers.specs.Overlays.{overlaid};
 ghost use Rattle.service_events.specs.Calls.{seen_answer};
 
 use crate::numbers::next_of;
 use call_registers::{Answer, RegisterChange, RegisterChanges, Registers};
-use journal_rows::{Row, SawAnswerRow, SentRow};
+use journal_rows::{NotedRow, Row, SawAnswerRow, SentRow};
 use lang_core::{Copied, NoMemory, Request, Shared};
 use std::alloc::Global;
 
@@ -62,6 +62,25 @@ fn note_sent(
     }
 }
 
+// A token announces another answer.
+fn note_token(
+    alloc: Global,
+    standing: &Registers,
+    changes: &mut RegisterChanges,
+    at: u64,
+    token: &NotedRow,
+) -> Result<(), NoMemory>
+    ensures { OnOk result (overlaid changes.new standing.now.list ≡ at_number token.now.number (with_note token.now.answer_version token.now.who token.now.rule at) (overlaid changes.old standing.now.list)) }
+{
+    let change = RegisterChange::Note {
+        answer_version: token.answer_version,
+        who: token.who.copied(alloc)?,
+        rule: token.rule,
+        since: at,
+    };
+    changes.change(alloc, standing, token.number, change)
+}
+
 fn note_answer(
     alloc: Global,
     standing: &Registers,
@@ -101,6 +120,7 @@ pub(crate) fn note_row(
             ack.number,
             RegisterChange::Ack(ack.version),
         ),
+        Row::Noted(token) => note_token(alloc, standing, changes, at, token),
         Row::SawAnswer(seen) => note_answer(alloc, standing, changes, seen),
         _ => Ok(()),
     }
