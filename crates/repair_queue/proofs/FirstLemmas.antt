@@ -3,7 +3,7 @@ use Rattle.std.proofs.Common.{◌≡◌, ◌∙◌, refl, sym, ap, subst, ℕ, z
 use Rattle.std.specs.List.{list_any, Contains}
 use Rattle.std.specs.Option.{option_and_then, option_map_or}
 use Rattle.std.specs.Cmp.Lexicographic.{same_text as text_is}
-use Rattle.std.proofs.lemmas.Bool.{cases_Bool, cases_order, le-ltb, lt-ltb}
+use Rattle.std.proofs.lemmas.Bool.{and_parts, cases_Bool, cases_order, le-ltb, lt-ltb}
 use Rattle.std.proofs.lemmas.Bool.Decides.{nat_tests}
 use Rattle.std.proofs.lemmas.List.{get_or_default}
 use Rattle.std.proofs.lemmas.Option.{cond_some, option_and_then_some}
@@ -13,16 +13,16 @@ use Rattle.lang_lists.specs.Ages.{is_before}
 use Rattle.lang_lists.specs.declared.age_keys.AgeKey.{AgeKey}
 use Rattle.lang_lists.proofs.AgeLemmas.{not_itself}
 use Rattle.call_registers.specs.Queues.{AreOldestFirst}
-use Rattle.call_registers.specs.Registers.{has_number, IsNumbered}
+use Rattle.call_registers.specs.Registers.{has_number, owes_fetch, IsNumbered}
 use Rattle.call_registers.specs.Replies.{age_key as reply_key, due_key, has_entry, AreDue, IsRising}
-use Rattle.call_registers.specs.Waiting.{age_key, waiting_key, AreWaiting}
+use Rattle.call_registers.specs.Waiting.{age_key, fetch_key, noted_key, waiting_key, AreFetched, AreWaiting}
 use Rattle.call_registers.specs.declared.register.Register.{Register}
 use Rattle.call_registers.specs.declared.reply.Reply.{Reply}
 use Rattle.call_registers.proofs.QueueLemmas.{stands_at, StandsAt}
 use Rattle.call_registers.proofs.ReplyLemmas.{found_itself as reply_itself, rises_at}
 use Rattle.call_registers.proofs.WaitingLemmas.{found_itself, numbered_at}
-use Rattle.service_events.specs.Posts.{Aged, is_owed, is_unacknowledged, older}
-use Rattle.repair_queue.specs.Queue.{answers_out, call_of, goes_out, reply_of, with_call, with_reply}
+use Rattle.service_events.specs.Posts.{Aged, is_owed, is_to_fetch, is_unacknowledged, older}
+use Rattle.repair_queue.specs.Queue.{answers_out, call_of, fetch_of, fetches_out, goes_out, reply_of, with_call, with_fetch, with_reply}
 
 -- ---- a walk in which one post is the oldest
 
@@ -240,3 +240,17 @@ module _ (dest : List ℕ) (replies : List Reply) (keys : List AgeKey) (rising :
   first_reply_is =
       first_out (is_owed dest) due_key reply_key reply_of has_entry (text_key dest) replies keys (λ k. refl)
       (λ p k e. sym (cond_some p.due (reply_key p) k e).1) reply_tested (λ i d lt. reply_itself replies i d rising lt) (λ i j d less lt. rises_at i j replies d rising less lt) due
+
+-- ---- fetches
+
+module _ (dest : List ℕ) (registers : List Register) (keys : List AgeKey) (numbered : IsNumbered registers) (fetched : AreFetched dest registers keys) where
+  fetch_tested : (r : Register) → is_to_fetch dest r ≡ true → (fetch_key r ≡ Some (noted_key r)) × ((noted_key r).code ≡ text_key dest)
+  fetch_tested r h =
+      let both = and_parts (owes_fetch r) (same_text r.dest dest) h in
+      (waits_if (owes_fetch r) (noted_key r) both.0, ap text_key (text_is r.dest dest (sym both.1)))
+
+  pub first_fetch_is : (found : Option AgeKey) → found ≡ find (λ (k : AgeKey). fetches_out dest registers k.number) keys → option_map fetch_of found ≡ fold (with_fetch dest) None registers
+  first_fetch_is =
+      first_out (is_to_fetch dest) fetch_key noted_key fetch_of has_number (text_key dest) registers keys (λ k. refl)
+      (λ r k e. sym (cond_some (owes_fetch r) (noted_key r) k e).1) fetch_tested (λ i d lt. found_itself registers i d numbered lt)
+      (λ i j d less lt. (let a = numbered_at registers i d numbered (omega arith) in let b = numbered_at registers j d numbered lt in omega arith)) fetched

@@ -7,8 +7,8 @@ use borrow.Author.Tests.{ltb-true, ltb-false}
 use Rattle.repair_messages.specs.declared.posts.PostName.{PostName}
 use Rattle.call_registers.specs.declared.register.Register.{Register}
 use Rattle.call_registers.specs.declared.reply.Reply.{Reply}
-use Rattle.service_events.specs.Posts.{Aged, aged_call, aged_reply, is_owed, is_unacknowledged, older, oldest, outstanding}
-use Rattle.repair_queue.specs.Queue.{IsOldest, first_name, older_of, with_call, with_reply}
+use Rattle.service_events.specs.Posts.{Aged, aged_call, aged_fetch, aged_reply, is_owed, is_to_fetch, is_unacknowledged, older, oldest, outstanding}
+use Rattle.repair_queue.specs.Queue.{IsOldest, first_name, older_of, with_call, with_fetch, with_reply}
 use Rattle.repair_queue.proofs.FoldLemmas.{fold_filter}
 
 -- ---- a walk
@@ -23,6 +23,12 @@ replies_walk : (dest : List ℕ) (o : Option Aged) (replies : List Reply)
     → fold (with_reply dest) o replies ≡ fold older o (map aged_reply (filter (is_owed dest) replies))
 replies_walk dest o replies =
     fold_filter (is_owed dest) (λ o p. older o (aged_reply p)) o replies ∙ sym (fold-map older aged_reply o (filter (is_owed dest) replies))
+
+fetches_walk : (dest : List ℕ) (o : Option Aged) (registers : List Register)
+    → fold (with_fetch dest) o registers ≡ fold older o (map aged_fetch (filter (is_to_fetch dest) registers))
+fetches_walk dest o registers =
+    fold_filter (is_to_fetch dest) (λ o r. older o (aged_fetch r)) o registers
+    ∙ sym (fold-map older aged_fetch o (filter (is_to_fetch dest) registers))
 
 older_first : (p f q : Aged) → older (cond (nat_lt p.since f.since) (Some p) (Some f)) q ≡ older_of (Some f) (cond (nat_lt q.since p.since) (Some q) (Some p))
 older_first p f q = by (nat_lt p.since f.since) (nat_lt q.since p.since) (nat_lt q.since f.since) refl refl refl
@@ -60,15 +66,29 @@ apart o [] = refl
 apart o (p ∷ ps) = apart (older o p) ps ∙ in_order o (oldest ps) p ∙ ap (older_of o) (sym (apart (Some p) ps))
 
 -- over the registers, and over the replies
-walk_is : (registers : List Register) (replies : List Reply) (awaited dest : List ℕ)
-    → older_of (fold (with_call awaited dest) None registers) (fold (with_reply dest) None replies) ≡ oldest (outstanding registers replies awaited dest)
-walk_is registers replies awaited dest =
+both_walk : (registers : List Register) (replies : List Reply) (awaited dest : List ℕ)
+    → older_of (fold (with_call awaited dest) None registers) (fold (with_reply dest) None replies)
+    ≡ oldest (map aged_call (filter (is_unacknowledged awaited dest) registers) ++ map aged_reply (filter (is_owed dest) replies))
+both_walk registers replies awaited dest =
     let calls = map aged_call (filter (is_unacknowledged awaited dest) registers) in
     let owed = map aged_reply (filter (is_owed dest) replies) in
     ap (older_of (fold (with_call awaited dest) None registers)) (replies_walk dest None replies)
     ∙ ap (λ o. older_of o (oldest owed)) (calls_walk awaited dest None registers)
     ∙ sym (apart (oldest calls) owed)
     ∙ sym (fold-append older None calls owed)
+
+-- and over the registers once more
+walk_is : (registers : List Register) (replies : List Reply) (awaited dest : List ℕ)
+    → older_of (older_of (fold (with_call awaited dest) None registers) (fold (with_reply dest) None replies)) (fold (with_fetch dest) None registers)
+    ≡ oldest (outstanding registers replies awaited dest)
+walk_is registers replies awaited dest =
+    let calls = map aged_call (filter (is_unacknowledged awaited dest) registers) in
+    let owed = map aged_reply (filter (is_owed dest) replies) in
+    let fetches = map aged_fetch (filter (is_to_fetch dest) registers) in
+    ap (older_of (older_of (fold (with_call awaited dest) None registers) (fold (with_reply dest) None replies))) (fetches_walk dest None registers)
+    ∙ ap (λ o. older_of o (oldest fetches)) (both_walk registers replies awaited dest)
+    ∙ sym (apart (oldest (calls ++ owed)) fetches)
+    ∙ sym (fold-append older None (calls ++ owed) fetches)
 
 -- ---- what stands beside it
 
@@ -132,13 +152,15 @@ oldest_is (p ∷ ps) (Some name) e =
 
 -- ---- the code's way there
 
-pub next_is : (registers : List Register) (replies : List Reply) (awaited dest : List ℕ) (call reply first : Option Aged) (name : Option PostName)
-    → call ≡ fold (with_call awaited dest) None registers → reply ≡ fold (with_reply dest) None replies → first ≡ older_of call reply → name ≡ option_map (λ (p : Aged). p.name) first
+pub next_is : (registers : List Register) (replies : List Reply) (awaited dest : List ℕ) (call reply fetch both first : Option Aged) (name : Option PostName)
+    → call ≡ fold (with_call awaited dest) None registers → reply ≡ fold (with_reply dest) None replies → fetch ≡ fold (with_fetch dest) None registers
+    → both ≡ older_of call reply → first ≡ older_of both fetch → name ≡ option_map (λ (p : Aged). p.name) first
     → name ≡ first_name (outstanding registers replies awaited dest)
-next_is registers replies awaited dest call reply first name of_calls of_replies of_both of_first =
+next_is registers replies awaited dest call reply fetch both first name of_calls of_replies of_fetches of_both of_all of_first =
+    let calls = fold (with_call awaited dest) None registers in
     of_first
     ∙ ap (option_map (λ (p : Aged). p.name))
-    (of_both
-    ∙ ap (λ o. older_of o reply) of_calls
-    ∙ ap (older_of (fold (with_call awaited dest) None registers)) of_replies
+    (of_all
+    ∙ ap (λ o. older_of o fetch) (of_both ∙ ap (λ o. older_of o reply) of_calls ∙ ap (older_of calls) of_replies)
+    ∙ ap (older_of (older_of calls (fold (with_reply dest) None replies))) of_fetches
     ∙ walk_is registers replies awaited dest)

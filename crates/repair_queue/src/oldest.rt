@@ -4,9 +4,11 @@ ghost use Rattle.std.specs.Option.{option_copied};
 ghost use Rattle.service_events.specs.Flying.{awaited};
 ghost use Rattle.service_events.specs.Posts.{Aged as OldPost, older, outstanding};
 ghost use Rattle.lang_lists.specs.declared.age_keys.AgeKey.{AgeKey as Key};
-ghost use Rattle.repair_queue.specs.Queue.{IsOldest, answers_out, first_name, goes_out, older_of, with_call, with_reply};
+ghost use Rattle.repair_queue.specs.Queue.{IsOldest, answers_out, fetches_out, first_name, goes_out, older_of, with_call, with_fetch, with_reply};
 
-use crate::outstanding::{Aged, call_of, is_owed, is_unacknowledged, reply_of};
+use crate::outstanding::{
+    Aged, call_of, fetch_of, is_owed, is_to_fetch, is_unacknowledged, reply_of,
+};
 use call_registers::{Registers, Replies};
 use flights::Flight;
 use lang_core::Name;
@@ -58,6 +60,16 @@ fn answers_out(replies: &Replies, dest: &Name, id: u64) -> bool
     }
 }
 
+// Whether the fetch of a number is outstanding.
+fn fetches_out(registers: &Registers, dest: &Name, number: u64) -> bool
+    ensures { result ≡ fetches_out dest.now registers.now.list number }
+{
+    match registers.get(number) {
+        None => false,
+        Some(register) => is_to_fetch(register, dest),
+    }
+}
+
 // The first of these keys whose call is outstanding.
 fn first_call<'a>(
     keys: &'a [AgeKey],
@@ -97,6 +109,23 @@ fn oldest_reply(replies: &Replies, dest: &Name) -> Option<Aged>
     }
 }
 
+// The first of these keys whose fetch is outstanding.
+fn first_fetch<'a>(keys: &'a [AgeKey], registers: &Registers, dest: &Name) -> Option<&'a AgeKey>
+    ensures { option_copied result ≡ find (λ (k : Key). fetches_out dest.now registers.now.list k.number) keys.now }
+{
+    keys.iter()
+        .find(|key| fetches_out(registers, dest, key.number))
+}
+
+fn oldest_fetch(registers: &Registers, dest: &Name) -> Option<Aged>
+    ensures { result ≡ fold (with_fetch dest.now) None registers.now.list }
+{
+    match first_fetch(registers.fetched(dest), registers, dest) {
+        None => None,
+        Some(key) => Some(fetch_of(key)),
+    }
+}
+
 fn name_of(first: Option<Aged>) -> Option<PostName>
     ensures { result ≡ option_map (λ (p : OldPost). p.name) first }
 {
@@ -108,7 +137,8 @@ fn name_of(first: Option<Aged>) -> Option<PostName>
 
 /// The post that goes to this service next, of a service with these registers, replies and flights: the oldest that is
 /// outstanding; None exactly where none is. Outstanding are the calls to it whose last version isn't acknowledged, unless
-/// held or awaited by a flight, and the due replies to it that have an answer, unless held. It takes no memory.
+/// held or awaited by a flight, the due replies to it that have an answer, unless held, and the wanted calls to it of which
+/// an answer was announced above the one that is held. It takes no memory.
 pub fn next(
     registers: &Registers,
     replies: &Replies,
@@ -121,5 +151,7 @@ pub fn next(
 {
     let call = oldest_call(registers, flights, dest);
     let reply = oldest_reply(replies, dest);
-    name_of(older_of(call, reply))
+    let fetch = oldest_fetch(registers, dest);
+    let first = older_of(call, reply);
+    name_of(older_of(first, fetch))
 }

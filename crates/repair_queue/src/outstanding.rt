@@ -3,10 +3,10 @@ ghost use Rattle.std.specs.Prelude.{◌≡◌, map, nat_eq};
 ghost use Rattle.std.specs.List.{list_any};
 ghost use Rattle.flights.specs.declared.flight.Flight.{Flight as FlightValue};
 ghost use Rattle.service_events.specs.Flying.{awaited};
-ghost use Rattle.service_events.specs.Posts.{is_owed, is_unacknowledged};
-ghost use Rattle.repair_queue.specs.Queue.{call_of, reply_of};
+ghost use Rattle.service_events.specs.Posts.{is_owed, is_to_fetch, is_unacknowledged};
+ghost use Rattle.repair_queue.specs.Queue.{call_of, fetch_of, reply_of};
 
-use call_registers::{Register, Reply};
+use call_registers::{Register, Reply, owes_fetch};
 use flights::Flight;
 use lang_core::{Name, Same};
 use lang_lists::AgeKey;
@@ -56,11 +56,18 @@ pub(crate) fn is_unacknowledged(register: &Register, flights: &[Flight], dest: &
         && !is_awaited(flights, register.number)
 }
 
-/// A reply to a call of this service that is due: it has an answer, and nothing holds it.
+/// A reply to a call of this service that is due: it has an answer to announce, and nothing holds it.
 pub(crate) fn is_owed(reply: &Reply, dest: &Name) -> bool
     ensures { result ≡ is_owed dest.now reply.now }
 {
     reply.caller.is(dest) && reply.due && 0 < reply.answer_version && reply.held.is_none()
+}
+
+/// A call of which an answer is to be fetched from this service, whether or not a flight awaits it.
+pub(crate) fn is_to_fetch(register: &Register, dest: &Name) -> bool
+    ensures { result ≡ is_to_fetch dest.now register.now }
+{
+    owes_fetch(register) && register.dest.is(dest)
 }
 
 /// The post of the call of a key.
@@ -79,6 +86,16 @@ pub(crate) fn reply_of(key: &AgeKey) -> Aged
 {
     Aged {
         name: PostName::Reply(key.number),
+        since: key.since,
+    }
+}
+
+/// The fetch of an answer to the call of a key.
+pub(crate) fn fetch_of(key: &AgeKey) -> Aged
+    ensures { result ≡ fetch_of key.now }
+{
+    Aged {
+        name: PostName::Fetch(key.number),
         since: key.since,
     }
 }
