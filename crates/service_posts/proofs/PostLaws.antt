@@ -1,28 +1,22 @@
 -- The post that goes next has a message, which goes to the service that it is for.
-use Rattle.std.proofs.Common.{◌≡◌, ℕ, ◌<◌, ◌≤◌, ◌+◌, ◌⊎◌, ◌&&◌, Bool, true, List, [], ◌∷◌, Option, Some, None, IfSome, IsSomeAnd, Contains, filter, find, is_none, map, not, nat_eq, nat_lt, option_map, inl, inr, refl, sym, ap, ◌∙◌, subst, arith, eq-eqb, ne_eqb, ltb-true}
+use Rattle.std.proofs.Common.{◌≡◌, ℕ, ◌<◌, ◌≤◌, ◌+◌, ◌⊎◌, ◌&&◌, Bool, true, List, [], ◌∷◌, ◌++◌, Option, Some, None, IfSome, IsSomeAnd, Contains, filter, is_none, is_some, map, not, nat_eq, nat_lt, option_map, inl, inr, sym, ap, ◌∙◌, subst, arith, eq-eqb, ne_eqb, lt-ltb, ltb-true}
 use Rattle.std.specs.List.{list_any}
 use Rattle.std.proofs.lemmas.Bool.{cases_Bool, cond-true, cond-false, and_parts}
 use Rattle.std.proofs.lemmas.List.Elements.{Contains-append_cases, Contains-append_right}
 use Rattle.lang_base.specs.Texts.{same_text}
-use Rattle.request_log.specs.Entries.{has_id}
-use Rattle.request_log.specs.Records.{Record, record_of}
-use Rattle.request_log.specs.declared.entry.Entry.{Entry}
 use Rattle.repair_messages.specs.declared.posts.Post.TheVariants.{Set}
 use Rattle.repair_messages.specs.declared.posts.PostName.{PostName}
-use Rattle.repair_messages.specs.declared.posts.PostName.TheVariants.{Call, Reply as OfReply}
-use Rattle.call_registers.specs.Registers.{CountFrom, register}
+use Rattle.repair_messages.specs.declared.posts.PostName.TheVariants.{Call, Reply as OfReply, Fetch as OfFetch}
+use Rattle.call_registers.specs.Registers.{CountFrom, held_version, owes_fetch, register}
 use Rattle.call_registers.specs.Replies.{reply, IsBelowAll, IsRising}
 use Rattle.call_registers.specs.declared.register.Register.{Register}
 use Rattle.call_registers.specs.declared.reply.Reply.{Reply}
 use Rattle.service_events.specs.Ages.{GoesFirst}
-use Rattle.service_events.specs.Fits.{Fits, HasAnswered}
+use Rattle.service_events.specs.Fits.{Fits}
 use Rattle.service_events.specs.Flying.{awaited}
-use Rattle.service_events.specs.Posts.{is_unacknowledged, is_owed, Aged, aged_call, aged_reply, outstanding, set_message, answer_post, reply_post, where_there, write_post}
+use Rattle.service_events.specs.Posts.{is_unacknowledged, is_owed, is_to_fetch, Aged, aged_call, aged_fetch, aged_reply, outstanding, fetch_post, set_message, token_post, write_post}
 use Rattle.service_events.specs.State.{Kept}
-use Rattle.service_events.proofs.EntryLemmas.{found_itself}
-use Rattle.service_events.proofs.PartLemmas.{logged}
-use Rattle.service_events.proofs.PostedLaw.{of_entry}
-use Rattle.service_events.proofs.SearchLemmas.{text_is, found_all, contains_here, contains_cases}
+use Rattle.service_events.proofs.SearchLemmas.{text_is, contains_here, contains_cases}
 use Rattle.service_parts.proofs.AgeLaws.{AgesOf}
 use Rattle.service_parts.proofs.PostAges.{posts_aged}
 use Rattle.repair_queue.specs.Queue.{IsOldest}
@@ -103,51 +97,62 @@ module _ (s : Kept) (fits : Fits s) where
   call_written : (dest : List ℕ) (r : Register) → register r.number s.registers ≡ Some r → r.dest ≡ dest → Goes dest (Call r.number)
   call_written dest r found to = subst (λ o. IsSomeAnd (option_map (λ x. Set (set_message s x)) o) (GoesTo dest)) (sym found) to
 
-  -- an entry that answered has a record
-  has_record : (dest : List ℕ) (e : Entry) → HasAnswered s.journal e → 0 < e.answer_version → (o : Option Record) → record_of e ≡ o → (p : Reply) → p.caller ≡ dest
-      → IsSomeAnd (option_map (answer_post s p e) o) (GoesTo dest)
-  has_record dest e h positive None none p to = (let zero = h.first none in absurd (omega (arith, zero, positive)))
-  has_record dest e h positive (Some m) is p to = to
+  reply_written : (dest : List ℕ) (p : Reply) → reply p.id s.replies ≡ Some p → nat_lt 0 p.answer_version ≡ true → p.caller ≡ dest → Goes dest (OfReply p.id)
+  reply_written dest p found positive to = subst (λ o. IsSomeAnd (token_post s o) (GoesTo dest)) (sym found) (rw positive to)
 
-  reply_written : (dest : List ℕ) (p : Reply) → reply p.id s.replies ≡ Some p → 0 < p.answer_version → p.caller ≡ dest → Goes dest (OfReply p.id)
-  reply_written dest p found positive to =
-      let of = of_entry s.journal s.entries s.replies p.id p (logged s fits) found in
-      let id = found_itself s.entries p.id of.entry of.found in
-      let by_id : find (has_id (of.entry).id) s.entries ≡ Some of.entry = ap (λ k. find (has_id k) s.entries) id ∙ of.found in
-      let answered = found_all (HasAnswered s.journal) (has_id (of.entry).id) s.entries of.entry fits.answered.entries by_id in
-      let same = of.reply.answer_version in
-      let record_there = has_record dest of.entry answered (omega (arith, same, positive)) (record_of of.entry) refl p to in
-      subst (λ o. IsSomeAnd (where_there s o) (GoesTo dest)) (sym found)
-      (subst (λ o. IsSomeAnd (reply_post s p o) (GoesTo dest)) (sym of.found) record_there)
+  fetch_written : (dest : List ℕ) (r : Register) → register r.number s.registers ≡ Some r → owes_fetch r ≡ true → r.dest ≡ dest → Goes dest (OfFetch r.number)
+  fetch_written dest r found owes to =
+      let parts = and_parts (is_some r.desired) (nat_lt (held_version r.answer) r.noted) owes in
+      let above = ltb-true (held_version r.answer) r.noted parts.1 in
+      let noted : nat_lt 0 r.noted ≡ true = lt-ltb 0 r.noted (omega (arith, above)) in
+      subst (λ o. IsSomeAnd (fetch_post s o) (GoesTo dest)) (sym found) (rw noted to)
 
   named_written : (dest : List ℕ) (q : Aged) → Contains (outstanding s.registers s.replies (map awaited s.flights) dest) q → Goes dest q.name
   named_written dest q at =
       let calls = filter (is_unacknowledged (map awaited s.flights) dest) s.registers in
       let replies = filter (is_owed dest) s.replies in
-      by_kind calls replies (Contains-append_cases (map aged_call calls) (map aged_reply replies) q at) (from_filter (is_unacknowledged (map awaited s.flights) dest) s.registers)
-      (from_filter (is_owed dest) s.replies)
+      let fetches = filter (is_to_fetch dest) s.registers in
+      by_kind (Contains-append_cases (map aged_call calls ++ map aged_reply replies) (map aged_fetch fetches) q at)
     where
-      by_kind : (calls : List Register) (replies : List Reply) → Contains (map aged_call calls) q ⊎ Contains (map aged_reply replies) q
-          → ((r : Register) → Contains calls r → Contains s.registers r × (is_unacknowledged (map awaited s.flights) dest r ≡ true))
-          → ((p : Reply) → Contains replies p → Contains s.replies p × (is_owed dest p ≡ true)) → Goes dest q.name
-      by_kind calls replies (inl at) of_calls of_replies =
-          let r = from_map aged_call calls q at in
-          let of = of_calls r.0 r.1 in
+      of_call : Contains (map aged_call (filter (is_unacknowledged (map awaited s.flights) dest) s.registers)) q → Goes dest q.name
+      of_call at =
+          let r = from_map aged_call (filter (is_unacknowledged (map awaited s.flights) dest) s.registers) q at in
+          let of = from_filter (is_unacknowledged (map awaited s.flights) dest) s.registers r.0 r.1 in
           let awaits = list_any (nat_eq (r.0).number) (map awaited s.flights) in
           let one = and_parts (same_text (r.0).dest dest && nat_lt (r.0).acked (r.0).version && is_none (r.0).held) (not awaits) of.1 in
           let two = and_parts (same_text (r.0).dest dest && nat_lt (r.0).acked (r.0).version) (is_none (r.0).held) one.0 in
           let three = and_parts (same_text (r.0).dest dest) (nat_lt (r.0).acked (r.0).version) two.0 in
           subst (λ (x : Aged). Goes dest x.name) r.2
           (call_written dest r.0 (register_found 1 s.registers r.0 fits.sent.numbered of.0) (text_is (r.0).dest dest three.0))
-      by_kind calls replies (inr at) of_calls of_replies =
-          let p = from_map aged_reply replies q at in
-          let of = of_replies p.0 p.1 in
+
+      of_reply : Contains (map aged_reply (filter (is_owed dest) s.replies)) q → Goes dest q.name
+      of_reply at =
+          let p = from_map aged_reply (filter (is_owed dest) s.replies) q at in
+          let of = from_filter (is_owed dest) s.replies p.0 p.1 in
           let one = and_parts (same_text (p.0).caller dest && (p.0).due && nat_lt 0 (p.0).answer_version) (is_none (p.0).held) of.1 in
           let two = and_parts (same_text (p.0).caller dest && (p.0).due) (nat_lt 0 (p.0).answer_version) one.0 in
           let three = and_parts (same_text (p.0).caller dest) (p.0).due two.0 in
-          let positive = ltb-true 0 (p.0).answer_version two.1 in
           subst (λ (x : Aged). Goes dest x.name) p.2
-          (reply_written dest p.0 (reply_found s.replies p.0 fits.replies.rising of.0) positive (text_is (p.0).caller dest three.0))
+          (reply_written dest p.0 (reply_found s.replies p.0 fits.replies.rising of.0) two.1 (text_is (p.0).caller dest three.0))
+
+      of_fetch : Contains (map aged_fetch (filter (is_to_fetch dest) s.registers)) q → Goes dest q.name
+      of_fetch at =
+          let r = from_map aged_fetch (filter (is_to_fetch dest) s.registers) q at in
+          let of = from_filter (is_to_fetch dest) s.registers r.0 r.1 in
+          let parts = and_parts (owes_fetch r.0) (same_text (r.0).dest dest) of.1 in
+          subst (λ (x : Aged). Goes dest x.name) r.2
+          (fetch_written dest r.0 (register_found 1 s.registers r.0 fits.sent.numbered of.0) parts.0 (text_is (r.0).dest dest parts.1))
+
+      of_first : Contains (map aged_call (filter (is_unacknowledged (map awaited s.flights) dest) s.registers)) q
+          ⊎ Contains (map aged_reply (filter (is_owed dest) s.replies)) q → Goes dest q.name
+      of_first (inl at) = of_call at
+      of_first (inr at) = of_reply at
+
+      by_kind : Contains (map aged_call (filter (is_unacknowledged (map awaited s.flights) dest) s.registers) ++ map aged_reply (filter (is_owed dest) s.replies)) q
+          ⊎ Contains (map aged_fetch (filter (is_to_fetch dest) s.registers)) q → Goes dest q.name
+      by_kind (inl at) =
+          of_first (Contains-append_cases (map aged_call (filter (is_unacknowledged (map awaited s.flights) dest) s.registers)) (map aged_reply (filter (is_owed dest) s.replies)) q at)
+      by_kind (inr at) = of_fetch at
 
   -- so the post that goes next has one
   pub post_goes : (dest : List ℕ) (name : Option PostName) → IfSome name (λ n. IsOldest n (outstanding s.registers s.replies (map awaited s.flights) dest))

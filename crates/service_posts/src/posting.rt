@@ -1,8 +1,7 @@
 // The post that goes next, and its message.
 ghost use Rattle.std.specs.Prelude.{◌≡◌, None, Some, IfOk, IfSome, IsSome, IsSomeAnd};
-ghost use Rattle.request_log.specs.Records.{record_in};
 ghost use Rattle.service_events.specs.Ages.{GoesFirst};
-ghost use Rattle.service_events.specs.Posts.{answer_post, calls_to, next_of, next_post, previous_of, set_message, where_new, write_post};
+ghost use Rattle.service_events.specs.Posts.{calls_to, fetch_message, fetch_post, next_of, next_post, previous_of, set_message, token_message, token_post, where_new, write_post};
 ghost use Rattle.service_parts.specs.Parts.{kept};
 ghost use Rattle.service_posts.specs.Goes.{GoesTo};
 ghost use Rattle.service_parts.specs.Services.{IsService};
@@ -12,10 +11,9 @@ ghost use Rattle.call_registers.specs.Replies.{reply};
 use crate::beside::{Neighbours, neighbours_of};
 use call_registers::{Register, Reply};
 use lang_core::{Copied, Name, NoMemory};
-use repair_messages::{AnswerMessage, Post, PostName, SetMessage, copied_pair};
+use repair_messages::{Fetch, Post, PostName, SetMessage, TokenMessage, copied_pair};
 use repair_queue::next;
-use request_log::{Entry, Made};
-use service_parts::{Parts, last_answer};
+use service_parts::Parts;
 use std::alloc::Global;
 
 /// The post that goes to this service next: the oldest that is outstanding; None exactly where none is. It has a message,
@@ -81,35 +79,58 @@ fn write_call(alloc: Global, parts: &Parts, number: u64) -> Result<Post, NoMemor
     Ok(Post::Set(set))
 }
 
-// ---- the message of an answer
+// ---- the token of an answer
 
-fn answer_post(
-    alloc: Global,
-    parts: &Parts,
-    reply: &Reply,
-    entry: &Entry,
-    made: &Made,
-) -> Result<Post, NoMemory>
-    ensures { IfOk result (λ post. post ≡ answer_post (kept parts.now) reply.now entry.now (record_in made.now)) }
+fn token_message(alloc: Global, parts: &Parts, reply: &Reply) -> Result<TokenMessage, NoMemory>
+    ensures { IfOk result (λ token. token ≡ token_message (kept parts.now) reply.now) }
 {
+    let (caller, callee) = copied_pair(alloc, &reply.caller, &parts.setting.me)?;
     let who = reply.repair_who.copied(alloc)?;
-    let answer = last_answer(alloc, parts, &reply.caller, reply.number, entry, made)?;
-    Ok(Post::Answer(AnswerMessage { who, ..answer }))
+    Ok(TokenMessage {
+        caller,
+        callee,
+        id: reply.id,
+        number: reply.number,
+        answer_version: reply.answer_version,
+        who,
+    })
 }
 
-fn write_reply(alloc: Global, parts: &Parts, id: u64) -> Result<Post, NoMemory>
-    requires { IsSome (write_post (kept parts.now) (PostName.Reply id)) }
-    ensures { IfOk result (λ post. write_post (kept parts.now) (PostName.Reply id) ≡ Some post) }
+fn write_token(alloc: Global, parts: &Parts, id: u64) -> Result<Post, NoMemory>
+    requires { IsSome (token_post (kept parts.now) (reply id parts.now.replies.list)) }
+    ensures { IfOk result (λ post. token_post (kept parts.now) (reply id parts.now.replies.list) ≡ Some post) }
 {
     let reply = parts.replies.get(id).unwrap();
-    let entry = parts.repairer.log().find(reply.id).unwrap();
-    let made = entry.made.as_ref().unwrap();
-    answer_post(alloc, parts, reply, entry, made)
+    let token = token_message(alloc, parts, reply)?;
+    Ok(Post::Token(token))
 }
 
-/// The message of a post as it is now, of which there is one: that of a call of this number, or the last answer of an entry
-/// of this number that has a reply. A call of version 1 names its neighbours among the wanted calls to the same service,
-/// in logged order.
+// ---- the fetch of an answer
+
+fn fetch_message(alloc: Global, parts: &Parts, register: &Register) -> Result<Fetch, NoMemory>
+    ensures { IfOk result (λ fetch. fetch ≡ fetch_message (kept parts.now) register.now) }
+{
+    let (caller, callee) = copied_pair(alloc, &parts.setting.me, &register.dest)?;
+    Ok(Fetch {
+        caller,
+        callee,
+        number: register.number,
+        answer_version: register.noted,
+    })
+}
+
+fn write_fetch(alloc: Global, parts: &Parts, number: u64) -> Result<Post, NoMemory>
+    requires { IsSome (fetch_post (kept parts.now) (register number parts.now.registers.list)) }
+    ensures { IfOk result (λ post. fetch_post (kept parts.now) (register number parts.now.registers.list) ≡ Some post) }
+{
+    let register = parts.registers.get(number).unwrap();
+    let fetch = fetch_message(alloc, parts, register)?;
+    Ok(Post::Fetch(fetch))
+}
+
+/// The message of a post as it is now, of which there is one: that of a call of this number, the token of the last answer of an
+/// entry of this number that has a reply, or the fetch of the last answer that was announced to a call of this number. A call of
+/// version 1 names its neighbours among the wanted calls to the same service, in logged order.
 pub fn write_post(alloc: Global, parts: &Parts, name: PostName) -> Result<Post, NoMemory>
     requires service { IsService parts.now }
     requires there { IsSome (write_post (kept parts.now) name) }
@@ -117,6 +138,7 @@ pub fn write_post(alloc: Global, parts: &Parts, name: PostName) -> Result<Post, 
 {
     match name {
         PostName::Call(number) => write_call(alloc, parts, number),
-        PostName::Reply(id) => write_reply(alloc, parts, id),
+        PostName::Reply(id) => write_token(alloc, parts, id),
+        PostName::Fetch(number) => write_fetch(alloc, parts, number),
     }
 }
