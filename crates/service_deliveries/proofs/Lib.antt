@@ -3,3 +3,4 @@ mod ReplyLemmas
 mod RefusalLemmas
 mod HearLemmas
 mod PostLemmas
+mod FetchLemmas

@@ -1,14 +1,14 @@
--- Why an answer that comes by a message isn't taken, or which rule allows it, and what is made of it.
+-- Why a token isn't taken, or which rule allows it, and what is made of it.
 use Rattle.std.specs.Prelude.{ℕ, List, [], ◌∷◌, ◌++◌, Option, Some, None, Result, Ok, Err, if◌then◌else◌}
 use Rattle.lang_base.specs.Texts.{same_text}
-use Rattle.repair_messages.specs.declared.messages.AnswerMessage.{AnswerMessage}
+use Rattle.repair_messages.specs.declared.messages.TokenMessage.{TokenMessage}
 use Rattle.authorise_rules.specs.declared.asked.Decision.{Decision}
 use Rattle.authorise_rules.specs.declared.asked.Decision.TheVariants.{Allow, Deny}
 use Rattle.journal_rows.specs.declared.row.Row.{Row}
-use Rattle.call_registers.specs.Registers.{is_newer}
+use Rattle.call_registers.specs.Registers.{is_news}
 use Rattle.call_registers.specs.declared.register.Register.{Register}
 use Rattle.service_events.specs.State.{Kept}
-use Rattle.service_events.specs.Messages.{confirmed_row, hear_decision, seen_row}
+use Rattle.service_events.specs.Messages.{confirmed_row, hear_decision, noted_row}
 use Rattle.service_events.specs.declared.refusals.AnswerRefused.{AnswerRefused}
 use Rattle.service_events.specs.declared.refusals.AnswerRefused.TheVariants.{Unknown, Denied}
 
@@ -17,23 +17,23 @@ abbrev pub allowance : Decision → Result (Option ℕ) AnswerRefused
 allowance (Allow rule) = Ok (Some rule)
 allowance (Deny rule) = Err (Denied rule)
 
--- by which rule it is taken, and by none where it isn't newer than the answer that is held
-abbrev pub admitted : Kept → AnswerMessage → Register → Result (Option ℕ) AnswerRefused
-admitted s a r =
-    if same_text r.dest a.callee
-    then (if is_newer r.answer a.answer_version then allowance (hear_decision s a r) else Ok None)
-    else Err (Unknown a.number)
+-- by which rule it is taken, and by none where it tells nothing new
+abbrev pub admitted : Kept → TokenMessage → Register → Result (Option ℕ) AnswerRefused
+admitted s t r =
+    if same_text r.dest t.callee
+    then (if is_news r t.answer_version then allowance (hear_decision s t r) else Ok None)
+    else Err (Unknown t.number)
 
 -- the same, where there may be a call of its number
-abbrev pub admission : Kept → AnswerMessage → Option Register → Result (Option ℕ) AnswerRefused
-admission s a None = Err (Unknown a.number)
-admission s a (Some r) = admitted s a r
+abbrev pub admission : Kept → TokenMessage → Option Register → Result (Option ℕ) AnswerRefused
+admission s t None = Err (Unknown t.number)
+admission s t (Some r) = admitted s t r
 
--- one that a rule allowed is noted as seen
-abbrev pub seen_rows : AnswerMessage → Option ℕ → List Row
-seen_rows a None = []
-seen_rows a (Some rule) = seen_row rule a ∷ []
+-- one that a rule allowed is noted
+abbrev pub noted_rows : TokenMessage → Option ℕ → List Row
+noted_rows t None = []
+noted_rows t (Some rule) = noted_row rule t ∷ []
 
--- and each is noted as confirmed
-abbrev pub message_rows : AnswerMessage → Option ℕ → List Row
-message_rows a rule = seen_rows a rule ++ confirmed_row a ∷ []
+-- and each is confirmed
+abbrev pub token_rows : TokenMessage → Option ℕ → List Row
+token_rows t rule = noted_rows t rule ++ confirmed_row t ∷ []

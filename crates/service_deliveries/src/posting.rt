@@ -7,6 +7,7 @@ ghost use Rattle.service_parts.specs.Parts.{kept};
 ghost use Rattle.service_parts.specs.Services.{HasRoom, IsService};
 ghost use Rattle.service_deliveries.specs.Posting.{with_confirmed};
 
+use crate::fetching::fetched;
 use crate::noting::note_at_once;
 use crate::posts::{hold_of, is_now, is_own};
 use call_registers::Hold;
@@ -47,7 +48,8 @@ fn confirm_reply(parts: &mut Parts, post: &Post, answer_version: u64)
     let next = parts.journal.len();
     match post {
         Post::Set(_) => {}
-        Post::Answer(answer) => parts.replies.confirmed(answer.id, answer_version, next),
+        Post::Token(token) => parts.replies.confirmed(token.id, answer_version, next),
+        Post::Fetch(_) => {}
     }
 }
 
@@ -79,7 +81,8 @@ fn hold_back(parts: &mut Parts, post: &Post, hold: Hold)
 {
     match post {
         Post::Set(set) => parts.registers.hold(set.number, hold),
-        Post::Answer(answer) => parts.replies.hold_reply(answer.id, hold),
+        Post::Token(token) => parts.replies.hold_reply(token.id, hold),
+        Post::Fetch(_) => {}
     }
 }
 
@@ -118,6 +121,7 @@ fn met(alloc: Global, parts: &mut Parts, post: &Post, reply: PostReply) -> Resul
     match reply {
         PostReply::Acked(ack) => acked(alloc, parts, &ack),
         PostReply::Confirmed(confirm) => confirmed(parts, post, confirm),
+        PostReply::Given(answer) => fetched(alloc, parts, &answer),
         PostReply::Refused { word, number } => Ok(hold_where(parts, post, hold_of(word, number))),
         PostReply::Lost(_) => Ok(Posted::Left),
     }

@@ -1,12 +1,12 @@
 // Which post a reply is to, and whether the service had that post and has it still.
 ghost use Rattle.std.specs.Prelude.{◌≡◌, ◌&&◌};
 ghost use Rattle.std.specs.Option.{option_copied};
-ghost use Rattle.service_events.specs.Messages.{answer_is_now, call_is_now, had, had_answer, had_call, hold_of, is_ack_of, is_confirm_of, is_now, is_version, replies_to};
+ghost use Rattle.service_events.specs.Messages.{answer_is_now, call_is_now, had, had_answer, had_call, has_call, hold_of, is_ack_of, is_confirm_of, is_given_to, is_now, is_version, replies_to};
 ghost use Rattle.service_parts.specs.Parts.{kept};
 
 use call_registers::{Hold, Register, Reply};
 use lang_core::Same;
-use repair_messages::{Ack, AnswerMessage, Confirm, Post, SetMessage};
+use repair_messages::{Ack, AnswerMessage, Confirm, Fetch, Post, SetMessage, TokenMessage};
 use service_events::{PostReply, PostWord};
 use service_parts::Parts;
 
@@ -29,20 +29,40 @@ fn had_call(set: &SetMessage, register: Option<&Register>) -> bool
     }
 }
 
-fn had_answer(answer: &AnswerMessage, reply: Option<&Reply>) -> bool
-    ensures { result ≡ had_answer answer.now (option_copied reply.entry) }
+fn had_answer(token: &TokenMessage, reply: Option<&Reply>) -> bool
+    ensures { result ≡ had_answer token.now (option_copied reply.entry) }
 {
     match reply {
         None => false,
         Some(reply) => {
-            reply.caller.is(&answer.caller)
-                && reply.number == answer.number
-                && is_version(answer.answer_version, reply.answer_version)
+            reply.caller.is(&token.caller)
+                && reply.number == token.number
+                && is_version(token.answer_version, reply.answer_version)
         }
     }
 }
 
-// Whether the service ever had that post at that version.
+fn has_call(fetch: &Fetch, register: Option<&Register>) -> bool
+    ensures { result ≡ has_call fetch.now (option_copied register.entry) }
+{
+    match register {
+        None => false,
+        Some(register) => register.dest.is(&fetch.callee),
+    }
+}
+
+fn had_fetch(parts: &Parts, fetch: &Fetch) -> bool
+    ensures { result ≡ had (kept parts.now) (Post.Fetch fetch.now) }
+{
+    fetch.caller.is(&parts.setting.me)
+        && has_call(fetch, parts.registers.get(fetch.number))
+        && parts
+            .journal
+            .noted_at(fetch.number, fetch.answer_version)
+            .is_some()
+}
+
+// Whether the service ever had that post at that version; of a fetch, whether a token announced the answer.
 fn had(parts: &Parts, post: &Post) -> bool
     ensures { result ≡ had (kept parts.now) post.now }
 {
@@ -50,9 +70,10 @@ fn had(parts: &Parts, post: &Post) -> bool
         Post::Set(set) => {
             set.caller.is(&parts.setting.me) && had_call(set, parts.registers.get(set.number))
         }
-        Post::Answer(answer) => {
-            answer.callee.is(&parts.setting.me) && had_answer(answer, parts.replies.get(answer.id))
+        Post::Token(token) => {
+            token.callee.is(&parts.setting.me) && had_answer(token, parts.replies.get(token.id))
         }
+        Post::Fetch(fetch) => had_fetch(parts, fetch),
     }
 }
 
@@ -67,13 +88,21 @@ fn is_ack_of(set: &SetMessage, ack: &Ack) -> bool
         && ack.version == set.version
 }
 
-fn is_confirm_of(answer: &AnswerMessage, confirm: &Confirm) -> bool
-    ensures { result ≡ is_confirm_of answer.now confirm.now }
+fn is_confirm_of(token: &TokenMessage, confirm: &Confirm) -> bool
+    ensures { result ≡ is_confirm_of token.now confirm.now }
 {
-    confirm.caller.is(&answer.caller)
-        && confirm.callee.is(&answer.callee)
-        && confirm.number == answer.number
-        && confirm.answer_version == answer.answer_version
+    confirm.caller.is(&token.caller)
+        && confirm.callee.is(&token.callee)
+        && confirm.number == token.number
+        && confirm.answer_version == token.answer_version
+}
+
+fn is_given_to(fetch: &Fetch, answer: &AnswerMessage) -> bool
+    ensures { result ≡ is_given_to fetch.now answer.now }
+{
+    answer.callee.is(&fetch.callee)
+        && answer.number == fetch.number
+        && answer.answer_version == fetch.answer_version
 }
 
 fn replies_to(post: &Post, reply: &PostReply) -> bool
@@ -82,11 +111,18 @@ fn replies_to(post: &Post, reply: &PostReply) -> bool
     match reply {
         PostReply::Acked(ack) => match post {
             Post::Set(set) => is_ack_of(set, ack),
-            Post::Answer(_) => false,
+            Post::Token(_) => false,
+            Post::Fetch(_) => false,
         },
         PostReply::Confirmed(confirm) => match post {
             Post::Set(_) => false,
-            Post::Answer(answer) => is_confirm_of(answer, confirm),
+            Post::Token(token) => is_confirm_of(token, confirm),
+            Post::Fetch(_) => false,
+        },
+        PostReply::Given(answer) => match post {
+            Post::Set(_) => false,
+            Post::Token(_) => false,
+            Post::Fetch(fetch) => is_given_to(fetch, answer),
         },
         PostReply::Refused { .. } => true,
         PostReply::Lost(_) => true,
@@ -120,13 +156,14 @@ fn answer_is_now(answer_version: u64, reply: Option<&Reply>) -> bool
     }
 }
 
-/// Whether the post's version is the current one.
+/// Whether the post's version is the current one. A fetch is never held.
 pub(crate) fn is_now(parts: &Parts, post: &Post) -> bool
     ensures { result ≡ is_now (kept parts.now) post.now }
 {
     match post {
         Post::Set(set) => call_is_now(set.version, parts.registers.get(set.number)),
-        Post::Answer(answer) => answer_is_now(answer.answer_version, parts.replies.get(answer.id)),
+        Post::Token(token) => answer_is_now(token.answer_version, parts.replies.get(token.id)),
+        Post::Fetch(_) => false,
     }
 }
 

@@ -7,4 +7,4 @@ use Rattle.service_deliveries.proofs.posting.confirm_reply.Goals as goal
 
 pub confirmed-requires : goal.confirmed-requires
 confirmed-requires c =
-    had_reply (kept c.args.parts.now) c.in-Answer.answer (subst (λ (p : Post). had (kept c.args.parts.now) p ≡ true) c.in-Answer.is c.requires)
+    had_reply (kept c.args.parts.now) c.in-Token.token (subst (λ (p : Post). had (kept c.args.parts.now) p ≡ true) c.in-Token.is c.requires)

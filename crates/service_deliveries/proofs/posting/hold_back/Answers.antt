@@ -11,4 +11,4 @@ hold-requires c =
 
 pub hold_reply-requires : goal.hold_reply-requires
 hold_reply-requires c =
-    reply_there (kept c.args.parts.now) c.in-Answer.answer (subst (λ (p : Post). is_now (kept c.args.parts.now) p ≡ true) c.in-Answer.is c.requires)
+    reply_there (kept c.args.parts.now) c.in-Token.token (subst (λ (p : Post). is_now (kept c.args.parts.now) p ≡ true) c.in-Token.is c.requires)
