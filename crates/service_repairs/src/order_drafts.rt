@@ -207,6 +207,7 @@ fn release(parts: &mut Parts, name: PostName, who: Text)
     match name {
         PostName::Call(number) => parts.registers.release(number, who),
         PostName::Reply(id) => parts.replies.release_reply(id, who),
+        PostName::Fetch(_) => {}
     }
 }
 

@@ -86,6 +86,7 @@ fn hold_on(parts: &Parts, name: PostName) -> Option<Hold>
             None => None,
             Some(reply) => reply.held,
         },
+        PostName::Fetch(_) => None,
     }
 }
 
@@ -132,6 +133,7 @@ fn request_posted(parts: &Parts, name: PostName) -> Option<&Request>
     match name {
         PostName::Call(number) => request_retried(parts, number),
         PostName::Reply(id) => request_of(parts, id),
+        PostName::Fetch(_) => None,
     }
 }
 
