@@ -3,6 +3,7 @@ use Rattle.std.proofs.Common.{◌≡◌, ◌≤◌, List, [], length, sym, ap, s
 use Rattle.std.proofs.lemmas.List.Elements.{All-nil}
 use Rattle.flights.specs.declared.flight.Flight.{Flight}
 use Rattle.service_events.specs.State.{fresh}
+use Rattle.service_events.specs.Ages.{IsNotedAt}
 use Rattle.service_events.specs.Allowed.{IsAllowed}
 use Rattle.service_events.specs.Fits.{Fits}
 use Rattle.service_events.proofs.StartLaw.{fits_start, allowed_start}
@@ -23,7 +24,7 @@ new_service p entries flights journal registers replies =
     record {
       fits = subst Fits (sym same) (fits_start p.setting p.rules);
       allowed = subst IsAllowed (sym same) (allowed_start p.setting p.rules);
-      ages = subst AgesOf (sym same) (record { calls = All-nil (IsAged []); replies = All-nil (IsMarked []) });
+      ages = subst AgesOf (sym same) (record { calls = All-nil (IsAged []); replies = All-nil (IsMarked []); fetches = All-nil (IsNotedAt []) });
       few = omega (arith, entered, flying);
       room = (let R : List Flight → Type 0 = λ fs. aloft fs ≤ p.journal.spare in subst R (sym flights) least);
     }

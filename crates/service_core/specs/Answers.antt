@@ -4,7 +4,9 @@ use Rattle.lang_core.specs.declared.ids.Origin.{Origin}
 use Rattle.lang_core.specs.declared.inputs.Inputs.{Inputs}
 use Rattle.lang_core.specs.declared.request.Request.{Request}
 use Rattle.repair_messages.specs.declared.messages.AnswerMessage.{AnswerMessage}
+use Rattle.repair_messages.specs.declared.messages.Fetch.{Fetch}
 use Rattle.repair_messages.specs.declared.messages.SetMessage.{SetMessage}
+use Rattle.repair_messages.specs.declared.messages.TokenMessage.{TokenMessage}
 use Rattle.repair_messages.specs.declared.posts.Post.{Post}
 use Rattle.repair_messages.specs.declared.posts.PostName.{PostName}
 use Rattle.journal_rows.specs.declared.orders.Command.{Command}
@@ -12,8 +14,8 @@ use Rattle.call_registers.specs.declared.register.Why.{Why}
 use Rattle.service_events.specs.Ages.{GoesFirst}
 use Rattle.service_events.specs.Arriving.{abandon_event, arrive_event, call_answered_event, call_failed_event}
 use Rattle.service_events.specs.Commits.{Commits, CommitsFlight}
-use Rattle.service_events.specs.Doing.{answer_memory, arrive_memory, call_memory, order_memory, post_memory, take_memory, Does}
-use Rattle.service_events.specs.Messages.{posted_event, take_answer_event, take_event}
+use Rattle.service_events.specs.Doing.{answer_memory, arrive_memory, call_memory, give_memory, order_memory, post_memory, take_memory, Does}
+use Rattle.service_events.specs.Messages.{give_event, posted_event, take_event, take_token_event}
 use Rattle.service_events.specs.Orders.{order_event}
 use Rattle.service_events.specs.Posts.{next_post, write_post}
 use Rattle.service_events.specs.State.{Kept, after}
@@ -47,9 +49,14 @@ abbrev pub Takes : Kept → SetMessage → Inputs → Done → Kept → Type 0
 Takes s set i (done.Take result) t = Does take_memory (take_event s set i) s result t
 Takes s set i answer t = ⊥
 
-abbrev pub Hears : Kept → AnswerMessage → Done → Kept → Type 0
-Hears s a (done.TakeAnswer result) t = Does answer_memory (take_answer_event s a) s result t
-Hears s a answer t = ⊥
+abbrev pub Hears : Kept → TokenMessage → Done → Kept → Type 0
+Hears s x (done.TakeToken result) t = Does answer_memory (take_token_event s x) s result t
+Hears s x answer t = ⊥
+
+-- nothing changes
+abbrev pub Gives : Kept → Fetch → Done → Kept → Type 0
+Gives s f (done.Give result) t = Does give_memory (give_event s f) s result t × (t ≡ s)
+Gives s f answer t = ⊥
 
 -- the post that goes next, which has a message to that service
 abbrev pub Tells : Kept → List ℕ → Done → Kept → Type 0
@@ -80,7 +87,8 @@ Answers s (events.CallAnswered flight a) answer t = IsAnswered s flight a answer
 Answers s (events.CallFailed flight number why) answer t = Fails s flight number why answer t
 Answers s (events.Abandon flight) answer t = IsAbandoned s flight answer t
 Answers s (events.Take set i) answer t = Takes s set i answer t
-Answers s (events.TakeAnswer a) answer t = Hears s a answer t
+Answers s (events.TakeToken x) answer t = Hears s x answer t
+Answers s (events.Give f) answer t = Gives s f answer t
 Answers s (events.NextPost dest) answer t = Tells s dest answer t
 Answers s (events.WritePost name) answer t = Writes s name answer t
 Answers s (events.Posted p reply) answer t = Posts s p reply answer t

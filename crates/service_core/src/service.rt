@@ -16,9 +16,9 @@ ghost use Rattle.service_events.specs.RunsOn.{Begins, GoesOnTo, IsStep};
 ghost use Rattle.service_core.specs.Answers.{Answers};
 ghost use Rattle.service_core.specs.Readings.{awaited_by, first_stale, AreReplayed, IsReplayedBefore};
 ghost use Rattle.service_events.specs.Event.{Happens, IsFailure, MayHappen};
-ghost use Rattle.service_events.specs.Doing.{answer_memory, arrive_memory, call_memory, order_memory, post_memory, take_memory, Does};
+ghost use Rattle.service_events.specs.Doing.{answer_memory, arrive_memory, call_memory, give_memory, order_memory, post_memory, take_memory, Does};
 ghost use Rattle.journal_rows.specs.Words.{ordered};
-ghost use Rattle.service_events.specs.Messages.{take_event, take_answer_event, posted_event};
+ghost use Rattle.service_events.specs.Messages.{give_event, take_event, take_token_event, posted_event};
 ghost use Rattle.service_events.specs.Orders.{order_event};
 ghost use Rattle.service_events.specs.Posts.{next_post, write_post};
 ghost use Rattle.service_posts.specs.Goes.{GoesTo};
@@ -32,12 +32,12 @@ use flights::Flights;
 use journal_rows::{Command, Rows};
 use lang_core::{Cells, Copied, Inputs, Name, NoMemory, Origin, Request, Setting, Text};
 use local_repair::{Repairer, Stepped};
-use repair_messages::{AnswerMessage, Post, PostName, SetMessage};
+use repair_messages::{AnswerMessage, Fetch, Post, PostName, SetMessage, TokenMessage};
 use request_log::Log;
-use service_deliveries::{posted, take, take_answer};
+use service_deliveries::{give, posted, take, take_token};
 use service_events::{
-    AnswerRefused, ArriveRefused, Arrived, CallRefused, Done, Event, Heard, OrderRefused, Ordered,
-    PostRefused, PostReply, Posted, TakeRefused, Taken,
+    AnswerRefused, ArriveRefused, Arrived, CallRefused, Done, Event, GiveRefused, Heard,
+    OrderRefused, Ordered, PostRefused, PostReply, Posted, TakeRefused, Taken,
 };
 use service_parts::Parts;
 use service_posts::{next_post, write_post};
@@ -201,7 +201,8 @@ impl Service {
             } => Done::CallFailed(self.call_failed(alloc, flight, number, why)),
             Event::Abandon { flight } => Done::Abandon(self.abandon(flight)),
             Event::Take { set, inputs } => Done::Take(self.take(alloc, &set, inputs)),
-            Event::TakeAnswer { answer } => Done::TakeAnswer(self.take_answer(alloc, &answer)),
+            Event::TakeToken { token } => Done::TakeToken(self.take_token(alloc, &token)),
+            Event::Give { fetch } => Done::Give(self.give(alloc, &fetch)),
             Event::NextPost { dest } => Done::NextPost(self.next_post(&dest)),
             Event::WritePost { name } => Done::WritePost(self.write_post(alloc, name)),
             Event::Posted { post, reply } => Done::Posted(self.posted(alloc, &post, reply)),
@@ -338,25 +339,34 @@ impl Service {
         take(alloc, &mut self.parts, set, inputs)
     }
 
-    /// An answer to one of its calls came by a message. It is refused where no call to that service has its number. One that
-    /// isn't newer than the answer that is held is confirmed again. Any other is refused with the number of the rule where the
-    /// service's rules deny it; else it is kept, and confirmed.
-    pub fn take_answer(
+    /// A token came, which announces an answer to one of its calls. It is refused where no call to that service has its number.
+    /// One that isn't above the answer that is held, or the one that was noted, is confirmed again. Any other is refused with the
+    /// number of the rule where the service's rules deny it; else it is noted, so that the answer is fetched, and confirmed.
+    pub fn take_token(
         &mut self,
         alloc: Global,
-        answer: &AnswerMessage,
+        token: &TokenMessage,
     ) -> Result<Heard, AnswerRefused>
-        ensures does { Does answer_memory (take_answer_event self.old answer.now) self.old result self.new }
+        ensures does { Does answer_memory (take_token_event self.old token.now) self.old result self.new }
         ensures silent { live_rows self.new.journal ≡ live_rows self.old.journal }
         ensures told { AddsCauses (causes self.old) false self.new }
     {
         self.checked = 0;
-        take_answer(alloc, &mut self.parts, answer)
+        take_token(alloc, &mut self.parts, token)
     }
 
-    /// Something came back of a post. It is noted where the post was acknowledged or confirmed; a refusal that the receiver's
-    /// rules or its want of knowledge give holds the post, where its version is the current one; else the post is left as it
-    /// is. It is refused where the service never had that post at that version, or the reply is to another one.
+    /// Another service asks for an answer to one of its calls: it is given as it was made, whatever was answered since. It is
+    /// refused where the call has no answer of that version. Nothing changes.
+    pub fn give(&self, alloc: Global, fetch: &Fetch) -> Result<AnswerMessage, GiveRefused>
+        ensures { Does give_memory (give_event self.now fetch.now) self.now result self.now }
+    {
+        give(alloc, &self.parts, fetch)
+    }
+
+    /// Something came back of a post. It is noted where the post was acknowledged or confirmed, and an answer that was fetched is
+    /// held where it is above the one that is held; a refusal that the receiver's rules or its want of knowledge give holds the
+    /// post, where its version is the current one and it is no fetch; else the post is left as it is. It is refused where the
+    /// service never had that post at that version, or the reply is to another one.
     pub fn posted(
         &mut self,
         alloc: Global,
@@ -373,7 +383,7 @@ impl Service {
 
     /// The post that goes to another service next: the oldest that is outstanding; None exactly where none is. It is the one
     /// that waits since the earliest row of the journal: a call since its last version was sent, a reply since it was last
-    /// marked. It has a message, which goes there.
+    /// marked, a fetch since the token that announced its answer was noted. It has a message, which goes there.
     pub fn next_post(&self, dest: &Name) -> Option<PostName>
         ensures next { result ≡ next_post dest.now self.now }
         ensures first { IfSome result (λ name. GoesFirst dest.now self.now name) }
@@ -382,9 +392,9 @@ impl Service {
         next_post(&self.parts, dest)
     }
 
-    /// The message of a post as it is now, of which there is one: that of a call of this number, or the last answer of an
-    /// entry of this number that has a reply. A call of version 1 names its neighbours among the wanted calls to the same
-    /// service, in logged order.
+    /// The message of a post as it is now, of which there is one: that of a call of this number, the token of the last answer of
+    /// an entry of this number that has a reply, or the fetch of the last answer that was announced to a call of this number. A
+    /// call of version 1 names its neighbours among the wanted calls to the same service, in logged order.
     pub fn write_post(&self, alloc: Global, name: PostName) -> Result<Post, NoMemory>
         requires { IsSome (write_post self.now name) }
         ensures { IfOk result (λ post. write_post self.now name ≡ Some post) }
