@@ -1,5 +1,5 @@
 -- Where nothing is outstanding, what a call consumes is the response of its entry.
-use Rattle.std.proofs.Common.{◌≡◌, ℕ, ◌<◌, ◌≤◌, Bool, true, false, ◌&&◌, not, List, Option, Some, None, IsSomeAnd, IfSome, Contains, find, nat_eq, option_map, subst, sym, ap, refl, arith, ◌∙◌, eqb-true, eq-eqb}
+use Rattle.std.proofs.Common.{◌≡◌, ℕ, ◌<◌, ◌≤◌, Bool, true, false, ◌&&◌, not, List, Option, Some, None, IsSomeAnd, IfSome, Contains, find, is_some, max, nat_eq, nat_lt, option_map, subst, sym, ap, refl, arith, ◌∙◌, eqb-true, eq-eqb, ltb-false}
 use Rattle.std.proofs.lemmas.Bool.{cond-true}
 use Rattle.lang_core.specs.declared.ids.Origin.TheVariants.{Call}
 use Rattle.lang_core.specs.declared.request.Request.{Request}
@@ -7,7 +7,7 @@ use Rattle.request_log.specs.Entries.{has_id}
 use Rattle.request_log.specs.Records.{record_in}
 use Rattle.request_log.specs.declared.entry.Entry.{Entry}
 use Rattle.request_log.specs.declared.entry.Made.{Made}
-use Rattle.journal_rows.specs.Words.{asked, last_seen, seen_version, claimed, acknowledged, last_answered, given_version, last_mark, settles}
+use Rattle.journal_rows.specs.Words.{asked, last_seen, seen_version, claimed, last_noted, noted_version, confirmed_version, acknowledged, last_answered, given_version, last_mark, settles}
 use Rattle.journal_rows.specs.declared.callee.AnsweredRow.{AnsweredRow}
 use Rattle.journal_rows.specs.declared.callee.AskedRow.{AskedRow}
 use Rattle.journal_rows.specs.declared.caller.AckHow.{AckHow}
@@ -17,18 +17,19 @@ use Rattle.journal_rows.specs.declared.row.Row.{Row}
 use Rattle.journal_rows.specs.declared.row.Row.TheVariants.{Answered, WasConfirmed, SawAck, SawAnswer}
 use Rattle.journal_rows.specs.declared.words.Mark.{Mark}
 use Rattle.journal_rows.specs.declared.words.Mark.TheVariants.{Unsettled, AnsweredLive, ConfirmedAt}
-use Rattle.call_registers.specs.Registers.{register, answer_to, consumed_in, consumed}
+use Rattle.call_registers.specs.Registers.{has_number, register, answer_to, consumed_in, consumed, held_version, owes_fetch}
 use Rattle.call_registers.specs.declared.register.Answer.{Answer}
 use Rattle.call_registers.specs.declared.register.Register.{Register}
 use Rattle.call_registers.specs.declared.reply.Reply.{Reply}
 use Rattle.service_events.specs.State.{Kept, me}
 use Rattle.service_events.specs.Fits.{Fits, HasAnswered as HasItsAnswer, HasReply, IsReply, answer_recorded, answer_given}
 use Rattle.service_events.specs.Calls.{seen_answer}
+use Rattle.service_events.proofs.NoteLemmas.{noted_is, held_is}
 use Rattle.service_events.proofs.SearchLemmas.{found_all}
 use Rattle.world_agreement.specs.Partners.{service_of, JournalOfDest, HasAnswered, HasConfirmed, HasAcknowledged}
 use Rattle.world_agreement.specs.Quiet.{IsQuiet}
 use Rattle.world_agreement.proofs.EntryFacts.{begun, Entered, same_entry}
-use Rattle.world_agreement.proofs.SentFacts.{claimed_live, claimed_confirmed, seen_from}
+use Rattle.world_agreement.proofs.SentFacts.{claimed_live, confirmed_within, seen_from}
 use Rattle.world_agreement.proofs.TakenFacts.{acked_within}
 use Rattle.world_agreement.proofs.AnswerFacts.{IsGivenBefore, given_before, given_positive, given_asked, given_from}
 use Rattle.world_agreement.proofs.MarkFacts.{ConfirmedFrom, confirmed_from, IsFirstAnswer, marks}
@@ -99,6 +100,11 @@ answer_agrees r (Some a) last is positive above within version =
     ap (answer_to r.version) is
     ∙ cond-true (nat_eq a.version r.version) (Some a.response) None (eq-eqb a.version r.version (same.0 ∙ version)) ∙ ap Some same.1
 
+-- what was announced to a call that is wanted is held, where no fetch is owed
+fetched_all : (r : Register) (q : Request) → r.desired ≡ Some q → owes_fetch r ≡ false → r.noted ≤ held_version r.answer
+fetched_all r q wants none =
+    ltb-false (held_version r.answer) r.noted (subst (λ o. (is_some o && nat_lt (held_version r.answer) r.noted) ≡ false) wants none)
+
 module _ (services : List Kept) (h : AreAtRest services) (s : Kept) (here : service_of (me s) services ≡ Some s) (n : ℕ) (r : Register)
     (found : register n s.registers ≡ Some r) (z : Settled services h s here n r found) (q : Request) (wants : r.desired ≡ Some q)
     (e : Entered z.callee (fits_of services h.together r.dest z.callee z.there) (me s) n z.last z.taken q (z.desired ∙ wants)) where
@@ -119,9 +125,9 @@ module _ (services : List Kept) (h : AreAtRest services) (s : Kept) (here : serv
       let positive = version_positive services h.together s here n r found in
       absurd (omega (arith, some, none, positive))
 
-  -- the caller saw the entry's last answer
+  -- the caller was told of the entry's last answer
   heard_last : (row : AnsweredRow) → last_answered e.entry.id z.callee.journal ≡ Some row → row.answer_version ≡ e.entry.answer_version
-      → (mark : Mark) → last_mark e.entry.id (me s) n z.callee.journal ≡ mark → settles e.entry.answer_version mark ≡ true → row.answer_version ≤ claimed n s.journal
+      → (mark : Mark) → last_mark e.entry.id (me s) n z.callee.journal ≡ mark → settles e.entry.answer_version mark ≡ true → row.answer_version ≤ max (claimed n s.journal) (confirmed_version n s.journal)
   heard_last row last same AnsweredLive is yes' =
       let k = marks e.entry.id (me s) n z.callee.journal fits.taken fits.answered.rows in
       let first = first_answer (asked e.entry.id z.callee.journal) (k.marked is) (asked_origin (asked e.entry.id z.callee.journal) refl) in
@@ -142,10 +148,19 @@ module _ (services : List Kept) (h : AreAtRest services) (s : Kept) (here : serv
       let was = subst (ConfirmedFrom (me s) n z.callee.journal) is (confirmed_from e.entry.id (me s) n z.callee.journal) in
       let confirmed = in_journal services h.together (me s) s here (HasConfirmed n v)
       (partner services h.together r.dest z.callee z.there (WasConfirmed (record { caller = me s; number = n; answer_version = v })) was) in
-      let claim = claimed_confirmed n v s.journal confirmed in
+      let claim = confirmed_within n v s.journal confirmed in
       let it : v ≡ e.entry.answer_version = eqb-true v e.entry.answer_version yes' in
       omega (arith, claim, it, same)
   heard_last row last same Unsettled is yes' = cc
+
+  -- and so saw it
+  told_seen : seen_version (last_seen n s.journal) ≡ held_version r.answer → noted_version (last_noted n s.journal) ≡ r.noted → r.noted ≤ held_version r.answer
+      → (v : ℕ) → v ≤ max (claimed n s.journal) (confirmed_version n s.journal) → v ≤ seen_version (last_seen n s.journal)
+  told_seen held noted fetched v within =
+      let seen = (fits_of services h.together (me s) s here).seen in
+      let heard : claimed n s.journal ≤ seen_version (last_seen n s.journal) = seen.heard n in
+      let told : confirmed_version n s.journal ≤ max (seen_version (last_seen n s.journal)) (noted_version (last_noted n s.journal)) = seen.told n in
+      omega (arith, held, noted, fetched, within, heard, told)
 
   -- the answer that the caller saw last was given by the entry
   seen_within : (row : AnsweredRow) → last_answered e.entry.id z.callee.journal ≡ Some row → (held : Option SawAnswerRow) → IfSome held (λ a. (a.number ≡ n) × Contains s.journal (SawAnswer a))
@@ -170,10 +185,12 @@ module _ (services : List Kept) (h : AreAtRest services) (s : Kept) (here : serv
       let quiet = quiet_of services h r.dest z.callee z.there in
       let mark = mark_settles z.callee fits quiet (me s) n e.entry e.by_id e.origin e.wanted in
       let claim = heard_last last.row last.is last.answer_version (last_mark e.entry.id (me s) n z.callee.journal) refl mark in
-      let heard = (fits_of services h.together (me s) s here).seen.heard n in
+      let seen = has_seen services h.together s here n r found in
+      let none = found_all (λ (x : Register). owes_fetch x ≡ false) (has_number n) s.registers r (quiet_of services h (me s) s here).fetched found in
+      let heard = told_seen (held_is r.answer (last_seen n s.journal) seen.answer) (noted_is (last_noted n s.journal) r seen.noted) (fetched_all r q wants none) last.row.answer_version claim in
       let row = subst (λ o. IfSome o (λ a. (a.id ≡ e.entry.id) × Contains z.callee.journal (Answered a))) last.is (given_from e.entry.id z.callee.journal) in
       let positive = given_positive last.row z.callee.journal fits.answered.rows row.1 in
       let within = seen_within last.row last.is (last_seen n s.journal) (seen_from n s.journal) in
-      let agrees = answer_agrees r (last_seen n s.journal) last.row (has_seen services h.together s here n r found).answer positive (omega (arith, claim, heard)) within
+      let agrees = answer_agrees r (last_seen n s.journal) last.row seen.answer positive heard within
       (last.version ∙ now ∙ e.version ∙ z.version) in
       ap consumed_in found ∙ agrees ∙ ap Some last.response

@@ -13,6 +13,7 @@ use Rattle.execution.specs.Together.{CallsAreServed, IsLegalTogether}
 use Rattle.request_log.specs.Entries.{has_id}
 use Rattle.request_log.specs.declared.entry.Entry.{Entry}
 use Rattle.local_repair.specs.Current.{IsRun}
+use Rattle.call_registers.specs.Registers.{owes_fetch}
 use Rattle.call_registers.specs.declared.register.Register.{Register}
 use Rattle.call_registers.specs.declared.reply.Reply.{Reply}
 use Rattle.service_events.specs.State.{Kept, me}
@@ -73,6 +74,7 @@ module _ (setting : Setting) (buy pay : Request) (i : Inputs) (written : List Wr
     landed = refl;
     current = (record { alive = refl; version = refl; request = refl; reads = All-nil _; answers = refl }, tt);
     acknowledged = all_one (λ (r : Register). r.acked ≡ r.version) _ refl;
+    fetched = all_one (λ (r : Register). owes_fetch r ≡ false) _ refl;
     given = All-nil (λ (p : Reply). p.due ≡ false);
   }
 
@@ -81,6 +83,7 @@ module _ (setting : Setting) (buy pay : Request) (i : Inputs) (written : List Wr
     landed = refl;
     current = (record { alive = refl; version = refl; request = refl; reads = All-nil _; answers = refl }, tt);
     acknowledged = All-nil (λ (r : Register). r.acked ≡ r.version);
+    fetched = All-nil (λ (r : Register). owes_fetch r ≡ false);
     given = all_one (λ (p : Reply). p.due ≡ false) _ refl;
   }
 
@@ -102,9 +105,9 @@ module _ (setting : Setting) (buy pay : Request) (i : Inputs) (written : List Wr
 
   shop_seen : FitsSeen shop.journal shop.registers
   shop_seen = record {
-    rows = (tt, (refl, ((refl, tt), (tt, (tt, tt)))));
+    rows = (tt, (refl, ((refl, tt, tt), (tt, (tt, tt)))));
     registers = λ n. elim (cases_Bool (nat_eq 1 n)) [
-      | inl is ↦ rw is (record { acked = refl; answer = refl })
+      | inl is ↦ rw is (record { acked = refl; answer = refl; noted = (refl, refl, refl) })
       | inr other ↦ rw other tt
     ];
     answered = λ n told. elim (cases_Bool (nat_eq 1 n)) [
@@ -115,6 +118,7 @@ module _ (setting : Setting) (buy pay : Request) (i : Inputs) (written : List Wr
       | inl is ↦ rw is (omega arith)
       | inr other ↦ rw other (omega arith)
     ];
+    told = λ n. omega arith;
   }
 
   shop_asked : FitsAsked shop.journal shop.entries
@@ -180,7 +184,7 @@ module _ (setting : Setting) (buy pay : Request) (i : Inputs) (written : List Wr
   bank_fits : All (λ (e : Entry). IfSome e.made (IsRun at_bank e.inputs)) bank.entries → Fits bank
   bank_fits runs = record {
     sent = record { rows = (tt, (tt, (tt, tt))); registers = λ n. refl; count = refl; numbered = tt };
-    seen = record { rows = (tt, (tt, (tt, tt))); registers = λ n. tt; answered = λ n told. cc; heard = λ n. omega arith };
+    seen = record { rows = (tt, (tt, (tt, tt))); registers = λ n. tt; answered = λ n told. cc; heard = λ n. omega arith; told = λ n. omega arith };
     taken = (tt, ((omega arith, (refl, refl)), (refl, tt)));
     asked = bank_asked;
     runs = runs;

@@ -11,6 +11,7 @@ use Rattle.lang_core.specs.declared.writes.Write.{Write}
 use Rattle.request_log.specs.Entries.{has_id}
 use Rattle.request_log.specs.declared.entry.Entry.{Entry}
 use Rattle.local_repair.specs.Current.{IsRun, AllRuns}
+use Rattle.call_registers.specs.Registers.{owes_fetch}
 use Rattle.call_registers.specs.declared.register.Register.{Register}
 use Rattle.call_registers.specs.declared.reply.Reply.{Reply}
 use Rattle.service_events.specs.State.{Kept, me}
@@ -65,6 +66,7 @@ module _ (setting : Setting) (buy pay : Request) (i : Inputs) (written : List Wr
     landed = refl;
     current = (record { alive = refl; version = refl; request = refl; reads = All-nil _; answers = refl }, tt);
     acknowledged = all_one (λ (r : Register). r.acked ≡ r.version) _ refl;
+    fetched = all_one (λ (r : Register). owes_fetch r ≡ false) _ refl;
     given = All-nil (λ (p : Reply). p.due ≡ false);
   }
 
@@ -73,6 +75,7 @@ module _ (setting : Setting) (buy pay : Request) (i : Inputs) (written : List Wr
     landed = refl;
     current = (record { alive = refl; version = refl; request = refl; reads = All-nil _; answers = refl }, tt);
     acknowledged = All-nil (λ (r : Register). r.acked ≡ r.version);
+    fetched = All-nil (λ (r : Register). owes_fetch r ≡ false);
     given = all_one (λ (p : Reply). p.due ≡ false) _ refl;
   }
 
@@ -94,9 +97,9 @@ module _ (setting : Setting) (buy pay : Request) (i : Inputs) (written : List Wr
 
   shop_seen : FitsSeen shop.journal shop.registers
   shop_seen = record {
-    rows = (tt, (refl, ((refl, tt), (tt, (tt, (tt, (tt, (tt, (refl, tt)))))))));
+    rows = (tt, (refl, ((refl, tt, tt), (tt, (tt, (tt, (tt, (tt, (refl, tt)))))))));
     registers = λ n. elim (cases_Bool (nat_eq 1 n)) [
-      | inl is ↦ rw is (record { acked = refl; answer = refl })
+      | inl is ↦ rw is (record { acked = refl; answer = refl; noted = (refl, refl, refl) })
       | inr other ↦ rw other tt
     ];
     answered = λ n told. elim (cases_Bool (nat_eq 1 n)) [
@@ -107,6 +110,7 @@ module _ (setting : Setting) (buy pay : Request) (i : Inputs) (written : List Wr
       | inl is ↦ rw is (omega arith)
       | inr other ↦ rw other (omega arith)
     ];
+    told = λ n. omega arith;
   }
 
   shop_asked : FitsAsked shop.journal shop.entries
@@ -184,6 +188,7 @@ module _ (setting : Setting) (buy pay : Request) (i : Inputs) (written : List Wr
       registers = λ n. tt;
       answered = λ n told. cc;
       heard = λ n. omega arith;
+      told = λ n. omega arith;
     };
     taken = (tt, ((omega arith, (refl, refl)), (refl, ((omega arith, tt), (omega arith, (refl, tt))))));
     asked = bank_asked;

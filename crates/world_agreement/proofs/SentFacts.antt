@@ -4,7 +4,7 @@ use Rattle.std.proofs.lemmas.Bool.{cases_Bool, cond_both, cond-true, cond-false,
 use Rattle.std.proofs.lemmas.List.Elements.{Contains-push, Contains-append_left}
 use Rattle.std.proofs.lemmas.List.Sums.{fold_push}
 use Rattle.std.proofs.Math.Nat.{max-eq_left, max-eq_right}
-use Rattle.journal_rows.specs.Words.{sent_step, last_sent, named, ack_step, seen_acked, seen_step, last_seen, with_ack, claim_step, claimed}
+use Rattle.journal_rows.specs.Words.{sent_step, last_sent, named, ack_step, seen_acked, seen_step, last_seen, with_ack, claim_step, claimed, confirm_step, confirmed_version}
 use Rattle.journal_rows.specs.declared.caller.AckHow.{AckHow}
 use Rattle.journal_rows.specs.declared.caller.AckHow.TheVariants.{WithAnswer, ToPost}
 use Rattle.journal_rows.specs.declared.caller.SawAnswerRow.{SawAnswerRow}
@@ -111,7 +111,7 @@ seen_sets n last row = inl refl
 pub seen_from : (n : ℕ) (journal : List Row) → IfSome (last_seen n journal) (λ a. (a.number ≡ n) × Contains journal (SawAnswer a))
 seen_from n journal = last_from SawAnswer (λ a. a.number ≡ n) (seen_step n) (seen_sets n) journal
 
--- ---- what was claimed
+-- ---- what was claimed and confirmed
 
 claim_rises_by : (most k : ℕ) (how : AckHow) → k ≤ most → k ≤ with_ack most how
 claim_rises_by most k (WithAnswer v) q = omega (arith, q)
@@ -120,8 +120,12 @@ claim_rises_by most k ToPost q = q
 -- a claim never falls
 claim_rises : (n most : ℕ) (row : Row) (k : ℕ) → k ≤ most → k ≤ claim_step n most row
 claim_rises n most (SawAck a) k q = cond_both (nat_eq a.number n) (with_ack most a.how) most (λ x. k ≤ x) (λ _. claim_rises_by most k a.how q) (λ _. q)
-claim_rises n most (Confirmed c) k q = cond_both (nat_eq c.number n) (max most c.answer_version) most (λ x. k ≤ x) (λ _. omega (arith, q)) (λ _. q)
 claim_rises n most row k q = q
+
+-- nor does what was confirmed
+confirm_rises : (n most : ℕ) (row : Row) (k : ℕ) → k ≤ most → k ≤ confirm_step n most row
+confirm_rises n most (Confirmed c) k q = cond_both (nat_eq c.number n) (max most c.answer_version) most (λ x. k ≤ x) (λ _. omega (arith, q)) (λ _. q)
+confirm_rises n most row k q = q
 
 pub claimed_live : (n v k : ℕ) (journal : List Row) → Contains journal (SawAck (record { number = n; version = v; how = WithAnswer k })) → k ≤ claimed n journal
 claimed_live n v k journal c =
@@ -129,8 +133,8 @@ claimed_live n v k journal c =
     (λ before _. rw (cond-true (nat_eq n n) (max (claimed n before) k) (claimed n before) (eq-eqb n n refl)) (omega arith))
     (λ before row _ q. claim_rises n _ row k q) journal (all_follow journal []) c
 
-pub claimed_confirmed : (n k : ℕ) (journal : List Row) → Contains journal (Confirmed (record { number = n; answer_version = k })) → k ≤ claimed n journal
-claimed_confirmed n k journal c =
-    once_come (λ _ _. Unit {0}) (claim_step n) 0 (Confirmed (record { number = n; answer_version = k })) (λ x. k ≤ x)
-    (λ before _. rw (cond-true (nat_eq n n) (max (claimed n before) k) (claimed n before) (eq-eqb n n refl)) (omega arith))
-    (λ before row _ q. claim_rises n _ row k q) journal (all_follow journal []) c
+pub confirmed_within : (n k : ℕ) (journal : List Row) → Contains journal (Confirmed (record { number = n; answer_version = k })) → k ≤ confirmed_version n journal
+confirmed_within n k journal c =
+    once_come (λ _ _. Unit {0}) (confirm_step n) 0 (Confirmed (record { number = n; answer_version = k })) (λ x. k ≤ x)
+    (λ before _. rw (cond-true (nat_eq n n) (max (confirmed_version n before) k) (confirmed_version n before) (eq-eqb n n refl)) (omega arith))
+    (λ before row _ q. confirm_rises n _ row k q) journal (all_follow journal []) c

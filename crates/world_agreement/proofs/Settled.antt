@@ -2,7 +2,7 @@
 use Rattle.std.proofs.Common.{◌≡◌, ℕ, ◌<◌, ◌≤◌, List, Option, Some, None, IsSomeAnd, IfSome, All, Contains, option_map, inl, inr, subst, sym, ap, refl, arith, ◌∙◌}
 use Rattle.std.proofs.lemmas.List.Elements.{All-contains}
 use Rattle.lang_core.specs.declared.ids.Origin.TheVariants.{Call}
-use Rattle.journal_rows.specs.Words.{last_sent, seen_acked, last_seen, last_taken, version_in, taken_version}
+use Rattle.journal_rows.specs.Words.{last_sent, seen_acked, last_seen, last_noted, last_taken, version_in, taken_version}
 use Rattle.journal_rows.specs.declared.callee.TookRow.{TookRow}
 use Rattle.journal_rows.specs.declared.caller.AckHow.{AckHow}
 use Rattle.journal_rows.specs.declared.caller.AckHow.TheVariants.{WithAnswer, ToPost}
@@ -72,8 +72,10 @@ module _ (services : List Kept) (h : AreTogether services) where
     pub version_positive : 0 < r.version
     version_positive = subst (λ o. IfSome o (λ x. 0 < x.version)) last_is (sent_positive n s.journal (fits_of (me s) s here).sent.rows)
 
-    pub has_seen : HasSeen (seen_acked n s.journal) (option_map seen_answer (last_seen n s.journal)) r
-    has_seen = subst (λ o. IfSome o (HasSeen (seen_acked n s.journal) (option_map seen_answer (last_seen n s.journal)))) found ((fits_of (me s) s here).seen.registers n)
+    pub has_seen : HasSeen (seen_acked n s.journal) (option_map seen_answer (last_seen n s.journal)) (last_noted n s.journal) r
+    has_seen =
+        subst (λ o. IfSome o (HasSeen (seen_acked n s.journal) (option_map seen_answer (last_seen n s.journal)) (last_noted n s.journal))) found
+        ((fits_of (me s) s here).seen.registers n)
 
     -- the journal of the service to which its call was sent
     pub at_dest : (P : List Row → Type 0) → JournalOfDest services s n P → (t : Kept) × (service_of r.dest services ≡ Some t) × P t.journal

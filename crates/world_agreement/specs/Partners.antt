@@ -8,7 +8,7 @@ use Rattle.journal_rows.specs.Words.{last_sent}
 use Rattle.journal_rows.specs.declared.caller.AckHow.{AckHow}
 use Rattle.journal_rows.specs.declared.caller.AckHow.TheVariants.{WithAnswer, ToPost}
 use Rattle.journal_rows.specs.declared.row.Row.{Row}
-use Rattle.journal_rows.specs.declared.row.Row.TheVariants.{Took, Acked, Answered, WasConfirmed, Sent, SawAck, SawAnswer, Confirmed}
+use Rattle.journal_rows.specs.declared.row.Row.TheVariants.{Took, Acked, Answered, WasConfirmed, Sent, SawAck, Noted, SawAnswer, Confirmed}
 use Rattle.service_events.specs.State.{Kept, me}
 
 -- ---- services by their names
@@ -57,6 +57,11 @@ HasAnswered caller number answer_version version response journal =
       live = live;
     }))
 
+-- an answer of this version was given to a call, whatever it said
+abbrev pub HasGiven : List ℕ → ℕ → ℕ → List Row → Type 0
+HasGiven caller number answer_version journal =
+    (version : ℕ) × (response : Response) × HasAnswered caller number answer_version version response journal
+
 -- this answer to a call was confirmed
 abbrev pub HasConfirmed : ℕ → ℕ → List Row → Type 0
 HasConfirmed number answer_version journal = Contains journal (Confirmed (record { number = number; answer_version = answer_version }))
@@ -73,6 +78,7 @@ HasAcknowledged caller number version ToPost journal = HasAcked caller number ve
 abbrev pub HasPartner : List Kept → Kept → Row → Type 0
 HasPartner services s (Took t) = JournalOf services t.caller (HasSent (me s) t.number t.version t.desired)
 HasPartner services s (SawAck a) = JournalOfDest services s a.number (HasAcknowledged (me s) a.number a.version a.how)
+HasPartner services s (Noted n) = JournalOfDest services s n.number (HasGiven (me s) n.number n.answer_version)
 HasPartner services s (SawAnswer a) =
     JournalOfDest services s a.number (HasAnswered (me s) a.number a.answer_version a.version a.response)
 HasPartner services s (WasConfirmed c) = JournalOf services c.caller (HasConfirmed c.number c.answer_version)
