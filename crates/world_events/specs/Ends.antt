@@ -1,7 +1,7 @@
 -- Closed worlds: all services that a message names are there, and each packet has a receiver.
 use Rattle.std.specs.Prelude.{ℕ, ◌≡◌, List, IsSome, IfSome, All}
 use Rattle.repair_messages.specs.declared.posts.Post.{Post}
-use Rattle.repair_messages.specs.declared.posts.Post.TheVariants.{Set as SetPost, Answer as AnswerPost}
+use Rattle.repair_messages.specs.declared.posts.Post.TheVariants.{Set as SetPost, Token as TokenPost, Fetch as FetchPost}
 use Rattle.service_events.specs.Posts.{next_post, write_post}
 use Rattle.service_events.specs.State.{Kept}
 use Rattle.world_agreement.specs.Partners.{NamesDiffer, service_of}
@@ -17,7 +17,8 @@ use Rattle.world_events.specs.declared.packet.Packet.TheVariants.{Call, CallRepl
 
 abbrev pub post_receiver : Post → List ℕ
 post_receiver (SetPost set) = set.dest
-post_receiver (AnswerPost a) = a.caller
+post_receiver (TokenPost t) = t.caller
+post_receiver (FetchPost f) = f.callee
 
 -- the service that gets it when it is delivered
 abbrev pub receiver : Packet → List ℕ

@@ -6,9 +6,11 @@ use Rattle.lang_core.specs.declared.ids.Origin.TheVariants.{Outside, Call as Cal
 use Rattle.lang_core.specs.declared.inputs.Inputs.{Inputs}
 use Rattle.lang_core.specs.declared.request.Request.{Request}
 use Rattle.repair_messages.specs.declared.messages.AnswerMessage.{AnswerMessage}
+use Rattle.repair_messages.specs.declared.messages.Fetch.{Fetch}
 use Rattle.repair_messages.specs.declared.messages.SetMessage.{SetMessage}
+use Rattle.repair_messages.specs.declared.messages.TokenMessage.{TokenMessage}
 use Rattle.repair_messages.specs.declared.posts.Post.{Post}
-use Rattle.repair_messages.specs.declared.posts.Post.TheVariants.{Set as SetPost, Answer as AnswerPost}
+use Rattle.repair_messages.specs.declared.posts.Post.TheVariants.{Set as SetPost, Token as TokenPost, Fetch as FetchPost}
 use Rattle.repair_messages.specs.declared.posts.PostName.{PostName}
 use Rattle.journal_rows.specs.declared.orders.Command.{Command}
 use Rattle.call_registers.specs.declared.register.Why.{Why}
@@ -17,12 +19,12 @@ use Rattle.flights.specs.declared.flight.Flight.{Flight}
 use Rattle.service_events.specs.State.{Kept, After, me, flight_of}
 use Rattle.service_events.specs.Event.{event}
 use Rattle.service_events.specs.Posts.{next_post, write_post}
-use Rattle.service_events.specs.Refusals.{answer_refused, arrive_refusal, call_word, set_refused}
+use Rattle.service_events.specs.Refusals.{answer_refused, arrive_refusal, call_word, give_refused, set_refused}
 use Rattle.service_events.specs.declared.answers.Arrived.{Arrived}
 use Rattle.service_events.specs.declared.answers.Arrived.TheVariants.{Done as Committed, Call as Sends, Known}
 use Rattle.service_events.specs.declared.answers.Heard.{Heard}
 use Rattle.service_events.specs.declared.answers.PostReply.{PostReply}
-use Rattle.service_events.specs.declared.answers.PostReply.TheVariants.{Acked, Confirmed, Lost as PostIsLost}
+use Rattle.service_events.specs.declared.answers.PostReply.TheVariants.{Acked, Confirmed, Given, Lost as PostIsLost}
 use Rattle.service_events.specs.declared.answers.Taken.{Taken}
 use Rattle.service_events.specs.declared.event.Done.{Done}
 use Rattle.service_events.specs.declared.event.Done.TheVariants as done
@@ -30,6 +32,7 @@ use Rattle.service_events.specs.declared.event.Event.{Event as ServiceEvent}
 use Rattle.service_events.specs.declared.event.Event.TheVariants as events
 use Rattle.service_events.specs.declared.refusals.AnswerRefused.{AnswerRefused}
 use Rattle.service_events.specs.declared.refusals.ArriveRefused.{ArriveRefused}
+use Rattle.service_events.specs.declared.refusals.GiveRefused.{GiveRefused}
 use Rattle.service_events.specs.declared.refusals.TakeRefused.{TakeRefused}
 use Rattle.world_agreement.specs.Partners.{service_of}
 use Rattle.world_events.specs.Worlds.{World, with_service, packet_of, next_packet, next_inputs, once_drawn, loss_note, once_lost}
@@ -115,6 +118,10 @@ abbrev pub answer_rule : Result Heard AnswerRefused → Result (Option ℕ) Answ
 answer_rule (Ok h) = Ok h.rule
 answer_rule (Err why) = Err why
 
+abbrev pub given_version : Result AnswerMessage GiveRefused → Result ℕ GiveRefused
+given_version (Ok a) = Ok a.answer_version
+given_version (Err why) = Err why
+
 -- An answer without the message that it carries, which goes into a packet. Nothing is told of a post that is written, which
 -- the answer told that named it, of a step that lacked memory, and where no event was made.
 abbrev pub what_of : Done → What
@@ -123,7 +130,8 @@ what_of (done.CallAnswered result) = what.CallAnswered (outcome result)
 what_of (done.CallFailed result) = what.CallFailed (outcome result)
 what_of (done.Abandon was_there) = what.Abandon was_there
 what_of (done.Take result) = what.Take (taken_rule result)
-what_of (done.TakeAnswer result) = what.TakeAnswer (answer_rule result)
+what_of (done.TakeToken result) = what.TakeToken (answer_rule result)
+what_of (done.Give result) = what.Give (given_version result)
 what_of (done.NextPost name) = what.NextPost name
 what_of (done.WritePost result) = what.Set
 what_of (done.Posted result) = what.Posted result
@@ -216,7 +224,8 @@ call_failed_served packets flight number why s = lives (reply_among packets) uns
 -- the service that posted it
 abbrev pub sender : Post → List ℕ
 sender (SetPost set) = set.caller
-sender (AnswerPost a) = a.callee
+sender (TokenPost t) = t.callee
+sender (FetchPost f) = f.caller
 
 abbrev pub set_reply : Result Taken TakeRefused → PostReply
 set_reply (Ok t) = Acked t.ack
@@ -226,19 +235,28 @@ abbrev pub answer_reply : Result Heard AnswerRefused → PostReply
 answer_reply (Ok h) = Confirmed h.confirm
 answer_reply (Err why) = answer_refused why
 
+abbrev pub give_reply : Result AnswerMessage GiveRefused → PostReply
+give_reply (Ok a) = Given a
+give_reply (Err why) = give_refused why
+
 -- what comes back of a post that is delivered
 abbrev pub post_packet : Post → Done → Option Packet
 post_packet post (done.Take result) = Some (PostReplyPacket post (set_reply result))
-post_packet post (done.TakeAnswer result) = Some (PostReplyPacket post (answer_reply result))
+post_packet post (done.TakeToken result) = Some (PostReplyPacket post (answer_reply result))
+post_packet post (done.Give result) = Some (PostReplyPacket post (give_reply result))
 post_packet post answer = None
 
 -- a version of a call is delivered, and what its receiver says goes back
 abbrev pub take_served : SetMessage → Kept → Inputs → Served
 take_served set s i = acts (λ _. post_packet (SetPost set)) s (events.Take set i)
 
--- an answer that was posted is delivered, and what its receiver says goes back
-abbrev pub take_answer_served : AnswerMessage → Kept → Served
-take_answer_served a s = acts (λ _. post_packet (AnswerPost a)) s (events.TakeAnswer a)
+-- a token is delivered, and what its receiver says goes back
+abbrev pub take_token_served : TokenMessage → Kept → Served
+take_token_served t s = acts (λ _. post_packet (TokenPost t)) s (events.TakeToken t)
+
+-- a fetch is delivered, and the answer goes back
+abbrev pub give_served : Fetch → Kept → Served
+give_served f s = acts (λ _. post_packet (FetchPost f)) s (events.Give f)
 
 -- something comes back of a post
 abbrev pub posted_served : Post → PostReply → Kept → Served
@@ -279,7 +297,8 @@ reply_delivered w to flight number (LiveRefused word n) = at_service to w (call_
 
 abbrev pub post_delivered : World → Post → Turn
 post_delivered w (SetPost set) = drawing_at set.dest w (take_served set)
-post_delivered w (AnswerPost a) = at_service a.caller w (take_answer_served a)
+post_delivered w (TokenPost t) = at_service t.caller w (take_token_served t)
+post_delivered w (FetchPost f) = at_service f.callee w (give_served f)
 
 -- a packet comes to its receiver
 abbrev pub delivered : World → ℕ → Option Packet → Turn

@@ -1,19 +1,21 @@
 -- What a world keeps: its services fit their journals and agree, and what each packet and each flight says stands in a journal.
-use Rattle.std.specs.Prelude.{ℕ, ◌≡◌, ◌<◌, ◌^◌, List, [], ◌∷◌, Some, IsSome, All, length}
+use Rattle.std.specs.Prelude.{ℕ, ◌≡◌, ◌<◌, ◌^◌, List, [], ◌∷◌, Some, IsSome, All, Contains, length}
 use Rattle.lang_core.specs.declared.ids.Origin.{Origin}
 use Rattle.lang_core.specs.declared.ids.Origin.TheVariants.{Outside, Call as CallOrigin}
 use Rattle.lang_core.specs.declared.request.Request.{Request}
 use Rattle.repair_messages.specs.declared.messages.AnswerMessage.{AnswerMessage}
 use Rattle.repair_messages.specs.declared.messages.SetMessage.{SetMessage}
 use Rattle.repair_messages.specs.declared.posts.Post.{Post}
-use Rattle.repair_messages.specs.declared.posts.Post.TheVariants.{Set as SetPost, Answer as AnswerPost}
+use Rattle.repair_messages.specs.declared.posts.Post.TheVariants.{Set as SetPost, Token as TokenPost, Fetch as FetchPost}
+use Rattle.journal_rows.specs.declared.row.Row.{Row}
+use Rattle.journal_rows.specs.declared.row.Row.TheVariants.{Noted}
 use Rattle.flights.specs.declared.flight.Flight.{Flight}
 use Rattle.service_events.specs.Fits.{Fits}
 use Rattle.service_events.specs.State.{Kept, me}
 use Rattle.service_events.specs.declared.answers.PostReply.{PostReply}
-use Rattle.service_events.specs.declared.answers.PostReply.TheVariants.{Acked, Confirmed}
-use Rattle.world_agreement.specs.Partners.{NamesDiffer, JournalOf, HasSent, HasAcked, HasAnswered, HasConfirmed, IsJoined}
-use Rattle.world_events.specs.Events.{after_event}
+use Rattle.service_events.specs.declared.answers.PostReply.TheVariants.{Acked, Confirmed, Given}
+use Rattle.world_agreement.specs.Partners.{NamesDiffer, JournalOf, HasSent, HasAcked, HasAnswered, HasGiven, HasConfirmed, IsJoined}
+use Rattle.world_events.specs.Events.{after_event, sender}
 use Rattle.world_events.specs.Worlds.{World}
 use Rattle.world_events.specs.declared.event.Event.{Event}
 use Rattle.world_events.specs.declared.packet.Live.{Live}
@@ -31,6 +33,12 @@ WasSent services set = JournalOf services set.caller (HasSent set.dest set.numbe
 abbrev pub WasAnswered : List Kept → AnswerMessage → Type 0
 WasAnswered services a = JournalOf services a.callee (HasAnswered a.caller a.number a.answer_version a.version a.response)
 
+-- a token announced this answer to a call
+abbrev pub WasNoted : ℕ → ℕ → List Row → Type 0
+WasNoted number answer_version journal =
+    (who : List ℕ) × (rule : ℕ)
+    × Contains journal (Noted (record { number = number; answer_version = answer_version; who = who; rule = rule }))
+
 -- ---- packets
 
 -- a live call of the service of this name, which asks something
@@ -46,19 +54,21 @@ ReplyStands services name (Refused word number) = Unit {0}
 
 abbrev pub PostStands : List Kept → Post → Type 0
 PostStands services (SetPost set) = WasSent services set
-PostStands services (AnswerPost a) = WasAnswered services a
+PostStands services (TokenPost t) = JournalOf services t.callee (HasGiven t.caller t.number t.answer_version)
+PostStands services (FetchPost f) = JournalOf services f.caller (WasNoted f.number f.answer_version)
 
--- what acknowledges or confirms a post
-abbrev pub PostReplyStands : List Kept → PostReply → Type 0
-PostReplyStands services (Acked ack) = JournalOf services ack.dest (HasAcked ack.caller ack.number ack.version)
-PostReplyStands services (Confirmed c) = JournalOf services c.caller (HasConfirmed c.number c.answer_version)
-PostReplyStands services reply = Unit {0}
+-- what acknowledges, confirms or answers a post: an answer was given to a call of the service that posted
+abbrev pub PostReplyStands : List Kept → Post → PostReply → Type 0
+PostReplyStands services post (Acked ack) = JournalOf services ack.dest (HasAcked ack.caller ack.number ack.version)
+PostReplyStands services post (Confirmed c) = JournalOf services c.caller (HasConfirmed c.number c.answer_version)
+PostReplyStands services post (Given a) = JournalOf services a.callee (HasAnswered (sender post) a.number a.answer_version a.version a.response)
+PostReplyStands services post reply = Unit {0}
 
 abbrev pub PacketStands : List Kept → Packet → Type 0
 PacketStands services (Call from flight set) = CallStands services from set
 PacketStands services (CallReply to flight number reply) = ReplyStands services to reply
 PacketStands services (PostPacket post) = PostStands services post
-PacketStands services (PostReplyPacket post reply) = PostStands services post × PostReplyStands services reply
+PacketStands services (PostReplyPacket post reply) = PostStands services post × PostReplyStands services post reply
 
 -- ---- flights
 

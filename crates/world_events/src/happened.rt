@@ -5,8 +5,8 @@ ghost use Rattle.world_events.specs.Events.{outcome_of, what_of};
 use lang_core::Name;
 use repair_messages::PostName;
 use service_events::{
-    AnswerRefused, ArriveRefused, Arrived, CallRefused, Done, OrderRefused, Ordered, PostRefused,
-    Posted, TakeRefused,
+    AnswerRefused, ArriveRefused, Arrived, CallRefused, Done, GiveRefused, OrderRefused, Ordered,
+    PostRefused, Posted, TakeRefused,
 };
 use world_agreement::Stepped;
 
@@ -32,8 +32,10 @@ pub enum What {
     CallFailed(Result<Outcome, CallRefused>),
     /// A version of a call came, and the rule of this number allowed it; None where it was known, or one above it.
     Take(Result<Option<u32>, TakeRefused>),
-    /// An answer was posted, and the rule of this number allowed it; None where it was known, or one above it.
-    TakeAnswer(Result<Option<u32>, AnswerRefused>),
+    /// A token came, and the rule of this number allowed it; None where it told nothing new.
+    TakeToken(Result<Option<u32>, AnswerRefused>),
+    /// An answer was given to who fetches it, and has this version.
+    Give(Result<u64, GiveRefused>),
     /// Something came back of a post.
     Posted(Result<Posted, PostRefused>),
     /// The oldest outstanding post was written as a packet; None where nothing is outstanding.
@@ -80,8 +82,10 @@ pub fn what_of(done: &Done) -> What
         Done::Abandon(was_there) => What::Abandon(*was_there),
         Done::Take(Ok(taken)) => What::Take(Ok(taken.rule)),
         Done::Take(Err(why)) => What::Take(Err(*why)),
-        Done::TakeAnswer(Ok(heard)) => What::TakeAnswer(Ok(heard.rule)),
-        Done::TakeAnswer(Err(why)) => What::TakeAnswer(Err(*why)),
+        Done::TakeToken(Ok(heard)) => What::TakeToken(Ok(heard.rule)),
+        Done::TakeToken(Err(why)) => What::TakeToken(Err(*why)),
+        Done::Give(Ok(answer)) => What::Give(Ok(answer.answer_version)),
+        Done::Give(Err(why)) => What::Give(Err(*why)),
         Done::NextPost(name) => What::NextPost(*name),
         Done::WritePost(_) => What::Set,
         Done::Posted(posted) => What::Posted(*posted),
