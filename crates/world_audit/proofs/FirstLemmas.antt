@@ -7,9 +7,9 @@ use Rattle.flights.specs.declared.flight.Flight.{Flight}
 use Rattle.service_events.specs.State.{Kept, answers}
 use Rattle.world_agreement.specs.Partners.{HasPartner}
 use Rattle.world_audit.specs.First.{IsFirstWithout}
-use Rattle.world_audit.specs.Verdicts.{IsAcknowledged, IsGiven, NoneOf, IsFirstIn, IsFirstOf, IsJoinedIn, IsForged}
+use Rattle.world_audit.specs.Verdicts.{IsAcknowledged, IsFetched, IsGiven, NoneOf, IsFirstIn, IsFirstOf, IsJoinedIn, IsForged}
 use Rattle.world_audit.specs.declared.outstanding.OutstandingKind.{OutstandingKind}
-use Rattle.world_audit.specs.declared.outstanding.OutstandingKind.TheVariants.{Flights, Entries, Calls, Answers}
+use Rattle.world_audit.specs.declared.outstanding.OutstandingKind.TheVariants.{Flights, Entries, Calls, Fetches, Answers}
 
 -- where there is a first without it, not all have it
 pub not_all : {X : Type 0} (P : X → Type 0) (xs : List X) (place : ℕ) → IsFirstWithout P xs place → ¬ (All P xs)
@@ -31,6 +31,7 @@ not_done : (kind : OutstandingKind) (s : Kept) (number : ℕ) → IsFirstIn kind
 not_done Flights s number f done = none_flying s.flights number f done
 not_done Entries s number f done = none_first (answers s) s.entries f.place done f.first
 not_done Calls s number f done = not_all IsAcknowledged s.registers f.place f.first done
+not_done Fetches s number f done = not_all IsFetched s.registers f.place f.first done
 not_done Answers s number f done = not_all IsGiven s.replies f.place f.first done
 
 pub found_first : (kind : OutstandingKind) (services : List Kept) (at number : ℕ) (s : Kept) → at < length services → AllWithin (NoneOf kind) services 0 at → s ≡ get_or services at s

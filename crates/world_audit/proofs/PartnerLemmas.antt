@@ -18,12 +18,12 @@ use Rattle.journal_rows.specs.declared.caller.AckHow.{AckHow}
 use Rattle.journal_rows.specs.declared.caller.AckHow.TheVariants.{WithAnswer, ToPost}
 use Rattle.journal_rows.specs.declared.caller.SentRow.{SentRow}
 use Rattle.journal_rows.specs.declared.row.Row.{Row}
-use Rattle.journal_rows.specs.declared.row.Row.TheVariants.{Asked, Took, Acked, Answered, WasConfirmed, Sent, SawAck, SawAnswer, Confirmed, Ordered}
+use Rattle.journal_rows.specs.declared.row.Row.TheVariants.{Asked, Took, Acked, Answered, WasConfirmed, Sent, SawAck, Noted, SawAnswer, Confirmed, Ordered}
 use Rattle.service_events.specs.State.{Kept, me}
 use Rattle.service_events.proofs.LogLemmas.{call_is, itself}
 use Rattle.service_events.proofs.SearchLemmas.{text_is}
-use Rattle.world_agreement.specs.Partners.{HasPartner, HasAcked, HasAcknowledged, HasAnswered, HasConfirmed, HasSent, JournalOf, service_of}
-use Rattle.world_audit.specs.Conditions.{sends, acknowledges, is_answer, answers, gives, confirms, acknowledges_so, has_row, callee_of, is_partnered}
+use Rattle.world_agreement.specs.Partners.{HasPartner, HasAcked, HasAcknowledged, HasAnswered, HasGiven, HasConfirmed, HasSent, JournalOf, service_of}
+use Rattle.world_audit.specs.Conditions.{sends, acknowledges, is_answer, answers, gives, gives_any, confirms, acknowledges_so, has_row, callee_of, is_partnered}
 
 -- ---- an element that passes
 
@@ -56,6 +56,7 @@ sends_is w (Acked a) h = cc
 sends_is w (Answered a) h = cc
 sends_is w (WasConfirmed c) h = cc
 sends_is w (SawAck a) h = cc
+sends_is w (Noted t) h = cc
 sends_is w (SawAnswer a) h = cc
 sends_is w (Confirmed c) h = cc
 sends_is w (Ordered o) h = cc
@@ -74,6 +75,7 @@ acknowledges_is c n v (Answered a) h = cc
 acknowledges_is c n v (WasConfirmed w) h = cc
 acknowledges_is c n v (Sent s) h = cc
 acknowledges_is c n v (SawAck a) h = cc
+acknowledges_is c n v (Noted t) h = cc
 acknowledges_is c n v (SawAnswer a) h = cc
 acknowledges_is c n v (Confirmed w) h = cc
 acknowledges_is c n v (Ordered o) h = cc
@@ -91,6 +93,7 @@ confirms_is n av (Answered a) h = cc
 confirms_is n av (WasConfirmed w) h = cc
 confirms_is n av (Sent s) h = cc
 confirms_is n av (SawAck a) h = cc
+confirms_is n av (Noted t) h = cc
 confirms_is n av (SawAnswer a) h = cc
 confirms_is n av (Ordered o) h = cc
 
@@ -149,6 +152,7 @@ answered_by c n av v journal (Acked a) h there = cc
 answered_by c n av v journal (WasConfirmed w) h there = cc
 answered_by c n av v journal (Sent s) h there = cc
 answered_by c n av v journal (SawAck a) h there = cc
+answered_by c n av v journal (Noted t) h there = cc
 answered_by c n av v journal (SawAnswer a) h there = cc
 answered_by c n av v journal (Confirmed w) h there = cc
 answered_by c n av v journal (Ordered o) h there = cc
@@ -171,6 +175,7 @@ given_by c n av v r journal (Acked a) h there = cc
 given_by c n av v r journal (WasConfirmed w) h there = cc
 given_by c n av v r journal (Sent s) h there = cc
 given_by c n av v r journal (SawAck a) h there = cc
+given_by c n av v r journal (Noted t) h there = cc
 given_by c n av v r journal (SawAnswer a) h there = cc
 given_by c n av v r journal (Confirmed w) h there = cc
 given_by c n av v r journal (Ordered o) h there = cc
@@ -180,6 +185,33 @@ given_told c n av v r journal = (
   λ h. (let x = any_passes (gives c n av v r) journal h in given_by c n av v r journal x.element x.passes x.there),
   λ has. passes_any (gives c n av v r) journal (answer_with c n av v r has.0 has.1) has.2
       (and_from (is_call c n (Call c n) && (nat_eq av av && nat_eq v v)) (equal response.the_row.coded r r) (is_answer_with c n av v) (equal-same response.the_row.coded r r refl)),
+)
+
+announced_by : (c : List ℕ) (n av : ℕ) (journal : List Row) (row : Row) → gives_any c n av row ≡ true → Contains journal row → HasGiven c n av journal
+announced_by c n av journal (Answered a) h there =
+    let parts = and_parts (is_call c n a.origin) (nat_eq a.answer_version av) h in
+    let origin = call_is c n a.origin parts.0 in
+    let answer_version = eqb-true a.answer_version av parts.1 in
+    let P : Row → Type 0 = Contains journal in
+    let same : Answered a ≡ answer_with c n av a.version a.response a.id a.live =
+    λ i. Answered (record { id = a.id; origin = origin i; answer_version = answer_version i; version = a.version; response = a.response; live = a.live }) in
+    (a.version, a.response, (a.id, a.live, subst P same there))
+announced_by c n av journal (Asked a) h there = cc
+announced_by c n av journal (Took t) h there = cc
+announced_by c n av journal (Acked a) h there = cc
+announced_by c n av journal (WasConfirmed w) h there = cc
+announced_by c n av journal (Sent s) h there = cc
+announced_by c n av journal (SawAck a) h there = cc
+announced_by c n av journal (Noted t) h there = cc
+announced_by c n av journal (SawAnswer a) h there = cc
+announced_by c n av journal (Confirmed w) h there = cc
+announced_by c n av journal (Ordered o) h there = cc
+
+announced_told : (c : List ℕ) (n av : ℕ) (journal : List Row) → IsTold (list_any (gives_any c n av) journal) (HasGiven c n av journal)
+announced_told c n av journal = (
+  λ h. (let x = any_passes (gives_any c n av) journal h in announced_by c n av journal x.element x.passes x.there),
+  λ has. passes_any (gives_any c n av) journal (answer_with c n av has.0 has.1 has.2.0 has.2.1) has.2.2
+      (and_from (is_call c n (Call c n)) (nat_eq av av) (itself c n) (eq-eqb av av refl)),
 )
 
 acknowledged_told : (c : List ℕ) (n v : ℕ) (how : AckHow) (journal : List Row) → IsTold (list_any (acknowledges_so c n v how) journal) (HasAcknowledged c n v how journal)
@@ -205,6 +237,9 @@ partner_told services s (Took t) =
 partner_told services s (SawAck a) =
     at_dest services (last_sent a.number s.journal) (acknowledges_so (me s) a.number a.version a.how) (HasAcknowledged (me s) a.number a.version a.how)
     (acknowledged_told (me s) a.number a.version a.how)
+partner_told services s (Noted t) =
+    at_dest services (last_sent t.number s.journal) (gives_any (me s) t.number t.answer_version) (HasGiven (me s) t.number t.answer_version)
+    (announced_told (me s) t.number t.answer_version)
 partner_told services s (SawAnswer a) =
     at_dest services (last_sent a.number s.journal) (gives (me s) a.number a.answer_version a.version a.response)
     (HasAnswered (me s) a.number a.answer_version a.version a.response) (given_told (me s) a.number a.answer_version a.version a.response)

@@ -21,9 +21,9 @@ use Rattle.journal_rows.specs.declared.caller.SentRow.{SentRow}
 use Rattle.journal_rows.specs.declared.row.Row.{Row}
 use Rattle.journal_rows.specs.declared.row.Row.TheVariants.{Acked, Answered, Sent, Confirmed}
 use Rattle.world_audit.specs.Sought.{is_sought, key_of}
-use Rattle.world_audit.specs.Conditions.{sends, acknowledges, is_answer, answers, gives, confirms, acknowledges_so}
+use Rattle.world_audit.specs.Conditions.{sends, acknowledges, is_answer, answers, gives, gives_any, confirms, acknowledges_so}
 use Rattle.world_audit.specs.declared.sought.Sought.{Sought}
-use Rattle.world_audit.specs.declared.sought.Sought.TheVariants.{Sent as SoughtSent, Acknowledged, Answered as SoughtAnswered, Confirmed as SoughtConfirmed}
+use Rattle.world_audit.specs.declared.sought.Sought.TheVariants.{Sent as SoughtSent, Acknowledged, Given as SoughtGiven, Answered as SoughtAnswered, Confirmed as SoughtConfirmed}
 
 -- ---- what has another key says something else
 
@@ -75,6 +75,11 @@ gives_other caller number av v r (Answered a) differs =
     first_fails (is_answer caller number av v a) (equal response.the_row.coded a.response r) (answer_other caller number av v a differs)
 gives_other caller number av v r row differs = refl
 
+gives_any_other : (caller : List ℕ) (number av : ℕ) (row : Row) → nat_eq (call_key caller number) (row_key row) ≡ false → gives_any caller number av row ≡ false
+gives_any_other caller number av (Answered a) differs =
+    first_fails (is_call caller number a.origin) (nat_eq a.answer_version av) (origin_other caller number a.id a.origin differs)
+gives_any_other caller number av row differs = refl
+
 confirms_other : (number av : ℕ) (row : Row) → nat_eq number (row_key row) ≡ false → confirms number av row ≡ false
 confirms_other number av (Confirmed c) differs = first_fails (nat_eq c.number number) (nat_eq c.answer_version av) (number_other number c.number differs)
 confirms_other number av row differs = refl
@@ -87,6 +92,7 @@ other_key : (w : Sought) (row : Row) → nat_eq (key_of w) (row_key row) ≡ fal
 other_key (SoughtSent dest took) row differs =
     sends_other (record { number = took.now.number; dest = dest.now; version = took.now.version; desired = took.now.desired }) row differs
 other_key (Acknowledged caller seen) row differs = acknowledges_so_other caller.now seen.number seen.version seen.how row differs
+other_key (SoughtGiven caller noted) row differs = gives_any_other caller.now noted.now.number noted.now.answer_version row differs
 other_key (SoughtAnswered caller seen) row differs = gives_other caller.now seen.now.number seen.now.answer_version seen.now.version seen.now.response row differs
 other_key (SoughtConfirmed noted) row differs = confirms_other noted.now.number noted.now.answer_version row differs
 

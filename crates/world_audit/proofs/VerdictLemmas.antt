@@ -9,18 +9,20 @@ use Rattle.world_agreement.specs.Partners.{IsJoined}
 use Rattle.world_agreement.specs.Quiet.{IsQuiet, AreQuiet}
 use Rattle.world_audit.specs.Verdicts.{NoneOf, IsJoinedIn, IsForged, IsUnsettled, IsVerdict, NoneIn, SaysForged, SaysUnsettled, kind_of}
 use Rattle.world_audit.specs.declared.outstanding.OutstandingKind.{OutstandingKind}
-use Rattle.world_audit.specs.declared.outstanding.OutstandingKind.TheVariants.{Flights, Entries, Calls, Answers}
+use Rattle.world_audit.specs.declared.outstanding.OutstandingKind.TheVariants.{Flights, Entries, Calls, Fetches, Answers}
 use Rattle.world_audit.proofs.FirstLemmas.{not_all}
 
 -- quiet is that nothing of any kind is outstanding
-pub all_quiet : (services : List Kept) → NoneIn Flights services → NoneIn Entries services → NoneIn Calls services → NoneIn Answers services → AreQuiet services
-all_quiet services flights entries calls answers k d l =
-    record { landed = flights k d l; current = entries k d l; acknowledged = calls k d l; given = answers k d l }
+pub all_quiet : (services : List Kept) → NoneIn Flights services → NoneIn Entries services → NoneIn Calls services → NoneIn Fetches services → NoneIn Answers services
+    → AreQuiet services
+all_quiet services flights entries calls fetches answers k d l =
+    record { landed = flights k d l; current = entries k d l; acknowledged = calls k d l; fetched = fetches k d l; given = answers k d l }
 
 done_of : (kind : OutstandingKind) (s : Kept) → IsQuiet s → NoneOf kind s
 done_of Flights s q = q.landed
 done_of Entries s q = q.current
 done_of Calls s q = q.acknowledged
+done_of Fetches s q = q.fetched
 done_of Answers s q = q.given
 
 not_joined : (services : List Kept) (at index : ℕ) → IsForged services at index → ¬ (IsJoined services)

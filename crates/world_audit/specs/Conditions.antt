@@ -13,7 +13,7 @@ use Rattle.journal_rows.specs.declared.caller.AckHow.TheVariants.{WithAnswer, To
 use Rattle.journal_rows.specs.declared.caller.SentRow.{SentRow}
 use Rattle.journal_rows.specs.declared.callee.AnsweredRow.{AnsweredRow}
 use Rattle.journal_rows.specs.declared.row.Row.{Row}
-use Rattle.journal_rows.specs.declared.row.Row.TheVariants.{Took, Acked, Answered, WasConfirmed, Sent, SawAck, SawAnswer, Confirmed}
+use Rattle.journal_rows.specs.declared.row.Row.TheVariants.{Took, Acked, Answered, WasConfirmed, Sent, SawAck, Noted, SawAnswer, Confirmed}
 use Rattle.service_events.specs.State.{Kept, me}
 use Rattle.world_agreement.specs.Partners.{service_of}
 
@@ -40,6 +40,11 @@ abbrev pub gives : List ℕ → ℕ → ℕ → ℕ → Response → Row → Boo
 gives caller number answer_version version r (Answered a) =
     is_answer caller number answer_version version a && equal response.the_row.coded a.response r
 gives caller number answer_version version r row = false
+
+-- an answer of this version to this call, whatever it says
+abbrev pub gives_any : List ℕ → ℕ → ℕ → Row → Bool
+gives_any caller number answer_version (Answered a) = is_call caller number a.origin && nat_eq a.answer_version answer_version
+gives_any caller number answer_version row = false
 
 abbrev pub confirms : ℕ → ℕ → Row → Bool
 confirms number answer_version (Confirmed c) = nat_eq c.number number && nat_eq c.answer_version answer_version
@@ -71,6 +76,7 @@ abbrev pub is_partnered : List Kept → Kept → Row → Bool
 is_partnered services s (Took t) =
     named_has services t.caller (sends (record { number = t.number; dest = me s; version = t.version; desired = t.desired }))
 is_partnered services s (SawAck a) = dest_has services s a.number (acknowledges_so (me s) a.number a.version a.how)
+is_partnered services s (Noted n) = dest_has services s n.number (gives_any (me s) n.number n.answer_version)
 is_partnered services s (SawAnswer a) = dest_has services s a.number (gives (me s) a.number a.answer_version a.version a.response)
 is_partnered services s (WasConfirmed c) = named_has services c.caller (confirms c.number c.answer_version)
 is_partnered services s row = true

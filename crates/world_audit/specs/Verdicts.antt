@@ -4,9 +4,10 @@ use Rattle.std.specs.List.{HoldsAt}
 use Rattle.world_agreement.specs.HandedOn.{AllCurrent}
 use Rattle.world_agreement.specs.HandedOn.{IsStaleId}
 use Rattle.journal_rows.specs.declared.verdict.Outstanding.{Outstanding}
-use Rattle.journal_rows.specs.declared.verdict.Outstanding.TheVariants.{Flight as OfFlight, Stale as OfEntry, Call as OfCall, Answer as OfAnswer}
+use Rattle.journal_rows.specs.declared.verdict.Outstanding.TheVariants.{Flight as OfFlight, Stale as OfEntry, Call as OfCall, Fetch as OfFetch, Answer as OfAnswer}
 use Rattle.journal_rows.specs.declared.verdict.Verdict.{Verdict}
 use Rattle.journal_rows.specs.declared.verdict.Verdict.TheVariants.{Legal, Forged, Unsettled}
+use Rattle.call_registers.specs.Registers.{owes_fetch}
 use Rattle.call_registers.specs.declared.register.Register.{Register}
 use Rattle.call_registers.specs.declared.reply.Reply.{Reply}
 use Rattle.service_events.specs.State.{Kept, answers, base}
@@ -14,12 +15,15 @@ use Rattle.world_agreement.specs.Partners.{HasPartner, IsJoined}
 use Rattle.world_agreement.specs.Quiet.{AreQuiet}
 use Rattle.world_audit.specs.First.{IsFirstWithout, IsFirstNumber}
 use Rattle.world_audit.specs.declared.outstanding.OutstandingKind.{OutstandingKind}
-use Rattle.world_audit.specs.declared.outstanding.OutstandingKind.TheVariants.{Flights, Entries, Calls, Answers}
+use Rattle.world_audit.specs.declared.outstanding.OutstandingKind.TheVariants.{Flights, Entries, Calls, Fetches, Answers}
 
 -- ---- what is outstanding, by its kind
 
 abbrev pub IsAcknowledged : Register → Type 0
 IsAcknowledged r = r.acked ≡ r.version
+
+abbrev pub IsFetched : Register → Type 0
+IsFetched r = owes_fetch r ≡ false
 
 abbrev pub IsGiven : Reply → Type 0
 IsGiven p = p.due ≡ false
@@ -29,6 +33,7 @@ abbrev pub NoneOf : OutstandingKind → Kept → Type 0
 NoneOf Flights s = s.flights ≡ []
 NoneOf Entries s = AllCurrent (answers s) (base s) s.entries
 NoneOf Calls s = All IsAcknowledged s.registers
+NoneOf Fetches s = All IsFetched s.registers
 NoneOf Answers s = All IsGiven s.replies
 
 -- the first of this kind that is outstanding of a service has this number
@@ -36,6 +41,7 @@ abbrev pub IsFirstIn : OutstandingKind → Kept → ℕ → Type 0
 IsFirstIn Flights s number = IsSomeAnd (slice_get s.flights 0) (λ f. f.id ≡ number)
 IsFirstIn Entries s number = IsStaleId (answers s) (base s) s.entries number
 IsFirstIn Calls s number = IsFirstNumber IsAcknowledged (λ r. r.number) s.registers number
+IsFirstIn Fetches s number = IsFirstNumber IsFetched (λ r. r.number) s.registers number
 IsFirstIn Answers s number = IsFirstNumber IsGiven (λ p. p.id) s.replies number
 
 -- nothing of this kind is outstanding of the services before the one at this place, and the first there has this number
@@ -51,24 +57,28 @@ abbrev pub NoneEarlier : OutstandingKind → List Kept → Type 0
 NoneEarlier Flights services = Unit {0}
 NoneEarlier Entries services = NoneIn Flights services
 NoneEarlier Calls services = NoneIn Flights services × NoneIn Entries services
-NoneEarlier Answers services = NoneIn Flights services × NoneIn Entries services × NoneIn Calls services
+NoneEarlier Fetches services = NoneIn Flights services × NoneIn Entries services × NoneIn Calls services
+NoneEarlier Answers services = NoneIn Flights services × NoneIn Entries services × NoneIn Calls services × NoneIn Fetches services
 
 abbrev pub what_is : OutstandingKind → ℕ → Outstanding
 what_is Flights n = OfFlight n
 what_is Entries n = OfEntry n
 what_is Calls n = OfCall n
+what_is Fetches n = OfFetch n
 what_is Answers n = OfAnswer n
 
 abbrev pub kind_of : Outstanding → OutstandingKind
 kind_of (OfFlight n) = Flights
 kind_of (OfEntry n) = Entries
 kind_of (OfCall n) = Calls
+kind_of (OfFetch n) = Fetches
 kind_of (OfAnswer n) = Answers
 
 abbrev pub number_of : Outstanding → ℕ
 number_of (OfFlight n) = n
 number_of (OfEntry n) = n
 number_of (OfCall n) = n
+number_of (OfFetch n) = n
 number_of (OfAnswer n) = n
 
 -- ---- verdicts

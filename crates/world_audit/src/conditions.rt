@@ -3,7 +3,7 @@ ghost use Rattle.std.specs.Prelude.{◌≡◌, ◌↔◌, IsTrue};
 ghost use Rattle.lang_base.specs.Equal.{equal};
 ghost use Rattle.lang_core.specs.Origins.{is_call};
 ghost use Rattle.lang_core.specs.contracts.request.Response as response;
-ghost use Rattle.world_audit.specs.Conditions.{sends, acknowledges, is_answer, answers, gives, confirms, acknowledges_so};
+ghost use Rattle.world_audit.specs.Conditions.{sends, acknowledges, is_answer, answers, gives, gives_any, confirms, acknowledges_so};
 
 use journal_rows::{AckHow, AnsweredRow, Row, SentRow};
 use lang_core::{Name, Origin, Request, Response, Same, Shared};
@@ -108,6 +108,18 @@ pub fn gives(
         Row::Answered(answered) => {
             is_answer(answered, caller, number, answer_version, version)
                 && same_response(&answered.response, response)
+        }
+        _ => false,
+    }
+}
+
+/// Whether a row says that a call had an answer of this version, whatever it says.
+pub fn gives_any(row: &Row, caller: &Name, number: u64, answer_version: u64) -> bool
+    ensures { result ≡ gives_any caller.now number answer_version row.now }
+{
+    match row {
+        Row::Answered(answered) => {
+            is_call(&answered.origin, caller, number) && answered.answer_version == answer_version
         }
         _ => false,
     }

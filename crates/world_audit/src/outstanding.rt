@@ -1,9 +1,9 @@
 // What is outstanding of a service.
 ghost use Rattle.std.specs.Prelude.{◌≡◌, [], IsSomeAnd, MatchOption, slice_get, All};
 ghost use Rattle.world_audit.specs.First.{IsFirstNumber};
-ghost use Rattle.world_audit.specs.Verdicts.{IsAcknowledged, IsGiven, NoneOf, IsFirstIn, what_is};
+ghost use Rattle.world_audit.specs.Verdicts.{IsAcknowledged, IsFetched, IsGiven, NoneOf, IsFirstIn, what_is};
 
-use call_registers::{Register, Reply};
+use call_registers::{Register, Reply, owes_fetch};
 use flights::Flight;
 use journal_rows::Outstanding;
 use service_core::Service;
@@ -17,6 +17,8 @@ pub enum OutstandingKind {
     Entries,
     /// Calls whose last version isn't acknowledged.
     Calls,
+    /// Answers that were announced and are to be fetched.
+    Fetches,
     /// Answers that are due.
     Answers,
 }
@@ -35,6 +37,17 @@ fn first_call(registers: &[Register]) -> Option<u64>
 {
     for register in registers {
         if register.acked != register.version {
+            return Some(register.number);
+        }
+    }
+    None
+}
+
+fn first_fetch(registers: &[Register]) -> Option<u64>
+    ensures { MatchOption result (All IsFetched registers.now) (IsFirstNumber IsFetched (λ r. r.number) registers.now) }
+{
+    for register in registers {
+        if owes_fetch(register) {
             return Some(register.number);
         }
     }
@@ -60,6 +73,7 @@ pub fn first_in(kind: OutstandingKind, service: &Service) -> Option<u64>
         OutstandingKind::Flights => first_flight(service.flights().as_slice()),
         OutstandingKind::Entries => service.first_stale(),
         OutstandingKind::Calls => first_call(service.registers().as_slice()),
+        OutstandingKind::Fetches => first_fetch(service.registers().as_slice()),
         OutstandingKind::Answers => first_answer(service.replies().as_slice()),
     }
 }
@@ -72,6 +86,7 @@ pub fn outstanding(kind: OutstandingKind, number: u64) -> Outstanding
         OutstandingKind::Flights => Outstanding::Flight(number),
         OutstandingKind::Entries => Outstanding::Stale(number),
         OutstandingKind::Calls => Outstanding::Call(number),
+        OutstandingKind::Fetches => Outstanding::Fetch(number),
         OutstandingKind::Answers => Outstanding::Answer(number),
     }
 }

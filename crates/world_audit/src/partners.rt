@@ -4,10 +4,10 @@ ghost use Rattle.journal_rows.specs.Words.{last_sent};
 ghost use Rattle.service_events.specs.Fits.{Fits};
 ghost use Rattle.service_events.specs.State.{me};
 ghost use Rattle.world_agreement.specs.Partners.{service_of, HasPartner};
-ghost use Rattle.world_audit.specs.Conditions.{sends, gives, confirms, acknowledges_so, named_has, callee_of, dest_has, is_partnered};
+ghost use Rattle.world_audit.specs.Conditions.{sends, gives, gives_any, confirms, acknowledges_so, named_has, callee_of, dest_has, is_partnered};
 
 use crate::sought::{Sought, is_in};
-use journal_rows::{Row, SawAckRow, SawAnswerRow, TookRow, WasConfirmedRow};
+use journal_rows::{NotedRow, Row, SawAckRow, SawAnswerRow, TookRow, WasConfirmedRow};
 use lang_core::{Name, Same};
 use service_core::Service;
 
@@ -53,6 +53,18 @@ fn was_acknowledged(services: &[Service], service: &Service, seen: SawAckRow) ->
     }
 }
 
+// Whether a callee gave the answer that was announced to this service.
+fn was_announced(services: &[Service], service: &Service, noted: &NotedRow) -> bool
+    requires { Fits service.now }
+    ensures { result ≡ dest_has services.now service.now noted.now.number (gives_any (me service.now) noted.now.number noted.now.answer_version) }
+{
+    let caller = &service.setting().me;
+    match callee_of(services, service, noted.number) {
+        None => false,
+        Some(callee) => is_in(callee.journal(), Sought::Given { caller, noted }),
+    }
+}
+
 // Whether a callee gave the answer that this service saw.
 fn was_given(services: &[Service], service: &Service, seen: &SawAnswerRow) -> bool
     requires { Fits service.now }
@@ -82,6 +94,7 @@ fn is_partnered(services: &[Service], service: &Service, row: &Row) -> bool
     match row {
         Row::Took(took) => was_sent(services, service, took),
         Row::SawAck(seen) => was_acknowledged(services, service, *seen),
+        Row::Noted(noted) => was_announced(services, service, noted),
         Row::SawAnswer(seen) => was_given(services, service, seen),
         Row::WasConfirmed(noted) => was_confirmed(services, noted),
         _ => true,

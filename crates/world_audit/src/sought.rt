@@ -3,8 +3,8 @@ ghost use Rattle.std.specs.Prelude.{◌≡◌};
 ghost use Rattle.std.specs.List.{list_any};
 ghost use Rattle.world_audit.specs.Sought.{is_sought, key_of};
 
-use crate::conditions::{acknowledges_so, confirms, gives, sends};
-use journal_rows::{Row, Rows, SawAckRow, SawAnswerRow, TookRow, WasConfirmedRow};
+use crate::conditions::{acknowledges_so, confirms, gives, gives_any, sends};
+use journal_rows::{NotedRow, Row, Rows, SawAckRow, SawAnswerRow, TookRow, WasConfirmedRow};
 use lang_core::Name;
 use lang_lists::call_key;
 
@@ -20,6 +20,11 @@ pub enum Sought<'a> {
     Acknowledged {
         caller: &'a Name,
         seen: SawAckRow,
+    },
+    /// That the answer which was announced was given, to the service of this name.
+    Given {
+        caller: &'a Name,
+        noted: &'a NotedRow,
     },
     /// That the answer which was seen was given, to the service of this name.
     Answered {
@@ -37,6 +42,7 @@ fn key_of(sought: Sought<'_>) -> u64
     match sought {
         Sought::Sent { dest: _, took } => took.number,
         Sought::Acknowledged { caller, seen } => call_key(caller.text(), seen.number),
+        Sought::Given { caller, noted } => call_key(caller.text(), noted.number),
         Sought::Answered { caller, seen } => call_key(caller.text(), seen.number),
         Sought::Confirmed(noted) => noted.number,
     }
@@ -49,6 +55,9 @@ fn is_sought(sought: Sought<'_>, row: &Row) -> bool
         Sought::Sent { dest, took } => sends(row, took.number, dest, took.version, &took.desired),
         Sought::Acknowledged { caller, seen } => {
             acknowledges_so(row, caller, seen.number, seen.version, seen.how)
+        }
+        Sought::Given { caller, noted } => {
+            gives_any(row, caller, noted.number, noted.answer_version)
         }
         Sought::Answered { caller, seen } => gives(
             row,

@@ -99,6 +99,9 @@ fn judged(services: &[Service]) -> Verdict
     if let Some(found) = first_of(OutstandingKind::Calls, services) {
         return unsettled(OutstandingKind::Calls, found);
     }
+    if let Some(found) = first_of(OutstandingKind::Fetches, services) {
+        return unsettled(OutstandingKind::Fetches, found);
+    }
     if let Some(found) = first_of(OutstandingKind::Answers, services) {
         return unsettled(OutstandingKind::Answers, found);
     }
