@@ -4,7 +4,7 @@ use Rattle.lang_core.specs.declared.ids.Origin.TheVariants.{Outside, Call as Cal
 use Rattle.lang_core.specs.declared.request.Request.{Request}
 use Rattle.repair_messages.specs.declared.messages.SetMessage.{SetMessage}
 use Rattle.repair_messages.specs.declared.posts.Post.{Post}
-use Rattle.repair_messages.specs.declared.posts.Post.TheVariants.{Set as SetPost, Answer as AnswerPost}
+use Rattle.repair_messages.specs.declared.posts.Post.TheVariants.{Set as SetPost, Token as TokenPost, Fetch as FetchPost}
 use Rattle.repair_messages.specs.declared.posts.PostName.{PostName}
 use Rattle.call_registers.specs.declared.register.Why.TheVariants.{Lost, Refused as WasRefused}
 use Rattle.flights.specs.declared.flight.Flight.{Flight}
@@ -18,7 +18,7 @@ use Rattle.service_events.proofs.SearchLemmas.{found_all}
 use Rattle.service_parts.proofs.AllowedLaws.{event_stays_allowed}
 use Rattle.world_agreement.specs.Partners.{has_name, service_of}
 use Rattle.world_events.specs.Worlds.{World, with_service, packet_of, next_inputs, once_drawn, once_lost, loss_note}
-use Rattle.world_events.specs.Events.{Served, refused, turned, if_there, turn_at, at_service, arrive_served, call_arrive_served, call_answered_served, call_failed_served, sender, take_served, take_answer_served, posted_served, next_post_written, next_post_served, repair_step_served, abandon_served, order_served, call_delivered, reply_delivered, post_delivered, delivered, call_lost, post_lost, lost, if_flying, turn, after_event, after_events}
+use Rattle.world_events.specs.Events.{Served, refused, turned, if_there, turn_at, at_service, arrive_served, call_arrive_served, call_answered_served, call_failed_served, sender, take_served, take_token_served, give_served, posted_served, next_post_written, next_post_served, repair_step_served, abandon_served, order_served, call_delivered, reply_delivered, post_delivered, delivered, call_lost, post_lost, lost, if_flying, turn, after_event, after_events}
 use Rattle.world_events.specs.Sound.{IsSound, AllFew}
 use Rattle.world_events.specs.declared.event.Event.{Event}
 use Rattle.world_events.specs.declared.event.Event.TheVariants.{Begin, Deliver, Lose, Post as Posts, Step, Abandon, Order, Clock, Seed}
@@ -66,7 +66,8 @@ module _ (w : World) (h : IsSound w) (r : AreAllowed w.services) where
   post_allowed : (post : Post) → AreAllowed (post_delivered w post).world.services
   post_allowed (SetPost set) =
       allowed_at set.dest (once_drawn w) refl (λ s. take_served set s (next_inputs w)) (λ s fits allowed. event_stays_allowed s (service_event.Take set (next_inputs w)) fits allowed)
-  post_allowed (AnswerPost a) = allowed_at a.caller w refl (take_answer_served a) (λ s fits allowed. event_stays_allowed s (service_event.TakeAnswer a) fits allowed)
+  post_allowed (TokenPost t) = allowed_at t.caller w refl (take_token_served t) (λ s fits allowed. event_stays_allowed s (service_event.TakeToken t) fits allowed)
+  post_allowed (FetchPost f) = allowed_at f.callee w refl (give_served f) (λ s fits allowed. event_stays_allowed s (service_event.Give f) fits allowed)
 
   delivered_allowed : (number : ℕ) (p : Option Packet) → AreAllowed (delivered w number p).world.services
   delivered_allowed number None = r

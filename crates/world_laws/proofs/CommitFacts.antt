@@ -9,7 +9,7 @@ use Rattle.request_log.specs.Entries.{has_id, find_call}
 use Rattle.request_log.specs.Records.{record_in}
 use Rattle.request_log.specs.declared.entry.Entry.{Entry}
 use Rattle.request_log.specs.declared.entry.Made.{Made as EntryMade}
-use Rattle.journal_rows.specs.Words.{last_sent, last_seen, seen_acked, last_taken, last_answered}
+use Rattle.journal_rows.specs.Words.{last_sent, last_seen, last_noted, seen_acked, last_taken, last_answered}
 use Rattle.journal_rows.specs.declared.callee.AnsweredRow.{AnsweredRow}
 use Rattle.journal_rows.specs.declared.callee.TookRow.{TookRow}
 use Rattle.journal_rows.specs.declared.caller.SawAnswerRow.{SawAnswerRow}
@@ -165,7 +165,7 @@ module _ (services : List Kept) (packets : List Packet) (h : AreSound services p
         let seen = subst (λ o. IfSome o (λ y. y.answer ≡ option_map seen_answer (last_seen n s.journal))) found (answers (register n s.registers) (fits.seen.registers n)) in
         by_last (last_seen n s.journal) (seen_from n s.journal) (sym is ∙ seen)
       where
-        answers : (o : Option Register) → IfSome o (HasSeen (seen_acked n s.journal) (option_map seen_answer (last_seen n s.journal)))
+        answers : (o : Option Register) → IfSome o (HasSeen (seen_acked n s.journal) (option_map seen_answer (last_seen n s.journal)) (last_noted n s.journal))
             → IfSome o (λ y. y.answer ≡ option_map seen_answer (last_seen n s.journal))
         answers None h = tt
         answers (Some y) h = h.answer

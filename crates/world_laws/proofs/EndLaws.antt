@@ -1,5 +1,5 @@
 -- A world stays closed; so each packet has a receiver, and an event is refused exactly where it names what isn't there.
-use Rattle.std.proofs.Common.{◌≡◌, ℕ, zero, suc, slice_get, ◌++◌, Bool, true, false, cond, List, [], ◌∷◌, Option, Some, None, IsSome, IfSome, IsOk, All, Result, Ok, Err, find, is_some, length, map, option_and_then, option_map, option_to_list, refl, inl, inr, sym, ap, ◌∙◌, subst, arith, ◌<◌, get_or}
+use Rattle.std.proofs.Common.{◌≡◌, ℕ, zero, suc, slice_get, ◌++◌, Bool, true, false, cond, List, [], ◌∷◌, Option, Some, None, IsSome, IfSome, IsOk, All, Result, Ok, Err, find, is_some, length, map, option_and_then, option_map, option_to_list, refl, inl, inr, sym, ap, ◌∙◌, subst, arith, ◌<◌, get_or, nat_lt}
 use Rattle.std.proofs.lemmas.Bool.{cases_Bool, cond_both, cond-false, cond-true}
 use Rattle.std.proofs.lemmas.List.{length-map}
 use Rattle.std.proofs.lemmas.List.Elements.{All-nil, All-cons, All-append, All-contains, All-head, All-tail, All-weaker}
@@ -8,15 +8,16 @@ use Rattle.lang_base.specs.Texts.{same_text}
 use Rattle.lang_core.specs.declared.ids.Origin.TheVariants.{Outside, Call as CallOrigin}
 use Rattle.lang_core.specs.declared.inputs.Inputs.{Inputs}
 use Rattle.lang_core.specs.declared.request.Request.{Request}
-use Rattle.request_log.specs.Entries.{find_call, has_id}
+use Rattle.request_log.specs.Entries.{find_call}
 use Rattle.request_log.specs.declared.entry.Entry.{Entry}
-use Rattle.request_log.specs.Records.{Record, record_of}
 use Rattle.repair_messages.specs.declared.messages.AnswerMessage.{AnswerMessage}
+use Rattle.repair_messages.specs.declared.messages.Fetch.{Fetch}
 use Rattle.repair_messages.specs.declared.messages.SetMessage.{SetMessage}
+use Rattle.repair_messages.specs.declared.messages.TokenMessage.{TokenMessage}
 use Rattle.repair_messages.specs.declared.posts.Post.{Post}
-use Rattle.repair_messages.specs.declared.posts.Post.TheVariants.{Set as SetPost, Answer as AnswerPost}
+use Rattle.repair_messages.specs.declared.posts.Post.TheVariants.{Set as SetPost, Token as TokenPost, Fetch as FetchPost}
 use Rattle.repair_messages.specs.declared.posts.PostName.{PostName}
-use Rattle.repair_messages.specs.declared.posts.PostName.TheVariants.{Call as OfCall, Reply as OfReply}
+use Rattle.repair_messages.specs.declared.posts.PostName.TheVariants.{Call as OfCall, Reply as OfReply, Fetch as OfFetch}
 use Rattle.journal_rows.specs.declared.orders.Command.{Command}
 use Rattle.call_registers.specs.Registers.{register}
 use Rattle.call_registers.specs.Replies.{reply}
@@ -27,7 +28,7 @@ use Rattle.call_registers.specs.declared.reply.Reply.{Reply}
 use Rattle.flights.specs.declared.flight.Flight.{Flight}
 use Rattle.service_events.specs.Arriving.{arrive_event, call_answered_event, call_failed_event}
 use Rattle.service_events.specs.Messages.{acked_again, is_known, is_too_much, origin_of, take_admitted, take_event, take_new, taken, taken_by}
-use Rattle.service_events.specs.Posts.{answer_post, next_post, reply_post, set_message, where_there, write_post}
+use Rattle.service_events.specs.Posts.{fetch_message, fetch_post, next_post, set_message, token_message, token_post, write_post}
 use Rattle.service_events.specs.State.{Kept, After, after, me, or_else, is_in_flight, flight_of, base}
 use Rattle.service_events.specs.Steps.{Stale, stale_in, step_by}
 use Rattle.service_events.specs.State.{answers}
@@ -44,7 +45,7 @@ use Rattle.world_agreement.specs.Partners.{has_name, service_of, NamesDiffer}
 use Rattle.world_agreement.proofs.ListLemmas.{found_in}
 use Rattle.world_agreement.proofs.NameLemmas.{name_is}
 use Rattle.world_events.specs.Ends.{post_receiver, receiver, beginner, IsThere, HasEnds, AreClosed, IsClosed, PostsTo, PostsWell}
-use Rattle.world_events.specs.Events.{Served, refused, turned, if_there, turn_at, at_service, outcome, sent_or, unsaid, is_call_of, reply_to, reply_among, arrive_served, live_refusal, call_arrive_served, call_answered_served, call_failed_served, sender, take_served, take_answer_served, posted_served, next_post_written, next_post_served, repair_step_served, abandon_served, order_served, call_delivered, reply_delivered, post_delivered, delivered, call_lost, lost, if_flying, turn, answer_to, after_event}
+use Rattle.world_events.specs.Events.{Served, refused, turned, if_there, turn_at, at_service, outcome, sent_or, unsaid, is_call_of, reply_to, reply_among, arrive_served, live_refusal, call_arrive_served, call_answered_served, call_failed_served, sender, take_served, take_token_served, give_served, posted_served, next_post_written, next_post_served, repair_step_served, abandon_served, order_served, call_delivered, reply_delivered, post_delivered, delivered, call_lost, lost, if_flying, turn, answer_to, after_event}
 use Rattle.world_events.specs.Reach.{ArePeered, AnswersBy, missing, where_none}
 use Rattle.world_events.specs.Worlds.{World, loss_note, next_inputs, once_drawn, once_lost, packet_of, with_service}
 use Rattle.world_events.specs.declared.event.Event.{Event}
@@ -155,17 +156,22 @@ posts_own s (OfCall number) = by (register number s.registers)
     by (Some r) = refl
 posts_own s (OfReply id) = by (reply id s.replies)
   where
-    by_made : (p : Reply) (e : Entry) (r : Option Record) → IfSome (option_map (answer_post s p e) r) (λ post. sender post ≡ me s)
-    by_made p e None = tt
-    by_made p e (Some r) = refl
+    by_version : (p : Reply) (b : Bool) → IfSome (cond b (Some (TokenPost (token_message s p))) None) (λ post. sender post ≡ me s)
+    by_version p true = refl
+    by_version p false = tt
 
-    by_entry : (p : Reply) (o : Option Entry) → IfSome (reply_post s p o) (λ post. sender post ≡ me s)
-    by_entry p None = tt
-    by_entry p (Some e) = by_made p e (record_of e)
-
-    by : (o : Option Reply) → IfSome (where_there s o) (λ post. sender post ≡ me s)
+    by : (o : Option Reply) → IfSome (token_post s o) (λ post. sender post ≡ me s)
     by None = tt
-    by (Some p) = by_entry p (find (has_id p.id) s.entries)
+    by (Some p) = by_version p (nat_lt 0 p.answer_version)
+posts_own s (OfFetch number) = by (register number s.registers)
+  where
+    by_version : (r : Register) (b : Bool) → IfSome (cond b (Some (FetchPost (fetch_message s r))) None) (λ post. sender post ≡ me s)
+    by_version r true = refl
+    by_version r false = tt
+
+    by : (o : Option Register) → IfSome (fetch_post s o) (λ post. sender post ≡ me s)
+    by None = tt
+    by (Some r) = by_version r (nat_lt 0 r.noted)
 
 -- ---- what a service does in a closed world
 
@@ -239,8 +245,11 @@ module _ (services : List Kept) (packets : List Packet) (h : AreClosed services 
   takes_writes : (set : SetMessage) (i : Inputs) → IsThere services set.caller → Writes services s (take_served set s i)
   takes_writes set i there = record { setting = take_setting s set i; packet = record { gets = there; began = there; call = tt } }
 
-  hears_writes : (a : AnswerMessage) → IsThere services a.callee → Writes services s (take_answer_served a s)
-  hears_writes a there = record { setting = (event_goes s (service_event.TakeAnswer a) tt).grows.setting; packet = record { gets = there; began = there; call = tt } }
+  hears_writes : (t : TokenMessage) → IsThere services t.callee → Writes services s (take_token_served t s)
+  hears_writes t there = record { setting = (event_goes s (service_event.TakeToken t) tt).grows.setting; packet = record { gets = there; began = there; call = tt } }
+
+  gives_writes : (f : Fetch) → IsThere services f.caller → Writes services s (give_served f s)
+  gives_writes f there = record { setting = refl; packet = record { gets = there; began = there; call = tt } }
 
   back_writes : (post : Post) (reply : PostReply) → Writes services s (posted_served post reply s)
   back_writes post reply = record { setting = (event_goes s (service_event.Posted post reply) tt).grows.setting; packet = tt }
@@ -324,7 +333,8 @@ module _ (w : World) (h : IsClosed w) where
   post_closed (SetPost set) e =
       closed_at set.dest (once_drawn w) refl refl (λ s. take_served set s (next_inputs w))
       (λ s here. takes_writes w.services w.packets h set.dest s here set (next_inputs w) e.began)
-  post_closed (AnswerPost a) e = closed_at a.caller w refl refl (take_answer_served a) (λ s here. hears_writes w.services w.packets h a.caller s here a e.began)
+  post_closed (TokenPost t) e = closed_at t.caller w refl refl (take_token_served t) (λ s here. hears_writes w.services w.packets h t.caller s here t e.began)
+  post_closed (FetchPost f) e = closed_at f.callee w refl refl (give_served f) (λ s here. gives_writes w.services w.packets h f.callee s here f e.began)
 
   back_closed : (name : List ℕ) (then : World) → then.services ≡ w.services → then.packets ≡ w.packets → (post : Post) (reply : PostReply)
       → IsClosed (turn_at name w then (posted_served post reply)).world
@@ -409,7 +419,8 @@ module _ (w : World) (h : IsClosed w) where
 
   post_ok : (post : Post) → IsThere w.services (post_receiver post) → IsOk (post_delivered w post).answer
   post_ok (SetPost set) there = at_ok set.dest (once_drawn w) (λ s. take_served set s (next_inputs w)) there
-  post_ok (AnswerPost a) there = at_ok a.caller w (take_answer_served a) there
+  post_ok (TokenPost t) there = at_ok t.caller w (take_token_served t) there
+  post_ok (FetchPost f) there = at_ok f.callee w (give_served f) there
 
   delivered_by : (number : ℕ) (p : Option Packet) → IfSome p (HasEnds w.services) → AnswersBy (where_none (NoPacket number) p) (delivered w number p).answer
   delivered_by number None e = refl

@@ -12,9 +12,9 @@ use Rattle.request_log.specs.declared.entry.Entry.{Entry}
 use Rattle.local_repair.specs.Alone.{trace_or_dead}
 use Rattle.journal_rows.specs.declared.caller.SentRow.{SentRow}
 use Rattle.journal_rows.specs.declared.row.Row.{Row}
-use Rattle.journal_rows.specs.declared.row.Row.TheVariants.{Sent, SawAck, SawAnswer}
+use Rattle.journal_rows.specs.declared.row.Row.TheVariants.{Sent, SawAck, Noted, SawAnswer}
 use Rattle.call_registers.proofs.ChangeLemmas.{found_at}
-use Rattle.call_registers.specs.Registers.{has_number, register, next_number, at_number, sent_anew, with_ack, with_answer, with_cause, is_newer, IsNumbered}
+use Rattle.call_registers.specs.Registers.{has_number, register, next_number, at_number, sent_anew, with_ack, with_answer, with_note, with_cause, is_newer, IsNumbered}
 use Rattle.call_registers.specs.declared.register.Answer.{Answer}
 use Rattle.call_registers.specs.declared.register.Register.{Register}
 use Rattle.call_registers.specs.declared.register.Why.{Why}
@@ -65,6 +65,9 @@ named_sound d at = record { number = λ r. refl; heard = λ r h. h }
 
 ack_sound : (v : ℕ) → IsSound (with_ack v)
 ack_sound v = record { number = λ r. refl; heard = λ r h. h }
+
+note_sound : (answer_version : ℕ) (who : List ℕ) (rule since : ℕ) → IsSound (with_note answer_version who rule since)
+note_sound answer_version who rule since = record { number = λ r. refl; heard = λ r h. h }
 
 answer_number : (x : Answer) (r : Register) → (with_answer x r).number ≡ r.number
 answer_number x r = cond_both (is_newer r.answer x.answer_version) (record r { answer = Some x }) r (λ y. y.number ≡ r.number) (λ _. refl) (λ _. refl)
@@ -119,6 +122,7 @@ put_keeps_over at x (Some r) rs = change_keeps_over x.number (sent_anew x.desire
 row_keeps_over : (at : ℕ) (rs : List Register) (row : Row) → KeepsOver rs (after_row at rs row)
 row_keeps_over at rs (Sent x) = put_keeps_over at x (register x.number rs) rs
 row_keeps_over at rs (SawAck a) = change_keeps_over a.number (with_ack a.version) (ack_sound a.version) rs
+row_keeps_over at rs (Noted t) = change_keeps_over t.number (with_note t.answer_version t.who t.rule at) (note_sound t.answer_version t.who t.rule at) rs
 row_keeps_over at rs (SawAnswer a) = change_keeps_over a.number _ (answer_sound _) rs
 row_keeps_over at rs row = λ n h. h
 

@@ -89,7 +89,7 @@ lived_turns services s m o q t first stands l = record {
 
 -- ---- the answer of an entry
 
-answer_is : (a : AnsweredRow) (c : List ℕ) (n av v : ℕ) (r : _) → a.origin ≡ Call c n → a.answer_version ≡ av → a.version ≡ v → a.response ≡ r → (j : List Row)
+pub answer_is : (a : AnsweredRow) (c : List ℕ) (n av v : ℕ) (r : _) → a.origin ≡ Call c n → a.answer_version ≡ av → a.version ≡ v → a.response ≡ r → (j : List Row)
     → Contains j (Answered a) → HasAnswered c n av v r j
 answer_is a c n av v r origin answer version response j h = (
   a.id,

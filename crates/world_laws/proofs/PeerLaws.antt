@@ -24,17 +24,19 @@ use Rattle.local_repair.specs.Steps.{calls_of_made, answer_at, same_call}
 use Rattle.local_repair.specs.Tests.{is_current}
 use Rattle.repair_messages.specs.declared.messages.AnswerMessage.{AnswerMessage}
 use Rattle.repair_messages.specs.declared.messages.SetMessage.{SetMessage}
+use Rattle.repair_messages.specs.declared.messages.TokenMessage.{TokenMessage}
 use Rattle.repair_messages.specs.declared.posts.Post.{Post}
-use Rattle.repair_messages.specs.declared.posts.Post.TheVariants.{Set, Answer}
-use Rattle.repair_messages.specs.declared.posts.PostName.TheVariants.{Call as OfCall, Reply as OfReply}
-use Rattle.journal_rows.specs.Words.{last_sent, last_taken, ordered}
+use Rattle.repair_messages.specs.declared.posts.Post.TheVariants.{Set, Token, Fetch}
+use Rattle.repair_messages.specs.declared.posts.PostName.TheVariants.{Call as OfCall, Reply as OfReply, Fetch as OfFetch}
+use Rattle.journal_rows.specs.Words.{last_sent, last_taken, noted_at, ordered}
+use Rattle.journal_rows.specs.declared.caller.NotedRow.{NotedRow}
 use Rattle.journal_rows.specs.declared.callee.TookRow.{TookRow}
 use Rattle.journal_rows.specs.declared.orders.Command.{Command}
 use Rattle.journal_rows.specs.declared.orders.Command.TheVariants.{Cancel, Restore, Replace, Create, Retry}
 use Rattle.journal_rows.specs.declared.orders.OrderedRow.{OrderedRow}
 use Rattle.journal_rows.specs.declared.row.Row.{Row}
 use Rattle.journal_rows.specs.declared.row.Row.TheVariants.{Asked, Sent}
-use Rattle.call_registers.specs.Registers.{register, next_number, is_newer}
+use Rattle.call_registers.specs.Registers.{register, next_number, is_news, is_newer}
 use Rattle.call_registers.specs.declared.register.Hold.{Hold}
 use Rattle.call_registers.specs.declared.register.Register.{Register}
 use Rattle.call_registers.specs.declared.register.Why.{Why}
@@ -47,15 +49,15 @@ use Rattle.service_events.specs.Calls.{noted, named, deleted, replaced, all_dele
 use Rattle.service_events.specs.Event.{event}
 use Rattle.service_events.specs.Fits.{Fits, WantsItsCalls, NumberedCalls, calls_of_entry, calls_of_flight, call_to, call_in, wanted_call, sent_by}
 use Rattle.service_events.specs.Flying.{awaited, flight_run, before_answer, live_answer, surplus_rows, took_rows, committed, with_slot, with_change, deletion, change_rows, waits, call_or_none, wanted_of, named_unsent, changed_unsent, completing, completed, changed, moved, goes_on}
-use Rattle.service_events.specs.Messages.{hear_new, hear_rule, take_new, origin_of, is_known, is_too_much, acked_row, took_row, acked_again, taken_by, taken, take_admitted, confirmed_row, seen_row, heard, answer_taken_by, answer_taken_where, is_now, hold_of, held_back, held_where, posted}
+use Rattle.service_events.specs.Messages.{hear_new, hear_rule, take_new, origin_of, is_known, is_too_much, acked_row, took_row, acked_again, taken_by, taken, take_admitted, confirmed_row, noted_row, heard, token_taken_by, token_taken_where, fetched_row, fetched, is_now, hold_of, held_back, held_where, posted}
 use Rattle.service_events.specs.Orders.{order_rows, carried_out, order_by, order_where, refused}
 use Rattle.service_events.specs.State.{Kept, After, after, answers, or_else, is_crowded, is_heavy, flight_of, base}
 use Rattle.service_events.specs.Steps.{ended_or, rerun, new_trace, new_record, sent_rows, answer_rows, stepped, Stale, stale_in, step_by}
 use Rattle.service_events.specs.declared.answers.Arrived.{Arrived}
 use Rattle.service_events.specs.declared.answers.Heard.{Heard}
 use Rattle.service_events.specs.declared.answers.PostReply.{PostReply}
-use Rattle.service_events.specs.declared.answers.PostReply.TheVariants.{Acked as WasAcked, Confirmed as WasConfirmedBack, Refused, Lost}
-use Rattle.service_events.specs.declared.answers.Posted.TheVariants.{Held, Left}
+use Rattle.service_events.specs.declared.answers.PostReply.TheVariants.{Acked as WasAcked, Confirmed as WasConfirmedBack, Given, Refused, Lost}
+use Rattle.service_events.specs.declared.answers.Posted.TheVariants.{Saw, Knew, Held, Left}
 use Rattle.service_events.specs.declared.event.Event.{Event}
 use Rattle.service_events.specs.declared.event.Event.TheVariants as events
 use Rattle.service_events.specs.declared.refusals.AnswerRefused.{AnswerRefused}
@@ -385,6 +387,7 @@ module _ (s : Kept) (fits : Fits s) (calls : CallsPeers s) where
   ordered_reaches (Create before behind q) token who i = reaches_by s _ (order_rows s (Create before behind q) token who i) refl refl (tt, (tt, tt))
   ordered_reaches (Retry (OfCall n)) token who i = reaches_by s _ (order_rows s (Retry (OfCall n)) token who i) refl refl (tt, tt)
   ordered_reaches (Retry (OfReply id)) token who i = reaches_by s _ (order_rows s (Retry (OfReply id)) token who i) refl refl (tt, tt)
+  ordered_reaches (Retry (OfFetch n)) token who i = reaches_by s _ (order_rows s (Retry (OfFetch n)) token who i) refl refl (tt, tt)
 
   order_by_reaches : (command : Command) (token who : List ℕ) (i : Inputs) (o : Option OrderRefused) → Stays (order_by s command token who i o)
   order_by_reaches command token who i (Some why) = same
@@ -406,23 +409,31 @@ module _ (s : Kept) (fits : Fits s) (calls : CallsPeers s) where
       (λ a. Reaches s a.service) (λ _. reaches_by s (acked_again s set) (acked_row set ∷ []) refl refl (tt, tt))
       (λ _. take_either s set i (λ a. Reaches s a.service) same (taken_reaches set i (find_call (origin_of set) s.entries) set.desired))
 
-  answer_taken_by_reaches : (a : AnswerMessage) (r : Register) → Stays (answer_taken_by s a r)
-  answer_taken_by_reaches a r = by (same_text r.dest a.callee) (is_newer r.answer a.answer_version)
+  token_taken_by_reaches : (a : TokenMessage) (r : Register) → Stays (token_taken_by s a r)
+  token_taken_by_reaches a r = by (same_text r.dest a.callee) (is_news r a.answer_version)
     where
       by : (goes new : Bool)
           → Stays {A = Result Heard AnswerRefused} (cond (not goes) (after s (Err (AnswerRefused.Unknown a.number)))
           (cond new (hear_new s a r) (after (noted (confirmed_row a ∷ []) s) (Ok (heard a None)))))
       by false new = same
-      by true true = hear_either s a r (λ x. Reaches s x.service) same (reaches_by s _ (seen_row (hear_rule s a r) a ∷ (confirmed_row a ∷ [])) refl refl (tt, (tt, tt)))
+      by true true = hear_either s a r (λ x. Reaches s x.service) same (reaches_by s _ (noted_row (hear_rule s a r) a ∷ (confirmed_row a ∷ [])) refl refl (tt, (tt, tt)))
       by true false = reaches_by s _ (confirmed_row a ∷ []) refl refl (tt, tt)
 
-  answer_taken_where_reaches : (a : AnswerMessage) (o : Option Register) → Stays (answer_taken_where s a o)
-  answer_taken_where_reaches a None = same
-  answer_taken_where_reaches a (Some r) = answer_taken_by_reaches a r
+  token_taken_where_reaches : (a : TokenMessage) (o : Option Register) → Stays (token_taken_where s a o)
+  token_taken_where_reaches a None = same
+  token_taken_where_reaches a (Some r) = token_taken_by_reaches a r
+
+  fetched_reaches : (a : AnswerMessage) (o : Option Register) (n : Option NotedRow) → Stays (fetched s a o n)
+  fetched_reaches a None n = same
+  fetched_reaches a (Some r) None = same
+  fetched_reaches a (Some r) (Some n) =
+      cond_both (is_newer r.answer a.answer_version) (after (noted (fetched_row a n ∷ []) s) (Ok Saw)) (after s (Ok Knew)) (λ x. Reaches s x.service)
+      (λ _. reaches_by s _ (fetched_row a n ∷ []) refl refl (tt, tt)) (λ _. same)
 
   held_reaches : (post : Post) (hold : Hold) → Reaches s (held_back s post hold)
   held_reaches (Set set) hold = reaches_same s _ refl refl
-  held_reaches (Answer a) hold = reaches_same s _ refl refl
+  held_reaches (Token t) hold = reaches_same s _ refl refl
+  held_reaches (Fetch f) hold = same
 
   held_where_reaches : (post : Post) (o : Option Hold) → Stays (held_where s post o)
   held_where_reaches post None = same
@@ -432,6 +443,7 @@ module _ (s : Kept) (fits : Fits s) (calls : CallsPeers s) where
   replied_reaches : (post : Post) (reply : PostReply) → Stays (posted s post reply)
   replied_reaches post (WasAcked ack) = reaches_by s _ (_ ∷ []) refl refl (tt, tt)
   replied_reaches post (WasConfirmedBack c) = reaches_by s _ (_ ∷ []) refl refl (tt, tt)
+  replied_reaches post (Given a) = fetched_reaches a (register a.number s.registers) (noted_at a.number a.answer_version s.journal)
   replied_reaches post (Refused word n) = held_where_reaches post (hold_of word n)
   replied_reaches post (Lost note) = same
 
@@ -447,7 +459,8 @@ module _ (s : Kept) (fits : Fits s) (calls : CallsPeers s) where
   event_reaches (events.CallFailed id n why) = failed_reaches id n why (flight_of id s) refl
   event_reaches (events.Abandon id) = abandoned_reaches id (flight_of id s) refl
   event_reaches (events.Take set i) = takes_either s set i (λ a. Reaches s a.service) same (take_admitted_reaches set i (is_too_much s set))
-  event_reaches (events.TakeAnswer a) = answer_taken_where_reaches a (register a.number s.registers)
+  event_reaches (events.TakeToken t) = token_taken_where_reaches t (register t.number s.registers)
+  event_reaches (events.Give f) = same
   event_reaches (events.NextPost dest) = same
   event_reaches (events.WritePost name) = same
   event_reaches (events.Posted post reply) = posted_either s post reply (λ a. Reaches s a.service) same (λ _ _. replied_reaches post reply)

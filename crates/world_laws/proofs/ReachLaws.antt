@@ -5,7 +5,7 @@ use Rattle.lang_core.specs.declared.ids.Origin.TheVariants.{Outside, Call as Cal
 use Rattle.lang_core.specs.declared.request.Request.{Request}
 use Rattle.repair_messages.specs.declared.messages.SetMessage.{SetMessage}
 use Rattle.repair_messages.specs.declared.posts.Post.{Post}
-use Rattle.repair_messages.specs.declared.posts.Post.TheVariants.{Set as SetPost, Answer as AnswerPost}
+use Rattle.repair_messages.specs.declared.posts.Post.TheVariants.{Set as SetPost, Token as TokenPost, Fetch as FetchPost}
 use Rattle.repair_messages.specs.declared.posts.PostName.{PostName}
 use Rattle.call_registers.specs.declared.register.Why.TheVariants.{Lost, Refused as WasRefused}
 use Rattle.flights.specs.declared.flight.Flight.{Flight}
@@ -19,7 +19,7 @@ use Rattle.service_events.proofs.SearchLemmas.{found_all}
 use Rattle.world_agreement.specs.Partners.{has_name, service_of}
 use Rattle.world_agreement.proofs.ListLemmas.{some_of}
 use Rattle.world_events.specs.Worlds.{World, fresh_world, with_service, packet_of, next_inputs, once_drawn, once_lost, loss_note}
-use Rattle.world_events.specs.Events.{Served, refused, turned, if_there, turn_at, at_service, arrive_served, call_arrive_served, call_answered_served, call_failed_served, sender, take_served, take_answer_served, posted_served, next_post_written, next_post_served, repair_step_served, abandon_served, order_served, call_delivered, reply_delivered, post_delivered, delivered, call_lost, post_lost, lost, if_flying, turn, after_event, after_events}
+use Rattle.world_events.specs.Events.{Served, refused, turned, if_there, turn_at, at_service, arrive_served, call_arrive_served, call_answered_served, call_failed_served, sender, take_served, take_token_served, give_served, posted_served, next_post_written, next_post_served, repair_step_served, abandon_served, order_served, call_delivered, reply_delivered, post_delivered, delivered, call_lost, post_lost, lost, if_flying, turn, after_event, after_events}
 use Rattle.world_events.specs.Reach.{ArePeered, GoesTo, CallsPeers, AreReached, IsReached}
 use Rattle.world_events.specs.Sound.{IsSound, AllFew}
 use Rattle.world_events.specs.declared.event.Event.{Event}
@@ -80,7 +80,8 @@ module _ (w : World) (h : IsSound w) (r : IsReached w) where
 
   post_reached : (post : Post) → AreReached (post_delivered w post).world.services
   post_reached (SetPost set) = reached_at set.dest (once_drawn w) refl (λ s. take_served set s (next_inputs w)) (λ s fits calls. event_reaches s fits calls (service_event.Take set (next_inputs w)))
-  post_reached (AnswerPost a) = reached_at a.caller w refl (take_answer_served a) (λ s fits calls. event_reaches s fits calls (service_event.TakeAnswer a))
+  post_reached (TokenPost t) = reached_at t.caller w refl (take_token_served t) (λ s fits calls. event_reaches s fits calls (service_event.TakeToken t))
+  post_reached (FetchPost f) = reached_at f.callee w refl (give_served f) (λ s fits calls. event_reaches s fits calls (service_event.Give f))
 
   delivered_reached : (number : ℕ) (p : Option Packet) → AreReached (delivered w number p).world.services
   delivered_reached number None = r

@@ -11,14 +11,16 @@ use Rattle.request_log.specs.Records.{Record, record_of}
 use Rattle.request_log.specs.declared.entry.Entry.{Entry}
 use Rattle.repair_messages.specs.declared.messages.AnswerMessage.{AnswerMessage}
 use Rattle.repair_messages.specs.declared.messages.SetMessage.{SetMessage}
+use Rattle.repair_messages.specs.declared.messages.TokenMessage.{TokenMessage}
 use Rattle.repair_messages.specs.declared.posts.Post.{Post}
-use Rattle.repair_messages.specs.declared.posts.Post.TheVariants.{Set as SetPost, Answer as AnswerPost}
+use Rattle.repair_messages.specs.declared.posts.Post.TheVariants.{Set as SetPost, Token as TokenPost, Fetch as FetchPost}
 use Rattle.repair_messages.specs.declared.posts.PostName.{PostName}
-use Rattle.journal_rows.specs.Words.{last_taken, ordered}
+use Rattle.journal_rows.specs.Words.{last_taken, noted_at, ordered}
+use Rattle.journal_rows.specs.declared.caller.NotedRow.{NotedRow}
 use Rattle.journal_rows.specs.declared.callee.TookRow.{TookRow}
 use Rattle.journal_rows.specs.declared.orders.Command.{Command}
 use Rattle.journal_rows.specs.declared.orders.OrderedRow.{OrderedRow}
-use Rattle.call_registers.specs.Registers.{register, is_newer}
+use Rattle.call_registers.specs.Registers.{register, is_news, is_newer}
 use Rattle.call_registers.specs.declared.register.Hold.{Hold}
 use Rattle.call_registers.specs.declared.register.Register.{Register}
 use Rattle.call_registers.specs.declared.register.Why.{Why}
@@ -28,16 +30,16 @@ use Rattle.service_events.specs.Arriving.{accepted, admitted, known_by, arrives_
 use Rattle.service_events.specs.Calls.{noted}
 use Rattle.service_events.specs.Event.{event}
 use Rattle.service_events.specs.Flying.{awaited, goes_on}
-use Rattle.service_events.specs.Messages.{hear_new, take_new, is_known, is_too_much, acked_again, taken, take_admitted, take_event, confirmed_row, heard, answer_taken_where, take_answer_event, is_now, hold_of, held_back, held_where, posted}
+use Rattle.service_events.specs.Messages.{hear_new, take_new, is_known, is_too_much, acked_again, taken, take_admitted, take_event, confirmed_row, heard, token_taken_where, take_token_event, give_event, fetched_row, fetched, is_now, hold_of, held_back, held_where, posted}
 use Rattle.service_events.specs.Orders.{order_by, order_where, refused as why_refused}
 use Rattle.service_events.specs.Posts.{next_post}
 use Rattle.service_events.specs.State.{Kept, After, after, or_else, is_crowded, is_heavy, flight_of}
 use Rattle.service_events.specs.declared.answers.Arrived.{Arrived}
 use Rattle.service_events.specs.declared.answers.Heard.{Heard}
 use Rattle.service_events.specs.declared.answers.PostReply.{PostReply}
-use Rattle.service_events.specs.declared.answers.PostReply.TheVariants.{Acked as WasAcked, Confirmed as WasConfirmedBack, Refused, Lost as PostIsLost}
+use Rattle.service_events.specs.declared.answers.PostReply.TheVariants.{Acked as WasAcked, Confirmed as WasConfirmedBack, Given, Refused, Lost as PostIsLost}
 use Rattle.service_events.specs.declared.answers.Posted.{Posted}
-use Rattle.service_events.specs.declared.answers.Posted.TheVariants.{Held, Left}
+use Rattle.service_events.specs.declared.answers.Posted.TheVariants.{Saw, Knew, Held, Left}
 use Rattle.service_events.specs.declared.answers.Taken.{Taken}
 use Rattle.service_events.specs.declared.event.Done.{Done}
 use Rattle.service_events.specs.declared.event.Done.TheVariants as done
@@ -46,6 +48,7 @@ use Rattle.service_events.specs.declared.event.Event.TheVariants as service_even
 use Rattle.service_events.specs.declared.refusals.AnswerRefused.{AnswerRefused}
 use Rattle.service_events.specs.declared.refusals.ArriveRefused.{ArriveRefused}
 use Rattle.service_events.specs.declared.refusals.CallRefused.{CallRefused}
+use Rattle.service_events.specs.declared.refusals.GiveRefused.{GiveRefused}
 use Rattle.service_events.specs.declared.refusals.OrderRefused.{OrderRefused}
 use Rattle.service_events.specs.declared.refusals.PostRefused.{PostRefused}
 use Rattle.service_events.specs.declared.refusals.TakeRefused.{TakeRefused}
@@ -53,7 +56,7 @@ use Rattle.service_events.proofs.AskedLemmas.{take_either, hear_either, arrives_
 use Rattle.world_agreement.specs.Partners.{has_name, service_of}
 use Rattle.world_agreement.proofs.ListLemmas.{some_is}
 use Rattle.world_events.specs.Worlds.{World, with_service, packet_of, next_inputs, once_drawn, once_lost, loss_note}
-use Rattle.world_events.specs.Events.{Turn, Served, refused, turned, if_there, turn_at, at_service, outcome, arrive_served, call_arrive_served, call_answered_served, call_failed_served, sender, taken_rule, take_served, answer_rule, take_answer_served, posted_served, next_post_written, next_post_served, repair_step_served, abandon_served, order_served, call_delivered, reply_delivered, post_delivered, delivered, lost, if_flying, turn, answer_to, after_event}
+use Rattle.world_events.specs.Events.{Turn, Served, refused, turned, if_there, turn_at, at_service, outcome, arrive_served, call_arrive_served, call_answered_served, call_failed_served, sender, taken_rule, take_served, answer_rule, given_version, take_token_served, give_served, posted_served, next_post_written, next_post_served, repair_step_served, abandon_served, order_served, call_delivered, reply_delivered, post_delivered, delivered, lost, if_flying, turn, answer_to, after_event}
 use Rattle.world_events.specs.Refusals.{is_refusal, was_refused}
 use Rattle.world_events.specs.declared.event.Event.{Event}
 use Rattle.world_events.specs.declared.event.Event.TheVariants.{Begin, Deliver, Lose, Post as Posts, Step, Abandon, Order, Clock, Seed}
@@ -76,7 +79,8 @@ is_refused (done.Arrive result) = is_err result
 is_refused (done.CallAnswered result) = is_err result
 is_refused (done.CallFailed result) = is_err result
 is_refused (done.Take result) = is_err result
-is_refused (done.TakeAnswer result) = is_err result
+is_refused (done.TakeToken result) = is_err result
+is_refused (done.Give result) = is_err result
 is_refused (done.WritePost result) = is_err result
 is_refused (done.Posted result) = is_err result
 is_refused (done.Step result) = is_err result
@@ -120,9 +124,9 @@ module _ (s : Kept) where
       cond_both (is_known s set) (after (acked_again s set) (Ok (taken set None))) (take_new s set i) (StaysIfRefused s)
       (λ _ bad. cc) (λ _. take_either s set i (StaysIfRefused s) (λ bad. refl) (λ bad. cc))
 
-  heard_stays : (a : AnswerMessage) (o : Option Register) → StaysIfRefused s (answer_taken_where s a o)
+  heard_stays : (a : TokenMessage) (o : Option Register) → StaysIfRefused s (token_taken_where s a o)
   heard_stays a None = λ bad. refl
-  heard_stays a (Some r) = by (same_text r.dest a.callee) (is_newer r.answer a.answer_version)
+  heard_stays a (Some r) = by (same_text r.dest a.callee) (is_news r a.answer_version)
     where
       by : (goes new : Bool)
           → StaysIfRefused {A = Heard} {E = AnswerRefused} s (cond (not goes) (after s (Err (AnswerRefused.Unknown a.number)))
@@ -136,9 +140,17 @@ module _ (s : Kept) where
   held_stays post (Some hold) =
       cond_both (is_now s post) (after {A = Result Posted PostRefused} (held_back s post hold) (Ok Held)) (after s (Ok Left)) (StaysIfRefused s) (λ _ bad. cc) (λ _ bad. refl)
 
+  fetched_stays : (a : AnswerMessage) (o : Option Register) (n : Option NotedRow) → StaysIfRefused s (fetched s a o n)
+  fetched_stays a None n = λ bad. refl
+  fetched_stays a (Some r) None = λ bad. refl
+  fetched_stays a (Some r) (Some n) =
+      cond_both (is_newer r.answer a.answer_version) (after {A = Result Posted PostRefused} (noted (fetched_row a n ∷ []) s) (Ok Saw)) (after s (Ok Knew)) (StaysIfRefused s)
+      (λ _ bad. cc) (λ _ bad. refl)
+
   replied_stays : (post : Post) (reply : PostReply) → StaysIfRefused s (posted s post reply)
   replied_stays post (WasAcked ack) = λ bad. cc
   replied_stays post (WasConfirmedBack c) = λ bad. cc
+  replied_stays post (Given a) = fetched_stays a (register a.number s.registers) (noted_at a.number a.answer_version s.journal)
   replied_stays post (Refused word n) = held_stays post (hold_of word n)
   replied_stays post (PostIsLost note) = λ bad. refl
 
@@ -160,7 +172,8 @@ module _ (s : Kept) where
   event_stays (service_event.CallFailed id n why) = failed_stays id n why (flight_of id s)
   event_stays (service_event.Abandon id) = λ bad. cc
   event_stays (service_event.Take set i) = takes_either s set i (StaysIfRefused s) (λ bad. refl) (take_admitted_stays set i (is_too_much s set))
-  event_stays (service_event.TakeAnswer a) = heard_stays a (register a.number s.registers)
+  event_stays (service_event.TakeToken t) = heard_stays t (register t.number s.registers)
+  event_stays (service_event.Give f) = λ bad. refl
   event_stays (service_event.NextPost dest) = λ bad. refl
   event_stays (service_event.WritePost name) = λ bad. refl
   event_stays (service_event.Posted post reply) = posted_either s post reply (StaysIfRefused s) (λ bad. refl) (λ _ _. replied_stays post reply)
@@ -180,6 +193,10 @@ rule_err (Err why) = refl
 heard_err : (r : Result Heard AnswerRefused) → is_err (answer_rule r) ≡ is_err r
 heard_err (Ok t) = refl
 heard_err (Err why) = refl
+
+given_err : (r : Result AnswerMessage GiveRefused) → is_err (given_version r) ≡ is_err r
+given_err (Ok a) = refl
+given_err (Err why) = refl
 
 -- ---- in a world
 
@@ -226,7 +243,8 @@ module _ (w : World) where
   post_stays : (post : Post) → Stays (post_delivered w post)
   post_stays (SetPost set) =
       stays_at set.dest (once_drawn w) refl (λ s. take_served set s (next_inputs w)) (λ s bad. event_stays s (service_event.Take set (next_inputs w)) (sym (rule_err (take_event s set (next_inputs w)).answer) ∙ bad))
-  post_stays (AnswerPost a) = stays_at a.caller w refl (take_answer_served a) (λ s bad. event_stays s (service_event.TakeAnswer a) (sym (heard_err (take_answer_event s a).answer) ∙ bad))
+  post_stays (TokenPost t) = stays_at t.caller w refl (take_token_served t) (λ s bad. event_stays s (service_event.TakeToken t) (sym (heard_err (take_token_event s t).answer) ∙ bad))
+  post_stays (FetchPost f) = stays_at f.callee w refl (give_served f) (λ s bad. event_stays s (service_event.Give f) (sym (given_err (give_event s f).answer) ∙ bad))
 
   back_at : (name : List ℕ) (then : World) → then.services ≡ w.services → (post : Post) (reply : PostReply) → Stays (turn_at name w then (posted_served post reply))
   back_at name then services post reply = stays_at name then services (posted_served post reply) (λ s bad. event_stays s (service_event.Posted post reply) bad)

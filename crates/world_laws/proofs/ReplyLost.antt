@@ -1,4 +1,5 @@
--- The same purchase where the bank's reply is lost: the shop answers at once that nothing came, and a post, an answer and a step make good.
+-- The same purchase where the bank's reply is lost: the shop answers at once that nothing came, and a post, a token, a fetch and a step make
+-- good.
 use Rattle.std.proofs.Common.{◌≡◌, ℕ, Bool, true, false, ◌&&◌, List, [], ◌∷◌, ◌++◌, Option, Some, None, Ok, refl, ap, ◌∙◌, arith, if◌then◌else◌, map, nat_eq}
 use Rattle.std.specs.Coded.{coded_bool, coded_list}
 use Rattle.std.specs.List.{list_all}
@@ -25,8 +26,11 @@ use Rattle.local_repair.specs.declared.stepped.Stepped.{Stepped}
 use Rattle.local_repair.specs.declared.stepped.Stepped.TheVariants.{Idle, Ran as RanAgain}
 use Rattle.repair_messages.specs.declared.messages.Ack.{Ack}
 use Rattle.repair_messages.specs.declared.messages.Confirm.{Confirm}
-use Rattle.repair_messages.specs.declared.posts.Post.TheVariants.{Set as SetPost, Answer as AnswerPost}
-use Rattle.repair_messages.specs.declared.posts.PostName.TheVariants.{Call as OfCall, Reply as OfReply}
+use Rattle.repair_messages.specs.declared.messages.Fetch.{Fetch}
+use Rattle.repair_messages.specs.declared.messages.TokenMessage.{TokenMessage}
+use Rattle.repair_messages.specs.declared.posts.Post.TheVariants.{Set as SetPost, Token as TokenPost, Fetch as FetchPost}
+use Rattle.repair_messages.specs.declared.posts.PostName.TheVariants.{Call as OfCall, Reply as OfReply, Fetch as OfFetch}
+use Rattle.journal_rows.specs.declared.caller.NotedRow.{NotedRow}
 use Rattle.call_registers.specs.declared.register.Why.TheVariants.{Lost}
 use Rattle.flights.specs.Moves.{next_move}
 use Rattle.flights.specs.declared.flight.Flight.{Flight}
@@ -34,18 +38,18 @@ use Rattle.flights.specs.declared.flight.Move.TheVariants.{Commit}
 use Rattle.service_events.specs.Arriving.{told}
 use Rattle.service_events.specs.Calls.{noted}
 use Rattle.service_events.specs.Flying.{goes_on, moved, committed, committed_entry}
-use Rattle.service_events.specs.Messages.{acked_again, saw_ack_row, seen_row, confirmed_row, posted_event}
+use Rattle.service_events.specs.Messages.{acked_again, saw_ack_row, noted_row, confirmed_row, fetched_row, posted_event}
 use Rattle.service_events.specs.State.{After, Kept, after, answers, base}
 use Rattle.service_events.specs.Steps.{ended_or, rerun, new_numbers, new_trace, stepped, stale_in, step_by, step_event}
-use Rattle.service_events.specs.declared.answers.Posted.TheVariants.{Acked as WasAcked, Confirmed as WasConfirmed}
-use Rattle.service_events.specs.declared.answers.PostReply.TheVariants.{Acked, Confirmed}
+use Rattle.service_events.specs.declared.answers.Posted.TheVariants.{Acked as WasAcked, Confirmed as WasConfirmed, Saw}
+use Rattle.service_events.specs.declared.answers.PostReply.TheVariants.{Acked, Confirmed, Given}
 use Rattle.service_events.proofs.PurchaseExample.{shop_name, bank_name, ok}
 use Rattle.world_events.specs.Worlds.{World, loss_note}
 use Rattle.world_events.specs.Events.{Turn, turn, turned}
 use Rattle.world_events.specs.declared.event.Event.TheVariants.{Deliver, Lose, Post as Posts, Step}
 use Rattle.world_events.specs.declared.happened.Outcome.TheVariants as came
 use Rattle.world_events.specs.declared.happened.What.{What}
-use Rattle.world_events.specs.declared.happened.What.TheVariants.{CallFailed, Take, TakeAnswer, Posted as WhatPosted, NextPost, RepairStep}
+use Rattle.world_events.specs.declared.happened.What.TheVariants.{CallFailed, Take, TakeToken, Give, Posted as WhatPosted, NextPost, RepairStep}
 use Rattle.world_events.specs.declared.packet.Packet.{Packet}
 use Rattle.world_events.specs.declared.packet.Packet.TheVariants.{Post as PostPacket, PostReply as PostReplyPacket}
 use Rattle.world_laws.proofs.PurchaseRun.{buy, pay, i, false_by, shop_setting, shop_named, bank_paid, waiting, the_call, bought_trace, first_call, paid_answer, answered, paying, does}
@@ -117,8 +121,22 @@ module _ (program : List Route) (token : List ℕ) where
   abbrev acked : Kept
   acked = noted (saw_ack_row ack ∷ []) tried
 
+  -- the bank announces its answer, by the first rule the shop notes that, and holds the answer once it fetched it
+  abbrev announced : TokenMessage
+  announced =
+      record { caller = shop_name; callee = bank_name; id = 1; number = 1; answer_version = 1; who = (paid_answer program token).who }
+
   abbrev heard : Kept
-  heard = noted (seen_row 1 (paid_answer program token) ∷ (confirmed_row (paid_answer program token) ∷ [])) acked
+  heard = noted (noted_row 1 announced ∷ (confirmed_row announced ∷ [])) acked
+
+  abbrev fetch : Fetch
+  fetch = record { caller = shop_name; callee = bank_name; number = 1; answer_version = 1 }
+
+  abbrev noted_token : NotedRow
+  noted_token = record { number = 1; answer_version = 1; who = announced.who; rule = 1 }
+
+  abbrev saw : Kept
+  saw = noted (fetched_row (paid_answer program token) noted_token ∷ []) heard
 
   abbrev made : Made
   made = record { alive = true; version = 0; request = buy; trace = bought_trace program token }
@@ -127,7 +145,7 @@ module _ (program : List Route) (token : List ℕ) where
   tried_entry = committed_entry told_so flight tried_trace
 
   abbrev mended : Kept
-  mended = (stepped heard tried_entry made).service
+  mended = (stepped saw tried_entry made).service
 
   -- the bank knows the call, acknowledges it again, and owes its answer
   abbrev owing : Kept
@@ -137,7 +155,7 @@ module _ (program : List Route) (token : List ℕ) where
   confirm = record { caller = shop_name; callee = bank_name; number = 1; answer_version = 1 }
 
   abbrev settled : Kept
-  settled = (posted_event owing (AnswerPost (paid_answer program token)) (Confirmed confirm)).service
+  settled = (posted_event owing (TokenPost announced) (Confirmed confirm)).service
 
   -- ---- packets and worlds
 
@@ -148,10 +166,16 @@ module _ (program : List Route) (token : List ℕ) where
   known = created ++ PostReplyPacket (SetPost (first_call program token)) (Acked ack) ∷ []
 
   abbrev told_again : List Packet
-  told_again = known ++ PostPacket (AnswerPost (paid_answer program token)) ∷ []
+  told_again = known ++ PostPacket (TokenPost announced) ∷ []
 
   abbrev confirmed : List Packet
-  confirmed = told_again ++ PostReplyPacket (AnswerPost (paid_answer program token)) (Confirmed confirm) ∷ []
+  confirmed = told_again ++ PostReplyPacket (TokenPost announced) (Confirmed confirm) ∷ []
+
+  abbrev asked_for : List Packet
+  asked_for = confirmed ++ PostPacket (FetchPost fetch) ∷ []
+
+  abbrev given_back : List Packet
+  given_back = asked_for ++ PostReplyPacket (FetchPost fetch) (Given (paid_answer program token)) ∷ []
 
   abbrev pub world : Kept → Kept → List Packet → ℕ → World
   world s b packets x = record { services = s ∷ (b ∷ []); packets = packets; moment = 0; x = x; losses = 1 }
@@ -160,10 +184,10 @@ module _ (program : List Route) (token : List ℕ) where
   happens w name what packet = does program token w name what packet
 
   abbrev pub before_step : World
-  before_step = world heard settled confirmed (word_after 16 1)
+  before_step = world saw settled given_back (word_after 16 1)
 
   abbrev pub after_step : World
-  after_step = world mended settled confirmed (word_after 16 1)
+  after_step = world mended settled given_back (word_after 16 1)
 
   same_call : equal call_made.the_row.coded the_pay the_pay ≡ true
   same_call = equal-same call_made.the_row.coded the_pay the_pay refl
@@ -200,14 +224,29 @@ module _ (program : List Route) (token : List ℕ) where
   posts_answer = refl
 
   hears : turn (world acked owing told_again (word_after 16 1)) (Deliver 5)
-      ≡ happens (world heard owing confirmed (word_after 16 1)) shop_name (TakeAnswer (Ok (Some 1))) (Some 6)
+      ≡ happens (world heard owing confirmed (word_after 16 1)) shop_name (TakeToken (Ok (Some 1))) (Some 6)
   unfolding turn
   hears = refl
 
   confirms : turn (world heard owing confirmed (word_after 16 1)) (Deliver 6)
-      ≡ happens before_step bank_name (WhatPosted (Ok WasConfirmed)) None
+      ≡ happens (world heard settled confirmed (word_after 16 1)) bank_name (WhatPosted (Ok WasConfirmed)) None
   unfolding turn
   confirms = refl
+
+  posts_fetch : turn (world heard settled confirmed (word_after 16 1)) (Posts shop_name bank_name)
+      ≡ happens (world heard settled asked_for (word_after 16 1)) shop_name (NextPost (Some (OfFetch 1))) (Some 7)
+  unfolding turn
+  posts_fetch = refl
+
+  gives_again : turn (world heard settled asked_for (word_after 16 1)) (Deliver 7)
+      ≡ happens (world heard settled given_back (word_after 16 1)) bank_name (Give (Ok 1)) (Some 8)
+  unfolding turn
+  gives_again = refl
+
+  sees : turn (world heard settled given_back (word_after 16 1)) (Deliver 8)
+      ≡ happens before_step shop_name (WhatPosted (Ok Saw)) None
+  unfolding turn
+  sees = refl
 
   -- ---- the step
 
@@ -229,10 +268,10 @@ module _ (program : List Route) (token : List ℕ) where
   other_answers = false_by (equal (coded_list response.the_row.coded) (tentative ∷ []) (ok ∷ []))
       (λ h. let same : 504 ≡ 200 = ap status_of (equal-true (coded_list response.the_row.coded) (tentative ∷ []) (ok ∷ []) h) in absurd (omega (arith, same)))
 
-  is_stale : is_current (answers heard) [] tried_entry ≡ false
-  is_stale = answers_apart (answers heard) [] tried_entry refl other_answers
+  is_stale : is_current (answers saw) [] tried_entry ≡ false
+  is_stale = answers_apart (answers saw) [] tried_entry refl other_answers
 
-  first_stale : stale_in (answers heard) (base heard) heard.entries ≡ Some (record { entry = tried_entry; rows = [] })
+  first_stale : stale_in (answers saw) (base saw) saw.entries ≡ Some (record { entry = tried_entry; rows = [] })
   first_stale = ap (λ (b : Bool). if b then None else Some (record { entry = tried_entry; rows = [] })) is_stale
 
   new_answer : is_new_answer tried_entry.made made ≡ true
@@ -241,20 +280,20 @@ module _ (program : List Route) (token : List ℕ) where
   -- the shop runs again with the answer
   module _ (asks : run_of (shop_setting program token) buy i [] [] ≡ Wants 0 [] the_pay)
       (buys : run_of (shop_setting program token) buy i (ok ∷ []) [] ≡ Done (bought_trace program token)) where
-    given : answer_at (answers heard) (tried_trace.calls) (1 ∷ []) 0 the_pay ≡ ok
+    given : answer_at (answers saw) (tried_trace.calls) (1 ∷ []) 0 the_pay ≡ ok
     given = rw same_call refl
 
-    runs_again : new_trace heard [] tried_entry ≡ bought_trace program token
+    runs_again : new_trace saw [] tried_entry ≡ bought_trace program token
     unfolding new_trace
     runs_again =
-        ap (λ ran. ended_or ran (λ slot call. rerun 16 heard [] tried_entry (answer_at (answers heard) (tried_trace.calls) (1 ∷ []) slot call ∷ []))) asks
-        ∙ ap (λ r. rerun 16 heard [] tried_entry (r ∷ [])) given
-        ∙ ap (λ ran. ended_or ran (λ slot call. rerun 15 heard [] tried_entry (ok ∷ (answer_at (answers heard) (tried_trace.calls) (1 ∷ []) slot call ∷ [])))) buys
+        ap (λ ran. ended_or ran (λ slot call. rerun 16 saw [] tried_entry (answer_at (answers saw) (tried_trace.calls) (1 ∷ []) slot call ∷ []))) asks
+        ∙ ap (λ r. rerun 16 saw [] tried_entry (r ∷ [])) given
+        ∙ ap (λ ran. ended_or ran (λ slot call. rerun 15 saw [] tried_entry (ok ∷ (answer_at (answers saw) (tried_trace.calls) (1 ∷ []) slot call ∷ [])))) buys
 
-    step_is : step_event heard ≡ stepped heard tried_entry made
+    step_is : step_event saw ≡ stepped saw tried_entry made
     step_is =
-        ap (step_by heard) first_stale
-        ∙ ap (λ t. stepped heard tried_entry (record { alive = true; version = 0; request = buy; trace = t })) runs_again
+        ap (step_by saw) first_stale
+        ∙ ap (λ t. stepped saw tried_entry (record { alive = true; version = 0; request = buy; trace = t })) runs_again
 
     pub mends : turn before_step (Step shop_name)
         ≡ happens after_step shop_name (RepairStep (RanAgain 1 true)) None
@@ -278,7 +317,7 @@ module _ (program : List Route) (token : List ℕ) where
   same_answers = equal-same (coded_list response.the_row.coded) (ok ∷ []) (ok ∷ []) refl
 
   abbrev mended_entry : Entry
-  mended_entry = remade tried_entry made (new_numbers heard tried_entry made)
+  mended_entry = remade tried_entry made (new_numbers saw tried_entry made)
 
   hears_ok : map (answers mended) mended_entry.slots ≡ ok ∷ []
   hears_ok = rw (same_call, other_answer) refl

@@ -3,13 +3,13 @@ use Rattle.std.proofs.Common.{◌≡◌, ℕ, List, [], ◌∷◌, Option, Some,
 use Rattle.lang_core.specs.declared.request.Request.{Request}
 use Rattle.repair_messages.specs.declared.messages.SetMessage.{SetMessage}
 use Rattle.repair_messages.specs.declared.posts.Post.{Post}
-use Rattle.repair_messages.specs.declared.posts.Post.TheVariants.{Set as SetPost, Answer as AnswerPost}
+use Rattle.repair_messages.specs.declared.posts.Post.TheVariants.{Set as SetPost, Token as TokenPost, Fetch as FetchPost}
 use Rattle.call_registers.specs.declared.register.Why.TheVariants.{Lost, Refused as WasRefused}
 use Rattle.flights.specs.declared.flight.Flight.{Flight}
 use Rattle.service_events.specs.State.{Kept, flight_of}
 use Rattle.service_events.specs.declared.answers.PostReply.TheVariants.{Lost as PostIsLost}
 use Rattle.world_agreement.specs.Partners.{service_of}
-use Rattle.world_events.specs.Events.{Answer as EventAnswer, Turn, Served, turned, if_there, turn_at, at_service, refused, arrive_served, call_arrive_served, call_answered_served, call_failed_served, sender, take_served, take_answer_served, posted_served, next_post_served, repair_step_served, abandon_served, order_served, call_delivered, reply_delivered, post_delivered, delivered, call_lost, post_lost, lost, next_post_turn, if_flying, abandon_turn, turn, after_event, after_events, answer_to}
+use Rattle.world_events.specs.Events.{Answer as EventAnswer, Turn, Served, turned, if_there, turn_at, at_service, refused, arrive_served, call_arrive_served, call_answered_served, call_failed_served, sender, take_served, take_token_served, give_served, posted_served, next_post_served, repair_step_served, abandon_served, order_served, call_delivered, reply_delivered, post_delivered, delivered, call_lost, post_lost, lost, next_post_turn, if_flying, abandon_turn, turn, after_event, after_events, answer_to}
 use Rattle.world_events.specs.Worlds.{World, packet_of, next_inputs, once_drawn, once_lost, loss_note}
 use Rattle.world_events.specs.declared.event.Event.{Event}
 use Rattle.world_events.specs.declared.event.Event.TheVariants.{Begin, Deliver, Lose, Post as Posts, Step, Abandon, Order, Clock, Seed}
@@ -50,7 +50,8 @@ reply_still w to flight number (Refused word n) = at_still w w to (call_failed_s
 
 post_still : (w : World) (post : Post) → IsStill w (post_delivered w post)
 post_still w (SetPost set) = at_still w (once_drawn w) set.dest (λ s. take_served set s (next_inputs w))
-post_still w (AnswerPost a) = at_still w w a.caller (take_answer_served a)
+post_still w (TokenPost t) = at_still w w t.caller (take_token_served t)
+post_still w (FetchPost f) = at_still w w f.callee (give_served f)
 
 delivered_still : (w : World) (k : ℕ) (p : Option Packet) → IsStill w (delivered w k p)
 delivered_still w k None = refused_still w (NoPacket k)

@@ -1,30 +1,36 @@
 -- What stands in journals stands there when they grow.
 use Rattle.std.proofs.Common.{◌≡◌, ℕ, List, [], ◌++◌, Option, Some, None, IfSome, IsSomeAnd, Contains, nat_eq, inl, inr, refl, sym, subst, eqb-true}
-use Rattle.std.proofs.lemmas.Bool.{cases_Bool, cond-true, cond-false}
+use Rattle.std.proofs.lemmas.Bool.{and_parts, cases_Bool, cond-true, cond-false}
 use Rattle.std.proofs.lemmas.List.Elements.{Contains-append_left}
+use Rattle.lang_core.specs.Origins.{is_call}
 use Rattle.lang_core.specs.declared.ids.Origin.{Origin}
 use Rattle.lang_core.specs.declared.ids.Origin.TheVariants.{Outside, Call as CallOrigin}
 use Rattle.lang_core.specs.declared.request.Request.{Request}
 use Rattle.lang_core.specs.declared.request.Response.{Response}
+use Rattle.repair_messages.specs.declared.messages.AnswerMessage.{AnswerMessage}
 use Rattle.repair_messages.specs.declared.messages.SetMessage.{SetMessage}
 use Rattle.repair_messages.specs.declared.posts.Post.{Post}
-use Rattle.repair_messages.specs.declared.posts.Post.TheVariants.{Set as SetPost, Answer as AnswerPost}
-use Rattle.journal_rows.specs.Words.{sent_step, last_sent}
+use Rattle.repair_messages.specs.declared.posts.Post.TheVariants.{Set as SetPost, Token as TokenPost, Fetch as FetchPost}
+use Rattle.journal_rows.specs.Words.{sent_step, last_sent, noting_step, last_noted, gives, given_step, given_at}
+use Rattle.journal_rows.specs.declared.callee.AnsweredRow.{AnsweredRow}
 use Rattle.journal_rows.specs.declared.caller.AckHow.{AckHow}
 use Rattle.journal_rows.specs.declared.caller.AckHow.TheVariants.{WithAnswer, ToPost}
+use Rattle.journal_rows.specs.declared.caller.NotedRow.{NotedRow}
 use Rattle.journal_rows.specs.declared.caller.SentRow.{SentRow}
 use Rattle.journal_rows.specs.declared.row.Row.{Row}
-use Rattle.journal_rows.specs.declared.row.Row.TheVariants.{Took, WasConfirmed, Sent, SawAck, SawAnswer}
+use Rattle.journal_rows.specs.declared.row.Row.TheVariants.{Took, Answered, WasConfirmed, Sent, SawAck, Noted, SawAnswer}
 use Rattle.service_events.specs.Fits.{EachAfter, SendsOn}
 use Rattle.service_events.specs.State.{Kept, me}
 use Rattle.service_events.specs.declared.answers.PostReply.{PostReply}
-use Rattle.service_events.specs.declared.answers.PostReply.TheVariants.{Acked, Confirmed}
+use Rattle.service_events.specs.declared.answers.PostReply.TheVariants.{Acked, Confirmed, Given}
 use Rattle.service_events.proofs.CallLaws.{Grows}
-use Rattle.world_agreement.specs.Partners.{service_of, JournalOf, HasSent, HasAcked, HasAnswered, HasConfirmed, HasAcknowledged, HasPartner}
+use Rattle.service_events.proofs.LogLemmas.{call_is}
+use Rattle.world_agreement.specs.Partners.{service_of, JournalOf, HasSent, HasAcked, HasAnswered, HasGiven, HasConfirmed, HasAcknowledged, HasPartner}
 use Rattle.world_agreement.proofs.Histories.{Sets, last_from}
 use Rattle.world_agreement.proofs.ListLemmas.{some_out}
 use Rattle.world_agreement.proofs.SentFacts.{IsSentBefore, sent_before}
-use Rattle.world_events.specs.Sound.{WasSent, CallStands, ReplyStands, PostStands, PostReplyStands, PacketStands, OriginStands}
+use Rattle.world_events.specs.Events.{sender}
+use Rattle.world_events.specs.Sound.{WasSent, WasAnswered, WasNoted, CallStands, ReplyStands, PostStands, PostReplyStands, PacketStands, OriginStands}
 use Rattle.world_events.specs.declared.packet.Live.{Live}
 use Rattle.world_events.specs.declared.packet.Live.TheVariants.{Answer, Refused}
 use Rattle.world_events.specs.declared.packet.Packet.{Packet}
@@ -41,6 +47,12 @@ acked_more c n v j rows h = Contains-append_left j rows _ h
 
 pub answered_more : (c : List ℕ) (n a v : ℕ) (r : Response) (j rows : List Row) → HasAnswered c n a v r j → HasAnswered c n a v r (j ++ rows)
 answered_more c n a v r j rows h = (h.0, h.1, Contains-append_left j rows _ h.2)
+
+pub given_more : (c : List ℕ) (n a : ℕ) (j rows : List Row) → HasGiven c n a j → HasGiven c n a (j ++ rows)
+given_more c n a j rows h = (h.0, h.1, answered_more c n a h.0 h.1 j rows h.2)
+
+pub noted_more : (n a : ℕ) (j rows : List Row) → WasNoted n a j → WasNoted n a (j ++ rows)
+noted_more n a j rows h = (h.0, h.1, Contains-append_left j rows _ h.2)
 
 pub confirmed_more : (n a : ℕ) (j rows : List Row) → HasConfirmed n a j → HasConfirmed n a (j ++ rows)
 confirmed_more n a j rows h = Contains-append_left j rows _ h
@@ -61,6 +73,29 @@ sent_sets n last row = inl refl
 -- the last version that was sent stands in the journal
 pub sent_from : (n : ℕ) (j : List Row) → IfSome (last_sent n j) (λ s. (s.number ≡ n) × Contains j (Sent s))
 sent_from n j = last_from Sent (λ s. s.number ≡ n) (sent_step n) (sent_sets n) j
+
+-- so does the last token of a call
+noted_sets : (n : ℕ) (last : Option NotedRow) (row : Row) → Sets Noted (λ t. t.number ≡ n) last row (noting_step n last row)
+noted_sets n last (Noted t) = elim (cases_Bool (nat_eq t.number n)) [
+  | inl is ↦ inr (t, refl, cond-true (nat_eq t.number n) (Some t) last is, eqb-true t.number n is)
+  | inr other ↦ inl (cond-false (nat_eq t.number n) (Some t) last other)
+]
+noted_sets n last row = inl refl
+
+pub noted_from : (n : ℕ) (j : List Row) → IfSome (last_noted n j) (λ t. (t.number ≡ n) × Contains j (Noted t))
+noted_from n j = last_from Noted (λ t. t.number ≡ n) (noting_step n) (noted_sets n) j
+
+-- and so does an answer that is given again
+gave_sets : (c : List ℕ) (n v : ℕ) (last : Option AnsweredRow) (row : Row)
+    → Sets Answered (λ a. a.origin ≡ CallOrigin c n) last row (given_step c n v last row)
+gave_sets c n v last (Answered a) = elim (cases_Bool (gives c n v a)) [
+  | inl is ↦ inr (a, refl, cond-true (gives c n v a) (Some a) last is, call_is c n a.origin (and_parts (is_call c n a.origin) (nat_eq a.answer_version v) is).0)
+  | inr other ↦ inl (cond-false (gives c n v a) (Some a) last other)
+]
+gave_sets c n v last row = inl refl
+
+pub gave_from : (c : List ℕ) (n v : ℕ) (j : List Row) → IfSome (given_at c n v j) (λ a. (a.origin ≡ CallOrigin c n) × Contains j (Answered a))
+gave_from c n v j = last_from Answered (λ a. a.origin ≡ CallOrigin c n) (given_step c n v) (gave_sets c n v) j
 
 -- a call goes to the same service for good
 pub dest_stays : (n : ℕ) (j rows : List Row) (P : List ℕ → Type 0) → EachAfter SendsOn [] (j ++ rows)
@@ -98,6 +133,8 @@ partner_still old new g s (Took t) h =
     has_still old new g t.caller (HasSent (me s) t.number t.version t.desired) (sent_more (me s) t.number t.version t.desired) h
 partner_still old new g s (SawAck a) h =
     dest_still old new g (last_sent a.number s.journal) (HasAcknowledged (me s) a.number a.version a.how) (acknowledged_more (me s) a.number a.version a.how) h
+partner_still old new g s (Noted t) h =
+    dest_still old new g (last_sent t.number s.journal) (HasGiven (me s) t.number t.answer_version) (given_more (me s) t.number t.answer_version) h
 partner_still old new g s (SawAnswer a) h =
     dest_still old new g (last_sent a.number s.journal) (HasAnswered (me s) a.number a.answer_version a.version a.response)
     (answered_more (me s) a.number a.answer_version a.version a.response) h
@@ -113,6 +150,7 @@ partner_grown services s t g sends row h = grown row (subst (λ m. Partner m s.j
     Partner : List ℕ → List Row → Row → Type 0
     Partner m j (Took t) = JournalOf services t.caller (HasSent m t.number t.version t.desired)
     Partner m j (SawAck a) = IsSomeAnd (last_sent a.number j) (λ sent. JournalOf services sent.dest (HasAcknowledged m a.number a.version a.how))
+    Partner m j (Noted n) = IsSomeAnd (last_sent n.number j) (λ sent. JournalOf services sent.dest (HasGiven m n.number n.answer_version))
     Partner m j (SawAnswer a) = IsSomeAnd (last_sent a.number j) (λ sent. JournalOf services sent.dest (HasAnswered m a.number a.answer_version a.version a.response))
     Partner m j (WasConfirmed c) = JournalOf services c.caller (HasConfirmed c.number c.answer_version)
     Partner m j row = Unit {0}
@@ -126,6 +164,7 @@ partner_grown services s t g sends row h = grown row (subst (λ m. Partner m s.j
     grown : (row : Row) → Partner (me t) s.journal row → HasPartner services t row
     grown (Took k) h = h
     grown (SawAck a) h = longer a.number (λ dest. JournalOf services dest (HasAcknowledged (me t) a.number a.version a.how)) h
+    grown (Noted n) h = longer n.number (λ dest. JournalOf services dest (HasGiven (me t) n.number n.answer_version)) h
     grown (SawAnswer a) h = longer a.number (λ dest. JournalOf services dest (HasAnswered (me t) a.number a.answer_version a.version a.response)) h
     grown (WasConfirmed c) h = h
     grown row h = tt
@@ -142,26 +181,33 @@ module _ (old new : List Kept) (g : Grew old new) where
 
   post_still : (post : Post) → PostStands old post → PostStands new post
   post_still (SetPost set) h = sent_still set h
-  post_still (AnswerPost a) h =
+  post_still (TokenPost t) h = has_still old new g t.callee (HasGiven t.caller t.number t.answer_version) (given_more t.caller t.number t.answer_version) h
+  post_still (FetchPost f) h = has_still old new g f.caller (WasNoted f.number f.answer_version) (noted_more f.number f.answer_version) h
+
+  answer_still : (a : AnswerMessage) → WasAnswered old a → WasAnswered new a
+  answer_still a h =
       has_still old new g a.callee (HasAnswered a.caller a.number a.answer_version a.version a.response)
       (answered_more a.caller a.number a.answer_version a.version a.response) h
 
   reply_still : (name : List ℕ) (reply : Live) → ReplyStands old name reply → ReplyStands new name reply
-  reply_still name (Answer a) h = (h.0, post_still (AnswerPost a) h.1)
+  reply_still name (Answer a) h = (h.0, answer_still a h.1)
   reply_still name (Refused word n) h = tt
 
-  post_reply_still : (reply : PostReply) → PostReplyStands old reply → PostReplyStands new reply
-  post_reply_still (Acked ack) h =
+  post_reply_still : (post : Post) (reply : PostReply) → PostReplyStands old post reply → PostReplyStands new post reply
+  post_reply_still post (Acked ack) h =
       has_still old new g ack.dest (HasAcked ack.caller ack.number ack.version) (acked_more ack.caller ack.number ack.version) h
-  post_reply_still (Confirmed c) h =
+  post_reply_still post (Confirmed c) h =
       has_still old new g c.caller (HasConfirmed c.number c.answer_version) (confirmed_more c.number c.answer_version) h
-  post_reply_still reply h = tt
+  post_reply_still post (Given a) h =
+      has_still old new g a.callee (HasAnswered (sender post) a.number a.answer_version a.version a.response)
+      (answered_more (sender post) a.number a.answer_version a.version a.response) h
+  post_reply_still post reply h = tt
 
   pub packet_still : (p : Packet) → PacketStands old p → PacketStands new p
   packet_still (Call from flight set) h = call_still from set h
   packet_still (CallReply to flight call_number reply) h = reply_still to reply h
   packet_still (PostPacket post) h = post_still post h
-  packet_still (PostReplyPacket post reply) h = (post_still post h.0, post_reply_still reply h.1)
+  packet_still (PostReplyPacket post reply) h = (post_still post h.0, post_reply_still post reply h.1)
 
   pub origin_still : (name : List ℕ) (o : Origin) (q : Request) → OriginStands old name o q → OriginStands new name o q
   origin_still name Outside q h = tt

@@ -1,5 +1,5 @@
 -- Each event of a world keeps it sound.
-use Rattle.std.proofs.Common.{◌≡◌, ℕ, zero, suc, slice_get, ◌^◌, ◌<◌, ◌++◌, List, [], ◌∷◌, Option, Some, None, IfSome, IsSomeAnd, All, Result, Ok, Err, find, length, nat_eq, option_map, option_to_list, refl, sym, ◌∙◌, subst}
+use Rattle.std.proofs.Common.{◌≡◌, ℕ, zero, suc, slice_get, ◌^◌, ◌<◌, ◌++◌, List, [], ◌∷◌, Option, Some, None, IfSome, IsSomeAnd, All, Contains, Result, Ok, Err, find, length, nat_eq, option_map, option_to_list, refl, sym, ◌∙◌, subst}
 use Rattle.std.proofs.lemmas.Bool.{and_parts}
 use Rattle.std.proofs.lemmas.List.Elements.{All-nil, All-cons, All-head, All-tail, All-contains, All-weaker}
 use Rattle.lang_base.specs.Texts.{same_text}
@@ -10,11 +10,16 @@ use Rattle.lang_core.specs.declared.request.Request.{Request}
 use Rattle.repair_messages.specs.declared.messages.Ack.{Ack}
 use Rattle.repair_messages.specs.declared.messages.AnswerMessage.{AnswerMessage}
 use Rattle.repair_messages.specs.declared.messages.Confirm.{Confirm}
+use Rattle.repair_messages.specs.declared.messages.Fetch.{Fetch}
 use Rattle.repair_messages.specs.declared.messages.SetMessage.{SetMessage}
+use Rattle.repair_messages.specs.declared.messages.TokenMessage.{TokenMessage}
 use Rattle.repair_messages.specs.declared.posts.Post.{Post}
-use Rattle.repair_messages.specs.declared.posts.Post.TheVariants.{Set as SetPost, Answer as AnswerPost}
+use Rattle.repair_messages.specs.declared.posts.Post.TheVariants.{Set as SetPost, Token as TokenPost, Fetch as FetchPost}
 use Rattle.repair_messages.specs.declared.posts.PostName.{PostName}
+use Rattle.journal_rows.specs.Words.{given_at}
+use Rattle.journal_rows.specs.declared.callee.AnsweredRow.{AnsweredRow}
 use Rattle.journal_rows.specs.declared.row.Row.{Row}
+use Rattle.journal_rows.specs.declared.row.Row.TheVariants.{Answered}
 use Rattle.call_registers.specs.declared.register.Why.{Why}
 use Rattle.call_registers.specs.declared.register.Why.TheVariants.{Lost, Refused as WasRefused}
 use Rattle.flights.specs.declared.flight.Flight.{Flight}
@@ -22,7 +27,7 @@ use Rattle.service_events.specs.State.{Kept, After, me, flight_of}
 use Rattle.service_events.specs.Arriving.{arrive_event, call_answered_event, call_failed_event}
 use Rattle.service_events.specs.Event.{event}
 use Rattle.service_events.specs.Fits.{Fits}
-use Rattle.service_events.specs.Messages.{take_event, take_answer_event}
+use Rattle.service_events.specs.Messages.{take_event, take_token_event, given_where}
 use Rattle.service_events.specs.Posts.{next_post, write_post}
 use Rattle.service_events.specs.declared.answers.Arrived.{Arrived}
 use Rattle.service_events.specs.declared.answers.Arrived.TheVariants.{Done, Call as Sends, Known}
@@ -40,12 +45,12 @@ use Rattle.service_events.specs.declared.refusals.TakeRefused.TheVariants as tak
 use Rattle.service_events.proofs.CallLaws.{IsFew}
 use Rattle.service_events.proofs.EventLaws.{event_fits}
 use Rattle.service_events.proofs.SearchLemmas.{text_is, found_all}
-use Rattle.world_agreement.specs.Partners.{has_name, service_of, NamesDiffer, IsJoined, JournalOf, HasSent, HasAcked, HasAnswered, HasConfirmed}
+use Rattle.world_agreement.specs.Partners.{has_name, service_of, NamesDiffer, IsJoined, JournalOf, HasSent, HasAcked, HasAnswered, HasGiven, HasConfirmed}
 use Rattle.world_agreement.proofs.ListLemmas.{found_in, found_passes}
 use Rattle.world_agreement.proofs.NameLemmas.{name_is}
 use Rattle.world_events.specs.Worlds.{World, fresh_world, with_service, packet_of, next_inputs, once_drawn, once_lost, loss_note}
-use Rattle.world_events.specs.Events.{Turn, Served, refused, turned, if_there, turn_at, at_service, outcome, sent_or, unsaid, is_call_of, reply_to, reply_among, arrive_served, live_refusal, call_arrive_served, call_answered_served, call_failed_served, sender, set_reply, take_served, answer_reply, take_answer_served, posted_served, next_post_written, next_post_served, repair_step_served, abandon_served, order_served, call_delivered, reply_delivered, post_delivered, delivered, call_lost, post_lost, lost, next_post_turn, if_flying, abandon_turn, turn, after_event, after_events}
-use Rattle.world_events.specs.Sound.{WasSent, WasAnswered, CallStands, ReplyStands, PostStands, PostReplyStands, PacketStands, OriginStands, FlightStands, FlightsStand, AreSound, IsSound, AreFew, AllFew}
+use Rattle.world_events.specs.Events.{Turn, Served, refused, turned, if_there, turn_at, at_service, outcome, sent_or, unsaid, is_call_of, reply_to, reply_among, arrive_served, live_refusal, call_arrive_served, call_answered_served, call_failed_served, sender, set_reply, take_served, answer_reply, take_token_served, give_reply, give_served, posted_served, next_post_written, next_post_served, repair_step_served, abandon_served, order_served, call_delivered, reply_delivered, post_delivered, delivered, call_lost, post_lost, lost, next_post_turn, if_flying, abandon_turn, turn, after_event, after_events}
+use Rattle.world_events.specs.Sound.{WasSent, WasAnswered, WasNoted, CallStands, ReplyStands, PostStands, PostReplyStands, PacketStands, OriginStands, FlightStands, FlightsStand, AreSound, IsSound, AreFew, AllFew}
 use Rattle.world_events.specs.declared.event.Event.{Event}
 use Rattle.world_events.specs.declared.event.Event.TheVariants.{Begin, Deliver, Lose, Post as Posts, Step, Abandon, Order, Clock, Seed}
 use Rattle.world_events.specs.declared.event.WorldStepRefused.TheVariants.{NoService}
@@ -56,11 +61,11 @@ use Rattle.world_events.specs.declared.packet.Live.{Live}
 use Rattle.world_events.specs.declared.packet.Live.TheVariants.{Answer, Refused}
 use Rattle.world_events.specs.declared.packet.Packet.{Packet}
 use Rattle.world_events.specs.declared.packet.Packet.TheVariants.{Call, CallReply, Post as PostPacket, PostReply as PostReplyPacket}
-use Rattle.world_laws.proofs.LiveTurns.{SaysOr, Moves, arrive_moves, call_answered_moves, call_failed_moves}
+use Rattle.world_laws.proofs.LiveTurns.{answer_is, SaysOr, Moves, arrive_moves, call_answered_moves, call_failed_moves}
 use Rattle.world_laws.proofs.LivedLaws.{IsGiven, IsSent}
 use Rattle.world_laws.proofs.PutLemmas.{put, with_is_put, same_name, grew_put, found_put}
-use Rattle.world_laws.proofs.RepairTurns.{TurnsWhere, event_turns, take_takes, take_answer_hears, StandsHere, written_here, SaysAcked, SaysHeard}
-use Rattle.world_laws.proofs.StillLemmas.{packet_still}
+use Rattle.world_laws.proofs.RepairTurns.{TurnsWhere, WasGiven, event_turns, take_takes, take_token_hears, StandsHere, written_here, SaysAcked, SaysHeard}
+use Rattle.world_laws.proofs.StillLemmas.{gave_from, packet_still}
 use Rattle.world_laws.proofs.TurnLaws.{Turns, no_turn, sound_put}
 
 -- ---- what a service owes that acts
@@ -198,7 +203,7 @@ module _ (services : List Kept) (packets : List Packet) (h : AreSound services p
       let m = take_takes services s fits flights call was (dest ∙ sym is) i in
       record { turns = m.turns; fits = event_fits s (service_event.Take call i) fits; packet = (post_later a.service m.turns (SetPost call) was, said a.service m.turns a.answer m.says) }
     where
-      said : (t : Kept) → Turns services s t → (r : Result Taken TakeRefused) → SaysAcked services s fits flights call t r → PostReplyStands (put name t services) (set_reply r)
+      said : (t : Kept) → Turns services s t → (r : Result Taken TakeRefused) → SaysAcked services s fits flights call t r → PostReplyStands (put name t services) (SetPost call) (set_reply r)
       said t turns (Ok taken) says =
           let P : Ack → Type 0 = λ ack. JournalOf (put name t services) ack.dest (HasAcked ack.caller ack.number ack.version) in
           subst P (sym says.0) (now t turns call.dest (dest ∙ sym is ∙ sym (same_name s t turns.grows)) (HasAcked call.caller call.number call.version) says.1)
@@ -207,19 +212,31 @@ module _ (services : List Kept) (packets : List Packet) (h : AreSound services p
       said t turns (Err (take.NotYet n)) says = tt
       said t turns (Err (take.Denied n)) says = tt
 
-  take_answer_served_owes : (a : AnswerMessage) → a.caller ≡ name → WasAnswered services a → Owes services name s (take_answer_served a s)
-  take_answer_served_owes a caller was =
-      let x = take_answer_event s a in
-      let m = take_answer_hears services s fits flights a (caller ∙ sym is) was in
-      record { turns = m.turns; fits = event_fits s (service_event.TakeAnswer a) fits; packet = (post_later x.service m.turns (AnswerPost a) was, said x.service m.turns x.answer m.says) }
+  take_token_served_owes : (a : TokenMessage) → a.caller ≡ name → WasGiven services a → Owes services name s (take_token_served a s)
+  take_token_served_owes a caller was =
+      let x = take_token_event s a in
+      let m = take_token_hears services s fits flights a (caller ∙ sym is) was in
+      record { turns = m.turns; fits = event_fits s (service_event.TakeToken a) fits; packet = (post_later x.service m.turns (TokenPost a) was, said x.service m.turns x.answer m.says) }
     where
-      said : (t : Kept) → Turns services s t → (r : Result Heard AnswerRefused) → SaysHeard services s fits flights a t r → PostReplyStands (put name t services) (answer_reply r)
+      said : (t : Kept) → Turns services s t → (r : Result Heard AnswerRefused) → SaysHeard services s fits flights a t r → PostReplyStands (put name t services) (TokenPost a) (answer_reply r)
       said t turns (Ok heard) says =
           let P : Confirm → Type 0 = λ c. JournalOf (put name t services) c.caller (HasConfirmed c.number c.answer_version) in
           subst P (sym says.0) (now t turns a.caller (caller ∙ sym is ∙ sym (same_name s t turns.grows)) (HasConfirmed a.number a.answer_version) says.1)
       said t turns (Err answer.NoMemory) says = tt
       said t turns (Err (answer.Unknown n)) says = tt
       said t turns (Err (answer.Denied n)) says = tt
+
+  give_served_owes : (f : Fetch) → PostStands services (FetchPost f) → Owes services name s (give_served f s)
+  give_served_owes f was =
+      let still = no_turn services s flights in
+      record { turns = still; fits = λ _. fits; packet = (post_later s still (FetchPost f) was, said (given_at f.caller f.number f.answer_version s.journal) (gave_from f.caller f.number f.answer_version s.journal)) }
+    where
+      said : (o : Option AnsweredRow) → IfSome o (λ a. (a.origin ≡ CallOrigin f.caller f.number) × Contains s.journal (Answered a))
+          → PostReplyStands (put name s services) (FetchPost f) (give_reply (given_where s f o))
+      said None from = tt
+      said (Some a) from =
+          now s (no_turn services s flights) (me s) refl (HasAnswered f.caller f.number a.answer_version a.version a.response)
+          (answer_is a f.caller f.number a.answer_version a.version a.response from.0 refl refl refl s.journal from.1)
 
   next_post_written_owes : (o : Option PostName) → Owes services name s (next_post_written s o)
   next_post_written_owes None = record { turns = no_turn services s flights; fits = λ _. fits; packet = tt }
@@ -228,8 +245,10 @@ module _ (services : List Kept) (packets : List Packet) (h : AreSound services p
       here_stands : (post : Post) → StandsHere services s fits flights post → PostStands (put name s services) post
       here_stands (SetPost call) says =
           now s (no_turn services s flights) call.caller says.0 (HasSent call.dest call.number call.version call.desired) says.1
-      here_stands (AnswerPost a) says =
-          now s (no_turn services s flights) a.callee says.0 (HasAnswered a.caller a.number a.answer_version a.version a.response) says.1
+      here_stands (TokenPost t) says =
+          now s (no_turn services s flights) t.callee says.0 (HasGiven t.caller t.number t.answer_version) says.1
+      here_stands (FetchPost f) says =
+          now s (no_turn services s flights) f.caller says.0 (WasNoted f.number f.answer_version) says.1
 
       said : (o : Option Post) → IfSome o (StandsHere services s fits flights) → IfSome (option_map (λ post. PostPacket post) o) (PacketStands (put name s services))
       said None says = tt
@@ -278,7 +297,8 @@ module _ (w : World) (h : IsSound w) where
   post_sound (SetPost call) stands =
       sound_at call.dest (once_drawn w) refl refl (λ s. take_served call s (next_inputs w))
       (λ s found. take_served_owes w.services w.packets h call.dest s found call (next_inputs w) stands refl)
-  post_sound (AnswerPost a) stands = sound_at a.caller w refl refl (take_answer_served a) (λ s found. take_answer_served_owes w.services w.packets h a.caller s found a refl stands)
+  post_sound (TokenPost t) stands = sound_at t.caller w refl refl (take_token_served t) (λ s found. take_token_served_owes w.services w.packets h t.caller s found t refl stands)
+  post_sound (FetchPost f) stands = sound_at f.callee w refl refl (give_served f) (λ s found. give_served_owes w.services w.packets h f.callee s found f stands)
 
   delivered_sound : (number : ℕ) (p : Option Packet) → IfSome p (PacketStands w.services) → Keeps (delivered w number p)
   delivered_sound number None stands = λ few. h
