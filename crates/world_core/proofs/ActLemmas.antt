@@ -6,10 +6,11 @@ use Rattle.lang_base.specs.contracts.fault.FaultNote as fault_note
 use Rattle.lang_base.specs.declared.fault.FaultNote.{FaultNote}
 use Rattle.lang_core.specs.declared.inputs.Inputs.{Inputs}
 use Rattle.lang_core.specs.declared.request.Request.{Request}
-use Rattle.repair_messages.specs.declared.messages.AnswerMessage.{AnswerMessage}
+use Rattle.repair_messages.specs.declared.messages.Fetch.{Fetch}
 use Rattle.repair_messages.specs.declared.messages.SetMessage.{SetMessage}
+use Rattle.repair_messages.specs.declared.messages.TokenMessage.{TokenMessage}
 use Rattle.repair_messages.specs.declared.posts.Post.{Post}
-use Rattle.repair_messages.specs.declared.posts.Post.TheVariants.{Set as SetPost, Answer as AnswerPost}
+use Rattle.repair_messages.specs.declared.posts.Post.TheVariants.{Set as SetPost, Token as TokenPost, Fetch as FetchPost}
 use Rattle.recorded_inputs.specs.Drawing.{drawn, word_after}
 use Rattle.call_registers.specs.Changes.{raised}
 use Rattle.flights.specs.declared.flight.Flight.{Flight}
@@ -17,7 +18,7 @@ use Rattle.service_events.specs.State.{Kept, flight_of}
 use Rattle.world_agreement.specs.Partners.{has_name, service_of}
 use Rattle.world_events.specs.Events as events
 use Rattle.world_events.specs.Ends.{post_receiver}
-use Rattle.world_events.specs.Events.{Turn, abandon_served, abandon_turn, at_service, call_delivered, drawing_at, if_flying, if_there, losing_at, post_delivered, refused, take_answer_served, take_served, turn_at, turned}
+use Rattle.world_events.specs.Events.{Turn, abandon_served, abandon_turn, at_service, call_delivered, drawing_at, if_flying, if_there, losing_at, post_delivered, refused, take_token_served, give_served, take_served, turn_at, turned}
 use Rattle.world_events.specs.Turns.{turned_to}
 use Rattle.world_events.specs.Worlds.{World, loss_note, next_inputs, once_drawn, once_lost, with_service}
 use Rattle.world_events.specs.declared.event.WorldStepRefused.{WorldStepRefused}
@@ -133,13 +134,21 @@ module _ (services : List Kept) (packets : List Packet) (s : Kept) (e : Environm
       → turned_to (world_of (with_service (post_receiver p) s' services) (packets ++ option_to_list m.packet) e') (told (post_receiver p) packets (Ok m)) ≡ post_delivered (world_of services packets e) p in
       subst D (sym is) (λ there. drawing_acts services packets set.dest s there e e' (take_served set) i word s' m given last later did) found
 
-  pub delivers_answer : (a : AnswerMessage) (post : Post) → post ≡ AnswerPost a → service_of (post_receiver post) services ≡ Some s
-      → (s' : Kept) (m : Served) → served s' m ≡ take_answer_served a s
+  pub delivers_token : (t : TokenMessage) (post : Post) → post ≡ TokenPost t → service_of (post_receiver post) services ≡ Some s
+      → (s' : Kept) (m : Served) → served s' m ≡ take_token_served t s
       → turned_to (world_of (with_service (post_receiver post) s' services) (packets ++ option_to_list m.packet) e) (told (post_receiver post) packets (Ok m)) ≡ post_delivered (world_of services packets e) post
-  delivers_answer a post is found s' m did =
+  delivers_token t post is found s' m did =
       let D : Post → Type 0 = λ p. service_of (post_receiver p) services ≡ Some s
       → turned_to (world_of (with_service (post_receiver p) s' services) (packets ++ option_to_list m.packet) e) (told (post_receiver p) packets (Ok m)) ≡ post_delivered (world_of services packets e) p in
-      subst D (sym is) (λ there. service_acts services packets a.caller s there e (take_answer_served a) s' m did) found
+      subst D (sym is) (λ there. service_acts services packets t.caller s there e (take_token_served t) s' m did) found
+
+  pub delivers_fetch : (f : Fetch) (post : Post) → post ≡ FetchPost f → service_of (post_receiver post) services ≡ Some s
+      → (s' : Kept) (m : Served) → served s' m ≡ give_served f s
+      → turned_to (world_of (with_service (post_receiver post) s' services) (packets ++ option_to_list m.packet) e) (told (post_receiver post) packets (Ok m)) ≡ post_delivered (world_of services packets e) post
+  delivers_fetch f post is found s' m did =
+      let D : Post → Type 0 = λ p. service_of (post_receiver p) services ≡ Some s
+      → turned_to (world_of (with_service (post_receiver p) s' services) (packets ++ option_to_list m.packet) e) (told (post_receiver p) packets (Ok m)) ≡ post_delivered (world_of services packets e) p in
+      subst D (sym is) (λ there. service_acts services packets f.callee s there e (give_served f) s' m did) found
 
 -- ---- packets
 

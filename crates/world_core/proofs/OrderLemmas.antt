@@ -2,7 +2,7 @@
 use Rattle.std.proofs.Common.{◌≡◌, ℕ, Bool, true, false, List, Option, Some, None, IsSome, IfSome, IsSomeAnd, refl, sym, ap, ◌∙◌, subst}
 use Rattle.flights.specs.declared.flight.Flight.{Flight}
 use Rattle.repair_messages.specs.declared.posts.Post.{Post}
-use Rattle.repair_messages.specs.declared.posts.Post.TheVariants.{Set, Answer}
+use Rattle.repair_messages.specs.declared.posts.Post.TheVariants.{Set, Token, Fetch}
 use Rattle.repair_messages.specs.declared.posts.PostName.{PostName}
 use Rattle.service_events.specs.Arriving.{abandon_event, abandoned}
 use Rattle.service_events.specs.Posts.{next_post, write_post}
@@ -18,7 +18,8 @@ use Rattle.world_core.specs.declared.served.Served.{Served}
 
 receives : (to : List ℕ) (post : Post) → GoesTo to post → post_receiver post ≡ to
 receives to (Set set) goes = goes
-receives to (Answer a) goes = goes
+receives to (Token t) goes = goes
+receives to (Fetch f) goes = goes
 
 message_goes : (to : List ℕ) (o : Option Post) → IsSomeAnd o (GoesTo to) → IfSome o (λ post. post_receiver post ≡ to)
 message_goes to None goes = tt

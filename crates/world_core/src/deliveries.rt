@@ -9,7 +9,7 @@ ghost use Rattle.world_core.specs.Acting.{Acts, seen};
 ghost use Rattle.world_core.specs.Environments.{Environment};
 
 use crate::environment::Environment;
-use crate::messages::{posted_reply, take, take_answer};
+use crate::messages::{give, posted_reply, take, take_token};
 use crate::packets::Packets;
 use crate::parts::{Parts, located, tell};
 use crate::requests::{arrive_as_call, call_answered, call_failed};
@@ -27,7 +27,8 @@ pub(crate) fn sender(post: &Post) -> &Name
 {
     match post {
         Post::Set(set) => &set.caller,
-        Post::Answer(answer) => &answer.callee,
+        Post::Token(token) => &token.callee,
+        Post::Fetch(fetch) => &fetch.caller,
     }
 }
 
@@ -36,7 +37,8 @@ fn post_receiver(post: &Post) -> &Name
 {
     match post {
         Post::Set(set) => &set.dest,
-        Post::Answer(answer) => &answer.caller,
+        Post::Token(token) => &token.caller,
+        Post::Fetch(fetch) => &fetch.callee,
     }
 }
 
@@ -118,8 +120,12 @@ fn deliver_post(
             environment.use_up(drawn);
             Ok(served)
         }
-        Post::Answer(answer) => {
-            let served = take_answer(alloc, service, answer)?;
+        Post::Token(token) => {
+            let served = take_token(alloc, service, token)?;
+            Ok(served)
+        }
+        Post::Fetch(fetch) => {
+            let served = give(alloc, service, fetch)?;
             Ok(served)
         }
     }

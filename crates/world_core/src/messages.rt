@@ -1,14 +1,14 @@
 // Messages that repair come to a service of a world.
 ghost use Rattle.std.specs.Prelude.{◌≡◌, Some};
-ghost use Rattle.world_events.specs.Events.{take_served, take_answer_served, posted_served};
+ghost use Rattle.world_events.specs.Events.{give_served, take_served, take_token_served, posted_served};
 ghost use Rattle.world_events.specs.declared.packet.Packet.{Packet};
 ghost use Rattle.world_core.specs.Acting.{Serves};
 
 use crate::served::{Served, unwritten};
 use lang_core::{Copied, Inputs, NoMemory};
-use repair_messages::{AnswerMessage, Post, SetMessage};
+use repair_messages::{Fetch, Post, SetMessage, TokenMessage};
 use service_core::Service;
-use service_events::{AnswerRefused, PostRefused, PostReply, TakeRefused};
+use service_events::{AnswerRefused, GiveRefused, PostRefused, PostReply, TakeRefused};
 use std::alloc::Global;
 use world_events::{Packet, What};
 
@@ -42,22 +42,37 @@ pub(crate) fn take(
     }
 }
 
-/// An answer to a call comes by a message.
-pub(crate) fn take_answer(
+/// A token comes, which announces an answer to a call.
+pub(crate) fn take_token(
     alloc: Global,
     service: &mut Service,
-    answer: &AnswerMessage,
+    token: &TokenMessage,
 ) -> Result<Served, NoMemory>
-    ensures { Serves (take_answer_served answer.now service.old) service.old result service.new }
+    ensures { Serves (take_token_served token.now service.old) service.old result service.new }
 {
-    let post = Post::Answer(answer.copied(alloc)?);
-    match service.take_answer(alloc, answer) {
+    let post = Post::Token(token.copied(alloc)?);
+    match service.take_token(alloc, token) {
         Ok(heard) => {
-            let told = What::TakeAnswer(Ok(heard.rule));
+            let told = What::TakeToken(Ok(heard.rule));
             Ok(replied(told, post, PostReply::Confirmed(heard.confirm)))
         }
         Err(AnswerRefused::NoMemory) => Err(NoMemory),
-        Err(why) => Ok(replied(What::TakeAnswer(Err(why)), post, why.post_reply())),
+        Err(why) => Ok(replied(What::TakeToken(Err(why)), post, why.post_reply())),
+    }
+}
+
+/// Another service fetches an answer.
+pub(crate) fn give(alloc: Global, service: &mut Service, fetch: &Fetch) -> Result<Served, NoMemory>
+    ensures { Serves (give_served fetch.now service.old) service.old result service.new }
+{
+    let post = Post::Fetch(fetch.copied(alloc)?);
+    match service.give(alloc, fetch) {
+        Ok(answer) => {
+            let told = What::Give(Ok(answer.answer_version));
+            Ok(replied(told, post, PostReply::Given(answer)))
+        }
+        Err(GiveRefused::NoMemory) => Err(NoMemory),
+        Err(why) => Ok(replied(What::Give(Err(why)), post, why.post_reply())),
     }
 }
 
