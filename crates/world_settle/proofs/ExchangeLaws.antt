@@ -6,23 +6,29 @@ use Rattle.std.specs.Option.{option_map_or}
 use Rattle.std.proofs.lemmas.Bool.{cases_Bool, cond_both, cond-true, cond-false, false_from_ne_true}
 use Rattle.std.proofs.lemmas.Option.{same_Some}
 use Rattle.lang_base.specs.Texts.{same_text}
+use Rattle.repair_messages.specs.declared.messages.AnswerMessage.{AnswerMessage}
 use Rattle.repair_messages.specs.declared.posts.Post.{Post}
-use Rattle.repair_messages.specs.declared.posts.Post.TheVariants.{Set, Answer}
+use Rattle.repair_messages.specs.declared.posts.Post.TheVariants.{Set, Token, Fetch}
 use Rattle.repair_messages.specs.declared.posts.PostName.{PostName}
+use Rattle.journal_rows.specs.Words.{noted_at}
+use Rattle.journal_rows.specs.declared.caller.NotedRow.{NotedRow}
+use Rattle.call_registers.specs.Registers.{is_newer, register}
 use Rattle.call_registers.specs.declared.register.Hold.{Hold}
+use Rattle.call_registers.specs.declared.register.Register.{Register}
+use Rattle.service_events.specs.Calls.{noted}
 use Rattle.service_events.specs.Fits.{Fits}
-use Rattle.service_events.specs.Messages.{had, held_back, held_where, hold_of, is_now, posted, posted_event, replies_to, take_answer_event, take_event}
+use Rattle.service_events.specs.Messages.{fetched, fetched_row, give_event, had, held_back, held_where, hold_of, is_now, posted, posted_event, replies_to, take_event, take_token_event}
 use Rattle.service_events.specs.Posts.{next_post, write_post}
 use Rattle.service_events.specs.State.{Kept, after, me}
 use Rattle.service_events.specs.declared.answers.PostReply.{PostReply}
-use Rattle.service_events.specs.declared.answers.PostReply.TheVariants.{Acked as WasAcked, Confirmed as WasConfirmedBack, Refused, Lost}
-use Rattle.service_events.specs.declared.answers.Posted.TheVariants.{Held, Left}
+use Rattle.service_events.specs.declared.answers.PostReply.TheVariants.{Acked as WasAcked, Confirmed as WasConfirmedBack, Given, Refused, Lost}
+use Rattle.service_events.specs.declared.answers.Posted.TheVariants.{Saw, Knew, Held, Left}
 use Rattle.service_events.specs.declared.refusals.PostRefused.TheVariants.{Foreign}
 use Rattle.service_events.proofs.SearchLemmas.{text_is, get_mid}
 use Rattle.world_agreement.specs.Partners.{has_name, service_of, NamesDiffer}
 use Rattle.world_agreement.proofs.ListLemmas.{found_in}
 use Rattle.world_agreement.proofs.NameLemmas.{differ_first, differ_later, name_is}
-use Rattle.world_events.specs.Events.{Turn, after_event, after_events, at_service, delivered, if_there, next_post_served, next_post_turn, next_post_written, post_delivered, posted_served, refused, set_reply, answer_reply, take_answer_served, take_served, turn, turned}
+use Rattle.world_events.specs.Events.{Turn, after_event, after_events, at_service, delivered, if_there, next_post_served, next_post_turn, next_post_written, post_delivered, posted_served, refused, set_reply, answer_reply, give_reply, give_served, take_served, take_token_served, turn, turned}
 use Rattle.world_events.specs.Worlds.{World, next_inputs, next_packet, once_drawn, packet_in, packet_of, with_service}
 use Rattle.world_events.specs.declared.event.Event.{Event}
 use Rattle.world_events.specs.declared.event.Event.TheVariants.{Deliver, Post as Posts}
@@ -122,16 +128,24 @@ post_turn w from to = refl
 module _ (s : Kept) where
   held_named : (post : Post) (hold : Hold) → me (held_back s post hold) ≡ me s
   held_named (Set set) hold = refl
-  held_named (Answer a) hold = refl
+  held_named (Token t) hold = refl
+  held_named (Fetch f) hold = refl
 
   held_where_named : (post : Post) (o : Option Hold) → me (held_where s post o).service ≡ me s
   held_where_named post None = refl
   held_where_named post (Some hold) =
       cond_both (is_now s post) (after (held_back s post hold) (Ok Held)) (after s (Ok Left)) (λ x. me x.service ≡ me s) (λ _. held_named post hold) (λ _. refl)
 
+  fetched_named : (a : AnswerMessage) (o : Option Register) (n : Option NotedRow) → me (fetched s a o n).service ≡ me s
+  fetched_named a None n = refl
+  fetched_named a (Some r) None = refl
+  fetched_named a (Some r) (Some n) =
+      cond_both (is_newer r.answer a.answer_version) (after (noted (fetched_row a n ∷ []) s) (Ok Saw)) (after s (Ok Knew)) (λ x. me x.service ≡ me s) (λ _. refl) (λ _. refl)
+
   replied_named : (post : Post) (reply : PostReply) → me (posted s post reply).service ≡ me s
   replied_named post (WasAcked ack) = refl
   replied_named post (WasConfirmedBack c) = refl
+  replied_named post (Given a) = fetched_named a (register a.number s.registers) (noted_at a.number a.answer_version s.journal)
   replied_named post (Refused word number) = held_where_named post (hold_of word number)
   replied_named post (Lost note) = refl
 
@@ -230,14 +244,22 @@ module _ (w : World) (from to : List ℕ) (apart : from ≢ to) (s : Kept) (fits
           let d = take_served set x (next_inputs v) in
           subst (λ name. Lowers 1 (turned name (once_drawn v) d)) (sym sends.goes)
           (back_lowers (Set set) sends (once_drawn v) d.service d.what (set_reply (take_event x set (next_inputs v)).answer) services refl)
-  post_lowers (Answer a) sends v services = by_there (service_of a.caller v.services)
+  post_lowers (Token t) sends v services = by_there (service_of t.caller v.services)
     where
-      by_there : (o : Option Kept) → Lowers 1 (if_there o (refused v NoService) (λ x. turned a.caller v (take_answer_served a x)))
+      by_there : (o : Option Kept) → Lowers 1 (if_there o (refused v NoService) (λ x. turned t.caller v (take_token_served t x)))
       by_there None = lowers_none 0 (refused v NoService) refl refl
       by_there (Some x) =
-          let d = take_answer_served a x in
+          let d = take_token_served t x in
           subst (λ name. Lowers 1 (turned name v d)) (sym sends.goes)
-          (back_lowers (Answer a) sends v d.service d.what (answer_reply (take_answer_event x a).answer) services refl)
+          (back_lowers (Token t) sends v d.service d.what (answer_reply (take_token_event x t).answer) services refl)
+  post_lowers (Fetch f) sends v services = by_there (service_of f.callee v.services)
+    where
+      by_there : (o : Option Kept) → Lowers 1 (if_there o (refused v NoService) (λ x. turned f.callee v (give_served f x)))
+      by_there None = lowers_none 0 (refused v NoService) refl refl
+      by_there (Some x) =
+          let d = give_served f x in
+          subst (λ name. Lowers 1 (turned name v d)) (sym sends.goes)
+          (back_lowers (Fetch f) sends v d.service d.what (give_reply (give_event x f).answer) services refl)
 
   -- a post is written
   abbrev behind : Post → World

@@ -7,7 +7,7 @@ use Rattle.local_repair.specs.declared.stepped.Stepped.TheVariants.{Ran}
 use Rattle.service_events.specs.Flying.{awaited}
 use Rattle.service_events.specs.Posts.{outstanding}
 use Rattle.service_events.specs.State.{Kept, me}
-use Rattle.service_events.specs.declared.answers.Posted.TheVariants.{Acked, Confirmed, Held}
+use Rattle.service_events.specs.declared.answers.Posted.TheVariants.{Acked, Confirmed, Saw, Held}
 use Rattle.world_agreement.specs.Partners.{service_of}
 use Rattle.world_events.specs.Events.{Answer, after_event, after_events, answer_to}
 use Rattle.world_events.specs.Worlds.{World}
@@ -34,10 +34,11 @@ is_post what = false
 abbrev pub is_work : What → Bool
 is_work what = is_run what || is_post what
 
--- its sender has a post acknowledged or confirmed, or holds it
+-- its sender has a post acknowledged or confirmed, or its answer, or holds it
 abbrev pub is_done : What → Bool
 is_done (Posted (Ok Acked)) = true
 is_done (Posted (Ok Confirmed)) = true
+is_done (Posted (Ok Saw)) = true
 is_done (Posted (Ok Held)) = true
 is_done what = false
 
@@ -108,8 +109,8 @@ outstanding_at to s = length (outstanding s.registers s.replies (map awaited s.f
 abbrev pub outstanding_for : List ℕ → List ℕ → World → ℕ
 outstanding_for from to w = option_map_or (outstanding_at to) (service_of from w.services) 0
 
--- A post was written and wasn't left: its sender has it acknowledged or confirmed, or holds it, and so fewer are outstanding
--- than before it.
+-- A post was written and wasn't left: its sender has it acknowledged or confirmed, or its answer, or holds it, and so fewer are
+-- outstanding than before it.
 abbrev pub goes_on : List ℕ → List ℕ → World → List Event → Bool
 goes_on from to w exchange =
     any_came is_done w exchange

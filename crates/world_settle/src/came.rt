@@ -42,7 +42,7 @@ pub(crate) fn is_done(what: What) -> bool
     ensures { result ≡ is_done what }
 {
     match what {
-        What::Posted(Ok(Posted::Acked | Posted::Confirmed | Posted::Held)) => true,
+        What::Posted(Ok(Posted::Acked | Posted::Confirmed | Posted::Saw | Posted::Held)) => true,
         _ => false,
     }
 }
