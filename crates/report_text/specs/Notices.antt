@@ -2,21 +2,23 @@
 use Rattle.std.specs.Prelude.{ℕ, ◌++◌, List, codes, decimal}
 use Rattle.std.specs.List.{flat_map}
 use Rattle.repair_messages.specs.declared.posts.PostName.{PostName}
-use Rattle.repair_messages.specs.declared.posts.PostName.TheVariants.{Call, Reply}
+use Rattle.repair_messages.specs.declared.posts.PostName.TheVariants.{Call, Reply, Fetch}
 use Rattle.call_registers.specs.declared.register.Hold.{Hold}
 use Rattle.call_registers.specs.declared.register.Hold.TheVariants.{Rule, Unknown}
 use Rattle.repair_queue.specs.declared.held.Notice.{Notice}
 use Rattle.report_text.specs.Reports.{or_none}
 
--- `call:N` or `reply:N`
+-- `call:N` or `reply:N`; a fetch, `fetch:N`, is never held
 abbrev pub post_name_text : PostName → List ℕ
 post_name_text (Call n) = codes "call:" ++ decimal n
 post_name_text (Reply n) = codes "reply:" ++ decimal n
+post_name_text (Fetch n) = codes "fetch:" ++ decimal n
 
 -- ` vV` of a call's version, ` aA` of an answer's
 abbrev pub version_behind : PostName → ℕ → List ℕ
 version_behind (Call n) version = codes " v" ++ decimal version
 version_behind (Reply n) version = codes " a" ++ decimal version
+version_behind (Fetch n) version = codes " a" ++ decimal version
 
 -- `rule R` or `unknown`
 abbrev pub hold_text : Hold → List ℕ

@@ -12,7 +12,7 @@ use Rattle.request_log.specs.Entries.{is_alive}
 use Rattle.request_log.specs.declared.entry.Entry.{Entry}
 use Rattle.request_log.specs.declared.entry.Made.{Made}
 use Rattle.journal_rows.specs.declared.verdict.Outstanding.{Outstanding}
-use Rattle.journal_rows.specs.declared.verdict.Outstanding.TheVariants.{Flight, Stale, Call as Register, Answer}
+use Rattle.journal_rows.specs.declared.verdict.Outstanding.TheVariants.{Flight, Stale, Call as Register, Fetch, Answer}
 use Rattle.journal_rows.specs.declared.verdict.Verdict.{Verdict}
 use Rattle.journal_rows.specs.declared.verdict.Verdict.TheVariants.{Legal, Forged, Unsettled}
 
@@ -90,6 +90,7 @@ abbrev pub outstanding_text : List ℕ → Outstanding → List ℕ
 outstanding_text service (Flight n) = codes "flight " ++ id_text service n
 outstanding_text service (Stale n) = codes "stale " ++ id_text service n
 outstanding_text service (Register n) = codes "call " ++ id_text service n
+outstanding_text service (Fetch n) = codes "fetch " ++ id_text service n
 outstanding_text service (Answer n) = codes "answer " ++ id_text service n
 
 -- the name at a position

@@ -9,13 +9,14 @@ use repair_messages::{PostName, RefusalWord};
 use repair_queue::{Notice, Notices};
 use std::alloc::Global;
 
-/// Puts which post last: `call:N` or `reply:N`.
+/// Puts which post last: `call:N` or `reply:N`, or `fetch:N`, which is never held.
 pub fn push_post_name(text: &mut String, name: PostName) -> Result<(), NoMemory>
     ensures { OnOk result (string_bytes text.new ≡ string_bytes text.old ++ post_name_text name) }
 {
     match name {
         PostName::Call(number) => write!(text, "call:{number}")?,
         PostName::Reply(number) => write!(text, "reply:{number}")?,
+        PostName::Fetch(number) => write!(text, "fetch:{number}")?,
     }
     Ok(())
 }
@@ -25,7 +26,7 @@ fn push_version(text: &mut String, name: PostName, version: u64) -> Result<(), N
 {
     match name {
         PostName::Call(_) => write!(text, " v{version}")?,
-        PostName::Reply(_) => write!(text, " a{version}")?,
+        PostName::Reply(_) | PostName::Fetch(_) => write!(text, " a{version}")?,
     }
     Ok(())
 }

@@ -23,6 +23,10 @@ fn push_outstanding(text: &mut String, service: &Name, what: Outstanding) -> Res
             text.push_str("call ")?;
             push_id(text, service, number)
         }
+        Outstanding::Fetch(number) => {
+            text.push_str("fetch ")?;
+            push_id(text, service, number)
+        }
         Outstanding::Answer(number) => {
             text.push_str("answer ")?;
             push_id(text, service, number)
@@ -31,7 +35,7 @@ fn push_outstanding(text: &mut String, service: &Name, what: Outstanding) -> Res
 }
 
 /// The verdict of an audit over services of these names: the line `legal`, `forged S/I` with the index of the row, or
-/// `unsettled KIND S/N`, where the kind is `flight`, `stale`, `call` or `answer`.
+/// `unsettled KIND S/N`, where the kind is `flight`, `stale`, `call`, `fetch` or `answer`.
 pub fn verdict_text(alloc: Global, names: &Names, verdict: &Verdict) -> Result<Text, NoMemory>
     requires { IsVerdictOver (length names.now) verdict.now }
     ensures { IfOk result (λ text. text ≡ verdict_text names.now verdict.now) }

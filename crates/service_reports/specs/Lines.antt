@@ -6,7 +6,7 @@ use Rattle.lang_core.specs.declared.writes.Write.{Write}
 use Rattle.request_names.specs.Ids.{id_text}
 use Rattle.repair_messages.specs.Kinds.{kind_word}
 use Rattle.repair_messages.specs.declared.posts.PostName.{PostName}
-use Rattle.repair_messages.specs.declared.posts.PostName.TheVariants.{Call, Reply as OfReply}
+use Rattle.repair_messages.specs.declared.posts.PostName.TheVariants.{Call, Reply as OfReply, Fetch}
 use Rattle.call_registers.specs.Replies.{reply}
 use Rattle.call_registers.specs.declared.reply.Reply.{Reply}
 use Rattle.service_events.specs.State.{Kept, me}
@@ -34,6 +34,7 @@ row_line w = row_text w w.text
 -- CALL of a post: that of the call, or of the one that the reply is to
 abbrev pub call_text : Kept → PostName → List ℕ
 call_text s (Call number) = id_text (me s) number
+call_text s (Fetch number) = id_text (me s) number
 call_text s (OfReply id) = option_map_or (λ (p : Reply). id_text p.caller p.number) (reply id s.replies) []
 
 -- `would post KIND CALL`

@@ -67,7 +67,9 @@ fn push_call(text: &mut String, service: &Service, name: PostName) -> Result<(),
     ensures { OnOk result (string_bytes text.new ≡ string_bytes text.old ++ call_text service.now name) }
 {
     match name {
-        PostName::Call(number) => push_id(text, &service.setting().me, number),
+        PostName::Call(number) | PostName::Fetch(number) => {
+            push_id(text, &service.setting().me, number)
+        }
         PostName::Reply(id) => match service.replies().get(id) {
             Some(reply) => push_id(text, &reply.caller, reply.number),
             None => Ok(()),
