@@ -4,10 +4,8 @@ use Rattle.local_repair.specs.declared.stepped.Stepped.{Stepped}
 use Rattle.local_repair.specs.declared.stepped.Stepped.TheVariants.{Idle, Ran}
 use Rattle.repair_messages.specs.Kinds.{kind_word, spelling}
 use Rattle.repair_messages.specs.Refusals.{has_number, word_text}
-use Rattle.repair_messages.specs.declared.kinds.Kind.{Kind}
-use Rattle.repair_messages.specs.declared.kinds.Kind.TheVariants.{ReplaceResponse}
 use Rattle.repair_messages.specs.declared.posts.Post.{Post}
-use Rattle.repair_messages.specs.declared.posts.Post.TheVariants.{Set, Answer}
+use Rattle.repair_messages.specs.declared.posts.Post.TheVariants.{Set, Token, Fetch}
 use Rattle.repair_messages.specs.declared.posts.PostName.{PostName}
 use Rattle.repair_messages.specs.declared.refusals.Refusal.{Refusal}
 use Rattle.journal_rows.specs.declared.orders.About.{About}
@@ -17,7 +15,7 @@ use Rattle.journal_rows.specs.declared.row.Row.TheVariants as row
 use Rattle.request_names.specs.Ids.{id_text}
 use Rattle.report_text.specs.Notices.{post_name_text}
 use Rattle.report_text.specs.Reports.{response_text}
-use Rattle.service_events.specs.Refusals.{answer_refusal, arrive_refusal, call_refusal, order_refusal, post_refusal, take_refusal}
+use Rattle.service_events.specs.Refusals.{answer_refusal, arrive_refusal, call_refusal, give_refusal, order_refusal, post_refusal, take_refusal}
 use Rattle.service_events.specs.State.{Kept}
 use Rattle.service_events.specs.declared.answers.Ordered.{Ordered}
 use Rattle.service_events.specs.declared.answers.Posted.{Posted}
@@ -26,6 +24,7 @@ use Rattle.service_events.specs.declared.refusals.AnswerRefused.{AnswerRefused}
 use Rattle.service_events.specs.declared.refusals.ArriveRefused.{ArriveRefused}
 use Rattle.service_events.specs.declared.refusals.CallRefused.{CallRefused}
 use Rattle.service_events.specs.declared.refusals.CallRefused.TheVariants as call
+use Rattle.service_events.specs.declared.refusals.GiveRefused.{GiveRefused}
 use Rattle.service_events.specs.declared.refusals.OrderRefused.{OrderRefused}
 use Rattle.service_events.specs.declared.refusals.PostRefused.{PostRefused}
 use Rattle.service_events.specs.declared.refusals.TakeRefused.{TakeRefused}
@@ -103,38 +102,44 @@ flown_line service rows (Err why) packet = stray_line service why packet
 
 -- ---- posts
 
-abbrev pub post_kind : Post → Kind
-post_kind (Set set) = spelling set
-post_kind (Answer a) = ReplaceResponse
+-- the kind of a version of a call; `token`, `fetch`
+abbrev pub post_word : Post → List ℕ
+post_word (Set set) = kind_word (spelling set)
+post_word (Token t) = codes "token"
+post_word (Fetch f) = codes "fetch"
 
 -- CALL: the caller and its number for the call
 abbrev pub call_text : Post → List ℕ
 call_text (Set set) = id_text set.caller set.number
-call_text (Answer a) = id_text a.caller a.number
+call_text (Token t) = id_text t.caller t.number
+call_text (Fetch f) = id_text f.caller f.number
 
--- ` vV` of a version of a call, ` aA` of an answer
+-- ` vV` of a version of a call, ` aA` of the answer that a token or a fetch is about
 abbrev pub version_behind : Post → List ℕ
 version_behind (Set set) = codes " v" ++ decimal set.version
-version_behind (Answer a) = codes " a" ++ decimal a.answer_version
+version_behind (Token t) = codes " a" ++ decimal t.answer_version
+version_behind (Fetch f) = codes " a" ++ decimal f.answer_version
 
 abbrev pub version_text : Post → List ℕ
 version_text p = call_text p ++ version_behind p
 
--- `S -> pK KIND CALL vV`
+-- `S -> pK KIND CALL vV`, `S -> pK token CALL aA`, `S -> pK fetch CALL aA`
 abbrev pub written_line : List ℕ → Option ℕ → Post → List ℕ
 written_line service packet p =
-    service ++ (arrow packet ++ (codes " " ++ (kind_word (post_kind p) ++ (codes " " ++ (version_text p ++ codes "\n")))))
+    service ++ (arrow packet ++ (codes " " ++ (post_word p ++ (codes " " ++ (version_text p ++ codes "\n")))))
 
--- `S took CALL vV rule R` or `S saw CALL aA rule R`; where it was known, `S knew CALL vV` or `S knew CALL aA`
+-- `S took CALL vV rule R` or `S noted CALL aA rule R`; where it was known, `S knew CALL vV` or `S knew CALL aA`
 abbrev pub ruled_line : List ℕ → List ℕ → Option ℕ → Post → Option ℕ → List ℕ
 ruled_line service verb (Some rule) p packet =
     service ++ (codes " " ++ (verb ++ (codes " " ++ (version_text p ++ (codes " rule " ++ (decimal rule ++ ending packet))))))
 ruled_line service verb None p packet = service ++ (codes " knew " ++ (version_text p ++ ending packet))
 
--- ` acked CALL vV`, ` confirmed CALL aA`, ` held CALL`, ` left CALL`
+-- ` acked CALL vV`, ` confirmed CALL aA`, ` saw CALL aA`, ` knew CALL aA`, ` held CALL`, ` left CALL`
 abbrev pub settled_text : Posted → Post → List ℕ
 settled_text posted.Acked p = codes " acked " ++ version_text p
 settled_text posted.Confirmed p = codes " confirmed " ++ version_text p
+settled_text posted.Saw p = codes " saw " ++ version_text p
+settled_text posted.Knew p = codes " knew " ++ version_text p
 settled_text posted.Held p = codes " held " ++ call_text p
 settled_text posted.Left p = codes " left " ++ call_text p
 
@@ -146,14 +151,22 @@ abbrev pub of_post : Option Post → (Post → List ℕ) → List ℕ
 of_post None line = []
 of_post (Some p) line = line p
 
--- of a version of a call that comes, of an answer that comes, and of what comes back of either
+-- of a version of a call that comes, of a token that comes, of an answer that is given, and of what comes back of a post
 abbrev pub taken_line : List ℕ → Option Post → Result (Option ℕ) TakeRefused → Option ℕ → List ℕ
 taken_line service p (Ok rule) packet = of_post p (λ p. ruled_line service (codes "took") rule p packet)
 taken_line service p (Err why) packet = refused_line service (refusal_told (take_refusal why)) packet
 
-abbrev pub answer_taken_line : List ℕ → Option Post → Result (Option ℕ) AnswerRefused → Option ℕ → List ℕ
-answer_taken_line service p (Ok rule) packet = of_post p (λ p. ruled_line service (codes "saw") rule p packet)
-answer_taken_line service p (Err why) packet = refused_line service (refusal_told (answer_refusal why)) packet
+abbrev pub token_taken_line : List ℕ → Option Post → Result (Option ℕ) AnswerRefused → Option ℕ → List ℕ
+token_taken_line service p (Ok rule) packet = of_post p (λ p. ruled_line service (codes "noted") rule p packet)
+token_taken_line service p (Err why) packet = refused_line service (refusal_told (answer_refusal why)) packet
+
+-- `S gave CALL aA`
+abbrev pub gave_line : List ℕ → Post → Option ℕ → List ℕ
+gave_line service p packet = service ++ (codes " gave " ++ (version_text p ++ ending packet))
+
+abbrev pub given_line : List ℕ → Option Post → Result ℕ GiveRefused → Option ℕ → List ℕ
+given_line service p (Ok answer_version) packet = of_post p (λ p. gave_line service p packet)
+given_line service p (Err why) packet = refused_line service (refusal_told (give_refusal why)) packet
 
 abbrev pub posted_line : List ℕ → Option Post → Result Posted PostRefused → Option ℕ → List ℕ
 posted_line service p (Ok to) packet = of_post p (settled_line service to packet)
@@ -212,7 +225,8 @@ what_line service packets rows detail (what.Arrive r) packet = arrived_line serv
 what_line service packets rows detail (what.CallAnswered r) packet = flown_line service rows r packet
 what_line service packets rows detail (what.CallFailed r) packet = flown_line service rows r packet
 what_line service packets rows detail (what.Take r) packet = taken_line service (post_in packets (packet_told detail)) r packet
-what_line service packets rows detail (what.TakeAnswer r) packet = answer_taken_line service (post_in packets (packet_told detail)) r packet
+what_line service packets rows detail (what.TakeToken r) packet = token_taken_line service (post_in packets (packet_told detail)) r packet
+what_line service packets rows detail (what.Give r) packet = given_line service (post_in packets (packet_told detail)) r packet
 what_line service packets rows detail (what.Posted r) packet = posted_line service (post_in packets (packet_told detail)) r packet
 what_line service packets rows detail (what.NextPost name) packet = next_line service (receiver_told detail) (post_in packets packet) name packet
 what_line service packets rows detail (what.RepairStep stepped) packet = step_line service stepped

@@ -6,7 +6,7 @@ ghost use Rattle.world_events.specs.Worlds.{packet_in};
 
 use crate::detail::Detail;
 use crate::others::{push_abandoned, push_ordered, push_stepped};
-use crate::posts::{push_answer_taken, push_next, push_posted, push_taken};
+use crate::posts::{push_given, push_next, push_posted, push_taken, push_token_taken};
 use crate::requests::{push_arrived, push_flown};
 use journal_rows::Row;
 use lang_core::{Name, NoMemory};
@@ -69,12 +69,21 @@ fn push_what(
                 packet,
             )
         }
-        What::TakeAnswer(heard) => {
-            push_answer_taken(
+        What::TakeToken(heard) => {
+            push_token_taken(
                 text,
                 service,
                 post_in(packets, detail.packet()),
                 heard,
+                packet,
+            )
+        }
+        What::Give(given) => {
+            push_given(
+                text,
+                service,
+                post_in(packets, detail.packet()),
+                given,
                 packet,
             )
         }

@@ -1,20 +1,21 @@
 // Posts in a line.
 ghost use Rattle.std.specs.Prelude.{◌≡◌, ◌++◌, [], OnOk, string_bytes};
 ghost use Rattle.std.specs.Option.{option_map};
-ghost use Rattle.script_text.specs.Happenings.{call_text, answer_taken_line, next_line, none_line, post_kind, posted_line, ruled_line, settled_line, settled_text, taken_line, version_behind, version_text, written_line};
+ghost use Rattle.script_text.specs.Happenings.{call_text, gave_line, given_line, next_line, none_line, post_word, posted_line, ruled_line, settled_line, settled_text, taken_line, token_taken_line, version_behind, version_text, written_line};
 
 use crate::refusals::{push_arrow, push_ending, push_refused};
 use lang_core::{Name, NoMemory};
-use repair_messages::{Kind, Post, PostName, kind_word, spelling};
+use repair_messages::{Post, PostName, kind_word, spelling};
 use request_names::push_id;
-use service_events::{AnswerRefused, PostRefused, Posted, TakeRefused};
+use service_events::{AnswerRefused, GiveRefused, PostRefused, Posted, TakeRefused};
 
-fn post_kind(post: &Post) -> Kind
-    ensures { result ≡ post_kind post.now }
+fn post_word(post: &Post) -> &'static str
+    ensures { result.now ≡ post_word post.now }
 {
     match post {
-        Post::Set(set) => spelling(set),
-        Post::Answer(_) => Kind::ReplaceResponse,
+        Post::Set(set) => kind_word(spelling(set)),
+        Post::Token(_) => "token",
+        Post::Fetch(_) => "fetch",
     }
 }
 
@@ -23,7 +24,8 @@ fn push_call(text: &mut String, post: &Post) -> Result<(), NoMemory>
 {
     match post {
         Post::Set(set) => push_id(text, &set.caller, set.number),
-        Post::Answer(answer) => push_id(text, &answer.caller, answer.number),
+        Post::Token(token) => push_id(text, &token.caller, token.number),
+        Post::Fetch(fetch) => push_id(text, &fetch.caller, fetch.number),
     }
 }
 
@@ -35,8 +37,12 @@ fn push_version_behind(text: &mut String, post: &Post) -> Result<(), NoMemory>
             let version = set.version;
             write!(text, " v{version}")?;
         }
-        Post::Answer(answer) => {
-            let version = answer.answer_version;
+        Post::Token(token) => {
+            let version = token.answer_version;
+            write!(text, " a{version}")?;
+        }
+        Post::Fetch(fetch) => {
+            let version = fetch.answer_version;
             write!(text, " a{version}")?;
         }
     }
@@ -61,8 +67,8 @@ fn push_written(
 {
     text.push_str(service.as_str())?;
     push_arrow(text, packet)?;
-    let kind = kind_word(post_kind(post));
-    write!(text, " {kind} ")?;
+    let word = post_word(post);
+    write!(text, " {word} ")?;
     push_version(text, post)?;
     text.push_str("\n")?;
     Ok(())
@@ -130,6 +136,14 @@ fn push_settled(text: &mut String, posted: Posted, post: &Post) -> Result<(), No
             text.push_str(" confirmed ")?;
             push_version(text, post)
         }
+        Posted::Saw => {
+            text.push_str(" saw ")?;
+            push_version(text, post)
+        }
+        Posted::Knew => {
+            text.push_str(" knew ")?;
+            push_version(text, post)
+        }
         Posted::Held => {
             text.push_str(" held ")?;
             push_call(text, post)
@@ -174,8 +188,8 @@ pub fn push_taken(
     }
 }
 
-/// Puts the line of an answer last that came.
-pub fn push_answer_taken(
+/// Puts the line of a token last that came.
+pub fn push_token_taken(
     text: &mut String,
     service: &Name,
     post: Option<&Post>,
@@ -183,10 +197,43 @@ pub fn push_answer_taken(
     packet: Option<u64>,
 ) -> Result<(), NoMemory>
     ensures { OnOk result (string_bytes text.new ≡ string_bytes text.old
-        ++ answer_taken_line service.now (option_map (λ p. p.now) post.entry) heard packet) }
+        ++ token_taken_line service.now (option_map (λ p. p.now) post.entry) heard packet) }
 {
     match (heard, post) {
-        (Ok(rule), Some(post)) => push_ruled(text, service, "saw", rule, post, packet),
+        (Ok(rule), Some(post)) => push_ruled(text, service, "noted", rule, post, packet),
+        (Ok(_), None) => Ok(()),
+        (Err(why), _) => push_refused(text, service, why.refusal(), packet),
+    }
+}
+
+fn push_gave(
+    text: &mut String,
+    service: &Name,
+    post: &Post,
+    packet: Option<u64>,
+) -> Result<(), NoMemory>
+    ensures { OnOk result (string_bytes text.new ≡ string_bytes text.old
+        ++ gave_line service.now post.now packet) }
+{
+    let service = service.as_str();
+    write!(text, "{service} gave ")?;
+    push_version(text, post)?;
+    push_ending(text, packet)
+}
+
+/// Puts the line of a fetch last that came.
+pub fn push_given(
+    text: &mut String,
+    service: &Name,
+    post: Option<&Post>,
+    given: Result<u64, GiveRefused>,
+    packet: Option<u64>,
+) -> Result<(), NoMemory>
+    ensures { OnOk result (string_bytes text.new ≡ string_bytes text.old
+        ++ given_line service.now (option_map (λ p. p.now) post.entry) given packet) }
+{
+    match (given, post) {
+        (Ok(_), Some(post)) => push_gave(text, service, post, packet),
         (Ok(_), None) => Ok(()),
         (Err(why), _) => push_refused(text, service, why.refusal(), packet),
     }
