@@ -10,9 +10,10 @@ use Rattle.request_log.specs.declared.entry.Entry.{Entry}
 use Rattle.flights.specs.declared.flight.Flight.{Flight}
 use Rattle.journal_rows.specs.declared.row.Row.{Row}
 use Rattle.journal_rows.specs.declared.verdict.Outstanding.{Outstanding}
-use Rattle.journal_rows.specs.declared.verdict.Outstanding.TheVariants.{Flight as OfFlight, Stale as OfEntry, Call as OfCall, Answer as OfAnswer}
+use Rattle.journal_rows.specs.declared.verdict.Outstanding.TheVariants.{Flight as OfFlight, Stale as OfEntry, Call as OfCall, Fetch as OfFetch, Answer as OfAnswer}
 use Rattle.journal_rows.specs.declared.verdict.Verdict.{Verdict}
 use Rattle.journal_rows.specs.declared.verdict.Verdict.TheVariants.{Legal, Forged, Unsettled}
+use Rattle.call_registers.specs.Registers.{owes_fetch}
 use Rattle.call_registers.specs.declared.register.Register.{Register}
 use Rattle.call_registers.specs.declared.reply.Reply.{Reply}
 use Rattle.report_text.specs.Reports.{IsVerdictOver}
@@ -21,9 +22,9 @@ use Rattle.world_agreement.specs.Partners.{HasPartner, IsJoined}
 use Rattle.world_agreement.specs.Quiet.{IsQuiet, AreQuiet}
 use Rattle.world_audit.specs.First.{IsFirstWithout}
 use Rattle.world_audit.specs.Conditions.{is_partnered}
-use Rattle.world_audit.specs.Verdicts.{IsAcknowledged, IsFirstIn, IsFirstOf, IsForged, IsGiven, IsJoinedIn, IsUnsettled, IsVerdict, NoneIn, NoneOf, what_is}
+use Rattle.world_audit.specs.Verdicts.{IsAcknowledged, IsFetched, IsFirstIn, IsFirstOf, IsForged, IsGiven, IsJoinedIn, IsUnsettled, IsVerdict, NoneIn, NoneOf, what_is}
 use Rattle.world_audit.specs.declared.outstanding.OutstandingKind.{OutstandingKind}
-use Rattle.world_audit.specs.declared.outstanding.OutstandingKind.TheVariants.{Flights, Entries, Calls, Answers}
+use Rattle.world_audit.specs.declared.outstanding.OutstandingKind.TheVariants.{Flights, Entries, Calls, Fetches, Answers}
 use Rattle.world_audit.proofs.PartnerLemmas.{partner_exactly}
 use Rattle.script_run.specs.Audits.{alone, first_found, forged_or, found_or, left_of, unless, unsettled_of, unsettled_or, verdict}
 
@@ -82,6 +83,18 @@ open_found n r is = elim (cases_Bool (nat_eq r.acked r.version)) [
   | inr other ↦ ap (λ b. unless b r.number) other ∙ ap Some is.1
 ]
 
+abbrev IsOwed : ℕ → Register → Type 0
+IsOwed n r = (¬ (IsFetched r)) × (r.number ≡ n)
+
+fetched : (r : Register) → IsFetched r → (if owes_fetch r then Some r.number else None) ≡ None
+fetched r is = ap (λ b. if b then Some r.number else None) is
+
+owed_found : (n : ℕ) (r : Register) → IsOwed n r → (if owes_fetch r then Some r.number else None) ≡ Some n
+owed_found n r is = elim (cases_Bool (owes_fetch r)) [
+  | inl owes ↦ ap (λ b. if b then Some r.number else None) owes ∙ ap Some is.1
+  | inr other ↦ absurd (is.0 other)
+]
+
 abbrev IsDue : ℕ → Reply → Type 0
 IsDue n p = (¬ (IsGiven p)) × (p.id ≡ n)
 
@@ -99,6 +112,8 @@ none_left Flights s done = ap (λ (fs : List Flight). option_map (λ f. f.id) (s
 none_left Entries s done = sym (stale_id_none (answers s) s.entries done)
 none_left Calls s done =
     ap (option_map (λ f. f.1)) (none_found IsAcknowledged (λ r. unless (nat_eq r.acked r.version) r.number) acknowledged s.registers 0 done)
+none_left Fetches s done =
+    ap (option_map (λ f. f.1)) (none_found IsFetched (λ r. if owes_fetch r then Some r.number else None) fetched s.registers 0 done)
 none_left Answers s done =
     ap (option_map (λ f. f.1)) (none_found IsGiven (λ p. if p.due then Some p.id else None) given s.replies 0 done)
 
@@ -115,6 +130,9 @@ left_at Flights s n f = flight_left s.flights n f
 left_at Entries s n f = stale_left (answers s) s.entries n f
 left_at Calls s n f =
     ap (option_map (λ f. f.1)) (one_found IsAcknowledged (IsOpen n) (λ r. unless (nat_eq r.acked r.version) r.number) n acknowledged (open_found n) s.registers 0 f.place
+    (f.first).0 (f.first).1 (λ d. ((f.first).2 d, f.names d)))
+left_at Fetches s n f =
+    ap (option_map (λ f. f.1)) (one_found IsFetched (IsOwed n) (λ r. if owes_fetch r then Some r.number else None) n fetched (owed_found n) s.registers 0 f.place
     (f.first).0 (f.first).1 (λ d. ((f.first).2 d, f.names d)))
 left_at Answers s n f =
     ap (option_map (λ f. f.1)) (one_found IsGiven (IsDue n) (λ p. if p.due then Some p.id else None) n given (due_found n) s.replies 0 f.place
@@ -147,6 +165,7 @@ done_of : (kind : OutstandingKind) (s : Kept) → IsQuiet s → NoneOf kind s
 done_of Flights s q = q.landed
 done_of Entries s q = q.current
 done_of Calls s q = q.acknowledged
+done_of Fetches s q = q.fetched
 done_of Answers s q = q.given
 
 pass : (kind : OutstandingKind) (services : List Kept) (v : Verdict) → NoneIn kind services → unsettled_of kind services v ≡ v
@@ -159,8 +178,11 @@ module _ (services : List Kept) where
   abbrev from_answers : Verdict
   from_answers = unsettled_of Answers services Legal
 
+  abbrev from_fetches : Verdict
+  from_fetches = unsettled_of Fetches services from_answers
+
   abbrev from_calls : Verdict
-  from_calls = unsettled_of Calls services from_answers
+  from_calls = unsettled_of Calls services from_fetches
 
   abbrev from_entries : Verdict
   from_entries = unsettled_of Entries services from_calls
@@ -169,15 +191,19 @@ module _ (services : List Kept) where
   unsettled_is at (OfFlight n) u = stop Flights services from_entries at n u.first
   unsettled_is at (OfEntry n) u = pass Flights services from_entries u.earlier ∙ stop Entries services from_calls at n u.first
   unsettled_is at (OfCall n) u =
-      pass Flights services from_entries (u.earlier).0 ∙ pass Entries services from_calls (u.earlier).1 ∙ stop Calls services from_answers at n u.first
+      pass Flights services from_entries (u.earlier).0 ∙ pass Entries services from_calls (u.earlier).1 ∙ stop Calls services from_fetches at n u.first
+  unsettled_is at (OfFetch n) u =
+      pass Flights services from_entries (u.earlier).0 ∙ pass Entries services from_calls (u.earlier).1 ∙ pass Calls services from_fetches (u.earlier).2
+      ∙ stop Fetches services from_answers at n u.first
   unsettled_is at (OfAnswer n) u =
-      pass Flights services from_entries (u.earlier).0 ∙ pass Entries services from_calls (u.earlier).1 ∙ pass Calls services from_answers (u.earlier).2
-      ∙ stop Answers services Legal at n u.first
+      pass Flights services from_entries (u.earlier).0 ∙ pass Entries services from_calls (u.earlier).1 ∙ pass Calls services from_fetches (u.earlier).2
+      ∙ pass Fetches services from_answers (u.earlier).3 ∙ stop Answers services Legal at n u.first
 
   quiet_is : AreQuiet services → unsettled_of Flights services from_entries ≡ Legal
   quiet_is quiet =
       pass Flights services from_entries (λ k d l. done_of Flights _ (quiet k d l)) ∙ pass Entries services from_calls (λ k d l. done_of Entries _ (quiet k d l))
-      ∙ pass Calls services from_answers (λ k d l. done_of Calls _ (quiet k d l)) ∙ pass Answers services Legal (λ k d l. done_of Answers _ (quiet k d l))
+      ∙ pass Calls services from_fetches (λ k d l. done_of Calls _ (quiet k d l)) ∙ pass Fetches services from_answers (λ k d l. done_of Fetches _ (quiet k d l))
+      ∙ pass Answers services Legal (λ k d l. done_of Answers _ (quiet k d l))
 
   joined_is : IsJoined services → verdict services ≡ unsettled_of Flights services from_entries
   joined_is joined = ap (λ o. forged_or o (unsettled_of Flights services from_entries)) (none_forged services joined)

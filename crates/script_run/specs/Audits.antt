@@ -3,12 +3,13 @@ use Rattle.std.specs.Prelude.{ℕ, ◌+◌, Bool, List, [], ◌∷◌, Option, S
 use Rattle.local_repair.specs.Repairs.{stale_id}
 use Rattle.journal_rows.specs.declared.verdict.Verdict.{Verdict}
 use Rattle.journal_rows.specs.declared.verdict.Verdict.TheVariants.{Legal, Forged, Unsettled}
+use Rattle.call_registers.specs.Registers.{owes_fetch}
 use Rattle.service_events.specs.State.{Kept, answers, base}
 use Rattle.world_audit.specs.Conditions.{is_partnered}
 pub use Rattle.world_audit.specs.Verdicts.{SaysForged}
 use Rattle.world_audit.specs.Verdicts.{what_is}
 use Rattle.world_audit.specs.declared.outstanding.OutstandingKind.{OutstandingKind}
-use Rattle.world_audit.specs.declared.outstanding.OutstandingKind.TheVariants.{Flights, Entries, Calls, Answers}
+use Rattle.world_audit.specs.declared.outstanding.OutstandingKind.TheVariants.{Flights, Entries, Calls, Fetches, Answers}
 
 -- what is found at this place, else what is found later
 abbrev pub found_or : ℕ → Option ℕ → Option (ℕ × ℕ) → Option (ℕ × ℕ)
@@ -33,6 +34,7 @@ abbrev pub left_of : OutstandingKind → Kept → Option ℕ
 left_of Flights s = option_map (λ f. f.id) (slice_get s.flights 0)
 left_of Entries s = stale_id (answers s) (base s) s.entries
 left_of Calls s = option_map (λ f. f.1) (first_found (λ r. unless (nat_eq r.acked r.version) r.number) 0 s.registers)
+left_of Fetches s = option_map (λ f. f.1) (first_found (λ r. if owes_fetch r then Some r.number else None) 0 s.registers)
 left_of Answers s = option_map (λ f. f.1) (first_found (λ p. if p.due then Some p.id else None) 0 s.replies)
 
 abbrev pub forged_or : Option (ℕ × ℕ) → Verdict → Verdict
@@ -50,4 +52,5 @@ unsettled_of kind services v = unsettled_or kind (first_found (left_of kind) 0 s
 abbrev pub verdict : List Kept → Verdict
 verdict services =
     forged_or (first_found (alone services) 0 services)
-    (unsettled_of Flights services (unsettled_of Entries services (unsettled_of Calls services (unsettled_of Answers services Legal))))
+    (unsettled_of Flights services
+    (unsettled_of Entries services (unsettled_of Calls services (unsettled_of Fetches services (unsettled_of Answers services Legal)))))
