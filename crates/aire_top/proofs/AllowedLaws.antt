@@ -1,5 +1,5 @@
 -- That repairs were allowed is shown in one way alone, so that it follows where no more than that it follows is known.
-use Rattle.std.proofs.Common.{◌≡◌, ℕ, Bool, true, false, List, [], ◌∷◌, ◌++◌, Option, Some, None, All, refl, slice_index_or}
+use Rattle.std.proofs.Common.{◌≡◌, ℕ, Bool, true, false, List, [], ◌∷◌, ◌++◌, Option, Some, None, IsSomeAnd, All, refl, slice_index_or}
 use Rattle.std.proofs.Math.Logic.{∥∥₁_elim}
 use Rattle.std.specs.Coded.{Coded, Coded-set, Unit-prop, ×_prop, Π_prop, →_prop, code_by, coded×, coded_bool, coded_ℕ}
 use Rattle.authorise_rules.specs.Deciding.{Question, decision}
@@ -9,9 +9,9 @@ use Rattle.authorise_rules.specs.declared.rule.Rule.{Rule}
 use Rattle.journal_rows.specs.declared.callee.TookHow.{TookHow}
 use Rattle.journal_rows.specs.declared.callee.TookHow.TheVariants.{Live, Message}
 use Rattle.journal_rows.specs.declared.caller.SawHow.{SawHow}
-use Rattle.journal_rows.specs.declared.caller.SawHow.TheVariants.{Live as SeenLive, Message as SeenMessage}
+use Rattle.journal_rows.specs.declared.caller.SawHow.TheVariants.{Live as SeenLive, Fetch as Fetched}
 use Rattle.journal_rows.specs.declared.row.Row.{Row}
-use Rattle.journal_rows.specs.declared.row.Row.TheVariants.{Asked, Took, Acked, Answered, WasConfirmed, Sent, SawAck, SawAnswer, Confirmed, Ordered}
+use Rattle.journal_rows.specs.declared.row.Row.TheVariants.{Asked, Took, Acked, Answered, WasConfirmed, Sent, SawAck, Noted, SawAnswer, Confirmed, Ordered}
 use Rattle.service_events.specs.Allowed.{AllowedOn, Allows, AllowsSeen, AllowsTook, IsAllowed}
 use Rattle.service_events.specs.Fits.{EachAfter}
 use Rattle.service_events.specs.State.{Kept}
@@ -42,10 +42,13 @@ took_prop : (how : TookHow) (rules : List Rule) (q : Question) (rule : ℕ) → 
 took_prop Live rules q rule = Coded-set coded_ℕ rule 0
 took_prop Message rules q rule = allows_prop rules q rule
 
-seen_prop : (how : SawHow) (rules : List Rule) (asked : Option Question) (rule : ℕ) → IsProp (AllowsSeen how rules asked rule)
-seen_prop SeenLive rules asked rule = Coded-set coded_ℕ rule 0
-seen_prop SeenMessage rules None rule = λ x y. absurd x
-seen_prop SeenMessage rules (Some q) rule = allows_prop rules q rule
+noted_prop : (rules : List Rule) (asked : Option Question) (rule : ℕ) → IsProp (IsSomeAnd asked (λ q. Allows rules q rule))
+noted_prop rules None rule = λ x y. absurd x
+noted_prop rules (Some q) rule = allows_prop rules q rule
+
+seen_prop : (how : SawHow) (rule : ℕ) → IsProp (AllowsSeen how rule)
+seen_prop SeenLive rule = Coded-set coded_ℕ rule 0
+seen_prop Fetched rule = Unit-prop
 
 row_prop : (rules : List Rule) (before : List Row) (row : Row) → IsProp (AllowedOn rules before row)
 row_prop rules before (Asked a) = Unit-prop
@@ -55,7 +58,8 @@ row_prop rules before (Answered a) = Unit-prop
 row_prop rules before (WasConfirmed c) = Unit-prop
 row_prop rules before (Sent s) = Unit-prop
 row_prop rules before (SawAck a) = Unit-prop
-row_prop rules before (SawAnswer a) = seen_prop a.how rules _ a.rule
+row_prop rules before (Noted n) = noted_prop rules _ n.rule
+row_prop rules before (SawAnswer a) = seen_prop a.how a.rule
 row_prop rules before (Confirmed c) = Unit-prop
 row_prop rules before (Ordered o) = allows_prop rules _ o.rule
 
