@@ -16,8 +16,9 @@ use Rattle.http_front.specs.Table.{spelling}
 use Rattle.http_front.specs.declared.header.AireHeader.{AireHeader}
 use Rattle.http_front.specs.declared.header.AireHeader.TheVariants as headers
 use Rattle.peer_seal.specs.Seal.{seal_digits}
-use Rattle.repair_messages.specs.declared.messages.AnswerMessage.{AnswerMessage}
+use Rattle.repair_messages.specs.declared.messages.Fetch.{Fetch}
 use Rattle.repair_messages.specs.declared.messages.SetMessage.{SetMessage}
+use Rattle.repair_messages.specs.declared.messages.TokenMessage.{TokenMessage}
 use Rattle.request_names.specs.Ids.{id_text}
 use Rattle.request_names.specs.Ids.{id_of}
 use Rattle.wire_fields.specs.Forms.{has_form}
@@ -123,20 +124,15 @@ pub same_set : (s : SetMessage) (caller dest : List ℕ) (number version : ℕ) 
     → record { caller = caller; dest = dest; number = number; version = version; desired = desired; before = before; after = after; who = who } ≡ s
 same_set s caller dest number version desired before after who a b c d e f g h = rw (a, b, c, d, e, f, g, h) refl
 
-pub same_answer : (a : AnswerMessage) (caller callee : List ℕ) (id number answer_version version : ℕ) (status : ℕ) (body who : List ℕ)
-    → caller ≡ a.caller → callee ≡ a.callee → id ≡ a.id → number ≡ a.number → answer_version ≡ a.answer_version → version ≡ a.version
-    → status ≡ a.response.status → body ≡ a.response.body → who ≡ a.who
-    → record {
-      caller = caller;
-      callee = callee;
-      id = id;
-      number = number;
-      answer_version = answer_version;
-      version = version;
-      response = record { status = status; body = body };
-      who = who;
-    } ≡ a
-same_answer a caller callee id number answer_version version status body who h1 h2 h3 h4 h5 h6 h7 h8 h9 = rw (h1, h2, h3, h4, h5, h6, h7, h8, h9) refl
+pub same_token : (t : TokenMessage) (caller callee : List ℕ) (id number answer_version : ℕ) (who : List ℕ)
+    → caller ≡ t.caller → callee ≡ t.callee → id ≡ t.id → number ≡ t.number → answer_version ≡ t.answer_version → who ≡ t.who
+    → record { caller = caller; callee = callee; id = id; number = number; answer_version = answer_version; who = who } ≡ t
+same_token t caller callee id number answer_version who a b c d e f = rw (a, b, c, d, e, f) refl
+
+pub same_fetch : (f : Fetch) (caller callee : List ℕ) (number answer_version : ℕ)
+    → caller ≡ f.caller → callee ≡ f.callee → number ≡ f.number → answer_version ≡ f.answer_version
+    → record { caller = caller; callee = callee; number = number; answer_version = answer_version } ≡ f
+same_fetch f caller callee number answer_version a b c d = rw (a, b, c, d) refl
 
 -- what holds of the one value holds of a result that is it
 pub of_result : {X E : Type 0} (r : Result X E) (x : X) (P : X → Type 0) → IfOk r (λ y. y ≡ x) → P x → IfOk r P
@@ -167,7 +163,7 @@ neighbour_back head header None holds small = rw holds refl
 neighbour_back head header (Some n) holds small =
     ap number_of (text_read head header (decimal n) holds (decimal_utf8 n (small n refl))) ∙ number_back n (small n refl)
 
--- the word of a response message
+-- the word of a token
 pub replaces_response : (head : Entries FieldValue) → text_at head headers.Repair ≡ codes "replace_response" → bad_unless headers.Repair (says_replace_response head) ≡ None
 unfolding says_replace_response
 replaces_response head is = good_where_expected headers.Repair (text_at head headers.Repair) (codes "replace_response") is

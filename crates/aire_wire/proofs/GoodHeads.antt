@@ -10,10 +10,10 @@ use Rattle.http_front.specs.declared.header.AireHeader.TheVariants as headers
 use Rattle.http_front.specs.declared.message.WireRequest.{WireRequest}
 use Rattle.wire_fields.specs.Fits.{AreNamed, IsChained}
 use Rattle.wire_fields.specs.Forms.{is_chain}
-use Rattle.wire_fields.specs.Rows.{answer_headers, call_headers, first_refusal, set_headers}
+use Rattle.wire_fields.specs.Rows.{call_headers, fetch_headers, first_refusal, set_headers, token_headers}
 use Rattle.wire_fields.specs.Secrets.{Secrets}
 use Rattle.wire_fields.proofs.FormLemmas.{good_last, named_first, neither}
-use Rattle.aire_wire.specs.Incoming.{answer_refusal, call_refusal, desired_refusal, is_deletion, set_refusal}
+use Rattle.aire_wire.specs.Incoming.{call_refusal, desired_refusal, fetch_refusal, is_deletion, set_refusal, token_refusal}
 
 pub call_is_good : (me : List ℕ) (peers : Secrets) (request : WireRequest) → call_refusal me peers request ≡ None → AreNamed request.head × IsChained request.head
 call_is_good me peers request none =
@@ -36,10 +36,15 @@ set_is_good me peers request none =
       chained head (is_deletion head) (neither (desired_refusal (is_deletion head) head) _ fields.1).0,
     )
 
-pub answer_is_good : (me : List ℕ) (peers : Secrets) (request : WireRequest) → answer_refusal me peers request ≡ None → AreNamed request.head
-answer_is_good me peers request none =
-    let others = headers.RequestId ∷ headers.ResponseId ∷ headers.Repair ∷ headers.Version ∷ headers.AnswerVersion ∷ headers.Who ∷ headers.Status ∷ [] in
-    named_first request.head others (neither (first_refusal request.head true answer_headers) _ (neither _ _ none).0).0
+pub token_is_good : (me : List ℕ) (peers : Secrets) (request : WireRequest) → token_refusal me peers request ≡ None → AreNamed request.head
+token_is_good me peers request none =
+    let others = headers.RequestId ∷ headers.ResponseId ∷ headers.Repair ∷ headers.AnswerVersion ∷ headers.Who ∷ [] in
+    named_first request.head others (neither (first_refusal request.head true token_headers) _ (neither _ _ none).0).0
+
+pub fetch_is_good : (me : List ℕ) (peers : Secrets) (request : WireRequest) → fetch_refusal me peers request ≡ None → AreNamed request.head
+fetch_is_good me peers request none =
+    let others = headers.ResponseId ∷ headers.AnswerVersion ∷ [] in
+    named_first request.head others (neither (first_refusal request.head true fetch_headers) _ (neither _ _ none).0).0
 
 -- the pieces of a chain are names
 pub all_names : {X : Type 0} (text : X → List ℕ) (pieces : List X) (chain : List ℕ) → map text pieces ≡ slice_split (λ b. b == 44) chain → IsTrue (is_chain chain)

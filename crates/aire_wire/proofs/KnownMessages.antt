@@ -21,7 +21,7 @@ use Rattle.wire_fields.specs.Fits.{bad_unless, lacks_memory, number_in, service_
 use Rattle.wire_fields.specs.Forms.{has_form}
 use Rattle.wire_fields.specs.Kinds.{console_word, handled_kind, own_kind, request_kind}
 use Rattle.wire_fields.specs.Named.{value_of}
-use Rattle.wire_fields.specs.Rows.{answer_headers, call_headers, console_headers, desired_headers, field_refusal, first_refusal, is_spelt, neighbour_headers, seal_header, set_headers, text_at, text_or_none, values_refusal}
+use Rattle.wire_fields.specs.Rows.{call_headers, console_headers, desired_headers, fetch_headers, field_refusal, first_refusal, is_spelt, neighbour_headers, seal_header, set_headers, text_at, text_or_none, token_headers, values_refusal}
 use Rattle.wire_fields.specs.Secrets.{Secrets}
 use Rattle.wire_fields.specs.declared.console.ConsoleWord.{ConsoleWord}
 use Rattle.wire_fields.specs.declared.kinds.RequestKind.{RequestKind}
@@ -29,12 +29,12 @@ use Rattle.wire_fields.specs.declared.kinds.RequestKind.TheVariants as kinds
 use Rattle.wire_fields.specs.declared.refused.WireRefused.{WireRefused}
 use Rattle.wire_fields.specs.declared.refused.WireRefused.TheVariants.{BadHeader, Seal}
 use Rattle.wire_fields.proofs.FormLemmas.{good_last, neither}
-use Rattle.aire_wire.specs.Incoming.{answer_head_refusal, answer_message, answer_refusal, answer_sides, call_head_refusal, call_message, call_refusal, call_request, console_head_refusal, console_refusal, console_request, console_seal_refusal, desired_in, desired_refusal, ends_with_name, incoming, incoming_as, is_deletion, outside_refusal, outside_request, seal_refusal, sealed_by, sealed_bytes, set_fields, set_head_refusal, set_message, set_refusal, set_request, unless_refused, who_or_anyone}
-use Rattle.aire_wire.specs.Known.{IsAnswerMessage, IsConsoleRequest, IsKnown, IsLiveCall, IsOutside, IsSealedBy, IsSetMessage}
+use Rattle.aire_wire.specs.Incoming.{call_head_refusal, call_message, call_refusal, call_request, console_head_refusal, console_refusal, console_request, console_seal_refusal, desired_in, desired_refusal, ends_with_name, fetch_head_refusal, fetch_message, fetch_refusal, fetch_sides, incoming, incoming_as, is_deletion, outside_refusal, outside_request, seal_refusal, sealed_by, sealed_bytes, set_fields, set_head_refusal, set_message, set_refusal, set_request, token_head_refusal, token_message, token_refusal, token_sides, unless_refused, who_or_anyone}
+use Rattle.aire_wire.specs.Known.{IsConsoleRequest, IsFetchMessage, IsKnown, IsLiveCall, IsOutside, IsSealedBy, IsSetMessage, IsTokenMessage}
 use Rattle.aire_wire.specs.ReadBack.{IsCalled, IsFromOne, IsNumber}
 use Rattle.aire_wire.specs.declared.incoming.Incoming.{Incoming}
-use Rattle.aire_wire.specs.declared.incoming.Incoming.TheVariants.{Outside, Live, Set, Answer, Console}
-use Rattle.aire_wire.proofs.ReadFacts.{fitted, id_from_one, last_name, number_small, same, some_names, status_small, version_small}
+use Rattle.aire_wire.specs.declared.incoming.Incoming.TheVariants.{Outside, Live, Set, Token, Fetch, Console}
+use Rattle.aire_wire.proofs.ReadFacts.{fitted, id_from_one, last_name, number_small, same, some_names, version_small}
 
 -- ---- fields
 
@@ -89,22 +89,25 @@ IsOwn None = Unit {0}
 IsOwn (Some kinds.Outside) = ⊥
 IsOwn (Some kinds.Call) = ⊥
 IsOwn (Some kinds.Set) = Unit {0}
-IsOwn (Some kinds.Answer) = Unit {0}
+IsOwn (Some kinds.Token) = Unit {0}
+IsOwn (Some kinds.Fetch) = Unit {0}
 IsOwn (Some (kinds.Console word)) = Unit {0}
 
-posted : (set answer console : Bool) (word : Option ConsoleWord)
-    → IsOwn (cond set (Some kinds.Set) (cond answer (Some kinds.Answer) (cond console (option_map kinds.Console word) None)))
-posted true answer console word = tt
-posted false true console word = tt
-posted false false true None = tt
-posted false false true (Some word) = tt
-posted false false false word = tt
+posted : (set token fetch console : Bool) (word : Option ConsoleWord)
+    → IsOwn (cond set (Some kinds.Set) (cond token (Some kinds.Token) (cond fetch (Some kinds.Fetch) (cond console (option_map kinds.Console word) None))))
+posted true token fetch console word = tt
+posted false true fetch console word = tt
+posted false false true console word = tt
+posted false false false true None = tt
+posted false false false true (Some word) = tt
+posted false false false false word = tt
 
 own : (method : Method) (path : List ℕ) → IsOwn (own_kind method path)
 own methods.Get path = tt
 own methods.Put path = tt
 own methods.Post path =
-    posted (same_text path (codes "/aire/repair")) (same_text path (codes "/aire/response")) (starts_with nat_eq path (codes "/aire/console/")) (console_word (drop 14 path))
+    posted (same_text path (codes "/aire/repair")) (same_text path (codes "/aire/notify")) (same_text path (codes "/aire/fetch"))
+    (starts_with nat_eq path (codes "/aire/console/")) (console_word (drop 14 path))
 own methods.Delete path = tt
 
 handled_by : (below : Bool) (mine : Option RequestKind) (other kind : RequestKind) → IsOwn mine → cond below mine (Some other) ≡ Some kind → (IsOwn (Some kind) → ⊥) → below ≡ false
@@ -241,37 +244,59 @@ set_known me peers request none =
       };
     }
 
--- ---- response messages
+-- ---- tokens
 
-answer_known : (me : List ℕ) (peers : Secrets) (request : WireRequest) → answer_refusal me peers request ≡ None → IsAnswerMessage me peers request (answer_message request)
-answer_known me peers request none =
+token_known : (me : List ℕ) (peers : Secrets) (request : WireRequest) → token_refusal me peers request ≡ None → IsTokenMessage me peers request (token_message request)
+token_known me peers request none =
     let head = request.head in
     let text = text_at head in
-    let both = neither (answer_head_refusal me head) (seal_refusal peers request answer_headers) none in
-    let fields = neither (first_refusal head true answer_headers) _ both.0 in
-    let sealing = neither (first_refusal head true seal_header) (answer_sides me head) fields.1 in
+    let both = neither (token_head_refusal me head) (seal_refusal peers request token_headers) none in
+    let fields = neither (first_refusal head true token_headers) _ both.0 in
+    let sealing = neither (first_refusal head true seal_header) (token_sides me head) fields.1 in
     let dest = neither (bad_unless headers.Dest (same_text (text headers.Dest) me)) _ sealing.1 in
-    let all : Good head answer_headers = record { none = fields.0 } in
+    let all : Good head token_headers = record { none = fields.0 } in
     let from_good = first_good head headers.From all in
     let dest_good = first_good head headers.Dest from_good.1 in
     let id_good = first_good head headers.RequestId dest_good.1 in
     let call_good = first_good head headers.ResponseId id_good.1 in
     let repair_good = first_good head headers.Repair call_good.1 in
-    let version_good = first_good head headers.Version repair_good.1 in
-    let answer_good = first_good head headers.AnswerVersion version_good.1 in
+    let answer_good = first_good head headers.AnswerVersion repair_good.1 in
     let who_good = first_good head headers.Who answer_good.1 in
     record {
-      sealed = sealed_well peers request answer_headers both.1;
+      sealed = sealed_well peers request token_headers both.1;
       caller = same (text headers.Dest) me (fitted headers.Dest _ dest.0);
-      answered = record {
+      formed = record {
         caller = dest_good.0;
         callee = from_good.0;
         who = who_good.0;
         id = id_from_one (text headers.RequestId) id_good.0;
         number = id_from_one (text headers.ResponseId) call_good.0;
-        version = version_small (text headers.Version);
         answer_version = version_small (text headers.AnswerVersion);
-        status = status_small (text headers.Status);
+      };
+    }
+
+-- ---- fetches
+
+fetch_known : (me : List ℕ) (peers : Secrets) (request : WireRequest) → fetch_refusal me peers request ≡ None → IsFetchMessage me peers request (fetch_message request)
+fetch_known me peers request none =
+    let head = request.head in
+    let text = text_at head in
+    let both = neither (fetch_head_refusal me head) (seal_refusal peers request fetch_headers) none in
+    let fields = neither (first_refusal head true fetch_headers) _ both.0 in
+    let sealing = neither (first_refusal head true seal_header) (fetch_sides me head) fields.1 in
+    let dest = neither (bad_unless headers.Dest (same_text (text headers.Dest) me)) _ sealing.1 in
+    let all : Good head fetch_headers = record { none = fields.0 } in
+    let from_good = first_good head headers.From all in
+    let dest_good = first_good head headers.Dest from_good.1 in
+    let call_good = first_good head headers.ResponseId dest_good.1 in
+    record {
+      sealed = sealed_well peers request fetch_headers both.1;
+      callee = same (text headers.Dest) me (fitted headers.Dest _ dest.0);
+      formed = record {
+        caller = from_good.0;
+        callee = dest_good.0;
+        number = id_from_one (text headers.ResponseId) call_good.0;
+        answer_version = version_small (text headers.AnswerVersion);
       };
     }
 
@@ -318,8 +343,10 @@ of_kind me peers console request message (Some kinds.Call) kind is =
     (λ none. call_known me peers request none (handled request kinds.Call kind (λ never. never))) is
 of_kind me peers console request message (Some kinds.Set) kind is =
     of_message me peers console request (set_refusal me peers request) (Set (set_message request)) message (set_known me peers request) is
-of_kind me peers console request message (Some kinds.Answer) kind is =
-    of_message me peers console request (answer_refusal me peers request) (Answer (answer_message request)) message (answer_known me peers request) is
+of_kind me peers console request message (Some kinds.Token) kind is =
+    of_message me peers console request (token_refusal me peers request) (Token (token_message request)) message (token_known me peers request) is
+of_kind me peers console request message (Some kinds.Fetch) kind is =
+    of_message me peers console request (fetch_refusal me peers request) (Fetch (fetch_message request)) message (fetch_known me peers request) is
 of_kind me peers console request message (Some (kinds.Console word)) kind is =
     of_message me peers console request (console_refusal me console request) (Console (console_request word request)) message
     (console_known me peers console request word kind) is

@@ -17,15 +17,16 @@ use Rattle.http_front.proofs.PlainLemmas.{decimal_plain, visible_plain}
 use Rattle.repair_messages.specs.Kinds.{kind_word, spelling as message_kind}
 use Rattle.repair_messages.specs.declared.kinds.Kind.{Kind}
 use Rattle.repair_messages.specs.declared.kinds.Kind.TheVariants.{Create, Replace, Delete, ReplaceResponse, Retry}
-use Rattle.repair_messages.specs.declared.messages.AnswerMessage.{AnswerMessage}
+use Rattle.repair_messages.specs.declared.messages.Fetch.{Fetch}
 use Rattle.repair_messages.specs.declared.messages.SetMessage.{SetMessage}
+use Rattle.repair_messages.specs.declared.messages.TokenMessage.{TokenMessage}
 use Rattle.request_names.specs.Ids.{id_text}
 use Rattle.wire_fields.specs.Forms.{is_notifier}
 use Rattle.wire_fields.specs.Heads.{Field, with_field, with_fields}
 use Rattle.wire_fields.proofs.MadeHeads.{ArePlain, AreSingle, all_plain, are_single, each_single, is_plain_field, none_plain, one_plain}
 use Rattle.wire_fields.proofs.PlainForms.{id_plain, name_bytes, name_plain, notifier_plain, path_plain, seal_plain, who_plain}
-use Rattle.aire_wire.specs.ReadBack.{IsAnswered, IsCalled, IsNumber, IsSent}
-use Rattle.aire_wire.specs.Written.{answer_fields, behind_comma, call_asking, call_fields, chain_text, desired_fields, neighbour_field, set_message_fields, version_fields, written_answer, written_set}
+use Rattle.aire_wire.specs.ReadBack.{IsCalled, IsFetch, IsNumber, IsSent, IsToken}
+use Rattle.aire_wire.specs.Written.{behind_comma, call_asking, call_fields, chain_text, desired_fields, fetch_fields, neighbour_field, set_message_fields, token_fields, version_fields, written_fetch, written_set, written_token}
 use Rattle.aire_wire.proofs.ReadSets.{listed}
 
 both : (fields others : List Field) → list_all is_plain_field fields ≡ true → list_all is_plain_field others ≡ true → list_all is_plain_field (fields ++ others) ≡ true
@@ -134,24 +135,33 @@ set_single set secret =
     are_single (written_set set secret).head
     (listed_single set.caller set.dest (id_text set.caller set.number) (kind_word (message_kind set)) (decimal set.version) set.who _ set.desired set.before set.after)
 
--- ---- response messages
+-- ---- tokens
 
-status_number : (n : ℕ) → n < 2 ^ 16 → n < 2 ^ 64
-status_number n small = omega (arith, small)
-
-pub answer_plain : (answer : AnswerMessage) (secret : List ℕ) → IsAnswered answer → ArePlain (written_answer answer secret).head
-answer_plain answer secret is =
-    sealed_plain (answer_fields answer) _
-    (and_from _ _ (name_plain answer.callee is.callee)
-    (and_from _ _ (name_plain answer.caller is.caller)
-    (and_from _ _ (id_plain answer.callee answer.id is.callee is.id.1)
-    (and_from _ _ (id_plain answer.caller answer.number is.caller is.number.1)
+pub token_plain : (token : TokenMessage) (secret : List ℕ) → IsToken token → ArePlain (written_token token secret).head
+token_plain token secret is =
+    sealed_plain (token_fields token) _
+    (and_from _ _ (name_plain token.callee is.callee)
+    (and_from _ _ (name_plain token.caller is.caller)
+    (and_from _ _ (id_plain token.callee token.id is.callee is.id.1)
+    (and_from _ _ (id_plain token.caller token.number is.caller is.number.1)
     (and_from _ _ (kind_plain ReplaceResponse)
-    (and_from _ _ (decimal_plain answer.version is.version)
-    (and_from _ _ (decimal_plain answer.answer_version is.answer_version)
-    (and_from _ _ (who_plain answer.who is.who)
-    (and_from _ _ (decimal_plain answer.response.status (status_number answer.response.status is.status)) refl)))))))))
+    (and_from _ _ (decimal_plain token.answer_version is.answer_version)
+    (and_from _ _ (who_plain token.who is.who) refl)))))))
     (seal_plain secret _)
 
-pub answer_single : (answer : AnswerMessage) (secret : List ℕ) → AreSingle (written_answer answer secret).head
-answer_single answer secret = are_single (written_answer answer secret).head refl
+pub token_single : (token : TokenMessage) (secret : List ℕ) → AreSingle (written_token token secret).head
+token_single token secret = are_single (written_token token secret).head refl
+
+-- ---- fetches
+
+pub fetch_plain : (fetch : Fetch) (secret : List ℕ) → IsFetch fetch → ArePlain (written_fetch fetch secret).head
+fetch_plain fetch secret is =
+    sealed_plain (fetch_fields fetch) _
+    (and_from _ _ (name_plain fetch.caller is.caller)
+    (and_from _ _ (name_plain fetch.callee is.callee)
+    (and_from _ _ (id_plain fetch.caller fetch.number is.caller is.number.1)
+    (and_from _ _ (decimal_plain fetch.answer_version is.answer_version) refl))))
+    (seal_plain secret _)
+
+pub fetch_single : (fetch : Fetch) (secret : List ℕ) → AreSingle (written_fetch fetch secret).head
+fetch_single fetch secret = are_single (written_fetch fetch secret).head refl

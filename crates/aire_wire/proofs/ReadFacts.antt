@@ -1,5 +1,5 @@
 -- What texts say of which a test was passed.
-use Rattle.std.proofs.Common.{◌≡◌, ℕ, ◌-◌, ◌<◌, ◌^◌, ◌⊎◌, inl, inr, Bool, true, false, ◌&&◌, ◌||◌, cond, List, [], ◌∷◌, ◌++◌, Option, Some, None, Result, Ok, Err, length, take, drop, codes, nat_eq, nat_le, nat_lt, ◌==◌, refl, sym, ap, ◌∙◌, arith, append_assoc}
+use Rattle.std.proofs.Common.{◌≡◌, ℕ, ◌-◌, ◌<◌, ◌^◌, ◌⊎◌, inl, inr, Bool, true, false, ◌&&◌, ◌||◌, cond, List, [], ◌∷◌, ◌++◌, Option, Some, None, Result, Ok, Err, length, take, drop, codes, nat_eq, nat_lt, ◌==◌, refl, sym, ap, ◌∙◌, arith, append_assoc}
 use Rattle.std.specs.List.{All, ends_with, list_all, onto_first}
 use Rattle.std.specs.Char.{is_ascii_digit}
 use Rattle.std.specs.Option.{ForSome, is_some}
@@ -19,7 +19,6 @@ use Rattle.lang_base.specs.Characters.{digits_value}
 use Rattle.request_names.specs.declared.names.NameRefused.{NameRefused}
 use Rattle.request_names.specs.declared.names.NameRefused.TheVariants.{BadNumber, Empty}
 use Rattle.wire_fields.specs.Fits.{bad_unless, number_in, number_or_zero, or_zero}
-use Rattle.wire_fields.specs.Forms.{status_in, status_of}
 use Rattle.aire_wire.specs.Incoming.{ends_with_name, is_behind_comma, names_in}
 use Rattle.aire_wire.specs.ReadBack.{IsFromOne, IsNumber}
 use Rattle.aire_wire.proofs.TextForms.{name_without_comma}
@@ -55,17 +54,6 @@ zero_small (Some n) each = each n refl
 
 pub version_small : (text : List ℕ) → or_zero (number_of text) < 2 ^ 64
 version_small text = zero_small (number_of text) (number_small text)
-
-status_by : (b : Bool) (n : ℕ) → nat_le n 65535 ≡ b → or_zero (cond b (Some n) None) < 2 ^ 16
-status_by true n fits = grind (arith, nat_tests)
-status_by false n fits = omega arith
-
-status_small_in : (o : Option ℕ) → or_zero (status_in o) < 2 ^ 16
-status_small_in None = omega arith
-status_small_in (Some n) = status_by (nat_le n 65535) n refl
-
-pub status_small : (text : List ℕ) → or_zero (status_of text) < 2 ^ 16
-status_small text = status_small_in (number_of text)
 
 -- ---- ids
 

@@ -70,7 +70,8 @@ as_tabled me peers console request None = refl
 as_tabled me peers console request (Some kinds.Outside) = refl
 as_tabled me peers console request (Some kinds.Call) = refl
 as_tabled me peers console request (Some kinds.Set) = set_same me peers request
-as_tabled me peers console request (Some kinds.Answer) = refl
+as_tabled me peers console request (Some kinds.Token) = refl
+as_tabled me peers console request (Some kinds.Fetch) = refl
 as_tabled me peers console request (Some (kinds.Console word)) = refl
 
 by_table : (me : List ℕ) (peers : Secrets) (console : List ℕ) (request : WireRequest) → incoming me peers console request ≡ incoming me peers console (tabled request)

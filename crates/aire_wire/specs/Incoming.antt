@@ -12,13 +12,13 @@ use Rattle.http_front.specs.declared.header.AireHeader.{AireHeader}
 use Rattle.http_front.specs.declared.header.AireHeader.TheVariants as headers
 use Rattle.http_front.specs.declared.message.WireRequest.{WireRequest}
 use Rattle.peer_seal.specs.Seal.{seal_digits}
-use Rattle.repair_messages.specs.declared.messages.AnswerMessage.{AnswerMessage}
+use Rattle.repair_messages.specs.declared.messages.Fetch.{Fetch as FetchMessage}
 use Rattle.repair_messages.specs.declared.messages.SetMessage.{SetMessage}
+use Rattle.repair_messages.specs.declared.messages.TokenMessage.{TokenMessage}
 use Rattle.request_names.specs.Numbers.{number_of}
-use Rattle.wire_fields.specs.Fits.{bad_unless, dest_refusal, number_in, or_zero, service_in, side_refusal, version_at}
-use Rattle.wire_fields.specs.Forms.{status_of}
+use Rattle.wire_fields.specs.Fits.{bad_unless, dest_refusal, number_in, service_in, side_refusal, version_at}
 use Rattle.wire_fields.specs.Kinds.{request_kind}
-use Rattle.wire_fields.specs.Rows.{answer_headers, call_headers, console_headers, desired_headers, first_of, first_refusal, neighbour_headers, seal_header, set_headers, text_at}
+use Rattle.wire_fields.specs.Rows.{call_headers, console_headers, desired_headers, fetch_headers, first_of, first_refusal, neighbour_headers, seal_header, set_headers, text_at, token_headers}
 use Rattle.wire_fields.specs.Sealed.{sealed_request}
 use Rattle.wire_fields.specs.Named.{value_of}
 use Rattle.wire_fields.specs.Secrets.{Secrets}
@@ -29,7 +29,7 @@ use Rattle.wire_fields.specs.declared.kinds.RequestKind.TheVariants as kinds
 use Rattle.wire_fields.specs.declared.refused.WireRefused.{WireRefused}
 use Rattle.wire_fields.specs.declared.refused.WireRefused.TheVariants.{UnknownKind, Seal}
 use Rattle.aire_wire.specs.declared.incoming.Incoming.{Incoming}
-use Rattle.aire_wire.specs.declared.incoming.Incoming.TheVariants.{Outside, Live, Set, Answer, Console}
+use Rattle.aire_wire.specs.declared.incoming.Incoming.TheVariants.{Outside, Live, Set, Token, Fetch, Console}
 
 -- ---- answers
 
@@ -168,31 +168,48 @@ set_message request =
     set_with request (desired_in (is_deletion request.head) request) (version_at request.head headers.Version)
     (number_of (text_at request.head headers.Before)) (number_of (text_at request.head headers.After))
 
--- ---- response messages
+-- ---- tokens
 
 unfoldable pub says_replace_response : Entries FieldValue → Bool
 says_replace_response head = same_text (text_at head headers.Repair) (codes "replace_response")
 
-abbrev pub answer_sides : List ℕ → Entries FieldValue → Option WireRefused
-answer_sides me head =
+abbrev pub token_sides : List ℕ → Entries FieldValue → Option WireRefused
+token_sides me head =
     first_of (dest_refusal me head)
     (first_of (bad_unless headers.Repair (says_replace_response head))
     (first_of (side_refusal head headers.RequestId headers.From) (side_refusal head headers.ResponseId headers.Dest)))
 
-abbrev pub answer_head_refusal : List ℕ → Entries FieldValue → Option WireRefused
-answer_head_refusal me head =
-    first_of (first_refusal head true answer_headers) (first_of (first_refusal head true seal_header) (answer_sides me head))
+abbrev pub token_head_refusal : List ℕ → Entries FieldValue → Option WireRefused
+token_head_refusal me head =
+    first_of (first_refusal head true token_headers) (first_of (first_refusal head true seal_header) (token_sides me head))
 
-abbrev pub answer_message : WireRequest → AnswerMessage
-answer_message request = record {
+-- the service that was called announces, and the one that called hears it
+abbrev pub token_message : WireRequest → TokenMessage
+token_message request = record {
   caller = text_at request.head headers.Dest;
   callee = text_at request.head headers.From;
   id = number_in (text_at request.head headers.RequestId);
   number = number_in (text_at request.head headers.ResponseId);
   answer_version = version_at request.head headers.AnswerVersion;
-  version = version_at request.head headers.Version;
-  response = record { status = or_zero (status_of (text_at request.head headers.Status)); body = request.body };
   who = text_at request.head headers.Who;
+}
+
+-- ---- fetches
+
+abbrev pub fetch_sides : List ℕ → Entries FieldValue → Option WireRefused
+fetch_sides me head = first_of (dest_refusal me head) (side_refusal head headers.ResponseId headers.From)
+
+abbrev pub fetch_head_refusal : List ℕ → Entries FieldValue → Option WireRefused
+fetch_head_refusal me head =
+    first_of (first_refusal head true fetch_headers) (first_of (first_refusal head true seal_header) (fetch_sides me head))
+
+-- the service that called asks the one that was called
+abbrev pub fetch_message : WireRequest → FetchMessage
+fetch_message request = record {
+  caller = text_at request.head headers.From;
+  callee = text_at request.head headers.Dest;
+  number = number_in (text_at request.head headers.ResponseId);
+  answer_version = version_at request.head headers.AnswerVersion;
 }
 
 -- ---- operators
@@ -228,11 +245,17 @@ set_refusal me peers request =
 abbrev pub set_answer : List ℕ → Secrets → WireRequest → Result Incoming WireRefused
 set_answer me peers request = unless_refused (set_refusal me peers request) (Set (set_message request))
 
-abbrev pub answer_refusal : List ℕ → Secrets → WireRequest → Option WireRefused
-answer_refusal me peers request = first_of (answer_head_refusal me request.head) (seal_refusal peers request answer_headers)
+abbrev pub token_refusal : List ℕ → Secrets → WireRequest → Option WireRefused
+token_refusal me peers request = first_of (token_head_refusal me request.head) (seal_refusal peers request token_headers)
 
-abbrev pub answer_answer : List ℕ → Secrets → WireRequest → Result Incoming WireRefused
-answer_answer me peers request = unless_refused (answer_refusal me peers request) (Answer (answer_message request))
+abbrev pub token_answer : List ℕ → Secrets → WireRequest → Result Incoming WireRefused
+token_answer me peers request = unless_refused (token_refusal me peers request) (Token (token_message request))
+
+abbrev pub fetch_refusal : List ℕ → Secrets → WireRequest → Option WireRefused
+fetch_refusal me peers request = first_of (fetch_head_refusal me request.head) (seal_refusal peers request fetch_headers)
+
+abbrev pub fetch_answer : List ℕ → Secrets → WireRequest → Result Incoming WireRefused
+fetch_answer me peers request = unless_refused (fetch_refusal me peers request) (Fetch (fetch_message request))
 
 abbrev pub console_refusal : List ℕ → List ℕ → WireRequest → Option WireRefused
 console_refusal me secret request = first_of (console_head_refusal me request.head) (console_seal_refusal secret request)
@@ -246,7 +269,8 @@ incoming_as me peers secret request None = Err UnknownKind
 incoming_as me peers secret request (Some kinds.Outside) = outside_answer request
 incoming_as me peers secret request (Some kinds.Call) = call_answer me peers request
 incoming_as me peers secret request (Some kinds.Set) = set_answer me peers request
-incoming_as me peers secret request (Some kinds.Answer) = answer_answer me peers request
+incoming_as me peers secret request (Some kinds.Token) = token_answer me peers request
+incoming_as me peers secret request (Some kinds.Fetch) = fetch_answer me peers request
 incoming_as me peers secret request (Some (kinds.Console word)) = console_answer me secret word request
 
 -- what a request says to the service of this name, whose peers these are and whose console has this secret

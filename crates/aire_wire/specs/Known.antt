@@ -8,15 +8,16 @@ use Rattle.http_front.specs.declared.header.AireHeader.{AireHeader}
 use Rattle.http_front.specs.declared.header.AireHeader.TheVariants as headers
 use Rattle.http_front.specs.declared.message.WireRequest.{WireRequest}
 use Rattle.peer_seal.specs.Seal.{seal_digits}
-use Rattle.repair_messages.specs.declared.messages.AnswerMessage.{AnswerMessage}
+use Rattle.repair_messages.specs.declared.messages.Fetch.{Fetch as FetchMessage}
 use Rattle.repair_messages.specs.declared.messages.SetMessage.{SetMessage}
-use Rattle.wire_fields.specs.Rows.{answer_headers, call_headers, console_headers, text_at}
+use Rattle.repair_messages.specs.declared.messages.TokenMessage.{TokenMessage}
+use Rattle.wire_fields.specs.Rows.{call_headers, console_headers, fetch_headers, text_at, token_headers}
 use Rattle.wire_fields.specs.Secrets.{Secrets}
 use Rattle.wire_fields.specs.declared.console.ConsoleRequest.{ConsoleRequest}
 use Rattle.aire_wire.specs.Incoming.{incoming, is_deletion, sealed_bytes, set_fields}
-use Rattle.aire_wire.specs.ReadBack.{IsAnswered, IsFromOne, IsLive, IsPeer, IsSent}
+use Rattle.aire_wire.specs.ReadBack.{IsFetch, IsFromOne, IsLive, IsPeer, IsSent, IsToken}
 use Rattle.aire_wire.specs.declared.incoming.Incoming.{Incoming}
-use Rattle.aire_wire.specs.declared.incoming.Incoming.TheVariants.{Outside, Live, Set, Answer, Console}
+use Rattle.aire_wire.specs.declared.incoming.Incoming.TheVariants.{Outside, Live, Set, Token, Fetch, Console}
 
 -- these fields of the request were sealed with this secret
 abbrev pub IsSealedWith : List ℕ → WireRequest → List AireHeader → Type 0
@@ -52,11 +53,17 @@ pub record IsSetMessage (me : List ℕ) (peers : Secrets) (request : WireRequest
   pub dest : set.dest ≡ me
   pub sent : IsSent set
 
--- an answer, from a peer to a call of this service
-pub record IsAnswerMessage (me : List ℕ) (peers : Secrets) (request : WireRequest) (answer : AnswerMessage) : Type 0 where
-  pub sealed : IsSealedBy peers answer.callee request answer_headers
-  pub caller : answer.caller ≡ me
-  pub answered : IsAnswered answer
+-- a token, from a peer that a call of this service went to
+pub record IsTokenMessage (me : List ℕ) (peers : Secrets) (request : WireRequest) (token : TokenMessage) : Type 0 where
+  pub sealed : IsSealedBy peers token.callee request token_headers
+  pub caller : token.caller ≡ me
+  pub formed : IsToken token
+
+-- a fetch, from a peer, of an answer of this service to that peer's call
+pub record IsFetchMessage (me : List ℕ) (peers : Secrets) (request : WireRequest) (fetch : FetchMessage) : Type 0 where
+  pub sealed : IsSealedBy peers fetch.caller request fetch_headers
+  pub callee : fetch.callee ≡ me
+  pub formed : IsFetch fetch
 
 -- of an operator, to this service, whatever its peers
 pub record IsConsoleRequest (me console : List ℕ) (request : WireRequest) (asked : ConsoleRequest) : Type 0 where
@@ -71,5 +78,6 @@ abbrev pub IsKnown : List ℕ → Secrets → List ℕ → WireRequest → Incom
 IsKnown me peers console request (Outside asked) = IsOutside request asked
 IsKnown me peers console request (Live set) = IsLiveCall me peers request set
 IsKnown me peers console request (Set set) = IsSetMessage me peers request set
-IsKnown me peers console request (Answer answer) = IsAnswerMessage me peers request answer
+IsKnown me peers console request (Token token) = IsTokenMessage me peers request token
+IsKnown me peers console request (Fetch fetch) = IsFetchMessage me peers request fetch
 IsKnown me peers console request (Console asked) = IsConsoleRequest me console request asked

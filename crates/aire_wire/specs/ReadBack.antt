@@ -15,8 +15,9 @@ use Rattle.http_front.specs.declared.header.AireHeader.TheVariants.{NotifierUrl}
 use Rattle.http_front.specs.declared.message.FrontRefused.{FrontRefused}
 use Rattle.http_front.specs.declared.message.WireRequest.{WireRequest}
 use Rattle.http_front.specs.ReadBack.{IsWithin, is_plain_line}
-use Rattle.repair_messages.specs.declared.messages.AnswerMessage.{AnswerMessage}
+use Rattle.repair_messages.specs.declared.messages.Fetch.{Fetch as FetchMessage}
 use Rattle.repair_messages.specs.declared.messages.SetMessage.{SetMessage}
+use Rattle.repair_messages.specs.declared.messages.TokenMessage.{TokenMessage}
 use Rattle.repair_messages.specs.declared.posts.Post.{Post}
 use Rattle.repair_messages.specs.declared.posts.Post.TheVariants as posts
 use Rattle.wire_fields.specs.Rows.{is_spelt}
@@ -24,7 +25,7 @@ use Rattle.wire_fields.specs.Named.{value_of}
 use Rattle.wire_fields.specs.Secrets.{Secrets}
 use Rattle.aire_wire.specs.Incoming.{incoming}
 use Rattle.aire_wire.specs.declared.incoming.Incoming.{Incoming}
-use Rattle.aire_wire.specs.declared.incoming.Incoming.TheVariants.{Live, Set, Answer}
+use Rattle.aire_wire.specs.declared.incoming.Incoming.TheVariants.{Live, Set, Token, Fetch}
 
 -- a service of this name is a peer, with this secret
 abbrev pub IsPeer : Secrets → List ℕ → List ℕ → Type 0
@@ -79,25 +80,33 @@ CallReadsBack set notifier secret written =
 abbrev pub SetReadsBack : SetMessage → List ℕ → WireRequest → Type 0
 SetReadsBack set secret written = IsSent set → IsReadAs set.dest set.caller secret written (Set set)
 
--- an answer of a callee's entry to a caller
-pub record IsAnswered (answer : AnswerMessage) : Type 0 where
-  pub caller : is_name answer.caller ≡ true
-  pub callee : is_name answer.callee ≡ true
-  pub who : is_who answer.who ≡ true
-  pub id : IsFromOne answer.id
-  pub number : IsFromOne answer.number
-  pub version : IsNumber answer.version
-  pub answer_version : IsNumber answer.answer_version
-  pub status : answer.response.status < 2 ^ 16
+-- a token of a callee's entry, between two services
+pub record IsToken (token : TokenMessage) : Type 0 where
+  pub caller : is_name token.caller ≡ true
+  pub callee : is_name token.callee ≡ true
+  pub who : is_who token.who ≡ true
+  pub id : IsFromOne token.id
+  pub number : IsFromOne token.number
+  pub answer_version : IsNumber token.answer_version
 
--- a response message
-abbrev pub AnswerReadsBack : AnswerMessage → List ℕ → WireRequest → Type 0
-AnswerReadsBack answer secret written = IsAnswered answer → IsReadAs answer.caller answer.callee secret written (Answer answer)
+abbrev pub TokenReadsBack : TokenMessage → List ℕ → WireRequest → Type 0
+TokenReadsBack token secret written = IsToken token → IsReadAs token.caller token.callee secret written (Token token)
+
+-- a fetch of an answer, between two services
+pub record IsFetch (fetch : FetchMessage) : Type 0 where
+  pub caller : is_name fetch.caller ≡ true
+  pub callee : is_name fetch.callee ≡ true
+  pub number : IsFromOne fetch.number
+  pub answer_version : IsNumber fetch.answer_version
+
+abbrev pub FetchReadsBack : FetchMessage → List ℕ → WireRequest → Type 0
+FetchReadsBack fetch secret written = IsFetch fetch → IsReadAs fetch.callee fetch.caller secret written (Fetch fetch)
 
 -- a post
 abbrev pub PostReadsBack : Post → List ℕ → WireRequest → Type 0
 PostReadsBack (posts.Set set) secret written = SetReadsBack set secret written
-PostReadsBack (posts.Answer answer) secret written = AnswerReadsBack answer secret written
+PostReadsBack (posts.Token token) secret written = TokenReadsBack token secret written
+PostReadsBack (posts.Fetch fetch) secret written = FetchReadsBack fetch secret written
 
 -- ---- as bytes
 
@@ -131,9 +140,13 @@ CallBytesReadBack set notifier secret written =
 abbrev pub SetBytesReadBack : SetMessage → List ℕ → WireRequest → Type 0
 SetBytesReadBack set secret written = IsSent set → AreReadAs set.dest set.caller secret written (Set set)
 
-abbrev pub AnswerBytesReadBack : AnswerMessage → List ℕ → WireRequest → Type 0
-AnswerBytesReadBack answer secret written = IsAnswered answer → AreReadAs answer.caller answer.callee secret written (Answer answer)
+abbrev pub TokenBytesReadBack : TokenMessage → List ℕ → WireRequest → Type 0
+TokenBytesReadBack token secret written = IsToken token → AreReadAs token.caller token.callee secret written (Token token)
+
+abbrev pub FetchBytesReadBack : FetchMessage → List ℕ → WireRequest → Type 0
+FetchBytesReadBack fetch secret written = IsFetch fetch → AreReadAs fetch.callee fetch.caller secret written (Fetch fetch)
 
 abbrev pub PostBytesReadBack : Post → List ℕ → WireRequest → Type 0
 PostBytesReadBack (posts.Set set) secret written = SetBytesReadBack set secret written
-PostBytesReadBack (posts.Answer answer) secret written = AnswerBytesReadBack answer secret written
+PostBytesReadBack (posts.Token token) secret written = TokenBytesReadBack token secret written
+PostBytesReadBack (posts.Fetch fetch) secret written = FetchBytesReadBack fetch secret written

@@ -12,8 +12,9 @@ use Rattle.http_front.specs.declared.message.WireRequest.{WireRequest}
 use Rattle.peer_seal.specs.Seal.{seal_digits}
 use Rattle.repair_messages.specs.Kinds.{kind_word, spelling as message_kind}
 use Rattle.repair_messages.specs.declared.kinds.Kind.TheVariants.{ReplaceResponse}
-use Rattle.repair_messages.specs.declared.messages.AnswerMessage.{AnswerMessage}
+use Rattle.repair_messages.specs.declared.messages.Fetch.{Fetch as FetchMessage}
 use Rattle.repair_messages.specs.declared.messages.SetMessage.{SetMessage}
+use Rattle.repair_messages.specs.declared.messages.TokenMessage.{TokenMessage}
 use Rattle.repair_messages.specs.declared.posts.Post.{Post as PostMessage}
 use Rattle.repair_messages.specs.declared.posts.Post.TheVariants as posts
 use Rattle.request_names.specs.Ids.{id_text}
@@ -100,20 +101,30 @@ call_or_deletion set notifier secret (Some request) = call_asking set notifier s
 abbrev pub written_call : SetMessage → List ℕ → List ℕ → WireRequest
 written_call set notifier secret = call_or_deletion set notifier secret set.desired
 
--- ---- response messages
+-- ---- tokens
 
-abbrev pub answer_fields : AnswerMessage → List Field
-answer_fields answer =
-    (headers.From, answer.callee) ∷ (headers.Dest, answer.caller) ∷ (headers.RequestId, id_text answer.callee answer.id)
-    ∷ (headers.ResponseId, id_text answer.caller answer.number) ∷ (headers.Repair, kind_word ReplaceResponse)
-    ∷ (headers.Version, decimal answer.version) ∷ (headers.AnswerVersion, decimal answer.answer_version)
-    ∷ (headers.Who, answer.who) ∷ (headers.Status, decimal answer.response.status) ∷ []
+abbrev pub token_fields : TokenMessage → List Field
+token_fields token =
+    (headers.From, token.callee) ∷ (headers.Dest, token.caller) ∷ (headers.RequestId, id_text token.callee token.id)
+    ∷ (headers.ResponseId, id_text token.caller token.number) ∷ (headers.Repair, kind_word ReplaceResponse)
+    ∷ (headers.AnswerVersion, decimal token.answer_version) ∷ (headers.Who, token.who) ∷ []
 
-abbrev pub written_answer : AnswerMessage → List ℕ → WireRequest
-written_answer answer secret = sealed_with secret Post (codes "/aire/response") (answer_fields answer) answer.response.body
+abbrev pub written_token : TokenMessage → List ℕ → WireRequest
+written_token token secret = sealed_with secret Post (codes "/aire/notify") (token_fields token) []
+
+-- ---- fetches
+
+abbrev pub fetch_fields : FetchMessage → List Field
+fetch_fields fetch =
+    (headers.From, fetch.caller) ∷ (headers.Dest, fetch.callee) ∷ (headers.ResponseId, id_text fetch.caller fetch.number)
+    ∷ (headers.AnswerVersion, decimal fetch.answer_version) ∷ []
+
+abbrev pub written_fetch : FetchMessage → List ℕ → WireRequest
+written_fetch fetch secret = sealed_with secret Post (codes "/aire/fetch") (fetch_fields fetch) []
 
 -- ---- posts
 
 abbrev pub written_post : PostMessage → List ℕ → WireRequest
 written_post (posts.Set set) secret = written_set set secret
-written_post (posts.Answer answer) secret = written_answer answer secret
+written_post (posts.Token token) secret = written_token token secret
+written_post (posts.Fetch fetch) secret = written_fetch fetch secret

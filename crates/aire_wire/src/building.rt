@@ -1,15 +1,15 @@
 // Messages from the parts of a request.
 ghost use Rattle.std.specs.Prelude.{◌≡◌, false, IfOk};
-ghost use Rattle.aire_wire.specs.Incoming.{answer_message, call_message, call_request, console_request, desired_in, is_deletion, outside_request, set_message, set_request, set_with};
+ghost use Rattle.aire_wire.specs.Incoming.{call_message, call_request, console_request, desired_in, fetch_message, is_deletion, outside_request, set_message, set_request, set_with, token_message};
 ghost use Rattle.wire_fields.specs.Fits.{AreNamed, IsChained};
 ghost use Rattle.wire_fields.specs.Rows.{text_at};
 
 use crate::refusals::is_deletion;
-use crate::texts::{method_in, names_in, number_at, status_in, who_or_anyone};
+use crate::texts::{method_in, names_in, number_at, who_or_anyone};
 use http_front::{AireHeader, WireRequest};
 use http_header::HeaderMap;
-use lang_core::{Copied, Method, Name, Names, NoMemory, Request, Response, Text, ThinSeq};
-use repair_messages::{AnswerMessage, SetMessage};
+use lang_core::{Copied, Method, Name, Names, NoMemory, Request, Text, ThinSeq};
+use repair_messages::{Fetch, SetMessage, TokenMessage};
 use std::alloc::Global;
 use wire_fields::{ConsoleRequest, ConsoleWord, name_of, number_in, text_at, version_at};
 
@@ -190,26 +190,36 @@ pub fn set_message(alloc: Global, request: &WireRequest) -> Result<SetMessage, N
     )
 }
 
-/// The response message that a request is.
-pub fn answer_message(alloc: Global, request: &WireRequest) -> Result<AnswerMessage, NoMemory>
+/// The token that a request is.
+pub fn token_message(alloc: Global, request: &WireRequest) -> Result<TokenMessage, NoMemory>
     requires { AreNamed request.now.head }
-    ensures { IfOk result (λ message. message ≡ answer_message request.now) }
+    ensures { IfOk result (λ message. message ≡ token_message request.now) }
 {
     let head = &request.head;
     let sides = sides_of(alloc, head)?;
-    let texts = texts_of(alloc, request.body.as_str(), text_at(head, AireHeader::Who))?;
-    Ok(AnswerMessage {
+    let who = Text::of(alloc, text_at(head, AireHeader::Who))?;
+    Ok(TokenMessage {
         caller: sides.dest,
         callee: sides.from,
         id: number_in(text_at(head, AireHeader::RequestId)),
         number: number_in(text_at(head, AireHeader::ResponseId)),
         answer_version: version_at(head, AireHeader::AnswerVersion),
-        version: version_at(head, AireHeader::Version),
-        response: Response {
-            status: status_in(text_at(head, AireHeader::Status)),
-            body: texts.first,
-        },
-        who: texts.second,
+        who,
+    })
+}
+
+/// The fetch that a request is.
+pub fn fetch_message(alloc: Global, request: &WireRequest) -> Result<Fetch, NoMemory>
+    requires { AreNamed request.now.head }
+    ensures { IfOk result (λ message. message ≡ fetch_message request.now) }
+{
+    let head = &request.head;
+    let sides = sides_of(alloc, head)?;
+    Ok(Fetch {
+        caller: sides.from,
+        callee: sides.dest,
+        number: number_in(text_at(head, AireHeader::ResponseId)),
+        answer_version: version_at(head, AireHeader::AnswerVersion),
     })
 }
 

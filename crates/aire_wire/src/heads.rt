@@ -3,13 +3,13 @@ ghost use Rattle.std.specs.Prelude.{◌≡◌, ◌++◌, OnOk};
 ghost use Rattle.std.specs.List.{flat_map};
 ghost use Rattle.repair_messages.specs.Kinds.{spelling as message_kind};
 ghost use Rattle.request_names.specs.Ids.{id_text};
-ghost use Rattle.aire_wire.specs.Written.{answer_fields, behind_comma, call_fields, chain_text, desired_fields, neighbour_field, neighbour_fields, request_fields, set_message_fields, version_fields};
+ghost use Rattle.aire_wire.specs.Written.{behind_comma, call_fields, chain_text, desired_fields, fetch_fields, neighbour_field, neighbour_fields, request_fields, set_message_fields, token_fields, version_fields};
 ghost use Rattle.wire_fields.specs.Heads.{with_field, with_fields};
 
 use http_front::AireHeader;
 use http_header::HeaderMap;
 use lang_core::{Name, Names, NoMemory, Request, method_word};
-use repair_messages::{AnswerMessage, SetMessage, kind_word, spelling};
+use repair_messages::{Fetch, SetMessage, TokenMessage, kind_word, spelling};
 use std::alloc::{AllocError, Global};
 use wire_fields::{put_field, put_id, put_number, put_sides};
 
@@ -132,51 +132,48 @@ pub fn put_set(alloc: Global, head: &mut HeaderMap, set: &SetMessage) -> Result<
     put_neighbours(alloc, head, set)
 }
 
-fn put_answered(alloc: Global, head: &mut HeaderMap, answer: &AnswerMessage) -> Result<(), NoMemory>
+fn put_token_sides(
+    alloc: Global,
+    head: &mut HeaderMap,
+    token: &TokenMessage,
+) -> Result<(), NoMemory>
     ensures { OnOk result (head.new ≡ with_field (with_field (with_field (with_field head.old
-        (AireHeader.From, answer.now.callee)) (AireHeader.Dest, answer.now.caller))
-        (AireHeader.RequestId, id_text answer.now.callee answer.now.id))
-        (AireHeader.ResponseId, id_text answer.now.caller answer.now.number)) }
+        (AireHeader.From, token.now.callee)) (AireHeader.Dest, token.now.caller))
+        (AireHeader.RequestId, id_text token.now.callee token.now.id))
+        (AireHeader.ResponseId, id_text token.now.caller token.now.number)) }
 {
-    put_sides(alloc, head, answer.callee.as_str(), answer.caller.as_str())?;
-    put_id(
-        alloc,
-        head,
-        AireHeader::RequestId,
-        &answer.callee,
-        answer.id,
-    )?;
+    put_sides(alloc, head, token.callee.as_str(), token.caller.as_str())?;
+    put_id(alloc, head, AireHeader::RequestId, &token.callee, token.id)?;
     put_id(
         alloc,
         head,
         AireHeader::ResponseId,
-        &answer.caller,
-        answer.number,
+        &token.caller,
+        token.number,
     )
 }
 
-/// The fields of a response message.
-pub fn put_answer(
-    alloc: Global,
-    head: &mut HeaderMap,
-    answer: &AnswerMessage,
-) -> Result<(), NoMemory>
-    ensures { OnOk result (head.new ≡ with_fields head.old (answer_fields answer.now)) }
+/// The fields of a token.
+pub fn put_token(alloc: Global, head: &mut HeaderMap, token: &TokenMessage) -> Result<(), NoMemory>
+    ensures { OnOk result (head.new ≡ with_fields head.old (token_fields token.now)) }
 {
-    put_answered(alloc, head, answer)?;
+    put_token_sides(alloc, head, token)?;
     put_field(alloc, head, AireHeader::Repair, b"replace_response")?;
-    put_number(alloc, head, AireHeader::Version, answer.version)?;
-    put_number(
+    put_number(alloc, head, AireHeader::AnswerVersion, token.answer_version)?;
+    put_field(alloc, head, AireHeader::Who, token.who.as_bytes())
+}
+
+/// The fields of a fetch.
+pub fn put_fetch(alloc: Global, head: &mut HeaderMap, fetch: &Fetch) -> Result<(), NoMemory>
+    ensures { OnOk result (head.new ≡ with_fields head.old (fetch_fields fetch.now)) }
+{
+    put_sides(alloc, head, fetch.caller.as_str(), fetch.callee.as_str())?;
+    put_id(
         alloc,
         head,
-        AireHeader::AnswerVersion,
-        answer.answer_version,
+        AireHeader::ResponseId,
+        &fetch.caller,
+        fetch.number,
     )?;
-    put_field(alloc, head, AireHeader::Who, answer.who.as_bytes())?;
-    put_number(
-        alloc,
-        head,
-        AireHeader::Status,
-        answer.response.status as u64,
-    )
+    put_number(alloc, head, AireHeader::AnswerVersion, fetch.answer_version)
 }

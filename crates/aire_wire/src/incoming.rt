@@ -1,23 +1,23 @@
 // Requests, read.
 ghost use Rattle.std.specs.Prelude.{◌≡◌, false, IfOk};
-ghost use Rattle.aire_wire.specs.Incoming.{answer_answer, answer_refusal, call_answer, call_refusal, console_answer, console_refusal, incoming, outside_answer, set_answer, set_refusal};
+ghost use Rattle.aire_wire.specs.Incoming.{call_answer, call_refusal, console_answer, console_refusal, fetch_answer, fetch_refusal, incoming, outside_answer, set_answer, set_refusal, token_answer, token_refusal};
 ghost use Rattle.aire_wire.specs.Known.{IsKnown};
 ghost use Rattle.wire_fields.specs.Fits.{lacks_memory};
 
 use crate::building::{
-    answer_message, call_message, console_request, outside_request, set_message,
+    call_message, console_request, fetch_message, outside_request, set_message, token_message,
 };
 use crate::refusals::{
-    answer_head_refusal, call_head_refusal, console_head_refusal, console_seal_refusal,
-    is_deletion, outside_refusal, seal_refusal, set_head_refusal, set_seal_refusal,
+    call_head_refusal, console_head_refusal, console_seal_refusal, fetch_head_refusal, is_deletion,
+    outside_refusal, seal_refusal, set_head_refusal, set_seal_refusal, token_head_refusal,
 };
 use http_front::WireRequest;
 use lang_core::{Copied, Name, NoMemory, Request, Text};
-use repair_messages::{AnswerMessage, SetMessage};
+use repair_messages::{Fetch, SetMessage, TokenMessage};
 use std::alloc::Global;
 use wire_fields::{
-    ANSWER_HEADERS, CALL_HEADERS, ConsoleRequest, ConsoleWord, RequestKind, Secrets, WireRefused,
-    request_kind,
+    CALL_HEADERS, ConsoleRequest, ConsoleWord, FETCH_HEADERS, RequestKind, Secrets, TOKEN_HEADERS,
+    WireRefused, request_kind,
 };
 
 /// What a request says to a service.
@@ -29,8 +29,10 @@ pub enum Incoming {
     Live(SetMessage),
     /// A version of a peer's call.
     Set(SetMessage),
-    /// A peer's answer to a call.
-    Answer(AnswerMessage),
+    /// A peer's token, which announces an answer to a call.
+    Token(TokenMessage),
+    /// A peer's fetch of an answer to its call.
+    Fetch(Fetch),
     /// What an operator asks for.
     Console(ConsoleRequest),
 }
@@ -41,7 +43,8 @@ impl Copied for Incoming {
             Incoming::Outside(request) => Ok(Incoming::Outside(request.copied(alloc)?)),
             Incoming::Live(set) => Ok(Incoming::Live(set.copied(alloc)?)),
             Incoming::Set(set) => Ok(Incoming::Set(set.copied(alloc)?)),
-            Incoming::Answer(answer) => Ok(Incoming::Answer(answer.copied(alloc)?)),
+            Incoming::Token(token) => Ok(Incoming::Token(token.copied(alloc)?)),
+            Incoming::Fetch(fetch) => Ok(Incoming::Fetch(fetch.copied(alloc)?)),
             Incoming::Console(request) => Ok(Incoming::Console(request.copied(alloc)?)),
         }
     }
@@ -123,33 +126,65 @@ fn read_set(
     }
 }
 
-fn answer_refusal(
+fn token_refusal(
     alloc: Global,
     me: &str,
     peers: &Secrets,
     request: &WireRequest,
 ) -> Result<Option<WireRefused>, NoMemory>
-    ensures { IfOk result (λ refusal. refusal ≡ answer_refusal me.now peers.now request.now) }
+    ensures { IfOk result (λ refusal. refusal ≡ token_refusal me.now peers.now request.now) }
 {
-    match answer_head_refusal(me, &request.head) {
+    match token_head_refusal(me, &request.head) {
         Some(why) => Ok(Some(why)),
-        None => seal_refusal(alloc, peers, request, ANSWER_HEADERS.as_slice()),
+        None => seal_refusal(alloc, peers, request, TOKEN_HEADERS.as_slice()),
     }
 }
 
-fn read_answer(
+fn read_token(
     alloc: Global,
     me: &str,
     peers: &Secrets,
     request: &WireRequest,
 ) -> Result<Incoming, WireRefused>
-    ensures { lacks_memory result ≡ false → result ≡ answer_answer me.now peers.now request.now }
+    ensures { lacks_memory result ≡ false → result ≡ token_answer me.now peers.now request.now }
 {
-    match answer_refusal(alloc, me, peers, request) {
+    match token_refusal(alloc, me, peers, request) {
         Err(_) => Err(WireRefused::NoMemory),
         Ok(Some(why)) => Err(why),
-        Ok(None) => match answer_message(alloc, request) {
-            Ok(message) => Ok(Incoming::Answer(message)),
+        Ok(None) => match token_message(alloc, request) {
+            Ok(message) => Ok(Incoming::Token(message)),
+            Err(_) => Err(WireRefused::NoMemory),
+        },
+    }
+}
+
+fn fetch_refusal(
+    alloc: Global,
+    me: &str,
+    peers: &Secrets,
+    request: &WireRequest,
+) -> Result<Option<WireRefused>, NoMemory>
+    ensures { IfOk result (λ refusal. refusal ≡ fetch_refusal me.now peers.now request.now) }
+{
+    match fetch_head_refusal(me, &request.head) {
+        Some(why) => Ok(Some(why)),
+        None => seal_refusal(alloc, peers, request, FETCH_HEADERS.as_slice()),
+    }
+}
+
+fn read_fetch(
+    alloc: Global,
+    me: &str,
+    peers: &Secrets,
+    request: &WireRequest,
+) -> Result<Incoming, WireRefused>
+    ensures { lacks_memory result ≡ false → result ≡ fetch_answer me.now peers.now request.now }
+{
+    match fetch_refusal(alloc, me, peers, request) {
+        Err(_) => Err(WireRefused::NoMemory),
+        Ok(Some(why)) => Err(why),
+        Ok(None) => match fetch_message(alloc, request) {
+            Ok(message) => Ok(Incoming::Fetch(message)),
             Err(_) => Err(WireRefused::NoMemory),
         },
     }
@@ -202,7 +237,8 @@ fn read_any(
         Some(RequestKind::Outside) => read_outside(alloc, request),
         Some(RequestKind::Call) => read_call(alloc, me.as_str(), peers, request),
         Some(RequestKind::Set) => read_set(alloc, me.as_str(), peers, request),
-        Some(RequestKind::Answer) => read_answer(alloc, me.as_str(), peers, request),
+        Some(RequestKind::Token) => read_token(alloc, me.as_str(), peers, request),
+        Some(RequestKind::Fetch) => read_fetch(alloc, me.as_str(), peers, request),
         Some(RequestKind::Console(word)) => read_console(
             alloc,
             me.as_str(),

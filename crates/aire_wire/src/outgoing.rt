@@ -1,16 +1,16 @@
 // Requests, written.
 ghost use Rattle.std.specs.Prelude.{◌≡◌, [], OnOk, IfOk, IsUtf8};
 ghost use Rattle.aire_wire.specs.ReadBack.{CallBytesReadBack, CallReadsBack, PostBytesReadBack, PostReadsBack};
-ghost use Rattle.aire_wire.specs.Written.{answer_fields, body_of, call_asking, call_fields, sealed, set_message_fields, written_answer, written_call, written_post, written_set};
+ghost use Rattle.aire_wire.specs.Written.{body_of, call_asking, call_fields, fetch_fields, sealed, set_message_fields, token_fields, written_call, written_fetch, written_post, written_set, written_token};
 ghost use Rattle.wire_fields.specs.Heads.{with_fields};
 
 use crate::building::texts_of;
-use crate::heads::{put_answer, put_call, put_set};
+use crate::heads::{put_call, put_fetch, put_set, put_token};
 use http_front::{AIRE_HEADERS, AireHeader, WireRequest, is_text};
 use http_header::HeaderMap;
 use lang_core::{Method, NoMemory, Request, Text};
 use peer_seal::seal_text;
-use repair_messages::{AnswerMessage, Post, SetMessage};
+use repair_messages::{Fetch, Post, SetMessage, TokenMessage};
 use std::alloc::Global;
 use wire_fields::{put_field, sealed_request};
 
@@ -121,33 +121,38 @@ fn write_set(alloc: Global, set: &SetMessage, secret: &Text) -> Result<WireReque
     sealed(alloc, Method::Post, "/aire/repair", body, head, secret)
 }
 
-// Likewise of an answer's.
-fn answer_text(answer: &AnswerMessage)
-    ensures { IsUtf8 answer.now.response.body }
-{
-    is_text(answer.response.body.as_str());
-}
-
-fn answer_head(alloc: Global, answer: &AnswerMessage) -> Result<HeaderMap, NoMemory>
-    ensures { IfOk result (λ head. head ≡ with_fields [] (answer_fields answer.now)) }
+fn token_head(alloc: Global, token: &TokenMessage) -> Result<HeaderMap, NoMemory>
+    ensures { IfOk result (λ head. head ≡ with_fields [] (token_fields token.now)) }
 {
     let mut head = HeaderMap::new(alloc);
-    match put_answer(alloc, &mut head, answer) {
+    match put_token(alloc, &mut head, token) {
         Ok(()) => Ok(head),
         Err(_) => Err(NoMemory),
     }
 }
 
-fn write_answer(
-    alloc: Global,
-    answer: &AnswerMessage,
-    secret: &Text,
-) -> Result<WireRequest, NoMemory>
-    ensures { IfOk result (λ written. written ≡ written_answer answer.now secret.now) }
+fn write_token(alloc: Global, token: &TokenMessage, secret: &Text) -> Result<WireRequest, NoMemory>
+    ensures { IfOk result (λ written. written ≡ written_token token.now secret.now) }
 {
-    let head = answer_head(alloc, answer)?;
-    let body = answer.response.body.as_str();
-    sealed(alloc, Method::Post, "/aire/response", body, head, secret)
+    let head = token_head(alloc, token)?;
+    sealed(alloc, Method::Post, "/aire/notify", "", head, secret)
+}
+
+fn fetch_head(alloc: Global, fetch: &Fetch) -> Result<HeaderMap, NoMemory>
+    ensures { IfOk result (λ head. head ≡ with_fields [] (fetch_fields fetch.now)) }
+{
+    let mut head = HeaderMap::new(alloc);
+    match put_fetch(alloc, &mut head, fetch) {
+        Ok(()) => Ok(head),
+        Err(_) => Err(NoMemory),
+    }
+}
+
+fn write_fetch(alloc: Global, fetch: &Fetch, secret: &Text) -> Result<WireRequest, NoMemory>
+    ensures { IfOk result (λ written. written ≡ written_fetch fetch.now secret.now) }
+{
+    let head = fetch_head(alloc, fetch)?;
+    sealed(alloc, Method::Post, "/aire/fetch", "", head, secret)
 }
 
 /// The request that a live call is, with its caller's seal; `notifier` is `http://DOOR/aire/notify` of the caller's door. A
@@ -186,9 +191,7 @@ pub fn write_post_request(
             set_text(set);
             write_set(alloc, set, secret)
         }
-        Post::Answer(answer) => {
-            answer_text(answer);
-            write_answer(alloc, answer, secret)
-        }
+        Post::Token(token) => write_token(alloc, token, secret),
+        Post::Fetch(fetch) => write_fetch(alloc, fetch, secret),
     }
 }

@@ -1,7 +1,7 @@
 // What is wrong with a request's head, and with its seal.
 ghost use Rattle.std.specs.Prelude.{◌≡◌, IfOk};
 ghost use Rattle.std.specs.Option.{option_copied};
-ghost use Rattle.aire_wire.specs.Incoming.{answer_head_refusal, answer_sides, says_replace_response, call_head_refusal, console_head_refusal, console_seal_refusal, desired_refusal, is_deletion, outside_refusal, seal_refusal, sealed_by, set_fields, set_head_refusal, set_word};
+ghost use Rattle.aire_wire.specs.Incoming.{call_head_refusal, console_head_refusal, console_seal_refusal, desired_refusal, fetch_head_refusal, fetch_sides, is_deletion, outside_refusal, says_replace_response, seal_refusal, sealed_by, set_fields, set_head_refusal, set_word, token_head_refusal, token_sides};
 
 use crate::texts::ends_with_name;
 use http_front::{AireHeader, WireRequest};
@@ -10,9 +10,9 @@ use lang_core::{NoMemory, Text};
 use peer_seal::check;
 use std::alloc::Global;
 use wire_fields::{
-    ANSWER_HEADERS, CALL_HEADERS, CONSOLE_HEADERS, DESIRED_HEADERS, NEIGHBOUR_HEADERS, SEAL_HEADER,
-    SET_HEADERS, Secrets, WireRefused, bad_unless, dest_refusal, first_of, first_refusal,
-    sealed_request, service_in, side_refusal, text_at, version_at,
+    CALL_HEADERS, CONSOLE_HEADERS, DESIRED_HEADERS, FETCH_HEADERS, NEIGHBOUR_HEADERS, SEAL_HEADER,
+    SET_HEADERS, Secrets, TOKEN_HEADERS, WireRefused, bad_unless, dest_refusal, first_of,
+    first_refusal, sealed_request, service_in, side_refusal, text_at, version_at,
 };
 
 const WHO_HEADER: [AireHeader; 1] = [AireHeader::Who];
@@ -131,8 +131,8 @@ fn says_replace_response(head: &HeaderMap) -> bool
     text_at(head, AireHeader::Repair) == "replace_response"
 }
 
-fn answer_sides(me: &str, head: &HeaderMap) -> Option<WireRefused>
-    ensures { result ≡ answer_sides me.now head.now }
+fn token_sides(me: &str, head: &HeaderMap) -> Option<WireRefused>
+    ensures { result ≡ token_sides me.now head.now }
 {
     let callee = side_refusal(head, AireHeader::RequestId, AireHeader::From);
     let caller = side_refusal(head, AireHeader::ResponseId, AireHeader::Dest);
@@ -143,13 +143,32 @@ fn answer_sides(me: &str, head: &HeaderMap) -> Option<WireRefused>
     )
 }
 
-/// Of a response message.
-pub fn answer_head_refusal(me: &str, head: &HeaderMap) -> Option<WireRefused>
-    ensures { result ≡ answer_head_refusal me.now head.now }
+/// Of a token.
+pub fn token_head_refusal(me: &str, head: &HeaderMap) -> Option<WireRefused>
+    ensures { result ≡ token_head_refusal me.now head.now }
 {
-    let sides = answer_sides(me, head);
+    let sides = token_sides(me, head);
     let seal = first_refusal(head, true, SEAL_HEADER.as_slice());
-    let fields = first_refusal(head, true, ANSWER_HEADERS.as_slice());
+    let fields = first_refusal(head, true, TOKEN_HEADERS.as_slice());
+    first_of(fields, first_of(seal, sides))
+}
+
+fn fetch_sides(me: &str, head: &HeaderMap) -> Option<WireRefused>
+    ensures { result ≡ fetch_sides me.now head.now }
+{
+    first_of(
+        dest_refusal(me, head),
+        side_refusal(head, AireHeader::ResponseId, AireHeader::From),
+    )
+}
+
+/// Of a fetch.
+pub fn fetch_head_refusal(me: &str, head: &HeaderMap) -> Option<WireRefused>
+    ensures { result ≡ fetch_head_refusal me.now head.now }
+{
+    let sides = fetch_sides(me, head);
+    let seal = first_refusal(head, true, SEAL_HEADER.as_slice());
+    let fields = first_refusal(head, true, FETCH_HEADERS.as_slice());
     first_of(fields, first_of(seal, sides))
 }
 

@@ -2,9 +2,8 @@
 ghost use Rattle.std.specs.Prelude.{◌≡◌, ◌==◌, map, All, IfOk, IsTrue};
 ghost use Rattle.std.specs.List.{slice_split};
 ghost use Rattle.request_names.specs.Numbers.{number_of};
-ghost use Rattle.wire_fields.specs.Fits.{or_zero};
 ghost use Rattle.lang_core.specs.Names.{is_name};
-ghost use Rattle.wire_fields.specs.Forms.{is_chain, status_of};
+ghost use Rattle.wire_fields.specs.Forms.{is_chain};
 ghost use Rattle.wire_fields.specs.Rows.{text_at};
 ghost use Rattle.aire_wire.specs.Incoming.{ends_with_name, is_behind_comma, names_in, or_get, who_or_anyone};
 ghost use Rattle.lang_tree.specs.Methods.{method_named};
@@ -14,23 +13,13 @@ use http_header::HeaderMap;
 use lang_core::{Method, Names, NoMemory, ThinSeq, method_named};
 use request_names::read_number;
 use std::alloc::{AllocError, Global};
-use wire_fields::{name_of, status_of, text_at};
+use wire_fields::{name_of, text_at};
 
 /// The number in a field, where there is one.
 pub fn number_at(head: &HeaderMap, header: AireHeader) -> Option<u64>
     ensures { result ≡ number_of (text_at head.now header) }
 {
     read_number(text_at(head, header))
-}
-
-/// The status in a text, 0 where there is none.
-pub fn status_in(text: &str) -> u16
-    ensures { result ≡ or_zero (status_of text.now) }
-{
-    match status_of(text) {
-        Some(status) => status,
-        None => 0,
-    }
 }
 
 /// The method of a word, GET where it names none.

@@ -19,7 +19,7 @@ use Rattle.http_front.specs.Ends.{is_of_line}
 use Rattle.http_front.specs.Table.{aire_headers, spelling}
 use Rattle.http_front.specs.Writing.{Line, aire_lines, field_line, first_of, first_of_header, line_if}
 use Rattle.http_front.specs.declared.header.AireHeader.{AireHeader}
-use Rattle.http_front.specs.declared.header.AireHeader.TheVariants.{From, Dest, RequestId, ResponseId, NotifierUrl, Repair, Version, AnswerVersion, Who, Method, Path, RequestWho, Chain, Before, After, Status, Refused, Seal}
+use Rattle.http_front.specs.declared.header.AireHeader.TheVariants.{From, Dest, RequestId, ResponseId, NotifierUrl, Repair, Version, AnswerVersion, Who, Method, Path, RequestWho, Chain, Before, After, Refused, Seal}
 use Rattle.http_front.specs.ReadBack.{is_plain, is_plain_line}
 use Rattle.std.proofs.lemmas.Bool.{and_from, and_parts}
 use Rattle.http_front.proofs.PassLemmas.{weaker}
@@ -133,7 +133,6 @@ token_name RequestWho = refl
 token_name Chain = refl
 token_name Before = refl
 token_name After = refl
-token_name Status = refl
 token_name Refused = refl
 token_name Seal = refl
 
@@ -174,5 +173,5 @@ few_of head [] = omega arith
 few_of head (header ∷ headers) =
     omega (arith, length-append (first_of_header head header) (flat_map (first_of_header head) headers), first_few head (spelling header), few_of head headers)
 
-pub few_in_table : (head : Entries FieldValue) → length (aire_lines head) ≤ 18
+pub few_in_table : (head : Entries FieldValue) → length (aire_lines head) ≤ 17
 few_in_table head = few_of head aire_headers

@@ -11,7 +11,7 @@ use Rattle.http_front.specs.Fields.{entry_of, map_of}
 use Rattle.http_front.specs.Table.{aire_headers, spelling}
 use Rattle.http_front.specs.Writing.{Line, aire_lines, first_of, first_of_header, last_lines, line_if, request_lines, response_lines, type_line}
 use Rattle.http_front.specs.declared.header.AireHeader.{AireHeader}
-use Rattle.http_front.specs.declared.header.AireHeader.TheVariants.{From, Dest, RequestId, ResponseId, NotifierUrl, Repair, Version, AnswerVersion, Who, Method, Path, RequestWho, Chain, Before, After, Status, Refused, Seal}
+use Rattle.http_front.specs.declared.header.AireHeader.TheVariants.{From, Dest, RequestId, ResponseId, NotifierUrl, Repair, Version, AnswerVersion, Who, Method, Path, RequestWho, Chain, Before, After, Refused, Seal}
 use Rattle.http_front.specs.declared.message.WireRequest.{WireRequest}
 use Rattle.http_front.specs.declared.message.WireResponse.{WireResponse}
 use Rattle.http_front.specs.ReadBack.{request_read, response_read}
@@ -141,7 +141,6 @@ in_table RequestWho = refl
 in_table Chain = refl
 in_table Before = refl
 in_table After = refl
-in_table Status = refl
 in_table Refused = refl
 in_table Seal = refl
 
@@ -165,7 +164,6 @@ apart RequestWho = refl
 apart Chain = refl
 apart Before = refl
 apart After = refl
-apart Status = refl
 apart Refused = refl
 apart Seal = refl
 

@@ -1,7 +1,7 @@
 -- The header fields of messages between services, in the order in which they are tested, written and sealed.
 use Rattle.std.specs.Prelude.{ℕ, List, [], ◌∷◌, codes}
 use Rattle.http_front.specs.declared.header.AireHeader.{AireHeader}
-use Rattle.http_front.specs.declared.header.AireHeader.TheVariants.{From, Dest, RequestId, ResponseId, NotifierUrl, Repair, Version, AnswerVersion, Who, Method, Path, RequestWho, Chain, Before, After, Status, Refused, Seal}
+use Rattle.http_front.specs.declared.header.AireHeader.TheVariants.{From, Dest, RequestId, ResponseId, NotifierUrl, Repair, Version, AnswerVersion, Who, Method, Path, RequestWho, Chain, Before, After, Refused, Seal}
 
 abbrev pub spelling : AireHeader → List ℕ
 spelling From = codes "Aire-From"
@@ -19,7 +19,6 @@ spelling RequestWho = codes "Aire-Request-Who"
 spelling Chain = codes "Aire-Chain"
 spelling Before = codes "Aire-Before"
 spelling After = codes "Aire-After"
-spelling Status = codes "Aire-Status"
 spelling Refused = codes "Aire-Refused"
 spelling Seal = codes "Aire-Seal"
 
@@ -27,4 +26,4 @@ spelling Seal = codes "Aire-Seal"
 abbrev pub aire_headers : List AireHeader
 aire_headers =
     From ∷ Dest ∷ RequestId ∷ ResponseId ∷ NotifierUrl ∷ Repair ∷ Version ∷ AnswerVersion ∷ Who
-    ∷ Method ∷ Path ∷ RequestWho ∷ Chain ∷ Before ∷ After ∷ Status ∷ Refused ∷ Seal ∷ []
+    ∷ Method ∷ Path ∷ RequestWho ∷ Chain ∷ Before ∷ After ∷ Refused ∷ Seal ∷ []

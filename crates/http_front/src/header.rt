@@ -35,8 +35,6 @@ pub enum AireHeader {
     Before,
     /// The caller's call before.
     After,
-    /// A response's status.
-    Status,
     /// The word of a refusal, and its number.
     Refused,
     /// The seal.
@@ -44,7 +42,7 @@ pub enum AireHeader {
 }
 
 /// All of them, in the order of the table.
-pub const AIRE_HEADERS: [AireHeader; 18] = [
+pub const AIRE_HEADERS: [AireHeader; 17] = [
     AireHeader::From,
     AireHeader::Dest,
     AireHeader::RequestId,
@@ -60,7 +58,6 @@ pub const AIRE_HEADERS: [AireHeader; 18] = [
     AireHeader::Chain,
     AireHeader::Before,
     AireHeader::After,
-    AireHeader::Status,
     AireHeader::Refused,
     AireHeader::Seal,
 ];
@@ -86,7 +83,6 @@ impl AireHeader {
             AireHeader::Chain => "Aire-Chain",
             AireHeader::Before => "Aire-Before",
             AireHeader::After => "Aire-After",
-            AireHeader::Status => "Aire-Status",
             AireHeader::Refused => "Aire-Refused",
             AireHeader::Seal => "Aire-Seal",
         }

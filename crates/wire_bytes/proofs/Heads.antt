@@ -10,7 +10,7 @@ use Rattle.http_header.proofs.HeaderMapLemmas.{get_all-insert_other, get_all-ins
 use Rattle.http_front.specs.ReadBack.{IsWithin, is_plain, is_plain_line}
 use Rattle.http_front.specs.Writing.{first_of, line_if, request_bytes}
 use Rattle.http_front.specs.declared.header.AireHeader.{AireHeader}
-use Rattle.http_front.specs.declared.header.AireHeader.TheVariants.{From, Dest, RequestId, ResponseId, NotifierUrl, Repair, Version, AnswerVersion, Who, Method, Path, RequestWho, Chain, Before, After, Status, Refused, Seal}
+use Rattle.http_front.specs.declared.header.AireHeader.TheVariants.{From, Dest, RequestId, ResponseId, NotifierUrl, Repair, Version, AnswerVersion, Who, Method, Path, RequestWho, Chain, Before, After, Refused, Seal}
 use Rattle.http_front.specs.declared.message.WireRequest.{WireRequest}
 use Rattle.http_front.proofs.MapLemmas.{key}
 use Rattle.http_front.proofs.PlainLemmas.{visible_plain}
@@ -34,7 +34,6 @@ apart RequestWho = refl
 apart Chain = refl
 apart Before = refl
 apart After = refl
-apart Status = refl
 apart Refused = refl
 apart Seal = refl
 

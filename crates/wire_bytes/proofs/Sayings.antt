@@ -95,8 +95,10 @@ call_said address door secret set written is back = λ request sent live to_door
 post_is_said : (address secret : List ℕ) (post : Post) → PostBytesReadBack post secret (written_post post secret) → PostIsSaid address secret post
 post_is_said address secret (posts.Set set) back = λ sent is within.
     sent_to address set.dest set.caller secret (written_post (posts.Set set) secret) _ (back sent) is within
-post_is_said address secret (posts.Answer answer) back = λ answered is within.
-    sent_to address answer.caller answer.callee secret (written_post (posts.Answer answer) secret) _ (back answered) is within
+post_is_said address secret (posts.Token token) back = λ formed is within.
+    sent_to address token.caller token.callee secret (written_post (posts.Token token) secret) _ (back formed) is within
+post_is_said address secret (posts.Fetch fetch) back = λ formed is within.
+    sent_to address fetch.callee fetch.caller secret (written_post (posts.Fetch fetch) secret) _ (back formed) is within
 
 pub post_said : (address secret : List ℕ) (post : Post) (request : WireRequest) → request ≡ written_post post secret → PostBytesReadBack post secret request
     → PostIsSaid address secret post

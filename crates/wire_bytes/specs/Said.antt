@@ -1,5 +1,5 @@
 -- What a service sends is said to the one that it is for.
-use Rattle.std.specs.Prelude.{◌≡◌, ℕ, ◌<◌, ◌≤◌, true, List, ◌++◌, Some}
+use Rattle.std.specs.Prelude.{◌≡◌, ℕ, ◌<◌, ◌≤◌, true, List, [], ◌++◌, Some}
 use Rattle.lang_core.specs.declared.request.Request.{Request}
 use Rattle.repair_messages.specs.declared.messages.SetMessage.{SetMessage}
 use Rattle.repair_messages.specs.declared.posts.Post.{Post}
@@ -9,7 +9,7 @@ use Rattle.wire_fields.specs.Secrets.{Secrets}
 use Rattle.wire_replies.specs.Writing.{Answers, IsSpelt, reply_body, reply_status}
 use Rattle.wire_replies.specs.declared.kinds.Asking.{Asking}
 use Rattle.wire_replies.specs.declared.replies.Outgoing.{Outgoing}
-use Rattle.aire_wire.specs.ReadBack.{IsAnswered, IsLive, IsPeer, IsSent}
+use Rattle.aire_wire.specs.ReadBack.{IsFetch, IsLive, IsPeer, IsSent, IsToken}
 use Rattle.aire_wire.specs.Written.{body_of}
 use Rattle.aire_wire.specs.declared.incoming.Incoming.{Incoming}
 use Rattle.aire_wire.specs.declared.incoming.Incoming.TheVariants as said
@@ -32,15 +32,18 @@ CallIsSaid address door secret set =
 -- a post, whose parts have their forms
 abbrev pub IsPosted : Post → Type 0
 IsPosted (posts.Set set) = IsSent set
-IsPosted (posts.Answer answer) = IsAnswered answer
+IsPosted (posts.Token token) = IsToken token
+IsPosted (posts.Fetch fetch) = IsFetch fetch
 
 abbrev pub message_of : Post → Incoming
 message_of (posts.Set set) = said.Set set
-message_of (posts.Answer answer) = said.Answer answer
+message_of (posts.Token token) = said.Token token
+message_of (posts.Fetch fetch) = said.Fetch fetch
 
 abbrev pub post_body : Post → List ℕ
 post_body (posts.Set set) = body_of set.desired
-post_body (posts.Answer answer) = answer.response.body
+post_body (posts.Token token) = []
+post_body (posts.Fetch fetch) = []
 
 -- likewise a post to a door
 abbrev pub PostIsSaid : List ℕ → List ℕ → Post → Type 0

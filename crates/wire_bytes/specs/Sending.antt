@@ -26,12 +26,14 @@ reply_bytes me to secret reply = response_bytes (written me to reply secret)
 -- the service that posts it
 abbrev pub sender_of : Post → List ℕ
 sender_of (posts.Set set) = set.caller
-sender_of (posts.Answer answer) = answer.callee
+sender_of (posts.Token token) = token.callee
+sender_of (posts.Fetch fetch) = fetch.caller
 
 -- the one that it is for
 abbrev pub receiver_of : Post → List ℕ
 receiver_of (posts.Set set) = set.dest
-receiver_of (posts.Answer answer) = answer.caller
+receiver_of (posts.Token token) = token.caller
+receiver_of (posts.Fetch fetch) = fetch.callee
 
 -- these bytes are that call, from the service of this name to a peer
 pub record SendsCall (me peer address door secret : List ℕ) (set : SetMessage) (bytes : List ℕ) : Type 0 where

@@ -3,7 +3,7 @@ use Rattle.std.proofs.Common.{◌≡◌, true, refl}
 use Rattle.http_header.specs.FieldName.{is_field_name}
 use Rattle.http_front.specs.Table.{spelling}
 use Rattle.http_front.specs.declared.header.AireHeader.{AireHeader}
-use Rattle.http_front.specs.declared.header.AireHeader.TheVariants.{From, Dest, RequestId, ResponseId, NotifierUrl, Repair, Version, AnswerVersion, Who, Method, Path, RequestWho, Chain, Before, After, Status, Refused, Seal}
+use Rattle.http_front.specs.declared.header.AireHeader.TheVariants.{From, Dest, RequestId, ResponseId, NotifierUrl, Repair, Version, AnswerVersion, Who, Method, Path, RequestWho, Chain, Before, After, Refused, Seal}
 
 pub named : (header : AireHeader) → is_field_name (spelling header) ≡ true
 named From = refl
@@ -21,6 +21,5 @@ named RequestWho = refl
 named Chain = refl
 named Before = refl
 named After = refl
-named Status = refl
 named Refused = refl
 named Seal = refl

@@ -8,7 +8,7 @@ use Rattle.http_header.specs.HeaderMap.{Entries, get_all}
 use Rattle.http_front.specs.Table.{aire_headers, spelling}
 use Rattle.http_front.specs.Writing.{aire_lines, first_of_header, line_if}
 use Rattle.http_front.specs.declared.header.AireHeader.{AireHeader}
-use Rattle.http_front.specs.declared.header.AireHeader.TheVariants.{From, Dest, RequestId, ResponseId, NotifierUrl, Repair, Version, AnswerVersion, Who, Method, Path, RequestWho, Chain, Before, After, Status, Refused, Seal}
+use Rattle.http_front.specs.declared.header.AireHeader.TheVariants.{From, Dest, RequestId, ResponseId, NotifierUrl, Repair, Version, AnswerVersion, Who, Method, Path, RequestWho, Chain, Before, After, Refused, Seal}
 use Rattle.wire_fields.specs.Heads.{Field, with_field, with_fields}
 use Rattle.http_front.specs.ReadBack.{is_plain, is_plain_line}
 use Rattle.std.proofs.lemmas.Bool.{and_from, and_parts}
@@ -103,9 +103,8 @@ of_each test all RequestWho = all 11 From (omega arith)
 of_each test all Chain = all 12 From (omega arith)
 of_each test all Before = all 13 From (omega arith)
 of_each test all After = all 14 From (omega arith)
-of_each test all Status = all 15 From (omega arith)
-of_each test all Refused = all 16 From (omega arith)
-of_each test all Seal = all 17 From (omega arith)
+of_each test all Refused = all 15 From (omega arith)
+of_each test all Seal = all 16 From (omega arith)
 
 pub are_single : (head : Entries FieldValue) → each_single head ≡ true → AreSingle head
 are_single head is = of_each (λ header. is_single (get_all head (key header))) (AllPass-from_list_all (λ header. is_single (get_all head (key header))) aire_headers is)

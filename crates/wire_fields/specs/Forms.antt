@@ -12,7 +12,7 @@ use Rattle.repair_messages.specs.declared.kinds.Kind.{Kind}
 use Rattle.repair_messages.specs.declared.kinds.Kind.TheVariants.{Create, Replace, Delete, ReplaceResponse}
 use Rattle.lang_tree.specs.Methods.{method_named}
 use Rattle.http_front.specs.declared.header.AireHeader.{AireHeader}
-use Rattle.http_front.specs.declared.header.AireHeader.TheVariants.{From, Dest, RequestId, ResponseId, NotifierUrl, Repair, Version, AnswerVersion, Who, Method, Path, RequestWho, Chain, Before, After, Status, Refused, Seal}
+use Rattle.http_front.specs.declared.header.AireHeader.TheVariants.{From, Dest, RequestId, ResponseId, NotifierUrl, Repair, Version, AnswerVersion, Who, Method, Path, RequestWho, Chain, Before, After, Refused, Seal}
 use Rattle.wire_fields.specs.Words.{refusal_of}
 
 -- ---- words
@@ -31,14 +31,6 @@ kind_named word =
 -- at least one name, with commas between them
 abbrev pub is_chain : List ℕ → Bool
 is_chain text = list_all is_name (slice_split (λ b. b == 44) text)
-
--- a number of 16 bits
-abbrev pub status_in : Option ℕ → Option ℕ
-status_in None = None
-status_in (Some n) = if nat_le n 65535 then Some n else None
-
-abbrev pub status_of : List ℕ → Option ℕ
-status_of text = status_in (number_of text)
 
 -- a digit of a seal
 abbrev pub is_seal_digit : ℕ → Bool
@@ -70,6 +62,5 @@ has_form RequestWho text = is_who text
 has_form Chain text = is_chain text
 has_form Before text = is_some (number_of text)
 has_form After text = is_some (number_of text)
-has_form Status text = is_some (status_of text)
 has_form Refused text = is_some (refusal_of text)
 has_form Seal text = is_seal text

@@ -9,7 +9,7 @@ use Rattle.http_header.specs.HeaderMap.{Entries, get}
 use Rattle.wire_fields.specs.declared.console.ConsoleWord.{ConsoleWord}
 use Rattle.wire_fields.specs.declared.console.ConsoleWord.TheVariants.{Cancel, Restore, Replace, Create, Retry, Notices, Log, Rows, Preview, Audit, Stop}
 use Rattle.wire_fields.specs.declared.kinds.RequestKind.{RequestKind}
-use Rattle.wire_fields.specs.declared.kinds.RequestKind.TheVariants.{Answer, Call, Console, Outside, Set}
+use Rattle.wire_fields.specs.declared.kinds.RequestKind.TheVariants.{Call, Console, Fetch, Outside, Set, Token}
 
 unfoldable pub console_word : List ℕ → Option ConsoleWord
 console_word word =
@@ -33,8 +33,9 @@ console_path path = if starts_with nat_eq path (codes "/aire/console/") then opt
 abbrev pub posted_kind : List ℕ → Option RequestKind
 posted_kind path =
     if same_text path (codes "/aire/repair") then Some Set
-    else (if same_text path (codes "/aire/response") then Some Answer
-    else (console_path path))
+    else (if same_text path (codes "/aire/notify") then Some Token
+    else (if same_text path (codes "/aire/fetch") then Some Fetch
+    else (console_path path)))
 
 abbrev pub own_kind : Method → List ℕ → Option RequestKind
 own_kind Post path = posted_kind path

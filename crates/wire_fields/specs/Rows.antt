@@ -6,7 +6,7 @@ use Rattle.http_header.specs.HeaderMap.{Entries, get, get_all}
 use Rattle.http_header.specs.Token.{lowercase}
 use Rattle.http_front.specs.Table.{spelling}
 use Rattle.http_front.specs.declared.header.AireHeader.{AireHeader}
-use Rattle.http_front.specs.declared.header.AireHeader.TheVariants.{From, Dest, RequestId, ResponseId, NotifierUrl, Repair, Version, AnswerVersion, Who, Method, Path, RequestWho, Chain, Before, After, Status, Refused, Seal}
+use Rattle.http_front.specs.declared.header.AireHeader.TheVariants.{From, Dest, RequestId, ResponseId, NotifierUrl, Repair, Version, AnswerVersion, Who, Method, Path, RequestWho, Chain, Before, After, Refused, Seal}
 use Rattle.wire_fields.specs.Forms.{has_form}
 use Rattle.wire_fields.specs.declared.refused.WireRefused.{WireRefused}
 use Rattle.wire_fields.specs.declared.refused.WireRefused.TheVariants.{BadHeader, MissingHeader}
@@ -57,8 +57,11 @@ desired_headers = Method ∷ Path ∷ RequestWho ∷ Chain ∷ []
 abbrev pub neighbour_headers : List AireHeader
 neighbour_headers = Before ∷ After ∷ []
 
-abbrev pub answer_headers : List AireHeader
-answer_headers = From ∷ Dest ∷ RequestId ∷ ResponseId ∷ Repair ∷ Version ∷ AnswerVersion ∷ Who ∷ Status ∷ []
+abbrev pub token_headers : List AireHeader
+token_headers = From ∷ Dest ∷ RequestId ∷ ResponseId ∷ Repair ∷ AnswerVersion ∷ Who ∷ []
+
+abbrev pub fetch_headers : List AireHeader
+fetch_headers = From ∷ Dest ∷ ResponseId ∷ AnswerVersion ∷ []
 
 abbrev pub console_headers : List AireHeader
 console_headers = Dest ∷ Who ∷ []

@@ -3,7 +3,7 @@ ghost use Rattle.std.specs.Prelude.{◌≡◌};
 ghost use Rattle.std.specs.List.{list_all};
 ghost use Rattle.lang_core.specs.Names.{is_name, is_who};
 ghost use Rattle.lang_tree.specs.Forms.{is_path};
-ghost use Rattle.wire_fields.specs.Forms.{has_form, is_chain, is_notifier, is_seal, is_seal_digit, kind_named, status_of};
+ghost use Rattle.wire_fields.specs.Forms.{has_form, is_chain, is_notifier, is_seal, is_seal_digit, kind_named};
 
 use crate::words::refusal_of;
 use http_front::AireHeader;
@@ -40,16 +40,6 @@ fn is_chain(bytes: &[u8]) -> bool
     ensures { result ≡ is_chain bytes.now }
 {
     bytes.split(|byte| *byte == b',').all(|name| is_name(name))
-}
-
-/// The status that a text spells.
-pub fn status_of(text: &str) -> Option<u16>
-    ensures { result ≡ status_of text.now }
-{
-    match read_number(text) {
-        Some(number) if number <= 65535 => Some(number as u16),
-        _ => None,
-    }
 }
 
 fn is_seal_digit(byte: u8) -> bool
@@ -95,7 +85,6 @@ pub fn has_form(header: AireHeader, text: &str) -> bool
         AireHeader::Method => method_named(text.as_bytes()).is_some(),
         AireHeader::Path => is_path(text.as_bytes()),
         AireHeader::Chain => is_chain(text.as_bytes()),
-        AireHeader::Status => status_of(text).is_some(),
         AireHeader::Refused => refusal_of(text).is_some(),
         AireHeader::Seal => is_seal(text.as_bytes()),
     }

@@ -17,8 +17,10 @@ pub enum RequestKind {
     Call,
     /// A version of a peer's call.
     Set,
-    /// A peer's answer to a call.
-    Answer,
+    /// A peer's token, which announces an answer to a call.
+    Token,
+    /// A peer's fetch of an answer to its call.
+    Fetch,
     /// A request of an operator.
     Console(ConsoleWord),
 }
@@ -38,7 +40,8 @@ fn posted_kind(path: &str) -> Option<RequestKind>
 {
     match path {
         "/aire/repair" => Some(RequestKind::Set),
-        "/aire/response" => Some(RequestKind::Answer),
+        "/aire/notify" => Some(RequestKind::Token),
+        "/aire/fetch" => Some(RequestKind::Fetch),
         _ => console_path(path.as_bytes()),
     }
 }

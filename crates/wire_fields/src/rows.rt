@@ -41,17 +41,23 @@ pub const DESIRED_HEADERS: [AireHeader; 4] = [
 /// Those that it may have.
 pub const NEIGHBOUR_HEADERS: [AireHeader; 2] = [AireHeader::Before, AireHeader::After];
 
-/// The fields of a response message but its seal.
-pub const ANSWER_HEADERS: [AireHeader; 9] = [
+/// The fields of a token but its seal.
+pub const TOKEN_HEADERS: [AireHeader; 7] = [
     AireHeader::From,
     AireHeader::Dest,
     AireHeader::RequestId,
     AireHeader::ResponseId,
     AireHeader::Repair,
-    AireHeader::Version,
     AireHeader::AnswerVersion,
     AireHeader::Who,
-    AireHeader::Status,
+];
+
+/// The fields of a fetch but its seal.
+pub const FETCH_HEADERS: [AireHeader; 4] = [
+    AireHeader::From,
+    AireHeader::Dest,
+    AireHeader::ResponseId,
+    AireHeader::AnswerVersion,
 ];
 
 /// The fields of what an operator sends, but its seal.

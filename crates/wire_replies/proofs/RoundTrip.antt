@@ -187,7 +187,7 @@ refusal_reads me peer secret word text n response b is refused =
 
 live_back : (me peer secret : List ℕ) (i k v a : ℕ) (r : Response) → is_name me ≡ true → is_name peer ≡ true
     → 0 < i → i < 2 ^ 64 → 0 < k → k < 2 ^ 64 → v < 2 ^ 64 → a < 2 ^ 64
-    → replied peer me secret asked.Call (sealed_reply me peer (live me peer i k v a r) secret) ≡ Ok (live me peer i k v a r)
+    → reply_of peer me secret kinds.Live (sealed_reply me peer (live me peer i k v a r) secret) ≡ Ok (live me peer i k v a r)
 live_back me peer secret i k v a r mine theirs i_from i_small k_from k_small v_small a_small =
     live_reads me peer secret i k v a (sealed_reply me peer (live me peer i k v a r) secret)
     (record {
@@ -202,6 +202,13 @@ live_back me peer secret i k v a r mine theirs i_from i_small k_from k_small v_s
     (record { there = refl; spelt = id_spelt peer k theirs k_from k_small })
     (record { there = refl; spelt = number_spelt v v_small })
     (record { there = refl; spelt = number_spelt a a_small })
+
+-- by a call and by a fetch alike
+live_read : (me peer secret : List ℕ) (asking : Asking) (i k v a : ℕ) (r : Response) → (asking ≡ asked.Call) ⊎ (asking ≡ asked.Fetch)
+    → reply_of peer me secret kinds.Live (sealed_reply me peer (live me peer i k v a r) secret) ≡ Ok (live me peer i k v a r)
+    → replied peer me secret asking (sealed_reply me peer (live me peer i k v a r) secret) ≡ Ok (live me peer i k v a r)
+live_read me peer secret asking i k v a r (inl call) back = rw call back
+live_read me peer secret asking i k v a r (inr fetch) back = rw fetch back
 
 ack_back : (me peer secret : List ℕ) (k v : ℕ) → is_name me ≡ true → is_name peer ≡ true → 0 < k → k < 2 ^ 64 → v < 2 ^ 64
     → replied peer me secret asked.Set (sealed_reply me peer (acked me peer k v) secret) ≡ Ok (acked me peer k v)
@@ -219,7 +226,7 @@ ack_back me peer secret k v mine theirs k_from k_small v_small =
     (record { there = refl; spelt = number_spelt v v_small })
 
 confirm_back : (me peer secret : List ℕ) (k a : ℕ) → is_name me ≡ true → is_name peer ≡ true → 0 < k → k < 2 ^ 64 → a < 2 ^ 64
-    → replied peer me secret asked.Answer (sealed_reply me peer (confirmed me peer k a) secret) ≡ Ok (confirmed me peer k a)
+    → replied peer me secret asked.Token (sealed_reply me peer (confirmed me peer k a) secret) ≡ Ok (confirmed me peer k a)
 confirm_back me peer secret k a mine theirs k_from k_small a_small =
     confirm_reads me peer secret k a (sealed_reply me peer (confirmed me peer k a) secret)
     (record {
@@ -306,7 +313,8 @@ back me peer secret (replies.Answered id (Some answer) r) mine theirs small goes
     (live me peer answer.id answer.number answer.version answer.answer_version r)
     (live_parts me peer id.service answer.caller answer.callee answer.who id.number answer.id answer.number answer.version
     answer.answer_version answer.response r (spelt.4 ∙ callee) spelt.5 caller callee (spelt.2 ∙ callee) spelt.3)
-    (rw answers (live_back me peer secret answer.id answer.number answer.version answer.answer_version r mine theirs
+    (live_read me peer secret asking answer.id answer.number answer.version answer.answer_version r answers
+    (live_back me peer secret answer.id answer.number answer.version answer.answer_version r mine theirs
     spelt.0 small.0 spelt.1 small.1 small.2 small.3))
 back me peer secret (replies.Ack ack) mine theirs small goes spelt asking answers =
     let caller : ack.caller ≡ peer = some_same peer ack.caller goes.1 in

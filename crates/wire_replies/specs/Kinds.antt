@@ -12,7 +12,8 @@ use Rattle.wire_replies.specs.declared.kinds.ReplyKind.TheVariants as kinds
 abbrev pub answer_kind : Asking → ReplyKind
 answer_kind asked.Call = kinds.Live
 answer_kind asked.Set = kinds.Ack
-answer_kind asked.Answer = kinds.Confirm
+answer_kind asked.Token = kinds.Confirm
+answer_kind asked.Fetch = kinds.Live
 
 -- a reply with a word of refusal is one, whatever was asked
 abbrev pub reply_kind : Asking → Option FieldValue → ReplyKind

@@ -101,9 +101,9 @@ IsFor me to (replies.Refused word number) = Unit {0}
 
 -- the reply may answer that
 abbrev pub Answers : Asking → Outgoing → Type 0
-Answers asking (replies.Answered id answer response) = asking ≡ asked.Call
+Answers asking (replies.Answered id answer response) = (asking ≡ asked.Call) ⊎ (asking ≡ asked.Fetch)
 Answers asking (replies.Ack ack) = asking ≡ asked.Set
-Answers asking (replies.Confirm confirm) = asking ≡ asked.Answer
+Answers asking (replies.Confirm confirm) = asking ≡ asked.Token
 Answers asking (replies.Refused word number) = Unit {0}
 
 abbrev pub IsLiveAnswer : RequestId → Option AnswerMessage → Response → Type 0

@@ -14,18 +14,20 @@ pub enum Asking {
     Call,
     /// A version of a call.
     Set,
-    /// An answer to a call of the peer's.
-    Answer,
+    /// A token, which announces an answer to a call of the peer's.
+    Token,
+    /// A fetch of an answer to a call, which is answered as a live call is.
+    Fetch,
 }
 
 /// A kind of reply.
 #[derive(Clone, Copy, Debug, PartialEq, Eq)]
 pub enum ReplyKind {
-    /// The answer to a live call.
+    /// The answer to a live call, or the one that was fetched.
     Live,
     /// The acknowledgement of a version of a call.
     Ack,
-    /// The confirmation of an answer.
+    /// The confirmation of a token.
     Confirm,
     /// A refusal.
     Refusal,
@@ -35,9 +37,9 @@ fn answer_kind(asking: Asking) -> ReplyKind
     ensures { result ≡ answer_kind asking }
 {
     match asking {
-        Asking::Call => ReplyKind::Live,
+        Asking::Call | Asking::Fetch => ReplyKind::Live,
         Asking::Set => ReplyKind::Ack,
-        Asking::Answer => ReplyKind::Confirm,
+        Asking::Token => ReplyKind::Confirm,
     }
 }
 

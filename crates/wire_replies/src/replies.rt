@@ -13,13 +13,13 @@ pub enum Outgoing {
     Answered {
         /// The service's id for the request.
         id: RequestId,
-        /// The answer as its caller keeps it, where the request is a peer's call.
+        /// The answer as its caller keeps it, where the request is a peer's call or fetch.
         answer: Option<AnswerMessage>,
         response: Response,
     },
     /// That a version of a peer's call was taken.
     Ack(Ack),
-    /// That a peer's answer was seen.
+    /// That a peer's token was noted.
     Confirm(Confirm),
     /// That nothing was done, and why.
     Refused {

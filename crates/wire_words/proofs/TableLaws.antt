@@ -4,6 +4,8 @@ use Rattle.std.proofs.lemmas.Bool.Decides.{nat_tests}
 use Rattle.lang_base.specs.Texts.{same_text}
 use Rattle.repair_messages.specs.Refusals.{word_said, word_text}
 use Rattle.repair_messages.specs.declared.messages.AnswerMessage.{AnswerMessage}
+use Rattle.repair_messages.specs.declared.posts.Post.{Post}
+use Rattle.repair_messages.specs.declared.posts.Post.TheVariants as posts
 use Rattle.repair_messages.specs.declared.refusals.RefusalWord.{RefusalWord}
 use Rattle.repair_messages.specs.declared.refusals.RefusalWord.TheVariants.{NoMemory, Full, NotYet, Gone, NoFlight, Denied, Unknown, Foreign, NoSuchRequest, NotHeld, NotOutside}
 use Rattle.call_registers.specs.declared.register.Why.{Why}
@@ -16,6 +18,8 @@ use Rattle.service_events.specs.declared.refusals.AnswerRefused.{AnswerRefused}
 use Rattle.service_events.specs.declared.refusals.AnswerRefused.TheVariants as answer
 use Rattle.service_events.specs.declared.refusals.ArriveRefused.{ArriveRefused}
 use Rattle.service_events.specs.declared.refusals.ArriveRefused.TheVariants as arrive
+use Rattle.service_events.specs.declared.refusals.GiveRefused.{GiveRefused}
+use Rattle.service_events.specs.declared.refusals.GiveRefused.TheVariants as give
 use Rattle.service_events.specs.declared.refusals.OrderRefused.{OrderRefused}
 use Rattle.service_events.specs.declared.refusals.OrderRefused.TheVariants as order
 use Rattle.service_events.specs.declared.refusals.TakeRefused.{TakeRefused}
@@ -26,8 +30,8 @@ use Rattle.wire_fields.proofs.WordLemmas.{lone_back, lone_text, numbered_back, n
 use Rattle.wire_replies.specs.declared.replies.Outgoing.{Outgoing}
 use Rattle.wire_replies.specs.declared.replies.Outgoing.TheVariants as replies
 use Rattle.wire_words.specs.Failures.{IsArriveTold, ReadsRefusals, ReadsRefusalsAlone, RefusesCall, arrive_refused, call_reply, refused_so, why_failed, why_refused}
-use Rattle.wire_words.specs.Posts.{IsAnswerTold, IsTakeTold, ReadsWordsAlone, post_word, post_word_text, refused_by}
-use Rattle.wire_words.specs.Refusals.{IsOrderTold, IsTold, Told, answer_told, arrive_told, order_told, take_told}
+use Rattle.wire_words.specs.Posts.{IsAnswerTold, IsGiveTold, IsTakeTold, ReadsWordsAlone, given_to, post_word, post_word_text, refused_by}
+use Rattle.wire_words.specs.Refusals.{IsOrderTold, IsTold, Told, answer_told, arrive_told, give_told, order_told, take_told}
 
 -- ---- spellings
 
@@ -50,6 +54,11 @@ unfolding lone_status numbered_status unread_word word_said
 answer_spelt answer.NoMemory = inl (refl, refl)
 answer_spelt (answer.Unknown n) = inr refl
 answer_spelt (answer.Denied rule) = inr refl
+
+pub give_spelt : (why : GiveRefused) → IsTold (give_told why)
+unfolding lone_status numbered_status unread_word word_said
+give_spelt give.NoMemory = inl (refl, refl)
+give_spelt (give.Unknown n) = inr refl
 
 pub order_spelt : (why : OrderRefused) → IsTold (order_told why)
 unfolding lone_status numbered_status unread_word word_said
@@ -142,6 +151,11 @@ answer_back answer.NoMemory = refl
 answer_back (answer.Unknown n) = refl
 answer_back (answer.Denied rule) = refl
 
+pub give_back : (why : GiveRefused) → IsGiveTold why
+unfolding post_word word_said
+give_back give.NoMemory = refl
+give_back (give.Unknown n) = refl
+
 -- the refusal of a post that a word tells is spelled so
 post_spelled : (word : RefusalWord) (refuses : PostWord) → refusing_post word ≡ Some refuses → word_text word ≡ post_word_text refuses
 post_spelled NoMemory refuses is = let it : words.NoMemory ≡ refuses = cc in ap post_word_text it
@@ -164,11 +178,18 @@ word_only text refuses is = by (word_said text) refl is
     by None none is = absurd (cc is)
     by (Some word) said is = said_spelled text word said ∙ post_spelled word refuses is
 
-pub words_alone : (reply : Outgoing) → ReadsWordsAlone reply
-words_alone (replies.Answered id message response) = λ word n same. absurd (cc same)
-words_alone (replies.Ack ack) = λ word n same. absurd (cc same)
-words_alone (replies.Confirm confirm) = λ word n same. absurd (cc same)
-words_alone (replies.Refused text k) = λ word n same. by (post_word text) refl word n same
+-- an answer that is given refuses nothing
+given_alone : (post : Post) (message : Option AnswerMessage) (word : PostWord) (n : ℕ) → given_to post message ≡ Some (back.Refused word n) → ⊥
+given_alone (posts.Set set) message word n same = cc
+given_alone (posts.Token token) message word n same = cc
+given_alone (posts.Fetch fetch) None word n same = cc
+given_alone (posts.Fetch fetch) (Some message) word n same = cc
+
+pub words_alone : (post : Post) (reply : Outgoing) → ReadsWordsAlone post reply
+words_alone post (replies.Answered id message response) = λ word n same. absurd (given_alone post message word n same)
+words_alone post (replies.Ack ack) = λ word n same. absurd (cc same)
+words_alone post (replies.Confirm confirm) = λ word n same. absurd (cc same)
+words_alone post (replies.Refused text k) = λ word n same. by (post_word text) refl word n same
   where
     by : (o : Option PostWord) → post_word text ≡ o → (word : PostWord) (n : ℕ) → refused_by o k ≡ Some (back.Refused word n)
         → replies.Refused text k ≡ replies.Refused (post_word_text word) n

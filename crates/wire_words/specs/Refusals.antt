@@ -2,9 +2,10 @@
 use Rattle.std.specs.Prelude.{◌≡◌, ℕ, List}
 use Rattle.repair_messages.specs.Refusals.{word_text}
 use Rattle.repair_messages.specs.declared.refusals.Refusal.{Refusal}
-use Rattle.service_events.specs.Refusals.{answer_refusal, arrive_refusal, order_refusal, take_refusal}
+use Rattle.service_events.specs.Refusals.{answer_refusal, arrive_refusal, give_refusal, order_refusal, take_refusal}
 use Rattle.service_events.specs.declared.refusals.AnswerRefused.{AnswerRefused}
 use Rattle.service_events.specs.declared.refusals.ArriveRefused.{ArriveRefused}
+use Rattle.service_events.specs.declared.refusals.GiveRefused.{GiveRefused}
 use Rattle.service_events.specs.declared.refusals.OrderRefused.{OrderRefused}
 use Rattle.service_events.specs.declared.refusals.TakeRefused.{TakeRefused}
 use Rattle.wire_replies.specs.Writing.{IsSpelt}
@@ -25,9 +26,13 @@ arrive_told why = refusal_told (arrive_refusal why)
 abbrev pub take_told : TakeRefused → Told
 take_told why = refusal_told (take_refusal why)
 
--- of an answer to a call
+-- of a token
 abbrev pub answer_told : AnswerRefused → Told
 answer_told why = refusal_told (answer_refusal why)
+
+-- of a fetch
+abbrev pub give_told : GiveRefused → Told
+give_told why = refusal_told (give_refusal why)
 
 -- of an order
 abbrev pub order_told : OrderRefused → Told

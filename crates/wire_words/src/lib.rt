@@ -9,5 +9,5 @@ mod words;
 
 pub use failures::{call_reply, why_unread};
 pub use posts::{asking_of, post_reply};
-pub use refusals::{Told, answer_told, arrive_told, order_told, refusal, take_told};
+pub use refusals::{Told, answer_told, arrive_told, give_told, order_told, refusal, take_told};
 pub use words::{front_word, wire_word};

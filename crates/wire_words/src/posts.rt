@@ -1,8 +1,8 @@
 // What a post asks, and what a reply to it comes to for the service that posted it.
 ghost use Rattle.std.specs.Prelude.{◌≡◌};
-ghost use Rattle.wire_words.specs.Posts.{ReadsWordsAlone, asking_of, post_reply, post_word};
+ghost use Rattle.wire_words.specs.Posts.{ReadsWordsAlone, asking_of, given_to, post_reply, post_word};
 
-use repair_messages::{Post, RefusalWord};
+use repair_messages::{AnswerMessage, Post, RefusalWord};
 use service_events::{PostReply, PostWord};
 use wire_replies::{Asking, Outgoing};
 
@@ -12,7 +12,8 @@ pub fn asking_of(post: &Post) -> Asking
 {
     match post {
         Post::Set(_) => Asking::Set,
-        Post::Answer(_) => Asking::Answer,
+        Post::Token(_) => Asking::Token,
+        Post::Fetch(_) => Asking::Fetch,
     }
 }
 
@@ -26,15 +27,24 @@ fn post_word(word: &str) -> Option<PostWord>
     }
 }
 
-/// What a reply says of the post that it answers; None exactly where it answers a live call, or refuses with a word that
-/// refuses no post: then nothing is noted of it, and the post is sent again.
+fn given_to(post: &Post, answer: Option<AnswerMessage>) -> Option<PostReply>
+    ensures { result ≡ given_to post.now answer }
+{
+    match post {
+        Post::Fetch(_) => answer.map(PostReply::Given),
+        Post::Set(_) | Post::Token(_) => None,
+    }
+}
+
+/// What a reply says of the post that it answers: a fetch is given its answer. None exactly where it is an answer that
+/// wasn't fetched, or refuses with a word that refuses no post: then nothing is noted of it, and the post is sent again.
 #[tactic(auto, using(crate::proofs::TableLaws::words_alone))]
-pub fn post_reply(reply: Outgoing) -> Option<PostReply>
-    ensures reply { result ≡ post_reply reply }
-    ensures alone { ReadsWordsAlone reply }
+pub fn post_reply(post: &Post, reply: Outgoing) -> Option<PostReply>
+    ensures reply { result ≡ post_reply post.now reply }
+    ensures alone { ReadsWordsAlone post.now reply }
 {
     match reply {
-        Outgoing::Answered { .. } => None,
+        Outgoing::Answered { answer, .. } => given_to(post, answer),
         Outgoing::Ack(ack) => Some(PostReply::Acked(ack)),
         Outgoing::Confirm(confirm) => Some(PostReply::Confirmed(confirm)),
         Outgoing::Refused { word, number } => match post_word(word.as_str()) {

@@ -2,12 +2,12 @@
 ghost use Rattle.std.specs.Prelude.{◌≡◌, Some, IfOk};
 ghost use Rattle.wire_fields.specs.Words.{refusal_of, refusal_text};
 ghost use Rattle.wire_words.specs.Failures.{IsArriveTold};
-ghost use Rattle.wire_words.specs.Posts.{IsAnswerTold, IsTakeTold};
-ghost use Rattle.wire_words.specs.Refusals.{IsOrderTold, IsTold, answer_told, arrive_told, order_told, refusal_told, take_told};
+ghost use Rattle.wire_words.specs.Posts.{IsAnswerTold, IsGiveTold, IsTakeTold};
+ghost use Rattle.wire_words.specs.Refusals.{IsOrderTold, IsTold, answer_told, arrive_told, give_told, order_told, refusal_told, take_told};
 
 use lang_core::{NoMemory, Text};
 use repair_messages::Refusal;
-use service_events::{AnswerRefused, ArriveRefused, OrderRefused, TakeRefused};
+use service_events::{AnswerRefused, ArriveRefused, GiveRefused, OrderRefused, TakeRefused};
 use std::alloc::Global;
 use wire_replies::Outgoing;
 
@@ -40,12 +40,22 @@ pub fn take_told(why: TakeRefused) -> Told
     refusal_told(why.refusal())
 }
 
-/// Why an answer to a call was refused.
+/// Why a token was refused.
 #[tactic(auto, using(crate::proofs::TableLaws::answer_spelt, crate::proofs::TableLaws::answer_back))]
 pub fn answer_told(why: AnswerRefused) -> Told
     ensures told { (result.0.now, result.1) ≡ answer_told why }
     ensures spelt { IsTold (answer_told why) }
     ensures back { IsAnswerTold why }
+{
+    refusal_told(why.refusal())
+}
+
+/// Why a fetch was refused.
+#[tactic(auto, using(crate::proofs::TableLaws::give_spelt, crate::proofs::TableLaws::give_back))]
+pub fn give_told(why: GiveRefused) -> Told
+    ensures told { (result.0.now, result.1) ≡ give_told why }
+    ensures spelt { IsTold (give_told why) }
+    ensures back { IsGiveTold why }
 {
     refusal_told(why.refusal())
 }
