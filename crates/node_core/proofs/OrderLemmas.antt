@@ -162,7 +162,8 @@ module _ (s t : Kept) where
   note_written (events.CallFailed flight number why) (done.CallFailed r) h = refl
   note_written (events.Abandon flight) (done.Abandon found) h = refl
   note_written (events.Take set i) (done.Take r) h = refl
-  note_written (events.TakeAnswer a) (done.TakeAnswer r) h = refl
+  note_written (events.TakeToken x) (done.TakeToken r) h = refl
+  note_written (events.Give f) (done.Give r) h = refl
   note_written (events.NextPost dest) (done.NextPost name) h = refl
   note_written (events.WritePost name) (done.WritePost r) h = refl
   note_written (events.Posted p reply) (done.Posted r) h = refl

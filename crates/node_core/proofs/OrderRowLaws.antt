@@ -13,13 +13,15 @@ use Rattle.lang_core.specs.declared.trace.CallMade.{CallMade}
 use Rattle.lang_core.specs.declared.trace.Trace.{Trace}
 use Rattle.repair_messages.specs.declared.messages.AnswerMessage.{AnswerMessage}
 use Rattle.repair_messages.specs.declared.messages.SetMessage.{SetMessage}
+use Rattle.repair_messages.specs.declared.messages.TokenMessage.{TokenMessage}
 use Rattle.repair_messages.specs.declared.posts.Post.{Post}
-use Rattle.repair_messages.specs.declared.posts.Post.TheVariants.{Set, Answer}
-use Rattle.journal_rows.specs.Words.{last_taken}
+use Rattle.repair_messages.specs.declared.posts.Post.TheVariants.{Set, Token, Fetch}
+use Rattle.journal_rows.specs.Words.{last_taken, noted_at}
 use Rattle.journal_rows.specs.declared.callee.TookRow.{TookRow}
+use Rattle.journal_rows.specs.declared.caller.NotedRow.{NotedRow}
 use Rattle.journal_rows.specs.declared.row.Row.{Row}
 use Rattle.journal_rows.specs.declared.row.Row.TheVariants.{Asked, Ordered}
-use Rattle.call_registers.specs.Registers.{register, next_number, is_newer}
+use Rattle.call_registers.specs.Registers.{register, next_number, is_news, is_newer}
 use Rattle.call_registers.specs.declared.register.Hold.{Hold}
 use Rattle.call_registers.specs.declared.register.Register.{Register}
 use Rattle.call_registers.specs.declared.register.Why.{Why}
@@ -31,13 +33,13 @@ use Rattle.service_events.specs.Arriving.{abandoned, accepted, admitted, answere
 use Rattle.service_events.specs.Calls.{all_deleted, named, noted}
 use Rattle.service_events.specs.Event.{event, is_lacking, Happens}
 use Rattle.service_events.specs.Flying.{awaited, before_answer, call_or_none, change_rows, changed, changed_unsent, committed, completed, completing, flight_run, goes_on, live_answer, moved, named_unsent, surplus_rows, took_rows, waits, wanted_of, with_change, with_slot}
-use Rattle.service_events.specs.Messages.{acked_again, acked_row, answer_taken_where, confirmed_row, hear_new, hear_rule, heard, held_back, held_where, hold_of, is_known, is_now, is_too_much, origin_of, posted, saw_ack_row, seen_row, take_admitted, take_new, taken, taken_by, took_row, was_confirmed_row}
+use Rattle.service_events.specs.Messages.{acked_again, acked_row, confirmed_row, fetched, fetched_row, hear_new, hear_rule, heard, held_back, held_where, hold_of, is_known, is_now, is_too_much, noted_row, origin_of, posted, saw_ack_row, take_admitted, take_new, taken, taken_by, token_taken_where, took_row, was_confirmed_row}
 use Rattle.service_events.specs.State.{Kept, After, after, answers, base, flight_of, is_crowded, is_heavy, next_id, or_else}
 use Rattle.service_events.specs.Steps.{answer_rows, new_record, sent_rows, Stale, stale_in, step_by, step_event}
 use Rattle.service_events.specs.declared.answers.Arrived.{Arrived}
 use Rattle.service_events.specs.declared.answers.PostReply.{PostReply}
-use Rattle.service_events.specs.declared.answers.PostReply.TheVariants.{Acked as WasAcked, Confirmed as WasConfirmedBack, Refused, Lost}
-use Rattle.service_events.specs.declared.answers.Posted.TheVariants.{Held, Left}
+use Rattle.service_events.specs.declared.answers.PostReply.TheVariants.{Acked as WasAcked, Confirmed as WasConfirmedBack, Given, Refused, Lost}
+use Rattle.service_events.specs.declared.answers.Posted.TheVariants.{Saw, Knew, Held, Left}
 use Rattle.service_events.specs.declared.event.Done.{Done}
 use Rattle.service_events.specs.declared.event.Event.{Event}
 use Rattle.service_events.specs.declared.event.Event.TheVariants as events
@@ -232,32 +234,43 @@ module _ (orders : List Row) where
       (λ _. by_rows s (acked_again s set) (acked_row set ∷ []) refl (tt, tt) h)
       (λ _. take_either s set i (λ a. Has a.service) h (taken_has s set i _ set.desired h))
 
-  -- an answer
-  heard_has : (s : Kept) (a : AnswerMessage) (r : Register) (known new : Bool) → Has s
+  -- a token
+  heard_has : (s : Kept) (a : TokenMessage) (r : Register) (known new : Bool) → Has s
       → Has (if not known then after s (Err (Unknown a.number)) else (if new then hear_new s a r else after (noted (confirmed_row a ∷ []) s) (Ok (heard a None)))).service
   heard_has s a r false new h = h
   heard_has s a r true true h =
-      let rows = seen_row (hear_rule s a r) a ∷ (confirmed_row a ∷ []) in
+      let rows = noted_row (hear_rule s a r) a ∷ (confirmed_row a ∷ []) in
       hear_either s a r (λ a. Has a.service) h (by_rows s (noted rows s) rows refl (tt, (tt, tt)) h)
   heard_has s a r true false h = by_rows s (noted (confirmed_row a ∷ []) s) (confirmed_row a ∷ []) refl (tt, tt) h
 
-  answer_has : (s : Kept) (a : AnswerMessage) (o : Option Register) → Has s → Has (answer_taken_where s a o).service
-  answer_has s a None h = h
-  answer_has s a (Some r) h = heard_has s a r (same_text r.dest a.callee) (is_newer r.answer a.answer_version) h
+  token_has : (s : Kept) (a : TokenMessage) (o : Option Register) → Has s → Has (token_taken_where s a o).service
+  token_has s a None h = h
+  token_has s a (Some r) h = heard_has s a r (same_text r.dest a.callee) (is_news r a.answer_version) h
 
   -- what comes back of a post
   back_has : (s : Kept) (post : Post) (hold : Hold) → Has s → Has (held_back s post hold)
   back_has s (Set set) hold h = h
-  back_has s (Answer a) hold h = h
+  back_has s (Token a) hold h = h
+  back_has s (Fetch f) hold h = h
 
   held_has : (s : Kept) (post : Post) (hold : Option Hold) → Has s → Has (held_where s post hold).service
   held_has s post None h = h
   held_has s post (Some hold) h =
       cond_both (is_now s post) (after (held_back s post hold) (Ok Held)) (after s (Ok Left)) (λ a. Has a.service) (λ _. back_has s post hold h) (λ _. h)
 
+  -- of a fetch, an answer
+  fetched_has : (s : Kept) (a : AnswerMessage) (o : Option Register) (n : Option NotedRow) → Has s → Has (fetched s a o n).service
+  fetched_has s a None n h = h
+  fetched_has s a (Some r) None h = h
+  fetched_has s a (Some r) (Some n) h =
+      let rows = fetched_row a n ∷ [] in
+      cond_both (is_newer r.answer a.answer_version) (after (noted rows s) (Ok Saw)) (after s (Ok Knew)) (λ a. Has a.service)
+      (λ _. by_rows s (noted rows s) rows refl (tt, tt) h) (λ _. h)
+
   reply_has : (s : Kept) (post : Post) (reply : PostReply) → Has s → Has (posted s post reply).service
   reply_has s post (WasAcked ack) h = by_rows s (posted s post (WasAcked ack)).service (saw_ack_row ack ∷ []) refl (tt, tt) h
   reply_has s post (WasConfirmedBack c) h = by_rows s (posted s post (WasConfirmedBack c)).service (was_confirmed_row c ∷ []) refl (tt, tt) h
+  reply_has s post (Given a) h = fetched_has s a (register a.number s.registers) (noted_at a.number a.answer_version s.journal) h
   reply_has s post (Refused word number) h = held_has s post (hold_of word number) h
   reply_has s post (Lost note) h = h
 
@@ -278,7 +291,8 @@ event_has s (events.CallFailed id number why) none = failed_has (ordered_rows s.
 event_has s (events.Abandon id) none = abandoned_has (ordered_rows s.journal) s (flight_of id s) refl
 event_has s (events.Take set i) none =
     takes_either s set i (λ a. ordered_rows a.service.journal ≡ ordered_rows s.journal) refl (version_taken_has (ordered_rows s.journal) s set i (is_too_much s set) refl)
-event_has s (events.TakeAnswer a) none = answer_has (ordered_rows s.journal) s a (register a.number s.registers) refl
+event_has s (events.TakeToken a) none = token_has (ordered_rows s.journal) s a (register a.number s.registers) refl
+event_has s (events.Give f) none = refl
 event_has s (events.NextPost dest) none = refl
 event_has s (events.WritePost name) none = refl
 event_has s (events.Posted post reply) none =

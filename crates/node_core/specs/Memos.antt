@@ -27,7 +27,8 @@ memo_of (events.CallAnswered flight a) = memos.Answered
 memo_of (events.CallFailed flight number why) = memos.Failed why
 memo_of (events.Abandon flight) = memos.Abandoned
 memo_of (events.Take set i) = memos.Given (events.Take set i)
-memo_of (events.TakeAnswer a) = memos.Given (events.TakeAnswer a)
+memo_of (events.TakeToken t) = memos.Given (events.TakeToken t)
+memo_of (events.Give f) = memos.Given (events.Give f)
 memo_of (events.NextPost dest) = memos.NextPost dest
 memo_of (events.WritePost name) = memos.Nothing
 memo_of (events.Posted p reply) = memos.Posted (post_name p)
@@ -37,7 +38,8 @@ memo_of (events.Order command token who i) = memos.Given (events.Order command t
 -- a message or an order, with its answer
 abbrev pub given_by : Option Gave → Event → Done → Option Gave
 given_by before event (done.Take result) = gave event (done.Take result)
-given_by before event (done.TakeAnswer result) = gave event (done.TakeAnswer result)
+given_by before event (done.TakeToken result) = gave event (done.TakeToken result)
+given_by before event (done.Give result) = gave event (done.Give result)
 given_by before event (done.Order result) = gave event (done.Order result)
 given_by before event answer = before
 

@@ -81,7 +81,8 @@ begun_after me before event other = before
 
 abbrev pub post_name : Post → PostName
 post_name (posts.Set set) = names.Call set.number
-post_name (posts.Answer a) = names.Reply a.id
+post_name (posts.Token t) = names.Reply t.id
+post_name (posts.Fetch f) = names.Fetch f.number
 
 abbrev pub next_posting : List ℕ → Option PostName → Option Posting
 next_posting dest None = Some (posting.Quiet dest)
@@ -109,7 +110,8 @@ gave_arrival given result = given
 abbrev pub gave_after : Option Gave → Event → Done → Option Gave
 gave_after before event (done.Arrive result) = gave_arrival (gave event (done.Arrive result)) result
 gave_after before event (done.Take result) = gave event (done.Take result)
-gave_after before event (done.TakeAnswer result) = gave event (done.TakeAnswer result)
+gave_after before event (done.TakeToken result) = gave event (done.TakeToken result)
+gave_after before event (done.Give result) = gave event (done.Give result)
 gave_after before event (done.Order result) = gave event (done.Order result)
 gave_after before event answer = before
 

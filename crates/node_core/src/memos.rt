@@ -9,7 +9,7 @@ ghost use Rattle.node_core.specs.declared.memos.Memo.TheVariants as memos;
 use call_registers::Why;
 use journal_rows::Command;
 use lang_core::{Copied, Inputs, Name, NoMemory, Origin, Request, Text};
-use repair_messages::{AnswerMessage, Post, PostName, SetMessage, copied_pair};
+use repair_messages::{Fetch, Post, PostName, SetMessage, TokenMessage, copied_pair};
 use service_events::Event;
 use std::alloc::Global;
 
@@ -61,11 +61,18 @@ fn take(alloc: Global, set: &SetMessage, inputs: Inputs) -> Result<Memo, NoMemor
     Ok(Memo::Given(Event::Take { set, inputs }))
 }
 
-fn take_answer(alloc: Global, answer: &AnswerMessage) -> Result<Memo, NoMemory>
-    ensures { IfOk result (λ memo. memo ≡ memos.Given (events.TakeAnswer answer.now)) }
+fn take_token(alloc: Global, token: &TokenMessage) -> Result<Memo, NoMemory>
+    ensures { IfOk result (λ memo. memo ≡ memos.Given (events.TakeToken token.now)) }
 {
-    let answer = answer.copied(alloc)?;
-    Ok(Memo::Given(Event::TakeAnswer { answer }))
+    let token = token.copied(alloc)?;
+    Ok(Memo::Given(Event::TakeToken { token }))
+}
+
+fn give(alloc: Global, fetch: &Fetch) -> Result<Memo, NoMemory>
+    ensures { IfOk result (λ memo. memo ≡ memos.Given (events.Give fetch.now)) }
+{
+    let fetch = fetch.copied(alloc)?;
+    Ok(Memo::Given(Event::Give { fetch }))
 }
 
 fn next_post(alloc: Global, dest: &Name) -> Result<Memo, NoMemory>
@@ -101,7 +108,8 @@ fn post_name(post: &Post) -> PostName
 {
     match post {
         Post::Set(set) => PostName::Call(set.number),
-        Post::Answer(answer) => PostName::Reply(answer.id),
+        Post::Token(token) => PostName::Reply(token.id),
+        Post::Fetch(fetch) => PostName::Fetch(fetch.number),
     }
 }
 
@@ -120,7 +128,8 @@ pub(crate) fn memo_of(alloc: Global, event: &Event) -> Result<Memo, NoMemory>
         Event::CallFailed { why, .. } => Ok(Memo::Failed(*why)),
         Event::Abandon { .. } => Ok(Memo::Abandoned),
         Event::Take { set, inputs } => take(alloc, set, *inputs),
-        Event::TakeAnswer { answer } => take_answer(alloc, answer),
+        Event::TakeToken { token } => take_token(alloc, token),
+        Event::Give { fetch } => give(alloc, fetch),
         Event::NextPost { dest } => next_post(alloc, dest),
         Event::Posted { post, .. } => Ok(Memo::Posted(post_name(post))),
         Event::WritePost { .. } | Event::Step => Ok(Memo::Nothing),

@@ -182,8 +182,12 @@ fn give(rt: &impl Wait, alloc: Global, notes: &mut Notes, asked: Event, done: &D
             let done = Done::Take(answer_at_last(rt, alloc, taken));
             notes.gave.put(Gave { asked, done });
         }
-        Done::TakeAnswer(heard) => {
-            let done = Done::TakeAnswer(answer_at_last(rt, alloc, heard));
+        Done::TakeToken(heard) => {
+            let done = Done::TakeToken(answer_at_last(rt, alloc, heard));
+            notes.gave.put(Gave { asked, done });
+        }
+        Done::Give(given) => {
+            let done = Done::Give(answer_at_last(rt, alloc, given));
             notes.gave.put(Gave { asked, done });
         }
         Done::Order(ordered) => {

@@ -23,19 +23,19 @@ use Rattle.node_exchanges.specs.declared.exchanges.Back.TheVariants as backs
 
 -- ---- what is said by what came back
 
-by_reply : (status : ℕ) (reply : Result Outgoing WireRefused) → said_by (backs.Response status (if_reply reply)) ≡ said_in reply
-by_reply status (Ok reply) = refl
-by_reply status (Err why) = refl
+by_reply : (p : Post) (status : ℕ) (reply : Result Outgoing WireRefused) → said_by p (backs.Response status (if_reply reply)) ≡ said_in p reply
+by_reply p status (Ok reply) = refl
+by_reply p status (Err why) = refl
 
-by_read : (read : Result Replied FrontRefused) → said_by (back_of read) ≡ said_of read
-by_read (Ok replied) = by_reply replied.status replied.reply
-by_read (Err why) = refl
+by_read : (p : Post) (read : Result Replied FrontRefused) → said_by p (back_of read) ≡ said_of p read
+by_read p (Ok replied) = by_reply p replied.status replied.reply
+by_read p (Err why) = refl
 
 said_from : (e : Endpoint) (dest secret : List ℕ) (p : Post) (answer : Exchange) (came : Result Back LacksMemory)
-    → IfOk came (ComesBack e.me dest secret (asking_of p) answer) → IfOk (said_with came) (CameBack e dest secret p answer)
-said_from e dest secret p (answers.Reply bytes) (Ok came) of = (of.0, of.1, of.2, ap said_by of.3 ∙ by_read of.0)
+    → IfOk came (ComesBack e.me dest secret (asking_of p) answer) → IfOk (said_with p came) (CameBack e dest secret p answer)
+said_from e dest secret p (answers.Reply bytes) (Ok came) of = (of.0, of.1, of.2, ap (said_by p) of.3 ∙ by_read p of.0)
 said_from e dest secret p answers.NoMemory (Ok came) of = of
-said_from e dest secret p (answers.Failed note) (Ok came) of = ap said_by of
+said_from e dest secret p (answers.Failed note) (Ok came) of = ap (said_by p) of
 said_from e dest secret p answer (Err why) of = tt
 
 -- ---- an exchange
@@ -63,8 +63,8 @@ module _ (e : Endpoint) (dest secret address bytes : List ℕ) (p : Post) (befor
 
   -- it sent the post, and that came back
   pub posted : (came : Result Back LacksMemory) → IsExchanged e.me dest secret (asking_of p) address bytes before now came
-      → IfOk (said_with came) (λ (reply : Option PostReply). PostsIt e dest p reply before now)
-  posted came made = sent_back made.answer (said_with came) made.left (said_from e dest secret p made.answer came made.back)
+      → IfOk (said_with p came) (λ (reply : Option PostReply). PostsIt e dest p reply before now)
+  posted came made = sent_back made.answer (said_with p came) made.left (said_from e dest secret p made.answer came made.back)
 
   -- and sent it once at most
   pub posted_at_most : (answer : Exchange) → Leaves before now address bytes answer → PostsAtMost e dest p before now

@@ -21,31 +21,31 @@ use Rattle.node_exchanges.specs.Endpoints.{Endpoint}
 use Rattle.node_exchanges.specs.declared.exchanges.Back.{Back}
 use Rattle.node_exchanges.specs.declared.exchanges.Back.TheVariants as backs
 
-abbrev pub said_in : Result Outgoing WireRefused → Option PostReply
-said_in (Ok reply) = post_reply reply
-said_in (Err why) = None
+abbrev pub said_in : Post → Result Outgoing WireRefused → Option PostReply
+said_in post (Ok reply) = post_reply post reply
+said_in post (Err why) = None
 
 -- what a response says of the post that it answers, if anything
-abbrev pub said_of : Result Replied FrontRefused → Option PostReply
-said_of (Ok replied) = said_in replied.reply
-said_of (Err why) = None
+abbrev pub said_of : Post → Result Replied FrontRefused → Option PostReply
+said_of post (Ok replied) = said_in post replied.reply
+said_of post (Err why) = None
 
 -- this came back of a post to this peer: that its exchange failed, or what the bytes of a reply spell, if anything
 abbrev pub CameBack : Endpoint → List ℕ → List ℕ → Post → Exchange → Option PostReply → Type 0
 CameBack e dest secret post (answers.Reply bytes) reply =
-    (read : Result Replied FrontRefused) × (left : List ℕ) × IsReplied e.me dest secret (asking_of post) bytes read left × (reply ≡ said_of read)
+    (read : Result Replied FrontRefused) × (left : List ℕ) × IsReplied e.me dest secret (asking_of post) bytes read left × (reply ≡ said_of post read)
 CameBack e dest secret post answers.NoMemory reply = ⊥
 CameBack e dest secret post (answers.Failed note) reply = reply ≡ Some (replies.Lost note)
 
--- what is said by what came back
-abbrev pub said_by : Back → Option PostReply
-said_by (backs.Failed note) = Some (replies.Lost note)
-said_by (backs.Response status None) = None
-said_by (backs.Response status (Some reply)) = post_reply reply
+-- what is said of a post by what came back
+abbrev pub said_by : Post → Back → Option PostReply
+said_by post (backs.Failed note) = Some (replies.Lost note)
+said_by post (backs.Response status None) = None
+said_by post (backs.Response status (Some reply)) = post_reply post reply
 
-abbrev pub said_with : Result Back LacksMemory → Result (Option PostReply) LacksMemory
-said_with (Ok came) = Ok (said_by came)
-said_with (Err why) = Err why
+abbrev pub said_with : Post → Result Back LacksMemory → Result (Option PostReply) LacksMemory
+said_with post (Ok came) = Ok (said_by post came)
+said_with post (Err why) = Err why
 
 -- an exchange in which the post was sent to this peer
 pub record PostSent (e : Endpoint) (dest : List ℕ) (post : Post) (x : Exchanged) : Type 0 where

@@ -17,15 +17,15 @@ use wire_words::{asking_of, post_reply};
 /// How many services stand in a post's chain: no request waits for it, so it has all the time that an exchange may take.
 const NO_SERVICES: usize = 0;
 
-fn said_by(back: Back) -> Option<PostReply>
-    ensures { result ≡ said_by back }
+fn said_by(post: &Post, back: Back) -> Option<PostReply>
+    ensures { result ≡ said_by post.now back }
 {
     match back {
         Back::Failed(note) => Some(PostReply::Lost(note)),
         Back::Response {
             status: _,
             reply: Some(reply),
-        } => post_reply(reply),
+        } => post_reply(post, reply),
         Back::Response {
             status: _,
             reply: None,
@@ -33,11 +33,11 @@ fn said_by(back: Back) -> Option<PostReply>
     }
 }
 
-fn said_with(back: Result<Back, NoMemory>) -> Result<Option<PostReply>, NoMemory>
-    ensures { result ≡ said_with back }
+fn said_with(post: &Post, back: Result<Back, NoMemory>) -> Result<Option<PostReply>, NoMemory>
+    ensures { result ≡ said_with post.now back }
 {
     match back {
-        Ok(back) => Ok(said_by(back)),
+        Ok(back) => Ok(said_by(post, back)),
         Err(NoMemory) => Err(NoMemory),
     }
 }
@@ -63,7 +63,7 @@ pub fn post_to<L: Link>(
     };
     let bytes = post_bytes(alloc, peer.door, &setup.secret, post)?;
     let me = &setup.setting.me;
-    said_with(exchange(
+    let back = exchange(
         alloc,
         me,
         dest,
@@ -72,5 +72,6 @@ pub fn post_to<L: Link>(
         bytes,
         NO_SERVICES,
         link,
-    ))
+    );
+    said_with(post, back)
 }

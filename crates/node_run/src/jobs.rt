@@ -206,7 +206,9 @@ impl Round {
     fn with(self, came: PostedOne) -> Round {
         match came {
             PostedOne::Nothing => self,
-            PostedOne::Posted(Posted::Acked | Posted::Confirmed | Posted::Held) => Round {
+            PostedOne::Posted(
+                Posted::Acked | Posted::Confirmed | Posted::Saw | Posted::Knew | Posted::Held,
+            ) => Round {
                 moved: true,
                 stuck: self.stuck,
             },

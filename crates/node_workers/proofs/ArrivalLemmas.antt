@@ -75,7 +75,8 @@ module _ (e : Endpoint) (o : Origin) (q : Request) (i : Inputs) (before now : No
   arrived_so (done.CallFailed result) m = absurd m.made
   arrived_so (done.Abandon found) m = absurd m.made
   arrived_so (done.Take result) m = absurd m.made
-  arrived_so (done.TakeAnswer result) m = absurd m.made
+  arrived_so (done.TakeToken result) m = absurd m.made
+  arrived_so (done.Give result) m = absurd m.made
   arrived_so (done.NextPost name) m = absurd m.made
   arrived_so (done.WritePost result) m = absurd m.made
   arrived_so (done.Posted result) m = absurd m.made

@@ -1,16 +1,20 @@
--- What a service answers to a version of a call, and to an answer, that a peer sent.
+-- What a service answers to a version of a call, a token and a fetch that a peer sent.
 use Rattle.std.proofs.Common.{◌≡◌, ℕ, Bool, true, false, not, List, [], ◌∷◌, Option, Some, None, Result, Ok, Err, IfOk, if◌then◌else◌, refl, sym, ap, subst}
 use Rattle.lang_base.specs.Texts.{same_text}
 use Rattle.lang_core.specs.declared.inputs.Inputs.{Inputs}
 use Rattle.repair_messages.specs.declared.messages.AnswerMessage.{AnswerMessage}
+use Rattle.repair_messages.specs.declared.messages.Fetch.{Fetch}
 use Rattle.repair_messages.specs.declared.messages.SetMessage.{SetMessage}
+use Rattle.repair_messages.specs.declared.messages.TokenMessage.{TokenMessage}
+use Rattle.journal_rows.specs.Words.{given_at}
+use Rattle.journal_rows.specs.declared.callee.AnsweredRow.{AnsweredRow}
 use Rattle.journal_rows.specs.declared.orders.Command.{Command}
-use Rattle.call_registers.specs.Registers.{is_newer, register}
+use Rattle.call_registers.specs.Registers.{is_news, register}
 use Rattle.call_registers.specs.declared.register.Register.{Register}
 use Rattle.service_events.specs.Calls.{noted}
-use Rattle.service_events.specs.Messages.{ack_of, acked_again, answer_taken_where, confirm_of, confirmed_row, hear_allowed, hear_decision, hear_denied, hear_new, heard, is_known, is_too_much, origin_of, take_admitted, take_allowed, take_answer_event, take_decision, take_denied, take_event, take_new, taken}
+use Rattle.service_events.specs.Messages.{ack_of, acked_again, confirm_of, confirmed_row, give_event, given_where, hear_allowed, hear_decision, hear_denied, hear_new, heard, is_known, is_too_much, origin_of, take_admitted, take_allowed, take_decision, take_denied, take_event, take_new, take_token_event, taken, token_taken_where}
 use Rattle.service_events.specs.Questions.{is_denied}
-use Rattle.service_events.specs.State.{After, Kept, after, is_in_flight}
+use Rattle.service_events.specs.State.{After, Kept, after, is_in_flight, me}
 use Rattle.service_events.specs.declared.answers.Heard.{Heard}
 use Rattle.service_events.specs.declared.answers.Ordered.{Ordered}
 use Rattle.service_events.specs.declared.answers.Taken.{Taken}
@@ -18,12 +22,13 @@ use Rattle.service_events.specs.declared.event.Done.TheVariants as done
 use Rattle.service_events.specs.declared.event.Event.TheVariants as events
 use Rattle.service_events.specs.declared.refusals.AnswerRefused.{AnswerRefused}
 use Rattle.service_events.specs.declared.refusals.AnswerRefused.TheVariants.{Unknown}
+use Rattle.service_events.specs.declared.refusals.GiveRefused.{GiveRefused}
 use Rattle.service_events.specs.declared.refusals.OrderRefused.{OrderRefused}
 use Rattle.service_events.specs.declared.refusals.TakeRefused.{TakeRefused}
 use Rattle.service_events.specs.declared.refusals.TakeRefused.TheVariants.{NotYet}
 use Rattle.node_core.specs.declared.notes.Notes.{Notes}
 use Rattle.node_core.specs.declared.receipt.Receipt.{Receipt}
-use Rattle.node_workers.specs.Messages.{IsHeardSo, IsOrderedSo, IsTakenSo}
+use Rattle.node_workers.specs.Messages.{IsGivenBy, IsGivenSo, IsHeardSo, IsOrderedSo, IsTakenSo}
 use Rattle.node_workers.specs.Turns.{Made}
 
 -- ---- a version of a call
@@ -70,9 +75,9 @@ pub ordered_so : (name : List ℕ) (before now : Notes) (had have : List Receipt
 ordered_so name before now had have command token who i ordered made =
     record { noted = ap (λ (n : Notes). n.gave) made.notes; turn = ap (λ (n : Notes). n.turn) made.notes }
 
--- ---- an answer
+-- ---- a token
 
-module _ (s : Kept) (a : AnswerMessage) where
+module _ (s : Kept) (a : TokenMessage) where
   -- where it was heard, it is confirmed
   abbrev Confirms : After (Result Heard AnswerRefused) → Type 0
   Confirms x = IfOk x.answer (λ (h : Heard). h.confirm ≡ confirm_of a)
@@ -87,20 +92,20 @@ module _ (s : Kept) (a : AnswerMessage) where
     newer_confirms false = refl
 
     other_confirms : (b : Bool)
-        → Confirms (if b then after s (Err (Unknown a.number)) else (if is_newer r.answer a.answer_version then hear_new s a r else after (noted (confirmed_row a ∷ []) s) (Ok (heard a None))))
+        → Confirms (if b then after s (Err (Unknown a.number)) else (if is_news r a.answer_version then hear_new s a r else after (noted (confirmed_row a ∷ []) s) (Ok (heard a None))))
     other_confirms true = tt
-    other_confirms false = newer_confirms (is_newer r.answer a.answer_version)
+    other_confirms false = newer_confirms (is_news r a.answer_version)
 
-  where_confirms : (o : Option Register) → Confirms (answer_taken_where s a o)
+  where_confirms : (o : Option Register) → Confirms (token_taken_where s a o)
   where_confirms None = tt
   where_confirms (Some r) = other_confirms r (not (same_text r.dest a.callee))
 
-  hear_confirms : Confirms (take_answer_event s a)
+  hear_confirms : Confirms (take_token_event s a)
   hear_confirms = where_confirms (register a.number s.registers)
 
--- what a worker was told at its node of an answer
-pub heard_so : (name : List ℕ) (before now : Notes) (had have : List Receipt) (a : AnswerMessage) (heard : Result Heard AnswerRefused)
-    → Made name before now had have (events.TakeAnswer a) (done.TakeAnswer heard) → IsHeardSo a now heard
+-- what a worker was told at its node of a token
+pub heard_so : (name : List ℕ) (before now : Notes) (had have : List Receipt) (a : TokenMessage) (heard : Result Heard AnswerRefused)
+    → Made name before now had have (events.TakeToken a) (done.TakeToken heard) → IsHeardSo a now heard
 heard_so name before now had have a (Ok h) made =
     record {
       noted = ap (λ (n : Notes). n.gave) made.notes;
@@ -109,3 +114,30 @@ heard_so name before now had have a (Ok h) made =
     }
 heard_so name before now had have a (Err why) made =
     record { noted = ap (λ (n : Notes). n.gave) made.notes; turn = ap (λ (n : Notes). n.turn) made.notes; confirm = tt }
+
+-- ---- a fetch
+
+module _ (s : Kept) (f : Fetch) where
+  -- where an answer is given, it is the service's own to that call
+  abbrev Gives : After (Result AnswerMessage GiveRefused) → Type 0
+  Gives x = IfOk x.answer (IsGivenBy (me s) f)
+
+  where_gives : (o : Option AnsweredRow) → Gives (after s (given_where s f o))
+  where_gives None = tt
+  where_gives (Some row) = record { from = refl; to = refl; number = refl }
+
+  fetch_gives : Gives (give_event s f)
+  fetch_gives = where_gives (given_at f.caller f.number f.answer_version s.journal)
+
+-- what a worker was told at its node of a fetch
+pub given_so : (name : List ℕ) (before now : Notes) (had have : List Receipt) (f : Fetch) (given : Result AnswerMessage GiveRefused)
+    → Made name before now had have (events.Give f) (done.Give given) → IsGivenSo name f now given
+given_so name before now had have f (Ok a) made =
+    record {
+      noted = ap (λ (n : Notes). n.gave) made.notes;
+      turn = ap (λ (n : Notes). n.turn) made.notes;
+      answer = subst (λ (who : List ℕ). IsGivenBy who f a) made.is
+          (subst (λ (x : After (Result AnswerMessage GiveRefused)). IfOk x.answer (IsGivenBy (me made.service) f)) (sym made.made.0) (fetch_gives made.service f));
+    }
+given_so name before now had have f (Err why) made =
+    record { noted = ap (λ (n : Notes). n.gave) made.notes; turn = ap (λ (n : Notes). n.turn) made.notes; answer = tt }

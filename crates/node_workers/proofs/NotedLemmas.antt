@@ -194,7 +194,8 @@ module _ (e : Endpoint) where
   message_so reads reads_now i (said.Live set) heard before now had have was is (inr live) =
       inl (live_none (origins.Call set.caller set.number) live.0 i before now had have was is live.2)
   message_so reads reads_now i (said.Set set) heard before now had have was is makes = inl (once_none e.me before now had have (events.Take set i) tt makes.0)
-  message_so reads reads_now i (said.Answer a) heard before now had have was is makes = inl (once_none e.me before now had have (events.TakeAnswer a) tt makes.0)
+  message_so reads reads_now i (said.Token t) heard before now had have was is makes = inl (once_none e.me before now had have (events.TakeToken t) tt makes.0)
+  message_so reads reads_now i (said.Fetch f) heard before now had have was is makes = inl (once_none e.me before now had have (events.Give f) tt makes.0)
   message_so reads reads_now i (said.Console request) heard before now had have was is makes =
       asked_so reads reads_now request i heard (asked_in request) refl before now had have makes.0
 

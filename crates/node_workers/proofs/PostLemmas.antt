@@ -1,19 +1,23 @@
 -- Which post a message is of, and what becomes of one that came back.
-use Rattle.std.proofs.Common.{◌≡◌, ◌&&◌, ℕ, inl, inr, Bool, true, false, cond, List, [], ◌∷◌, Option, Some, None, Result, Ok, Err, IfOk, IsSome, IsSomeAnd, OnErr, find, option_map, refl, sym, ap, ◌∙◌, subst, eqb-true}
-use Rattle.request_log.specs.Entries.{has_id}
-use Rattle.request_log.specs.Records.{Record, record_of}
-use Rattle.request_log.specs.declared.entry.Entry.{Entry}
+use Rattle.std.proofs.Common.{◌≡◌, ◌&&◌, ℕ, inl, inr, Bool, true, false, cond, List, [], ◌∷◌, Option, Some, None, Result, Ok, Err, IfOk, IsSome, IsSomeAnd, OnErr, find, is_some, nat_eq, nat_lt, option_map, refl, sym, ap, ◌∙◌, subst, eqb-true}
+use Rattle.std.proofs.lemmas.Bool.{and_parts}
+use Rattle.lang_base.specs.Texts.{same_text}
+use Rattle.repair_messages.specs.declared.messages.AnswerMessage.{AnswerMessage}
+use Rattle.repair_messages.specs.declared.messages.Fetch.{Fetch as FetchMessage}
 use Rattle.repair_messages.specs.declared.posts.Post.{Post}
-use Rattle.repair_messages.specs.declared.posts.Post.TheVariants.{Set, Answer}
+use Rattle.repair_messages.specs.declared.posts.Post.TheVariants.{Set, Token, Fetch}
 use Rattle.repair_messages.specs.declared.posts.PostName.{PostName}
-use Rattle.repair_messages.specs.declared.posts.PostName.TheVariants.{Call, Reply as OfReply}
-use Rattle.call_registers.specs.Registers.{has_number, register}
+use Rattle.repair_messages.specs.declared.posts.PostName.TheVariants.{Call, Reply as OfReply, Fetch as OfFetch}
+use Rattle.journal_rows.specs.Words.{noted_at}
+use Rattle.journal_rows.specs.declared.caller.NotedRow.{NotedRow}
+use Rattle.call_registers.specs.Registers.{has_number, is_newer, register}
 use Rattle.call_registers.specs.Replies.{has_entry, reply}
 use Rattle.call_registers.specs.declared.register.Hold.{Hold}
 use Rattle.call_registers.specs.declared.register.Register.{Register}
 use Rattle.call_registers.specs.declared.reply.Reply.{Reply}
-use Rattle.service_events.specs.Messages.{had, held_back, held_where, hold_of, is_now, posted, posted_event, replies_to}
-use Rattle.service_events.specs.Posts.{answer_post, next_post, reply_post, set_message, where_there, write_post}
+use Rattle.service_events.specs.Calls.{noted}
+use Rattle.service_events.specs.Messages.{fetched, fetched_row, had, has_call, held_back, held_where, hold_of, is_given_to, is_now, posted, posted_event, replies_to}
+use Rattle.service_events.specs.Posts.{fetch_message, fetch_post, next_post, set_message, token_message, token_post, write_post}
 use Rattle.service_events.specs.State.{After, Kept, after, me}
 use Rattle.service_events.specs.declared.answers.PostReply.{PostReply}
 use Rattle.service_events.specs.declared.answers.PostReply.TheVariants as back
@@ -24,6 +28,7 @@ use Rattle.service_events.specs.declared.event.Done.TheVariants as done
 use Rattle.service_events.specs.declared.event.Event.TheVariants as events
 use Rattle.service_events.specs.declared.refusals.PostRefused.{PostRefused}
 use Rattle.service_events.specs.declared.refusals.PostRefused.TheVariants.{Foreign}
+use Rattle.service_events.proofs.AskedLemmas.{posted_either}
 use Rattle.node_core.specs.HandedOn.{GoesTo}
 use Rattle.wire_bytes.specs.Sending.{receiver_of, sender_of}
 use Rattle.lang_base.specs.declared.memory.NoMemory.{NoMemory as LacksMemory}
@@ -52,7 +57,8 @@ found_passes p (y ∷ ys) x is = found_by p y ys x (found_passes p ys x) (p y) r
 
 receives : (dest : List ℕ) (p : Post) → GoesTo dest p → receiver_of p ≡ dest
 receives dest (Set set) goes = goes
-receives dest (Answer a) goes = goes
+receives dest (Token t) goes = goes
+receives dest (Fetch f) goes = goes
 
 -- the message of this name, from the service of this name to the peer
 record IsWrittenPost (from_name dest : List ℕ) (name : PostName) (post : Post) : Type 0 where
@@ -69,28 +75,35 @@ module _ (s : Kept) (dest : List ℕ) where
       let same : Set (set_message s r) ≡ p = cc in
       record { names = ap post_name (sym same) ∙ ap Call number; from = ap sender_of (sym same); goes = receives dest p goes }
 
-  record_written : (id : ℕ) (q : Reply) (e : Entry) → e.id ≡ id → (o : Option Record) → (p : Post) → option_map (answer_post s q e) o ≡ Some p → GoesTo dest p
+  token_written : (id : ℕ) (q : Reply) → q.id ≡ id → (b : Bool) → (p : Post) → cond b (Some (Token (token_message s q))) None ≡ Some p → GoesTo dest p
       → IsWrittenPost (me s) dest (OfReply id) p
-  record_written id q e number None p is goes = absurd (cc is)
-  record_written id q e number (Some r) p is goes =
-      let same : answer_post s q e r ≡ p = cc in
+  token_written id q number true p is goes =
+      let same : Token (token_message s q) ≡ p = cc in
       record { names = ap post_name (sym same) ∙ ap OfReply number; from = ap sender_of (sym same); goes = receives dest p goes }
+  token_written id q number false p is goes = absurd (cc is)
 
-  entry_written : (id : ℕ) (q : Reply) → q.id ≡ id → (o : Option Entry) → find (has_id q.id) s.entries ≡ o → (p : Post) → reply_post s q o ≡ Some p → GoesTo dest p
-      → IsWrittenPost (me s) dest (OfReply id) p
-  entry_written id q number None found p is goes = absurd (cc is)
-  entry_written id q number (Some e) found p is goes =
-      record_written id q e (eqb-true e.id q.id (found_passes (has_id q.id) s.entries e found) ∙ number) (record_of e) p is goes
-
-  reply_written : (id : ℕ) (o : Option Reply) → reply id s.replies ≡ o → (p : Post) → where_there s o ≡ Some p → GoesTo dest p → IsWrittenPost (me s) dest (OfReply id) p
+  reply_written : (id : ℕ) (o : Option Reply) → reply id s.replies ≡ o → (p : Post) → token_post s o ≡ Some p → GoesTo dest p → IsWrittenPost (me s) dest (OfReply id) p
   reply_written id None found p is goes = absurd (cc is)
   reply_written id (Some q) found p is goes =
-      entry_written id q (eqb-true q.id id (found_passes (has_entry id) s.replies q found)) (find (has_id q.id) s.entries) refl p is goes
+      token_written id q (eqb-true q.id id (found_passes (has_entry id) s.replies q found)) (nat_lt 0 q.answer_version) p is goes
+
+  noted_written : (n : ℕ) (r : Register) → r.number ≡ n → (b : Bool) → (p : Post) → cond b (Some (Fetch (fetch_message s r))) None ≡ Some p → GoesTo dest p
+      → IsWrittenPost (me s) dest (OfFetch n) p
+  noted_written n r number true p is goes =
+      let same : Fetch (fetch_message s r) ≡ p = cc in
+      record { names = ap post_name (sym same) ∙ ap OfFetch number; from = ap sender_of (sym same); goes = receives dest p goes }
+  noted_written n r number false p is goes = absurd (cc is)
+
+  fetch_written : (n : ℕ) (o : Option Register) → register n s.registers ≡ o → (p : Post) → fetch_post s o ≡ Some p → GoesTo dest p → IsWrittenPost (me s) dest (OfFetch n) p
+  fetch_written n None found p is goes = absurd (cc is)
+  fetch_written n (Some r) found p is goes =
+      noted_written n r (eqb-true r.number n (found_passes (has_number n) s.registers r found)) (nat_lt 0 r.noted) p is goes
 
   -- the message of a name, where it goes there
   written_post : (name : PostName) (p : Post) → write_post s name ≡ Some p → GoesTo dest p → IsWrittenPost (me s) dest name p
   written_post (Call n) p is goes = call_written n (register n s.registers) refl p is goes
   written_post (OfReply id) p is goes = reply_written id (reply id s.replies) refl p is goes
+  written_post (OfFetch n) p is goes = fetch_written n (register n s.registers) refl p is goes
 
 -- ---- what becomes of one
 
@@ -104,19 +117,54 @@ held_so : (s : Kept) (p : Post) (word : _) (n : ℕ) (o : Option Hold) (made : P
 held_so s p word n None made is = inr cc
 held_so s p word n (Some hold) made is = held_by s (held_back s p hold) word n made (is_now s p) is
 
-says_so : (s : Kept) (p : Post) (reply : PostReply) (made : Posted) → (posted s p reply).answer ≡ Ok made → SaysSo reply made
-says_so s p (back.Acked ack) made is = cc
-says_so s p (back.Confirmed confirm) made is = cc
-says_so s p (back.Refused word n) made is = held_so s p word n (hold_of word n) made is
-says_so s p (back.Lost note) made is = cc
+saw_or_knew : (s seen : Kept) (a : AnswerMessage) (made : Posted) (b : Bool)
+    → (cond b (after {A = Result Posted PostRefused} seen (Ok became.Saw)) (after {A = Result Posted PostRefused} s (Ok became.Knew))).answer ≡ Ok made
+    → SaysSo (back.Given a) made
+saw_or_knew s seen a made true is = inl cc
+saw_or_knew s seen a made false is = inr cc
+
+-- an answer is seen or known, where the service has that call and the answer was announced
+fetched_so : (s : Kept) (a : AnswerMessage) (o : Option Register) (n : Option NotedRow) (made : Posted) → IsSome o → IsSome n → (fetched s a o n).answer ≡ Ok made
+    → SaysSo (back.Given a) made
+fetched_so s a (Some r) (Some n) made called announced is = saw_or_knew s (noted (fetched_row a n ∷ []) s) a made (is_newer r.answer a.answer_version) is
+fetched_so s a (Some r) None made called announced is = absurd (cc announced)
+fetched_so s a None n made called announced is = absurd (cc called)
+
+has_one : (f : FetchMessage) (o : Option Register) → has_call f o ≡ true → IsSome o
+has_one f None has = absurd (cc has)
+has_one f (Some r) has = refl
+
+given_so : (s : Kept) (f : FetchMessage) (a : AnswerMessage) (made : Posted) → had s (Fetch f) ≡ true → is_given_to f a ≡ true
+    → (posted s (Fetch f) (back.Given a)).answer ≡ Ok made → SaysSo (back.Given a) made
+given_so s f a made has to is =
+    let own = and_parts (same_text f.caller (me s) && has_call f (register f.number s.registers)) (is_some (noted_at f.number f.answer_version s.journal)) has in
+    let call = and_parts (same_text f.caller (me s)) (has_call f (register f.number s.registers)) own.0 in
+    let asked = and_parts (same_text a.callee f.callee && nat_eq a.number f.number) (nat_eq a.answer_version f.answer_version) to in
+    let number = eqb-true a.number f.number (and_parts (same_text a.callee f.callee) (nat_eq a.number f.number) asked.0).1 in
+    let version = eqb-true a.answer_version f.answer_version asked.1 in
+    let there : IsSome (register a.number s.registers) =
+    subst (λ (n : ℕ). IsSome (register n s.registers)) (sym number) (has_one f (register f.number s.registers) call.1) in
+    let announced : IsSome (noted_at a.number f.answer_version s.journal) =
+    subst (λ (n : ℕ). IsSome (noted_at n f.answer_version s.journal)) (sym number) own.1 in
+    fetched_so s a (register a.number s.registers) (noted_at a.number a.answer_version s.journal) made there
+    (subst (λ (v : ℕ). IsSome (noted_at a.number v s.journal)) (sym version) announced) is
+
+says_so : (s : Kept) (p : Post) (reply : PostReply) (made : Posted) → had s p ≡ true → replies_to p reply ≡ true → (posted s p reply).answer ≡ Ok made → SaysSo reply made
+says_so s p (back.Acked ack) made has to is = cc
+says_so s p (back.Confirmed confirm) made has to is = cc
+says_so s (Set set) (back.Given a) made has to is = absurd (cc to)
+says_so s (Token t) (back.Given a) made has to is = absurd (cc to)
+says_so s (Fetch f) (back.Given a) made has to is = given_so s f a made has to is
+says_so s p (back.Refused word n) made has to is = held_so s p word n (hold_of word n) made is
+says_so s p (back.Lost note) made has to is = cc
+
+foreign_says : (s : Kept) (reply : PostReply) (made : Posted) → (after {A = Result Posted PostRefused} s (Err Foreign)).answer ≡ Ok made → SaysSo reply made
+foreign_says s reply made is = absurd (cc is)
 
 -- what a service answers of a post says of the reply what it is
 pub posted_so : (s : Kept) (p : Post) (reply : PostReply) (made : Posted) → (posted_event s p reply).answer ≡ Ok made → SaysSo reply made
-posted_so s p reply made is = by (had s p && replies_to p reply) is
-  where
-    by : (b : Bool) → (cond b (posted s p reply) (after s (Err Foreign))).answer ≡ Ok made → SaysSo reply made
-    by true is = says_so s p reply made is
-    by false is = absurd (cc is)
+posted_so s p reply made is =
+    posted_either s p reply (λ (x : After (Result Posted PostRefused)). x.answer ≡ Ok made → SaysSo reply made) (foreign_says s reply made) (says_so s p reply made) is
 
 -- ---- a turn
 

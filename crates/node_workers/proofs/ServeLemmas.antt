@@ -7,8 +7,10 @@ use Rattle.lang_core.specs.declared.request.Request.{Request}
 use Rattle.repair_messages.specs.declared.messages.Ack.{Ack}
 use Rattle.repair_messages.specs.declared.messages.AnswerMessage.{AnswerMessage}
 use Rattle.repair_messages.specs.declared.messages.Confirm.{Confirm}
+use Rattle.repair_messages.specs.declared.messages.Fetch.{Fetch}
 use Rattle.repair_messages.specs.declared.messages.SetMessage.{SetMessage}
-use Rattle.service_events.specs.Refusals.{answer_refusal, arrive_refusal, take_refusal}
+use Rattle.repair_messages.specs.declared.messages.TokenMessage.{TokenMessage}
+use Rattle.service_events.specs.Refusals.{answer_refusal, arrive_refusal, give_refusal, take_refusal}
 use Rattle.service_events.specs.declared.answers.Arrived.TheVariants as arrived
 use Rattle.service_events.specs.declared.answers.Heard.{Heard}
 use Rattle.service_events.specs.declared.answers.Taken.{Taken}
@@ -16,6 +18,7 @@ use Rattle.service_events.specs.declared.event.Done.TheVariants as done
 use Rattle.service_events.specs.declared.refusals.AnswerRefused.{AnswerRefused}
 use Rattle.service_events.specs.declared.refusals.ArriveRefused.{ArriveRefused}
 use Rattle.service_events.specs.declared.refusals.ArriveRefused.TheVariants as arrive
+use Rattle.service_events.specs.declared.refusals.GiveRefused.{GiveRefused}
 use Rattle.service_events.specs.declared.refusals.TakeRefused.{TakeRefused}
 use Rattle.io_edge.specs.Edge.{ReadFails, Reads, Writes, Wrote}
 use Rattle.http_front.specs.Writing.{response_bytes}
@@ -30,7 +33,7 @@ use Rattle.wire_fields.specs.declared.refused.WireRefused.{WireRefused}
 use Rattle.wire_replies.specs.Writing.{IsFor, written}
 use Rattle.wire_replies.specs.declared.replies.Outgoing.{Outgoing}
 use Rattle.wire_replies.specs.declared.replies.Outgoing.TheVariants as replies
-use Rattle.wire_words.specs.Refusals.{Told, answer_told, arrive_told, take_told}
+use Rattle.wire_words.specs.Refusals.{Told, answer_told, arrive_told, give_told, take_told}
 use Rattle.wire_words.specs.Words.{front_word, wire_word}
 use Rattle.aire_wire.specs.declared.incoming.Incoming.{Incoming}
 use Rattle.aire_wire.specs.declared.incoming.Incoming.TheVariants as said
@@ -48,7 +51,7 @@ use Rattle.node_exchanges.specs.Replies.{IsAnsweredBy, IsCutShort, IsRefusedSo, 
 use Rattle.node_exchanges.specs.declared.served.Served.{Served}
 use Rattle.node_exchanges.specs.declared.served.Served.TheVariants as served
 use Rattle.node_workers.specs.Flying.{IsCaller, IsNoted, RefusesAs}
-use Rattle.node_workers.specs.Messages.{IsHeardSo, IsTakenSo}
+use Rattle.node_workers.specs.Messages.{IsGivenSo, IsHeardSo, IsTakenSo}
 use Rattle.node_workers.specs.Serving.{Hears, IsCounted, IsForWorkers, IsLiveRequest, IsOperatorTold, IsPlainly, IsServed, IsToldOf, IsUntaken, OneReceipt, Owes, ServesMessage, ServesRequest, WantsMemory, client, sender}
 use Rattle.node_workers.specs.Written.{IsCommitWritten, IsConsoleSo, last_of}
 
@@ -58,7 +61,8 @@ plain_known : (message : Incoming) (a : AnswerMessage) → IsPlainly message (kn
 plain_known (said.Outside q) a = tt
 plain_known (said.Live set) a = tt
 plain_known (said.Set set) a = tt
-plain_known (said.Answer b) a = tt
+plain_known (said.Token t) a = tt
+plain_known (said.Fetch f) a = tt
 plain_known (said.Console asked) a = tt
 
 plain_outside : (q : Request) (why : ArriveRefused) → RefusesAs Outside why → IsPlainly (said.Outside q) (replies.Refused (arrive_told why).0 (arrive_told why).1)
@@ -74,7 +78,8 @@ plain_refused : (message : Incoming) (origin : Origin) (request : Request) (why 
 plain_refused (said.Outside q) origin request why live how = plain_outside q why (subst (λ (o : Origin). RefusesAs o why) live.0 how)
 plain_refused (said.Live set) origin request why live how = tt
 plain_refused (said.Set set) origin request why live how = tt
-plain_refused (said.Answer a) origin request why live how = tt
+plain_refused (said.Token t) origin request why live how = tt
+plain_refused (said.Fetch f) origin request why live how = tt
 plain_refused (said.Console asked) origin request why live how = tt
 
 -- ---- bytes that are no message
@@ -115,15 +120,20 @@ last_is had have r is =
 pub has_last : (origin : Origin) (request : Request) (i : Inputs) (index : ℕ) (had have : List Receipt) → OneReceipt origin request i index had have → IsSome (last_of have)
 has_last origin request i index had have one = ap (λ (o : Option Receipt). is_some o) (last_is had have one.receipt one.last)
 
--- an acknowledgement is for who sent the version, and a confirmation for who sent the answer
+-- an acknowledgement is for who sent the version, and a confirmation for who sent the token
 pub ack_for : (me to : List ℕ) (set : SetMessage) (i : Inputs) (now : Notes) (taken : Taken) → IsTakenSo set i now (Ok taken) → set.dest ≡ me → to ≡ set.caller
     → IsFor me (Some to) (replies.Ack taken.ack)
 ack_for me to set i now taken so dest whom = (ap (λ (a : Ack). a.dest) so.ack ∙ dest, ap Some (whom ∙ sym (ap (λ (a : Ack). a.caller) so.ack)))
 
-pub confirm_for : (me to : List ℕ) (a : AnswerMessage) (now : Notes) (heard : Heard) → IsHeardSo a now (Ok heard) → a.caller ≡ me → to ≡ a.callee
+pub confirm_for : (me to : List ℕ) (a : TokenMessage) (now : Notes) (heard : Heard) → IsHeardSo a now (Ok heard) → a.caller ≡ me → to ≡ a.callee
     → IsFor me (Some to) (replies.Confirm heard.confirm)
 confirm_for me to a now heard so mine whom =
     (ap (λ (c : Confirm). c.caller) so.confirm ∙ mine, ap Some (whom ∙ sym (ap (λ (c : Confirm). c.callee) so.confirm)))
+
+-- an answer that is given is the service's own, for who fetched it
+pub given_for : (me to : List ℕ) (f : Fetch) (a : AnswerMessage) (now : Notes) → IsGivenSo me f now (Ok a) → to ≡ f.caller
+    → (a.callee ≡ me) × (Some to ≡ Some a.caller)
+given_for me to f a now so whom = (let by = so.answer in (by.from, ap Some (whom ∙ sym by.to)))
 
 -- a live call asks for something
 pub asks_so : (me : List ℕ) (peers : Secrets) (secret : List ℕ) (set : SetMessage) → IsKnownMessage me peers secret (said.Live set) → IsSome set.desired
@@ -279,7 +289,8 @@ module _ (e : Endpoint) (i : Inputs) (now : Reads) (wrote wrote_now : Writes) (n
   client_is (said.Outside q) origin request live = ap client live.0
   client_is (said.Live set) origin request live = ap client live.0
   client_is (said.Set set) origin request live = absurd live
-  client_is (said.Answer a) origin request live = absurd live
+  client_is (said.Token t) origin request live = absurd live
+  client_is (said.Fetch f) origin request live = absurd live
   client_is (said.Console asked) origin request live = absurd live
 
   pub live_committed : (origin : Origin) (request : Request) (index : ℕ) (answer : Served) → OneReceipt origin request i index had have
@@ -316,7 +327,8 @@ module _ (e : Endpoint) (i : Inputs) (now : Reads) (wrote wrote_now : Writes) (n
   live_untaken (said.Outside q) origin request live = tt
   live_untaken (said.Live set) origin request live = tt
   live_untaken (said.Set set) origin request live = absurd live
-  live_untaken (said.Answer a) origin request live = absurd live
+  live_untaken (said.Token t) origin request live = absurd live
+  live_untaken (said.Fetch f) origin request live = absurd live
   live_untaken (said.Console asked) origin request live = absurd live
 
   pub live_wants : (origin : Origin) (request : Request) (to : Option (List ℕ)) (answer : Served) → to ≡ client origin → have ≡ had
@@ -345,17 +357,30 @@ module _ (e : Endpoint) (i : Inputs) (now : Reads) (wrote wrote_now : Writes) (n
       (inl (record { gave = _; noted = so.noted; of = (refl, refl); so = inl (turn_by (take_refusal why), refl, refl); plainly = tt }))
       same (subst (λ (t : Told). SaysIt e.me e.secret (Some to) (replies.Refused t.0 t.1) wrote wrote_now answer) is says)
 
-  pub answer_heard : (a : AnswerMessage) (to : List ℕ) (heard : Heard) (answer : Served) → to ≡ a.callee → IsHeardSo a notes (Ok heard) → have ≡ had
-      → SaysIt e.me e.secret (Some to) (replies.Confirm heard.confirm) wrote wrote_now answer → Does (said.Answer a) answer
-  answer_heard a to heard answer whom so same says before hears =
-      said_well e i before now wrote wrote_now notes had have (said.Answer a) (Some to) (replies.Confirm heard.confirm) answer hears (ap Some whom)
+  pub token_heard : (a : TokenMessage) (to : List ℕ) (heard : Heard) (answer : Served) → to ≡ a.callee → IsHeardSo a notes (Ok heard) → have ≡ had
+      → SaysIt e.me e.secret (Some to) (replies.Confirm heard.confirm) wrote wrote_now answer → Does (said.Token a) answer
+  token_heard a to heard answer whom so same says before hears =
+      said_well e i before now wrote wrote_now notes had have (said.Token a) (Some to) (replies.Confirm heard.confirm) answer hears (ap Some whom)
       (inl (record { gave = _; noted = so.noted; of = refl; so = inr refl; plainly = tt })) same says
 
-  pub answer_refused : (a : AnswerMessage) (to : List ℕ) (why : AnswerRefused) (told : Told) (answer : Served) → to ≡ a.callee → IsHeardSo a notes (Err why) → have ≡ had
-      → told ≡ answer_told why → SaysIt e.me e.secret (Some to) (replies.Refused told.0 told.1) wrote wrote_now answer → Does (said.Answer a) answer
-  answer_refused a to why told answer whom so same is says before hears =
-      said_well e i before now wrote wrote_now notes had have (said.Answer a) (Some to) (replies.Refused (answer_told why).0 (answer_told why).1) answer hears (ap Some whom)
+  pub token_refused : (a : TokenMessage) (to : List ℕ) (why : AnswerRefused) (told : Told) (answer : Served) → to ≡ a.callee → IsHeardSo a notes (Err why) → have ≡ had
+      → told ≡ answer_told why → SaysIt e.me e.secret (Some to) (replies.Refused told.0 told.1) wrote wrote_now answer → Does (said.Token a) answer
+  token_refused a to why told answer whom so same is says before hears =
+      said_well e i before now wrote wrote_now notes had have (said.Token a) (Some to) (replies.Refused (answer_told why).0 (answer_told why).1) answer hears (ap Some whom)
       (inl (record { gave = _; noted = so.noted; of = refl; so = inl (turn_by (answer_refusal why), refl, refl); plainly = tt }))
+      same (subst (λ (t : Told). SaysIt e.me e.secret (Some to) (replies.Refused t.0 t.1) wrote wrote_now answer) is says)
+
+  pub fetch_given : (f : Fetch) (to : List ℕ) (a : AnswerMessage) (answer : Served) → to ≡ f.caller → IsGivenSo e.me f notes (Ok a) → have ≡ had
+      → SaysIt e.me e.secret (Some to) (known_reply a) wrote wrote_now answer → Does (said.Fetch f) answer
+  fetch_given f to a answer whom so same says before hears =
+      said_well e i before now wrote wrote_now notes had have (said.Fetch f) (Some to) (known_reply a) answer hears (ap Some whom)
+      (inl (record { gave = _; noted = so.noted; of = refl; so = inr refl; plainly = tt })) same says
+
+  pub fetch_refused : (f : Fetch) (to : List ℕ) (why : GiveRefused) (told : Told) (answer : Served) → to ≡ f.caller → IsGivenSo e.me f notes (Err why) → have ≡ had
+      → told ≡ give_told why → SaysIt e.me e.secret (Some to) (replies.Refused told.0 told.1) wrote wrote_now answer → Does (said.Fetch f) answer
+  fetch_refused f to why told answer whom so same is says before hears =
+      said_well e i before now wrote wrote_now notes had have (said.Fetch f) (Some to) (replies.Refused (give_told why).0 (give_told why).1) answer hears (ap Some whom)
+      (inl (record { gave = _; noted = so.noted; of = refl; so = inl (turn_by (give_refusal why), refl, refl); plainly = tt }))
       same (subst (λ (t : Told). SaysIt e.me e.secret (Some to) (replies.Refused t.0 t.1) wrote wrote_now answer) is says)
 
   -- memory was wanting for a message of a peer

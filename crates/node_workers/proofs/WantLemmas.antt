@@ -107,7 +107,8 @@ module _ (e : Endpoint) (flight number : ℕ) (before now : Notes) (had have : L
   wanting_answer a to (done.CallFailed result) m lacks = absurd m.made.1
   wanting_answer a to (done.Abandon found) m lacks = absurd m.made.1
   wanting_answer a to (done.Take result) m lacks = absurd m.made.1
-  wanting_answer a to (done.TakeAnswer result) m lacks = absurd m.made.1
+  wanting_answer a to (done.TakeToken result) m lacks = absurd m.made.1
+  wanting_answer a to (done.Give result) m lacks = absurd m.made.1
   wanting_answer a to (done.NextPost name) m lacks = absurd m.made.1
   wanting_answer a to (done.WritePost result) m lacks = absurd m.made.1
   wanting_answer a to (done.Posted result) m lacks = absurd m.made.1
@@ -129,7 +130,8 @@ module _ (e : Endpoint) (flight number : ℕ) (before now : Notes) (had have : L
   wanting_failure why of_call (done.CallAnswered result) m lacks = absurd m.made.1
   wanting_failure why of_call (done.Abandon found) m lacks = absurd m.made.1
   wanting_failure why of_call (done.Take result) m lacks = absurd m.made.1
-  wanting_failure why of_call (done.TakeAnswer result) m lacks = absurd m.made.1
+  wanting_failure why of_call (done.TakeToken result) m lacks = absurd m.made.1
+  wanting_failure why of_call (done.Give result) m lacks = absurd m.made.1
   wanting_failure why of_call (done.NextPost name) m lacks = absurd m.made.1
   wanting_failure why of_call (done.WritePost result) m lacks = absurd m.made.1
   wanting_failure why of_call (done.Posted result) m lacks = absurd m.made.1

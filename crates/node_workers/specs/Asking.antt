@@ -36,7 +36,8 @@ MakesAsked name i who asked before now had have = IsUntouched before now had hav
 -- The event that was made for a message that is no live request: the one that it asks for, or none. What is given to the workers is no order.
 abbrev pub MakesOne : List ℕ → Inputs → Incoming → Notes → Notes → List Receipt → List Receipt → Type 0
 MakesOne name i (said.Set set) before now had have = MakesOnce name (events.Take set i) before now had have
-MakesOne name i (said.Answer a) before now had have = MakesOnce name (events.TakeAnswer a) before now had have
+MakesOne name i (said.Token t) before now had have = MakesOnce name (events.TakeToken t) before now had have
+MakesOne name i (said.Fetch f) before now had have = MakesOnce name (events.Give f) before now had have
 MakesOne name i (said.Console request) before now had have = MakesAsked name i request.who (asked_in request) before now had have
 MakesOne name i message before now had have = IsUntouched before now had have
 

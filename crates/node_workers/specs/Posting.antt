@@ -73,11 +73,12 @@ GoesNext name dest next mid now held have result =
 
 -- ---- what became of it
 
--- an acknowledged post was acknowledged, a confirmed one confirmed; one that is held was refused, and one that is left was refused, or its
--- exchange failed
+-- an acknowledged post was acknowledged, a confirmed one confirmed; of an answer that was given to a fetch the service saw one that is above the
+-- held one, or knew it; one that is held was refused, and one that is left was refused, or its exchange failed
 abbrev pub SaysSo : PostReply → Posted → Type 0
 SaysSo (back.Acked ack) posted = posted ≡ became.Acked
 SaysSo (back.Confirmed confirm) posted = posted ≡ became.Confirmed
+SaysSo (back.Given answer) posted = (posted ≡ became.Saw) ⊎ (posted ≡ became.Knew)
 SaysSo (back.Refused word number) posted = (posted ≡ became.Held) ⊎ (posted ≡ became.Left)
 SaysSo (back.Lost note) posted = posted ≡ became.Left
 

@@ -5,6 +5,7 @@ use Rattle.lang_core.specs.declared.ids.Origin.TheVariants as origins
 use Rattle.lang_core.specs.declared.inputs.Inputs.{Inputs}
 use Rattle.lang_core.specs.declared.request.Request.{Request}
 use Rattle.repair_messages.specs.Refusals.{word_text}
+use Rattle.repair_messages.specs.declared.messages.AnswerMessage.{AnswerMessage}
 use Rattle.journal_rows.specs.declared.callee.AnsweredRow.{AnsweredRow}
 use Rattle.journal_rows.specs.declared.orders.Command.{Command}
 use Rattle.journal_rows.specs.declared.row.Row.TheVariants as rows
@@ -67,7 +68,8 @@ abbrev pub sender : Incoming → Option (List ℕ)
 sender (said.Outside q) = None
 sender (said.Live set) = Some set.caller
 sender (said.Set set) = Some set.caller
-sender (said.Answer a) = Some a.callee
+sender (said.Token t) = Some t.callee
+sender (said.Fetch f) = Some f.caller
 sender (said.Console asked) = None
 
 -- it is a live request, of this origin
@@ -76,11 +78,12 @@ IsLiveRequest (said.Outside q) origin request = (origin ≡ origins.Outside) × 
 IsLiveRequest (said.Live set) origin request = (origin ≡ origins.Call set.caller set.number) × (set.desired ≡ Some request)
 IsLiveRequest message origin request = ⊥
 
--- the event that it asks for: its arrival, or that it is taken
+-- the event that it asks for: its arrival, that it is taken, or that an answer is given to it
 abbrev pub AsksFor : Incoming → Inputs → NodeEvent → Type 0
 AsksFor message i (events.Arrive origin request inputs) = IsLiveRequest message origin request × (inputs ≡ i)
 AsksFor (said.Set set) i (events.Take taken inputs) = (taken ≡ set) × (inputs ≡ i)
-AsksFor (said.Answer a) i (events.TakeAnswer taken) = taken ≡ a
+AsksFor (said.Token t) i (events.TakeToken taken) = taken ≡ t
+AsksFor (said.Fetch f) i (events.Give asked) = asked ≡ f
 AsksFor message i event = ⊥
 
 -- ---- what it is answered
@@ -136,11 +139,17 @@ abbrev pub heard_reply : {E : Type 0} → Result Heard E → Option Outgoing
 heard_reply (Ok heard) = Some (replies.Confirm heard.confirm)
 heard_reply (Err why) = None
 
+-- an answer that is fetched is told as one that a call was answered before
+abbrev pub given_reply : {E : Type 0} → Result AnswerMessage E → Option Outgoing
+given_reply (Ok a) = Some (known_reply a)
+given_reply (Err why) = None
+
 -- what an event's answer is replied as, where it refuses nothing
 abbrev pub answer_reply : NodeDone → Option Outgoing
 answer_reply (done.Arrive result) = arrived_reply result
 answer_reply (done.Take result) = taken_reply result
-answer_reply (done.TakeAnswer result) = heard_reply result
+answer_reply (done.TakeToken result) = heard_reply result
+answer_reply (done.Give result) = given_reply result
 answer_reply other = None
 
 -- who isn't a service is refused for want of room or of memory alone
@@ -156,13 +165,14 @@ pub record IsToldOf (i : Inputs) (message : Incoming) (notes : Notes) (reply : O
   pub so : ((turn : Turn) × (turn_of gave.done ≡ Some turn) × TellsTurn turn reply) ⊎ (answer_reply gave.done ≡ Some reply)
   pub plainly : IsPlainly message reply
 
--- the notes have no event of a version of a call, nor of an answer, and so none was made; what was made of a live request is told of its flight
+-- the notes have no event of a version of a call, of a token or of a fetch, and so none was made; what was made of a live request is told of its flight
 abbrev pub IsUntaken : Incoming → Notes → Type 0
 IsUntaken (said.Set set) notes = notes.gave ≡ None
-IsUntaken (said.Answer a) notes = notes.gave ≡ None
+IsUntaken (said.Token t) notes = notes.gave ≡ None
+IsUntaken (said.Fetch f) notes = notes.gave ≡ None
 IsUntaken message notes = Unit {0}
 
--- memory was wanting, and nothing that a peer sent was taken
+-- memory was wanting, and nothing that a peer sent was taken, nor given to it
 abbrev pub WantsMemory : Incoming → Notes → Outgoing → Type 0
 WantsMemory message notes reply = IsUntaken message notes × (reply ≡ replies.Refused (codes "nomemory") 0)
 

@@ -4,7 +4,7 @@ ghost use Rattle.std.specs.Option.{option_copied};
 ghost use Rattle.http_front.specs.declared.message.FrontRefused.TheVariants.{ReadFault};
 ghost use Rattle.io_edge.specs.Edge.{ReadFails};
 ghost use Rattle.wire_bytes.specs.Hearing.{IsKnownMessage};
-ghost use Rattle.aire_wire.specs.declared.incoming.Incoming.TheVariants.{Answer as AnswerSaid, Console as ConsoleSaid, Live as LiveSaid, Set as SetSaid};
+ghost use Rattle.aire_wire.specs.declared.incoming.Incoming.TheVariants.{Console as ConsoleSaid, Fetch as FetchSaid, Live as LiveSaid, Set as SetSaid, Token as TokenSaid};
 ghost use Rattle.node_workers.specs.Asking.{MakesFor, MakesLive, MakesOne, MakesOnly, NotesOnlyRead};
 ghost use Rattle.node_workers.specs.Calling.{CountsCalls};
 ghost use Rattle.node_workers.specs.Desks.{at_desk};
@@ -14,7 +14,7 @@ ghost use Rattle.node_workers.specs.Written.{IsConsoleSo};
 
 use crate::desk::Desk;
 use crate::live::{Ending, live};
-use crate::messages::{take, take_answer};
+use crate::messages::{give, take, take_token};
 use crate::operators::tell;
 use crate::replies::write_last;
 use admin_console::is_of_the_run;
@@ -24,13 +24,13 @@ use io_links::{Gate, Link};
 use lang_core::{Copied, Inputs, Name, Origin, Request};
 use node_core::Pass;
 use node_exchanges::{Served, hear_on, refuse, refuse_unheard, say, say_known, say_no_memory};
-use repair_messages::{AnswerMessage, SetMessage};
+use repair_messages::{Fetch, SetMessage, TokenMessage};
 use std::alloc::Global;
 use std::sync::Wait;
 use std::sync::ledger::Ledger;
 use wire_fields::ConsoleRequest;
 use wire_replies::Outgoing;
-use wire_words::{answer_told, arrive_told, take_told};
+use wire_words::{answer_told, arrive_told, give_told, take_told};
 
 // ---- live requests
 
@@ -166,26 +166,26 @@ fn serve_set<R: Ledger, Q: Ledger, W: Wait, C: Connection>(
     }
 }
 
-fn serve_answer<R: Ledger, Q: Ledger, W: Wait, C: Connection>(
+fn serve_token<R: Ledger, Q: Ledger, W: Wait, C: Connection>(
     rt: &W,
     alloc: Global,
     desk: &Desk<R, Q>,
     pass: &mut Pass<Q>,
     conn: &mut C,
-    answer: AnswerMessage,
+    token: TokenMessage,
     inputs: Inputs,
 ) -> Served
     requires fresh { pass.old.notes.gave ≡ None }
-    requires caller { answer.caller ≡ (at_desk desk.now).me }
-    ensures served { ServesMessage (at_desk desk.now) inputs (AnswerSaid answer) (C.Source.reads conn.old) (C.Sink.writes conn.old) (C.Sink.writes conn.new) pass.new.notes pass.old.receipts.items pass.new.receipts.items result }
+    requires caller { token.caller ≡ (at_desk desk.now).me }
+    ensures served { ServesMessage (at_desk desk.now) inputs (TokenSaid token) (C.Source.reads conn.old) (C.Sink.writes conn.old) (C.Sink.writes conn.new) pass.new.notes pass.old.receipts.items pass.new.receipts.items result }
     ensures beside { C.Sink.beside conn.new ≡ C.Sink.beside conn.old }
-    ensures makes { MakesOne (at_desk desk.now).me inputs (AnswerSaid answer) pass.old.notes pass.new.notes pass.old.receipts.items pass.new.receipts.items }
+    ensures makes { MakesOne (at_desk desk.now).me inputs (TokenSaid token) pass.old.notes pass.new.notes pass.old.receipts.items pass.new.receipts.items }
     ensures keeps { Keeps pass.old.notes pass.new.notes pass.old.receipts.items pass.new.receipts.items }
 {
-    let Ok(to) = answer.callee.copied(alloc) else {
+    let Ok(to) = token.callee.copied(alloc) else {
         return Served::NoMemory;
     };
-    match take_answer(rt, alloc, desk, pass, answer) {
+    match take_token(rt, alloc, desk, pass, token) {
         Ok(Ok(heard)) => say(
             alloc,
             desk.setup,
@@ -195,6 +195,34 @@ fn serve_answer<R: Ledger, Q: Ledger, W: Wait, C: Connection>(
         ),
         Ok(Err(why)) => {
             let (word, number) = answer_told(why);
+            refuse(alloc, desk.setup, conn, Some(&to), word, number)
+        }
+        Err(_) => say_no_memory(alloc, desk.setup, conn, Some(&to)),
+    }
+}
+
+fn serve_fetch<R: Ledger, Q: Ledger, W: Wait, C: Connection>(
+    rt: &W,
+    alloc: Global,
+    desk: &Desk<R, Q>,
+    pass: &mut Pass<Q>,
+    conn: &mut C,
+    fetch: Fetch,
+    inputs: Inputs,
+) -> Served
+    requires fresh { pass.old.notes.gave ≡ None }
+    ensures served { ServesMessage (at_desk desk.now) inputs (FetchSaid fetch) (C.Source.reads conn.old) (C.Sink.writes conn.old) (C.Sink.writes conn.new) pass.new.notes pass.old.receipts.items pass.new.receipts.items result }
+    ensures beside { C.Sink.beside conn.new ≡ C.Sink.beside conn.old }
+    ensures makes { MakesOne (at_desk desk.now).me inputs (FetchSaid fetch) pass.old.notes pass.new.notes pass.old.receipts.items pass.new.receipts.items }
+    ensures keeps { Keeps pass.old.notes pass.new.notes pass.old.receipts.items pass.new.receipts.items }
+{
+    let Ok(to) = fetch.caller.copied(alloc) else {
+        return Served::NoMemory;
+    };
+    match give(rt, alloc, desk, pass, fetch) {
+        Ok(Ok(answer)) => say_known(alloc, desk.setup, conn, Some(&to), answer),
+        Ok(Err(why)) => {
+            let (word, number) = give_told(why);
             refuse(alloc, desk.setup, conn, Some(&to), word, number)
         }
         Err(_) => say_no_memory(alloc, desk.setup, conn, Some(&to)),
@@ -264,7 +292,8 @@ fn serve<R: Ledger, Q: Ledger, W: Wait, C: Connection, L: Link, G: Gate>(
         ),
         Incoming::Live(set) => serve_call(rt, alloc, desk, pass, conn, link, gate, set, inputs),
         Incoming::Set(set) => serve_set(rt, alloc, desk, pass, conn, set, inputs),
-        Incoming::Answer(answer) => serve_answer(rt, alloc, desk, pass, conn, answer, inputs),
+        Incoming::Token(token) => serve_token(rt, alloc, desk, pass, conn, token, inputs),
+        Incoming::Fetch(fetch) => serve_fetch(rt, alloc, desk, pass, conn, fetch, inputs),
         Incoming::Console(asked) => serve_console(rt, alloc, desk, pass, conn, asked, inputs),
     }
 }
@@ -276,8 +305,8 @@ fn serve<R: Ledger, Q: Ledger, W: Wait, C: Connection, L: Link, G: Gate>(
 /// gate is told of each. The service is told of each just what came of it: what the reply's bytes spell, or that the exchange
 /// failed; once more where there is no memory for that, and then its flight is given up. A flight that can't go on for want of
 /// memory is given up, and none is open afterwards. However a live request ends, it makes no other event and no other exchange.
-/// Where no message was read no event is made; a message of a peer is taken, and an operator's order made, once at most; and
-/// what else an operator asks makes none. So no order is noted but the one that was read under the console's seal.
+/// Where no message was read no event is made; a message of a peer is taken, an answer given to a peer that fetches it, and an
+/// operator's order made, once at most; and what else an operator asks makes none. So no order is noted but the one that was read under the console's seal.
 ///
 /// What is answered is said of the message that was read alone: behind a commit its receipt's reply, else what the service
 /// answered to the message's own event, or why it didn't. An operator is told what came of the order, gets a report, or is told

@@ -1,7 +1,7 @@
 use Rattle.std.proofs.Common.{◌<◌, ◌∙◌, List, Option, IfSome, ap, arith, sym, subst, vec_capacity, vec_len}
 use Rattle.lang_core.specs.declared.setting.Setting.{Setting}
 use Rattle.service_core.proofs.GrowthLaws.{grown}
-use Rattle.node_core.proofs.EventLemmas.{all_noted, answered_by, committed_so, counted_by, done_so, gets_by, gone_counts, gone_done, gone_noted, has_room, may_happen, notes_so, orders_noted, told_by}
+use Rattle.node_core.proofs.EventLemmas.{all_noted, answered_by, committed_so, counted_by, done_so, gets_by, gone_counts, gone_done, gone_noted, gone_receipts, has_room, may_happen, notes_so, orders_noted, told_by}
 use Rattle.node_core.proofs.OrderLemmas.{gone_orders, orders_so, written_so}
 use Rattle.node_core.proofs.SearchLemmas.{affirmed, refuted}
 use Rattle.node_core.proofs.SinceLemmas.{within_grown}
@@ -158,3 +158,7 @@ returns-then-not-finds_flight-clause-orders g c = gone_orders c.args.kept.now.se
 pub returns-then-not-finds_flight-clause-notes : goal.returns-then-not-finds_flight-clause-notes
 returns-then-not-finds_flight-clause-notes g c =
     gone_noted c.args.kept.now.service c.args.pass.now.notes c.args.event (refuted c.finds_flight.result c.finds_flight.ensures c.if-not-finds_flight.true)
+
+pub returns-then-not-finds_flight-clause-receipts : goal.returns-then-not-finds_flight-clause-receipts
+returns-then-not-finds_flight-clause-receipts g c =
+    gone_receipts c.args.kept.now.service c.args.kept.now.secret c.args.pass.now.notes.begun c.args.event c.args.pass.now.receipts.items

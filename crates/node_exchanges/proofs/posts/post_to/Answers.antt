@@ -15,12 +15,12 @@ returns-clause-sent g c =
     let post = c.args.post.now in
     let peer = c.in-Some.peer in
     let before = g.L.Link.exchanges c.args.link.now in
-    let now = g.L.Link.exchanges c.exchange.new.link in
-    let made = subst (λ (a : Asking). IsExchanged e.me dest peer.secret.now a peer.door.now c.in_ok-bytes.bytes before now c.exchange.result) c.asking_of.ensures
-    c.exchange.ensures.made in
+    let now = g.L.Link.exchanges c.exchange-back.new.link in
+    let made = subst (λ (a : Asking). IsExchanged e.me dest peer.secret.now a peer.door.now c.in_ok-bytes.bytes before now c.exchange-back.result) c.asking_of.ensures
+    c.exchange-back.ensures.made in
     subst (λ (said : Result (Option PostReply) LacksMemory). IfOk said (λ (reply : Option PostReply). PostsIt e dest post reply before now)) (sym c.said_with.ensures)
     (posted e dest peer.secret.now peer.door.now c.in_ok-bytes.bytes post before now c.in-Some.ensures.door c.in-Some.ensures.secret
-    (record { from = c.requires.from; dest = c.requires.goes; spelled = c.in_ok-bytes.ensures.bytes }) c.exchange.result made)
+    (record { from = c.requires.from; dest = c.requires.goes; spelled = c.in_ok-bytes.ensures.bytes }) c.exchange-back.result made)
 
 pub returns-in_default-clause-sends : goal.returns-in_default-clause-sends
 returns-in_default-clause-sends g c = inl refl
@@ -31,5 +31,5 @@ returns-in_err-bytes-clause-sends g c = inl refl
 pub returns-clause-sends : goal.returns-clause-sends
 returns-clause-sends g c =
     posted_at_most (at_place c.args.place.now) c.args.dest.now c.in-Some.peer.secret.now c.in-Some.peer.door.now c.in_ok-bytes.bytes c.args.post.now
-    (g.L.Link.exchanges c.args.link.now) (g.L.Link.exchanges c.exchange.new.link) c.in-Some.ensures.door c.in-Some.ensures.secret
-    (record { from = c.requires.from; dest = c.requires.goes; spelled = c.in_ok-bytes.ensures.bytes }) c.exchange.ensures.made.answer c.exchange.ensures.made.left
+    (g.L.Link.exchanges c.args.link.now) (g.L.Link.exchanges c.exchange-back.new.link) c.in-Some.ensures.door c.in-Some.ensures.secret
+    (record { from = c.requires.from; dest = c.requires.goes; spelled = c.in_ok-bytes.ensures.bytes }) c.exchange-back.ensures.made.answer c.exchange-back.ensures.made.left

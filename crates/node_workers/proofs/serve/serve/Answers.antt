@@ -19,10 +19,10 @@ serve_set-requires g c =
     let known = subst (λ (m : Incoming). IsKnownMessage e.me e.secrets e.console m) c.in-Set.is c.requires.known in
     record { fresh = c.requires.fresh; dest = known.1.dest }
 
-pub serve_answer-requires : goal.serve_answer-requires
-serve_answer-requires g c =
+pub serve_token-requires : goal.serve_token-requires
+serve_token-requires g c =
     let e = at_desk c.args.desk.now in
-    let known = subst (λ (m : Incoming). IsKnownMessage e.me e.secrets e.console m) c.in-Answer.is c.requires.known in
+    let known = subst (λ (m : Incoming). IsKnownMessage e.me e.secrets e.console m) c.in-Token.is c.requires.known in
     record { fresh = c.requires.fresh; caller = known.1.caller }
 
 pub returns-in-Outside-clause-served : goal.returns-in-Outside-clause-served
@@ -58,20 +58,35 @@ returns-in-Set-clause-counts g c =
     let keeps = c.serve_set.ensures.keeps in
     counts_none (at_desk c.args.desk.now) c.args.pass.now.notes c.serve_set.new.pass.notes exchanges exchanges keeps.2 keeps.3 refl
 
-pub returns-in-Answer-clause-served : goal.returns-in-Answer-clause-served
-returns-in-Answer-clause-served g c =
+pub returns-in-Token-clause-served : goal.returns-in-Token-clause-served
+returns-in-Token-clause-served g c =
     subst (λ (m : Incoming). ServesMessage (at_desk c.args.desk.now) c.args.inputs m (g.C.Source.reads c.args.conn.now) (g.C.Sink.writes c.args.conn.now)
-    (g.C.Sink.writes c.serve_answer.new.conn) c.serve_answer.new.pass.notes c.args.pass.now.receipts.items c.serve_answer.new.pass.receipts.items c.serve_answer.result) (sym c.in-Answer.is)
-    c.serve_answer.ensures.served
+    (g.C.Sink.writes c.serve_token.new.conn) c.serve_token.new.pass.notes c.args.pass.now.receipts.items c.serve_token.new.pass.receipts.items c.serve_token.result) (sym c.in-Token.is)
+    c.serve_token.ensures.served
 
-pub returns-in-Answer-clause-closed : goal.returns-in-Answer-clause-closed
-returns-in-Answer-clause-closed g c = c.serve_answer.ensures.keeps.1 ∙ c.requires.none
+pub returns-in-Token-clause-closed : goal.returns-in-Token-clause-closed
+returns-in-Token-clause-closed g c = c.serve_token.ensures.keeps.1 ∙ c.requires.none
 
-pub returns-in-Answer-clause-counts : goal.returns-in-Answer-clause-counts
-returns-in-Answer-clause-counts g c =
+pub returns-in-Token-clause-counts : goal.returns-in-Token-clause-counts
+returns-in-Token-clause-counts g c =
     let exchanges = g.L.Link.exchanges c.args.link.now in
-    let keeps = c.serve_answer.ensures.keeps in
-    counts_none (at_desk c.args.desk.now) c.args.pass.now.notes c.serve_answer.new.pass.notes exchanges exchanges keeps.2 keeps.3 refl
+    let keeps = c.serve_token.ensures.keeps in
+    counts_none (at_desk c.args.desk.now) c.args.pass.now.notes c.serve_token.new.pass.notes exchanges exchanges keeps.2 keeps.3 refl
+
+pub returns-in-Fetch-clause-served : goal.returns-in-Fetch-clause-served
+returns-in-Fetch-clause-served g c =
+    subst (λ (m : Incoming). ServesMessage (at_desk c.args.desk.now) c.args.inputs m (g.C.Source.reads c.args.conn.now) (g.C.Sink.writes c.args.conn.now)
+    (g.C.Sink.writes c.serve_fetch.new.conn) c.serve_fetch.new.pass.notes c.args.pass.now.receipts.items c.serve_fetch.new.pass.receipts.items c.serve_fetch.result) (sym c.in-Fetch.is)
+    c.serve_fetch.ensures.served
+
+pub returns-in-Fetch-clause-closed : goal.returns-in-Fetch-clause-closed
+returns-in-Fetch-clause-closed g c = c.serve_fetch.ensures.keeps.1 ∙ c.requires.none
+
+pub returns-in-Fetch-clause-counts : goal.returns-in-Fetch-clause-counts
+returns-in-Fetch-clause-counts g c =
+    let exchanges = g.L.Link.exchanges c.args.link.now in
+    let keeps = c.serve_fetch.ensures.keeps in
+    counts_none (at_desk c.args.desk.now) c.args.pass.now.notes c.serve_fetch.new.pass.notes exchanges exchanges keeps.2 keeps.3 refl
 
 pub returns-in-Console-clause-served : goal.returns-in-Console-clause-served
 returns-in-Console-clause-served g c =
@@ -109,10 +124,15 @@ returns-in-Set-clause-makes g c =
     subst (λ (m : Incoming). MakesFor (at_desk c.args.desk.now) c.args.inputs m c.args.pass.now.notes c.serve_set.new.pass.notes c.args.pass.now.receipts.items
     c.serve_set.new.pass.receipts.items (g.L.Link.exchanges c.args.link.now) (g.L.Link.exchanges c.args.link.now)) (sym c.in-Set.is) (c.serve_set.ensures.makes, refl)
 
-pub returns-in-Answer-clause-makes : goal.returns-in-Answer-clause-makes
-returns-in-Answer-clause-makes g c =
-    subst (λ (m : Incoming). MakesFor (at_desk c.args.desk.now) c.args.inputs m c.args.pass.now.notes c.serve_answer.new.pass.notes c.args.pass.now.receipts.items
-    c.serve_answer.new.pass.receipts.items (g.L.Link.exchanges c.args.link.now) (g.L.Link.exchanges c.args.link.now)) (sym c.in-Answer.is) (c.serve_answer.ensures.makes, refl)
+pub returns-in-Token-clause-makes : goal.returns-in-Token-clause-makes
+returns-in-Token-clause-makes g c =
+    subst (λ (m : Incoming). MakesFor (at_desk c.args.desk.now) c.args.inputs m c.args.pass.now.notes c.serve_token.new.pass.notes c.args.pass.now.receipts.items
+    c.serve_token.new.pass.receipts.items (g.L.Link.exchanges c.args.link.now) (g.L.Link.exchanges c.args.link.now)) (sym c.in-Token.is) (c.serve_token.ensures.makes, refl)
+
+pub returns-in-Fetch-clause-makes : goal.returns-in-Fetch-clause-makes
+returns-in-Fetch-clause-makes g c =
+    subst (λ (m : Incoming). MakesFor (at_desk c.args.desk.now) c.args.inputs m c.args.pass.now.notes c.serve_fetch.new.pass.notes c.args.pass.now.receipts.items
+    c.serve_fetch.new.pass.receipts.items (g.L.Link.exchanges c.args.link.now) (g.L.Link.exchanges c.args.link.now)) (sym c.in-Fetch.is) (c.serve_fetch.ensures.makes, refl)
 
 pub returns-in-Console-clause-makes : goal.returns-in-Console-clause-makes
 returns-in-Console-clause-makes g c =
