@@ -91,11 +91,11 @@ def no_text(draw):
     return flag(letters(draw, 0, 99) + draw.choice([b"\xff", b"\xc3", b"\xed\xa0\x80", b"\xf5"])), (400, "text")
 
 def no_kind(draw):
-    path = "/aire/" + draw.choice(["notify", "repair/1", "console/", "console/logs", "x", "console/audit/1"])
+    path = "/aire/" + draw.choice(["response", "repair/1", "console/", "console/logs", "x", "console/audit/1"])
     return request(draw.choice(["POST", "PUT", "GET"]), path), (400, "kind")
 
 def other_method_of_a_kind(draw):
-    path = draw.choice(["/aire/repair", "/aire/response", "/aire/console/stop", "/aire/console/log"])
+    path = draw.choice(["/aire/repair", "/aire/notify", "/aire/fetch", "/aire/console/stop", "/aire/console/log"])
     return request(draw.choice(["GET", "PUT", "DELETE"]), path, b"{}"), (400, "kind")
 
 def ill_user(draw):
@@ -111,7 +111,7 @@ def operator_without_fields(draw):
     return request("POST", "/aire/console/" + draw.choice(["stop", "log", "cancel"]), b"{}"), (400, "missing")
 
 def repair_without_fields(draw):
-    return request("POST", draw.choice(["/aire/repair", "/aire/response"])), (400, "missing")
+    return request("POST", draw.choice(["/aire/repair", "/aire/notify", "/aire/fetch"])), (400, "missing")
 
 def unsealed_stop(draw):
     seal = draw.choice(["0" * 64, seal_of(b"s", b"POST /aire/console/stop\nAire-Dest: shop\nAire-Who: root\n\n{}")])
