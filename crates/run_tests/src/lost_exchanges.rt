@@ -89,13 +89,24 @@ fn between(rt: &(impl Abort + AllocGlobal), first: u64, last: u64) -> Vec<u64> {
     fails
 }
 
+// The first call fails, and this exchange.
+fn first_and(rt: &(impl Abort + AllocGlobal), exchange: u64) -> Vec<u64> {
+    let mut fails = between(rt, 1, 1);
+    fails.push(exchange).expect(rt, "memory");
+    fails
+}
+
 // One exchange fails, of which the first two are the calls of the purchases; and all fail up to the third, or up to the eighth: a
-// purchase or both are answered without the bank, which hears of what stands by posts that are sent again.
+// purchase or both are answered without the bank, which hears of what stands by posts that are sent again. So it is where the first
+// purchase's call fails and one more exchange: the call as it is posted, the token of its answer, or the fetch.
 #[test]
 fn exchanges_are_lost(rt: HostRuntime) {
     for exchange in 1..=12u64 {
         let answers = if exchange <= 2 { 3 } else { 4 };
         repairs(&rt, failing(&rt, exchange), answers, answers);
+    }
+    for exchange in 3..=6u64 {
+        repairs(&rt, first_and(&rt, exchange), 2, 3);
     }
     repairs(&rt, between(&rt, 1, 3), 2, 3);
     repairs(&rt, between(&rt, 1, 8), 2, 3);

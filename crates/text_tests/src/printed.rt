@@ -1,14 +1,15 @@
 // Lines of what no script can bring about: a request that was answered otherwise than its journal says, a post that comes back to a
-// service that didn't write it, an answer to a call that its caller doesn't know, and the largest numbers.
+// service that didn't write it, a token of a call that its caller doesn't know, a fetch of an answer that wasn't given, and the largest
+// numbers.
 use crate::given::{holds, name, same, text};
 use call_registers::Hold;
 use journal_rows::{Row, Verdict};
-use lang_core::{Names, Response};
-use repair_messages::{Ack, AnswerMessage, Post, PostName};
+use lang_core::Names;
+use repair_messages::{Ack, Fetch, Post, PostName, TokenMessage};
 use repair_queue::{Notice, Notices};
 use report_text::{notices_text, verdict_text};
 use script_text::{Detail, happened_line};
-use service_events::{AnswerRefused, PostRefused, PostReply};
+use service_events::{AnswerRefused, GiveRefused, PostRefused, PostReply};
 use std::process::Abort;
 use world_events::{Happened, Packet, What};
 
@@ -66,18 +67,25 @@ fn notices_are_told(rt: HostRuntime) {
     );
 }
 
-// The third answer to the shop's seventh call.
-fn answer(rt: &(impl Abort + AllocGlobal)) -> Post {
-    let body = text(rt, "ok 5");
-    Post::Answer(AnswerMessage {
+// A token of the third answer to the shop's seventh call.
+fn token(rt: &(impl Abort + AllocGlobal)) -> Post {
+    Post::Token(TokenMessage {
         caller: name(rt, "shop"),
         callee: name(rt, "bank"),
         id: 4,
         number: 7,
         answer_version: 3,
-        version: 1,
-        response: Response { status: 200, body },
         who: text(rt, "bank"),
+    })
+}
+
+// A fetch of that answer.
+fn fetch(rt: &(impl Abort + AllocGlobal)) -> Post {
+    Post::Fetch(Fetch {
+        caller: name(rt, "shop"),
+        callee: name(rt, "bank"),
+        number: 7,
+        answer_version: 3,
     })
 }
 
@@ -106,10 +114,17 @@ fn happens(
 fn posts_are_told(rt: HostRuntime) {
     happens(
         &rt,
-        Packet::Post(answer(&rt)),
-        What::TakeAnswer(Err(AnswerRefused::Unknown(7))),
+        Packet::Post(token(&rt)),
+        What::TakeToken(Err(AnswerRefused::Unknown(7))),
         Some(5),
         "bank refused unknown 7 -> p5\n",
+    );
+    happens(
+        &rt,
+        Packet::Post(fetch(&rt)),
+        What::Give(Err(GiveRefused::Unknown(7))),
+        Some(6),
+        "bank refused unknown 7 -> p6\n",
     );
     let reply = PostReply::Acked(Ack {
         caller: name(&rt, "shop"),
@@ -118,7 +133,7 @@ fn posts_are_told(rt: HostRuntime) {
         version: 2,
     });
     let packet = Packet::PostReply {
-        post: answer(&rt),
+        post: token(&rt),
         reply,
     };
     let foreign = What::Posted(Err(PostRefused::Foreign));

@@ -126,18 +126,19 @@ fn is_refusal(reply: Result<Outgoing, WireRefused>, word: &str, number: u64) -> 
 #[test]
 fn replies_are_read(rt: HostRuntime) {
     holds(&rt, "live", is_live(read(&rt, Asking::Call, LIVE)));
+    holds(&rt, "fetched", is_live(read(&rt, Asking::Fetch, LIVE)));
     holds(&rt, "ack", is_ack(read(&rt, Asking::Set, ACK)));
     holds(&rt, "created", is_ack(read(&rt, Asking::Set, CREATED)));
     holds(
         &rt,
         "confirm",
-        is_confirm(read(&rt, Asking::Answer, CONFIRM)),
+        is_confirm(read(&rt, Asking::Token, CONFIRM)),
     );
-    for asked in [Asking::Call, Asking::Set, Asking::Answer] {
+    for asked in [Asking::Call, Asking::Set, Asking::Token, Asking::Fetch] {
         let denied = is_refusal(read(&rt, asked, DENIED), "denied", 2);
         holds(&rt, "denied", denied);
     }
-    let not_held = is_refusal(read(&rt, Asking::Answer, NOT_HELD), "notheld", 0);
+    let not_held = is_refusal(read(&rt, Asking::Token, NOT_HELD), "notheld", 0);
     holds(&rt, "notheld", not_held);
 }
 
@@ -207,9 +208,15 @@ fn acknowledgements_are_refused(rt: HostRuntime) {
     );
     refuses(
         &rt,
-        Asking::Answer,
+        Asking::Token,
         ACK,
         "Connection: close\r\n||missing Aire-Answer-Version",
+    );
+    refuses(
+        &rt,
+        Asking::Fetch,
+        CONFIRM,
+        "Connection: close\r\n||missing Aire-Request-Id",
     );
     refuses(
         &rt,
@@ -219,7 +226,7 @@ fn acknowledgements_are_refused(rt: HostRuntime) {
     );
     refuses(
         &rt,
-        Asking::Answer,
+        Asking::Token,
         CONFIRM,
         "bank/4|shop/4|bad Aire-Response-Id",
     );

@@ -1,7 +1,7 @@
 // What a service sends to a peer, by its bytes. The seals are those that `openssl dgst -sha256 -hmac s` prints for the sealed bytes.
 use crate::given::{holds, name, text};
-use lang_core::{Bytes, Method, Names, NoMemory, Request, Response};
-use repair_messages::{AnswerMessage, Post, SetMessage};
+use lang_core::{Bytes, Method, Names, NoMemory, Request};
+use repair_messages::{Fetch, Post, SetMessage, TokenMessage};
 use std::process::Abort;
 use wire_bytes::{call_bytes, post_bytes};
 
@@ -17,8 +17,11 @@ const REPLACE: &str =
 const DELETION: &str =
     "POST /aire/repair HTTP/1.1\r\nHost: 127.0.0.1:8102\r\nAire-From: shop\r\nAire-Dest: bank\r\nAire-Response-Id: shop/3\r\nAire-Repair: delete\r\nAire-Version: 2\r\nAire-Who: shop\r\nAire-Seal: fd92eac45576ddc587f9e806a4a755cdbcb96adf0ca137e752bfc7883f8ad440\r\nContent-Length: 0\r\nConnection: close\r\n\r\n";
 
-const ANSWER: &str =
-    "POST /aire/response HTTP/1.1\r\nHost: 127.0.0.1:8102\r\nAire-From: shop\r\nAire-Dest: bank\r\nAire-Request-Id: shop/9\r\nAire-Response-Id: bank/4\r\nAire-Repair: replace_response\r\nAire-Version: 2\r\nAire-Answer-Version: 3\r\nAire-Who: shop\r\nAire-Status: 201\r\nAire-Seal: 974edb3d301b1fe1ea2ae181b325cf784084598069d6ac58f3aa209b0e0c3443\r\nContent-Length: 2\r\nConnection: close\r\n\r\nok";
+const TOKEN: &str =
+    "POST /aire/notify HTTP/1.1\r\nHost: 127.0.0.1:8102\r\nAire-From: shop\r\nAire-Dest: bank\r\nAire-Request-Id: shop/9\r\nAire-Response-Id: bank/4\r\nAire-Repair: replace_response\r\nAire-Answer-Version: 3\r\nAire-Who: shop\r\nAire-Seal: 2da059240d649c77ba7f368e20474ed0600fd8da711bdf6a1e6ea31c925f1c26\r\nContent-Length: 0\r\nConnection: close\r\n\r\n";
+
+const FETCH: &str =
+    "POST /aire/fetch HTTP/1.1\r\nHost: 127.0.0.1:8102\r\nAire-From: shop\r\nAire-Dest: bank\r\nAire-Response-Id: shop/3\r\nAire-Answer-Version: 1\r\nAire-Seal: 6b117a42f191d075312ae5cc65729406d7ab646e3b1a0f1b7537c30244278dcc\r\nContent-Length: 0\r\nConnection: close\r\n\r\n";
 
 // A request to pay, called for by the shop, which `web` called before it where it isn't the shop's own.
 fn asked(
@@ -69,21 +72,31 @@ fn set(
     }
 }
 
-fn answer(rt: &(impl Abort + AllocGlobal)) -> AnswerMessage {
+// The shop announces its third answer to the bank's call 4.
+fn token(rt: &(impl Abort + AllocGlobal)) -> Post {
     let caller = name(rt, "bank");
     let callee = name(rt, "shop");
     let who = text(rt, "shop");
-    let body = text(rt, "ok");
-    AnswerMessage {
+    Post::Token(TokenMessage {
         caller,
         callee,
         id: 9,
         number: 4,
         answer_version: 3,
-        version: 2,
-        response: Response { status: 201, body },
         who,
-    }
+    })
+}
+
+// The shop asks for the bank's first answer to its call 3.
+fn fetch(rt: &(impl Abort + AllocGlobal)) -> Post {
+    let caller = name(rt, "shop");
+    let callee = name(rt, "bank");
+    Post::Fetch(Fetch {
+        caller,
+        callee,
+        number: 3,
+        answer_version: 1,
+    })
 }
 
 fn are(rt: &impl Abort, made: Result<Bytes, NoMemory>, wanted: &str) {
@@ -126,5 +139,6 @@ fn posts(rt: HostRuntime) {
     post_is(&rt, &Post::Set(replace), REPLACE);
     let deletion = set(&rt, "shop", 2, None, None, None);
     post_is(&rt, &Post::Set(deletion), DELETION);
-    post_is(&rt, &Post::Answer(answer(&rt)), ANSWER);
+    post_is(&rt, &token(&rt), TOKEN);
+    post_is(&rt, &fetch(&rt), FETCH);
 }

@@ -3,16 +3,16 @@ use crate::given::{holds, name, text};
 use call_registers::Why;
 use http_front::FrontRefused;
 use lang_core::{RequestId, Response};
-use repair_messages::{Ack, Post, SetMessage};
+use repair_messages::{Ack, AnswerMessage, Fetch, Post, SetMessage};
 use service_events::{
-    AnswerRefused, ArriveRefused, OrderRefused, PostReply, PostWord, TakeRefused,
+    AnswerRefused, ArriveRefused, GiveRefused, OrderRefused, PostReply, PostWord, TakeRefused,
 };
 use std::process::Abort;
 use wire_fields::{WireRefused, refusal_status};
 use wire_replies::{Asking, Outgoing};
 use wire_words::{
-    answer_told, arrive_told, asking_of, call_reply, front_word, order_told, post_reply, refusal,
-    take_told, why_unread, wire_word,
+    answer_told, arrive_told, asking_of, call_reply, front_word, give_told, order_told, post_reply,
+    refusal, take_told, why_unread, wire_word,
 };
 
 #[test]
@@ -36,6 +36,7 @@ fn no_memory_and_no_word(rt: HostRuntime) {
         "answer",
         answer_told(AnswerRefused::NoMemory).0 == word,
     );
+    holds(&rt, "give", give_told(GiveRefused::NoMemory).0 == word);
     holds(&rt, "order", order_told(OrderRefused::NoMemory).0 == word);
     holds(&rt, "cut", front_word(FrontRefused::Cut(7)).is_none());
     holds(&rt, "fault", front_word(FrontRefused::ReadFault).is_none());
@@ -83,33 +84,72 @@ fn refused_calls(rt: HostRuntime) {
     holds(&rt, "an acknowledgement", failed == Some(why_unread(200)));
 }
 
-// What a refusal of a post with this word says.
-fn post_refused(rt: &(impl Abort + AllocGlobal), word: &str) -> Option<PostWord> {
-    match post_reply(refusal(rt.alloc(), word, 2).expect(rt, "memory")) {
+// What a refusal of this post with this word says.
+fn post_refused(rt: &(impl Abort + AllocGlobal), post: &Post, word: &str) -> Option<PostWord> {
+    match post_reply(post, refusal(rt.alloc(), word, 2).expect(rt, "memory")) {
         Some(PostReply::Refused { word, number: 2 }) => Some(word),
         _ => None,
     }
 }
 
+// A refusal with this word says the same of every post.
 fn refuses(rt: &(impl Abort + AllocGlobal), word: &str, said: Option<PostWord>) {
-    holds(rt, word, post_refused(rt, word) == said);
+    holds(rt, word, post_refused(rt, &deletion(rt), word) == said);
+    holds(rt, word, post_refused(rt, &fetch(rt), word) == said);
 }
 
-fn is_acked(reply: Outgoing) -> bool {
-    match post_reply(reply) {
+fn is_acked(post: &Post, reply: Outgoing) -> bool {
+    match post_reply(post, reply) {
         Some(PostReply::Acked(ack)) => ack.number == 3 && ack.version == 2,
         _ => false,
     }
 }
 
-fn answered(rt: &(impl Abort + AllocGlobal)) -> Outgoing {
+fn is_given(post: &Post, reply: Outgoing) -> bool {
+    match post_reply(post, reply) {
+        Some(PostReply::Given(answer)) => answer.number == 3 && answer.answer_version == 2,
+        _ => false,
+    }
+}
+
+// The bank's second answer to the shop's call 3.
+fn answer(rt: &(impl Abort + AllocGlobal)) -> AnswerMessage {
+    let caller = name(rt, "shop");
+    let callee = name(rt, "bank");
+    let body = text(rt, "ok");
+    let who = text(rt, "bank");
+    AnswerMessage {
+        caller,
+        callee,
+        id: 1,
+        number: 3,
+        answer_version: 2,
+        version: 1,
+        response: Response { status: 200, body },
+        who,
+    }
+}
+
+// A reply with this answer, or, where there is none, one to a client that is no peer.
+fn answered(rt: &(impl Abort + AllocGlobal), answer: Option<AnswerMessage>) -> Outgoing {
     let service = name(rt, "bank");
     let body = text(rt, "ok");
     Outgoing::Answered {
         id: RequestId { service, number: 1 },
-        answer: None,
+        answer,
         response: Response { status: 200, body },
     }
+}
+
+fn fetch(rt: &(impl Abort + AllocGlobal)) -> Post {
+    let caller = name(rt, "shop");
+    let callee = name(rt, "bank");
+    Post::Fetch(Fetch {
+        caller,
+        callee,
+        number: 3,
+        answer_version: 2,
+    })
 }
 
 fn deletion(rt: &(impl Abort + AllocGlobal)) -> Post {
@@ -136,7 +176,19 @@ fn refused_posts(rt: HostRuntime) {
     refuses(&rt, "unknown", Some(PostWord::Unknown));
     refuses(&rt, "nomemory", Some(PostWord::NoMemory));
     refuses(&rt, "gone", None);
-    holds(&rt, "acked", is_acked(acknowledgement(&rt)));
-    holds(&rt, "answered", post_reply(answered(&rt)).is_none());
-    holds(&rt, "asked", asking_of(&deletion(&rt)) == Asking::Set);
+    let set = deletion(&rt);
+    holds(&rt, "acked", is_acked(&set, acknowledgement(&rt)));
+    holds(&rt, "asked", asking_of(&set) == Asking::Set);
+    let unasked = post_reply(&set, answered(&rt, Some(answer(&rt))));
+    holds(&rt, "an answer that wasn't fetched", unasked.is_none());
+}
+
+#[test]
+fn fetches(rt: HostRuntime) {
+    let fetch = fetch(&rt);
+    holds(&rt, "asked", asking_of(&fetch) == Asking::Fetch);
+    let given = answered(&rt, Some(answer(&rt)));
+    holds(&rt, "given", is_given(&fetch, given));
+    let open = post_reply(&fetch, answered(&rt, None));
+    holds(&rt, "a reply to no peer", open.is_none());
 }
