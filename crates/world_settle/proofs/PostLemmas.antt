@@ -101,10 +101,14 @@ same_passing : {X : Type 0} (sought passes : X → Bool) (f : X → X) (xs : Lis
     → length (filter passes (change sought f xs)) ≡ length (filter passes xs)
 same_passing sought passes f [] leaves = refl
 same_passing sought passes f (y ∷ ys) leaves = elim (cases_Bool (sought y)) [
-  | inl is ↦ rw is (rw (leaves y) refl)
+  | inl is ↦ rw is (rw (leaves y) (changed (passes y)))
   | inr other ↦ rw other (kept (passes y) (same_passing sought passes f ys leaves))
 ]
   where
+    changed : (b : Bool) → length (cond b (f y ∷ filter passes ys) (filter passes ys)) ≡ length (cond b (y ∷ filter passes ys) (filter passes ys))
+    changed true = refl
+    changed false = refl
+
     kept : (b : Bool) → length (filter passes (change sought f ys)) ≡ length (filter passes ys)
         → length (cond b (y ∷ filter passes (change sought f ys)) (filter passes (change sought f ys))) ≡ length (cond b (y ∷ filter passes ys) (filter passes ys))
     kept true rest = omega (arith, rest)
