@@ -55,6 +55,18 @@ def read_all(conn):
     return got
 
 
+def compiler():
+    """The words of a compiler: the toolchain's own, else the system's."""
+    rt = shutil.which("rt")
+    own = rt and os.path.join(os.path.dirname(os.path.realpath(rt)), "../toolchain/bin/clang")
+    if own and os.access(own, os.X_OK):
+        return [own, "-fuse-ld=lld"]
+    found = shutil.which("cc") or shutil.which("clang")
+    if not found:
+        raise OSError("there is no compiler, which a proxy wants: neither the toolchain's nor cc")
+    return [found]
+
+
 class Proxy:
     """Stands before each service of a world: which messages came through, which were kept back, and how the next ones fare."""
 
@@ -62,10 +74,7 @@ class Proxy:
         self.library, self.patience = f"{folder}/detour.so", patience
         self.lock, self.listeners = threading.Lock(), []
         self.ways, self.kept, self.came = {}, {}, {}
-        compiler = shutil.which("cc") or shutil.which("clang")
-        if not compiler:
-            raise OSError("there is neither cc nor clang, which a proxy wants")
-        subprocess.run([compiler, "-shared", "-fPIC", "-O2", "-o", self.library, f"{HERE}/detour.c", "-ldl"], check=True)
+        subprocess.run([*compiler(), "-shared", "-fPIC", "-O2", "-nostdlib", "-o", self.library, f"{HERE}/detour.c"], check=True)
 
     def stand(self, doors):
         """Stands before these doors, each a service's name and its port, and gives the environment of the program that has them."""
