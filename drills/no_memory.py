@@ -8,7 +8,8 @@ Of so many allocations (EVERY, 97) one is tried, the first among them. Each clie
 5), the second of which is cancelled. Whoever is told `nomemory`, or gets no reply, sends the same once more, the operator who
 asks for the verdict and who stops among them. A run fits where its status is 0, the verdict legal, no cancelled post and no paste of
 one is there and every other is, but for those whose call a repair put before its user's token at `oauth`; or where its status is 6 and its last
-line `no memory`; or where it is 8 and `worker not started`, since the C library had no memory for a thread. How many ended so and so is printed,
+line `no memory`; or where it is 8 and `worker not started`, since the C library had no memory for a thread, or 7 and `door fault`, since a
+door couldn't be opened without it. How many ended so and so is printed,
 and each that didn't fit; the status is 1 where there is one. It needs a C compiler, `cc`, and the program built.
 """
 import json
@@ -25,6 +26,7 @@ TRIES = 20
 PATIENCE = 20
 LAST = "no memory\n"
 UNSTARTED = "worker not started\n"
+UNOPENED = "door fault\n"
 USERS = ("ann", "bob")
 UNESCAPED = {"\\\\": "\\", "\\n": "\n", "\\r": "\r"}
 
@@ -166,7 +168,7 @@ def visit(run, posts):
 
 
 def outcome(program, given, folder, refused, posts):
-    """How a run ended: `whole`, `lacking`, `unstarted`, or what is wrong."""
+    """How a run ended: `whole`, `lacking`, `unstarted`, `unopened`, or what is wrong."""
     run = Run(program, given, folder, refused)
     gone = False
     try:
@@ -180,6 +182,8 @@ def outcome(program, given, folder, refused, posts):
         return "lacking"
     if status == 8 and out.endswith(UNSTARTED):
         return "unstarted"
+    if status == 7 and out.endswith(UNOPENED):
+        return "unopened"
     if gone:
         fault = "it was gone before the stop"
     if fault or status != 0 or not out.endswith("legal\n"):
@@ -188,7 +192,7 @@ def outcome(program, given, folder, refused, posts):
 
 
 def main(program, every, posts):
-    counts = {"whole": 0, "lacking": 0, "unstarted": 0}
+    counts = {"whole": 0, "lacking": 0, "unstarted": 0, "unopened": 0}
     wrong = 0
     with tempfile.TemporaryDirectory() as folder:
         source, made = os.path.join(TOP, "bench", "no_memory.c"), os.path.join(folder, "no_memory.so")
@@ -206,7 +210,7 @@ def main(program, every, posts):
             else:
                 wrong += 1
                 print(f"allocation {refused}: {ended}", flush=True)
-    print(f"some {count} allocations, one in {every} refused: {counts['lacking']} runs ended with status 6, {counts['unstarted']} with status 8, {counts['whole']} as with all memory, {wrong} otherwise")
+    print(f"some {count} allocations, one in {every} refused: {counts['lacking']} runs ended with status 6, {counts['unstarted']} with status 8, {counts['unopened']} with status 7, {counts['whole']} as with all memory, {wrong} otherwise")
     return 1 if wrong else 0
 
 
