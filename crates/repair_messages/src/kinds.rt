@@ -17,6 +17,8 @@ pub enum Kind {
     ReplaceResponse,
     /// That a post which was refused is sent again.
     Retry,
+    /// That the first entries of a log are folded: nothing of them is repaired any more.
+    Fold,
 }
 
 /// What the message asks of a receiver: a deletion where it has no request, else a replacement where the receiver
@@ -57,5 +59,6 @@ pub fn kind_word(kind: Kind) -> &'static str
         Kind::Delete => "delete",
         Kind::ReplaceResponse => "replace_response",
         Kind::Retry => "retry",
+        Kind::Fold => "fold",
     }
 }

@@ -28,6 +28,10 @@ pub enum RefusalWord {
     NotHeld,
     /// The request of this number comes from a call.
     NotOutside,
+    /// The entry of this number is folded, or a call of this number is a folded entry's.
+    TooOld,
+    /// The entry of this number isn't quiet, so that it can't be folded.
+    NotQuiet,
 }
 
 /// A refusal: its word, and what it carries, or 0.
@@ -38,7 +42,7 @@ pub struct Refusal {
 }
 
 /// The words that a reply may say. That a service never had a post, or has no such flight, it tells nobody else.
-const SAID: [RefusalWord; 9] = [
+const SAID: [RefusalWord; 11] = [
     RefusalWord::NoMemory,
     RefusalWord::Full,
     RefusalWord::NotYet,
@@ -48,6 +52,8 @@ const SAID: [RefusalWord; 9] = [
     RefusalWord::NoSuchRequest,
     RefusalWord::NotHeld,
     RefusalWord::NotOutside,
+    RefusalWord::TooOld,
+    RefusalWord::NotQuiet,
 ];
 
 fn spelled<'a>(words: &'a [RefusalWord], text: &str) -> Option<&'a RefusalWord>
@@ -81,6 +87,8 @@ impl RefusalWord {
             RefusalWord::NoSuchRequest => "nosuchrequest",
             RefusalWord::NotHeld => "notheld",
             RefusalWord::NotOutside => "notoutside",
+            RefusalWord::TooOld => "tooold",
+            RefusalWord::NotQuiet => "notquiet",
         }
     }
 
@@ -102,6 +110,7 @@ impl RefusalWord {
             RefusalWord::Denied => 403,
             RefusalWord::Unknown | RefusalWord::NoSuchRequest => 404,
             RefusalWord::NotYet | RefusalWord::NotHeld | RefusalWord::NotOutside => 409,
+            RefusalWord::TooOld | RefusalWord::NotQuiet => 409,
             RefusalWord::Gone => 410,
             RefusalWord::NoMemory => 503,
             RefusalWord::Full => 507,
