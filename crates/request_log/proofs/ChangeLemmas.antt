@@ -2,16 +2,13 @@
 use Rattle.std.proofs.Common.{◌≡◌, ℕ, ◌+◌, suc, Bool, true, false, cond, not, List, [], ◌∷◌, length, set, get_or, Option, Some, None, IsSome, find, is_some, option_map, nat_lt, position, refl, sym, ap, ◌∙◌, subst, eqb-true, arith}
 use Rattle.std.specs.List.{position_or_len}
 use Rattle.request_log.specs.declared.entry.Entry.{Entry}
+use Rattle.request_log.specs.declared.folded.Folded.{Folded}
 use Rattle.lang_core.specs.HandedOn.{Method}
 use Rattle.lang_core.specs.declared.request.Request.{Request}
 use Rattle.request_log.specs.Entries.{asking, changed, has_id, replace, request_at, with_call, IsDistinct, KeptLog}
 use Rattle.request_log.specs.Keys.{IsIndexed}
 use Rattle.request_log.proofs.EntryLemmas.{at_place, is_found, log-set, placed}
-
--- a change that leaves an entry's number and origin
-pub record Leaves (change : Entry → Entry) : Type 0 where
-  pub id : (e : Entry) → (change e).id ≡ e.id
-  pub origin : (e : Entry) → (change e).origin ≡ e.origin
+use Rattle.request_log.proofs.FoldedLemmas.{Leaves}
 
 changed_head : (change : Entry → Entry) (b : Bool) (id : ℕ) (e : Entry) (es : List Entry) → has_id id e ≡ b → cond b (Some e) (find (has_id id) es) ≡ None
     → (find (has_id id) es ≡ None → changed id change es ≡ es) → changed id change (e ∷ es) ≡ e ∷ es
@@ -19,7 +16,7 @@ changed_head change true id e es is h later = cc
 changed_head change false id e es is h later = rw is (ap (λ l. e ∷ l) (later h))
 
 -- where no entry has the number, none is changed
-none_changed : (change : Entry → Entry) (id : ℕ) (es : List Entry) → find (has_id id) es ≡ None → changed id change es ≡ es
+pub none_changed : (change : Entry → Entry) (id : ℕ) (es : List Entry) → find (has_id id) es ≡ None → changed id change es ≡ es
 none_changed change id [] h = refl
 none_changed change id (e ∷ es) h = changed_head change (has_id id e) id e es refl h (none_changed change id es)
 
@@ -50,22 +47,22 @@ changed_at change id (x ∷ xs) e d h =
     subst S (sym (position-head id x xs)) (put_head change (has_id id x) id x e xs refl h d.0.id (changed_at change id xs e d.1))
 
 -- the entries, where the one at the place of a number was changed
-pub record IsChanged (change : Entry → Entry) (id : ℕ) (es es' : List Entry) (ns os : List ℕ) : Type 0 where
-  pub log : IsIndexed es' ns os
+pub record IsChanged (change : Entry → Entry) (id : ℕ) (fs : List Folded) (es es' : List Entry) (ns os : List ℕ) : Type 0 where
+  pub log : IsIndexed fs es' ns os
   pub entries : es' ≡ changed id change es
   pub there : true ≡ is_some (find (has_id id) es)
 
-pub changed_place : (change : Entry → Entry) → Leaves change → (id : ℕ) (k : KeptLog) (es : List Entry) (ns os : List ℕ) (place : ℕ) (x : Entry) → (record { entries = es }) ≡ k
-    → position (has_id id) es ≡ Some place → x ≡ get_or es place x → IsIndexed es ns os → IsChanged change id k.entries (set es place (change x)) ns os
-changed_place change leaves id k es ns os place x seen is at log =
+pub changed_place : (change : Entry → Entry) → Leaves change → (id : ℕ) (k : KeptLog) (fs : List Folded) (es : List Entry) (ns os : List ℕ) (place : ℕ) (x : Entry) → (record { folded = fs; entries = es }) ≡ k
+    → position (has_id id) es ≡ Some place → x ≡ get_or es place x → IsIndexed fs es ns os → IsChanged change id fs k.entries (set es place (change x)) ns os
+changed_place change leaves id k fs es ns os place x seen is at log =
     let old = at_place id es place x is in
     let n : position_or_len (has_id id) es ≡ place = placed (nat_lt (position_or_len (has_id id) es) (length es)) (position_or_len (has_id id) es) place is in
     let e : Entry = get_or es place x in
-    let P : Entry → KeptLog → Type 0 = λ e k. IsChanged change id k.entries (set es place (change e)) ns os in
+    let P : Entry → KeptLog → Type 0 = λ e k. IsChanged change id fs k.entries (set es place (change e)) ns os in
     subst (P x) seen
-    (subst (λ e. P e (record { entries = es })) (sym at)
+    (subst (λ e. P e (record { folded = fs; entries = es })) (sym at)
     (record {
-      log = log-set es ns os place (change e) e old.there (leaves.id e) (leaves.origin e) log;
+      log = log-set fs es ns os place (change e) e old.there (leaves.id e) (leaves.origin e) log;
       entries = ap (λ k. set es k (change e)) (sym n) ∙ changed_at change id es e log.log.distinct old.found;
       there = ap is_some (sym old.found);
     }))
@@ -87,8 +84,8 @@ pub record IsUnknown (change : Entry → Entry) (id : ℕ) (es : List Entry) : T
   pub entries : es ≡ changed id change es
   pub there : false ≡ is_some (find (has_id id) es)
 
-pub unknown : (change : Entry → Entry) (id : ℕ) (k : KeptLog) (es : List Entry) → (record { entries = es }) ≡ k → position (has_id id) es ≡ None → IsUnknown change id k.entries
-unknown change id k es is none =
+pub unknown : (change : Entry → Entry) (id : ℕ) (k : KeptLog) (fs : List Folded) (es : List Entry) → (record { folded = fs; entries = es }) ≡ k → position (has_id id) es ≡ None → IsUnknown change id k.entries
+unknown change id k fs es is none =
     let found : find (has_id id) es ≡ None = not_found id es none in
     let P : KeptLog → Type 0 = λ k. IsUnknown change id k.entries in
     subst P is (record { entries = sym (none_changed change id es found); there = ap is_some (sym found) })
@@ -107,10 +104,10 @@ replaced_by id es m p b q (Some e) d is so =
     ∙ (ap (λ (r : Request). set es (position_or_len (has_id id) es) (asking r e)) (sym same)
     ∙ changed_at (replace m p b) id es e d is)
 
-pub replaced_so : (id : ℕ) (k : KeptLog) (es : List Entry) (ns os : List ℕ) → (record { entries = es }) ≡ k → IsIndexed es ns os
+pub replaced_so : (id : ℕ) (k : KeptLog) (fs : List Folded) (es : List Entry) (ns os : List ℕ) → (record { folded = fs; entries = es }) ≡ k → IsIndexed fs es ns os
     → (m : Method) (p b : List ℕ) (q : Request) → option_map (with_call m p b) (request_at id k.entries) ≡ Some q
     → changed id (asking q) k.entries ≡ changed id (replace m p b) k.entries
-replaced_so id k es ns os is log m p b q =
+replaced_so id k fs es ns os is log m p b q =
     let P : KeptLog → Type 0 = λ k. option_map (with_call m p b) (request_at id k.entries) ≡ Some q
     → changed id (asking q) k.entries ≡ changed id (replace m p b) k.entries in
     subst P is (λ so. replaced_by id es m p b q (find (has_id id) es) log.log.distinct refl so)

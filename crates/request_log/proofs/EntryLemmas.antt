@@ -1,5 +1,5 @@
 -- Changes of a log keep its numbers and calls apart.
-use Rattle.std.proofs.Common.{◌≡◌, ℕ, zero, suc, ◌≤◌, ◌≢◌, Bool, true, false, cond, ◌&&◌, List, [], ◌∷◌, ◌++◌, length, set, Option, Some, None, find, insert, nat_eq, map, slice_get, get_or, nat_lt, ◌<◌, subst, refl, sym, ap, ◌∙◌, IsSome, IsSomeAnd, position, arith, length-append}
+use Rattle.std.proofs.Common.{◌≡◌, ℕ, zero, suc, ◌+◌, ◌≤◌, ◌≢◌, Bool, true, false, cond, ◌&&◌, List, [], ◌∷◌, ◌++◌, length, set, Option, Some, None, find, insert, nat_eq, map, slice_get, get_or, nat_lt, ◌<◌, subst, refl, sym, ap, ◌∙◌, IsSome, IsSomeAnd, position, arith, length-append}
 use Rattle.std.specs.List.{position_or_len}
 use Rattle.std.specs.Cmp.{nat_eq_equiv}
 use Rattle.std.specs.Cmp.Lexicographic.{nat_list_eq_equiv}
@@ -15,15 +15,17 @@ use Rattle.lang_core.specs.Origins.{is_call}
 use Rattle.lang_core.specs.declared.ids.Origin.{Origin}
 use Rattle.lang_core.specs.declared.ids.Origin.TheVariants.{Outside, Call}
 use Rattle.request_log.specs.declared.entry.Entry.{Entry}
+use Rattle.request_log.specs.declared.folded.Folded.{Folded}
 use Rattle.request_log.specs.Entries.{has_id, find_call, IsNew, IsDistinct, IsKnown, KeptLog}
+use Rattle.request_log.specs.Folded.{as_entry, whole}
 use Rattle.request_log.specs.Keys.{number_of, origin_key, entry_key, IsIndexed}
 
 -- a search that finds nothing finds nothing first, and nothing further on
-not_first : {X : Type 0} (b : Bool) (x : X) (o : Option X) → cond b (Some x) o ≡ None → (b ≡ false) × (o ≡ None)
+pub not_first : {X : Type 0} (b : Bool) (x : X) (o : Option X) → cond b (Some x) o ≡ None → (b ≡ false) × (o ≡ None)
 not_first true x o e = cc
 not_first false x o e = (refl, e)
 
-nowhere : {X : Type 0} (b : Bool) (x : X) (o : Option X) → b ≡ false → o ≡ None → cond b (Some x) o ≡ None
+pub nowhere : {X : Type 0} (b : Bool) (x : X) (o : Option X) → b ≡ false → o ≡ None → cond b (Some x) o ≡ None
 nowhere true x o e n = cc
 nowhere false x o e n = n
 
@@ -46,7 +48,7 @@ none-set p (x ∷ xs) (suc i) y old at same n =
     nowhere (p x) x (find p (set xs i y)) parts.0 (none-set p xs i y old at same parts.1)
 
 -- whether an entry comes from the same call
-from_call : Origin → Origin → Bool
+pub from_call : Origin → Origin → Bool
 from_call Outside o = false
 from_call (Call caller number) o = is_call caller number o
 
@@ -57,7 +59,7 @@ call_flips Outside (Call c n) = refl
 call_flips (Call c n) Outside = refl
 call_flips (Call c n) (Call d m) = ap (λ b. b && nat_eq m n) (nat_list_eq_equiv.symm d c) ∙ ap (λ b. same_text c d && b) (nat_eq_equiv.symm m n)
 
-find_call-is : (o : Origin) (es : List Entry) → find_call o es ≡ find (λ e. from_call o e.origin) es
+pub find_call-is : (o : Origin) (es : List Entry) → find_call o es ≡ find (λ e. from_call o e.origin) es
 unfolding from_call
 find_call-is Outside [] = refl
 find_call-is Outside (e ∷ es) = find_call-is Outside es
@@ -117,6 +119,44 @@ distinct-set (x ∷ es) zero y old at id origin all =
 distinct-set (x ∷ es) (suc i) y old at id origin all =
     (new-set x y old es i at id origin all.0, distinct-set es i y old at id origin all.1)
 
+-- ---- among others that stand before
+
+pub insert-behind : {X : Type 0} (front xs : List X) (i n : ℕ) (y : X) → n ≡ length front + i → insert (front ++ xs) n y ≡ front ++ insert xs i y
+insert-behind [] xs i n y at = ap (λ k. insert xs k y) (at ∙ omega arith)
+insert-behind (x ∷ front) xs i zero y at = absurd (omega (arith, at))
+insert-behind (x ∷ front) xs i (suc n) y at = ap (λ l. x ∷ l) (insert-behind front xs i n y (omega (arith, at)))
+
+pub set-behind : {X : Type 0} (front xs : List X) (i n : ℕ) (y : X) → n ≡ length front + i → set (front ++ xs) n y ≡ front ++ set xs i y
+set-behind [] xs i n y at = ap (λ k. set xs k y) (at ∙ omega arith)
+set-behind (x ∷ front) xs i zero y at = absurd (omega (arith, at))
+set-behind (x ∷ front) xs i (suc n) y at = ap (λ l. x ∷ l) (set-behind front xs i n y (omega (arith, at)))
+
+get-behind : {X : Type 0} (front xs : List X) (i n : ℕ) → n ≡ length front + i → slice_get (front ++ xs) n ≡ slice_get xs i
+get-behind [] xs i n at = ap (slice_get xs) (at ∙ omega arith)
+get-behind (x ∷ front) xs i zero at = absurd (omega (arith, at))
+get-behind (x ∷ front) xs i (suc n) at = get-behind front xs i n (omega (arith, at))
+
+-- what is new to all is new to those behind
+pub new-behind : (front es : List Entry) (y : Entry) → IsNew y (front ++ es) → IsNew y es
+new-behind [] es y new = new
+new-behind (x ∷ front) es y new = new-behind front es y (new_rest x y (front ++ es) new)
+
+apart-insert : (front es : List Entry) (i : ℕ) (y : Entry) → IsNew y (front ++ es) → IsDistinct (front ++ es) → IsDistinct (front ++ insert es i y)
+apart-insert front es i y new d =
+    let P : List Entry → Type 0 = λ l. IsDistinct l in
+    subst P (insert-behind front es i (length front + i) y refl) (distinct-insert (front ++ es) (length front + i) y new d)
+
+apart-append : (front es : List Entry) (y : Entry) → IsNew y (front ++ es) → IsDistinct (front ++ es) → IsDistinct (front ++ (es ++ y ∷ []))
+apart-append front es y new d =
+    let P : List Entry → Type 0 = λ l. IsDistinct (front ++ l) in
+    subst P (insert_end es y) (apart-insert front es (length es) y new d)
+
+apart-set : (front es : List Entry) (i : ℕ) (y old : Entry) → slice_get es i ≡ Some old → y.id ≡ old.id → y.origin ≡ old.origin → IsDistinct (front ++ es) → IsDistinct (front ++ set es i y)
+apart-set front es i y old at id origin d =
+    let P : List Entry → Type 0 = λ l. IsDistinct l in
+    subst P (set-behind front es i (length front + i) y refl)
+    (distinct-set (front ++ es) (length front + i) y old (get-behind front es i (length front + i) refl ∙ at) id origin d)
+
 map-insert : {X : Type 0} (key : X → ℕ) (xs : List X) (i : ℕ) (y : X) → map key (insert xs i y) ≡ insert (map key xs) i (key y)
 map-insert key [] zero y = refl
 map-insert key [] (suc i) y = refl
@@ -124,29 +164,34 @@ map-insert key (x ∷ xs) zero y = refl
 map-insert key (x ∷ xs) (suc i) y = ap (λ ys. key x ∷ ys) (map-insert key xs i y)
 
 -- a log with one entry more, where it was seen as that value
-pub log-insert : (es : List Entry) (ns os : List ℕ) (k : KeptLog) (i : ℕ) (y : Entry) → (record { entries = es }) ≡ k → i ≤ length k.entries → length es ≢ 100000 → IsNew y k.entries → IsIndexed es ns os
-    → IsIndexed (insert es i y) (insert ns i y.id) (insert os i (entry_key y))
-log-insert es ns os k i y is within room new log =
+pub log-insert : (fs : List Folded) (es : List Entry) (ns os : List ℕ) (k : KeptLog) (i : ℕ) (y : Entry) → (record { folded = fs; entries = es }) ≡ k → i ≤ length k.entries → length es ≢ 100000 → IsNew y (whole k.folded k.entries)
+    → IsIndexed fs es ns os → IsIndexed fs (insert es i y) (insert ns i y.id) (insert os i (entry_key y))
+log-insert fs es ns os k i y is within room new log =
     let seen : es ≡ k.entries = ap (λ (v : KeptLog). v.entries) is in
     let inside : i ≤ length es = rw seen within in
+    let P : KeptLog → Type 0 = λ v. IsNew y (whole v.folded v.entries) in
+    let new : IsNew y (whole fs es) = subst P (sym is) new in
     record {
       log = record {
-        distinct = distinct-insert es i y (rw seen new) log.log.distinct;
+        distinct = distinct-insert es i y (new-behind (map as_entry fs) es y new) log.log.distinct;
         few = omega (arith, length-insert es i y inside, log.log.few);
       };
+      apart = apart-insert (map as_entry fs) es i y new log.apart;
       by_number = ap (λ l. insert l i y.id) log.by_number ∙ sym (map-insert number_of es i y);
       by_origin = ap (λ l. insert l i (entry_key y)) log.by_origin ∙ sym (map-insert entry_key es i y);
     }
 
-pub log-append : (es : List Entry) (ns os : List ℕ) (k : KeptLog) (y : Entry) → (record { entries = es }) ≡ k → length es ≢ 100000 → IsNew y k.entries → IsIndexed es ns os
-    → IsIndexed (es ++ y ∷ []) (ns ++ y.id ∷ []) (os ++ entry_key y ∷ [])
-log-append es ns os k y is room new log =
-    let seen : es ≡ k.entries = ap (λ (v : KeptLog). v.entries) is in
+pub log-append : (fs : List Folded) (es : List Entry) (ns os : List ℕ) (k : KeptLog) (y : Entry) → (record { folded = fs; entries = es }) ≡ k → length es ≢ 100000 → IsNew y (whole k.folded k.entries)
+    → IsIndexed fs es ns os → IsIndexed fs (es ++ y ∷ []) (ns ++ y.id ∷ []) (os ++ entry_key y ∷ [])
+log-append fs es ns os k y is room new log =
+    let P : KeptLog → Type 0 = λ v. IsNew y (whole v.folded v.entries) in
+    let new : IsNew y (whole fs es) = subst P (sym is) new in
     record {
       log = record {
-        distinct = distinct-append es y (rw seen new) log.log.distinct;
+        distinct = distinct-append es y (new-behind (map as_entry fs) es y new) log.log.distinct;
         few = omega (arith, length-append es (y ∷ []), log.log.few);
       };
+      apart = apart-append (map as_entry fs) es y new log.apart;
       by_number = ap (λ l. l ++ y.id ∷ []) log.by_number ∙ sym (map-append number_of es (y ∷ []));
       by_origin = ap (λ l. l ++ entry_key y ∷ []) log.by_origin ∙ sym (map-append entry_key es (y ∷ []));
     }
@@ -157,12 +202,13 @@ keys-set key (x ∷ es) zero y old at same = let is : x ≡ old = cc at in ap (�
 keys-set key (x ∷ es) (suc i) y old at same = ap (λ ks. key x ∷ ks) (keys-set key es i y old at same)
 
 -- a log with one entry in place of another of its number and origin
-pub log-set : (es : List Entry) (ns os : List ℕ) (i : ℕ) (y old : Entry) → slice_get es i ≡ Some old → y.id ≡ old.id → y.origin ≡ old.origin → IsIndexed es ns os → IsIndexed (set es i y) ns os
-log-set es ns os i y old at id origin log = record {
+pub log-set : (fs : List Folded) (es : List Entry) (ns os : List ℕ) (i : ℕ) (y old : Entry) → slice_get es i ≡ Some old → y.id ≡ old.id → y.origin ≡ old.origin → IsIndexed fs es ns os → IsIndexed fs (set es i y) ns os
+log-set fs es ns os i y old at id origin log = record {
   log = record {
     distinct = distinct-set es i y old at id origin log.log.distinct;
     few = rw (length-set es i y) log.log.few;
   };
+  apart = apart-set (map as_entry fs) es i y old at id origin log.apart;
   by_number = log.by_number ∙ sym (keys-set number_of es i y old at id);
   by_origin = log.by_origin ∙ sym (keys-set entry_key es i y old at (ap (λ n. origin_key n y.origin) id ∙ ap (origin_key old.id) origin));
 }
@@ -214,30 +260,30 @@ at_place id es place d is =
       id = eqb-true _ _ first.1;
     }
 
-pub known_place : (k : KeptLog) (entry : Entry) (es : List Entry) → (record { entries = es }) ≡ k → IsKnown entry k.entries → IsSome (position (has_id entry.id) es)
-known_place k entry es is known =
+pub known_place : (k : KeptLog) (entry : Entry) (fs : List Folded) (es : List Entry) → (record { folded = fs; entries = es }) ≡ k → IsKnown entry k.entries → IsSome (position (has_id entry.id) es)
+known_place k entry fs es is known =
     let seen : es ≡ k.entries = ap (λ (v : KeptLog). v.entries) is in
     is_found entry.id es (some_known (find (has_id entry.id) es) (λ old. old.origin ≡ entry.origin) (rw seen known))
 
 -- a log with an entry in place of the one of its number
-pub log-put : (k : KeptLog) (entry : Entry) (es : List Entry) (ns os : List ℕ) (place : ℕ) → (record { entries = es }) ≡ k → position (has_id entry.id) es ≡ Some place → IsKnown entry k.entries → IsIndexed es ns os
-    → IsIndexed (set es place entry) ns os
-log-put k entry es ns os place is at known log =
+pub log-put : (k : KeptLog) (entry : Entry) (fs : List Folded) (es : List Entry) (ns os : List ℕ) (place : ℕ) → (record { folded = fs; entries = es }) ≡ k → position (has_id entry.id) es ≡ Some place → IsKnown entry k.entries → IsIndexed fs es ns os
+    → IsIndexed fs (set es place entry) ns os
+log-put k entry fs es ns os place is at known log =
     let seen : es ≡ k.entries = ap (λ (v : KeptLog). v.entries) is in
     let old = at_place entry.id es place entry at in
     let origin = some_and (find (has_id entry.id) es) (λ x. x.origin ≡ entry.origin) (get_or es place entry) (rw seen known) old.found in
-    log-set es ns os place entry (get_or es place entry) old.there (sym old.id) (sym origin) log
+    log-set fs es ns os place entry (get_or es place entry) old.there (sym old.id) (sym origin) log
 
 -- what is handed back is what was found
-pub put_old : (k : KeptLog) (id : ℕ) (es : List Entry) (place : ℕ) (old : Entry) → (record { entries = es }) ≡ k → position (has_id id) es ≡ Some place → old ≡ get_or es place old → find (has_id id) k.entries ≡ Some old
-put_old k id es place old is at read =
+pub put_old : (k : KeptLog) (id : ℕ) (fs : List Folded) (es : List Entry) (place : ℕ) (old : Entry) → (record { folded = fs; entries = es }) ≡ k → position (has_id id) es ≡ Some place → old ≡ get_or es place old → find (has_id id) k.entries ≡ Some old
+put_old k id fs es place old is at read =
     let seen : es ≡ k.entries = ap (λ (v : KeptLog). v.entries) is in
     rw (← seen) ((at_place id es place old at).found ∙ ap Some (sym read))
 
 -- a log with a run noted of the entry at a place
-pub log-note : (k : KeptLog) (es : List Entry) (ns os : List ℕ) (place : ℕ) (old y : Entry) → (record { entries = es }) ≡ k → place < length k.entries → old ≡ get_or es place old
-    → y.id ≡ old.id → y.origin ≡ old.origin → IsIndexed es ns os → IsIndexed (set es place y) ns os
-log-note k es ns os place old y is within read id origin log =
+pub log-note : (k : KeptLog) (fs : List Folded) (es : List Entry) (ns os : List ℕ) (place : ℕ) (old y : Entry) → (record { folded = fs; entries = es }) ≡ k → place < length k.entries → old ≡ get_or es place old
+    → y.id ≡ old.id → y.origin ≡ old.origin → IsIndexed fs es ns os → IsIndexed fs (set es place y) ns os
+log-note k fs es ns os place old y is within read id origin log =
     let seen : es ≡ k.entries = ap (λ (v : KeptLog). v.entries) is in
     let inside : place < length es = rw seen within in
-    log-set es ns os place y old (slice_get-get_or es place old inside ∙ ap Some (sym read)) id origin log
+    log-set fs es ns os place y old (slice_get-get_or es place old inside ∙ ap Some (sym read)) id origin log

@@ -1,3 +1,5 @@
 pub mod ChangeLemmas
 pub mod EntryLemmas
 pub mod FindLemmas
+pub mod FoldedLemmas
+pub mod WholeLemmas

@@ -8,6 +8,7 @@ use Rattle.lang_core.specs.declared.ids.Origin.TheVariants.{Outside, Call}
 use Rattle.lang_core.specs.declared.request.Request.{Request}
 use Rattle.request_log.specs.declared.entry.Entry.{Entry}
 use Rattle.request_log.specs.declared.entry.Made.{Made}
+use Rattle.request_log.specs.declared.folded.Folded.{Folded}
 
 -- its origin wants it, and no order has struck it
 abbrev pub is_alive : Entry → Bool
@@ -78,8 +79,9 @@ AreReplaced id q old new = (method : Method) (path body : List ℕ)
     → option_map (with_call method path body) (request_at id old) ≡ Some q
     → new ≡ changed id (replace method path body) old
 
--- a log: its entries in order
+-- a log: its folded entries in order, and behind them the others
 pub record KeptLog : Type 0 where
+  pub folded : List Folded
   pub entries : List Entry
 
 -- what each log keeps

@@ -4,7 +4,9 @@ use Rattle.lang_lists.specs.Keys.{call_key}
 use Rattle.lang_core.specs.declared.ids.Origin.{Origin}
 use Rattle.lang_core.specs.declared.ids.Origin.TheVariants.{Outside, Call}
 use Rattle.request_log.specs.declared.entry.Entry.{Entry}
-use Rattle.request_log.specs.Entries.{IsLog}
+use Rattle.request_log.specs.declared.folded.Folded.{Folded}
+use Rattle.request_log.specs.Entries.{IsDistinct, IsLog}
+use Rattle.request_log.specs.Folded.{whole}
 
 abbrev pub number_of : Entry → ℕ
 number_of e = e.id
@@ -17,8 +19,9 @@ origin_key id (Call caller number) = call_key caller number
 abbrev pub entry_key : Entry → ℕ
 entry_key e = origin_key e.id e.origin
 
--- a log's entries, their numbers in order, and the keys of their origins in order
-pub record IsIndexed (entries : List Entry) (numbers origins : List ℕ) : Type 0 where
+-- a log's folded entries, the others, the numbers of these in order, and the keys of their origins in order
+pub record IsIndexed (folded : List Folded) (entries : List Entry) (numbers origins : List ℕ) : Type 0 where
   pub log : IsLog entries
+  pub apart : IsDistinct (whole folded entries)
   pub by_number : numbers ≡ map number_of entries
   pub by_origin : origins ≡ map entry_key entries

@@ -1,4 +1,5 @@
 pub mod Entries
 pub mod Keys
 pub mod Records
+pub mod Folded
 pub mod HandedOn
