@@ -7,7 +7,8 @@ use Rattle.std.proofs.lemmas.Bool.Decides.{nat_tests}
 use Rattle.std.proofs.lemmas.Option.{slice_get_within}
 use Rattle.request_log.specs.Entries.{has_id}
 use Rattle.request_log.specs.declared.entry.Entry.{Entry}
-use Rattle.create_placement.specs.Placement.{known_place, behind_or, place_between, named, StandsBefore, StandsBehind, IsPlaced}
+use Rattle.request_log.specs.declared.folded.Folded.{Folded}
+use Rattle.create_placement.specs.Placement.{known_place, behind_or, is_past, place_among, place_behind, named, StandsBefore, StandsBehind, StandsFirst, IsPlaced}
 
 none_past : {P : Type 0} (entries : List Entry) (at : ℕ) → nat_lt at (length entries) ≡ true → None ≡ slice_get entries at → P
 none_past [] at within none = grind (arith, nat_tests)
@@ -62,15 +63,33 @@ known_at None entries = tt
 known_at (Some id) entries =
     chosen (nat_lt (position_or_len (has_id id) entries) (length entries)) (position_or_len (has_id id) entries) (find (has_id id) entries) entries refl (find_at (has_id id) entries)
 
-by_place : (entries : List Entry) (before after : Option ℕ) (next last : Option Entry) → IsAt entries before next → IsAt entries after last → IsPlaced next last (unwrap_or before (behind_or after (length entries))) entries
-by_place entries (Some at) after (Some next) last there and = before_at entries at next there
-by_place entries (Some at) after None last there and = absurd there
-by_place entries None after (Some next) last there and = absurd there
-by_place entries None (Some at) None (Some last) there and = rw (add-one at) (behind_at entries at last and)
-by_place entries None (Some at) None None there and = absurd and
-by_place entries None None None (Some last) there and = absurd and
-by_place entries None None None None there and = λ entry. insert_end entries entry
+put_first : (entries : List Entry) → StandsFirst 0 entries
+put_first [] = λ entry. refl
+put_first (e ∷ es) = λ entry. refl
 
-pub is_placed : (before after : Option ℕ) (entries : List Entry) (at : ℕ) → at ≡ place_between before after entries → IsPlaced (named before entries) (named after entries) at entries
-is_placed before after entries at is =
-    rw is (by_place entries (known_place before entries) (known_place after entries) (named before entries) (named after entries) (known_at before entries) (known_at after entries))
+-- behind the other, or first, or last
+behind_place : (entries : List Entry) (after : Option ℕ) (last : Option Entry) (past : Bool) → IsAt entries after last
+    → IsPlaced false None past last (cond past 0 (behind_or after (length entries))) entries
+behind_place entries after last true and = put_first entries
+behind_place entries None None false and = λ entry. insert_end entries entry
+behind_place entries None (Some last) false and = absurd and
+behind_place entries (Some at) None false and = absurd and
+behind_place entries (Some at) (Some last) false and = rw (add-one at) (behind_at entries at last and)
+
+by_place : (entries : List Entry) (before : Option ℕ) (next : Option Entry) (end : ℕ) (past : Bool) (last : Option Entry) → IsAt entries before next
+    → IsPlaced false None past last end entries → IsPlaced false next past last (unwrap_or before end) entries
+by_place entries (Some at) (Some next) end past last there rest = before_at entries at next there
+by_place entries (Some at) None end past last there rest = absurd there
+by_place entries None (Some next) end past last there rest = absurd there
+by_place entries None None end past last there rest = rest
+
+placed_by : (folded : List Folded) (entries : List Entry) (before after : Option ℕ) (first : Bool)
+    → IsPlaced first (named before entries) (is_past after folded) (named after entries) (cond first 0 (unwrap_or (known_place before entries) (place_behind after folded entries))) entries
+placed_by folded entries before after true = put_first entries
+placed_by folded entries before after false =
+    by_place entries (known_place before entries) (named before entries) (place_behind after folded entries) (is_past after folded) (named after entries) (known_at before entries)
+    (behind_place entries (known_place after entries) (named after entries) (is_past after folded) (known_at after entries))
+
+pub is_placed : (before after : Option ℕ) (folded : List Folded) (entries : List Entry) (at : ℕ) → at ≡ place_among before after folded entries
+    → IsPlaced (is_past before folded) (named before entries) (is_past after folded) (named after entries) at entries
+is_placed before after folded entries at is = rw is (placed_by folded entries before after (is_past before folded))

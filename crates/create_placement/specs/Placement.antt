@@ -1,9 +1,11 @@
 -- A created entry, and where it goes in a log.
-use Rattle.std.specs.Prelude.{ℕ, ◌≡◌, ◌+◌, true, false, List, [], ◌∷◌, ◌++◌, length, Option, Some, None, unwrap_or, find, position, insert}
+use Rattle.std.specs.Prelude.{ℕ, ◌≡◌, ◌+◌, Bool, true, false, if◌then◌else◌, is_some, List, [], ◌∷◌, ◌++◌, length, Option, Some, None, unwrap_or, find, position, insert}
 use Rattle.request_log.specs.Entries.{has_id}
+use Rattle.request_log.specs.Folded.{has_number}
 use Rattle.request_log.specs.HandedOn.{Inputs}
 use Rattle.request_log.specs.HandedOn.{Request}
 use Rattle.request_log.specs.declared.entry.Entry.{Entry}
+use Rattle.request_log.specs.declared.folded.Folded.{Folded}
 use Rattle.request_log.specs.HandedOn.{Outside}
 
 -- an entry from outside that never ran
@@ -37,6 +39,22 @@ behind_or (Some at) end = at + 1
 abbrev pub place_between : Option ℕ → Option ℕ → List Entry → ℕ
 place_between before after entries = unwrap_or (known_place before entries) (behind_or (known_place after entries) (length entries))
 
+-- ---- in a log of which the first entries are folded
+
+-- an entry of this number is folded, where one is given
+abbrev pub is_past : Option ℕ → List Folded → Bool
+is_past None folded = false
+is_past (Some id) folded = is_some (find (has_number id) folded)
+
+-- at the front where the entry `after` is folded, else behind it where it is known, else at the end
+abbrev pub place_behind : Option ℕ → List Folded → List Entry → ℕ
+place_behind after folded entries = if is_past after folded then 0 else behind_or (known_place after entries) (length entries)
+
+-- among those that aren't folded: at the front where the entry `before` is folded, else at it where it is known, else as `after` says
+abbrev pub place_among : Option ℕ → Option ℕ → List Folded → List Entry → ℕ
+place_among before after folded entries =
+    if is_past before folded then 0 else unwrap_or (known_place before entries) (place_behind after folded entries)
+
 -- ---- the same, by what stands beside the entry that is put there
 
 -- the entry of this number, where one is given and known
@@ -58,12 +76,19 @@ pub record StandsBehind (last : Entry) (at : ℕ) (entries : List Entry) : Type 
   pub whole : entries ≡ front ++ last ∷ back
   pub put : (entry : Entry) → insert entries at entry ≡ front ++ last ∷ (entry ∷ back)
 
+-- what is put at this place stands first
+abbrev pub StandsFirst : ℕ → List Entry → Type 0
+StandsFirst at entries = (entry : Entry) → insert entries at entry ≡ entry ∷ entries
+
 -- what is put at this place stands last
 abbrev pub StandsLast : ℕ → List Entry → Type 0
 StandsLast at entries = (entry : Entry) → insert entries at entry ≡ entries ++ entry ∷ []
 
--- before the one entry where it is known, else behind the other where that is, else last
-abbrev pub IsPlaced : Option Entry → Option Entry → ℕ → List Entry → Type 0
-IsPlaced (Some next) after at entries = StandsBefore next at entries
-IsPlaced None (Some last) at entries = StandsBehind last at entries
-IsPlaced None None at entries = StandsLast at entries
+-- first where the one entry is folded, else before it where it is known; else first where the other is folded, else behind it where that is
+-- known, else last
+abbrev pub IsPlaced : Bool → Option Entry → Bool → Option Entry → ℕ → List Entry → Type 0
+IsPlaced true next past last at entries = StandsFirst at entries
+IsPlaced false (Some next) past last at entries = StandsBefore next at entries
+IsPlaced false None true last at entries = StandsFirst at entries
+IsPlaced false None false (Some last) at entries = StandsBehind last at entries
+IsPlaced false None false None at entries = StandsLast at entries

@@ -1,6 +1,6 @@
 // The place of a created entry.
 ghost use Rattle.std.specs.Prelude.{◌≡◌, ◌<◌, ◌≤◌, length, IfSome};
-ghost use Rattle.create_placement.specs.Placement.{IsPlaced, known_place, named, place_between};
+ghost use Rattle.create_placement.specs.Placement.{IsPlaced, is_past, known_place, named, place_among, place_behind};
 
 use request_log::Log;
 
@@ -14,13 +14,22 @@ fn known_place(log: &Log, id: Option<u64>) -> Option<u64>
     }
 }
 
-fn place_between(log: &Log, before: Option<u64>, after: Option<u64>) -> u64
-    ensures place { result ≡ place_between before after log.now.entries }
+fn is_past(log: &Log, id: Option<u64>) -> bool
+    ensures { result ≡ is_past id log.now.folded }
+{
+    match id {
+        Some(id) => log.find_folded(id).is_some(),
+        None => false,
+    }
+}
+
+fn place_behind(log: &Log, after: Option<u64>) -> u64
+    ensures place { result ≡ place_behind after log.now.folded log.now.entries }
     ensures within { result ≤ length log.now.entries }
 {
     let end = log.len();
-    if let Some(at) = known_place(log, before) {
-        return at;
+    if is_past(log, after) {
+        return 0;
     }
     match known_place(log, after) {
         Some(at) => at + 1,
@@ -28,14 +37,27 @@ fn place_between(log: &Log, before: Option<u64>, after: Option<u64>) -> u64
     }
 }
 
-/// The place, counted from 0, at which a created entry is inserted into the log: directly before the entry of the
-/// number `before` where the log has it, else directly behind the entry of the number `after` where it has that, else
-/// at the end.
-pub fn place(log: &Log, before: Option<u64>, after: Option<u64>) -> u64
-    ensures place { result ≡ place_between before after log.now.entries }
+fn place_among(log: &Log, before: Option<u64>, after: Option<u64>) -> u64
+    ensures place { result ≡ place_among before after log.now.folded log.now.entries }
     ensures within { result ≤ length log.now.entries }
-    ensures stands { let entries = log.now.entries in
-        IsPlaced (named before entries) (named after entries) result entries }
 {
-    place_between(log, before, after)
+    if is_past(log, before) {
+        return 0;
+    }
+    match known_place(log, before) {
+        Some(at) => at,
+        None => place_behind(log, after),
+    }
+}
+
+/// The place, counted from 0, at which a created entry is inserted among the entries of the log that aren't folded: directly
+/// before the entry of the number `before` where the log has it, else directly behind the entry of the number `after` where
+/// it has that, else at the end. A folded entry stands before all places: where it decides, the place is the first.
+pub fn place(log: &Log, before: Option<u64>, after: Option<u64>) -> u64
+    ensures place { result ≡ place_among before after log.now.folded log.now.entries }
+    ensures within { result ≤ length log.now.entries }
+    ensures stands { let folded = log.now.folded in let entries = log.now.entries in
+        IsPlaced (is_past before folded) (named before entries) (is_past after folded) (named after entries) result entries }
+{
+    place_among(log, before, after)
 }
