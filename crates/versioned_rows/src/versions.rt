@@ -13,7 +13,9 @@ ghost use Rattle.versioned_rows.specs.Places.{label_of, without, with_place, wri
 ghost use Rattle.versioned_rows.specs.Versions.{call_code, write_call, base_call, rows_before_label, NamesWriters};
 
 use crate::base::{ready_base, take_base, text_in};
-use crate::places::{PlaceWrites, find_place, position_of, put_instead, take_out, text_at};
+use crate::places::{
+    PlaceWrites, find_place, position_of, put_instead, take_first, take_out, text_at,
+};
 use crate::room::{VersionsCall, ready_writes, take_writes};
 use key_labels::{KeyLabels, KeyRows, copied_rows, count_before, labels_in, position_in};
 use lang_base::copied_items;
@@ -146,6 +148,13 @@ impl Versions {
             near: 0,
             room: Vec::new(alloc),
         })
+    }
+
+    /// The rows before all places.
+    pub fn base(&self) -> &Cells
+        ensures { result.now ≡ self.now.base }
+    {
+        &self.base
     }
 
     /// The places with what they wrote, in order.
@@ -363,6 +372,16 @@ impl Versions {
         take_out(&mut self.places, &mut self.rows, label, stands);
     }
 
+    /// Takes so many of the first places out. No other place changes, nor do the rows before all places.
+    pub fn forget_first(&mut self, n: usize)
+        requires { n ≤ length self.old.versions }
+        ensures versions { self.new.versions ≡ drop n self.old.versions }
+        ensures base { self.new.base ≡ self.old.base }
+        ensures room { self.new.room ≡ self.old.room }
+    {
+        take_first(&mut self.places, &mut self.rows, n);
+    }
+
     /// Puts these writes at the place of a label, instead of those that it had. No other place changes. Refused, none
     /// does.
     pub fn write_at(
@@ -419,6 +438,7 @@ impl Versions {
             writes,
         )
     }
+
     /// Sets the rows before all places, instead of those that stood there. No place changes. Refused, nothing does.
     pub fn insert_base(&mut self, alloc: Global, cells: &Cells) -> Result<(), NoMemory>
         ensures ok { OnOk result (self.new.base ≡ cells.now) }
