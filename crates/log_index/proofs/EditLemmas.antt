@@ -11,8 +11,8 @@ use Rattle.place_order.specs.Rising.{IsRising}
 use Rattle.versioned_rows.specs.Places.{label_of, without, with_place}
 use Rattle.versioned_rows.specs.declared.places.PlaceWrites.{PlaceWrites}
 use Rattle.dependency_index.proofs.HandedOn.{known_at}
-use Rattle.log_index.specs.Rows.{writes_of, label_at, call_before, call_at, place_before, IsPlaced}
-use Rattle.log_index.proofs.LabelLemmas.{rising_self, apart_insert, place_at}
+use Rattle.log_index.specs.Rows.{writes_of, label_at, call_before, call_at, place_before, IsApart, IsPlaced}
+use Rattle.log_index.proofs.LabelLemmas.{rising_self, apart_drop, apart_insert, place_at}
 use Rattle.log_index.proofs.PlaceLemmas.{put_new, put_same}
 
 pub map_insert : {X Y : Type 0} (f : X → Y) (xs : List X) (at : ℕ) (x : X) → map f (insert xs at x) ≡ insert (map f xs) at (f x)
@@ -42,7 +42,7 @@ call_is ps place =
     ]
 
 module _ (labels : List ℕ) (ps : List PlaceWrites) (placed : IsPlaced labels ps) where
-  as_many : length labels ≡ length ps
+  pub as_many : length labels ≡ length ps
   as_many = sym (ap length placed.same) ∙ length-map ps label_of
 
   -- the label at a place is one of the order
@@ -122,3 +122,13 @@ module _ (labels : List ℕ) (ps : List PlaceWrites) (placed : IsPlaced labels p
         let same : map label_of made_of ≡ map label_of ps = ap (map label_of) (of ∙ put_other) ∙ labels_same in
         let P : List ℕ → Type 0 = λ l. IsRising labels l in
         record { same = same ∙ placed.same; apart = placed.apart; rising = subst P (sym same) placed.rising }
+
+  -- ---- without so many of the first
+
+  pub fewer_placed : (n : ℕ) (order : List ℕ) (left : List PlaceWrites) → order ≡ drop n labels → left ≡ drop n ps → IsPlaced order left
+  fewer_placed n order left is of =
+      let same : map label_of left ≡ order = ap (map label_of) of ∙ sym (drop-map label_of n ps) ∙ ap (drop n) placed.same ∙ sym is in
+      let A : List ℕ → Type 0 = λ l. IsApart l in
+      let apart : IsApart order = subst A (sym is) (apart_drop n labels placed.apart) in
+      let P : List ℕ → Type 0 = λ l. IsRising order l in
+      record { same = same; apart = apart; rising = subst P (sym same) (rising_self order apart) }

@@ -17,6 +17,9 @@ differs x y xs new there e = let P : ℕ → Type 0 = λ n. Contains xs n in new
 contains_at : (xs : List ℕ) (i : ℕ) → i < length xs → Contains xs (get_or xs i 0)
 contains_at xs i lt = (i, lt, sym (get_or_default xs i 0 (get_or xs i 0) lt))
 
+none : (x : ℕ) → Contains [] x → ⊥
+none x (i, lt, e) = absurd (omega arith)
+
 only : (x y : ℕ) → Contains (x ∷ []) y → x ≡ y
 only x y (zero, lt, e) = e
 only x y (suc i, lt, e) = absurd (omega arith)
@@ -58,6 +61,24 @@ apart_insert [] (suc at) made new apart = (new, tt)
 apart_insert (x ∷ xs) zero made new apart = (new, apart)
 apart_insert (x ∷ xs) (suc at) made new apart =
     (new_insert x made xs at (differs made x (x ∷ xs) new (0, omega arith, refl)) apart.0, apart_insert xs at made (new_rest made x xs new) apart.1)
+
+-- nor of those without so many of the first
+pub apart_drop : (n : ℕ) (xs : List ℕ) → IsApart xs → IsApart (drop n xs)
+apart_drop zero xs apart = apart
+apart_drop (suc n) [] apart = tt
+apart_drop (suc n) (x ∷ xs) apart = apart_drop n xs apart.1
+
+-- one of those that stand there is none of the others
+pub front_apart : (n : ℕ) (xs : List ℕ) (x : ℕ) → IsApart xs → Contains (drop n xs) x → IsNew x (take n xs)
+front_apart zero [] x apart there = λ front. none x front
+front_apart zero (y ∷ ys) x apart there = λ front. none x front
+front_apart (suc n) [] x apart there = λ front. none x front
+front_apart (suc n) (y ∷ ys) x apart there = λ front.
+    elim (Contains-append_cases (y ∷ []) (take n ys) x front) [
+      | inl this ↦ (let P : ℕ → Type 0 = λ z. Contains ys z in
+          apart.0 (subst P (sym (only y x this)) (whole ys n x (Contains-append_right (take n ys) (drop n ys) x there))))
+      | inr back ↦ front_apart n ys x apart.1 there back
+    ]
 
 -- the label at a place stands there
 pub place_at : (xs : List ℕ) (i : ℕ) → IsApart xs → i < length xs → place_in xs (get_or xs i 0) ≡ i

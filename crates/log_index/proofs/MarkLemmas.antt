@@ -1,14 +1,15 @@
 -- Marks: how many there are at most, what one more and one fewer leave of them, and where they stand after an insertion.
 use Rattle.std.proofs.Common.{◌≡◌, ℕ, zero, suc, ◌+◌, ◌<◌, ◌≤◌, Bool, true, false, cond, not, ◌&&◌, ◌||◌, List, [], ◌∷◌, ◌++◌, nat_eq, nat_lt, length, get_or, take, drop, map, refl, sym, ap, ◌∙◌, subst, inl, inr, arith, eq-eqb, drop-cons, append-nil}
-use Rattle.std.specs.List.{AllByRecursion, filter}
+use Rattle.std.specs.List.{All, AllByRecursion, filter, list_any}
 use Rattle.std.proofs.lemmas.Bool.{cases_order, cases_lt, lt-ltb, le-ltb, ne_eqb}
 use Rattle.std.proofs.lemmas.List.Folds.{list_any-append}
-use Rattle.std.proofs.lemmas.List.Elements.{All-append, All-cons, All-drop, All-filter, All-map, All-weaker, recursion_from_All}
+use Rattle.std.proofs.lemmas.List.Elements.{All-append, All-cons, All-drop, All-filter, All-from_recursion, All-map, All-weaker, recursion_from_All}
 use Rattle.std.proofs.lemmas.List.{take-append-drop, take_all, drop_all, drop-append-le, drop-drop, drop-take, length-map, length-take-le}
+use Rattle.std.proofs.Math.Bool.{or-true}
 use Rattle.lang_core.specs.Places.{past, IsRank}
 use Rattle.dependency_index.specs.Numbers.{Rises, with_number}
 use Rattle.dependency_index.proofs.NumberLemmas.{rises_put, member_kept}
-use Rattle.log_index.specs.Marks.{is_marked, shifted, AreMarks}
+use Rattle.log_index.specs.Marks.{is_marked, lowered, shifted, AreMarks}
 
 -- ---- how many there are
 
@@ -177,6 +178,65 @@ module _ (place : ℕ) where
 
 pub moved_are : (count place : ℕ) (old new : List ℕ) → AreMarks count old → new ≡ map (shifted place) old → AreMarks (count + 1) new
 moved_are count place old new are is = let P : List ℕ → Type 0 = λ l. AreMarks (count + 1) l in subst P (sym is) (shift_are place count old are)
+
+-- ---- after a fold
+
+-- no mark that is left stands before the place
+pub all_above : (n : ℕ) (old new : List ℕ) → ((q : ℕ) → is_marked q new ≡ (not (nat_lt q n) && is_marked q old)) → All (λ q. n ≤ q) new
+all_above n old new each = λ k d lt.
+    let q = get_or new k d in
+    let there : is_marked q new ≡ true = any_at (nat_eq q) new k d lt (eq-eqb q q refl) in
+    elim (cases_lt q n) [
+      | inl low ↦ (let e = lt-ltb q n low in let b : false ≡ true = sym (ap (λ b. not b && is_marked q old) e) ∙ sym (each q) ∙ there in cc)
+      | inr high ↦ high
+    ]
+  where
+    any_at : (p : ℕ → Bool) (xs : List ℕ) (k d : ℕ) → k < length xs → p (get_or xs k d) ≡ true → list_any p xs ≡ true
+    any_at p [] k d lt h = absurd (omega arith)
+    any_at p (x ∷ xs) zero d lt h = ap (λ b. b || list_any p xs) h
+    any_at p (x ∷ xs) (suc k) d lt h = ap (λ b. p x || b) (any_at p xs k d (omega arith) h) ∙ or-true (p x)
+
+pub not_above : (n q : ℕ) (b : Bool) → (not (nat_lt (n + q) n) && b) ≡ b
+not_above n q b = let e : nat_lt (n + q) n ≡ false = le-ltb (n + q) n (omega arith) in rw e refl
+
+module _ (n : ℕ) where
+  lower_lower : (x : ℕ) (ys : List ℕ) → n ≤ x → AllByRecursion (λ y. n ≤ y) ys → AllByRecursion (λ y. x < y) ys → AllByRecursion (λ y. lowered n x < y) (map (lowered n) ys)
+  lower_lower x [] le high all = tt
+  lower_lower x (y ∷ ys) le high all = (let a = high.0 in let b = all.0 in omega arith, lower_lower x ys le high.1 all.1)
+
+  lower_rises : (xs : List ℕ) → AllByRecursion (λ y. n ≤ y) xs → Rises xs → Rises (map (lowered n) xs)
+  lower_rises [] high r = tt
+  lower_rises (x ∷ xs) high r = (lower_lower x xs high.0 high.1 r.0, lower_rises xs high.1 r.1)
+
+  lower_within : (count : ℕ) (xs : List ℕ) → AllByRecursion (λ y. n ≤ y) xs → AllByRecursion (λ q. q < count) xs → AllByRecursion (λ q. q < count - n) (map (lowered n) xs)
+  lower_within count [] high within = tt
+  lower_within count (x ∷ xs) high within = (let a = high.0 in let b = within.0 in omega arith, lower_within count xs high.1 within.1)
+
+  -- they rise, and are of those that are left
+  pub lower_are : (count : ℕ) (marks : List ℕ) → All (λ q. n ≤ q) marks → AreMarks count marks → AreMarks (count - n) (map (lowered n) marks)
+  lower_are count marks high are =
+      let above = recursion_from_All (λ q. n ≤ q) marks high in
+      record {
+        rising = lower_rises marks above are.rising;
+        within = All-from_recursion (λ q. q < count - n) (map (lowered n) marks) (lower_within count marks above (recursion_from_All (λ q. q < count) marks are.within));
+      }
+
+  same_lower : (q x : ℕ) → n ≤ x → nat_eq q (x - n) ≡ nat_eq (n + q) x
+  same_lower q x le =
+      elim (cases_order q (x - n)) [
+        | inl e ↦ (let f = eq-eqb q (x - n) e in let g = eq-eqb (n + q) x (omega arith) in f ∙ sym g)
+        | inr (inl lt) ↦ (let f = ne_eqb q (x - n) (λ h. omega arith) in let g = ne_eqb (n + q) x (λ h. omega arith) in f ∙ sym g)
+        | inr (inr gt) ↦ (let f = ne_eqb q (x - n) (λ h. omega arith) in let g = ne_eqb (n + q) x (λ h. omega arith) in f ∙ sym g)
+      ]
+
+  lower_by : (q : ℕ) (xs : List ℕ) → AllByRecursion (λ y. n ≤ y) xs → is_marked q (map (lowered n) xs) ≡ is_marked (n + q) xs
+  lower_by q [] high = refl
+  lower_by q (x ∷ xs) high =
+      ap (λ b. b || is_marked q (map (lowered n) xs)) (same_lower q x high.0) ∙ ap (λ b. nat_eq (n + q) x || b) (lower_by q xs high.1)
+
+  -- what is left is marked as it was
+  pub lower_behind : (q : ℕ) (marks : List ℕ) → All (λ q. n ≤ q) marks → is_marked q (map (lowered n) marks) ≡ is_marked (n + q) marks
+  lower_behind q marks high = lower_by q marks (recursion_from_All (λ q. n ≤ q) marks high)
 
 -- a slice that was written whole, in place of what stood in the list
 pub spliced : (f : ℕ → ℕ) (xs ys : List ℕ) (n : ℕ) → ys ≡ map f xs → n ≡ length xs → take n (ys ++ drop (length ys) xs) ≡ map f xs

@@ -1,16 +1,16 @@
 -- The reads that are noted under labels, once others were noted.
-use Rattle.std.proofs.Common.{◌≡◌, ◌≢◌, ℕ, zero, suc, ◌+◌, ◌<◌, Bool, true, false, cond, List, [], ◌∷◌, ◌++◌, nat_eq, nat_lt, length, get_or, set, refl, sym, ap, ◌∙◌, subst, inl, inr, arith, append_assoc, eq-eqb, eqb-true}
-use Rattle.std.specs.List.{Contains, filter, insert}
-use Rattle.std.proofs.lemmas.Bool.{cases_order, lt-ltb, le-ltb, ne_eqb}
-use Rattle.std.proofs.lemmas.List.{get_or_default, length-map}
-use Rattle.std.proofs.lemmas.List.Elements.{Contains-append_right}
+use Rattle.std.proofs.Common.{◌≡◌, ◌≢◌, ℕ, zero, suc, ◌+◌, ◌<◌, Bool, true, false, cond, not, List, [], ◌∷◌, ◌++◌, nat_eq, nat_lt, length, get_or, set, take, drop, map, refl, sym, ap, ◌∙◌, subst, inl, inr, arith, append_assoc, eq-eqb, eqb-true}
+use Rattle.std.specs.List.{All, AllByRecursion, Contains, filter, insert}
+use Rattle.std.proofs.lemmas.Bool.{cases_order, lt-ltb, le-ltb, ne_eqb, eqb-false}
+use Rattle.std.proofs.lemmas.List.{get_or_default, length-map, take-append-drop}
+use Rattle.std.proofs.lemmas.List.Elements.{All-from_recursion, Contains-append_cases, Contains-append_right, recursion_from_All}
 use Rattle.place_order.specs.Labels.{IsNew}
 use Rattle.log_index.specs.Rows.{IsApart}
 use Rattle.log_index.proofs.EditLemmas.{map_insert}
-use Rattle.dependency_index.specs.Reads.{label_of, with_noted}
+use Rattle.dependency_index.specs.Reads.{label_of, with_noted, without}
 use Rattle.dependency_index.specs.declared.noted.Noted.{Noted}
 use Rattle.dependency_index.specs.declared.reads.ReadAt.{ReadAt}
-use Rattle.log_index.specs.Marks.{reads_under, reads_by}
+use Rattle.log_index.specs.Marks.{reads_under, reads_by, without_each}
 
 none_after : {X : Type 0} (xs : List X) → xs ++ [] ≡ xs
 none_after [] = refl
@@ -109,3 +109,70 @@ noted_there own ns (x ∷ xs) (suc place) apart lt is =
     let e = ne_eqb (label_of own) x differs in
     ap (λ r. r ∷ reads_by (with_noted own ns) xs) (under_noted own ns x ∙ ap (λ b. cond b own.reads (reads_under ns x)) e)
     ∙ ap (λ l. reads_under ns x ∷ l) (noted_there own ns xs place apart.1 n is)
+
+-- ---- without the reads of some labels
+
+-- a label that is another has the reads that it had
+pub under_without : (xs : List ℕ) (ns : List Noted) (label : ℕ) → IsNew label xs → reads_under (without_each xs ns) label ≡ reads_under ns label
+under_without [] ns label new = refl
+under_without (x ∷ xs) ns label new =
+    let other : nat_eq label x ≡ false = ne_eqb label x (first_differs label x xs new) in
+    under_kept (λ y. not (nat_eq y x)) (without_each xs ns) label ∙ ap (λ b. cond (not b) (reads_under (without_each xs ns) label) []) other
+    ∙ under_without xs ns label (rest_new label x xs new)
+
+-- those of labels that are others stay
+pub by_without : (xs labels : List ℕ) (ns : List Noted) → ((x : ℕ) → Contains labels x → IsNew x xs) → reads_by (without_each xs ns) labels ≡ reads_by ns labels
+by_without xs [] ns apart = refl
+by_without xs (l ∷ ls) ns apart =
+    ap (λ r. r ∷ reads_by (without_each xs ns) ls) (under_without xs ns l (apart l (stands l ls)))
+    ∙ ap (λ r. reads_under ns l ∷ r) (by_without xs ls ns (λ x there. apart x (Contains-append_right (l ∷ []) ls x there)))
+
+-- a label whose reads are left, which is none of these
+pub record IsLeft (labels xs : List ℕ) (label : ℕ) : Type 0 where
+  pub there : Contains labels label
+  pub other : IsNew label xs
+
+not_in : (label : ℕ) → IsNew label []
+not_in label (i, lt, e) = absurd (omega arith)
+
+new_more : (label x : ℕ) (xs : List ℕ) → label ≢ x → IsNew label xs → IsNew label (x ∷ xs)
+new_more label x xs differs new (zero, lt, e) = differs (sym e)
+new_more label x xs differs new (suc i, lt, e) = new (i, omega arith, e)
+
+left_by : (labels xs : List ℕ) (x : ℕ) (n : Noted) (ns : List Noted) (b : Bool) → nat_eq (label_of n) x ≡ b → IsLeft labels xs (label_of n)
+    → AllByRecursion (IsLeft labels (x ∷ xs)) (map label_of (filter (λ m. not (nat_eq (label_of m) x)) ns))
+    → AllByRecursion (IsLeft labels (x ∷ xs)) (map label_of (cond (not b) (n ∷ filter (λ m. not (nat_eq (label_of m) x)) ns) (filter (λ m. not (nat_eq (label_of m) x)) ns)))
+left_by labels xs x n ns true is left more = more
+left_by labels xs x n ns false is left more =
+    (record { there = left.there; other = new_more (label_of n) x xs (eqb-false (label_of n) x is) left.other }, more)
+
+left_more : (labels xs : List ℕ) (x : ℕ) (ns : List Noted) → AllByRecursion (IsLeft labels xs) (map label_of ns) → AllByRecursion (IsLeft labels (x ∷ xs)) (map label_of (without x ns))
+left_more labels xs x [] all = tt
+left_more labels xs x (n ∷ ns) all = left_by labels xs x n ns (nat_eq (label_of n) x) refl all.0 (left_more labels xs x ns all.1)
+
+left_first : (labels : List ℕ) (ns : List Noted) → AllByRecursion (Contains labels) (map label_of ns) → AllByRecursion (IsLeft labels []) (map label_of ns)
+left_first labels [] all = tt
+left_first labels (n ∷ ns) all = (record { there = all.0; other = not_in (label_of n) }, left_first labels ns all.1)
+
+left_all : (labels xs : List ℕ) (ns : List Noted) → AllByRecursion (Contains labels) (map label_of ns) → AllByRecursion (IsLeft labels xs) (map label_of (without_each xs ns))
+left_all labels [] ns all = left_first labels ns all
+left_all labels (x ∷ xs) ns all = left_more labels xs x (without_each xs ns) (left_all labels xs ns all)
+
+behind_front : (labels : List ℕ) (n label : ℕ) → IsLeft labels (take n labels) label → Contains (drop n labels) label
+behind_front labels n label left =
+    let P : List ℕ → Type 0 = λ l. Contains l label in
+    elim (Contains-append_cases (take n labels) (drop n labels) label (subst P (sym (take-append-drop n labels)) left.there)) [
+      | inl front ↦ absurd (left.other front)
+      | inr back ↦ back
+    ]
+
+behind_all : (labels : List ℕ) (n : ℕ) (ls : List ℕ) → AllByRecursion (IsLeft labels (take n labels)) ls → AllByRecursion (Contains (drop n labels)) ls
+behind_all labels n [] all = tt
+behind_all labels n (l ∷ ls) all = (behind_front labels n l all.0, behind_all labels n ls all.1)
+
+-- without the reads of so many of the first labels, reads are noted under the others alone
+pub known_left : (labels : List ℕ) (n : ℕ) (ns : List Noted) → All (Contains labels) (map label_of ns)
+    → All (Contains (drop n labels)) (map label_of (without_each (take n labels) ns))
+known_left labels n ns all =
+    All-from_recursion (Contains (drop n labels)) (map label_of (without_each (take n labels) ns))
+    (behind_all labels n (map label_of (without_each (take n labels) ns)) (left_all labels (take n labels) ns (recursion_from_All (Contains labels) (map label_of ns) all)))

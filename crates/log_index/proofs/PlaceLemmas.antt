@@ -1,11 +1,15 @@
 -- Places in the order of their labels: which stand before one, and what is put among them or in place of one.
-use Rattle.std.proofs.Common.{◌≡◌, ℕ, zero, suc, ◌+◌, ◌<◌, Bool, true, false, not, List, [], ◌∷◌, ◌++◌, Option, Some, None, nat_eq, take, map, refl, sym, ap, ◌∙◌, subst, arith, append_assoc, eq-eqb}
+use Rattle.std.proofs.Common.{◌≡◌, ℕ, zero, suc, ◌+◌, ◌<◌, Bool, true, false, not, List, [], ◌∷◌, ◌++◌, Option, Some, None, nat_eq, take, drop, map, refl, sym, ap, ◌∙◌, subst, arith, append_assoc, eq-eqb}
 use Rattle.std.specs.List.{filter, AllByRecursion}
 use Rattle.std.proofs.lemmas.Bool.{lt-ltb, le-ltb, ne_eqb}
 use Rattle.std.proofs.lemmas.List.{append-nil, take-map}
 use Rattle.std.proofs.lemmas.List.Elements.{filter-append}
 use Rattle.std.proofs.lemmas.List.Folds.{fold-map}
+use Rattle.std.proofs.lemmas.List.Sums.{fold-append}
+use Rattle.std.proofs.Math.Seq.{take-add}
 use Rattle.lang_core.specs.Rows.{apply}
+use Rattle.lang_core.specs.declared.cells.Cell.{Cell}
+use Rattle.lang_core.specs.declared.writes.Write.{Write}
 use Rattle.place_order.specs.Labels.{place_in}
 use Rattle.place_order.specs.Rising.{IsBeforeAll, IsRising, is_before}
 use Rattle.versioned_rows.specs.Places.{label_of, rows_after, before, without, with_place}
@@ -137,13 +141,18 @@ module _ (order : List ℕ) where
   before_is ps place r = front_from [] ps place r
 
 -- the rows that places make are those of their writes
-pub rows_are : (ps : List PlaceWrites) → rows_after [] ps ≡ rows_made (writes_of ps)
-rows_are ps = sym (fold-map apply (λ (p : PlaceWrites). p.writes) [] ps)
+pub rows_are : (base : List Cell) (ps : List PlaceWrites) → rows_after base ps ≡ rows_made base (writes_of ps)
+rows_are base ps = sym (fold-map apply (λ (p : PlaceWrites). p.writes) base ps)
 
 -- the rows before the label at a place are those before the place
-pub rows_seen : (order : List ℕ) (vs : KeptVersions) (place : ℕ) (label : Option ℕ) (kept : KeptWrites) → vs.base ≡ [] → IsRising order (map label_of vs.versions) → label ≡ label_at place vs.versions
+pub rows_seen : (order : List ℕ) (vs : KeptVersions) (place : ℕ) (label : Option ℕ) (kept : KeptWrites) → vs.base ≡ kept.base → IsRising order (map label_of vs.versions) → label ≡ label_at place vs.versions
     → writes_of vs.versions ≡ kept.writes → rows_before_label order label vs ≡ rows_before place kept
-rows_seen order vs place label kept bare r at same =
-    ap (λ l. rows_before_label order l vs) at ∙ ap (λ b. rows_after b (before order (label_at place vs.versions) vs.versions)) bare
-    ∙ ap (rows_after []) (before_is order vs.versions place r) ∙ rows_are (take place vs.versions)
-    ∙ ap rows_made (sym (take-map (λ (p : PlaceWrites). p.writes) place vs.versions)) ∙ ap (λ w. rows_made (take place w)) same
+rows_seen order vs place label kept based r at same =
+    ap (λ l. rows_before_label order l vs) at ∙ ap (rows_after vs.base) (before_is order vs.versions place r) ∙ rows_are vs.base (take place vs.versions)
+    ∙ ap (rows_made vs.base) (sym (take-map (λ (p : PlaceWrites). p.writes) place vs.versions)) ∙ ap (λ w. rows_made vs.base (take place w)) same
+    ∙ ap (λ b. rows_made b (take place kept.writes)) based
+
+-- what so many of the first wrote is in the rows before the others
+pub rows_behind : (base rows : List Cell) (ws : List (List Write)) (n place : ℕ) → rows ≡ rows_made base (take n ws) → rows_made rows (take place (drop n ws)) ≡ rows_made base (take (n + place) ws)
+rows_behind base rows ws n place is =
+    ap (λ b. rows_made b (take place (drop n ws))) is ∙ sym (fold-append apply base (take n ws) (take place (drop n ws))) ∙ ap (rows_made base) (sym (take-add n place ws))

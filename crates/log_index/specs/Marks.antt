@@ -1,5 +1,5 @@
 -- Where the reads of entries looked, and which entries are marked.
-use Rattle.std.specs.Prelude.{ℕ, ◌+◌, ◌<◌, ◌≡◌, Bool, not, ◌&&◌, ◌||◌, List, [], ◌∷◌, ◌++◌, IsTrue, nat_eq, nat_lt, length, map, filter, slice_index_or, if◌then◌else◌}
+use Rattle.std.specs.Prelude.{ℕ, ◌+◌, ◌-◌, ◌<◌, ◌≡◌, Bool, not, ◌&&◌, ◌||◌, List, [], ◌∷◌, ◌++◌, IsTrue, nat_eq, nat_lt, length, map, filter, slice_index_or, if◌then◌else◌}
 use Rattle.std.specs.List.{All, Contains, list_any}
 use Rattle.lang_base.specs.Equal.{equal}
 use Rattle.lang_lists.specs.Room.{is_made}
@@ -9,7 +9,7 @@ use Rattle.lang_core.specs.declared.writes.Write.{Write}
 use Rattle.place_order.specs.Labels.{place_in}
 use Rattle.dependency_index.specs.Index.{call_code as note_code, note_call}
 use Rattle.dependency_index.specs.Numbers.{Rises}
-use Rattle.dependency_index.specs.Reads.{is_at, is_scan_of, label_of}
+use Rattle.dependency_index.specs.Reads.{is_at, is_scan_of, label_of, without}
 use Rattle.dependency_index.specs.declared.noted.Noted.{Noted}
 use Rattle.dependency_index.specs.declared.reads.ReadAt.{ReadAt}
 use Rattle.dependency_index.specs.declared.reads.ReadKind.TheVariants.{Key}
@@ -91,6 +91,15 @@ places_behind labels place found = filter (nat_lt place) (map (place_in labels) 
 -- where a mark stands once something was put in at a place
 abbrev pub shifted : ℕ → ℕ → ℕ
 shifted place q = if nat_lt q place then q else q + 1
+
+-- without the reads of each of these labels
+abbrev pub without_each : List ℕ → List Noted → List Noted
+without_each [] noted = noted
+without_each (x ∷ xs) noted = without x (without_each xs noted)
+
+-- where a mark stands once so many places before it are gone
+abbrev pub lowered : ℕ → ℕ → ℕ
+lowered n q = q - n
 
 -- room was made for an entry of these reads at a place
 pub record IsReadyToInsert (place : ℕ) (reads : List Read) (kept : KeptMarks) : Type 0 where

@@ -10,23 +10,24 @@ use Rattle.place_order.specs.Rooms.{call_code as label_code}
 use Rattle.place_order.specs.declared.room.OrderCall.{OrderCall}
 use Rattle.place_order.specs.declared.room.OrderCall.TheVariants.{Append, InsertBefore}
 use Rattle.versioned_rows.specs.Places.{label_of}
-use Rattle.versioned_rows.specs.Versions.{call_code, write_call}
+use Rattle.versioned_rows.specs.Versions.{base_call, call_code, write_call}
 use Rattle.versioned_rows.specs.declared.places.PlaceWrites.{PlaceWrites}
 use Rattle.versioned_rows.specs.declared.room.VersionsCall.{VersionsCall}
 
--- what each entry wrote, in order, and the room that was made: for labels, and for writes
+-- the rows before all entries, what each entry wrote, in order, and the room that was made: for labels, and for writes and base rows
 pub record KeptWrites : Type 0 where
+  pub base : List Cell
   pub writes : List (List Write)
   pub places : List OrderCall
   pub copies : List VersionsCall
 
--- the rows that these writes make, one after the other, of empty rows
-abbrev pub rows_made : List (List Write) → List Cell
-rows_made writes = fold apply [] writes
+-- the rows that these writes make, one after the other, of these rows
+abbrev pub rows_made : List Cell → List (List Write) → List Cell
+rows_made base writes = fold apply base writes
 
 -- the rows before the entry at a place, or after all where it is past the end
 abbrev pub rows_before : ℕ → KeptWrites → List Cell
-rows_before place kept = rows_made (take place kept.writes)
+rows_before place kept = rows_made kept.base (take place kept.writes)
 
 -- the writes of places
 abbrev pub writes_of : List PlaceWrites → List (List Write)
@@ -69,3 +70,7 @@ IsReadyToSet writes kept = IsTrue (is_made call_code (write_call writes) kept.co
 pub record IsReadyToInsert (place : ℕ) (writes : List Write) (kept : KeptWrites) : Type 0 where
   pub label : IsTrue (is_made label_code (call_at place (length kept.writes)) kept.places)
   pub copy : IsReadyToSet writes kept
+
+-- room was made for these rows before all entries
+abbrev pub IsReadyToFold : List Cell → KeptWrites → Type 0
+IsReadyToFold rows kept = IsTrue (is_made call_code (base_call rows) kept.copies)

@@ -1,7 +1,7 @@
 // Marks, which are numbers that rise.
-ghost use Rattle.std.specs.Prelude.{ℕ, ◌≡◌, ◌+◌, ◌<◌, ◌≤◌, ◌&&◌, not, nat_lt, [], ◌∷◌, ◌++◌, drop, take, length, map, IfOk, OnOk, vec_capacity};
+ghost use Rattle.std.specs.Prelude.{ℕ, ◌≡◌, ◌+◌, ◌-◌, ◌<◌, ◌≤◌, ◌&&◌, not, nat_lt, [], ◌∷◌, ◌++◌, drop, take, length, map, IfOk, OnOk, vec_capacity};
 ghost use Rattle.dependency_index.specs.Numbers.{Rises, with_number};
-ghost use Rattle.log_index.specs.Marks.{is_marked, shifted, AreMarks};
+ghost use Rattle.log_index.specs.Marks.{is_marked, lowered, shifted, AreMarks};
 
 use dependency_index::seek_number;
 use lang_core::NoMemory;
@@ -44,7 +44,8 @@ fn left(numbers: &[u64], gone: usize) -> &[u64]
     &numbers[gone..]
 }
 
-fn drop_front(numbers: &mut Vec<u64>, count: usize)
+/// Takes so many out of the front.
+pub(crate) fn drop_front(numbers: &mut Vec<u64>, count: usize)
     requires { count ≤ length numbers.old.items }
     ensures items { numbers.new.items ≡ drop count numbers.old.items }
     ensures capacity { vec_capacity numbers.old ≤ vec_capacity numbers.new }
@@ -134,6 +135,28 @@ fn shift_marks(marks: &mut Vec<u64>, place: u64)
     ensures capacity { vec_capacity marks.old ≤ vec_capacity marks.new }
 {
     shift_all(marks, place);
+}
+
+fn lowered(n: u64, mark: u64) -> u64
+    ensures { result ≡ lowered n mark }
+{
+    mark.saturating_sub(n)
+}
+
+// Moves all marks down by so many.
+fn lower_all(marks: &mut [u64], n: u64)
+    ensures { marks.new ≡ map (lowered n) marks.old }
+{
+    for mark in marks.iter_mut() {
+        *mark = lowered(n, *mark);
+    }
+}
+
+fn lower_marks(marks: &mut Vec<u64>, n: u64)
+    ensures items { marks.new.items ≡ map (lowered n) marks.old.items }
+    ensures capacity { vec_capacity marks.old ≤ vec_capacity marks.new }
+{
+    lower_all(marks, n);
 }
 
 impl Marks {
@@ -234,5 +257,27 @@ impl Marks {
         if marked {
             self.put(place);
         }
+    }
+
+    // Moves all marks down by so many.
+    fn lower(&mut self, n: u64)
+        ensures items { self.new.items ≡ map (lowered n) self.old.items }
+        ensures spots { self.old.spots ≤ self.new.spots }
+    {
+        drop_front(&mut self.numbers, self.gone);
+        self.gone = 0;
+        lower_marks(&mut self.numbers, n);
+    }
+
+    /// Takes out the marks of so many of the first places, of so many in all, and moves the others down by as many.
+    pub fn fold(&mut self, n: u64, count: usize)
+        requires marks { AreMarks count self.old.items }
+        requires within { n ≤ count }
+        ensures marks { AreMarks (count - n) self.new.items }
+        ensures each { (q : ℕ) → is_marked q self.new.items ≡ is_marked (n + q) self.old.items }
+        ensures spots { self.old.spots ≤ self.new.spots }
+    {
+        self.drop_below(n);
+        self.lower(n);
     }
 }

@@ -1,5 +1,5 @@
 // Places in logged order, each with a label that stays when others come before it.
-ghost use Rattle.std.specs.Prelude.{◌≡◌, ◌+◌, ◌<◌, ◌≤◌, ◌∷◌, [], ◌++◌, true, IsTrue, IfOk, OnOk, OnErr, insert, length, nat_lt, slice_index, vec_len, vec_capacity};
+ghost use Rattle.std.specs.Prelude.{◌≡◌, ◌+◌, ◌<◌, ◌≤◌, ◌∷◌, [], ◌++◌, true, IsTrue, IfOk, OnOk, OnErr, drop, insert, length, nat_lt, slice_index, take, vec_len, vec_capacity};
 ghost use Rattle.std.specs.List.{Contains};
 ghost use Rattle.lang_lists.specs.Room.{is_made};
 ghost use Rattle.place_order.specs.Labels.{place_in, IsNew};
@@ -8,6 +8,7 @@ ghost use Rattle.log_index.specs.Rows.{call_at};
 ghost use Rattle.place_order.specs.declared.room.OrderCall.{OrderCall};
 ghost use Rattle.log_index.specs.Places.{AreLabels, HasPlace};
 
+use crate::numbers::drop_front;
 use lang_base::both;
 use lang_core::NoMemory;
 use lang_lists::count_front;
@@ -138,6 +139,14 @@ impl Places {
         &self.order
     }
 
+    /// The labels of so many of the first places.
+    pub fn first(&self, n: usize) -> &[u64]
+        requires { n ≤ length self.now.labels }
+        ensures { result.now ≡ take n self.now.labels }
+    {
+        &self.labels[..n]
+    }
+
     /// The label at a place.
     pub fn label_at(&self, place: usize) -> u64
         requires { place < length self.now.labels }
@@ -194,5 +203,14 @@ impl Places {
         let label = new_label(&mut self.order, &self.labels, place);
         let _ = self.labels.insert(place, label);
         label
+    }
+
+    /// Takes so many of the first places out.
+    pub fn forget_first(&mut self, n: usize)
+        requires { n ≤ length self.old.labels }
+        ensures { self.new.labels ≡ drop n self.old.labels }
+    {
+        self.order.forget_first(n as u64);
+        drop_front(&mut self.labels, n);
     }
 }

@@ -1,23 +1,22 @@
 // What the entries of a log wrote, by their places.
-ghost use Rattle.std.specs.Prelude.{◌≡◌, ◌↔◌, ◌<◌, ◌≤◌, [], IsTrue, IfOk, OnOk, length, insert, slice_set};
+ghost use Rattle.std.specs.Prelude.{ℕ, ◌≡◌, ◌↔◌, ◌+◌, ◌<◌, ◌≤◌, [], IsTrue, IfOk, OnOk, drop, length, insert, slice_set, take};
 ghost use Rattle.std.specs.Option.{option_copied};
 ghost use Rattle.lang_core.specs.Rows.{get, scan};
-ghost use Rattle.log_index.specs.Rows.{rows_before, IsReadyToInsert, IsReadyToSet};
+ghost use Rattle.log_index.specs.Rows.{rows_before, rows_made, writes_of, IsReadyToFold, IsReadyToInsert, IsReadyToSet};
 
 use crate::labels::{label_at, new_label, ready_label};
 use lang_base::both;
-use lang_core::{Cells, NoMemory, SharedWrites, Text};
+use lang_core::{Cells, Copied, NoMemory, SharedWrites, Text, apply_writes};
 use place_order::Order;
 use std::alloc::Global;
 use std::marker::Model;
-use versioned_rows::Versions;
+use versioned_rows::{PlaceWrites, Versions};
 
-/// What each entry of a log wrote, which contracts see as a list by the places of the entries, and the room that was made
-/// for calls to come. An entry that wrote nothing has its place too.
+/// What each entry of a log wrote, which contracts see as a list by the places of the entries, the rows before all of them,
+/// and the room that was made for calls to come. An entry that wrote nothing has its place too.
 pub struct EntryRows {
     // One label for each entry.
     order: Order,
-    // No rows stand before all entries.
     versions: Versions,
 }
 
@@ -31,20 +30,49 @@ impl Drop for EntryRows {
 }
 
 impl Model for EntryRows {
-    ghost use Rattle.std.specs.Prelude.{◌≡◌, []};
     ghost use Rattle.log_index.specs.Rows.{KeptWrites, IsPlaced, writes_of};
 
     ghost Value = { KeptWrites };
 
-    ghost view = { λ r. record { writes = writes_of r.versions.versions; places = r.order.room; copies = r.versions.room } };
+    ghost view = { λ r. record {
+      base = r.versions.base;
+      writes = writes_of r.versions.versions;
+      places = r.order.room;
+      copies = r.versions.room;
+    } };
 
-    ghost invariant = { λ r. IsPlaced r.order.labels r.versions.versions × (r.versions.base ≡ []) };
+    ghost invariant = { λ r. IsPlaced r.order.labels r.versions.versions };
+}
+
+// So many of the first places, or all where there are fewer.
+#[tactic(auto, using(std::proofs::lemmas::List::take_all))]
+fn front(places: &[PlaceWrites], n: usize) -> &[PlaceWrites]
+    ensures { result.now ≡ take n places.now }
+{
+    if n < places.len() {
+        &places[..n]
+    } else {
+        places
+    }
+}
+
+// The rows that these places make of base rows.
+#[tactic(auto, using(crate::proofs::PlaceLemmas::rows_are))]
+fn rows_made(alloc: Global, base: &Cells, places: &[PlaceWrites]) -> Result<Cells, NoMemory>
+    ensures { IfOk result (λ rows. rows ≡ rows_made base.now (writes_of places.now)) }
+{
+    let mut rows = base.copied(alloc)?;
+    for place in places {
+        apply_writes(alloc, &mut rows, &place.writes)?;
+    }
+    Ok(rows)
 }
 
 impl EntryRows {
-    /// What no entries wrote.
+    /// What no entries wrote, with no rows before them.
     pub fn new(alloc: Global) -> EntryRows
-        ensures { result.writes ≡ [] }
+        ensures base { result.base ≡ [] }
+        ensures writes { result.writes ≡ [] }
     {
         EntryRows {
             order: Order::new(alloc),
@@ -52,12 +80,21 @@ impl EntryRows {
         }
     }
 
-    /// What the same entries wrote, without room.
+    /// What the same entries wrote, with the same rows before them, without room.
     pub fn copied(&self, alloc: Global) -> Result<EntryRows, NoMemory>
-        ensures { IfOk result (λ copy. copy.writes ≡ self.now.writes) }
+        ensures base { IfOk result (λ copy. copy.base ≡ self.now.base) }
+        ensures writes { IfOk result (λ copy. copy.writes ≡ self.now.writes) }
     {
         let (order, versions) = both(self.order.copied(alloc), self.versions.copied(alloc))?;
         Ok(EntryRows { order, versions })
+    }
+
+    /// The rows before the entry at a place, or those after all entries where it is past the end.
+    pub fn rows_before(&self, alloc: Global, place: usize) -> Result<Cells, NoMemory>
+        ensures { IfOk result (λ rows. rows ≡ rows_before place self.now) }
+    {
+        let places = front(self.versions.as_slice(), place);
+        rows_made(alloc, self.versions.base(), places)
     }
 
     /// The text at a key of a table in the rows before the entry at a place, or in those after all entries where it is
@@ -101,6 +138,7 @@ impl EntryRows {
         place: usize,
         writes: &SharedWrites,
     ) -> Result<(), NoMemory>
+        ensures base { self.new.base ≡ self.old.base }
         ensures writes { self.new.writes ≡ self.old.writes }
         ensures ok { OnOk result (IsReadyToInsert place writes.now self.new) }
     {
@@ -114,7 +152,8 @@ impl EntryRows {
         requires within { place ≤ length self.old.writes }
         requires few { length self.old.writes < 100000 }
         requires ready { IsReadyToInsert place writes.now self.old }
-        ensures { self.new.writes ≡ insert self.old.writes place writes.now }
+        ensures base { self.new.base ≡ self.old.base }
+        ensures writes { self.new.writes ≡ insert self.old.writes place writes.now }
     {
         let next = label_at(self.versions.as_slice(), place);
         let label = new_label(&mut self.order, next);
@@ -125,6 +164,7 @@ impl EntryRows {
 
     /// Makes room for a `set` of these writes, at whichever place.
     pub fn ready_set(&mut self, alloc: Global, writes: &SharedWrites) -> Result<(), NoMemory>
+        ensures base { self.new.base ≡ self.old.base }
         ensures writes { self.new.writes ≡ self.old.writes }
         ensures ok { OnOk result (IsReadyToSet writes.now self.new) }
     {
@@ -135,11 +175,36 @@ impl EntryRows {
     pub fn set(&mut self, alloc: Global, place: usize, writes: &SharedWrites)
         requires within { place < length self.old.writes }
         requires ready { IsReadyToSet writes.now self.old }
-        ensures { self.new.writes ≡ slice_set self.old.writes place writes.now }
+        ensures base { self.new.base ≡ self.old.base }
+        ensures writes { self.new.writes ≡ slice_set self.old.writes place writes.now }
     {
         let label = self.versions.as_slice()[place].label;
         self.versions
             .write_at(alloc, &self.order, label, writes)
             .unwrap();
+    }
+
+    /// Makes room for a `fold` that leaves these rows.
+    pub fn ready_fold(&mut self, alloc: Global, rows: &Cells) -> Result<(), NoMemory>
+        ensures base { self.new.base ≡ self.old.base }
+        ensures writes { self.new.writes ≡ self.old.writes }
+        ensures ok { OnOk result (IsReadyToFold rows.now self.new) }
+    {
+        self.versions.ready_insert_base(alloc, rows)
+    }
+
+    /// Takes out what so many of the first entries wrote: the rows that they left stand before all others now. There is room
+    /// for these.
+    pub fn fold(&mut self, alloc: Global, n: usize, rows: &Cells)
+        requires within { n ≤ length self.old.writes }
+        requires rows { rows.now ≡ rows_before n self.old }
+        requires ready { IsReadyToFold rows.now self.old }
+        ensures base { self.new.base ≡ rows.now }
+        ensures writes { self.new.writes ≡ drop n self.old.writes }
+        ensures rows { (place : ℕ) → rows_before place self.new ≡ rows_before (n + place) self.old }
+    {
+        self.versions.insert_base(alloc, rows).unwrap();
+        self.versions.forget_first(n);
+        self.order.forget_first(n as u64);
     }
 }

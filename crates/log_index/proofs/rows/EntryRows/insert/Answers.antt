@@ -13,7 +13,7 @@ use Rattle.log_index.proofs.rows.EntryRows.insert.Goals as goal
 
 pub new_label-label-requires-clause-next : goal.new_label-label-requires-clause-next
 new_label-label-requires-clause-next c =
-    known_label c.self.inside.order.labels c.self.inside.versions.versions c.self.invariant.0 c.args.place c.label_at-next.result (c.label_at-next.ensures ∙ ap (label_at c.args.place) c.as_slice.ensures)
+    known_label c.self.inside.order.labels c.self.inside.versions.versions c.self.invariant c.args.place c.label_at-next.result (c.label_at-next.ensures ∙ ap (label_at c.args.place) c.as_slice.ensures)
 
 pub new_label-label-requires-clause-ready : goal.new_label-label-requires-clause-ready
 new_label-label-requires-clause-ready c =
@@ -38,7 +38,7 @@ stands c =
     let within = c.requires.within in
     c.new_label-label.ensures.labels
     ∙ ap (λ i. insert labels i c.new_label-label.result)
-    (ap (λ o. place_before o labels) (c.label_at-next.ensures ∙ ap (label_at c.args.place) c.as_slice.ensures) ∙ place_is labels vs c.self.invariant.0 c.args.place (omega arith))
+    (ap (λ o. place_before o labels) (c.label_at-next.ensures ∙ ap (label_at c.args.place) c.as_slice.ensures) ∙ place_is labels vs c.self.invariant c.args.place (omega arith))
 
 -- what was written
 wrote : (c : goal.After-unwrap) → c.write_at.new.self.versions ≡ with_place c.new_label-label.new.order.labels (record { label = c.new_label-label.result; writes = c.args.writes.now }) (without c.new_label-label.result c.self.inside.versions.versions)
@@ -47,14 +47,12 @@ wrote c =
     where_ok c.write_at.result (c.write_at.ensures.ready (ap (is_made call_code (write_call c.args.writes.now)) copies ∙ c.requires.ready.copy)) c.write_at.ensures.ok
 
 pub invariant_of-self : goal.invariant_of-self
-invariant_of-self c = (
-  inserted_placed c.self.inside.order.labels c.self.inside.versions.versions c.self.invariant.0 c.args.place c.new_label-label.result c.args.writes.now c.new_label-label.ensures.is_new
-      c.new_label-label.new.order.labels c.write_at.new.self.versions (stands c) (wrote c),
-  c.write_at.ensures.base ∙ c.self.invariant.1,
-)
+invariant_of-self c =
+    inserted_placed c.self.inside.order.labels c.self.inside.versions.versions c.self.invariant c.args.place c.new_label-label.result c.args.writes.now c.new_label-label.ensures.is_new
+    c.new_label-label.new.order.labels c.write_at.new.self.versions (stands c) (wrote c)
 
-pub returns : goal.returns
-returns c =
-    inserted_writes c.self.inside.order.labels c.self.inside.versions.versions c.self.invariant.0 c.args.place c.new_label-label.result c.args.writes.now c.new_label-label.ensures.is_new
+pub returns-clause-writes : goal.returns-clause-writes
+returns-clause-writes c =
+    inserted_writes c.self.inside.order.labels c.self.inside.versions.versions c.self.invariant c.args.place c.new_label-label.result c.args.writes.now c.new_label-label.ensures.is_new
     c.new_label-label.new.order.labels c.write_at.new.self.versions (stands c) (wrote c)
     ∙ ap (λ w. insert w c.args.place c.args.writes.now) (ap (λ (k : KeptWrites). k.writes) c.self.view_is)

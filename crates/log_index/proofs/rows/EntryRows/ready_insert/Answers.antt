@@ -9,6 +9,6 @@ returns-clause-ok c =
     let vs = c.self.inside.versions.versions in
     let place = c.args.place in
     ready_insert c.ready_write_at.result place c.args.writes.now (call_before c.label_at-next.result) c.self.inside.order.room c.self.inside.versions.room
-    (record { writes = writes_of c.ready_write_at.new.self.versions; places = c.ready_label.new.order.room; copies = c.ready_write_at.new.self.room })
+    (record { base = c.ready_write_at.new.self.base; writes = writes_of c.ready_write_at.new.self.versions; places = c.ready_label.new.order.room; copies = c.ready_write_at.new.self.room })
     (ap call_before (c.label_at-next.ensures ∙ ap (label_at place) c.as_slice.ensures) ∙ call_is vs place ∙ ap (λ v. call_at place (length (writes_of v))) (sym c.ready_write_at.ensures.versions))
     c.in_ok-ready_label.ensures.ok c.ready_write_at.ensures.ok

@@ -9,10 +9,10 @@ use Rattle.log_index.proofs.rows.EntryRows.scan_before.Goals as goal
 pub scan_before-requires-clause-label : goal.scan_before-requires-clause-label
 scan_before-requires-clause-label c =
     let vs = c.self.inside.versions.versions in
-    known_label c.self.inside.order.labels vs c.self.invariant.0 c.args.place c.label_at-label.result (c.label_at-label.ensures ∙ ap (label_at c.args.place) c.as_slice.ensures)
+    known_label c.self.inside.order.labels vs c.self.invariant c.args.place c.label_at-label.result (c.label_at-label.ensures ∙ ap (label_at c.args.place) c.as_slice.ensures)
 
 pub returns : goal.returns
 returns c =
-    let seen = rows_seen c.self.inside.order.labels c.self.inside.versions c.args.place c.label_at-label.result c.args.self.now c.self.invariant.1 c.self.invariant.0.rising
+    let seen = rows_seen c.self.inside.order.labels c.self.inside.versions c.args.place c.label_at-label.result c.args.self.now (ap (λ (k : KeptWrites). k.base) c.self.view_is) c.self.invariant.rising
     (c.label_at-label.ensures ∙ ap (label_at c.args.place) c.as_slice.ensures) (ap (λ (k : KeptWrites). k.writes) c.self.view_is) in
     IfOk-weaker c.scan_before.result _ _ (λ found h. h ∙ ap (λ rows. scan rows c.args.table.now c.args.prefix.now) seen) c.scan_before.ensures

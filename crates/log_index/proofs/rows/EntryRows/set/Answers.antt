@@ -31,7 +31,7 @@ write_at-requires-clause-label c =
     let within = c.requires.within in
     let P : PlaceWrites → Type 0 = λ p. Contains c.self.inside.order.labels (label_of p) in
     subst P c.index-as_slice-place.is
-    (known label_of c.self.inside.order.labels vs c.self.invariant.0.rising c.args.place old (omega arith) (c.index-as_slice-place.is ∙ ap (λ l. get_or l c.args.place old) c.as_slice.ensures))
+    (known label_of c.self.inside.order.labels vs c.self.invariant.rising c.args.place old (omega arith) (c.index-as_slice-place.is ∙ ap (λ l. get_or l c.args.place old) c.as_slice.ensures))
 
 wrote : (c : goal.After-unwrap) → c.write_at.new.self.versions
     ≡ with_place c.self.inside.order.labels (record { label = c.index-as_slice-place.result.label; writes = c.args.writes.now }) (without c.index-as_slice-place.result.label c.self.inside.versions.versions)
@@ -41,14 +41,12 @@ wrote c =
     ∙ ap (λ (p : PlaceWrites). with_place c.self.inside.order.labels (record { label = p.label; writes = c.args.writes.now }) (without p.label c.self.inside.versions.versions)) (sym c.index-as_slice-place.is)
 
 pub invariant_of-self : goal.invariant_of-self
-invariant_of-self c = (
-  replaced_placed c.self.inside.order.labels c.self.inside.versions.versions c.self.invariant.0 c.args.place c.index-as_slice-place.result c.args.writes.now (within_places c) (old_is c)
-      c.write_at.new.self.versions (wrote c),
-  c.write_at.ensures.base ∙ c.self.invariant.1,
-)
+invariant_of-self c =
+    replaced_placed c.self.inside.order.labels c.self.inside.versions.versions c.self.invariant c.args.place c.index-as_slice-place.result c.args.writes.now (within_places c) (old_is c)
+    c.write_at.new.self.versions (wrote c)
 
-pub returns : goal.returns
-returns c =
-    replaced_writes c.self.inside.order.labels c.self.inside.versions.versions c.self.invariant.0 c.args.place c.index-as_slice-place.result c.args.writes.now (within_places c) (old_is c)
+pub returns-clause-writes : goal.returns-clause-writes
+returns-clause-writes c =
+    replaced_writes c.self.inside.order.labels c.self.inside.versions.versions c.self.invariant c.args.place c.index-as_slice-place.result c.args.writes.now (within_places c) (old_is c)
     c.write_at.new.self.versions (wrote c)
     ∙ ap (λ w. set w c.args.place c.args.writes.now) (ap (λ (k : KeptWrites). k.writes) c.self.view_is)
