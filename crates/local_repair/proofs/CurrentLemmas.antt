@@ -11,11 +11,6 @@ pub rows_after-more : (rows : List Cell) (entries : List Entry) (i : ℕ) (e : E
     → rows_after rows (take (i + 1) entries) ≡ after_entry (rows_after rows (take i entries)) (get_or entries i e)
 rows_after-more rows entries i e l = fold_more after_entry rows entries i e l
 
-pub rows_more : (entries : List Entry) (i : ℕ) (e : Entry) (rows new : List Cell) → i < length entries → e ≡ get_or entries i e
-    → rows ≡ rows_after [] (take i entries) → new ≡ after_entry rows e → new ≡ rows_after [] (take (i + 1) entries)
-rows_more entries i e rows new l is before after =
-    after ∙ ap (λ r. after_entry r e) before ∙ ap (λ x. after_entry (rows_after [] (take i entries)) x) is ∙ sym (rows_after-more [] entries i e l)
-
 AllCurrent-suc : (consumed : Consumed) (entries : List Entry) (i : ℕ) (e : Entry) (rows : List Cell) → i < length entries → e ≡ get_or entries i e
     → AllCurrent consumed rows (take i entries) → IsCurrent consumed (rows_after rows (take i entries)) e → AllCurrent consumed rows (take (suc i) entries)
 AllCurrent-suc consumed [] i e rows l is h k = absurd (omega arith)
@@ -37,9 +32,9 @@ current_at consumed (x ∷ xs) rows (suc m) zero d km kl h = h.0
 current_at consumed (x ∷ xs) rows (suc m) (suc k) d km kl h = current_at consumed xs (after_entry rows x) m k d (omega arith) (omega arith) h.1
 
 -- the next first stale entry stands after those that are current, so that there are no more steps than entries
-pub next_later : (consumed : Consumed) (entries : List Entry) (place next : ℕ) (d : Entry) → AllCurrent consumed [] (take (place + 1) entries)
-    → IsFirstStale consumed [] entries next → place < next
-next_later consumed entries place next d current first = elim (cases_lt place next) [
+pub next_later : (consumed : Consumed) (base : List Cell) (entries : List Entry) (place next : ℕ) (d : Entry) → AllCurrent consumed base (take (place + 1) entries)
+    → IsFirstStale consumed base entries next → place < next
+next_later consumed base entries place next d current first = elim (cases_lt place next) [
   | inl later ↦ later
-  | inr earlier ↦ absurd (first.stale d (current_at consumed entries [] (place + 1) next d (omega arith) first.within current))
+  | inr earlier ↦ absurd (first.stale d (current_at consumed entries base (place + 1) next d (omega arith) first.within current))
 ]

@@ -2,6 +2,7 @@ pub mod AgreeLemmas
 pub mod CallsLemmas
 pub mod ChangedLemmas
 pub mod CurrentLemmas
+pub mod FoldLemmas
 pub mod GivesLemmas
 pub mod HandlerLemmas
 pub mod HeldLemmas

@@ -35,54 +35,54 @@ changed_by consumed rows e None h = h
 changed_by consumed rows e (Some m) h = h.answers
 
 -- an entry that was tested, where it stands
-pub current_here : (consumed : Consumed) (entries : List Entry) (k place : ℕ) (e : Entry) (rows : List Cell) → place < length entries → e ≡ get_or entries place e → rows ≡ rows_after [] (take place entries)
-    → IsCurrent consumed rows e → k ≡ place → IsCurrentAt consumed entries k
-current_here consumed entries k place e rows within is seen current same =
-    let P : ℕ → Type 0 = λ n. IsCurrentAt consumed entries n in
+pub current_here : (consumed : Consumed) (base : List Cell) (entries : List Entry) (k place : ℕ) (e : Entry) (rows : List Cell) → place < length entries → e ≡ get_or entries place e → rows ≡ rows_after base (take place entries)
+    → IsCurrent consumed rows e → k ≡ place → IsCurrentAt consumed base entries k
+current_here consumed base entries k place e rows within is seen current same =
+    let P : ℕ → Type 0 = λ n. IsCurrentAt consumed base entries n in
     let Q : List Cell → Entry → Type 0 = λ r x. IsCurrent consumed r x in
     let B : List Cell → Type 0 = λ r. Q r e in
-    subst P (sym same) (λ d. subst (Q (rows_after [] (take place entries))) (is ∙ get_or_default entries place e d within) (subst B seen current))
+    subst P (sym same) (λ d. subst (Q (rows_after base (take place entries))) (is ∙ get_or_default entries place e d within) (subst B seen current))
 
-pub stale_here : (consumed : Consumed) (entries : List Entry) (place : ℕ) (e : Entry) (rows : List Cell) → place < length entries → e ≡ get_or entries place e → rows ≡ rows_after [] (take place entries)
-    → (IsCurrent consumed rows e → ⊥) → HoldsAt (λ e. ¬ IsCurrent consumed (rows_after [] (take place entries)) e) entries place
-stale_here consumed entries place e rows within is seen stale = λ d current.
+pub stale_here : (consumed : Consumed) (base : List Cell) (entries : List Entry) (place : ℕ) (e : Entry) (rows : List Cell) → place < length entries → e ≡ get_or entries place e → rows ≡ rows_after base (take place entries)
+    → (IsCurrent consumed rows e → ⊥) → HoldsAt (λ e. ¬ IsCurrent consumed (rows_after base (take place entries)) e) entries place
+stale_here consumed base entries place e rows within is seen stale = λ d current.
     let Q : List Cell → Entry → Type 0 = λ r x. IsCurrent consumed r x in
     let B : List Cell → Type 0 = λ r. Q r e in
-    stale (subst B (sym seen) (subst (Q (rows_after [] (take place entries))) (get_or_default entries place d e within ∙ sym is) current))
+    stale (subst B (sym seen) (subst (Q (rows_after base (take place entries))) (get_or_default entries place d e within ∙ sym is) current))
 
 -- what is known to be current consumed what there is now
-pub checked_answered : (consumed : Consumed) (entries : List Entry) (checked : ℕ) → AreChecked consumed entries checked → (q : ℕ) → q < checked → HoldsAt (IsAnswered consumed) entries q
-checked_answered consumed entries checked known q lt = λ d.
+pub checked_answered : (consumed : Consumed) (base : List Cell) (entries : List Entry) (checked : ℕ) → AreChecked consumed base entries checked → (q : ℕ) → q < checked → HoldsAt (IsAnswered consumed) entries q
+checked_answered consumed base entries checked known q lt = λ d.
     let within = known.within in
-    changed_by consumed (rows_after [] (take q entries)) (get_or entries q d) (get_or entries q d).made
-    (current_at consumed entries [] checked q d lt (omega arith) known.current)
+    changed_by consumed (rows_after base (take q entries)) (get_or entries q d) (get_or entries q d).made
+    (current_at consumed entries base checked q d lt (omega arith) known.current)
 
 -- ---- all before a place
 
-all_current : (consumed : Consumed) (entries : List Entry) (n : ℕ) → n ≤ length entries → ((q : ℕ) → q < n → IsCurrentAt consumed entries q) → AllCurrent consumed [] (take n entries)
-all_current consumed entries zero le each = tt
-all_current consumed entries (suc n) le each =
+all_current : (consumed : Consumed) (base : List Cell) (entries : List Entry) (n : ℕ) → n ≤ length entries → ((q : ℕ) → q < n → IsCurrentAt consumed base entries q) → AllCurrent consumed base (take n entries)
+all_current consumed base entries zero le each = tt
+all_current consumed base entries (suc n) le each =
     let x = entry_at entries n (omega arith) in
     let e : n + 1 ≡ suc n = omega arith in
-    let P : ℕ → Type 0 = λ k. AllCurrent consumed [] (take k entries) in
-    let Q : Entry → Type 0 = λ y. IsCurrent consumed (rows_after [] (take n entries)) y in
-    subst P e (AllCurrent-more consumed entries n x.0 [] (omega arith) (sym (x.1 x.0)) (all_current consumed entries n (omega arith) (λ q lt. each q (omega arith))) (subst Q (x.1 x.0) (each n (omega arith) x.0)))
+    let P : ℕ → Type 0 = λ k. AllCurrent consumed base (take k entries) in
+    let Q : Entry → Type 0 = λ y. IsCurrent consumed (rows_after base (take n entries)) y in
+    subst P e (AllCurrent-more consumed entries n x.0 base (omega arith) (sym (x.1 x.0)) (all_current consumed base entries n (omega arith) (λ q lt. each q (omega arith))) (subst Q (x.1 x.0) (each n (omega arith) x.0)))
 
-module _ (consumed : Consumed) (entries : List Entry) (writes : List (List Write)) (m : KeptMarks) (calls : Bool) (kept : IsKept entries writes m calls) where
+module _ (consumed : Consumed) (base : List Cell) (entries : List Entry) (writes : List (List Write)) (m : KeptMarks) (calls : Bool) (kept : IsKept base entries writes m calls) where
   -- what has no calls consumed what there is
   answered : (end : ℕ) → end ≤ length entries → (calls ≡ true → (q : ℕ) → q < end → HoldsAt (IsAnswered consumed) entries q)
       → (q : ℕ) → q < end → is_marked q m.marks ≡ false → HoldsAt (IsAnswered consumed) entries q
   answered end le given q lt bare = elim (cases_Bool calls) [
     | inl some ↦ given some q lt
-    | inr none ↦ λ d. answered_by consumed (rows_after [] (take q entries)) (get_or entries q d) (get_or entries q d).made (kept.held q d (omega arith) bare)
+    | inr none ↦ λ d. answered_by consumed (rows_after base (take q entries)) (get_or entries q d) (get_or entries q d).made (kept.held q d (omega arith) bare)
         (All-get_or (λ (e : Entry). e.slots ≡ []) entries q d (omega arith) (kept.quiet none))
   ]
 
-  each_current : (end : ℕ) → end ≤ length entries → AreCurrent consumed entries m.marks end → ((q : ℕ) → q < end → is_marked q m.marks ≡ false → HoldsAt (IsAnswered consumed) entries q)
-      → (q : ℕ) → q < end → IsCurrentAt consumed entries q
+  each_current : (end : ℕ) → end ≤ length entries → AreCurrent consumed base entries m.marks end → ((q : ℕ) → q < end → is_marked q m.marks ≡ false → HoldsAt (IsAnswered consumed) entries q)
+      → (q : ℕ) → q < end → IsCurrentAt consumed base entries q
   each_current end le marked given q lt = elim (cases_Bool (is_marked q m.marks)) [
     | inl told ↦ marked q lt told
-    | inr bare ↦ λ d. current_by consumed (rows_after [] (take q entries)) (get_or entries q d) (get_or entries q d).made (kept.held q d (omega arith) bare) (given q lt bare d)
+    | inr bare ↦ λ d. current_by consumed (rows_after base (take q entries)) (get_or entries q d) (get_or entries q d).made (kept.held q d (omega arith) bare) (given q lt bare d)
   ]
 
   -- up to the end that the marked entries leave
@@ -90,38 +90,38 @@ module _ (consumed : Consumed) (entries : List Entry) (writes : List (List Write
   IsEnd marked end = MatchOption marked (end ≡ length entries) (λ p. end ≡ p)
 
   abbrev AreTested : Option ℕ → Type 0
-  AreTested marked = MatchOption marked (AreCurrent consumed entries m.marks (length entries)) (λ p. IsFirstMarked consumed entries m.marks p)
+  AreTested marked = MatchOption marked (AreCurrent consumed base entries m.marks (length entries)) (λ p. IsFirstMarked consumed base entries m.marks p)
 
-  pub end_within : (marked : Option ℕ) (end : ℕ) → IsEnd marked end → AreTested marked → (end ≤ length entries) × AreCurrent consumed entries m.marks end
+  pub end_within : (marked : Option ℕ) (end : ℕ) → IsEnd marked end → AreTested marked → (end ≤ length entries) × AreCurrent consumed base entries m.marks end
   end_within None end is tested = (omega arith, λ q lt told. tested q (omega arith) told)
   end_within (Some p) end is tested = (let lt = tested.within in omega arith, λ q lt told. tested.before q (omega arith) told)
 
   -- an entry whose record consumed something else
-  pub changed_first : (marked : Option ℕ) (end place : ℕ) → IsEnd marked end → AreTested marked → place < end → IsFirstChanged consumed entries place → IsFirstStale consumed [] entries place
+  pub changed_first : (marked : Option ℕ) (end place : ℕ) → IsEnd marked end → AreTested marked → place < end → IsFirstChanged consumed entries place → IsFirstStale consumed base entries place
   changed_first marked end place is tested lt first =
       let w = end_within marked end is tested in
       let inside = w.0 in
       record {
         within = first.within;
-        before = all_current consumed entries place (omega arith)
+        before = all_current consumed base entries place (omega arith)
             (each_current place (omega arith) (λ q less told. w.1 q (omega arith) told) (λ q less bare. first.before q less));
-        stale = λ d current. first.stale d (changed_by consumed (rows_after [] (take place entries)) (get_or entries place d) (get_or entries place d).made current);
+        stale = λ d current. first.stale d (changed_by consumed (rows_after base (take place entries)) (get_or entries place d) (get_or entries place d).made current);
       }
 
   -- or the first of the marked ones, or none
   pub marked_first : (marked : Option ℕ) (end : ℕ) → IsEnd marked end → AreTested marked → (calls ≡ true → (q : ℕ) → q < end → HoldsAt (IsAnswered consumed) entries q)
-      → MatchOption marked (AllCurrent consumed [] entries) (λ p. IsFirstStale consumed [] entries p)
+      → MatchOption marked (AllCurrent consumed base entries) (λ p. IsFirstStale consumed base entries p)
   marked_first None end is tested given =
       let w = end_within None end is tested in
       let inside = w.0 in
-      let P : List Entry → Type 0 = λ l. AllCurrent consumed [] l in
-      subst P (take_all end entries (omega arith)) (all_current consumed entries end inside (each_current end inside w.1 (answered end inside given)))
+      let P : List Entry → Type 0 = λ l. AllCurrent consumed base l in
+      subst P (take_all end entries (omega arith)) (all_current consumed base entries end inside (each_current end inside w.1 (answered end inside given)))
   marked_first (Some p) end is tested given =
       let w = end_within (Some p) end is tested in
       let inside = w.0 in
-      let P : ℕ → Type 0 = λ n. AllCurrent consumed [] (take n entries) in
+      let P : ℕ → Type 0 = λ n. AllCurrent consumed base (take n entries) in
       record {
         within = tested.within;
-        before = subst P is (all_current consumed entries end inside (each_current end inside w.1 (answered end inside given)));
+        before = subst P is (all_current consumed base entries end inside (each_current end inside w.1 (answered end inside given)));
         stale = tested.stale;
       }

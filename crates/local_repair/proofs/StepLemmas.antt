@@ -131,16 +131,16 @@ apart_after last last' entries place x y apart l at fresh once higher = record {
     old_is j d e = sym (at d) ∙ ap (λ k. get_or entries k d) (sym e)
 
 -- what a step leaves where the first stale entry ran again
-step_leaves : (setting : Setting) → IsHandler setting → (c : SlotsChange) (entries : List Entry) (place : ℕ) (was : Entry) (again : Rerun)
-    → IsFirstStale c.before [] entries place → ((d : Entry) → get_or entries place d ≡ was) → IsAgain setting c (rows_after [] (take place entries)) was again
-    → AllRuns setting entries → AreApart c.last entries → All HasItsSlots entries → Leaves setting c [] place (set entries place (noted again was))
-step_leaves setting h c entries place was again first at a runs apart own =
-    let rows = rows_after [] (take place entries) in
+step_leaves : (setting : Setting) → IsHandler setting → (c : SlotsChange) (base : List Cell) (entries : List Entry) (place : ℕ) (was : Entry) (again : Rerun)
+    → IsFirstStale c.before base entries place → ((d : Entry) → get_or entries place d ≡ was) → IsAgain setting c (rows_after base (take place entries)) was again
+    → AllRuns setting entries → AreApart c.last entries → All HasItsSlots entries → Leaves setting c base place (set entries place (noted again was))
+step_leaves setting h c base entries place was again first at a runs apart own =
+    let rows = rows_after base (take place entries) in
     let z : Entry = noted again was in
     let m : Made = again.made in
     let l = first.within in
     let current : c.timely → IsCurrent c.after rows z = λ ok. record { alive = a.rerun.alive; version = a.rerun.version; request = a.rerun.request; reads = rerun_reads setting h c.before rows was m a.rerun; answers = sym (a.settled.consumes ok) } in
-    let before : AllCurrent c.after [] (take place entries) = all_same_current c.before c.after (take place entries) [] (λ e k. map_same c.before c.after e.slots (λ n there.
+    let before : AllCurrent c.after base (take place entries) = all_same_current c.before c.after (take place entries) base (λ e k. map_same c.before c.after e.slots (λ n there.
     let o = others_apart c.last entries place was apart l e k n there in
     a.settled.others n o.0 (λ mine. o.1 (let E : Entry → Type 0 = λ v. Contains v.slots n in subst E (sym (at was)) mine)))) first.before in
     let many : length again.numbers ≡ length m.trace.calls = a.settled.count ∙ ap length a.rerun.answers ∙ length-answers_for c.before (calls_of_made was.made) was.slots m.trace.calls in
@@ -149,17 +149,17 @@ step_leaves setting h c entries place was again first at a runs apart own =
       apart = apart_after c.last c.later entries place was z apart l at a.settled.fresh a.settled.once a.settled.higher;
       own = All-set HasItsSlots entries place z many own;
       before = (rw length-set (omega (arith, l)), rw (take-set entries place z) before);
-      current = λ ok. AllCurrent-more c.after (set entries place z) place z [] (rw length-set l) (sym (get_or-set_same entries place z z l)) (rw (take-set entries place z) before) (rw (take-set entries place z) (current ok));
+      current = λ ok. AllCurrent-more c.after (set entries place z) place z base (rw length-set l) (sym (get_or-set_same entries place z z l)) (rw (take-set entries place z) before) (rw (take-set entries place z) (current ok));
     }
 
 -- the same, as a step
-ran_first : (setting : Setting) → IsHandler setting → (c : SlotsChange) (entries after : List Entry) (place : ℕ) (was : Entry) (again : Rerun)
-    → IsFirstStale c.before [] entries place → ((d : Entry) → get_or entries place d ≡ was) → IsAgain setting c (rows_after [] (take place entries)) was again
+ran_first : (setting : Setting) → IsHandler setting → (c : SlotsChange) (base : List Cell) (entries after : List Entry) (place : ℕ) (was : Entry) (again : Rerun)
+    → IsFirstStale c.before base entries place → ((d : Entry) → get_or entries place d ≡ was) → IsAgain setting c (rows_after base (take place entries)) was again
     → AllRuns setting entries → AreApart c.last entries → All HasItsSlots entries → after ≡ set entries place (noted again was)
-    → Leaves setting c [] place after × RanFirst setting c [] entries was.id again.answered after
-ran_first setting h c entries after place was again first at a runs apart own e =
-    let left : Leaves setting c [] place after =
-    (let P : List Entry → Type 0 = λ xs. Leaves setting c [] place xs in subst P (sym e) (step_leaves setting h c entries place was again first at a runs apart own)) in (
+    → Leaves setting c base place after × RanFirst setting c base entries was.id again.answered after
+ran_first setting h c base entries after place was again first at a runs apart own e =
+    let left : Leaves setting c base place after =
+    (let P : List Entry → Type 0 = λ xs. Leaves setting c base place xs in subst P (sym e) (step_leaves setting h c base entries place was again first at a runs apart own)) in (
       left,
       record {
         place = place;
@@ -180,7 +180,7 @@ ran_first setting h c entries after place was again first at a runs apart own e 
         tells = a.tells;
         rest = e;
         current = left.current;
-        later = λ ok next stale. next_later c.after after place next was (left.current ok) stale;
+        later = λ ok next stale. next_later c.after base after place next was (left.current ok) stale;
       },
     )
 
@@ -191,39 +191,39 @@ entry_at (x ∷ xs) zero l = (x, λ d. refl)
 entry_at (x ∷ xs) (suc place) l = entry_at xs place (omega (arith, l))
 
 -- what a step answers and leaves, from what was run again and noted
-pub stepped : (setting : Setting) → IsHandler setting → (c : SlotsChange) (entries after : List Entry) (place : ℕ) (again : Rerun) (answer : Stepped) → IsFirstStale c.before [] entries place
-    → ((d : Entry) → IsAgain setting c (rows_after [] (take place entries)) (get_or entries place d) again)
+pub stepped : (setting : Setting) → IsHandler setting → (c : SlotsChange) (base : List Cell) (entries after : List Entry) (place : ℕ) (again : Rerun) (answer : Stepped) → IsFirstStale c.before base entries place
+    → ((d : Entry) → IsAgain setting c (rows_after base (take place entries)) (get_or entries place d) again)
     → ((d : Entry) → answer ≡ Ran (get_or entries place d).id again.answered) → ((d : Entry) → after ≡ set entries place (noted again (get_or entries place d)))
     → AllRuns setting entries → AreApart c.last entries → All HasItsSlots entries
-    → Leaves setting c [] place after × StepsTo setting c [] entries answer after
-stepped setting h c entries after place again answer first a told put runs apart own =
+    → Leaves setting c base place after × StepsTo setting c base entries answer after
+stepped setting h c base entries after place again answer first a told put runs apart own =
     let x = entry_at entries place first.within in
     let was : Entry = x.0 in
     let at : (d : Entry) → get_or entries place d ≡ was = x.1 in
-    let A : Entry → Type 0 = λ e. IsAgain setting c (rows_after [] (take place entries)) e again in
+    let A : Entry → Type 0 = λ e. IsAgain setting c (rows_after base (take place entries)) e again in
     let P : Entry → Type 0 = λ e. after ≡ set entries place (noted again e) in
     let T : Entry → Type 0 = λ e. answer ≡ Ran e.id again.answered in
-    let S : Stepped → Type 0 = λ s. StepsTo setting c [] entries s after in
-    let r = ran_first setting h c entries after place was again first at (subst A (at was) (a was)) runs apart own (subst P (at was) (put was)) in
+    let S : Stepped → Type 0 = λ s. StepsTo setting c base entries s after in
+    let r = ran_first setting h c base entries after place was again first at (subst A (at was) (a was)) runs apart own (subst P (at was) (put was)) in
     (r.0, subst S (sym (subst T (at was) (told was))) r.1)
 
 -- a step is a function of the log where an entry made anew is a function of the rows and the entry
-pub step_is : (setting : Setting) (c : SlotsChange) (remake : List Cell → Entry → Entry) → ((rows : List Cell) (e e' : Entry) → IsRemade setting c rows e e' → e' ≡ remake rows e)
-    → (before after : List Entry) (answer : Stepped) → StepsTo setting c [] before answer after → after ≡ step_with c.before remake [] before
-step_is setting c remake is before after Idle s = s.1 ∙ sym (step_with_none c.before remake before [] s.0)
-step_is setting c remake is before after (Ran id answered) s =
-    s.rest ∙ ap (λ e. set before s.place e) (is (rows_after [] (take s.place before)) s.was s.entry s.remade ∙ ap (λ e. remake (rows_after [] (take s.place before)) e) (sym (s.there s.was)))
-    ∙ sym (step_with_at c.before remake before s.place s.was s.first)
+pub step_is : (setting : Setting) (c : SlotsChange) (base : List Cell) (remake : List Cell → Entry → Entry) → ((rows : List Cell) (e e' : Entry) → IsRemade setting c rows e e' → e' ≡ remake rows e)
+    → (before after : List Entry) (answer : Stepped) → StepsTo setting c base before answer after → after ≡ step_with c.before remake base before
+step_is setting c base remake is before after Idle s = s.1 ∙ sym (step_with_none c.before remake before base s.0)
+step_is setting c base remake is before after (Ran id answered) s =
+    s.rest ∙ ap (λ e. set before s.place e) (is (rows_after base (take s.place before)) s.was s.entry s.remade ∙ ap (λ e. remake (rows_after base (take s.place before)) e) (sym (s.there s.was)))
+    ∙ sym (step_with_at c.before remake base before s.place s.was s.first)
 
 -- an entry that ran again, by its place
-pub again_at : (setting : Setting) (c : SlotsChange) (entries : List Entry) (place : ℕ) (was : Entry) (rows : List Cell) (r : Result Rerun NoMemory) → place < length entries → was ≡ get_or entries place was
-    → rows ≡ rows_after [] (take place entries) → IfOk r (λ again. IsAgain setting c rows was again)
-    → IfOk r (λ again. (d : Entry) → IsAgain setting c (rows_after [] (take place entries)) (get_or entries place d) again)
-again_at setting c entries place was rows (Ok again) l read before h = λ d.
+pub again_at : (setting : Setting) (c : SlotsChange) (base : List Cell) (entries : List Entry) (place : ℕ) (was : Entry) (rows : List Cell) (r : Result Rerun NoMemory) → place < length entries → was ≡ get_or entries place was
+    → rows ≡ rows_after base (take place entries) → IfOk r (λ again. IsAgain setting c rows was again)
+    → IfOk r (λ again. (d : Entry) → IsAgain setting c (rows_after base (take place entries)) (get_or entries place d) again)
+again_at setting c base entries place was rows (Ok again) l read before h = λ d.
     let A : List Cell → Entry → Type 0 = λ rs e. IsAgain setting c rs e again in
     let B : List Cell → Type 0 = λ rs. A rs was in
-    subst (A (rows_after [] (take place entries))) (read ∙ get_or_default entries place was d l) (subst B before h)
-again_at setting c entries place was rows (Err e) l read before h = tt
+    subst (A (rows_after base (take place entries))) (read ∙ get_or_default entries place was d l) (subst B before h)
+again_at setting c base entries place was rows (Err e) l read before h = tt
 
 abbrev pub ok : Stepped → Result Stepped NoMemory
 ok answer = Ok answer

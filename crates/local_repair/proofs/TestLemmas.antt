@@ -109,19 +109,19 @@ stale_from consumed (e ∷ es) rows zero d l before stale = rw (is_current-false
 stale_from consumed (e ∷ es) rows (suc place) d l before stale =
     rw (is_current-from consumed rows e before.0) (stale_from consumed es (after_entry rows e) place d (omega arith) before.1 stale)
 
-pub first_stale_at : (consumed : Consumed) (entries : List Entry) (place : ℕ) (d : Entry) → IsFirstStale consumed [] entries place
-    → first_stale consumed [] entries ≡ Some (get_or entries place d)
-first_stale_at consumed entries place d first = stale_from consumed entries [] place d first.within first.before (first.stale d)
+pub first_stale_at : (consumed : Consumed) (base : List Cell) (entries : List Entry) (place : ℕ) (d : Entry) → IsFirstStale consumed base entries place
+    → first_stale consumed base entries ≡ Some (get_or entries place d)
+first_stale_at consumed base entries place d first = stale_from consumed entries base place d first.within first.before (first.stale d)
 
 -- where all are current, none is the first stale entry
 some_none : (o : Option Entry) (e : Entry) → o ≡ None → o ≡ Some e → ⊥
 some_none None e n s = cc
 some_none (Some x) e n s = cc
 
-pub none_first : (consumed : Consumed) (entries : List Entry) (place : ℕ) → AllCurrent consumed [] entries → IsFirstStale consumed [] entries place → ⊥
-none_first consumed [] place all first = absurd (omega (arith, first.within))
-none_first consumed (e ∷ es) place all first =
-    some_none (first_stale consumed [] (e ∷ es)) (get_or (e ∷ es) place e) (first_stale_none consumed (e ∷ es) [] all) (first_stale_at consumed (e ∷ es) place e first)
+pub none_first : (consumed : Consumed) (base : List Cell) (entries : List Entry) (place : ℕ) → AllCurrent consumed base entries → IsFirstStale consumed base entries place → ⊥
+none_first consumed base [] place all first = absurd (omega (arith, first.within))
+none_first consumed base (e ∷ es) place all first =
+    some_none (first_stale consumed base (e ∷ es)) (get_or (e ∷ es) place e) (first_stale_none consumed (e ∷ es) base all) (first_stale_at consumed base (e ∷ es) place e first)
 
 -- a step where all are current changes nothing
 pub step_with_none : (consumed : Consumed) (remake : List Cell → Entry → Entry) (entries : List Entry) (rows : List Cell) → AllCurrent consumed rows entries
@@ -140,20 +140,20 @@ step_from consumed remake (e ∷ es) rows (suc place) d l before stale =
     (ap (λ xs. e ∷ xs) (step_from consumed remake es (after_entry rows e) place d (omega arith) before.1 stale))
 
 -- a step makes the first stale entry anew, at its place
-pub step_with_at : (consumed : Consumed) (remake : List Cell → Entry → Entry) (entries : List Entry) (place : ℕ) (d : Entry) → IsFirstStale consumed [] entries place
-    → step_with consumed remake [] entries ≡ set entries place (remake (rows_after [] (take place entries)) (get_or entries place d))
-step_with_at consumed remake entries place d first = step_from consumed remake entries [] place d first.within first.before (first.stale d)
+pub step_with_at : (consumed : Consumed) (remake : List Cell → Entry → Entry) (base : List Cell) (entries : List Entry) (place : ℕ) (d : Entry) → IsFirstStale consumed base entries place
+    → step_with consumed remake base entries ≡ set entries place (remake (rows_after base (take place entries)) (get_or entries place d))
+step_with_at consumed remake base entries place d first = step_from consumed remake entries base place d first.within first.before (first.stale d)
 
-pub stale_id_none : (consumed : Consumed) (entries : List Entry) → AllCurrent consumed [] entries → None ≡ stale_id consumed [] entries
-stale_id_none consumed entries h = sym (ap (λ o. option_map (λ (e : Entry). e.id) o) (first_stale_none consumed entries [] h))
+pub stale_id_none : (consumed : Consumed) (base : List Cell) (entries : List Entry) → AllCurrent consumed base entries → None ≡ stale_id consumed base entries
+stale_id_none consumed base entries h = sym (ap (λ o. option_map (λ (e : Entry). e.id) o) (first_stale_none consumed entries base h))
 
-pub stale_id_at : (consumed : Consumed) (entries : List Entry) (place : ℕ) (d : Entry) → IsFirstStale consumed [] entries place
-    → Some (get_or entries place d).id ≡ stale_id consumed [] entries
-stale_id_at consumed entries place d first = sym (ap (λ o. option_map (λ (e : Entry). e.id) o) (first_stale_at consumed entries place d first))
+pub stale_id_at : (consumed : Consumed) (base : List Cell) (entries : List Entry) (place : ℕ) (d : Entry) → IsFirstStale consumed base entries place
+    → Some (get_or entries place d).id ≡ stale_id consumed base entries
+stale_id_at consumed base entries place d first = sym (ap (λ o. option_map (λ (e : Entry). e.id) o) (first_stale_at consumed base entries place d first))
 
 -- its number, where the entry there has it
-pub is_stale_id : (consumed : Consumed) (entries : List Entry) (place : ℕ) (x : Entry) → IsFirstStale consumed [] entries place → IsStaleId consumed [] entries (get_or entries place x).id
-is_stale_id consumed entries place x first = record {
+pub is_stale_id : (consumed : Consumed) (base : List Cell) (entries : List Entry) (place : ℕ) (x : Entry) → IsFirstStale consumed base entries place → IsStaleId consumed base entries (get_or entries place x).id
+is_stale_id consumed base entries place x first = record {
   place = place;
   first = first;
   names = λ d. ap (λ (e : Entry). e.id) (get_or_default entries place d x first.within);

@@ -29,10 +29,6 @@ after_entry rows e = apply rows (writes_of e.made)
 abbrev pub rows_after : List Cell → List Entry → List Cell
 rows_after rows entries = fold after_entry rows entries
 
--- the rows before a log's first entry: none, since a log keeps all its entries
-abbrev pub base_rows : List Cell
-base_rows = []
-
 -- what the register of each number consumes now
 abbrev pub Consumed : Type 0
 Consumed = ℕ → Response
@@ -54,10 +50,10 @@ abbrev pub AllCurrent : Consumed → List Cell → List Entry → Type 0
 AllCurrent consumed rows [] = Unit {0}
 AllCurrent consumed rows (e ∷ es) = IsCurrent consumed rows e × AllCurrent consumed (after_entry rows e) es
 
--- of the log's first entries, so many are known to be current
-pub record AreChecked (consumed : Consumed) (entries : List Entry) (checked : ℕ) : Type 0 where
+-- of these entries so many of the first are known to be current, where these are the rows before the first
+pub record AreChecked (consumed : Consumed) (base : List Cell) (entries : List Entry) (checked : ℕ) : Type 0 where
   pub within : checked ≤ length entries
-  pub current : AllCurrent consumed base_rows (take checked entries)
+  pub current : AllCurrent consumed base (take checked entries)
 
 -- the entry at this place is stale, and none before it, where these are the rows before the first
 pub record IsFirstStale (consumed : Consumed) (base : List Cell) (entries : List Entry) (place : ℕ) : Type 0 where

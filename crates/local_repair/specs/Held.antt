@@ -2,7 +2,7 @@
 use Rattle.std.specs.Prelude.{ℕ, ◌≡◌, ◌+◌, ◌<◌, ◌≤◌, Bool, false, List, [], Option, Some, None, ◌||◌, IsTrue, IsSomeAnd, MatchOption, All, length, map, nat_eq, position, take, slice_index_or}
 use Rattle.std.specs.List.{HoldsAt, insert}
 use Rattle.lang_core.specs.Places.{IsOrdered}
-use Rattle.lang_core.specs.Rows.{write_place}
+use Rattle.lang_core.specs.Rows.{cell_place, write_place}
 use Rattle.lang_core.specs.declared.cells.Cell.{Cell}
 use Rattle.lang_core.specs.declared.trace.Read.{Read}
 use Rattle.lang_core.specs.declared.writes.Write.{Write}
@@ -13,7 +13,7 @@ use Rattle.request_log.specs.declared.entry.Made.{Made}
 use Rattle.log_index.specs.HandedOn.{read_at}
 use Rattle.log_index.specs.HandedOn.{ReadAt}
 use Rattle.log_index.specs.Marks.{KeptMarks, changes, is_marked, sees}
-use Rattle.local_repair.specs.Current.{Consumed, IsCurrent, rows_after, base_rows}
+use Rattle.local_repair.specs.Current.{Consumed, IsCurrent, rows_after}
 use Rattle.local_repair.specs.Written.{all_written}
 
 -- a record is of the entry as it is now, and read what there is now; it consumed an answer for each slot, whatever these consume now
@@ -40,11 +40,12 @@ looked e = map read_at (reads_of e.made)
 abbrev pub all_looked : List Entry → List (List ReadAt)
 all_looked entries = map looked entries
 
--- what a repairer keeps beside its entries: what they wrote, where they looked, that each which isn't marked can be stale by an answer alone, and whether one may have calls
-pub record IsKept (entries : List Entry) (writes : List (List Write)) (marks : KeptMarks) (calls : Bool) : Type 0 where
+-- what a repairer keeps beside its entries and the rows before them, which stand in order: what they wrote, where they looked, that each which isn't marked can be stale by an answer alone, and whether one may have calls
+pub record IsKept (base : List Cell) (entries : List Entry) (writes : List (List Write)) (marks : KeptMarks) (calls : Bool) : Type 0 where
+  pub ordered : IsOrdered cell_place base
   pub tied : writes ≡ all_written entries
   pub looked : marks.reads ≡ all_looked entries
-  pub held : (place : ℕ) (d : Entry) → place < length entries → is_marked place marks.marks ≡ false → IsHeld (rows_after base_rows (take place entries)) (slice_index_or entries place d)
+  pub held : (place : ℕ) (d : Entry) → place < length entries → is_marked place marks.marks ≡ false → IsHeld (rows_after base (take place entries)) (slice_index_or entries place d)
   pub quiet : calls ≡ false → All (λ (e : Entry). e.slots ≡ []) entries
 
 -- a record is of the entry as it is now, with an answer for each of its slots
@@ -59,19 +60,19 @@ abbrev pub IsAnswered : Consumed → Entry → Type 0
 IsAnswered consumed e = IsSomeAnd e.made (λ m. m.trace.answers ≡ map consumed e.slots)
 
 -- the entry at this place is current
-abbrev pub IsCurrentAt : Consumed → List Entry → ℕ → Type 0
-IsCurrentAt consumed entries place = HoldsAt (IsCurrent consumed (rows_after base_rows (take place entries))) entries place
+abbrev pub IsCurrentAt : Consumed → List Cell → List Entry → ℕ → Type 0
+IsCurrentAt consumed base entries place = HoldsAt (IsCurrent consumed (rows_after base (take place entries))) entries place
 
 -- of these marks before an end, each is of an entry that is current
-abbrev pub AreCurrent : Consumed → List Entry → List ℕ → ℕ → Type 0
-AreCurrent consumed entries marks end =
-    (q : ℕ) → q < end → IsTrue (is_marked q marks) → IsCurrentAt consumed entries q
+abbrev pub AreCurrent : Consumed → List Cell → List Entry → List ℕ → ℕ → Type 0
+AreCurrent consumed base entries marks end =
+    (q : ℕ) → q < end → IsTrue (is_marked q marks) → IsCurrentAt consumed base entries q
 
 -- the first of the marked entries that is stale
-pub record IsFirstMarked (consumed : Consumed) (entries : List Entry) (marks : List ℕ) (place : ℕ) : Type 0 where
+pub record IsFirstMarked (consumed : Consumed) (base : List Cell) (entries : List Entry) (marks : List ℕ) (place : ℕ) : Type 0 where
   pub within : place < length entries
-  pub before : AreCurrent consumed entries marks place
-  pub stale : HoldsAt (λ e. ¬ IsCurrent consumed (rows_after base_rows (take place entries)) e) entries place
+  pub before : AreCurrent consumed base entries marks place
+  pub stale : HoldsAt (λ e. ¬ IsCurrent consumed (rows_after base (take place entries)) e) entries place
 
 -- the first entry whose record consumed something else
 pub record IsFirstChanged (consumed : Consumed) (entries : List Entry) (place : ℕ) : Type 0 where

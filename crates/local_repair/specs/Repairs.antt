@@ -1,15 +1,25 @@
 -- What a repairer keeps, and which changes of an entry an event may make.
-use Rattle.std.specs.Prelude.{ℕ, ◌≡◌, List, Option, find, IsSomeAnd, option_map}
+use Rattle.std.specs.Prelude.{ℕ, ◌≡◌, List, ◌++◌, Option, drop, filter_map, find, take, IsSomeAnd, option_map}
 use Rattle.std.specs.List.{HoldsAt}
 use Rattle.lang_core.specs.declared.cells.Cell.{Cell}
 use Rattle.request_log.specs.Entries.{has_id}
+use Rattle.request_log.specs.Folded.{folded_as}
 use Rattle.request_log.specs.declared.entry.Entry.{Entry}
-use Rattle.local_repair.specs.Current.{Consumed, IsFirstStale}
+use Rattle.request_log.specs.declared.folded.Folded.{Folded}
+use Rattle.local_repair.specs.Current.{Consumed, IsFirstStale, rows_after}
 use Rattle.local_repair.specs.Tests.{first_stale}
 
--- what a repairer keeps
+-- what a repairer keeps: its folded entries, the rows that they left, and its other entries
 pub record KeptRepairer : Type 0 where
+  pub folded : List Folded
+  pub base : List Cell
   pub entries : List Entry
+
+-- so many of the first entries were folded: the rows that they leave stand before the others
+pub record IsFolded (n : ℕ) (old new : KeptRepairer) : Type 0 where
+  pub entries : new.entries ≡ drop n old.entries
+  pub folded : new.folded ≡ old.folded ++ filter_map folded_as (take n old.entries)
+  pub base : new.base ≡ rows_after old.base (take n old.entries)
 
 -- at most the version, the request, and whether it is wanted and struck are others
 abbrev pub Amends : Entry → Entry → Type 0

@@ -5,7 +5,7 @@ ghost use Rattle.std.specs.Option.{option_copied};
 ghost use Rattle.execution.specs.HandedOn.{Gives, GivesAll};
 ghost use Rattle.log_index.specs.Rows.{rows_before};
 ghost use Rattle.log_index.specs.Marks.{AreMarks};
-ghost use Rattle.local_repair.specs.Current.{AreChecked, IsCurrentRecord, IsCurrent, AllCurrent, IsFirstStale, base_rows};
+ghost use Rattle.local_repair.specs.Current.{AreChecked, IsCurrentRecord, IsCurrent, AllCurrent, IsFirstStale};
 ghost use Rattle.local_repair.specs.Held.{AreCurrent, IsAnswered, IsFirstChanged, IsFirstMarked, IsHeld, IsHeldRecord, IsKept, IsOfNow};
 ghost use Rattle.local_repair.specs.Written.{all_written};
 ghost use Rattle.local_repair.specs.Parts.{IsOf};
@@ -158,8 +158,8 @@ fn place_of_marked<S: Slots>(
     requires tied { rows.now.writes ≡ all_written entries.now }
     requires marks { AreMarks (length entries.now) marks.now }
     ensures { MatchOption result
-        (AreCurrent (S.consumed_of slots.now) entries.now marks.now (length entries.now))
-        (λ place. IsFirstMarked (S.consumed_of slots.now) entries.now marks.now place) }
+        (AreCurrent (S.consumed_of slots.now) rows.now.base entries.now marks.now (length entries.now))
+        (λ place. IsFirstMarked (S.consumed_of slots.now) rows.now.base entries.now marks.now place) }
 {
     for mark in marks {
         let place = *mark as usize;
@@ -171,7 +171,7 @@ fn place_of_marked<S: Slots>(
 }
 
 // The place of the first entry, of so many, whose record consumed something else than its slots consume now. Where no
-// entry has calls there is none, and no entry is looked at, nor is one that is known to be current.
+// entry has calls there is none, and no entry is looked at, nor is one of the first, which are known to have consumed that.
 fn place_of_changed<S: Slots>(
     calls: bool,
     entries: &[KeptEntry],
@@ -180,7 +180,7 @@ fn place_of_changed<S: Slots>(
     slots: &S,
 ) -> Option<usize>
     requires within { end ≤ length entries.now }
-    requires checked { AreChecked (S.consumed_of slots.now) entries.now checked }
+    requires checked { (q : ℕ) → q < checked → HoldsAt (IsAnswered (S.consumed_of slots.now)) entries.now q }
     ensures { MatchOption result
         (calls ≡ true → (q : ℕ) → q < end → HoldsAt (IsAnswered (S.consumed_of slots.now)) entries.now q)
         (λ place. (place < end) × IsFirstChanged (S.consumed_of slots.now) entries.now place) }
@@ -216,11 +216,11 @@ pub(crate) fn place_of_stale<S: Slots>(
     checked: usize,
     slots: &S,
 ) -> Option<usize>
-    requires kept { IsKept entries.now rows.now.writes marks.now calls }
-    requires checked { AreChecked (S.consumed_of slots.now) entries.now checked }
+    requires kept { IsKept rows.now.base entries.now rows.now.writes marks.now calls }
+    requires checked { AreChecked (S.consumed_of slots.now) rows.now.base entries.now checked }
     ensures { MatchOption result
-        (AllCurrent (S.consumed_of slots.now) base_rows entries.now)
-        (λ place. IsFirstStale (S.consumed_of slots.now) base_rows entries.now place) }
+        (AllCurrent (S.consumed_of slots.now) rows.now.base entries.now)
+        (λ place. IsFirstStale (S.consumed_of slots.now) rows.now.base entries.now place) }
 {
     let marked = place_of_marked(rows, marks.marks(), entries, slots);
     let end = end_of(marked, entries.len());

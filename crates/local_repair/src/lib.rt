@@ -1,11 +1,11 @@
-//! Local repair: which entries of a log are stale, and the step that runs the first of them again.
+//! Local repair: which entries of a log are stale, the step that runs the first of them again, and the fold of the first of
+//! them, of which nothing is repaired any more.
 #![tactic(auto)]
 
 mod current;
 mod remaking;
 mod repairer;
 mod rerun;
-mod rows;
 mod slots;
 mod stepped;
 mod view;

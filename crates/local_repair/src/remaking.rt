@@ -104,6 +104,7 @@ fn ready_made(
     marks: &mut EntryMarks,
     made: &Made,
 ) -> Result<(), NoMemory>
+    ensures base { rows.new.base ≡ rows.old.base }
     ensures writes { rows.new.writes ≡ rows.old.writes }
     ensures reads { marks.new.reads ≡ marks.old.reads }
     ensures marks { marks.new.marks ≡ marks.old.marks }
@@ -124,6 +125,7 @@ fn ready_again(
     made: &Made,
 ) -> Result<(), NoMemory>
     requires { place < length marks.old.reads }
+    ensures base { rows.new.base ≡ rows.old.base }
     ensures writes { rows.new.writes ≡ rows.old.writes }
     ensures ok { OnOk result (IsMarkedBehind place (writes_of entry.now.made) made.now.trace.writes marks.old marks.new) }
     ensures err { OnErr result (IsMarkedFrom (place + 1) [] marks.old marks.new) }
@@ -159,6 +161,7 @@ pub(crate) fn remake<S: Slots>(
           settles = S.settles slots.old slots.new;
         })
         (rows_before place rows.old) entry.now again) }
+    ensures base { rows.new.base ≡ rows.old.base }
     ensures writes { rows.new.writes ≡ rows.old.writes }
     ensures ready { IfOk result (λ again. IsReadyToSet again.made.trace.writes rows.new) }
     ensures ready_marks { IfOk result (λ again. IsReadyToMark again.made.trace.reads marks.new) }

@@ -1,20 +1,20 @@
 // A log, and its repair.
-ghost use Rattle.std.specs.Prelude.{ℕ, ◌≡◌, ◌↔◌, ◌+◌, ◌<◌, ◌≤◌, ◌&&◌, not, nat_lt, [], ◌∷◌, ◌++◌, All, Err, Ok, IfOk, OnOk, OnErr, MatchOption, insert, length, map, take, slice_set, slice_index_or, find, is_some};
+ghost use Rattle.std.specs.Prelude.{ℕ, ◌≡◌, ◌↔◌, ◌+◌, ◌<◌, ◌≤◌, ◌&&◌, not, nat_lt, [], ◌∷◌, ◌++◌, All, Err, Ok, IfOk, IsSome, OnOk, OnErr, MatchOption, drop, filter_map, insert, length, map, take, slice_set, slice_index_or, find, is_some};
 ghost use Rattle.request_log.specs.Entries.{asking, changed, has_id, mark, AreReplaced, IsNew, IsKnown, with_entry};
+ghost use Rattle.request_log.specs.Folded.{folded_as, whole};
 ghost use Rattle.log_index.specs.HandedOn.{read_at};
 ghost use Rattle.log_index.specs.Marks.{is_marked, IsReadyToSet as IsReadyToMark};
-ghost use Rattle.log_index.specs.Rows.{IsReadyToSet};
-ghost use Rattle.local_repair.specs.Current.{AllCurrent, AreChecked, AllRuns, rows_after, writes_of, base_rows};
+ghost use Rattle.log_index.specs.Rows.{rows_before, IsReadyToSet};
+ghost use Rattle.local_repair.specs.Current.{AllCurrent, AreChecked, AllRuns, rows_after, writes_of};
 ghost use Rattle.local_repair.specs.Held.{all_looked, IsIdMarked, IsKept, IsMarkedBehind, IsMarkedFrom};
 ghost use Rattle.local_repair.specs.Written.{all_written, rows_seen};
 ghost use Rattle.request_log.specs.declared.entry.Entry.{Entry};
-ghost use Rattle.local_repair.specs.Repairs.{IsAmended, IsStaleId, stale_id};
+ghost use Rattle.local_repair.specs.Repairs.{IsAmended, IsFolded, IsStaleId, stale_id};
 ghost use Rattle.local_repair.specs.Settling.{HasItsSlots, HasSlotsOnce, CanSettle, IsAgain, noted};
 ghost use Rattle.local_repair.specs.Steps.{AreApart, StepsTo, raised_if};
 
 use crate::current::place_of_stale;
 use crate::remaking::{Rerun, remake};
-use crate::rows::rows_after;
 use crate::slots::Slots;
 use crate::stepped::Stepped;
 use crate::view::RowsBefore;
@@ -30,7 +30,7 @@ use std::marker::Model;
 pub struct Repairer {
     alloc: Global,
     log: Log,
-    // What the log's entries wrote.
+    // What the log's entries wrote, and the rows that its folded entries left.
     rows: EntryRows,
     // Where they looked, and which of them may be stale by something else than the answer of a call. All others were
     // current when they last ran or were tested, and nothing that they read has changed since.
@@ -57,9 +57,13 @@ impl Model for Repairer {
 
     ghost Value = { KeptRepairer };
 
-    ghost view = { λ repairer. record { entries = repairer.log.entries } };
+    ghost view = { λ repairer. record {
+      folded = repairer.log.folded;
+      base = repairer.rows.base;
+      entries = repairer.log.entries;
+    } };
 
-    ghost invariant = { λ repairer. IsKept repairer.log.entries repairer.rows.writes repairer.marks repairer.calls };
+    ghost invariant = { λ repairer. IsKept repairer.rows.base repairer.log.entries repairer.rows.writes repairer.marks repairer.calls };
 }
 
 fn raised_if(raise: bool, n: u64) -> u64
@@ -94,7 +98,8 @@ fn remake_at<S: Slots>(
           timely = S.is_timely slots.old;
           settles = S.settles slots.old slots.new;
         })
-        (rows_after base_rows (take place entries.now)) (slice_index_or entries.now place d) again) }
+        (rows_after rows.old.base (take place entries.now)) (slice_index_or entries.now place d) again) }
+    ensures base { rows.new.base ≡ rows.old.base }
     ensures writes { rows.new.writes ≡ rows.old.writes }
     ensures ready { IfOk result (λ again. IsReadyToSet again.made.trace.writes rows.new) }
     ensures ready_marks { IfOk result (λ again. IsReadyToMark again.made.trace.reads marks.new) }
@@ -132,6 +137,8 @@ fn note(
     requires ready_marks { IsReadyToMark again.made.trace.reads marks.old }
     ensures stepped { (d : Entry) → result ≡ Stepped.Ran (slice_index_or log.old.entries place d).id again.answered }
     ensures entries { (d : Entry) → log.new.entries ≡ slice_set log.old.entries place (noted again (slice_index_or log.old.entries place d)) }
+    ensures folded { log.new.folded ≡ log.old.folded }
+    ensures base { rows.new.base ≡ rows.old.base }
     ensures tied { rows.new.writes ≡ all_written log.new.entries }
     ensures reads { marks.new.reads ≡ slice_set marks.old.reads place (map read_at again.made.trace.reads) }
     ensures marks { (q : ℕ) → is_marked q marks.new.marks ≡ (not (nat_lt q (place + 1)) && is_marked q marks.old.marks) }
@@ -146,6 +153,7 @@ fn note_run(log: &mut Log, place: usize, again: Rerun) -> Stepped
     requires { place < length log.old.entries }
     ensures stepped { (d : Entry) → result ≡ Stepped.Ran (slice_index_or log.old.entries place d).id again.answered }
     ensures entries { (d : Entry) → log.new.entries ≡ slice_set log.old.entries place (noted again (slice_index_or log.old.entries place d)) }
+    ensures folded { log.new.folded ≡ log.old.folded }
 {
     let Rerun {
         made,
@@ -176,15 +184,51 @@ fn mark_id(log: &Log, marks: &mut EntryMarks, id: u64)
 // Puts an entry in place of the one of its number.
 fn replace(log: &mut Log, entry: Entry)
     requires { IsKnown entry log.old.entries }
-    ensures { log.new.entries ≡ with_entry entry log.old.entries }
+    ensures entries { log.new.entries ≡ with_entry entry log.old.entries }
+    ensures folded { log.new.folded ≡ log.old.folded }
 {
     let _old = log.put(entry);
+}
+
+// Folds so many of the first entries of a log: these are the rows that they leave. Refused, all stay.
+fn fold_parts(
+    alloc: Global,
+    log: &mut Log,
+    rows: &mut EntryRows,
+    marks: &mut EntryMarks,
+    n: u64,
+    left: &Cells,
+) -> Result<(), NoMemory>
+    requires within { n ≤ length log.old.entries }
+    requires ran { All (λ (e : Entry). IsSome e.made) (take n log.old.entries) }
+    requires left { left.now ≡ rows_before n rows.old }
+    requires tied { rows.old.writes ≡ all_written log.old.entries }
+    requires looked { marks.old.reads ≡ all_looked log.old.entries }
+    ensures entries { OnOk result (log.new.entries ≡ drop n log.old.entries) }
+    ensures folded { OnOk result (log.new.folded ≡ log.old.folded ++ filter_map folded_as (take n log.old.entries)) }
+    ensures base { OnOk result (rows.new.base ≡ left.now) }
+    ensures writes { OnOk result (rows.new.writes ≡ drop n rows.old.writes) }
+    ensures reads { OnOk result (marks.new.reads ≡ drop n marks.old.reads) }
+    ensures marks { OnOk result ((q : ℕ) → is_marked q marks.new.marks ≡ is_marked (n + q) marks.old.marks) }
+    ensures err { OnErr result (log.new ≡ log.old) }
+    ensures err_base { OnErr result (rows.new.base ≡ rows.old.base) }
+    ensures err_writes { OnErr result (rows.new.writes ≡ rows.old.writes) }
+    ensures err_marks { OnErr result (marks.new ≡ marks.old) }
+{
+    let count = n as usize;
+    rows.ready_fold(alloc, left)?;
+    log.fold(alloc, n)?;
+    rows.fold(alloc, count, left);
+    marks.fold(count);
+    Ok(())
 }
 
 impl Repairer {
     /// A repairer of an empty log.
     pub fn new(alloc: Global) -> Repairer
-        ensures { result.entries ≡ [] }
+        ensures folded { result.folded ≡ [] }
+        ensures base { result.base ≡ [] }
+        ensures entries { result.entries ≡ [] }
     {
         Repairer {
             alloc,
@@ -197,21 +241,22 @@ impl Repairer {
 
     /// The log.
     pub fn log(&self) -> &Log
-        ensures { result.now.entries ≡ self.now.entries }
+        ensures entries { result.now.entries ≡ self.now.entries }
+        ensures folded { result.now.folded ≡ self.now.folded }
     {
         &self.log
     }
 
     /// The rows after the log's entries.
     pub fn rows(&self, alloc: Global) -> Result<Cells, NoMemory>
-        ensures { IfOk result (λ rows. rows ≡ rows_after base_rows self.now.entries) }
+        ensures { IfOk result (λ rows. rows ≡ rows_after self.now.base self.now.entries) }
     {
-        rows_after(alloc, self.log.as_slice())
+        self.rows.rows_before(alloc, self.log.as_slice().len())
     }
 
     /// The rows after the log's entries, as a run reads them.
     pub fn end(&self) -> RowsBefore<'_>
-        ensures { rows_seen result ≡ rows_after base_rows self.now.entries }
+        ensures { rows_seen result ≡ rows_after self.now.base self.now.entries }
     {
         RowsBefore {
             rows: &self.rows,
@@ -221,8 +266,10 @@ impl Repairer {
 
     fn insert_at(&mut self, at: u64, entry: KeptEntry) -> Result<(), LogFull>
         requires within { at ≤ length self.old.entries }
-        requires is_new { IsNew entry self.old.entries }
+        requires is_new { IsNew entry (whole self.old.folded self.old.entries) }
         ensures ok { OnOk result (self.new.entries ≡ insert self.old.entries at entry) }
+        ensures folded { self.new.folded ≡ self.old.folded }
+        ensures base { self.new.base ≡ self.old.base }
         ensures full { (result ≡ Err LogFull.Full) ↔ (length self.old.entries ≡ 100000) }
         ensures err { OnErr result (self.new ≡ self.old) }
     {
@@ -239,8 +286,10 @@ impl Repairer {
 
     /// Puts an entry last. Refused, it is dropped and the log stays.
     pub fn append(&mut self, entry: KeptEntry) -> Result<(), LogFull>
-        requires { IsNew entry self.old.entries }
+        requires { IsNew entry (whole self.old.folded self.old.entries) }
         ensures ok { OnOk result (self.new.entries ≡ self.old.entries ++ entry ∷ []) }
+        ensures folded { self.new.folded ≡ self.old.folded }
+        ensures base { self.new.base ≡ self.old.base }
         ensures full { (result ≡ Err LogFull.Full) ↔ (length self.old.entries ≡ 100000) }
         ensures err { OnErr result (self.new ≡ self.old) }
     {
@@ -251,8 +300,10 @@ impl Repairer {
     /// Puts an entry at a place, counted from 0, before what stands there. Refused, it is dropped and the log stays.
     pub fn insert(&mut self, at: u64, entry: KeptEntry) -> Result<(), LogFull>
         requires within { at ≤ length self.old.entries }
-        requires is_new { IsNew entry self.old.entries }
+        requires is_new { IsNew entry (whole self.old.folded self.old.entries) }
         ensures ok { OnOk result (self.new.entries ≡ insert self.old.entries at entry) }
+        ensures folded { self.new.folded ≡ self.old.folded }
+        ensures base { self.new.base ≡ self.old.base }
         ensures full { (result ≡ Err LogFull.Full) ↔ (length self.old.entries ≡ 100000) }
         ensures err { OnErr result (self.new ≡ self.old) }
     {
@@ -263,7 +314,9 @@ impl Repairer {
     /// it is wanted and struck, at most.
     pub fn amend(&mut self, entry: Entry)
         requires { IsAmended entry self.old.entries }
-        ensures { self.new.entries ≡ with_entry entry self.old.entries }
+        ensures entries { self.new.entries ≡ with_entry entry self.old.entries }
+        ensures folded { self.new.folded ≡ self.old.folded }
+        ensures base { self.new.base ≡ self.old.base }
     {
         mark_id(&self.log, &mut self.marks, entry.id);
         replace(&mut self.log, entry);
@@ -272,6 +325,8 @@ impl Repairer {
     /// Sets whether the entry of a number is struck; false exactly where there is none.
     pub fn set_struck(&mut self, id: u64, struck: bool) -> bool
         ensures entries { self.new.entries ≡ changed id (mark struck) self.old.entries }
+        ensures folded { self.new.folded ≡ self.old.folded }
+        ensures base { self.new.base ≡ self.old.base }
         ensures there { result ≡ is_some (find (has_id id) self.old.entries) }
     {
         mark_id(&self.log, &mut self.marks, id);
@@ -283,6 +338,8 @@ impl Repairer {
     pub fn rewrite(&mut self, id: u64, request: Shared<Request>) -> bool
         ensures entries { self.new.entries ≡ changed id (asking request) self.old.entries }
         ensures replaced { AreReplaced id request self.old.entries self.new.entries }
+        ensures folded { self.new.folded ≡ self.old.folded }
+        ensures base { self.new.base ≡ self.old.base }
         ensures there { result ≡ is_some (find (has_id id) self.old.entries) }
     {
         mark_id(&self.log, &mut self.marks, id);
@@ -292,11 +349,11 @@ impl Repairer {
     /// The number of the first stale entry, where so many of the first entries are known to be current; None exactly where no
     /// entry is stale.
     pub fn first_stale<S: Slots>(&self, slots: &S, checked: usize) -> Option<u64>
-        requires { AreChecked (S.consumed_of slots.now) self.now.entries checked }
+        requires { AreChecked (S.consumed_of slots.now) self.now.base self.now.entries checked }
         ensures first { MatchOption result
-            (AllCurrent (S.consumed_of slots.now) base_rows self.now.entries)
-            (λ id. IsStaleId (S.consumed_of slots.now) base_rows self.now.entries id) }
-        ensures test { result ≡ stale_id (S.consumed_of slots.now) base_rows self.now.entries }
+            (AllCurrent (S.consumed_of slots.now) self.now.base self.now.entries)
+            (λ id. IsStaleId (S.consumed_of slots.now) self.now.base self.now.entries id) }
+        ensures test { result ≡ stale_id (S.consumed_of slots.now) self.now.base self.now.entries }
     {
         let entries = self.log.as_slice();
         match place_of_stale(&self.rows, &self.marks, self.calls, entries, checked, slots) {
@@ -319,8 +376,10 @@ impl Repairer {
         requires apart { AreApart (S.last_of slots.old) self.old.entries }
         requires own { All HasItsSlots self.old.entries }
         requires can { All (CanSettle (S.can_settle slots.old) setting.now) self.old.entries }
-        requires checked { AreChecked (S.consumed_of slots.old) self.old.entries checked.old }
-        ensures checked { AreChecked (S.consumed_of slots.new) self.new.entries checked.new }
+        requires checked { AreChecked (S.consumed_of slots.old) self.old.base self.old.entries checked.old }
+        ensures folded { self.new.folded ≡ self.old.folded }
+        ensures base { self.new.base ≡ self.old.base }
+        ensures checked { AreChecked (S.consumed_of slots.new) self.old.base self.new.entries checked.new }
         ensures runs { AllRuns setting.now self.new.entries }
         ensures apart { AreApart (S.last_of slots.new) self.new.entries }
         ensures own { All HasItsSlots self.new.entries }
@@ -333,9 +392,9 @@ impl Repairer {
               timely = S.is_timely slots.old;
               settles = S.settles slots.old slots.new;
             })
-            base_rows self.old.entries stepped self.new.entries) }
+            self.old.base self.old.entries stepped self.new.entries) }
         ensures timely { S.is_timely slots.old → S.is_timely slots.new }
-        ensures free { AllCurrent (S.consumed_of slots.old) base_rows self.old.entries → result ≡ Ok Stepped.Idle }
+        ensures free { AllCurrent (S.consumed_of slots.old) self.old.base self.old.entries → result ≡ Ok Stepped.Idle }
         ensures idle { result ≡ Ok Stepped.Idle → (self.new ≡ self.old) × (slots.new ≡ slots.old) }
         ensures err { OnErr result ((self.new ≡ self.old) × (slots.new ≡ slots.old)) }
     {
@@ -376,6 +435,30 @@ impl Repairer {
                 ))
             }
         }
+    }
+}
+
+impl Repairer {
+    /// Folds so many of the first entries, each of which ran: nothing of them is repaired any more, the rows that they leave
+    /// stand before all others, and what they read and wrote is gone. Refused, nothing changes. It costs with the number of
+    /// entries and of rows.
+    pub fn fold(&mut self, alloc: Global, n: u64) -> Result<(), NoMemory>
+        requires within { n ≤ length self.old.entries }
+        requires ran { All (λ (e : Entry). IsSome e.made) (take n self.old.entries) }
+        ensures ok { OnOk result (IsFolded n self.old self.new) }
+        ensures err { OnErr result (self.new ≡ self.old) }
+    {
+        let count = n as usize;
+        let rows = self.rows.rows_before(alloc, count)?;
+        fold_parts(
+            alloc,
+            &mut self.log,
+            &mut self.rows,
+            &mut self.marks,
+            n,
+            &rows,
+        )?;
+        Ok(())
     }
 }
 

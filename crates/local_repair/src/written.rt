@@ -1,6 +1,7 @@
 // What an entry wrote and where it looked, put beside it.
 ghost use Rattle.std.specs.Prelude.{◌≡◌, ◌↔◌, ◌<◌, ◌≤◌, [], false, Err, OnOk, OnErr, insert, length};
 ghost use Rattle.request_log.specs.Entries.{IsNew};
+ghost use Rattle.request_log.specs.Folded.{whole};
 ghost use Rattle.log_index.specs.Marks.{IsReadyToInsert as IsReadyToMark};
 ghost use Rattle.log_index.specs.Rows.{rows_before, IsReadyToInsert};
 ghost use Rattle.local_repair.specs.Current.{writes_of};
@@ -75,6 +76,7 @@ fn ready_rows(
     at: usize,
     entry: &Entry,
 ) -> Result<(), NoMemory>
+    ensures base { rows.new.base ≡ rows.old.base }
     ensures writes { rows.new.writes ≡ rows.old.writes }
     ensures reads { marks.new.reads ≡ marks.old.reads }
     ensures marks { marks.new.marks ≡ marks.old.marks }
@@ -97,6 +99,7 @@ fn ready_entry(
     count: usize,
 ) -> Result<(), NoMemory>
     requires { count ≡ length marks.old.reads }
+    ensures base { rows.new.base ≡ rows.old.base }
     ensures writes { rows.new.writes ≡ rows.old.writes }
     ensures ok { OnOk result (IsMarkedFrom at (writes_of entry.now.made) marks.old marks.new) }
     ensures err { OnErr result (IsMarkedFrom at [] marks.old marks.new) }
@@ -123,6 +126,7 @@ fn insert_parts(
     requires few_marks { length marks.old.reads < 100000 }
     requires ready_rows { IsReadyToInsert at (writes_of entry.now.made) rows.old }
     requires ready_marks { IsReadyToMark at (reads_of entry.now.made) marks.old }
+    ensures base { rows.new.base ≡ rows.old.base }
     ensures rows { rows.new.writes ≡ insert rows.old.writes at (writes_of entry.now.made) }
     ensures marks { IsPutAt at entry.now (rows_before at rows.old) marks.old marks.new }
 {
@@ -144,12 +148,14 @@ pub(crate) fn insert_entry(
     calls: &mut bool,
 ) -> Result<(), LogFull>
     requires within { at ≤ length log.old.entries }
-    requires is_new { IsNew added log.old.entries }
-    requires kept { IsKept log.old.entries rows.old.writes marks.old calls.old }
+    requires is_new { IsNew added (whole log.old.folded log.old.entries) }
+    requires kept { IsKept rows.old.base log.old.entries rows.old.writes marks.old calls.old }
     ensures ok { OnOk result (log.new.entries ≡ insert log.old.entries at added) }
+    ensures folded { log.new.folded ≡ log.old.folded }
+    ensures base { rows.new.base ≡ rows.old.base }
     ensures full { (result ≡ Err LogFull.Full) ↔ (length log.old.entries ≡ 100000) }
     ensures err { OnErr result (log.new.entries ≡ log.old.entries) }
-    ensures kept { IsKept log.new.entries rows.new.writes marks.new calls.new }
+    ensures kept { IsKept rows.new.base log.new.entries rows.new.writes marks.new calls.new }
 {
     if log.len() == MOST_ENTRIES {
         return Err(LogFull::Full);

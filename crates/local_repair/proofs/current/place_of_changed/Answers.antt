@@ -3,11 +3,10 @@ use Rattle.std.proofs.lemmas.Bool.{cases_lt}
 use Rattle.std.proofs.lemmas.List.{get_or_default}
 use Rattle.request_log.specs.declared.entry.Entry.{Entry}
 use Rattle.local_repair.specs.Held.{IsAnswered}
-use Rattle.local_repair.proofs.StaleLemmas.{checked_answered}
 use Rattle.local_repair.proofs.current.place_of_changed.Goals as goal
 
 pub loop-place-init : goal.loop-place-init
-loop-place-init g c = checked_answered (g.S.Slots.consumed_of c.args.slots.now) c.args.entries.now c.args.checked c.requires.checked
+loop-place-init g c = c.requires.checked
 
 pub loop-place-preserved : goal.loop-place-preserved
 loop-place-preserved g c = λ q lt d.

@@ -20,7 +20,7 @@ loop-mark-preserved g c = λ j lt.
     elim (cases_lt j i) [
       | inl less ↦ c.loop-mark.invariant j less
       | inr more ↦ (let same : j ≡ i = omega arith in
-          current_here consumed es (get_or marks j 0) place c.index-entries-place.result _ within c.index-entries-place.is (seen_before c.args.rows.now es place c.requires.tied)
+          current_here consumed c.args.rows.now.base es (get_or marks j 0) place c.index-entries-place.result _ within c.index-entries-place.is (seen_before c.args.rows.now es place c.requires.tied)
           ((rw c.entry.ensures at c.if-not-is_current.ensures).0 refl) (ap (λ n. get_or marks n 0) same))
     ]
 
@@ -37,10 +37,10 @@ returns-then-not-is_current g c =
     record {
       within = within;
       before = λ q lt told.
-          marked_below (IsCurrentAt consumed es) marks i q c.requires.marks.rising inside lt told c.loop-mark.invariant;
-      stale = stale_here consumed es place c.index-entries-place.result _ within c.index-entries-place.is (seen_before c.args.rows.now es place c.requires.tied)
+          marked_below (IsCurrentAt consumed c.args.rows.now.base es) marks i q c.requires.marks.rising inside lt told c.loop-mark.invariant;
+      stale = stale_here consumed c.args.rows.now.base es place c.index-entries-place.result _ within c.index-entries-place.is (seen_before c.args.rows.now es place c.requires.tied)
           (λ current. let never : false ≡ true = (rw c.entry.ensures at c.if-not-is_current.ensures).1 current in cc);
     }
 
 pub returns : goal.returns
-returns g c = λ q lt told. marked_in (IsCurrentAt (g.S.Slots.consumed_of c.args.slots.now) c.args.entries.now) c.args.marks.now q told (λ j less. c.loop-mark.invariant j (omega arith))
+returns g c = λ q lt told. marked_in (IsCurrentAt (g.S.Slots.consumed_of c.args.slots.now) c.args.rows.now.base c.args.entries.now) c.args.marks.now q told (λ j less. c.loop-mark.invariant j (omega arith))

@@ -17,5 +17,5 @@ returns-clause-tied c =
     let place = c.args.place in
     let was = (entry_at es place c.requires.within).0 in
     let writes = c.args.again.made.trace.writes in
-    c.set.ensures ∙ ap (λ w. set w place writes) c.requires.tied
+    c.set.ensures.writes ∙ ap (λ w. set w place writes) c.requires.tied
     ∙ sym (ap all_written (c.note_run.ensures.entries was) ∙ written_set es place (noted c.args.again (get_or es place was)))

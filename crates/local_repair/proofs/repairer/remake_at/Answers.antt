@@ -27,7 +27,7 @@ returns-clause-ok g c =
       timely = g.S.Slots.is_timely c.args.slots.now;
       settles = g.S.Slots.settles c.args.slots.now c.remake.new.slots;
     } in
-    again_at c.args.setting.now change c.args.entries.now c.args.place c.index-entries-place.result (rows_before c.args.place c.args.rows.now) c.remake.result
+    again_at c.args.setting.now change c.args.rows.now.base c.args.entries.now c.args.place c.index-entries-place.result (rows_before c.args.place c.args.rows.now) c.remake.result
     c.requires.within c.index-entries-place.is (seen_before c.args.rows.now c.args.entries.now c.args.place c.requires.tied) (rw c.entry.ensures at c.remake.ensures.ok)
 
 pub returns-clause-marked : goal.returns-clause-marked

@@ -1,0 +1,14 @@
+use Rattle.std.proofs.Common.{ap, ◌∙◌, length, arith}
+use Rattle.std.proofs.lemmas.Result.{IfOk-weaker}
+use Rattle.local_repair.specs.Current.{rows_after}
+use Rattle.local_repair.specs.Repairs.{KeptRepairer}
+use Rattle.local_repair.proofs.WrittenLemmas.{seen_end}
+use Rattle.local_repair.proofs.repairer.Repairer.rows.Goals as goal
+
+pub returns : goal.returns
+returns c =
+    let many = ap length c.as_slice.ensures.entries in
+    IfOk-weaker c.rows_before.result _ _
+    (λ rows h. h ∙ seen_end c.self.inside.rows c.self.inside.log.entries (length c.as_slice.result.now) (omega arith) c.self.invariant.tied
+    ∙ ap (λ (k : KeptRepairer). rows_after k.base k.entries) c.self.view_is)
+    c.rows_before.ensures
