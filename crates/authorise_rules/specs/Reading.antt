@@ -5,7 +5,7 @@ use Rattle.lang_base.specs.Memory.{Unless, lacks}
 use Rattle.lang_base.specs.Texts.{same_text}
 use Rattle.lang_tree.specs.Forms.{is_path}
 use Rattle.lang_core.specs.Names.{is_name, is_who}
-use Rattle.repair_messages.specs.declared.kinds.Kind.TheVariants.{Create, Replace, Delete, ReplaceResponse, Retry}
+use Rattle.repair_messages.specs.declared.kinds.Kind.TheVariants.{Create, Replace, Delete, ReplaceResponse, Retry, Fold}
 use Rattle.authorise_rules.specs.Spelled.{is_passed_over, lines_of, words_of}
 use Rattle.authorise_rules.specs.declared.refused.RulesRefused.{RulesRefused}
 use Rattle.authorise_rules.specs.declared.refused.RulesRefused.TheVariants as refusal
@@ -33,7 +33,8 @@ kinds_named word =
     else (if same_text word (codes "delete") then Some (kinds.Only Delete)
     else (if same_text word (codes "replace_response") then Some (kinds.Only ReplaceResponse)
     else (if same_text word (codes "retry") then Some (kinds.Only Retry)
-    else None)))))
+    else (if same_text word (codes "fold") then Some (kinds.Only Fold)
+    else None))))))
 
 abbrev pub senders_named : List ℕ → Option Senders
 senders_named word =

@@ -18,6 +18,7 @@ fn same_kind(left: Kind, right: Kind) -> bool
         (Kind::Delete, Kind::Delete) => true,
         (Kind::ReplaceResponse, Kind::ReplaceResponse) => true,
         (Kind::Retry, Kind::Retry) => true,
+        (Kind::Fold, Kind::Fold) => true,
         _ => false,
     }
 }

@@ -38,6 +38,7 @@ pub(crate) fn kinds_named(word: &str) -> Option<Kinds>
         "delete" => Some(Kinds::Only(Kind::Delete)),
         "replace_response" => Some(Kinds::Only(Kind::ReplaceResponse)),
         "retry" => Some(Kinds::Only(Kind::Retry)),
+        "fold" => Some(Kinds::Only(Kind::Fold)),
         _ => None,
     }
 }
