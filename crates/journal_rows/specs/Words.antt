@@ -17,7 +17,7 @@ use Rattle.journal_rows.specs.declared.caller.SentRow.{SentRow}
 use Rattle.journal_rows.specs.declared.orders.About.{About}
 use Rattle.journal_rows.specs.declared.orders.About.TheVariants.{Request as OfRequest, Post as OfPost}
 use Rattle.journal_rows.specs.declared.orders.Command.{Command}
-use Rattle.journal_rows.specs.declared.orders.Command.TheVariants.{Cancel, Restore, Replace}
+use Rattle.journal_rows.specs.declared.orders.Command.TheVariants.{Cancel, Restore, Replace, Fold}
 use Rattle.journal_rows.specs.declared.orders.OrderedRow.{OrderedRow}
 use Rattle.journal_rows.specs.declared.row.Row.{Row}
 use Rattle.journal_rows.specs.declared.row.Row.TheVariants.{Asked, Took, Acked, Answered, WasConfirmed, Sent, SawAck, Noted, SawAnswer, Confirmed, Ordered}
@@ -262,6 +262,20 @@ order_step token last row = last
 -- the order with this token
 abbrev pub ordered : List ℕ → List Row → Option OrderedRow
 ordered token journal = fold (order_step token) None journal
+
+-- ---- of the horizon
+
+abbrev pub folded_by : Option ℕ → Command → Option ℕ
+folded_by last (Fold id) = Some id
+folded_by last command = last
+
+abbrev pub fold_step : Option ℕ → Row → Option ℕ
+fold_step last (Ordered o) = folded_by last o.command
+fold_step last row = last
+
+-- up to which entry the last fold went, if there was one
+abbrev pub last_folded : List Row → Option ℕ
+last_folded journal = fold fold_step None journal
 
 -- ---- the last row of all
 

@@ -28,6 +28,8 @@ pub enum Command {
     },
     /// Releases a post that was refused, and sends it in the operator's name.
     Retry(PostName),
+    /// Folds the entries up to and including that of this number: nothing of them is repaired any more.
+    Fold(u64),
 }
 
 /// What an accepted order is about.
@@ -120,6 +122,7 @@ impl Copied for Command {
                 request,
             } => copied_create(alloc, *before, *after, request),
             Command::Retry(name) => Ok(Command::Retry(*name)),
+            Command::Fold(id) => Ok(Command::Fold(*id)),
         }
     }
 }
@@ -161,6 +164,7 @@ impl Same for Command {
                 },
             ) => before.is(other_before) && after.is(other_after) && request.is(other_request),
             (Command::Retry(name), Command::Retry(other_name)) => *name == *other_name,
+            (Command::Fold(id), Command::Fold(other_id)) => *id == *other_id,
             _ => false,
         }
     }
