@@ -7,6 +7,7 @@ pub mod GivesLemmas
 pub mod HandlerLemmas
 pub mod HeldLemmas
 pub mod MarkingLemmas
+pub mod PastLemmas
 pub mod ReplayLemmas
 pub mod StaleLemmas
 pub mod StepLemmas

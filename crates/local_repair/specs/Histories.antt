@@ -1,6 +1,8 @@
 -- A log as a history of requests.
-use Rattle.std.specs.Prelude.{◌≡◌, List, Option, Some, map, option_map}
+use Rattle.std.specs.Prelude.{◌≡◌, List, [], Option, Some, map, option_map}
+use Rattle.std.specs.Option.{option_map_or}
 use Rattle.lang_core.specs.declared.cells.Cell.{Cell}
+use Rattle.lang_core.specs.declared.request.Response.{Response}
 use Rattle.lang_core.specs.declared.setting.Setting.{Setting}
 use Rattle.lang_core.specs.declared.trace.Trace.{Trace}
 use Rattle.execution.specs.Executions.{Act, Deed, History, IsReplay}
@@ -13,9 +15,9 @@ use Rattle.local_repair.specs.Current.{Consumed, rows_after}
 abbrev pub deed_in : Record → Deed
 deed_in r = record { calls = r.calls; response = r.response }
 
--- an entry as a request of a history, with the answers that its calls consume now
-abbrev pub act_of : Consumed → Entry → Act
-act_of consumed e =
+-- an entry as a request of a history, with these answers
+abbrev pub act_with : List Response → Entry → Act
+act_with answers e =
     record {
       id = e.id;
       origin = e.origin;
@@ -24,9 +26,17 @@ act_of consumed e =
       request = e.request;
       inputs = e.inputs;
       numbers = e.slots;
-      answers = map consumed e.slots;
+      answers = answers;
       did = option_map deed_in (record_of e);
     }
+
+-- with those that its calls consume now
+abbrev pub act_of : Consumed → Entry → Act
+act_of consumed e = act_with (map consumed e.slots) e
+
+-- with those that it consumed when it ran last
+abbrev pub act_kept : Entry → Act
+act_kept e = act_with (option_map_or (λ (r : Record). r.answers) (record_of e) []) e
 
 -- a log as a history, where these are the rows before its first entry
 abbrev pub history_of : Setting → Consumed → List Cell → List Entry → History
