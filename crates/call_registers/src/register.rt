@@ -24,6 +24,8 @@ pub enum Hold {
     Rule(u64),
     /// The receiver doesn't know what it speaks of.
     Unknown,
+    /// What it speaks of is folded at the receiver: the entry of this number, or the call of this number.
+    TooOld(u64),
 }
 
 /// Why a call went on without an answer.

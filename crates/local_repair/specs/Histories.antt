@@ -5,7 +5,7 @@ use Rattle.lang_core.specs.declared.cells.Cell.{Cell}
 use Rattle.lang_core.specs.declared.request.Response.{Response}
 use Rattle.lang_core.specs.declared.setting.Setting.{Setting}
 use Rattle.lang_core.specs.declared.trace.Trace.{Trace}
-use Rattle.execution.specs.Executions.{Act, Deed, History, IsReplay}
+use Rattle.execution.specs.Executions.{Act, Deed, History, IsReplay, Replays}
 use Rattle.request_log.specs.Records.{Record, record_of}
 use Rattle.request_log.specs.declared.entry.Entry.{Entry}
 use Rattle.request_log.specs.declared.entry.Made.{Made}
@@ -52,3 +52,7 @@ pub record ReplayAsRecorded (setting : Setting) (consumed : Consumed) (base : Li
   pub traces : List Trace
   pub replay : IsReplay setting base (map (act_of consumed) entries) traces (rows_after base entries)
   pub recorded : map trace_of entries ≡ map Some traces
+
+-- entries, from no rows on, did what their records say, with the answers that these have, and leave these rows
+abbrev pub ReplayAsKept : Setting → List Entry → List Cell → Type 0
+ReplayAsKept setting entries rows = Replays setting [] (map act_kept entries) rows

@@ -14,7 +14,7 @@ use Rattle.journal_rows.specs.declared.caller.SawHow.TheVariants.{Live as SeenLi
 use Rattle.journal_rows.specs.declared.caller.SentRow.{SentRow}
 use Rattle.journal_rows.specs.declared.orders.About.TheVariants.{Request as AboutRequest}
 use Rattle.journal_rows.specs.declared.orders.Command.{Command}
-use Rattle.journal_rows.specs.declared.orders.Command.TheVariants.{Cancel, Restore, Replace, Create, Retry}
+use Rattle.journal_rows.specs.declared.orders.Command.TheVariants.{Cancel, Restore, Replace, Create, Retry, Fold}
 use Rattle.journal_rows.specs.declared.row.Row.{Row}
 use Rattle.journal_rows.specs.declared.row.Row.TheVariants.{Took, Noted, SawAnswer, Ordered}
 use Rattle.service_events.specs.State.{Kept}
@@ -49,6 +49,7 @@ subject_in (Create before after q) journal = None
 subject_in (Retry (OfCall number)) journal = request_sent number journal
 subject_in (Retry (OfReply id)) journal = request_found (AboutRequest id) journal
 subject_in (Retry (OfFetch number)) journal = None
+subject_in (Fold id) journal = None
 
 -- ---- a row
 

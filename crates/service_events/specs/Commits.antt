@@ -1,5 +1,5 @@
 -- What a live request is committed with, and which live requests a journal has answered.
-use Rattle.std.specs.Prelude.{ℕ, ◌≡◌, Bool, true, false, List, [], ◌∷◌, ◌++◌, Some, Result, Ok, Err, IsSomeAnd, MatchOption, filter, map, slice_get}
+use Rattle.std.specs.Prelude.{ℕ, ◌≡◌, Bool, true, false, List, [], ◌∷◌, ◌++◌, Some, Result, Ok, Err, IsSomeAnd, MatchOption, drop, filter, map, slice_get}
 use Rattle.lang_core.specs.declared.ids.Origin.{Origin}
 use Rattle.lang_core.specs.declared.inputs.Inputs.{Inputs}
 use Rattle.lang_core.specs.declared.request.Request.{Request}
@@ -49,8 +49,8 @@ pub record IsCommitted (before : List Entry) (lives : List Row) (o : Origin) (q 
   pub request : entry.request ≡ q
   pub inputs : entry.inputs ≡ i
   pub made : entry.made ≡ Some (record { alive = true; version = live_version o; request = q; trace = trace })
-  pub ran : run_of t.setting q i (map (answers t) entry.slots) (rows_after (base t) before) ≡ Done trace
-  pub current : IsCurrent (answers t) (rows_after (base t) before) entry
+  pub ran : run_of t.setting q i (map (answers t) entry.slots) (rows_after (base t) (drop t.horizon before)) ≡ Done trace
+  pub current : IsCurrent (answers t) (rows_after (base t) (drop t.horizon before)) entry
   pub asks : asked id t.journal ≡ Some (record { id = id; origin = o; request = q; inputs = i })
   pub there : slice_get t.journal index ≡ Some (Answered (live_answer_of id o trace.response))
   pub alone : live_rows t.journal ≡ lives ++ Answered (live_answer_of id o trace.response) ∷ []

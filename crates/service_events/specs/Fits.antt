@@ -1,17 +1,19 @@
 -- How what a service keeps follows from its journal.
 use Rattle.std.specs.Prelude.{ℕ, ◌≡◌, ◌+◌, ◌<◌, ◌≤◌, Bool, true, false, ◌&&◌, not, List, [], ◌∷◌, ◌++◌, Option, Some, None, IsSome, IfSome, IsSomeAnd, MatchOption, All, AllPairs, if◌then◌else◌, map, max, length, find, nat_eq, option_map, is_some, ◌↔◌}
-use Rattle.std.specs.List.{list_any}
+use Rattle.std.specs.List.{last_or, list_any}
 use Rattle.std.specs.Option.{option_map_or}
 use Rattle.lang_core.specs.declared.ids.Origin.{Origin}
 use Rattle.lang_core.specs.declared.ids.Origin.TheVariants.{Outside, Call}
 use Rattle.lang_core.specs.declared.inputs.Inputs.{Inputs}
 use Rattle.lang_core.specs.declared.request.Request.{Request}
 use Rattle.lang_core.specs.declared.trace.CallMade.{CallMade}
-use Rattle.request_log.specs.Entries.{has_id, find_call, IsDistinct}
+use Rattle.request_log.specs.Entries.{has_id, find_call, is_alive, IsDistinct}
 use Rattle.request_log.specs.Records.{Record, record_of, recorded_calls}
 use Rattle.request_log.specs.declared.entry.Entry.{Entry}
+use Rattle.request_log.specs.declared.entry.Made.{Made}
 use Rattle.local_repair.specs.Current.{AllRuns}
-use Rattle.journal_rows.specs.Words.{last_sent, named, seen_acked, last_seen, seen_version, claimed, last_noted, noted_version, noted_at, confirmed_version, taken_version, taken_version_of, last_taken_of, is_version_of, wants, asked, asked_count, last_answered, given_version, request_now, is_struck, last_mark, settles, ordered, last_row}
+use Rattle.local_repair.specs.Histories.{ReplayAsKept}
+use Rattle.journal_rows.specs.Words.{last_sent, named, seen_acked, last_seen, seen_version, claimed, last_noted, noted_version, noted_at, confirmed_version, taken_version, taken_version_of, last_taken_of, is_version_of, wants, asked, asked_count, last_answered, given_version, request_now, is_struck, last_mark, settles, ordered, last_folded, last_row}
 use Rattle.journal_rows.specs.declared.callee.AnsweredRow.{AnsweredRow}
 use Rattle.journal_rows.specs.declared.callee.AskedRow.{AskedRow}
 use Rattle.journal_rows.specs.declared.caller.AckHow.{AckHow}
@@ -26,17 +28,17 @@ use Rattle.journal_rows.specs.declared.callee.TookHow.{TookHow}
 use Rattle.journal_rows.specs.declared.orders.About.{About}
 use Rattle.journal_rows.specs.declared.orders.About.TheVariants.{Request as AboutRequest, Post as AboutPost}
 use Rattle.journal_rows.specs.declared.orders.Command.{Command}
-use Rattle.journal_rows.specs.declared.orders.Command.TheVariants.{Cancel, Restore, Replace}
+use Rattle.journal_rows.specs.declared.orders.Command.TheVariants.{Cancel, Restore, Replace, Fold}
 use Rattle.journal_rows.specs.declared.orders.OrderedRow.{OrderedRow}
 use Rattle.journal_rows.specs.declared.row.Row.{Row}
 use Rattle.journal_rows.specs.declared.row.Row.TheVariants.{Asked, Took, Acked, Answered, WasConfirmed, Sent, SawAck, Noted, SawAnswer, Confirmed, Ordered}
-use Rattle.call_registers.specs.Registers.{register, IsNumbered}
+use Rattle.call_registers.specs.Registers.{register, owes_fetch, IsNumbered}
 use Rattle.call_registers.specs.Replies.{IsRising}
 use Rattle.call_registers.specs.declared.register.Answer.{Answer}
 use Rattle.call_registers.specs.declared.register.Register.{Register}
 use Rattle.call_registers.specs.declared.reply.Reply.{Reply}
 use Rattle.flights.specs.declared.flight.Flight.{Flight}
-use Rattle.service_events.specs.State.{Kept, same_call_origin}
+use Rattle.service_events.specs.State.{Kept, answers, base, folded, same_call_origin, unfolded}
 use Rattle.service_events.specs.Calls.{seen_answer}
 use Rattle.service_events.specs.Orders.{request_put}
 
@@ -140,11 +142,12 @@ TakesOn before row = Unit {0}
 
 -- ---- d. The entries
 
--- an order that changes an entry stands after the entry was made, and a replacement is of one from outside
+-- an order that changes or folds an entry stands after the entry was made, and a replacement is of one from outside
 abbrev pub IsOrderOn : Command → Option AskedRow → Type 0
 IsOrderOn (Cancel id) made = IsSome made
 IsOrderOn (Restore id) made = IsSome made
 IsOrderOn (Replace id method path body) made = IsSomeAnd made (λ a. a.origin ≡ Outside)
+IsOrderOn (Fold id) made = IsSome made
 IsOrderOn command made = Unit {0}
 
 abbrev pub IsOrderAbout : About → Command → List Row → Type 0
@@ -156,9 +159,14 @@ abbrev pub request_found : About → List Row → Option Request
 request_found (AboutRequest id) before = option_map (λ (a : AskedRow). request_now id a.origin a.request before) (asked id before)
 request_found (AboutPost name) before = None
 
+-- the request that an order with this command finds; a fold looks for none
+abbrev pub found_by : Command → About → List Row → Option Request
+found_by (Fold id) about before = None
+found_by command about before = request_found about before
+
 -- an order's row has the request that the order found, and that it put there
 abbrev pub TellsRequests : OrderedRow → List Row → Type 0
-TellsRequests o before = (o.original ≡ request_found o.about before) × (o.repaired ≡ request_put o.command o.original)
+TellsRequests o before = (o.original ≡ found_by o.command o.about before) × (o.repaired ≡ request_put o.command o.original)
 
 abbrev pub AsksOn : List Row → Row → Type 0
 AsksOn before (Asked a) = a.id ≡ asked_count before + 1
@@ -324,16 +332,46 @@ abbrev pub OrdersOn : List Row → Row → Type 0
 OrdersOn before (Ordered o) = ordered o.token before ≡ None
 OrdersOn before row = Unit {0}
 
--- ---- all of it; e. the records are what runs gave
+-- ---- k. The horizon
+
+-- what is kept of a folded entry is of it as it is, and nothing of what it read and wrote
+pub record IsBare (e : Entry) (m : Made) : Type 0 where
+  pub alive : m.alive ≡ is_alive e
+  pub version : m.version ≡ e.version
+  pub request : m.request ≡ e.request
+  pub reads : m.trace.reads ≡ []
+  pub writes : m.trace.writes ≡ []
+
+-- a call is acknowledged at its version, and owes no fetch
+pub record IsDoneWith (r : Register) : Type 0 where
+  pub acked : r.version ≤ r.acked
+  pub fetched : owes_fetch r ≡ false
+
+-- a folded entry: its calls are done with, and consume the answers that are kept of it
+pub record IsPast (s : Kept) (e : Entry) : Type 0 where
+  pub bare : IsSomeAnd e.made (IsBare e)
+  pub calls : All (λ number. IsSomeAnd (register number s.registers) IsDoneWith) e.slots
+  pub consumed : IsSomeAnd (record_of e) (λ (r : Record). r.answers ≡ map (answers s) e.slots)
+
+-- the last folded entry is the one that the last fold names, and none is folded where there was no fold. From no rows on, the folded entries
+-- replay to what is kept of them, and leave the rows before the others
+pub record FitsHorizon (s : Kept) : Type 0 where
+  pub within : s.horizon ≤ length s.entries
+  pub last : option_map (λ (e : Entry). e.id) (last_or None (folded s)) ≡ last_folded s.journal
+  pub each : All (IsPast s) (folded s)
+  pub replayed : ReplayAsKept s.setting (folded s) (base s)
+
+-- ---- all of it; e. the records of entries that aren't folded are what runs gave
 
 pub record Fits (s : Kept) : Type 0 where
   pub sent : FitsSent s.journal s.registers
   pub seen : FitsSeen s.journal s.registers
   pub taken : EachAfter TakesOn [] s.journal
   pub asked : FitsAsked s.journal s.entries
-  pub runs : AllRuns s.setting s.entries
+  pub runs : AllRuns s.setting (unfolded s)
   pub answered : FitsAnswered s.journal s.entries
   pub replies : FitsReplies s.journal s.entries s.replies
   pub places : FitsPlaces s.registers (places s)
   pub flights : FitsFlights s.journal s.flights
   pub orders : EachAfter OrdersOn [] s.journal
+  pub horizon : FitsHorizon s

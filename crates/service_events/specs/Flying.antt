@@ -26,14 +26,14 @@ pub use Rattle.flights.specs.Numbers.{awaited}
 use Rattle.flights.specs.declared.flight.Flight.{Flight}
 use Rattle.flights.specs.declared.flight.Move.{Move}
 use Rattle.flights.specs.declared.flight.Move.TheVariants.{Commit, Name, Change}
-use Rattle.service_events.specs.State.{Kept, After, after, me, answers, next_id, without_flight, with_flight, base}
+use Rattle.service_events.specs.State.{Kept, After, after, me, answers, next_id, without_flight, with_flight, base, unfolded}
 use Rattle.service_events.specs.Calls.{noted, named, deleted, all_deleted}
 use Rattle.service_events.specs.declared.answers.Arrived.{Arrived}
 use Rattle.service_events.specs.declared.answers.Arrived.TheVariants.{Done as Committed, Call as Sends}
 
 -- its run on the rows at the end of the log, with the answers that its calls consume now
 abbrev pub flight_run : Kept → Flight → Ran
-flight_run s f = run_of s.setting f.request f.inputs (map (answers s) f.numbers) (rows_after (base s) s.entries)
+flight_run s f = run_of s.setting f.request f.inputs (map (answers s) f.numbers) (rows_after (base s) (unfolded s))
 
 -- ---- the commit
 

@@ -1,5 +1,6 @@
 -- Events of repair messages: a version of a call is taken, a token is taken, an answer is given, something comes back of a post.
-use Rattle.std.specs.Prelude.{ℕ, ◌+◌, Bool, true, false, ◌&&◌, not, List, [], ◌∷◌, ◌++◌, Option, Some, None, Result, Ok, Err, if◌then◌else◌, nat_eq, nat_le, length, find, insert, is_some, option_map}
+use Rattle.std.specs.Prelude.{ℕ, ◌+◌, Bool, true, false, ◌&&◌, not, List, [], ◌∷◌, ◌++◌, Option, Some, None, Result, Ok, Err, if◌then◌else◌, nat_eq, nat_le, length, find, insert, is_some, max, option_map}
+use Rattle.std.specs.List.{list_any}
 use Rattle.lang_base.specs.Texts.{same_text}
 use Rattle.lang_core.specs.declared.ids.Origin.{Origin}
 use Rattle.lang_core.specs.declared.ids.Origin.TheVariants.{Call}
@@ -29,28 +30,28 @@ use Rattle.journal_rows.specs.declared.row.Row.TheVariants.{Asked, Took, Acked, 
 use Rattle.call_registers.specs.Registers.{register, at_number, with_hold, is_news, is_newer}
 use Rattle.call_registers.specs.Replies.{reply, at_entry, with_taken, with_confirm, made_due, with_hold as with_reply_hold}
 use Rattle.call_registers.specs.declared.register.Hold.{Hold}
-use Rattle.call_registers.specs.declared.register.Hold.TheVariants.{Rule, Unknown as Unheard}
+use Rattle.call_registers.specs.declared.register.Hold.TheVariants.{Rule, Unknown as Unheard, TooOld as PastHorizon}
 use Rattle.call_registers.specs.declared.register.Register.{Register}
 use Rattle.call_registers.specs.declared.reply.Reply.{Reply}
-use Rattle.service_events.specs.State.{Kept, After, after, me, next_id, or_else, where_needed, is_crowded, is_heavy, is_in_flight}
+use Rattle.service_events.specs.State.{Kept, After, after, folded, me, next_id, or_else, where_needed, is_crowded, is_heavy, is_in_flight}
 use Rattle.service_events.specs.Calls.{noted}
 use Rattle.service_events.specs.Questions.{version_question, answer_question, is_denied, rule_of}
 use Rattle.service_events.specs.declared.answers.Heard.{Heard}
 use Rattle.service_events.specs.declared.answers.PostReply.{PostReply}
 use Rattle.service_events.specs.declared.answers.PostReply.TheVariants.{Acked as WasAcked, Confirmed as WasConfirmedBack, Given, Refused, Lost}
 use Rattle.service_events.specs.declared.answers.PostWord.{PostWord}
-use Rattle.service_events.specs.declared.answers.PostWord.TheVariants.{Denied as DeniedPost, Unknown as UnknownPost}
+use Rattle.service_events.specs.declared.answers.PostWord.TheVariants.{Denied as DeniedPost, Unknown as UnknownPost, TooOld as TooOldPost}
 use Rattle.service_events.specs.declared.answers.Posted.{Posted}
 use Rattle.service_events.specs.declared.answers.Posted.TheVariants.{Acked as PostAcked, Confirmed as PostConfirmed, Saw as PostSaw, Knew as PostKnew, Held, Left}
 use Rattle.service_events.specs.declared.answers.Taken.{Taken}
 use Rattle.service_events.specs.declared.refusals.AnswerRefused.{AnswerRefused}
-use Rattle.service_events.specs.declared.refusals.AnswerRefused.TheVariants.{Unknown, Denied as DeniedAnswer}
+use Rattle.service_events.specs.declared.refusals.AnswerRefused.TheVariants.{Unknown, Denied as DeniedAnswer, TooOld as TooOldAnswer}
 use Rattle.service_events.specs.declared.refusals.GiveRefused.{GiveRefused}
 use Rattle.service_events.specs.declared.refusals.GiveRefused.TheVariants.{Unknown as Ungiven}
 use Rattle.service_events.specs.declared.refusals.PostRefused.{PostRefused}
 use Rattle.service_events.specs.declared.refusals.PostRefused.TheVariants.{Foreign}
 use Rattle.service_events.specs.declared.refusals.TakeRefused.{TakeRefused}
-use Rattle.service_events.specs.declared.refusals.TakeRefused.TheVariants.{Full, NotYet, Denied}
+use Rattle.service_events.specs.declared.refusals.TakeRefused.TheVariants.{Full, NotYet, Denied, TooOld}
 
 -- ---- a version of a call
 
@@ -148,8 +149,10 @@ abbrev pub neighbour : Kept → List ℕ → Option ℕ → Option ℕ
 neighbour s caller None = None
 neighbour s caller (Some number) = option_map (λ (e : Entry). e.id) (find (has_origin caller number) s.entries)
 
+-- behind the folded entries, whichever are named
 abbrev pub created_place : Kept → SetMessage → ℕ
-created_place s set = place_between (neighbour s set.caller set.before) (neighbour s set.caller set.after) s.entries
+created_place s set =
+    max s.horizon (place_between (neighbour s set.caller set.before) (neighbour s set.caller set.after) s.entries)
 
 -- an entry with this version of its call
 abbrev pub at_version : SetMessage → Entry → Entry
@@ -181,9 +184,13 @@ take_denied s set = after s (Err (Denied (take_rule s set)))
 abbrev pub take_allowed : Kept → SetMessage → Inputs → After (Result Taken TakeRefused)
 take_allowed s set i = after (taken_by s set i (find_call (origin_of set) s.entries) set.desired) (Ok (taken set (Some (take_rule s set))))
 
--- of one that is new, rules are asked
+-- of one that is new, rules are asked, unless its call's entry is folded
+abbrev pub take_unless_past : Kept → SetMessage → Inputs → Option Entry → After (Result Taken TakeRefused)
+take_unless_past s set i (Some e) = after s (Err (TooOld e.id))
+take_unless_past s set i None = if is_denied (take_decision s set) then take_denied s set else take_allowed s set i
+
 abbrev pub take_new : Kept → SetMessage → Inputs → After (Result Taken TakeRefused)
-take_new s set i = if is_denied (take_decision s set) then take_denied s set else take_allowed s set i
+take_new s set i = take_unless_past s set i (find_call (origin_of set) (folded s))
 
 abbrev pub take_admitted : Kept → SetMessage → Inputs → Option ℕ → After (Result Taken TakeRefused)
 take_admitted s set i (Some n) = after s (Err (Full n))
@@ -223,9 +230,15 @@ abbrev pub hear_allowed : Kept → TokenMessage → Register → After (Result H
 hear_allowed s t r =
     after (noted (noted_row (hear_rule s t r) t ∷ (confirmed_row t ∷ [])) s) (Ok (heard t (Some (hear_rule s t r))))
 
--- of one that tells anything new, rules are asked
+-- the call of this number is one of a folded entry
+abbrev pub is_past_call : ℕ → Kept → Bool
+is_past_call number s = list_any (λ (e : Entry). list_any (nat_eq number) e.slots) (folded s)
+
+-- of one that tells anything new, rules are asked, unless it is about a call of a folded entry
 abbrev pub hear_new : Kept → TokenMessage → Register → After (Result Heard AnswerRefused)
-hear_new s t r = if is_denied (hear_decision s t r) then hear_denied s t r else hear_allowed s t r
+hear_new s t r =
+    if is_past_call t.number s then after s (Err (TooOldAnswer t.number))
+    else (if is_denied (hear_decision s t r) then hear_denied s t r else hear_allowed s t r)
 
 abbrev pub token_taken_by : Kept → TokenMessage → Register → After (Result Heard AnswerRefused)
 token_taken_by s t r =
@@ -335,6 +348,7 @@ is_now s (Fetch f) = false
 abbrev pub hold_of : PostWord → ℕ → Option Hold
 hold_of DeniedPost number = Some (Rule number)
 hold_of UnknownPost number = Some Unheard
+hold_of TooOldPost number = Some (PastHorizon number)
 hold_of word number = None
 
 abbrev pub held_back : Kept → Post → Hold → Kept

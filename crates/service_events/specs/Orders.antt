@@ -1,12 +1,17 @@
 -- Orders of operators.
-use Rattle.std.specs.Prelude.{ℕ, Bool, true, false, List, [], ◌∷◌, Option, Some, None, Result, Ok, Err, if◌then◌else◌, find, insert, option_map}
+use Rattle.std.specs.Prelude.{ℕ, ◌+◌, Bool, true, false, ◌&&◌, not, List, [], ◌∷◌, ◌++◌, Option, Some, None, Result, Ok, Err, if◌then◌else◌, drop, find, insert, length, map, max, nat_lt, option_map, take}
+use Rattle.std.specs.List.{list_all, position_or_len}
 use Rattle.std.specs.Option.{option_map_or}
+use Rattle.lang_core.specs.declared.cells.Cell.{Cell}
 use Rattle.lang_core.specs.declared.ids.Origin.{Origin}
 use Rattle.lang_core.specs.declared.ids.Origin.TheVariants.{Outside, Call}
 use Rattle.lang_core.specs.declared.inputs.Inputs.{Inputs}
 use Rattle.lang_core.specs.declared.request.Request.{Request}
 use Rattle.request_log.specs.Entries.{has_id, changed, mark, replace, with_call}
+use Rattle.request_log.specs.Folded.{bare}
 use Rattle.request_log.specs.declared.entry.Entry.{Entry}
+use Rattle.local_repair.specs.Current.{after_entry, rows_after}
+use Rattle.local_repair.specs.Tests.{is_current}
 use Rattle.create_placement.specs.Placement.{place_between, created}
 use Rattle.repair_messages.specs.declared.posts.PostName.{PostName}
 use Rattle.repair_messages.specs.declared.posts.PostName.TheVariants.{Call as OfCall, Reply as OfReply, Fetch as OfFetch}
@@ -16,39 +21,43 @@ use Rattle.journal_rows.specs.Words.{ordered}
 use Rattle.journal_rows.specs.declared.orders.About.{About}
 use Rattle.journal_rows.specs.declared.orders.About.TheVariants.{Request as AboutRequest, Post as AboutPost}
 use Rattle.journal_rows.specs.declared.orders.Command.{Command}
-use Rattle.journal_rows.specs.declared.orders.Command.TheVariants.{Cancel, Restore, Replace, Create, Retry}
+use Rattle.journal_rows.specs.declared.orders.Command.TheVariants.{Cancel, Restore, Replace, Create, Retry, Fold}
 use Rattle.journal_rows.specs.declared.orders.OrderedRow.{OrderedRow}
 use Rattle.journal_rows.specs.declared.row.Row.{Row}
 use Rattle.journal_rows.specs.declared.row.Row.TheVariants.{Asked, Ordered as OrderedAs}
-use Rattle.call_registers.specs.Registers.{register, at_number, released}
+use Rattle.call_registers.specs.Registers.{register, at_number, owes_fetch, released}
 use Rattle.call_registers.specs.Replies.{reply, at_entry, released as released_reply}
 use Rattle.call_registers.specs.declared.register.Hold.{Hold}
 use Rattle.call_registers.specs.declared.register.Register.{Register}
 use Rattle.call_registers.specs.declared.reply.Reply.{Reply}
-use Rattle.service_events.specs.State.{Kept, After, after, next_id, or_else, is_crowded, is_heavy}
+use Rattle.service_events.specs.State.{Kept, After, after, answers, base, is_crowded, is_heavy, is_past, next_id, or_else, unfolded, where_needed}
 use Rattle.service_events.specs.Calls.{noted}
 use Rattle.service_events.specs.Questions.{command_question, is_denied, rule_of}
 use Rattle.service_events.specs.declared.answers.Ordered.{Ordered}
 use Rattle.service_events.specs.declared.refusals.OrderRefused.{OrderRefused}
-use Rattle.service_events.specs.declared.refusals.OrderRefused.TheVariants.{NoSuchRequest, Denied, Full, NotHeld, NotOutside}
+use Rattle.service_events.specs.declared.refusals.OrderRefused.TheVariants.{NoSuchRequest, Denied, Full, NotHeld, NotOutside, TooOld, NotQuiet}
 
 abbrev pub entry_of : ℕ → Kept → Option Entry
 entry_of id s = find (has_id id) s.entries
 
 -- ---- refusals
 
-abbrev pub unless_there : ℕ → Option Entry → Option OrderRefused
-unless_there id None = Some (NoSuchRequest id)
-unless_there id (Some e) = None
+abbrev pub unless_past : ℕ → Kept → Option OrderRefused
+unless_past id s = where_needed (is_past id s) (Some (TooOld id))
+
+-- an order about an entry is about one that is there and isn't folded
+abbrev pub unless_present : ℕ → Kept → Option Entry → Option OrderRefused
+unless_present id s None = Some (NoSuchRequest id)
+unless_present id s (Some e) = unless_past id s
 
 abbrev pub unless_outside : ℕ → Origin → Option OrderRefused
 unless_outside id Outside = None
 unless_outside id (Call caller number) = Some (NotOutside id)
 
--- a replacement is of an entry that is there and comes from outside
-abbrev pub unless_replaced : ℕ → Option Entry → Option OrderRefused
-unless_replaced id None = Some (NoSuchRequest id)
-unless_replaced id (Some e) = unless_outside id e.origin
+-- a replacement is besides of one that comes from outside
+abbrev pub unless_replaced : ℕ → Kept → Option Entry → Option OrderRefused
+unless_replaced id s None = Some (NoSuchRequest id)
+unless_replaced id s (Some e) = or_else (unless_past id s) (unless_outside id e.origin)
 
 abbrev pub unless_held : Option Hold → Option OrderRefused
 unless_held None = Some NotHeld
@@ -61,11 +70,42 @@ hold_on s (OfFetch number) = None
 
 -- why an order can't be about what it names
 abbrev pub misnamed : Kept → Command → Option OrderRefused
-misnamed s (Cancel id) = unless_there id (entry_of id s)
-misnamed s (Restore id) = unless_there id (entry_of id s)
-misnamed s (Replace id method path body) = unless_replaced id (entry_of id s)
+misnamed s (Cancel id) = unless_present id s (entry_of id s)
+misnamed s (Restore id) = unless_present id s (entry_of id s)
+misnamed s (Replace id method path body) = unless_replaced id s (entry_of id s)
 misnamed s (Create before after q) = None
 misnamed s (Retry name) = unless_held (hold_on s name)
+misnamed s (Fold id) = unless_present id s (entry_of id s)
+
+-- its last version is acknowledged, and it owes no fetch
+abbrev pub is_done_with : Register → Bool
+is_done_with r = not (nat_lt r.acked r.version) && not (owes_fetch r)
+
+-- the entries that a fold up to this one folds: all that aren't folded yet, up to it
+abbrev pub to_fold : ℕ → Kept → List Entry
+to_fold id s = take (position_or_len (has_id id) (unfolded s) + 1) (unfolded s)
+
+-- the call of this number is acknowledged at its version, and owes no fetch
+abbrev pub is_quiet_call : Kept → ℕ → Bool
+is_quiet_call s number = option_map_or is_done_with (register number s.registers) false
+
+-- its reply is due
+abbrev pub is_due : Kept → Entry → Bool
+is_due s e = option_map_or (λ (p : Reply). p.due) (reply e.id s.replies) false
+
+-- an entry is quiet, where these are the rows before it: it isn't stale, its reply isn't due, and all its calls are quiet
+abbrev pub is_quiet_entry : Kept → List Cell → Entry → Bool
+is_quiet_entry s rows e = is_current (answers s) rows e && not (is_due s e) && list_all (is_quiet_call s) e.slots
+
+-- the first of these entries that isn't, where these are the rows before them
+abbrev pub first_unquiet : Kept → List Cell → List Entry → Option ℕ
+first_unquiet s rows [] = None
+first_unquiet s rows (e ∷ es) = if is_quiet_entry s rows e then first_unquiet s (after_entry rows e) es else Some e.id
+
+-- what is folded is quiet
+abbrev pub unless_quiet : Kept → Command → Option OrderRefused
+unless_quiet s (Fold id) = option_map (λ unquiet. NotQuiet unquiet) (first_unquiet s (base s) (to_fold id s))
+unless_quiet s command = None
 
 abbrev pub makes_entry : Command → Bool
 makes_entry (Create before after q) = true
@@ -91,6 +131,7 @@ subject s (Create before after q) = None
 subject s (Retry (OfCall number)) = request_retried number s
 subject s (Retry (OfReply id)) = request_of id s
 subject s (Retry (OfFetch number)) = None
+subject s (Fold id) = None
 
 -- the request that a command puts there, where it finds this one
 abbrev pub request_put : Command → Option Request → Option Request
@@ -109,10 +150,11 @@ order_rule s command who = rule_of (order_decision s command who)
 abbrev pub unless_allowed : Decision → Option OrderRefused
 unless_allowed d = if is_denied d then Some (Denied (rule_of d)) else None
 
--- rules are asked last
+-- how much there is counts after what the order names, and rules are asked last
 abbrev pub refused : Kept → Command → List ℕ → Option OrderRefused
 refused s command who =
-    or_else (or_else (misnamed s command) (option_map (λ n. Full n) (is_too_much s command))) (unless_allowed (order_decision s command who))
+    or_else (or_else (or_else (misnamed s command) (unless_quiet s command)) (option_map (λ n. Full n) (is_too_much s command)))
+    (unless_allowed (order_decision s command who))
 
 -- ---- what an accepted order does
 
@@ -122,6 +164,7 @@ about s (Restore id) = AboutRequest id
 about s (Replace id method path body) = AboutRequest id
 about s (Create before after q) = AboutRequest (next_id s)
 about s (Retry name) = AboutPost name
+about s (Fold id) = AboutRequest id
 
 -- the request that the order found
 abbrev pub original : Kept → Command → Option Request
@@ -130,6 +173,7 @@ original s (Restore id) = request_of id s
 original s (Replace id method path body) = request_of id s
 original s (Create before after q) = None
 original s (Retry name) = None
+original s (Fold id) = None
 
 abbrev pub repaired : Kept → Command → Option Request
 repaired s command = request_put command (original s command)
@@ -155,14 +199,28 @@ released_post who (OfCall number) s = record s { registers = at_number number (r
 released_post who (OfReply id) s = record s { replies = at_entry id (released_reply who) s.replies }
 released_post who (OfFetch number) s = s
 
+-- so many more of the first entries are folded, and the rows that they leave stand before the others
+abbrev pub folded_on : ℕ → Kept → Kept
+folded_on n s =
+    record s {
+      entries = map bare (take (s.horizon + n) s.entries) ++ drop (s.horizon + n) s.entries;
+      horizon = s.horizon + n;
+      base = rows_after (base s) (take n (unfolded s));
+    }
+
+-- where an order puts a new entry: behind the folded ones, whichever it names
+abbrev pub place_made : Kept → Option ℕ → Option ℕ → ℕ
+place_made s before after = max s.horizon (place_between before after s.entries)
+
 -- what it makes of the service, but its rows
 abbrev pub carried_out : Kept → Command → List ℕ → Inputs → Kept
 carried_out s (Cancel id) who i = record s { entries = changed id (mark true) s.entries }
 carried_out s (Restore id) who i = record s { entries = changed id (mark false) s.entries }
 carried_out s (Replace id method path body) who i = record s { entries = changed id (replace method path body) s.entries }
 carried_out s (Create before after q) who i =
-    record s { entries = insert s.entries (place_between before after s.entries) (created (next_id s) q i) }
+    record s { entries = insert s.entries (place_made s before after) (created (next_id s) q i) }
 carried_out s (Retry name) who i = released_post who name s
+carried_out s (Fold id) who i = folded_on (length (to_fold id s)) s
 
 abbrev pub order_by : Kept → Command → List ℕ → List ℕ → Inputs → Option OrderRefused → After (Result Ordered OrderRefused)
 order_by s command token who i (Some why) = after s (Err why)

@@ -9,7 +9,7 @@ use Rattle.local_repair.specs.declared.stepped.Stepped.{Stepped}
 use Rattle.local_repair.specs.declared.stepped.Stepped.TheVariants.{Idle, Ran}
 use Rattle.call_registers.specs.Registers.{next_number, IsTimely}
 use Rattle.service_events.specs.Calls.{settling_numbers}
-use Rattle.service_events.specs.State.{Kept, answers, base}
+use Rattle.service_events.specs.State.{Kept, answers, base, unfolded}
 
 -- ---- what a step of local repair is to a service
 
@@ -30,15 +30,16 @@ changes s s' =
       settles = gives_numbers s;
     }
 
--- no entry is stale, and the log stays; or the first stale entry ran again on the rows before it, and no other entry changed
+-- none of the entries that aren't folded is stale, and the log stays; or the first stale one ran again on the rows before it, and no other
+-- changed
 abbrev pub IsLocalStep : Kept → Stepped → Kept → Type 0
-IsLocalStep s stepped s' = StepsTo s.setting (changes s s') (base s) s.entries stepped s'.entries
+IsLocalStep s stepped s' = StepsTo s.setting (changes s s') (base s) (unfolded s) stepped (unfolded s')
 
 -- ---- how often entries ran
 
--- how often each entry ran, in logged order
+-- how often each entry that isn't folded ran, in logged order
 abbrev pub run_counts : Kept → List ℕ
-run_counts s = map (λ (e : Entry). e.runs) s.entries
+run_counts s = map (λ (e : Entry). e.runs) (unfolded s)
 
 -- the counts with that at this place raised by one
 abbrev pub raised_at : ℕ → List ℕ → List ℕ
@@ -49,7 +50,7 @@ raised_at (suc place) (n ∷ ns) = n ∷ raised_at place ns
 -- the first stale entry ran once more, and no other ran
 pub record RanOnce (s s' : Kept) : Type 0 where
   pub place : ℕ
-  pub first : IsFirstStale (answers s) (base s) s.entries place
+  pub first : IsFirstStale (answers s) (base s) (unfolded s) place
   pub counts : run_counts s' ≡ raised_at place (run_counts s)
 
 -- no entry ran where a step is idle
@@ -59,7 +60,8 @@ Counts s (Ran id answered) s' = RanOnce s s'
 
 -- ---- how far it gets
 
--- the service is on time still; and where none of the first so many entries was stale, none of them and of the next one is any more
+-- the service is on time still; and where none of the first so many entries behind the folded ones was stale, none of them and of the next
+-- one is any more
 pub record GoesFurther (s s' : Kept) : Type 0 where
   pub timely : IsTimely s'.registers
-  pub further : (k : ℕ) → AllCurrent (answers s) (base s) (take k s.entries) → AllCurrent (answers s') (base s') (take (k + 1) s'.entries)
+  pub further : (k : ℕ) → AllCurrent (answers s) (base s) (take k (unfolded s)) → AllCurrent (answers s') (base s') (take (k + 1) (unfolded s'))

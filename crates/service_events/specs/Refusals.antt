@@ -3,7 +3,7 @@ use Rattle.std.specs.Prelude.{ℕ, Option, Some, None, Result, Ok, Err}
 use Rattle.lang_base.specs.declared.memory.NoMemory.{NoMemory as LacksMemory}
 use Rattle.repair_messages.specs.declared.refusals.Refusal.{Refusal}
 use Rattle.repair_messages.specs.declared.refusals.RefusalWord.{RefusalWord}
-use Rattle.repair_messages.specs.declared.refusals.RefusalWord.TheVariants.{NoMemory, Full, NotYet, Gone, NoFlight, Denied, Unknown, Foreign, NoSuchRequest, NotHeld, NotOutside}
+use Rattle.repair_messages.specs.declared.refusals.RefusalWord.TheVariants.{NoMemory, Full, NotYet, Gone, NoFlight, Denied, Unknown, Foreign, NoSuchRequest, NotHeld, NotOutside, TooOld, NotQuiet}
 use Rattle.service_events.specs.declared.answers.PostReply.{PostReply}
 use Rattle.service_events.specs.declared.answers.PostReply.TheVariants as back
 use Rattle.service_events.specs.declared.answers.PostWord.{PostWord}
@@ -43,11 +43,13 @@ take_refusal take.NoMemory = refusal NoMemory 0
 take_refusal (take.Full n) = refusal Full n
 take_refusal (take.NotYet number) = refusal NotYet number
 take_refusal (take.Denied rule) = refusal Denied rule
+take_refusal (take.TooOld id) = refusal TooOld id
 
 abbrev pub answer_refusal : AnswerRefused → Refusal
 answer_refusal answer.NoMemory = refusal NoMemory 0
 answer_refusal (answer.Unknown number) = refusal Unknown number
 answer_refusal (answer.Denied rule) = refusal Denied rule
+answer_refusal (answer.TooOld number) = refusal TooOld number
 
 abbrev pub give_refusal : GiveRefused → Refusal
 give_refusal give.NoMemory = refusal NoMemory 0
@@ -64,6 +66,8 @@ order_refusal (order.Denied rule) = refusal Denied rule
 order_refusal (order.Full n) = refusal Full n
 order_refusal order.NotHeld = refusal NotHeld 0
 order_refusal (order.NotOutside id) = refusal NotOutside id
+order_refusal (order.TooOld id) = refusal TooOld id
+order_refusal (order.NotQuiet id) = refusal NotQuiet id
 
 abbrev pub memory_refusal : LacksMemory → Refusal
 memory_refusal why = refusal NoMemory 0
@@ -105,6 +109,7 @@ refusing_post Full = Some words.Full
 refusing_post NotYet = Some words.NotYet
 refusing_post Denied = Some words.Denied
 refusing_post Unknown = Some words.Unknown
+refusing_post TooOld = Some words.TooOld
 refusing_post word = None
 
 -- what comes back of a post that brought a version of a call
@@ -113,12 +118,14 @@ set_refused take.NoMemory = back.Refused words.NoMemory 0
 set_refused (take.Full n) = back.Refused words.Full n
 set_refused (take.NotYet number) = back.Refused words.NotYet number
 set_refused (take.Denied rule) = back.Refused words.Denied rule
+set_refused (take.TooOld id) = back.Refused words.TooOld id
 
 -- of one that brought a token
 abbrev pub answer_refused : AnswerRefused → PostReply
 answer_refused answer.NoMemory = back.Refused words.NoMemory 0
 answer_refused (answer.Unknown number) = back.Refused words.Unknown number
 answer_refused (answer.Denied rule) = back.Refused words.Denied rule
+answer_refused (answer.TooOld number) = back.Refused words.TooOld number
 
 -- and of a fetch
 abbrev pub give_refused : GiveRefused → PostReply

@@ -19,7 +19,7 @@ use Rattle.flights.specs.Moves.{calls_in, next_move}
 use Rattle.flights.specs.declared.flight.Flight.{Flight}
 use Rattle.flights.specs.declared.flight.Move.{Move}
 use Rattle.flights.specs.declared.flight.Move.TheVariants.{Commit, Name, Change}
-use Rattle.service_events.specs.State.{Kept, After, after, answers, base}
+use Rattle.service_events.specs.State.{Kept, After, after, answers, base, unfolded}
 use Rattle.service_events.specs.Calls.{noted, named}
 use Rattle.service_events.specs.Flying.{change_rows, changed_unsent, committed, flight_run, named_unsent, waits, wanted_of, with_change, with_slot}
 use Rattle.service_events.specs.Steps.{Stale, stale_in, stepped}
@@ -113,4 +113,4 @@ StepsBy s None answer s' = (answer ≡ Idle) × (s' ≡ s)
 StepsBy s (Some x) answer s' = RanAgain s x answer s'
 
 abbrev pub IsStep : Kept → Stepped → Kept → Type 0
-IsStep s answer s' = StepsBy s (stale_in (answers s) (base s) s.entries) answer s'
+IsStep s answer s' = StepsBy s (stale_in (answers s) (base s) (unfolded s)) answer s'

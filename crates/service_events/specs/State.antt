@@ -1,13 +1,15 @@
 -- What a service keeps, and what an event leaves of it.
-use Rattle.std.specs.Prelude.{ℕ, ◌+◌, Bool, List, [], Option, Some, None, if◌then◌else◌, nat_le, length, refl}
-use Rattle.std.specs.Coded.{Coded, code_by, coded×, coded_list}
+use Rattle.std.specs.Prelude.{ℕ, ◌+◌, Bool, List, [], Option, Some, None, if◌then◌else◌, drop, is_some, find, nat_le, length, refl, take}
+use Rattle.std.specs.Coded.{Coded, coded_ℕ, code_by, coded×, coded_list}
+use Rattle.lang_core.specs.contracts.cells.Cell as cell
 use Rattle.lang_core.specs.contracts.setting.Setting as setting
 use Rattle.lang_core.specs.declared.cells.Cell.{Cell}
 use Rattle.lang_core.specs.declared.ids.Origin.{Origin}
 use Rattle.lang_core.specs.declared.setting.Setting.{Setting}
+use Rattle.request_log.specs.Entries.{has_id}
 use Rattle.request_log.specs.contracts.entry.Entry as entry
 use Rattle.request_log.specs.declared.entry.Entry.{Entry}
-use Rattle.local_repair.specs.Current.{Consumed, base_rows}
+use Rattle.local_repair.specs.Current.{Consumed}
 use Rattle.local_repair.specs.Steps.{answer_or_tentative}
 use Rattle.authorise_rules.specs.contracts.rule.Rule as rule
 use Rattle.authorise_rules.specs.declared.rule.Rule.{Rule}
@@ -24,12 +26,14 @@ pub use Rattle.flights.specs.Numbers.{has_flight, without_flight, put_flight, wi
 use Rattle.flights.specs.Numbers.{flight_in, is_flying}
 use Rattle.flights.specs.declared.flight.Flight.{Flight}
 
--- what it is set to do, the rules by which it allows repairs, its entries in logged order, its flights in the order of their numbers, its
--- journal, its registers and its replies
+-- what it is set to do, the rules by which it allows repairs, its entries in logged order, how many of the first of them are folded and the
+-- rows that these left, its flights in the order of their numbers, its journal, its registers and its replies
 pub record Kept : Type 0 where
   pub setting : Setting
   pub rules : List Rule
   pub entries : List Entry
+  pub horizon : ℕ
+  pub base : List Cell
   pub flights : List Flight
   pub journal : List Row
   pub registers : List Register
@@ -38,28 +42,32 @@ pub record Kept : Type 0 where
 -- by which a proof tells two of them apart
 abbrev pub kept_code : Coded Kept
 kept_code =
-    code_by (Setting × (List Rule × (List Entry × (List Flight × (List Row × (List Register × List Reply))))))
+    code_by (Setting × (List Rule × (List Entry × (ℕ × (List Cell × (List Flight × (List Row × (List Register × List Reply))))))))
     (coded× setting.the_row.coded
     (coded× (coded_list rule.the_row.coded)
     (coded× (coded_list entry.the_row.coded)
+    (coded× coded_ℕ
+    (coded× (coded_list cell.the_row.coded)
     (coded× (coded_list flight.the_row.coded)
-    (coded× (coded_list row.the_row.coded) (coded× (coded_list register.the_row.coded) (coded_list reply.the_row.coded)))))))
-    (λ s. (s.setting, (s.rules, (s.entries, (s.flights, (s.journal, (s.registers, s.replies)))))))
+    (coded× (coded_list row.the_row.coded) (coded× (coded_list register.the_row.coded) (coded_list reply.the_row.coded)))))))))
+    (λ s. (s.setting, (s.rules, (s.entries, (s.horizon, (s.base, (s.flights, (s.journal, (s.registers, s.replies)))))))))
     (λ p. record {
       setting = p.0;
       rules = p.1.0;
       entries = p.1.1.0;
-      flights = p.1.1.1.0;
-      journal = p.1.1.1.1.0;
-      registers = p.1.1.1.1.1.0;
-      replies = p.1.1.1.1.1.1;
+      horizon = p.1.1.1.0;
+      base = p.1.1.1.1.0;
+      flights = p.1.1.1.1.1.0;
+      journal = p.1.1.1.1.1.1.0;
+      registers = p.1.1.1.1.1.1.1.0;
+      replies = p.1.1.1.1.1.1.1.1;
     })
     (λ _. refl)
 
 -- what a service keeps that has answered nothing yet
 abbrev pub fresh : Setting → List Rule → Kept
 fresh setting rules =
-    record { setting = setting; rules = rules; entries = []; flights = []; journal = []; registers = []; replies = [] }
+    record { setting = setting; rules = rules; entries = []; horizon = 0; base = []; flights = []; journal = []; registers = []; replies = [] }
 
 -- what an event leaves, and what it answers
 pub record After (A : Type 0) : Type 0 where
@@ -72,9 +80,20 @@ after s answer = record { service = s; answer = answer }
 abbrev pub me : Kept → List ℕ
 me s = s.setting.me
 
--- the rows before its first entry: none, since it keeps all its entries
+-- the rows before its first entry that isn't folded
 abbrev pub base : Kept → List Cell
-base s = base_rows
+base s = s.base
+
+-- its folded entries, which nothing repairs any more, and the others
+abbrev pub folded : Kept → List Entry
+folded s = take s.horizon s.entries
+
+abbrev pub unfolded : Kept → List Entry
+unfolded s = drop s.horizon s.entries
+
+-- the entry of this number is folded
+abbrev pub is_past : ℕ → Kept → Bool
+is_past id s = is_some (find (has_id id) (folded s))
 
 -- what each number consumes
 abbrev pub answers : Kept → Consumed
@@ -84,12 +103,12 @@ answers s number = answer_or_tentative (consumed number s.registers)
 abbrev pub next_id : Kept → ℕ
 next_id s = length s.entries + 1
 
--- ---- limits
+-- ---- limits: folded entries don't count
 
 abbrev pub in_all : Kept → ℕ
-in_all s = length s.entries + length s.flights
+in_all s = length (unfolded s) + length s.flights
 
--- how many entries and flights there are, where there is no place for one more
+-- how many such entries and flights there are, where there is no place for one more
 abbrev pub is_crowded : Kept → Option ℕ
 is_crowded s = if nat_le 100000 (in_all s) then Some (in_all s) else None
 

@@ -21,7 +21,7 @@ use Rattle.journal_rows.specs.declared.row.Row.TheVariants.{Answered}
 use Rattle.call_registers.specs.Registers.{next_number}
 use Rattle.call_registers.specs.Replies.{at_entry, with_answer}
 use Rattle.call_registers.specs.declared.reply.Reply.{Reply}
-use Rattle.service_events.specs.State.{Kept, After, after, answers, base}
+use Rattle.service_events.specs.State.{Kept, After, after, answers, base, unfolded}
 use Rattle.service_events.specs.Calls.{noted, settling_rows, settling_numbers}
 
 -- ---- the run
@@ -101,4 +101,4 @@ step_by s None = after s Idle
 step_by s (Some x) = stepped s x.entry (new_record s x.rows x.entry)
 
 abbrev pub step_event : Kept → After Stepped
-step_event s = step_by s (stale_in (answers s) (base s) s.entries)
+step_event s = step_by s (stale_in (answers s) (base s) (unfolded s))

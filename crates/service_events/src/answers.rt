@@ -50,6 +50,7 @@ pub enum PostWord {
     NotYet,
     Denied,
     Unknown,
+    TooOld,
 }
 
 /// What came back of a post.
@@ -102,6 +103,7 @@ impl PostWord {
             RefusalWord::NotYet => Some(PostWord::NotYet),
             RefusalWord::Denied => Some(PostWord::Denied),
             RefusalWord::Unknown => Some(PostWord::Unknown),
+            RefusalWord::TooOld => Some(PostWord::TooOld),
             _ => None,
         }
     }

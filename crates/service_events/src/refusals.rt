@@ -39,6 +39,8 @@ pub enum TakeRefused {
     NotYet(u64),
     /// The rule of this number denies it; 0 where no rule matches.
     Denied(u32),
+    /// The call's entry, which has this number, is folded.
+    TooOld(u64),
 }
 
 /// Why a token wasn't taken.
@@ -50,6 +52,8 @@ pub enum AnswerRefused {
     Unknown(u64),
     /// The rule of this number denies it; 0 where no rule matches.
     Denied(u32),
+    /// The call of this number is one of a folded entry.
+    TooOld(u64),
 }
 
 /// Why an answer wasn't given.
@@ -85,6 +89,11 @@ pub enum OrderRefused {
     NotHeld,
     /// The request of this number comes from a call.
     NotOutside(u64),
+    /// The request of this number is folded.
+    TooOld(u64),
+    /// The request of this number would be folded, and isn't quiet: it is stale, its reply is due, or one of its calls isn't
+    /// acknowledged or owes a fetch.
+    NotQuiet(u64),
 }
 
 impl From<NoMemory> for ArriveRefused {
@@ -217,6 +226,7 @@ impl TakeRefused {
             TakeRefused::Full(count) => refusal(RefusalWord::Full, count),
             TakeRefused::NotYet(number) => refusal(RefusalWord::NotYet, number),
             TakeRefused::Denied(rule) => refusal(RefusalWord::Denied, u64::from(rule)),
+            TakeRefused::TooOld(id) => refusal(RefusalWord::TooOld, id),
         }
     }
 
@@ -229,6 +239,7 @@ impl TakeRefused {
             TakeRefused::Full(count) => refused_post(PostWord::Full, count),
             TakeRefused::NotYet(number) => refused_post(PostWord::NotYet, number),
             TakeRefused::Denied(rule) => refused_post(PostWord::Denied, u64::from(rule)),
+            TakeRefused::TooOld(id) => refused_post(PostWord::TooOld, id),
         }
     }
 }
@@ -242,6 +253,7 @@ impl AnswerRefused {
             AnswerRefused::NoMemory => refusal(RefusalWord::NoMemory, 0),
             AnswerRefused::Unknown(number) => refusal(RefusalWord::Unknown, number),
             AnswerRefused::Denied(rule) => refusal(RefusalWord::Denied, u64::from(rule)),
+            AnswerRefused::TooOld(number) => refusal(RefusalWord::TooOld, number),
         }
     }
 
@@ -253,6 +265,7 @@ impl AnswerRefused {
             AnswerRefused::NoMemory => refused_post(PostWord::NoMemory, 0),
             AnswerRefused::Unknown(number) => refused_post(PostWord::Unknown, number),
             AnswerRefused::Denied(rule) => refused_post(PostWord::Denied, u64::from(rule)),
+            AnswerRefused::TooOld(number) => refused_post(PostWord::TooOld, number),
         }
     }
 }
@@ -303,6 +316,8 @@ impl OrderRefused {
             OrderRefused::Full(count) => refusal(RefusalWord::Full, count),
             OrderRefused::NotHeld => refusal(RefusalWord::NotHeld, 0),
             OrderRefused::NotOutside(id) => refusal(RefusalWord::NotOutside, id),
+            OrderRefused::TooOld(id) => refusal(RefusalWord::TooOld, id),
+            OrderRefused::NotQuiet(id) => refusal(RefusalWord::NotQuiet, id),
         }
     }
 }
