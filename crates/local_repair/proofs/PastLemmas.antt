@@ -13,8 +13,9 @@ use Rattle.request_log.specs.Records.{Record, record_in, record_of}
 use Rattle.request_log.specs.declared.entry.Entry.{Entry}
 use Rattle.request_log.specs.declared.entry.Made.{Made}
 use Rattle.local_repair.specs.Current.{Consumed, after_entry, rows_after, IsCurrentRecord, AllCurrent, AllRuns}
-use Rattle.local_repair.specs.Histories.{deed_in, act_with, act_of, act_kept}
+use Rattle.local_repair.specs.Histories.{deed_in, act_with, act_of, act_kept, ReplayAsKept}
 use Rattle.local_repair.proofs.ReplayLemmas.{replays}
+use Rattle.std.proofs.lemmas.List.{map-append}
 
 -- ---- what is kept of one
 
@@ -66,3 +67,10 @@ fold_replays setting consumed past base es before runs current =
       traces = before.traces ++ now.traces;
       replay = replay_more setting past (map (act_of consumed) es) [] base (rows_after base es) before.traces now.traces before.replay now.replay;
     })
+
+-- the same, of entries that are kept
+pub fold_kept : (setting : Setting) (consumed : Consumed) (past : List Entry) (base : List Cell) (es : List Entry) → ReplayAsKept setting past base → AllRuns setting es
+    → AllCurrent consumed base es → ReplayAsKept setting (past ++ map bare es) (rows_after base es)
+fold_kept setting consumed past base es before runs current =
+    let R : List Act → Type 0 = λ acts. Replays setting [] acts (rows_after base es) in
+    subst R (sym (map-append act_kept past (map bare es))) (fold_replays setting consumed (map act_kept past) base es before runs current)

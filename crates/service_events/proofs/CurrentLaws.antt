@@ -9,7 +9,7 @@ use Rattle.local_repair.specs.Current.{IsCurrent, rows_after}
 use Rattle.local_repair.specs.Steps.{answer_or_tentative}
 use Rattle.call_registers.specs.Registers.{register, consumed_in}
 use Rattle.flights.specs.declared.flight.Flight.{Flight}
-use Rattle.service_events.specs.State.{Kept, answers, base}
+use Rattle.service_events.specs.State.{Kept, answers, base, unfolded}
 use Rattle.service_events.specs.Flying.{flight_run, committed, committed_entry}
 use Rattle.service_events.specs.Fits.{count, wanted_call}
 use Rattle.service_events.proofs.CallRowLemmas.{Each}
@@ -50,8 +50,8 @@ commit_answers : (s : Kept) (f : Flight) (t : Trace) → FitsCalls (flying s f) 
 commit_answers s f t h few done =
     let k = length t.calls in
     let given = map (answers s) f.numbers in
-    let took = takes_done s.setting f.request f.inputs given (rows_after (base s) s.entries) t done in
-    let made = counts_done s.setting f.request f.inputs given (rows_after (base s) s.entries) t done in
+    let took = takes_done s.setting f.request f.inputs given (rows_after (base s) (unfolded s)) t done in
+    let made = counts_done s.setting f.request f.inputs given (rows_after (base s) (unfolded s)) t done in
     let w = flown s f in
     let at = fitting_at s f w h in
     let apart : Each (λ n. count n (drop k f.numbers) ≡ 0) (take k f.numbers) =
@@ -71,21 +71,21 @@ commit_answers s f t h few done =
 
 -- a flight whose run on the rows at the end of the log ended, with the answers that its calls consume: its entry isn't stale
 pub committed_current : (s : Kept) (f : Flight) (t : Trace) → FitsCalls (flying s f) → IsFew (committed s f t).service → flight_run s f ≡ Done t
-    → IsCurrent (answers (committed s f t).service) (rows_after (base s) s.entries) (committed_entry s f t)
+    → IsCurrent (answers (committed s f t).service) (rows_after (base s) (unfolded s)) (committed_entry s f t)
 committed_current s f t h few done = record {
   alive = refl;
   version = refl;
   request = refl;
-  reads = reads_done s.setting f.request f.inputs (map (answers s) f.numbers) (rows_after (base s) s.entries) t done;
+  reads = reads_done s.setting f.request f.inputs (map (answers s) f.numbers) (rows_after (base s) (unfolded s)) t done;
   answers = commit_answers s f t h few done;
 }
 
 -- and its record is the run on these rows, with what its calls consume
 pub committed_ran : (s : Kept) (f : Flight) (t : Trace) → FitsCalls (flying s f) → IsFew (committed s f t).service → flight_run s f ≡ Done t
-    → run_of s.setting f.request f.inputs (map (answers (committed s f t).service) (take (length t.calls) f.numbers)) (rows_after (base s) s.entries) ≡ Done t
+    → run_of s.setting f.request f.inputs (map (answers (committed s f t).service) (take (length t.calls) f.numbers)) (rows_after (base s) (unfolded s)) ≡ Done t
 committed_ran s f t h few done =
     let given = map (answers s) f.numbers in
-    let rows = rows_after (base s) s.entries in
+    let rows = rows_after (base s) (unfolded s) in
     let gives = reads_done s.setting f.request f.inputs given rows t done in
     let again = same_done s.setting f.request f.inputs given rows t done rows gives [] in
     let answers_are = append-nil t.answers ∙ commit_answers s f t h few done in

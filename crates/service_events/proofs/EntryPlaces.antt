@@ -34,7 +34,7 @@ other_id : (k : ℕ) (xs : List Entry) (e : Entry) (ys : List Entry) → find (h
 other_id k [] e ys h = (none_first (nat_eq e.id k) e (find (has_id k) ys) h).0
 other_id k (x ∷ xs) e ys h = other_id k xs e ys (none_first (nat_eq x.id k) x (find (has_id k) (xs ++ e ∷ ys)) h).1
 
-set_later : (x y : Entry) (zs : List Entry) (k : ℕ) → slice_set (x ∷ zs) (1 + k) y ≡ x ∷ slice_set zs k y
+pub set_later : (x y : Entry) (zs : List Entry) (k : ℕ) → slice_set (x ∷ zs) (1 + k) y ≡ x ∷ slice_set zs k y
 set_later x y zs k = (let more : 1 + k ≡ suc k = omega arith in ap (λ n. slice_set (x ∷ zs) n y) more)
 
 -- another one with its number takes its place

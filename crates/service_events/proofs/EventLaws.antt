@@ -1,13 +1,13 @@
 -- Laws of all events of a service: each is one statement, with a case for each event.
-use Rattle.std.proofs.Common.{refl}
+use Rattle.std.proofs.Common.{refl, ℕ, List, [], ◌∷◌, ◌++◌, Option, Some, None}
 use Rattle.lang_core.specs.declared.ids.Origin.TheVariants.{Outside, Call}
 use Rattle.request_log.specs.Entries.{find_call}
-use Rattle.journal_rows.specs.Words.{last_taken, ordered}
+use Rattle.journal_rows.specs.Words.{last_taken, ordered, fold_step}
 use Rattle.call_registers.specs.Registers.{register}
 use Rattle.service_events.specs.Event.{event}
-use Rattle.service_events.specs.Fits.{Fits, FitsFlights}
+use Rattle.service_events.specs.Fits.{Fits, FitsFlights, FitsHorizon}
 use Rattle.service_events.specs.Messages.{is_too_much, origin_of}
-use Rattle.service_events.specs.State.{Kept, answers, base, flight_of, is_crowded, is_heavy, is_in_flight, or_else}
+use Rattle.service_events.specs.State.{Kept, answers, base, flight_of, is_crowded, is_heavy, is_in_flight, or_else, unfolded}
 use Rattle.service_events.specs.Steps.{stale_in}
 use Rattle.service_events.specs.declared.event.Event.{Event}
 use Rattle.service_events.specs.declared.event.Event.TheVariants as events
@@ -17,7 +17,7 @@ use Rattle.service_events.proofs.LiveCallLaws.{arrives_goes, outside_apart, call
 use Rattle.service_events.proofs.LiveEntryLaws.{LeavesLogged, arrives_logged, unless_gone_logged, answered_logged, failed_logged, abandoned_logged}
 use Rattle.service_events.proofs.LiveRuns.{admitted_runs, call_runs, answered_runs, failed_runs, abandoned_runs}
 use Rattle.service_events.proofs.MessageLaws.{take_by_goes, token_taken_where_goes, posted_goes}
-use Rattle.service_events.proofs.OrderLaw.{order_where_logged}
+use Rattle.service_events.proofs.OrderLaw.{order_where_logged, IsNamed, quiet_by, to_fold_is, well_named}
 use Rattle.service_events.proofs.OrderLaws.{order_where_goes}
 use Rattle.service_events.proofs.PartLemmas.{IsLogged, logged}
 use Rattle.service_events.proofs.PostedLaw.{token_taken_where_logged, posted_logged_by}
@@ -25,14 +25,29 @@ use Rattle.service_events.proofs.RepairRuns.{LeavesRuns, step_by_runs, take_admi
 use Rattle.service_events.proofs.StepLaw.{step_by_logged}
 use Rattle.service_events.proofs.StepLaws.{step_by_goes}
 use Rattle.service_events.proofs.TakeLaw.{take_admitted_logged}
+use Rattle.std.proofs.lemmas.List.Sums.{fold_push}
+use Rattle.lang_core.specs.declared.inputs.Inputs.{Inputs}
+use Rattle.journal_rows.specs.declared.orders.About.TheVariants.{Request as AboutRequest}
+use Rattle.journal_rows.specs.declared.orders.Command.{Command}
+use Rattle.journal_rows.specs.declared.orders.Command.TheVariants.{Cancel, Restore, Replace, Create, Retry, Fold}
+use Rattle.journal_rows.specs.declared.orders.OrderedRow.{OrderedRow}
+use Rattle.journal_rows.specs.declared.row.Row.TheVariants.{Ordered}
+use Rattle.service_events.specs.Calls.{noted}
+use Rattle.service_events.specs.Orders.{carried_out, entry_of, first_unquiet, order_by, order_rows, order_rule, order_where, refused, to_fold}
+use Rattle.service_events.specs.declared.refusals.OrderRefused.{OrderRefused}
+use Rattle.service_events.proofs.BehindLaws.{GoesBehind, behind_fits, behind_same}
+use Rattle.service_events.proofs.FoldLaw.{fold_horizon}
+use Rattle.service_events.proofs.LiveBehind.{LeavesBehind, abandoned_behind, admitted_behind, answered_behind, call_behind, failed_behind}
+use Rattle.service_events.proofs.RepairBehind.{ordered_behind, posted_by_behind, step_by_behind, take_admitted_behind, token_taken_where_behind}
 
 -- ---- the journal grows, and what fits of calls is kept
 
--- what an event asks for it: an arrival, a version and a step ask that the service fits its journal
+-- what an event asks for it: an arrival, a version, a step and an order ask that the service fits its journal
 abbrev pub GoesWhere : Kept → Event → Type 0
 GoesWhere s (events.Arrive o q i) = Fits s
 GoesWhere s (events.Take set i) = Fits s
 GoesWhere s events.Step = Fits s
+GoesWhere s (events.Order command token who i) = Fits s
 GoesWhere s e = Unit {0}
 
 pub goes_where_fits : (s : Kept) (e : Event) → Fits s → GoesWhere s e
@@ -47,7 +62,7 @@ goes_where_fits s (events.Give x) f = tt
 goes_where_fits s (events.NextPost dest) f = tt
 goes_where_fits s (events.WritePost name) f = tt
 goes_where_fits s (events.Posted post reply) f = tt
-goes_where_fits s (events.Order command token who i) f = tt
+goes_where_fits s (events.Order command token who i) f = f
 
 pub event_goes : (s : Kept) (e : Event) → GoesWhere s e → Goes s (event s e).service
 event_goes s (events.Arrive Outside q i) f = arrives_goes s Outside q i (or_else (is_crowded s) (is_heavy s)) (outside_apart s.flights) refl
@@ -62,27 +77,27 @@ event_goes s (events.Give f) _ = goes_same s
 event_goes s (events.NextPost dest) _ = goes_same s
 event_goes s (events.WritePost name) _ = goes_same s
 event_goes s (events.Posted post reply) _ = posted_either s post reply (λ a. Goes s a.service) (goes_same s) (posted_goes s post reply)
-event_goes s events.Step f = step_by_goes s (stale_in (answers s) (base s) s.entries) refl f.asked.distinct
-event_goes s (events.Order command token who i) _ = order_where_goes s command token who i (ordered token s.journal) refl
+event_goes s events.Step f = step_by_goes s (stale_in (answers s) (base s) (unfolded s)) refl f.asked.distinct
+event_goes s (events.Order command token who i) f = order_where_goes s f command token who i (ordered token s.journal) refl
 
 -- ---- entries and replies follow from the journal
 
-event_logged : (s : Kept) (e : Event) → IsLogged s.journal s.entries s.replies → FitsFlights s.journal s.flights → IsFew (event s e).service
+event_logged : (s : Kept) (e : Event) → Fits s → IsLogged s.journal s.entries s.replies → FitsFlights s.journal s.flights → IsFew (event s e).service
     → LeavesLogged (event s e)
-event_logged s (events.Arrive Outside q i) l flights few = arrives_logged s l Outside q i refl
-event_logged s (events.Arrive (Call c n) q i) l flights few =
+event_logged s (events.Arrive Outside q i) f l flights few = arrives_logged s l Outside q i refl
+event_logged s (events.Arrive (Call c n) q i) f l flights few =
     arrives_either s c n q i LeavesLogged l (unless_gone_logged s l c n q i (last_taken c n s.journal) refl)
-event_logged s (events.CallAnswered id a) l flights few = answered_logged s l flights id a (flight_of id s) refl
-event_logged s (events.CallFailed id number why) l flights few = failed_logged s l flights id number why (flight_of id s) refl
-event_logged s (events.Abandon id) l flights few = abandoned_logged s l (flight_of id s)
-event_logged s (events.Take set i) l flights few = takes_either s set i LeavesLogged l (take_admitted_logged s l set i (is_too_much s set))
-event_logged s (events.TakeToken t) l flights few = token_taken_where_logged s l t (register t.number s.registers)
-event_logged s (events.Give f) l flights few = l
-event_logged s (events.NextPost dest) l flights few = l
-event_logged s (events.WritePost name) l flights few = l
-event_logged s (events.Posted post reply) l flights few = posted_either s post reply LeavesLogged l (posted_logged_by s l post reply)
-event_logged s events.Step l flights few = step_by_logged s l (stale_in (answers s) (base s) s.entries) refl few
-event_logged s (events.Order command token who i) l flights few = order_where_logged s l command token who i (ordered token s.journal)
+event_logged s (events.CallAnswered id a) f l flights few = answered_logged s l flights id a (flight_of id s) refl
+event_logged s (events.CallFailed id number why) f l flights few = failed_logged s l flights id number why (flight_of id s) refl
+event_logged s (events.Abandon id) f l flights few = abandoned_logged s l (flight_of id s)
+event_logged s (events.Take set i) f l flights few = takes_either s set i LeavesLogged l (take_admitted_logged s l set i (is_too_much s set))
+event_logged s (events.TakeToken t) f l flights few = token_taken_where_logged s l t (register t.number s.registers)
+event_logged s (events.Give x) f l flights few = l
+event_logged s (events.NextPost dest) f l flights few = l
+event_logged s (events.WritePost name) f l flights few = l
+event_logged s (events.Posted post reply) f l flights few = posted_either s post reply LeavesLogged l (posted_logged_by s l post reply)
+event_logged s events.Step f l flights few = step_by_logged s l (stale_in (answers s) (base s) (unfolded s)) refl few
+event_logged s (events.Order command token who i) f l flights few = order_where_logged s l f command token who i (ordered token s.journal)
 
 -- ---- records are what runs gave
 
@@ -92,14 +107,76 @@ event_runs s (events.Arrive (Call c n) q i) f = arrives_either s c n q i LeavesR
 event_runs s (events.CallAnswered id a) f = answered_runs s f id a (flight_of id s) refl
 event_runs s (events.CallFailed id number why) f = failed_runs s f id number why (flight_of id s) refl
 event_runs s (events.Abandon id) f = abandoned_runs s f (flight_of id s)
-event_runs s (events.Take set i) f = takes_either s set i LeavesRuns f.runs (take_admitted_runs s f.runs set i (is_too_much s set))
-event_runs s (events.TakeToken t) f = token_taken_where_runs s f.runs t (register t.number s.registers)
+event_runs s (events.Take set i) f = takes_either s set i LeavesRuns f.runs (take_admitted_runs s f set i (is_too_much s set))
+event_runs s (events.TakeToken t) f = token_taken_where_runs s f t (register t.number s.registers)
 event_runs s (events.Give x) f = f.runs
 event_runs s (events.NextPost dest) f = f.runs
 event_runs s (events.WritePost name) f = f.runs
-event_runs s (events.Posted post reply) f = posted_either s post reply LeavesRuns f.runs (λ _ _. posted_by_runs s f.runs post reply)
-event_runs s events.Step f = step_by_runs s f.runs (stale_in (answers s) (base s) s.entries)
-event_runs s (events.Order command token who i) f = order_where_runs s f.runs command token who i (ordered token s.journal)
+event_runs s (events.Posted post reply) f = posted_either s post reply LeavesRuns f.runs (λ _ _. posted_by_runs s f post reply)
+event_runs s events.Step f = step_by_runs s f (stale_in (answers s) (base s) (unfolded s)) refl
+event_runs s (events.Order command token who i) f = order_where_runs s f command token who i (ordered token s.journal)
+
+-- ---- the folded entries stay, and what is told of them, or more are folded
+
+-- an order, where a fold leaves a service whose journal tells it
+order_horizon : (s : Kept) (f : Fits s) (command : Command) (token who : List ℕ) (i : Inputs) → IsNamed s command
+    → FitsCalls (noted (order_rows s command token who i) (carried_out s command who i)) → FitsHorizon (noted (order_rows s command token who i) (carried_out s command who i))
+order_horizon s f (Fold id) token who i ok calls =
+    let at = to_fold_is s id (entry_of id s) refl ok.0 in
+    fold_horizon s f id at.0 at.1 (quiet_by (first_unquiet s (base s) (to_fold id s)) ok.1) (s.journal ++ order_rows s (Fold id) token who i)
+    (fold_push fold_step None s.journal
+    (Ordered (record { token = token; command = Fold id; who = who; rule = order_rule s (Fold id) who; original = None; repaired = None; about = AboutRequest id })))
+order_horizon s f (Cancel id) token who i ok calls = behind_fits s (noted (order_rows s (Cancel id) token who i) (carried_out s (Cancel id) who i)) f calls.sent calls.seen (ordered_behind s f (Cancel id) token who i ok.0)
+order_horizon s f (Restore id) token who i ok calls = behind_fits s (noted (order_rows s (Restore id) token who i) (carried_out s (Restore id) who i)) f calls.sent calls.seen (ordered_behind s f (Restore id) token who i ok.0)
+order_horizon s f (Replace id m p b) token who i ok calls = behind_fits s (noted (order_rows s (Replace id m p b) token who i) (carried_out s (Replace id m p b) who i)) f calls.sent calls.seen (ordered_behind s f (Replace id m p b) token who i ok.0)
+order_horizon s f (Create before after q) token who i ok calls = behind_fits s (noted (order_rows s (Create before after q) token who i) (carried_out s (Create before after q) who i)) f calls.sent calls.seen (ordered_behind s f (Create before after q) token who i ok.0)
+order_horizon s f (Retry name) token who i ok calls = behind_fits s (noted (order_rows s (Retry name) token who i) (carried_out s (Retry name) who i)) f calls.sent calls.seen (ordered_behind s f (Retry name) token who i ok.0)
+
+order_by_horizon : (s : Kept) (f : Fits s) (command : Command) (token who : List ℕ) (i : Inputs) (o : Option OrderRefused) → refused s command who ≡ o
+    → FitsCalls (order_by s command token who i o).service → FitsHorizon (order_by s command token who i o).service
+order_by_horizon s f command token who i (Some why) is calls = f.horizon
+order_by_horizon s f command token who i None is calls = order_horizon s f command token who i (well_named s command who is) calls
+
+order_where_horizon : (s : Kept) (f : Fits s) (command : Command) (token who : List ℕ) (i : Inputs) (o : Option OrderedRow)
+    → FitsCalls (order_where s command token who i o).service → FitsHorizon (order_where s command token who i o).service
+order_where_horizon s f command token who i (Some o) calls = f.horizon
+order_where_horizon s f command token who i None calls = order_by_horizon s f command token who i (refused s command who) refl calls
+
+-- what an event leaves that is no order
+abbrev EventBehind : Kept → Event → Type 0
+EventBehind s (events.Order command token who i) = Unit {0}
+EventBehind s e = GoesBehind s (event s e).service
+
+event_behind : (s : Kept) (e : Event) → Fits s → EventBehind s e
+event_behind s (events.Arrive Outside q i) f = admitted_behind s f.horizon.within Outside q i (or_else (is_crowded s) (is_heavy s))
+event_behind s (events.Arrive (Call c n) q i) f =
+    arrives_either s c n q i (LeavesBehind s) (behind_same s f.horizon.within) (call_behind s f.horizon.within c n q i)
+event_behind s (events.CallAnswered id a) f = answered_behind s f.horizon.within id a (flight_of id s) refl
+event_behind s (events.CallFailed id number why) f = failed_behind s f.horizon.within id number why (flight_of id s) refl
+event_behind s (events.Abandon id) f = abandoned_behind s f.horizon.within id (flight_of id s) refl
+event_behind s (events.Take set i) f = takes_either s set i (LeavesBehind s) (behind_same s f.horizon.within) (take_admitted_behind s f set i (is_too_much s set))
+event_behind s (events.TakeToken t) f = token_taken_where_behind s f t (register t.number s.registers)
+event_behind s (events.Give x) f = behind_same s f.horizon.within
+event_behind s (events.NextPost dest) f = behind_same s f.horizon.within
+event_behind s (events.WritePost name) f = behind_same s f.horizon.within
+event_behind s (events.Posted post reply) f =
+    posted_either s post reply (LeavesBehind s) (behind_same s f.horizon.within) (λ _ _. posted_by_behind s f post reply)
+event_behind s events.Step f = step_by_behind s f (stale_in (answers s) (base s) (unfolded s)) refl
+event_behind s (events.Order command token who i) f = tt
+
+event_horizon : (s : Kept) (e : Event) → Fits s → FitsCalls (event s e).service → FitsHorizon (event s e).service
+event_horizon s (events.Order command token who i) f calls = order_where_horizon s f command token who i (ordered token s.journal) calls
+event_horizon s (events.Arrive o q i) f calls = behind_fits s (event s (events.Arrive o q i)).service f calls.sent calls.seen (event_behind s (events.Arrive o q i) f)
+event_horizon s (events.CallAnswered id a) f calls = behind_fits s (event s (events.CallAnswered id a)).service f calls.sent calls.seen (event_behind s (events.CallAnswered id a) f)
+event_horizon s (events.CallFailed id number why) f calls = behind_fits s (event s (events.CallFailed id number why)).service f calls.sent calls.seen (event_behind s (events.CallFailed id number why) f)
+event_horizon s (events.Abandon id) f calls = behind_fits s (event s (events.Abandon id)).service f calls.sent calls.seen (event_behind s (events.Abandon id) f)
+event_horizon s (events.Take set i) f calls = behind_fits s (event s (events.Take set i)).service f calls.sent calls.seen (event_behind s (events.Take set i) f)
+event_horizon s (events.TakeToken t) f calls = behind_fits s (event s (events.TakeToken t)).service f calls.sent calls.seen (event_behind s (events.TakeToken t) f)
+event_horizon s (events.Give x) f calls = f.horizon
+event_horizon s (events.NextPost dest) f calls = f.horizon
+event_horizon s (events.WritePost name) f calls = f.horizon
+event_horizon s (events.Posted post reply) f calls = behind_fits s (event s (events.Posted post reply)).service f calls.sent calls.seen (event_behind s (events.Posted post reply) f)
+event_horizon s events.Step f calls = behind_fits s (event s events.Step).service f calls.sent calls.seen (event_behind s events.Step f)
 
 -- ---- all of it
 
@@ -107,7 +184,7 @@ event_runs s (events.Order command token who i) f = order_where_runs s f.runs co
 pub event_fits : (s : Kept) (e : Event) → Fits s → IsFew (event s e).service → Fits (event s e).service
 event_fits s e f few =
     let calls : FitsCalls (event s e).service = (event_goes s e (goes_where_fits s e f)).keeps few (calls_of_fits s f) in
-    let entries : IsLogged (event s e).service.journal (event s e).service.entries (event s e).service.replies = event_logged s e (logged s f) f.flights few in
+    let entries : IsLogged (event s e).service.journal (event s e).service.entries (event s e).service.replies = event_logged s e f (logged s f) f.flights few in
     record {
       sent = calls.sent;
       seen = calls.seen;
@@ -119,4 +196,5 @@ event_fits s e f few =
       places = calls.places;
       flights = calls.flights;
       orders = calls.orders;
+      horizon = event_horizon s e f calls;
     }

@@ -16,7 +16,7 @@ use Rattle.call_registers.specs.Registers.{next_number}
 use Rattle.call_registers.specs.declared.register.Why.TheVariants.{Changes}
 use Rattle.flights.specs.Moves.{calls_in, first_other, by_run, change_or}
 use Rattle.flights.specs.declared.flight.Flight.{Flight}
-use Rattle.service_events.specs.State.{Kept, After, answers, base}
+use Rattle.service_events.specs.State.{Kept, After, answers, base, unfolded}
 use Rattle.service_events.specs.Calls.{noted, named}
 use Rattle.service_events.specs.Flying.{flight_run, committed, with_slot, with_change, change_rows, waits, call_or_none, named_unsent, changed_unsent, completing, completed, changed, moved, goes_on}
 use Rattle.service_events.specs.Fits.{WantsItsCalls, calls_of_flight}
@@ -87,8 +87,8 @@ run_few : (s : Kept) (f : Flight) (ran : Ran) → flight_run s f ≡ ran → Has
 run_few s f (Wants slot calls call) e = tt
 run_few s f (Done t) e =
     let given = map (answers s) f.numbers in
-    let took = takes_done s.setting f.request f.inputs given (rows_after (base s) s.entries) t e in
-    let made = counts_done s.setting f.request f.inputs given (rows_after (base s) s.entries) t e in
+    let took = takes_done s.setting f.request f.inputs given (rows_after (base s) (unfolded s)) t e in
+    let made = counts_done s.setting f.request f.inputs given (rows_after (base s) (unfolded s)) t e in
     let many : length given ≡ length f.numbers = length-map f.numbers (answers s) in
     let sum = ap length took.1 ∙ length-append t.answers took.0 in
     omega (arith, made, many, sum)

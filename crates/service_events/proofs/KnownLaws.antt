@@ -16,7 +16,7 @@ use Rattle.journal_rows.specs.declared.caller.SentRow.{SentRow}
 use Rattle.journal_rows.specs.declared.orders.About.{About}
 use Rattle.journal_rows.specs.declared.orders.About.TheVariants.{Request as AboutRequest, Post as AboutPost}
 use Rattle.journal_rows.specs.declared.orders.Command.{Command}
-use Rattle.journal_rows.specs.declared.orders.Command.TheVariants.{Cancel, Restore, Replace, Create, Retry}
+use Rattle.journal_rows.specs.declared.orders.Command.TheVariants.{Cancel, Restore, Replace, Create, Retry, Fold}
 use Rattle.journal_rows.specs.declared.orders.OrderedRow.{OrderedRow}
 use Rattle.journal_rows.specs.declared.row.Row.{Row}
 use Rattle.journal_rows.specs.declared.row.Row.TheVariants.{Asked, Took, Ordered}
@@ -113,6 +113,7 @@ module _ (caller : List ℕ) (number id : ℕ) (first : Request) where
   not_replaced before o now (AboutRequest k) (Restore x) apart is on = refl
   not_replaced before o now (AboutRequest k) (Create x y q) apart is on = refl
   not_replaced before o now (AboutRequest k) (Retry name) apart is on = refl
+  not_replaced before o now (AboutRequest k) (Fold x) apart is on = refl
 
   took_agrees : (b : Bool) (d known : Option Request) (now : Request) → or_before first known ≡ now
       → or_before first (if b then or_else_before known d else known) ≡ (if b then or_before now d else now)
@@ -201,3 +202,4 @@ subject_as_told s f (Create before after q) = refl
 subject_as_told s f (Retry (OfCall number)) = sent_as_told s f.sent number
 subject_as_told s f (Retry (OfReply id)) = found_as_told s (logged s f) id
 subject_as_told s f (Retry (OfFetch number)) = refl
+subject_as_told s f (Fold id) = refl

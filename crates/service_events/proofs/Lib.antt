@@ -18,6 +18,7 @@ pub mod HoldLaw
 pub mod PostedLaw
 pub mod OrderLaw
 pub mod RunLemmas
+pub mod HorizonLemmas
 pub mod RepairRuns
 pub mod GrowthLemmas
 pub mod OwnLemmas
@@ -48,6 +49,11 @@ pub mod StepLaws
 pub mod PlainLaws
 pub mod MessageLaws
 pub mod OrderLaws
+pub mod BehindLemmas
+pub mod BehindLaws
+pub mod LiveBehind
+pub mod RepairBehind
+pub mod FoldLaw
 pub mod EventLaws
 pub mod PurchaseExample
 pub mod DoorLaws

@@ -37,7 +37,7 @@ use Rattle.service_events.specs.Arriving.{accepted, new_flight, admitted, known_
 use Rattle.service_events.specs.Calls.{noted, named, after_rows}
 use Rattle.service_events.specs.Fits.{Fits}
 use Rattle.service_events.specs.Flying.{flight_run, awaited, live_version, committed_entry, committed, with_slot, with_change, change_rows, waits, call_or_none, named_unsent, changed_unsent, completing, completed, changed, moved, goes_on}
-use Rattle.service_events.specs.State.{Kept, After, after, answers, or_else, is_crowded, is_heavy, flight_of, base}
+use Rattle.service_events.specs.State.{Kept, After, after, answers, or_else, is_crowded, is_heavy, flight_of, base, unfolded}
 use Rattle.service_events.specs.declared.answers.Arrived.{Arrived}
 use Rattle.service_events.specs.declared.refusals.ArriveRefused.{ArriveRefused}
 use Rattle.service_events.specs.declared.refusals.CallRefused.{CallRefused}
@@ -46,18 +46,23 @@ use Rattle.service_events.proofs.GrowthLemmas.{IsGrowing, growing, first_is, Fol
 use Rattle.service_events.proofs.OwnLemmas.{before_same, all_same}
 use Rattle.service_events.proofs.RepairRuns.{LeavesRuns}
 use Rattle.service_events.proofs.RunLemmas.{HasRun, record_is_run}
+use Rattle.service_events.proofs.HorizonLemmas.{runs_push}
+
+-- the records behind the horizon, which stands within the log, are what runs gave
+abbrev pub RanBehind : Kept → Type 0
+RanBehind s = (s.horizon ≤ length s.entries) × AllRuns s.setting (unfolded s)
 
 -- a flight's runs, by the answers
 abbrev pub runs_of : Kept → Flight → List Response → Ran
-runs_of s f xs = run_of s.setting f.request f.inputs xs (rows_after (base s) s.entries)
+runs_of s f xs = run_of s.setting f.request f.inputs xs (rows_after (base s) (unfolded s))
 
 -- the answers that its calls consume
 abbrev pub answers_given : Kept → Flight → List Response
 answers_given s f = map (answers s) f.numbers
 
-committed_runs : (s : Kept) (f : Flight) (t : Trace) → flight_run s f ≡ Done t → AllRuns s.setting s.entries → LeavesRuns (committed s f t)
+committed_runs : (s : Kept) (f : Flight) (t : Trace) → flight_run s f ≡ Done t → RanBehind s → LeavesRuns (committed s f t)
 committed_runs s f t done h =
-    All-push (HasRun s.setting) s.entries (committed_entry s f t) h (record_is_run s.setting f.request f.inputs (answers_given s f) (rows_after (base s) s.entries) t (live_version f.origin) done)
+    runs_push s (committed_entry s f t) h.0 (record_is_run s.setting f.request f.inputs (answers_given s f) (rows_after (base s) (unfolded s)) t (live_version f.origin) done) h.1
 
 -- ---- what a move says of the run
 
@@ -135,10 +140,10 @@ module _ (s : Kept) (f : Flight) (slot : ℕ) (call : CallMade) (a : IsAloft s.r
 pub record Completes (s : Kept) (f : Flight) (k : ℕ) : Type 0 where
   pub aloft : IsAloft s.registers f.numbers f.calls
   pub follows : Follows (runs_of s f) k (answers_given s f) f.calls
-  pub runs : AllRuns s.setting s.entries
+  pub runs : RanBehind s
 
 pub grows : (s : Kept) (f : Flight) → IsGrowing (runs_of s f)
-grows s f = growing s.setting f.request f.inputs (rows_after (base s) s.entries)
+grows s f = growing s.setting f.request f.inputs (rows_after (base s) (unfolded s))
 
 pub name_completes : (s : Kept) (f : Flight) (k : ℕ) (slot : ℕ) (made : List CallMade) (call : CallMade) → flight_run s f ≡ Wants slot made call
     → first_other f.calls (calls_in (flight_run s f)) ≡ None → Completes s f k → Completes (named_unsent s call) (with_slot (next_number s.registers) call f) (k + 1)
@@ -194,7 +199,7 @@ completed_runs (suc runs) s f k enough c =
 
 -- ---- a flight goes on
 
-changed_runs : (s : Kept) (f : Flight) (slot : ℕ) (call : CallMade) → IsAloft s.registers f.numbers f.calls → AllRuns s.setting s.entries → LeavesRuns (changed s f slot call)
+changed_runs : (s : Kept) (f : Flight) (slot : ℕ) (call : CallMade) → IsAloft s.registers f.numbers f.calls → RanBehind s → LeavesRuns (changed s f slot call)
 changed_runs s f slot call a h =
     let s' = changed_unsent s f slot call in
     let f' = with_change slot (next_number s.registers) call f in
@@ -202,9 +207,9 @@ changed_runs s f slot call a h =
     cond_both (nat_le 3 f.changes) (completed 17 s' f') (waits (noted (change_rows s f slot call) s) f' (next_number s.registers) call) LeavesRuns
     (λ _. completed_runs 17 s' f' 0 (omega arith)
     (record { aloft = aloft; follows = follows_none (runs_of s' f') (answers_given s' f') f'.calls (length-map f'.numbers (answers s') ∙ aloft.many); runs = h }))
-    (λ _. h)
+    (λ _. h.1)
 
-moved_runs : (s : Kept) (f : Flight) (ran : Ran) (move : Move) → flight_run s f ≡ ran → next_move f ran ≡ move → IsAloft s.registers f.numbers f.calls → AllRuns s.setting s.entries
+moved_runs : (s : Kept) (f : Flight) (ran : Ran) (move : Move) → flight_run s f ≡ ran → next_move f ran ≡ move → IsAloft s.registers f.numbers f.calls → RanBehind s
     → LeavesRuns (moved s f ran move)
 moved_runs s f (Done t) Commit is goes a h = committed_runs s f t is h
 moved_runs s f (Done t) Name is goes a h = absurd (named_if (first_other f.calls t.calls) goes)
@@ -212,13 +217,13 @@ moved_runs s f (Done t) (Change slot) is goes a h =
     let there = first_is f.calls t.calls slot (some_if (first_other f.calls t.calls) (Done t) slot goes) in
     call_there LeavesRuns (slice_get t.calls slot) (λ call. changed s f slot call) (committed s f t) (got_within t.calls slot there.new) (λ call at. changed_runs s f slot call a h)
 moved_runs s f (Wants place made want) Commit is goes a h = absurd (done_if (first_other f.calls (made ++ want ∷ [])) goes)
-moved_runs s f (Wants place made want) Name is goes a h = h
+moved_runs s f (Wants place made want) Name is goes a h = h.1
 moved_runs s f (Wants place made want) (Change slot) is goes a h =
     let there = first_is f.calls (made ++ want ∷ []) slot (some_if (first_other f.calls (made ++ want ∷ [])) (Wants place made want) slot goes) in
     call_there LeavesRuns (slice_get (made ++ want ∷ []) slot) (λ call. changed s f slot call) (committed s f dead_trace) (got_within (made ++ want ∷ []) slot there.new)
     (λ call at. changed_runs s f slot call a h)
 
-goes_on_runs : (s : Kept) (f : Flight) → IsAloft s.registers f.numbers f.calls → AllRuns s.setting s.entries → LeavesRuns (goes_on s f)
+goes_on_runs : (s : Kept) (f : Flight) → IsAloft s.registers f.numbers f.calls → RanBehind s → LeavesRuns (goes_on s f)
 unfolding goes_on
 goes_on_runs s f a h = moved_runs s f (flight_run s f) (next_move f (flight_run s f)) refl refl a h
 
@@ -227,7 +232,7 @@ goes_on_runs s f a h = moved_runs s f (flight_run s f) (next_move f (flight_run 
 module _ (s : Kept) (h : Fits s) where
   pub admitted_runs : (o : Origin) (q : Request) (i : Inputs) (full : Option ℕ) → LeavesRuns (admitted s o q i full)
   admitted_runs o q i (Some n) = h.runs
-  admitted_runs o q i None = goes_on_runs s (new_flight s o q i) (record { numbered = h.sent.numbered; apart = tt; within = tt; many = refl }) h.runs
+  admitted_runs o q i None = goes_on_runs s (new_flight s o q i) (record { numbered = h.sent.numbered; apart = tt; within = tt; many = refl }) (h.horizon.within, h.runs)
 
   known_runs : (c : List ℕ) (n : ℕ) (e : Entry) (made : Option Record) → LeavesRuns (known_by s c n e made)
   known_runs c n e None = h.runs
@@ -261,7 +266,7 @@ module _ (s : Kept) (h : Fits s) where
       cond_both (is_for s a f) (accepted (goes_on (noted (live_answer_rows s a) s) f)) (after s (Err (CallRefused.NoFlight id))) LeavesRuns
       (λ _. goes_on_runs (noted (live_answer_rows s a) s) f
       (heard_aloft a (is_new_to a (register a.number s.registers)) (after_rows (length s.journal) s.registers (saw a ∷ [])) (length s.journal + 1) f.numbers f.calls
-      (acked_aloft a.number a.version s.registers f.numbers f.calls (aloft_of s id f h is))) h.runs)
+      (acked_aloft a.number a.version s.registers f.numbers f.calls (aloft_of s id f h is))) (h.horizon.within, h.runs))
       (λ _. h.runs)
     where
       saw : AnswerMessage → Row
@@ -271,7 +276,7 @@ module _ (s : Kept) (h : Fits s) where
   failed_runs id number why None is = h.runs
   failed_runs id number why (Some f) is =
       cond_both (nat_eq (awaited f) number) (accepted (goes_on (told number why s) f)) (after s (Err (CallRefused.NoFlight id))) LeavesRuns
-      (λ _. goes_on_runs (told number why s) f (told_aloft number why s.registers f.numbers f.calls (aloft_of s id f h is)) h.runs) (λ _. h.runs)
+      (λ _. goes_on_runs (told number why s) f (told_aloft number why s.registers f.numbers f.calls (aloft_of s id f h is)) (h.horizon.within, h.runs)) (λ _. h.runs)
 
   pub abandoned_runs : (o : Option Flight) → LeavesRuns (abandoned s o)
   abandoned_runs None = h.runs

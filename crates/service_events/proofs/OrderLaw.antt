@@ -15,13 +15,13 @@ use Rattle.request_log.specs.Entries.{has_id, changed, mark, replace, with_call}
 use Rattle.request_log.specs.declared.entry.Entry.{Entry}
 use Rattle.repair_messages.specs.declared.posts.PostName.{PostName}
 use Rattle.repair_messages.specs.declared.posts.PostName.TheVariants.{Call as OfCall, Reply as OfReply, Fetch as OfFetch}
-use Rattle.create_placement.specs.Placement.{place_between, created}
+use Rattle.create_placement.specs.Placement.{created}
 use Rattle.journal_rows.specs.Words.{first_asked, asked_step, asked, count_step, taken_step, last_taken_of, version_in, wants, request_step, request_now, struck_by, struck_step, is_struck, replaced_by, answered_step, mark_step, or_before, is_about, settles}
 use Rattle.journal_rows.specs.declared.callee.TookRow.{TookRow}
 use Rattle.journal_rows.specs.declared.callee.AskedRow.{AskedRow}
 use Rattle.journal_rows.specs.declared.orders.About.TheVariants.{Request as AboutRequest, Post as AboutPost}
 use Rattle.journal_rows.specs.declared.orders.Command.{Command}
-use Rattle.journal_rows.specs.declared.orders.Command.TheVariants.{Cancel, Restore, Replace, Create, Retry}
+use Rattle.journal_rows.specs.declared.orders.Command.TheVariants.{Cancel, Restore, Replace, Create, Retry, Fold}
 use Rattle.journal_rows.specs.declared.orders.OrderedRow.{OrderedRow}
 use Rattle.journal_rows.specs.declared.row.Row.{Row}
 use Rattle.journal_rows.specs.declared.row.Row.TheVariants.{Asked, Ordered as OrderedAs}
@@ -29,9 +29,9 @@ use Rattle.journal_rows.specs.declared.words.Mark.TheVariants.{Unsettled}
 use Rattle.call_registers.specs.Replies.{reply, released as released_reply}
 use Rattle.call_registers.specs.declared.reply.Reply.{Reply}
 use Rattle.service_events.specs.Calls.{noted}
-use Rattle.service_events.specs.Fits.{IsOrderAbout, TellsRequests, IsAsNow, HasAnswered, HasReply, IsReply, made_as, asked_as, answer_given, takes_request, request_found}
-use Rattle.service_events.specs.Orders.{entry_of, unless_there, unless_outside, unless_replaced, misnamed, is_too_much, refused, order_decision, order_rule, unless_allowed, about, request_of, order_rows, released_post, carried_out, order_by, order_where}
-use Rattle.service_events.specs.State.{Kept, after, next_id, or_else}
+use Rattle.service_events.specs.Fits.{IsOrderAbout, TellsRequests, IsAsNow, HasAnswered, HasReply, IsReply, made_as, asked_as, answer_given, takes_request, request_found, Fits}
+use Rattle.service_events.specs.Orders.{entry_of, unless_outside, unless_replaced, misnamed, is_too_much, refused, order_decision, order_rule, unless_allowed, about, request_of, order_rows, released_post, carried_out, order_by, order_where, first_unquiet, place_made, to_fold, unless_past, unless_present, unless_quiet}
+use Rattle.service_events.specs.State.{Kept, after, next_id, or_else, base, folded, unfolded, where_needed}
 use Rattle.service_events.specs.declared.answers.Ordered.{Ordered}
 use Rattle.service_events.specs.declared.refusals.OrderRefused.{OrderRefused}
 use Rattle.service_events.proofs.CallerLaws.{all_same}
@@ -39,10 +39,46 @@ use Rattle.service_events.proofs.EntryLemmas.{made_from, found_itself, still_cal
 use Rattle.service_events.proofs.FreshLemmas.{unmade, unfound, unanswered, unstruck, asks_as_made, unreplied, is_new, still_found}
 use Rattle.service_events.proofs.HoldLaw.{replies_changed}
 use Rattle.service_events.proofs.LiveEntryLaws.{LeavesLogged}
-use Rattle.service_events.proofs.LogLemmas.{IsWith, with_insert, with_changed}
+use Rattle.service_events.proofs.LogLemmas.{IsWith, with_insert, with_changed, with_same}
 use Rattle.service_events.proofs.PartLemmas.{IsLogged, logged_none, logged_one, request_same}
 use Rattle.service_events.proofs.EntryRowLemmas.{IsAboutEntry}
 use Rattle.service_events.proofs.SearchLemmas.{neither, found_all, length_insert, if_some, or_none}
+use Rattle.service_events.proofs.FoldLaw.{fold_logged}
+use Rattle.service_events.proofs.HorizonLemmas.{found_past}
+
+-- ---- what an order finds that isn't refused
+
+-- it is well named, and what it folds is quiet
+abbrev pub IsNamed : Kept → Command → Type 0
+IsNamed s command = (misnamed s command ≡ None) × (unless_quiet s command ≡ None)
+
+pub well_named : (s : Kept) (command : Command) (who : List ℕ) → refused s command who ≡ None → IsNamed s command
+well_named s command who none =
+    let named = or_else (misnamed s command) (unless_quiet s command) in
+    let full = option_map (λ n. OrderRefused.Full n) (is_too_much s command) in
+    neither (misnamed s command) (unless_quiet s command) (neither named full (neither (or_else named full) (unless_allowed (order_decision s command who)) none).0).0
+
+none_past : (id : ℕ) (o : Option Entry) → where_needed (is_some o) (Some (OrderRefused.TooOld id)) ≡ None → o ≡ None
+none_past id None h = refl
+none_past id (Some e) h = cc
+
+-- what it is about isn't folded
+pub present_is : (s : Kept) (id : ℕ) (o : Option Entry) → unless_present id s o ≡ None → find (has_id id) (folded s) ≡ None
+present_is s id None none = cc
+present_is s id (Some e) none = none_past id (find (has_id id) (folded s)) none
+
+pub present_too : (s : Kept) (id : ℕ) (o : Option Entry) → unless_replaced id s o ≡ None → find (has_id id) (folded s) ≡ None
+present_too s id None none = cc
+present_too s id (Some e) none = none_past id (find (has_id id) (folded s)) (neither (unless_past id s) (unless_outside id e.origin) none).0
+
+-- the entry up to which a fold goes stands behind the horizon
+pub to_fold_is : (s : Kept) (id : ℕ) (o : Option Entry) → entry_of id s ≡ o → unless_present id s o ≡ None → (e : Entry) × (find (has_id id) (unfolded s) ≡ Some e)
+to_fold_is s id None is none = cc
+to_fold_is s id (Some e) is none = (e, sym (found_past s (has_id id) (present_is s id (Some e) none)) ∙ is)
+
+pub quiet_by : (o : Option ℕ) → option_map (λ unquiet. OrderRefused.NotQuiet unquiet) o ≡ None → o ≡ None
+quiet_by None h = refl
+quiet_by (Some id) h = cc
 
 -- ---- an order about an entry, which changes what is asked of it or strikes it
 
@@ -220,17 +256,17 @@ module _ (s : Kept) (h : IsLogged s.journal s.entries s.replies) where
 
   -- ---- the event
 
-  there_is : (id : ℕ) (o : Option Entry) (rest : Option OrderRefused) → or_else (unless_there id o) rest ≡ None → (e : Entry) × (o ≡ Some e)
-  there_is id None rest h = cc
-  there_is id (Some e) rest h = (e, refl)
+  there_is : (id : ℕ) (o : Option Entry) → unless_present id s o ≡ None → (e : Entry) × (o ≡ Some e)
+  there_is id None none = cc
+  there_is id (Some e) none = (e, refl)
 
-  outside_is : (id : ℕ) (o : Origin) → (rest : Option OrderRefused) → or_else (unless_outside id o) rest ≡ None → o ≡ Outside
-  outside_is id Outside rest h = refl
-  outside_is id (Call c n) rest h = cc
+  outside_is : (id : ℕ) (o : Origin) → unless_outside id o ≡ None → o ≡ Outside
+  outside_is id Outside none = refl
+  outside_is id (Call c n) none = cc
 
-  replaced_is : (id : ℕ) (o : Option Entry) (rest : Option OrderRefused) → or_else (unless_replaced id o) rest ≡ None → (e : Entry) × (o ≡ Some e) × (e.origin ≡ Outside)
-  replaced_is id None rest h = cc
-  replaced_is id (Some e) rest h = (e, refl, outside_is id e.origin rest h)
+  replaced_is : (id : ℕ) (o : Option Entry) → unless_replaced id s o ≡ None → (e : Entry) × (o ≡ Some e) × (e.origin ≡ Outside)
+  replaced_is id None none = cc
+  replaced_is id (Some e) none = (e, refl, outside_is id e.origin (neither (unless_past id s) (unless_outside id e.origin) none).1)
 
   was_made : (id : ℕ) (e : Entry) → find (has_id id) s.entries ≡ Some e → Some (made_as e) ≡ option_map asked_as (asked id s.journal)
   was_made id e found = sym (ap (option_map made_as) found) ∙ h.asked.entries id
@@ -268,43 +304,44 @@ module _ (s : Kept) (h : IsLogged s.journal s.entries s.replies) where
           let one : made_as e ≡ asked_as a = cc in
           ap Some (asks ∙ ap (λ from. request_now id from a.request s.journal) (ap (λ (x : Origin × Inputs). x.0) one))
 
-  ordered_logged_by : (command : Command) (token who : List ℕ) (i : Inputs) (full : Option OrderRefused) → or_else (misnamed s command) full ≡ None
+  ordered_logged_by : Fits s → (command : Command) (token who : List ℕ) (i : Inputs) → IsNamed s command
       → IsLogged (s.journal ++ order_rows s command token who i) (carried_out s command who i).entries (carried_out s command who i).replies
-  ordered_logged_by (Cancel id) token who i full ok =
-      (let at = there_is id (entry_of id s) full ok in
+  ordered_logged_by f (Cancel id) token who i ok =
+      (let at = there_is id (entry_of id s) ok.0 in
       ordered_one s.journal s.entries s.replies h
       (record { token = token; command = Cancel id; who = who; rule = order_rule s (Cancel id) who; original = request_of id s; repaired = None; about = AboutRequest id }) id refl at.0 at.1
       (mark true at.0) refl (λ before same. same) refl (is_there id at.0 at.1) (found_as_told id, refl) (changed id (mark true) s.entries)
       (with_changed s.entries id (mark true) at.0 at.1 refl refl h.asked.distinct) (length-map s.entries (λ e. cond (has_id id e) (mark true e) e)))
-  ordered_logged_by (Restore id) token who i full ok =
-      (let at = there_is id (entry_of id s) full ok in
+  ordered_logged_by f (Restore id) token who i ok =
+      (let at = there_is id (entry_of id s) ok.0 in
       ordered_one s.journal s.entries s.replies h
       (record { token = token; command = Restore id; who = who; rule = order_rule s (Restore id) who; original = request_of id s; repaired = None; about = AboutRequest id }) id refl at.0 at.1
       (mark false at.0) refl (λ before same. same) refl (is_there id at.0 at.1) (found_as_told id, refl) (changed id (mark false) s.entries)
       (with_changed s.entries id (mark false) at.0 at.1 refl refl h.asked.distinct) (length-map s.entries (λ e. cond (has_id id e) (mark false e) e)))
-  ordered_logged_by (Replace id m p b) token who i full ok =
-      (let at = replaced_is id (entry_of id s) full ok in
+  ordered_logged_by f (Replace id m p b) token who i ok =
+      (let at = replaced_is id (entry_of id s) ok.0 in
       ordered_one s.journal s.entries s.replies h
       (record { token = token; command = Replace id m p b; who = who; rule = order_rule s (Replace id m p b) who; original = request_of id s; repaired = option_map (with_call m p b) (request_of id s); about = AboutRequest id }) id refl at.0 at.1
       (replace m p b at.0) refl (some_replaced m p b (entry_of id s) at.0 at.1) refl (is_outside id at.0 at.1 at.2) (found_as_told id, refl) (changed id (replace m p b) s.entries)
       (with_changed s.entries id (replace m p b) at.0 at.1 refl refl h.asked.distinct) (length-map s.entries (λ e. cond (has_id id e) (replace m p b e) e)))
-  ordered_logged_by (Create before after q) token who i full ok =
+  ordered_logged_by f (Create before after q) token who i ok =
       ordered_new
-      (record { token = token; command = Create before after q; who = who; rule = order_rule s (Create before after q) who; original = None; repaired = Some q; about = AboutRequest (next_id s) }) q i (place_between before after s.entries) refl tt
+      (record { token = token; command = Create before after q; who = who; rule = order_rule s (Create before after q) who; original = None; repaired = Some q; about = AboutRequest (next_id s) }) q i (place_made s before after) refl tt
       (sym (ap (option_map (λ (a : AskedRow). request_now (next_id s) a.origin a.request s.journal)) (unmade s.journal s.entries s.replies h)), refl) (λ r. refl) refl
-  ordered_logged_by (Retry name) token who i full ok =
+  ordered_logged_by f (Retry name) token who i ok =
       retried (s.journal ++ order_rows s (Retry name) token who i) who name
       (post_ordered (record { token = token; command = Retry name; who = who; rule = order_rule s (Retry name) who; original = None; repaired = None; about = AboutPost name }) name refl (refl, refl))
+  ordered_logged_by f (Fold id) token who i ok =
+      let o : OrderedRow = record { token = token; command = Fold id; who = who; rule = order_rule s (Fold id) who; original = None; repaired = None; about = AboutRequest id } in
+      let at = there_is id (entry_of id s) ok.0 in
+      let behind = to_fold_is s id (entry_of id s) refl ok.0 in
+      fold_logged s f id behind.0 behind.1 (quiet_by (first_unquiet s (base s) (to_fold id s)) ok.1) (s.journal ++ OrderedAs o ∷ [])
+      (ordered_one s.journal s.entries s.replies h o id refl at.0 at.1 at.0 refl (λ before same. same) refl (is_there id at.0 at.1) (refl, refl) s.entries
+      (with_same s.entries id at.0 at.1 h.asked.distinct) refl)
 
-  -- what isn't refused is well named, and there isn't too much
-  well_named : (command : Command) (who : List ℕ) → refused s command who ≡ None
-      → or_else (misnamed s command) (option_map (λ n. OrderRefused.Full n) (is_too_much s command)) ≡ None
-  well_named command who none =
-      (neither (or_else (misnamed s command) (option_map (λ n. OrderRefused.Full n) (is_too_much s command))) (unless_allowed (order_decision s command who)) none).0
-
-  order_by_logged : (command : Command) (token who : List ℕ) (i : Inputs) (o : Option OrderRefused) → refused s command who ≡ o → LeavesLogged (order_by s command token who i o)
-  order_by_logged command token who i (Some why) is = h
-  order_by_logged command token who i None is = journal_by command token who i (ordered_logged_by command token who i (option_map (λ n. OrderRefused.Full n) (is_too_much s command)) (well_named command who is))
+  order_by_logged : Fits s → (command : Command) (token who : List ℕ) (i : Inputs) (o : Option OrderRefused) → refused s command who ≡ o → LeavesLogged (order_by s command token who i o)
+  order_by_logged f command token who i (Some why) is = h
+  order_by_logged f command token who i None is = journal_by command token who i (ordered_logged_by f command token who i (well_named s command who is))
     where
       -- the rows come behind the journal, which nothing else changes
       journal_by : (command : Command) (token who : List ℕ) (i : Inputs)
@@ -320,7 +357,8 @@ module _ (s : Kept) (h : IsLogged s.journal s.entries s.replies) where
           journal_stays (Retry (OfCall n)) who i = refl
           journal_stays (Retry (OfReply n)) who i = refl
           journal_stays (Retry (OfFetch n)) who i = refl
+          journal_stays (Fold id) who i = refl
 
-  pub order_where_logged : (command : Command) (token who : List ℕ) (i : Inputs) (o : Option OrderedRow) → LeavesLogged (order_where s command token who i o)
-  order_where_logged command token who i (Some o) = h
-  order_where_logged command token who i None = order_by_logged command token who i (refused s command who) refl
+  pub order_where_logged : Fits s → (command : Command) (token who : List ℕ) (i : Inputs) (o : Option OrderedRow) → LeavesLogged (order_where s command token who i o)
+  order_where_logged f command token who i (Some o) = h
+  order_where_logged f command token who i None = order_by_logged f command token who i (refused s command who) refl

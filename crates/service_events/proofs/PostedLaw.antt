@@ -49,7 +49,7 @@ module _ (s : Kept) (h : IsLogged s.journal s.entries s.replies) (a : TokenMessa
       (cond (is_news r a.answer_version) (hear_new s a r) (after (noted (confirmed_row a ∷ []) s) (Ok (heard a None)))) LeavesLogged
       (λ _. h)
       (λ _. cond_both (is_news r a.answer_version) (hear_new s a r) (after (noted (confirmed_row a ∷ []) s) (Ok (heard a None))) LeavesLogged
-      (λ _. hear_either s a r LeavesLogged h (callers_logged s.journal (noted_row (hear_rule s a r) a ∷ (confirmed_row a ∷ [])) s.entries s.replies (tt, (tt, tt)) h))
+      (λ _. hear_either s a r LeavesLogged h h (λ _. callers_logged s.journal (noted_row (hear_rule s a r) a ∷ (confirmed_row a ∷ [])) s.entries s.replies (tt, (tt, tt)) h))
       (λ _. callers_logged s.journal (confirmed_row a ∷ []) s.entries s.replies (tt, tt) h))
 
   pub token_taken_where_logged : (o : Option Register) → LeavesLogged (token_taken_where s a o)

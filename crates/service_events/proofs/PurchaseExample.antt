@@ -56,7 +56,7 @@ allow_any = record { verb = Allow; kind = AnyKind; from = AnySender; who = AnyUs
 
 module _ (setting : Setting) (buy pay : Request) (i : Inputs) (read : List Read) (written : List Write) (token ann : List ℕ) where
   abbrev pub start : Kept
-  start = record { setting = setting; rules = allow_any ∷ []; entries = []; flights = []; journal = []; registers = []; replies = [] }
+  start = record { setting = setting; rules = allow_any ∷ []; entries = []; horizon = 0; base = []; flights = []; journal = []; registers = []; replies = [] }
 
   abbrev pub call : CallMade
   call = record { dest = bank_name; request = pay }

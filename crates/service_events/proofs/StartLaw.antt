@@ -1,5 +1,5 @@
 -- A service without rows fits its journal, whatever its rules are, and each repair in it was allowed, as there is none.
-use Rattle.std.proofs.Common.{◌≡◌, true, false, ℕ, ◌<◌, List, refl, arith}
+use Rattle.std.proofs.Common.{◌≡◌, true, false, ℕ, ◌<◌, List, refl, arith, []}
 use Rattle.lang_core.specs.declared.setting.Setting.{Setting}
 use Rattle.authorise_rules.specs.declared.rule.Rule.{Rule}
 use Rattle.service_events.specs.State.{fresh}
@@ -32,6 +32,7 @@ fits_start setting rules =
       places = record { calls = λ k d h. absurd (below_none k h); once = λ n. refl };
       flights = record { numbered = λ k d h. absurd (below_none k h); others = λ i j d h w. absurd (below_none j w); untaken = λ k d h. absurd (below_none k h) };
       orders = tt;
+      horizon = record { within = omega arith; last = refl; each = λ k d h. absurd (below_none k h); replayed = record { traces = []; replay = refl } };
     }
 
 pub allowed_start : (setting : Setting) (rules : List Rule) → IsAllowed (fresh setting rules)

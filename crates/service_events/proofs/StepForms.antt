@@ -17,11 +17,12 @@ use Rattle.local_repair.specs.Tests.{is_current, first_stale, step_with}
 use Rattle.local_repair.specs.declared.stepped.Stepped.{Stepped}
 use Rattle.local_repair.specs.declared.stepped.Stepped.TheVariants.{Idle, Ran as RanAgain}
 use Rattle.local_repair.proofs.HandlerLemmas.{handler}
-use Rattle.service_events.specs.State.{Kept, answers, base}
+use Rattle.service_events.specs.State.{Kept, answers, base, folded, unfolded}
 use Rattle.service_events.specs.Steps.{ended_or, rerun, new_trace, new_record, new_numbers, Stale, stale_in, step_by, step_event}
 use Rattle.service_events.proofs.LogLemmas.{front_id, with_entry_is}
 use Rattle.service_events.proofs.SearchLemmas.{some_none, place_is, set_mid}
-use Rattle.service_events.proofs.StepLaw.{steps_at, stands_found}
+use Rattle.service_events.proofs.StepLaw.{apart_behind, is_taken}
+use Rattle.service_events.proofs.HorizonLemmas.{all_entries, with_stays, with_unfolded}
 
 -- ---- the trace of a re-execution
 
@@ -63,8 +64,8 @@ named_by None p is = ap (option_map (λ (e : Entry). e.id)) is
 named_by (Some x) p is = ap (option_map (λ (e : Entry). e.id)) is
 
 -- its number is the one that local repair tells
-pub stale_id_is : (s : Kept) → option_map (λ (x : Stale). (x.entry).id) (stale_in (answers s) (base s) s.entries) ≡ stale_id (answers s) (base s) s.entries
-stale_id_is s = named_by (stale_in (answers s) (base s) s.entries) (first_stale (answers s) (base s) s.entries) (stale_is (answers s) (base s) s.entries)
+pub stale_id_is : (s : Kept) → option_map (λ (x : Stale). (x.entry).id) (stale_in (answers s) (base s) (unfolded s)) ≡ stale_id (answers s) (base s) (unfolded s)
+stale_id_is s = named_by (stale_in (answers s) (base s) (unfolded s)) (first_stale (answers s) (base s) (unfolded s)) (stale_is (answers s) (base s) (unfolded s))
 
 -- what a step answers names it
 abbrev pub Names : Option ℕ → Stepped → Type 0
@@ -75,8 +76,8 @@ names_by : (s : Kept) (o : Option Stale) → Names (option_map (λ (x : Stale). 
 names_by s None = refl
 names_by s (Some x) = (_, refl)
 
-pub step_names : (s : Kept) → Names (stale_id (answers s) (base s) s.entries) (step_event s).answer
-step_names s = subst (λ o. Names o (step_event s).answer) (stale_id_is s) (names_by s (stale_in (answers s) (base s) s.entries))
+pub step_names : (s : Kept) → Names (stale_id (answers s) (base s) (unfolded s)) (step_event s).answer
+step_names s = subst (λ o. Names o (step_event s).answer) (stale_id_is s) (names_by s (stale_in (answers s) (base s) (unfolded s)))
 
 -- ---- what it makes of the log
 
@@ -97,30 +98,42 @@ entry_put log before rest e y is id apart =
     let front : find (has_id y.id) before ≡ None = subst (λ k. find (has_id k) before ≡ None) (sym id) (front_id before e rest whole) in
     ap (with_entry y) is ∙ ap (λ k. set (before ++ e ∷ rest) k y) (place_is (has_id y.id) before e rest front (eq-eqb e.id y.id (sym id))) ∙ set_mid before e y rest
 
-entries_by : (s : Kept) (o : Option Stale) → stale_in (answers s) (base s) s.entries ≡ o → IsDistinct s.entries → (step_by s o).service.entries ≡ step_with (answers s) (run_again s) (base s) s.entries
-entries_by s None is apart = sym (none_steps (answers s) (run_again s) [] s.entries is)
-entries_by s (Some x) is apart =
-    let at = steps_at (answers s) [] s.entries x is in
-    entry_put s.entries at.before at.rest x.entry (run_again s x.rows x.entry) at.is refl apart ∙ sym (at.step (run_again s))
+unfolded_by : (s : Kept) (o : Option Stale) → stale_in (answers s) (base s) (unfolded s) ≡ o → IsDistinct s.entries
+    → unfolded (step_by s o).service ≡ step_with (answers s) (run_again s) (base s) (unfolded s)
+unfolded_by s None is apart = sym (none_steps (answers s) (run_again s) (base s) (unfolded s) is)
+unfolded_by s (Some x) is apart =
+    let t = is_taken s x is apart in
+    with_unfolded s (run_again s x.rows x.entry) t.past
+    ∙ entry_put (unfolded s) t.at.before t.at.rest x.entry (run_again s x.rows x.entry) t.at.is refl (apart_behind s apart) ∙ sym (t.at.step (run_again s))
 
--- the log is what local repair's step makes of it
-pub step_entries : (s : Kept) → IsDistinct s.entries → (step_event s).service.entries ≡ step_with (answers s) (run_again s) (base s) s.entries
-step_entries s apart = entries_by s (stale_in (answers s) (base s) s.entries) refl apart
+folded_by : (s : Kept) (o : Option Stale) → stale_in (answers s) (base s) (unfolded s) ≡ o → IsDistinct s.entries → folded (step_by s o).service ≡ folded s
+folded_by s None is apart = refl
+folded_by s (Some x) is apart = with_stays s (run_again s x.rows x.entry) (is_taken s x is apart).past
+
+-- the entries that aren't folded are what local repair's step makes of them, and the folded ones stay
+pub step_unfolded : (s : Kept) → IsDistinct s.entries → unfolded (step_event s).service ≡ step_with (answers s) (run_again s) (base s) (unfolded s)
+step_unfolded s apart = unfolded_by s (stale_in (answers s) (base s) (unfolded s)) refl apart
+
+pub step_folded : (s : Kept) → IsDistinct s.entries → folded (step_event s).service ≡ folded s
+step_folded s apart = folded_by s (stale_in (answers s) (base s) (unfolded s)) refl apart
+
+pub step_entries : (s : Kept) → IsDistinct s.entries → (step_event s).service.entries ≡ folded s ++ step_with (answers s) (run_again s) (base s) (unfolded s)
+step_entries s apart = sym (all_entries (step_event s).service) ∙ (λ i. step_folded s apart i ++ step_unfolded s apart i)
 
 -- ---- every other entry stays as it was
 
-others_by : (s : Kept) (o : Option Stale) → stale_in (answers s) (base s) s.entries ≡ o → IsDistinct s.entries → (id : ℕ) → (option_map (λ (x : Stale). (x.entry).id) o ≡ Some id → ⊥)
+others_by : (s : Kept) (o : Option Stale) → stale_in (answers s) (base s) (unfolded s) ≡ o → IsDistinct s.entries → (id : ℕ) → (option_map (λ (x : Stale). (x.entry).id) o ≡ Some id → ⊥)
     → find (has_id id) (step_by s o).service.entries ≡ find (has_id id) s.entries
 others_by s None is apart id other = refl
 others_by s (Some x) is apart id other =
     let e = x.entry in
     let y = run_again s x.rows e in
-    let found = stands_found (answers s) s.entries x (steps_at (answers s) [] s.entries x is) apart in
+    let found = (is_taken s x is apart).found in
     let w = with_entry_is s.entries y e found refl apart in
     let not_it : nat_eq e.id id ≡ false = ne_eqb e.id id (λ same. other (ap Some same)) in
     w.found id ∙ cond-false (nat_eq e.id id) (Some y) (find (has_id id) s.entries) not_it
 
-pub step_leaves_others : (s : Kept) → IsDistinct s.entries → (id : ℕ) → (stale_id (answers s) (base s) s.entries ≡ Some id → ⊥)
+pub step_leaves_others : (s : Kept) → IsDistinct s.entries → (id : ℕ) → (stale_id (answers s) (base s) (unfolded s) ≡ Some id → ⊥)
     → find (has_id id) (step_event s).service.entries ≡ find (has_id id) s.entries
 step_leaves_others s apart id other =
-    others_by s (stale_in (answers s) (base s) s.entries) refl apart id (λ same. other (sym (stale_id_is s) ∙ same))
+    others_by s (stale_in (answers s) (base s) (unfolded s)) refl apart id (λ same. other (sym (stale_id_is s) ∙ same))

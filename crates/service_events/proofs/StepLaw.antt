@@ -29,7 +29,7 @@ use Rattle.call_registers.specs.declared.register.Register.{Register}
 use Rattle.call_registers.specs.declared.reply.Reply.{Reply}
 use Rattle.service_events.specs.Calls.{replaced, deleted, named, slot_rows, next_after, settling_rows}
 use Rattle.service_events.specs.Fits.{IsAsNow, HasAnswered, HasReply, IsReply, made_as, asked_as, answer_recorded, answer_given}
-use Rattle.service_events.specs.State.{Kept, answers, base}
+use Rattle.service_events.specs.State.{Kept, answers, base, folded, unfolded}
 use Rattle.service_events.specs.Steps.{new_record, new_numbers, sent_rows, answer_rows, answered_replies, stepped, Stale, stale_in, step_by}
 use Rattle.service_events.proofs.CallerLaws.{IsCallerRow, each_append, callers_logged}
 use Rattle.service_events.proofs.CommitLaw.{answered_here, deleted_callers}
@@ -41,6 +41,8 @@ use Rattle.service_events.proofs.LogLemmas.{front_id, IsWith, with_entry_is}
 use Rattle.service_events.proofs.PartLemmas.{IsLogged, MayCome, logged_one, as_now_same}
 use Rattle.service_events.proofs.ReplyLemmas.{change_own, change_other, rising_change, all_change}
 use Rattle.service_events.proofs.SearchLemmas.{found_all, found_behind}
+use Rattle.request_log.proofs.FoldedLemmas.{distinct-behind}
+use Rattle.service_events.proofs.HorizonLemmas.{all_entries, found_past, number_past}
 
 -- ---- settling's rows are rows on own calls
 
@@ -248,10 +250,28 @@ steps_at consumed rows (y ∷ ys) x e = elim (cases_Bool (is_current consumed ro
       record { before = []; rest = ys; is = ap (λ (z : Stale). z.entry ∷ ys) same; step = λ remake. rw stale (ap (λ (z : Stale). remake z.rows z.entry ∷ ys) same) })
 ]
 
-pub stands_found : (consumed : Consumed) (log : List Entry) (x : Stale) → StepsAt consumed [] log x → IsDistinct log → find (has_id (x.entry).id) log ≡ Some x.entry
-stands_found consumed log x s apart =
+stands_found : (consumed : Consumed) (rows : List Cell) (log : List Entry) (x : Stale) → StepsAt consumed rows log x → IsDistinct log → find (has_id (x.entry).id) log ≡ Some x.entry
+stands_found consumed rows log x s apart =
     subst (λ l. find (has_id (x.entry).id) l ≡ Some x.entry) (sym s.is)
     (found_behind (has_id (x.entry).id) s.before x.entry s.rest (front_id s.before x.entry s.rest (subst IsDistinct s.is apart)) (eq-eqb (x.entry).id (x.entry).id refl))
+
+-- the entry that a step of a service takes: it is found by its number, behind the folded ones
+pub record IsTaken (s : Kept) (x : Stale) : Type 0 where
+  pub at : StepsAt (answers s) (base s) (unfolded s) x
+  pub behind : find (has_id (x.entry).id) (unfolded s) ≡ Some x.entry
+  pub past : find (has_id (x.entry).id) (folded s) ≡ None
+  pub found : find (has_id (x.entry).id) s.entries ≡ Some x.entry
+
+pub apart_behind : (s : Kept) → IsDistinct s.entries → IsDistinct (unfolded s)
+apart_behind s apart = (let D : List Entry → Type 0 = λ l. IsDistinct l in distinct-behind (folded s) (unfolded s) (subst D (sym (all_entries s)) apart))
+
+pub is_taken : (s : Kept) (x : Stale) → stale_in (answers s) (base s) (unfolded s) ≡ Some x → IsDistinct s.entries → IsTaken s x
+is_taken s x is apart =
+    let p : Entry → Bool = has_id (x.entry).id in
+    let at = steps_at (answers s) (base s) (unfolded s) x is in
+    let behind = stands_found (answers s) (base s) (unfolded s) x at (apart_behind s apart) in
+    let past = number_past s p x.entry apart behind in
+    record { at = at; behind = behind; past = past; found = found_past s p past ∙ behind }
 
 -- a journal has fewer rows than a number of 64 bits counts
 abbrev pub IsFew : Kept → Type 0
@@ -293,7 +313,7 @@ module _ (s : Kept) (h : IsLogged s.journal s.entries s.replies) where
       subst (λ j. IsLogged j (with_entry (remade e m (new_numbers s e m)) s.entries) (answered_replies s e m)) (append_assoc s.journal sent (answer_rows e m))
       (either e m (is_new_answer e.made m) refl before (λ is. small e m is most few) found version)
 
-  pub step_by_logged : (o : Option Stale) → stale_in (answers s) (base s) s.entries ≡ o → IsFew (step_by s o).service → LeavesLogged (step_by s o)
+  pub step_by_logged : (o : Option Stale) → stale_in (answers s) (base s) (unfolded s) ≡ o → IsFew (step_by s o).service → LeavesLogged (step_by s o)
   step_by_logged None is few = h
   step_by_logged (Some x) is few =
-      stepped_logged x.entry (new_record s x.rows x.entry) (stands_found (answers s) s.entries x (steps_at (answers s) [] s.entries x is) h.asked.distinct) refl few
+      stepped_logged x.entry (new_record s x.rows x.entry) (is_taken s x is h.asked.distinct).found refl few

@@ -1,5 +1,5 @@
 -- A repair step keeps what fits of calls.
-use Rattle.std.proofs.Common.{◌≡◌, Bool, true, false, List, [], ◌∷◌, ◌++◌, Option, Some, None, map, refl, sym, ap, ◌∙◌, subst, inl, inr, arith, length-append, if◌then◌else◌, ℕ, ◌≤◌, length}
+use Rattle.std.proofs.Common.{◌≡◌, Bool, true, false, List, [], ◌∷◌, ◌++◌, Option, Some, None, map, refl, sym, ap, ◌∙◌, subst, inl, inr, arith, length-append, if◌then◌else◌, ℕ, ◌≤◌, length, append_assoc}
 use Rattle.std.proofs.lemmas.Bool.{cases_Bool}
 use Rattle.lang_core.specs.declared.cells.Cell.{Cell}
 use Rattle.request_log.specs.Entries.{IsDistinct, with_entry}
@@ -11,7 +11,7 @@ use Rattle.local_repair.specs.Tests.{is_current}
 use Rattle.journal_rows.specs.declared.row.Row.{Row}
 use Rattle.journal_rows.specs.declared.row.Row.TheVariants.{Answered}
 use Rattle.call_registers.specs.Registers.{next_number, consumed_in, IsTimely}
-use Rattle.service_events.specs.State.{Kept, answers, base}
+use Rattle.service_events.specs.State.{Kept, answers, base, folded, unfolded}
 use Rattle.service_events.specs.Steps.{new_record, new_numbers, sent_rows, answer_rows, answered_replies, stepped, Stale, stale_in, step_by}
 use Rattle.service_events.specs.Fits.{FitsPlaces, calls_of_entry, calls_of_flight, count}
 use Rattle.service_events.proofs.CallRowLemmas.{Each, each_append, each_weaker, IsSending, IsUnseen, IsUntaken, IsUnordered, IsPlain, sending_unseen, sending_untaken, sending_unordered}
@@ -21,6 +21,7 @@ use Rattle.service_events.proofs.FlightLemmas.{flies_from, flies_fit, flies_rows
 use Rattle.service_events.proofs.KindLemmas.{sends_settled}
 use Rattle.service_events.proofs.CallLaws.{Goes, goes_same, book, noted_calls, FitsCalls, IsFew}
 use Rattle.service_events.proofs.EntryPlaces.{Stands, with_entry_at, others, entry_to_head, entry_from_head}
+use Rattle.service_events.proofs.HorizonLemmas.{all_entries}
 
 -- the first stale entry is one of the entries
 stale_stands : (consumed : Consumed) (rows : List Cell) (es : List Entry) (x : Stale) → stale_in consumed rows es ≡ Some x → Stands es x.entry
@@ -34,6 +35,14 @@ stale_stands consumed rows (e ∷ es) x h = elim (cases_Bool (is_current consume
   where
     stale_is : (a b : Stale) → Some a ≡ Some b → a ≡ b
     stale_is a b e = cc
+
+-- what stands among those that aren't folded stands among all
+stands_in : (s : Kept) (e : Entry) → Stands (unfolded s) e → Stands s.entries e
+stands_in s e st = record {
+  before = folded s ++ st.before;
+  rest = st.rest;
+  is = sym (all_entries s) ∙ ap (λ l. folded s ++ l) st.is ∙ sym (append_assoc (folded s) st.before (e ∷ st.rest));
+}
 
 answer_plain : (e : Entry) (m : Made) (b : Bool) → Each IsPlain (if b then Answered (record { id = e.id; origin = e.origin; answer_version = raised e.answer_version; version = e.version; response = m.trace.response; live = false }) ∷ [] else [])
 answer_plain e m true = (tt, tt)
@@ -88,10 +97,10 @@ goes_stepped s e m st distinct =
           (flies_from s.journal s.flights h.flights))));
     }
 
-pub step_by_goes : (s : Kept) (x : Option Stale) → stale_in (answers s) (base s) s.entries ≡ x → IsDistinct s.entries → Goes s (step_by s x).service
+pub step_by_goes : (s : Kept) (x : Option Stale) → stale_in (answers s) (base s) (unfolded s) ≡ x → IsDistinct s.entries → Goes s (step_by s x).service
 step_by_goes s None is distinct = goes_same s
 step_by_goes s (Some x) is distinct =
-    goes_stepped s x.entry (new_record s x.rows x.entry) (stale_stands (answers s) [] s.entries x is) distinct
+    goes_stepped s x.entry (new_record s x.rows x.entry) (stands_in s x.entry (stale_stands (answers s) (base s) (unfolded s) x is)) distinct
 
 -- ---- what calls consume after a step
 

@@ -331,4 +331,4 @@ module _ (s : Kept) (h : IsLogged s.journal s.entries s.replies) (set : SetMessa
   take_admitted_logged i None =
       cond_both (is_known s set) (after (acked_again s set) (Ok (taken set None))) (take_new s set i) LeavesLogged
       (λ known. again_by known (find_call (Call set.caller set.number) s.entries) refl)
-      (λ new. take_either s set i LeavesLogged h (taken_by_logged new i (find_call (Call set.caller set.number) s.entries) set.desired refl refl))
+      (λ new. take_either s set i LeavesLogged (λ e. h) h (λ _. taken_by_logged new i (find_call (Call set.caller set.number) s.entries) set.desired refl refl))
