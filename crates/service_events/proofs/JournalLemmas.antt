@@ -13,7 +13,7 @@ use Rattle.journal_rows.specs.declared.callee.TookRow.{TookRow}
 use Rattle.journal_rows.specs.declared.orders.About.{About}
 use Rattle.journal_rows.specs.declared.orders.About.TheVariants.{Request as OfRequest, Post as OfPost}
 use Rattle.journal_rows.specs.declared.orders.Command.{Command}
-use Rattle.journal_rows.specs.declared.orders.Command.TheVariants.{Cancel, Restore, Replace, Create, Retry}
+use Rattle.journal_rows.specs.declared.orders.Command.TheVariants.{Cancel, Restore, Replace, Create, Retry, Fold}
 use Rattle.journal_rows.specs.declared.orders.OrderedRow.{OrderedRow}
 use Rattle.journal_rows.specs.declared.row.Row.{Row}
 use Rattle.journal_rows.specs.declared.row.Row.TheVariants.{Asked, Took, Answered, Ordered}
@@ -96,6 +96,7 @@ order_struck b (Restore id) o h e = absurd (some_none o h e)
 order_struck b (Replace id m p q) o h e = refl
 order_struck b (Create x y q) o h e = refl
 order_struck b (Retry name) o h e = refl
+order_struck b (Fold id) o h e = refl
 
 order_request : (q : Request) (row : OrderedRow) (command : Command) (o : Option AskedRow) → IsOrderOn command o → o ≡ None → replaced_by q row command ≡ q
 order_request q row (Cancel id) o h e = refl
@@ -103,6 +104,7 @@ order_request q row (Restore id) o h e = refl
 order_request q row (Replace id m p b) o h e = absurd (and_none o (λ a. a.origin ≡ Outside) h e)
 order_request q row (Create x y r) o h e = refl
 order_request q row (Retry name) o h e = refl
+order_request q row (Fold id) o h e = refl
 
 struck_about : (id : ℕ) (b : Bool) (command : Command) (about : About) (before : List Row) → IsOrderAbout about command before → asked id before ≡ None
     → cond (is_about id about) (struck_by b command) b ≡ b

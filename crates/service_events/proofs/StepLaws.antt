@@ -37,7 +37,7 @@ stale_stands consumed rows (e ∷ es) x h = elim (cases_Bool (is_current consume
     stale_is a b e = cc
 
 -- what stands among those that aren't folded stands among all
-stands_in : (s : Kept) (e : Entry) → Stands (unfolded s) e → Stands s.entries e
+pub stands_in : (s : Kept) (e : Entry) → Stands (unfolded s) e → Stands s.entries e
 stands_in s e st = record {
   before = folded s ++ st.before;
   rest = st.rest;

@@ -1,5 +1,5 @@
 -- Each event keeps that each repair in the journal was allowed by the service's rules, as things stood before it.
-use Rattle.std.proofs.Common.{◌≡◌, ℕ, suc, zero, Bool, true, false, not, List, [], ◌∷◌, ◌++◌, Option, Some, None, IsSomeAnd, Result, Ok, Err, drop, length, nat_eq, nat_le, option_map, slice_get, refl, sym, ap, ◌∙◌, subst, if◌then◌else◌}
+use Rattle.std.proofs.Common.{◌≡◌, ℕ, suc, zero, Bool, true, false, not, List, [], ◌∷◌, ◌++◌, Option, Some, None, IsSomeAnd, Result, Ok, Err, drop, length, nat_eq, nat_le, option_map, slice_get, refl, sym, ap, ◌∙◌, subst, if◌then◌else◌, cond}
 use Rattle.std.proofs.lemmas.Bool.{cond_both}
 use Rattle.lang_base.specs.Texts.{same_text}
 use Rattle.lang_core.specs.Traces.{dead_trace}
@@ -32,7 +32,7 @@ use Rattle.journal_rows.specs.declared.callee.TookRow.{TookRow}
 use Rattle.journal_rows.specs.declared.caller.NotedRow.{NotedRow}
 use Rattle.journal_rows.specs.declared.caller.SentRow.{SentRow}
 use Rattle.journal_rows.specs.declared.orders.Command.{Command}
-use Rattle.journal_rows.specs.declared.orders.Command.TheVariants.{Cancel, Restore, Replace, Create, Retry}
+use Rattle.journal_rows.specs.declared.orders.Command.TheVariants.{Cancel, Restore, Replace, Create, Retry, Fold}
 use Rattle.journal_rows.specs.declared.orders.OrderedRow.{OrderedRow}
 use Rattle.journal_rows.specs.declared.row.Row.{Row}
 use Rattle.journal_rows.specs.declared.row.Row.TheVariants.{Asked, Answered, Sent}
@@ -50,10 +50,10 @@ use Rattle.service_events.specs.Calls.{all_deleted, named, noted}
 use Rattle.service_events.specs.Event.{event}
 use Rattle.service_events.specs.Fits.{EachAfter, Fits, sent_by}
 use Rattle.service_events.specs.Flying.{awaited, before_answer, call_or_none, change_rows, changed, changed_unsent, committed, completed, completing, flight_run, goes_on, live_answer, moved, named_unsent, surplus_rows, took_rows, waits, wanted_of, with_change, with_slot}
-use Rattle.service_events.specs.Messages.{acked_again, acked_row, token_taken_where, fetched_row, fetched, confirmed_row, hear_decision, hear_denied, hear_allowed, hear_new, hear_rule, heard, held_back, held_where, hold_of, is_known, is_now, is_too_much, origin_of, posted, saw_ack_row, noted_row, take_admitted, take_allowed, take_decision, take_denied, take_new, take_rule, taken, taken_by, took_row, was_confirmed_row}
-use Rattle.service_events.specs.Orders.{asked_rows, carried_out, is_too_much as is_too_much_for, misnamed, order_by, order_decision, order_rows, order_rule, order_where, refused, request_put, subject, unless_allowed}
+use Rattle.service_events.specs.Messages.{acked_again, acked_row, token_taken_where, fetched_row, fetched, confirmed_row, hear_decision, hear_denied, hear_allowed, hear_new, hear_rule, heard, held_back, held_where, hold_of, is_known, is_now, is_too_much, origin_of, posted, saw_ack_row, noted_row, take_admitted, take_allowed, take_decision, take_denied, take_new, take_rule, taken, taken_by, took_row, was_confirmed_row, is_past_call, take_unless_past}
+use Rattle.service_events.specs.Orders.{asked_rows, carried_out, is_too_much as is_too_much_for, misnamed, order_by, order_decision, order_rows, order_rule, order_where, refused, request_put, subject, unless_allowed, unless_quiet}
 use Rattle.service_events.specs.Questions.{answer_question, command_question, is_denied, rule_of, version_question}
-use Rattle.service_events.specs.State.{Kept, After, after, answers, base, flight_of, fresh, is_crowded, is_heavy, next_id, or_else}
+use Rattle.service_events.specs.State.{Kept, After, after, answers, base, flight_of, fresh, is_crowded, is_heavy, next_id, or_else, unfolded, folded}
 use Rattle.service_events.specs.Steps.{answer_rows, new_record, sent_rows, Stale, stale_in, step_by}
 use Rattle.service_events.specs.declared.answers.Arrived.{Arrived}
 use Rattle.service_events.specs.declared.event.Event.{Event}
@@ -61,7 +61,7 @@ use Rattle.service_events.specs.declared.event.Event.TheVariants as events
 use Rattle.service_events.specs.declared.answers.PostReply.{PostReply}
 use Rattle.service_events.specs.declared.answers.PostReply.TheVariants.{Acked as WasAcked, Confirmed as WasConfirmedBack, Given, Refused, Lost}
 use Rattle.service_events.specs.declared.answers.Posted.TheVariants.{Saw, Knew, Held, Left}
-use Rattle.service_events.specs.declared.refusals.AnswerRefused.TheVariants.{Unknown}
+use Rattle.service_events.specs.declared.refusals.AnswerRefused.TheVariants.{Unknown, TooOld}
 use Rattle.service_events.specs.declared.refusals.ArriveRefused.{ArriveRefused}
 use Rattle.service_events.specs.declared.refusals.CallRefused.TheVariants.{NoFlight}
 use Rattle.service_events.specs.declared.refusals.OrderRefused.{OrderRefused}
@@ -288,9 +288,13 @@ module _ (s : Kept) (f : Fits s) (set : SetMessage) where
       stays_by s (taken_by s set i None None) (took_row s set ∷ (acked_row set ∷ [])) refl refl (take_question allowed, (tt, tt)) h
 
   new_stays : (i : Inputs) → IsAllowed s → IsAllowed (take_new s set i).service
-  new_stays i h =
-      cond_both (is_denied (take_decision s set)) (take_denied s set) (take_allowed s set i) (λ a. IsAllowed a.service) (λ _. h)
-      (λ allowed. taken_stays i (find_call (origin_of set) s.entries) set.desired allowed h)
+  new_stays i h = by (find_call (origin_of set) (folded s))
+    where
+      by : (o : Option Entry) → IsAllowed (take_unless_past s set i o).service
+      by (Some e) = h
+      by None =
+          cond_both (is_denied (take_decision s set)) (take_denied s set) (take_allowed s set i) (λ a. IsAllowed a.service) (λ _. h)
+          (λ allowed. taken_stays i (find_call (origin_of set) s.entries) set.desired allowed h)
 
   version_taken_stays : (i : Inputs) (n : Option ℕ) → IsAllowed s → IsAllowed (take_admitted s set i n).service
   version_taken_stays i (Some n) h = h
@@ -312,8 +316,9 @@ module _ (s : Kept) (f : Fits s) (a : TokenMessage) (r : Register) (found : regi
   hear_stays : IsAllowed s → IsAllowed (hear_new s a r).service
   hear_stays h =
       let rows = noted_row (hear_rule s a r) a ∷ (confirmed_row a ∷ []) in
-      cond_both (is_denied (hear_decision s a r)) (hear_denied s a r) (hear_allowed s a r) (λ a. IsAllowed a.service) (λ _. h)
-      (λ allowed. stays_by s (noted rows s) rows refl refl (hear_question allowed, (tt, tt)) h)
+      cond_both (is_past_call a.number s) (after s (Err (TooOld a.number))) (cond (is_denied (hear_decision s a r)) (hear_denied s a r) (hear_allowed s a r)) (λ a. IsAllowed a.service) (λ _. h)
+      (λ _. cond_both (is_denied (hear_decision s a r)) (hear_denied s a r) (hear_allowed s a r) (λ a. IsAllowed a.service) (λ _. h)
+      (λ allowed. stays_by s (noted rows s) rows refl refl (hear_question allowed, (tt, tt)) h))
 
   heard_stays : (known new : Bool) → IsAllowed s
       → IsAllowed (if not known then after s (Err (Unknown a.number)) else (if new then hear_new s a r else after (noted (confirmed_row a ∷ []) s) (Ok (heard a None)))).service
@@ -333,6 +338,7 @@ asked_free s (Cancel id) i = tt
 asked_free s (Restore id) i = tt
 asked_free s (Replace id method path body) i = tt
 asked_free s (Retry name) i = tt
+asked_free s (Fold id) i = tt
 
 same_rules : (s : Kept) (command : Command) (who : List ℕ) (i : Inputs) → (carried_out s command who i).rules ≡ s.rules
 same_rules s (Cancel id) who i = refl
@@ -342,6 +348,7 @@ same_rules s (Create before after q) who i = refl
 same_rules s (Retry (OfCall number)) who i = refl
 same_rules s (Retry (OfReply id)) who i = refl
 same_rules s (Retry (OfFetch number)) who i = refl
+same_rules s (Fold id) who i = refl
 
 module _ (s : Kept) (f : Fits s) (command : Command) (token who : List ℕ) (i : Inputs) where
   undenied : (d : Decision) → unless_allowed d ≡ None → is_denied d ≡ false
@@ -354,7 +361,7 @@ module _ (s : Kept) (f : Fits s) (command : Command) (token who : List ℕ) (i :
   order_question accepted =
       allowed_is (order_decision s command who)
       (undenied (order_decision s command who)
-      (neither (or_else (misnamed s command) (option_map (λ n. Full n) (is_too_much_for s command))) (unless_allowed (order_decision s command who)) accepted).1)
+      (neither (or_else (or_else (misnamed s command) (unless_quiet s command)) (option_map (λ n. Full n) (is_too_much_for s command))) (unless_allowed (order_decision s command who)) accepted).1)
 
   order_by_stays : (why : Option OrderRefused) → refused s command who ≡ why → IsAllowed s → IsAllowed (order_by s command token who i why).service
   order_by_stays (Some why) is h = h
@@ -386,7 +393,7 @@ event_stays_allowed s (events.Give x) f h = h
 event_stays_allowed s (events.NextPost dest) f h = h
 event_stays_allowed s (events.WritePost name) f h = h
 event_stays_allowed s (events.Posted post reply) f h = posted_either s post reply (λ a. IsAllowed a.service) h (λ _ _. reply_stays s post reply h)
-event_stays_allowed s events.Step f h = stepped_stays s (stale_in (answers s) (base s) s.entries) h
+event_stays_allowed s events.Step f h = stepped_stays s (stale_in (answers s) (base s) (unfolded s)) h
 event_stays_allowed s (events.Order command token who i) f h = order_where_stays s f command token who i (ordered token s.journal) h
 
 -- ---- at the start

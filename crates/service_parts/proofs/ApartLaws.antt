@@ -1,16 +1,20 @@
 -- The entries of a service that fits its journal, as local repair wants them: each has the calls of its slots, and no slot stands twice.
-use Rattle.std.proofs.Common.{ℕ, zero, suc, ◌+◌, ◌<◌, ◌≤◌, List, [], ◌∷◌, ◌++◌, All, AllPairs, Contains, map, length, get_or, refl, ap, arith}
+use Rattle.std.proofs.Common.{ℕ, zero, suc, ◌+◌, ◌<◌, ◌≤◌, List, [], ◌∷◌, ◌++◌, All, AllPairs, Contains, map, length, get_or, refl, ap, arith, sym, ◌∙◌}
 use Rattle.std.proofs.lemmas.List.Kept.{AllPairs-cons}
 use Rattle.request_log.specs.declared.entry.Entry.{Entry}
 use Rattle.local_repair.specs.Settling.{HasItsSlots}
 use Rattle.local_repair.specs.Steps.{calls_of_made, StandOnce, AreApart}
 use Rattle.call_registers.specs.Registers.{IsNumbered}
 use Rattle.call_registers.specs.declared.register.Register.{Register}
-use Rattle.service_events.specs.Fits.{NumberedCalls, FitsPlaces, WantsItsCalls, calls_of_entry, count, times_held, wanted_call}
+use Rattle.service_events.specs.Fits.{NumberedCalls, FitsPlaces, WantsItsCalls, calls_of_entry, count, times_held, wanted_call, Fits, calls_of_flight}
 use Rattle.service_events.proofs.CallRowLemmas.{Each, each_of_all, each_front, all_of_each}
 use Rattle.service_events.proofs.PlaceLemmas.{lengths, times_held-append}
 use Rattle.service_events.proofs.EntryPlaces.{Stands}
 use Rattle.service_parts.proofs.SettledLaws.{counted, once_each, one_most, wanted_within}
+use Rattle.std.proofs.lemmas.List.{map-append}
+use Rattle.std.proofs.lemmas.List.Elements.{All-drop}
+use Rattle.service_events.specs.State.{Kept, folded, unfolded}
+use Rattle.service_events.proofs.HorizonLemmas.{all_entries}
 
 -- what stands in an entry stands in no other one
 each_away : (e : Entry) (es : List Entry) → ((n : ℕ) → count n e.slots + times_held n (map calls_of_entry es) ≤ 1) → Each (λ (f : Entry). (n : ℕ) → Contains e.slots n → Contains f.slots n → ⊥) es
@@ -70,3 +74,25 @@ stands_at [] k d w = absurd (omega (arith, w))
 stands_at (e ∷ es) zero d w = record { before = []; rest = es; is = refl }
 stands_at (e ∷ es) (suc k) d w =
     (let later = stands_at es k d (omega (arith, w)) in record { before = e ∷ later.before; rest = later.rest; is = ap (λ xs. e ∷ xs) later.is })
+
+-- ---- of a service, the entries that aren't folded
+
+module _ (s : Kept) (f : Fits s) where
+  pub own_behind : All HasItsSlots (unfolded s)
+  own_behind = All-drop HasItsSlots s.horizon s.entries (own_slots s.registers s.entries (map calls_of_flight s.flights) f.sent.numbered f.places)
+
+  among_behind : (n : ℕ) → times_held n (map calls_of_entry (unfolded s)) ≤ 1
+  among_behind n =
+      let all = among s.registers s.entries (map calls_of_flight s.flights) f.sent.numbered f.places n in
+      let split = ap (λ l. times_held n (map calls_of_entry l)) (sym (all_entries s)) ∙ ap (times_held n) (map-append calls_of_entry (folded s) (unfolded s))
+      ∙ times_held-append n (map calls_of_entry (folded s)) (map calls_of_entry (unfolded s)) in
+      omega (arith, all, split)
+
+  pub apart_behind : AreApart (length s.registers) (unfolded s)
+  apart_behind =
+      let all = all_apart s.registers s.entries (map calls_of_flight s.flights) f.sent.numbered f.places in
+      record {
+        apart = pairs_apart (unfolded s) among_behind;
+        once = All-drop (λ (e : Entry). StandOnce e.slots) s.horizon s.entries all.once;
+        given = All-drop (λ (e : Entry). (n : ℕ) → Contains e.slots n → n ≤ length s.registers) s.horizon s.entries all.given;
+      }

@@ -21,7 +21,7 @@ use Rattle.flights.specs.Moves.{calls_in, next_move}
 use Rattle.flights.specs.declared.flight.Flight.{Flight}
 use Rattle.flights.specs.declared.flight.Move.{Move}
 use Rattle.flights.specs.declared.flight.Move.TheVariants.{Commit, Name, Change}
-use Rattle.service_events.specs.State.{Kept, After, in_all, or_else, is_crowded, is_heavy, has_flight, flight_of, free_flight, without_flight, put_flight}
+use Rattle.service_events.specs.State.{Kept, After, in_all, or_else, is_crowded, is_heavy, has_flight, flight_of, free_flight, without_flight, put_flight, unfolded}
 use Rattle.service_events.specs.Calls.{noted, named}
 use Rattle.service_events.specs.Flying.{flight_run, awaited, committed, committed_entry, with_slot, with_change, change_rows, waits, wanted_of, named_unsent, changed_unsent, completing, completed, changed, moved, goes_on}
 use Rattle.service_events.specs.Arriving.{new_flight, admitted, arrives, known_by, arrives_or_known, by_version, unless_gone, is_for, live_answer_rows, answered_flight, told, failed_flight, abandoned}
@@ -29,6 +29,7 @@ use Rattle.service_events.specs.declared.answers.Arrived.{Arrived}
 use Rattle.service_events.specs.declared.refusals.ArriveRefused.{ArriveRefused}
 use Rattle.service_events.proofs.LiveEntryLaws.{call_keeps}
 use Rattle.service_events.proofs.SearchLemmas.{splits}
+use Rattle.std.proofs.lemmas.List.{length-drop}
 
 -- so many entries and flights at most
 abbrev pub IsBounded : Kept → Type 0
@@ -63,14 +64,15 @@ length_dropped id (g ∷ gs) f e = elim (cases_Bool (has_flight id g)) [
 
 -- how many there are with this flight among them
 abbrev all_with : Kept → Flight → ℕ
-all_with s f = length s.entries + suc (length (without_flight f.id s.flights))
+all_with s f = length (unfolded s) + suc (length (without_flight f.id s.flights))
 
 -- so many are left
 abbrev Leaves : ℕ → After Arrived → Type 0
 Leaves n a = in_all a.service ≡ n
 
 committed_leaves : (s : Kept) (f : Flight) (t : Trace) → Leaves (all_with s f) (committed s f t)
-committed_leaves s f t = (let e = length-append s.entries (committed_entry s f t ∷ []) in omega (arith, e))
+committed_leaves s f t = (let e = length-append s.entries (committed_entry s f t ∷ []) in
+    let left = length-drop s.horizon s.entries in let now = length-drop s.horizon (s.entries ++ committed_entry s f t ∷ []) in omega (arith, e, left, now))
 
 waits_leaves : (s : Kept) (f : Flight) (number : ℕ) (call : CallMade) → Leaves (all_with s f) (waits s f number call)
 waits_leaves s f number call = (let e = length_put f (without_flight f.id s.flights) in omega (arith, e))

@@ -22,7 +22,6 @@ use Rattle.request_log.specs.Entries.{find_call}
 use Rattle.request_log.specs.Records.{Record, record_of}
 use Rattle.request_log.specs.declared.entry.Entry.{Entry}
 use Rattle.local_repair.specs.Alone.{trace_or_dead}
-use Rattle.local_repair.specs.Current.{AllRuns}
 use Rattle.repair_messages.specs.declared.messages.AnswerMessage.{AnswerMessage}
 use Rattle.journal_rows.specs.Words.{asked, asked_step, last_taken, last_taken_of}
 use Rattle.journal_rows.specs.declared.callee.TookRow.{TookRow}
@@ -42,7 +41,7 @@ use Rattle.service_events.specs.declared.answers.Arrived.{Arrived}
 use Rattle.service_events.proofs.AloftLemmas.{IsAloft, aloft_by}
 use Rattle.service_events.proofs.FreshLemmas.{unmade}
 use Rattle.service_events.proofs.GrowthLemmas.{follows_none, few_calls}
-use Rattle.service_events.proofs.LiveRuns.{runs_of, answers_given, grows, changed_aloft, Completes, name_completes, change_completes}
+use Rattle.service_events.proofs.LiveRuns.{runs_of, answers_given, grows, changed_aloft, Completes, name_completes, change_completes, RanBehind}
 use Rattle.service_events.proofs.PartLemmas.{logged}
 use Rattle.service_events.proofs.CallLaws.{FitsCalls, calls_of_fits, IsFew, Goes, goes_same, goes_then, goes_longer}
 use Rattle.service_events.proofs.CurrentLaws.{committed_current, committed_ran}
@@ -326,7 +325,7 @@ waits_comes s f t g number c same before = (
 )
 
 changed_comes : (s : Kept) (f : Flight) (slot : ℕ) (c : CallMade) (many : Bool) → slot < length f.calls → IsAloft s.registers f.numbers f.calls
-    → AllRuns s.setting s.entries
+    → RanBehind s
     → Comes s f
     (if many then completed 17 (changed_unsent s f slot c) (with_change slot (next_number s.registers) c f)
     else waits (noted (change_rows s f slot c) s) (with_change slot (next_number s.registers) c f) (next_number s.registers) c)
@@ -342,7 +341,7 @@ changed_comes s f slot c false within aloft runs = λ h unasked few.
     waits_comes s f t (with_change slot (next_number s.registers) c f) (next_number s.registers) c refl (changed_before s f slot c t refl refl)
 
 moved_comes : (s : Kept) (f : Flight) (ran : Ran) → flight_run s f ≡ ran → (o : Option ℕ) → first_other f.calls (calls_in ran) ≡ o
-    → IsAloft s.registers f.numbers f.calls → AllRuns s.setting s.entries → Comes s f (moved s f ran (change_or o (by_run ran)))
+    → IsAloft s.registers f.numbers f.calls → RanBehind s → Comes s f (moved s f ran (change_or o (by_run ran)))
 moved_comes s f ran is (Some slot) e aloft runs =
     let at = is_other f.calls (calls_in ran) slot e in
     with_call (Comes s f) (slice_get (calls_in ran) slot) at.call (λ c. changed s f slot c) (committed s f (trace_or_dead ran)) at.there
@@ -352,14 +351,14 @@ moved_comes s f (Wants place made c) is None e aloft runs = λ h unasked few.
     let t = noted (named (next_number s.registers) c ∷ []) s in
     waits_comes s f t (with_slot (next_number s.registers) c f) (next_number s.registers) c refl (named_before s t c refl refl)
 
-goes_on_comes : (s : Kept) (f : Flight) → IsAloft s.registers f.numbers f.calls → AllRuns s.setting s.entries → Comes s f (goes_on s f)
+goes_on_comes : (s : Kept) (f : Flight) → IsAloft s.registers f.numbers f.calls → RanBehind s → Comes s f (goes_on s f)
 unfolding goes_on
 goes_on_comes s f aloft runs =
     moved_comes s f (flight_run s f) refl (first_other f.calls (calls_in (flight_run s f))) refl aloft runs
 
 -- ---- the events
 
-admitted_commits : (s : Kept) (o : Origin) (q : Request) (i : Inputs) (n : Option ℕ) → FitsCalls s → AllRuns s.setting s.entries → IsUnasked s → is_in_flight o s ≡ false
+admitted_commits : (s : Kept) (o : Origin) (q : Request) (i : Inputs) (n : Option ℕ) → FitsCalls s → RanBehind s → IsUnasked s → is_in_flight o s ≡ false
     → last_taken_of o s.journal ≡ None → IsFew (admitted s o q i n).service → Commits o q i s (admitted s o q i n).answer (admitted s o q i n).service
 admitted_commits s o q i (Some n) calls runs unasked apart free few = refl
 admitted_commits s o q i None calls runs unasked apart free few =
@@ -392,19 +391,19 @@ call_commits : (s : Kept) (c : List ℕ) (n : ℕ) (q : Request) (i : Inputs) (b
     (if b then after s (Err (NotYet n)) else unless_gone s t (arrives_or_known s c n q i e)).service
 call_commits s c n q i true t e f flies last entry few = refl
 call_commits s c n q i false None None f flies last entry few =
-    admitted_commits s (Call c n) q i (or_else (is_crowded s) (is_heavy s)) (calls_of_fits s f) f.runs (fits_unasked s f) flies last few
+    admitted_commits s (Call c n) q i (or_else (is_crowded s) (is_heavy s)) (calls_of_fits s f) (f.horizon.within, f.runs) (fits_unasked s f) flies last few
 call_commits s c n q i false None (Some e) f flies last entry few = known_commits s c n q i e (record_of e)
 call_commits s c n q i false (Some t) e f flies last entry few = version_commits s c n q i t t.desired e f last refl entry
 
 pub arrive_commits : (s : Kept) (o : Origin) (q : Request) (i : Inputs) → Fits s → IsFew (arrive_event s o q i).service
     → Commits o q i s (arrive_event s o q i).answer (arrive_event s o q i).service
 arrive_commits s Outside q i f few =
-    admitted_commits s Outside q i (or_else (is_crowded s) (is_heavy s)) (calls_of_fits s f) f.runs (fits_unasked s f) (outside_apart s.flights) refl few
+    admitted_commits s Outside q i (or_else (is_crowded s) (is_heavy s)) (calls_of_fits s f) (f.horizon.within, f.runs) (fits_unasked s f) (outside_apart s.flights) refl few
 arrive_commits s (Call c n) q i f few =
     call_commits s c n q i (is_in_flight (Call c n) s) (last_taken c n s.journal) (find_call (Call c n) s.entries) f refl refl refl few
 
 -- a flight that is there goes on in a service with the same flights, entries and setting
-known_comes : (s : Kept) (id : ℕ) (f : Flight) → flight_of id s ≡ Some f → FitsCalls s → AllRuns s.setting s.entries → IsUnasked s → IsFew (goes_on s f).service
+known_comes : (s : Kept) (id : ℕ) (f : Flight) → flight_of id s ≡ Some f → FitsCalls s → RanBehind s → IsUnasked s → IsFew (goes_on s f).service
     → Leaves s.entries (live_rows s.journal) f.origin f.request f.inputs (goes_on s f).service (goes_on s f).answer
 known_comes s id f found calls runs unasked few =
     let later = goes_on_goes s f in
@@ -442,7 +441,7 @@ answered_commits s id a (Some g) is f few = by_test (is_for s a g) refl few
         let before = before_rows s t (live_answer_rows s a) refl refl (heard_quiet (is_new_to a (register a.number s.registers))) in
         let L : List Row → Type 0 = λ ls. Leaves s.entries ls g.origin g.request g.inputs (goes_on t g).service (goes_on t g).answer in
         subst L before.lives
-        (known_comes t id g is (heard.keeps (omega (arith, few, longer)) (calls_of_fits s f)) f.runs (before.unasked (fits_unasked s f)) few)
+        (known_comes t id g is (heard.keeps (omega (arith, few, longer)) (calls_of_fits s f)) (f.horizon.within, f.runs) (before.unasked (fits_unasked s f)) few)
 
 pub call_answered_commits : (s : Kept) (id : ℕ) (a : AnswerMessage) → Fits s → IsFew (call_answered_event s id a).service
     → CommitsFlight id s (call_answered_event s id a).answer (call_answered_event s id a).service
@@ -461,7 +460,7 @@ failed_commits s id number why (Some g) is f few = by_test (nat_eq (awaited g) n
         let later = goes_on_goes t g in
         let longer = goes_longer (flying t g) (goes_on t g).service later in
         let first = goes_untold s number why in
-        known_comes t id g is (first.keeps (omega (arith, few, longer)) (calls_of_fits s f)) f.runs (fits_unasked s f) few
+        known_comes t id g is (first.keeps (omega (arith, few, longer)) (calls_of_fits s f)) (f.horizon.within, f.runs) (fits_unasked s f) few
 
 pub call_failed_commits : (s : Kept) (id number : ℕ) (why : Why) → Fits s → IsFew (call_failed_event s id number why).service
     → CommitsFlight id s (call_failed_event s id number why).answer (call_failed_event s id number why).service

@@ -8,7 +8,7 @@ use Rattle.service_events.specs.Arriving.{arrives_or_known}
 use Rattle.service_events.specs.Event.{event}
 use Rattle.service_events.specs.Fits.{Fits}
 use Rattle.service_events.specs.Messages.{is_too_much}
-use Rattle.service_events.specs.State.{Kept, answers, base, flight_of, is_crowded, is_heavy, or_else}
+use Rattle.service_events.specs.State.{Kept, answers, base, flight_of, is_crowded, is_heavy, or_else, unfolded}
 use Rattle.service_events.specs.Steps.{stale_in}
 use Rattle.service_events.specs.declared.event.Event.{Event}
 use Rattle.service_events.specs.declared.event.Event.TheVariants as events
@@ -38,7 +38,7 @@ event_bounded s (events.Give f) h = h
 event_bounded s (events.NextPost dest) h = h
 event_bounded s (events.WritePost name) h = h
 event_bounded s (events.Posted post reply) h = posted_either s post reply (λ a. IsBounded a.service) h (λ _ _. reply_bounded s post reply h)
-event_bounded s events.Step h = step_by_bounded s (stale_in (answers s) (base s) s.entries) h
+event_bounded s events.Step h = step_by_bounded s (stale_in (answers s) (base s) (unfolded s)) h
 event_bounded s (events.Order command token who i) h = order_where_bounded s command token who i (ordered token s.journal) h
 
 -- ---- posts are as old as the journal says
@@ -58,7 +58,7 @@ event_aged s (events.Give x) f = aged_same s
 event_aged s (events.NextPost dest) f = aged_same s
 event_aged s (events.WritePost name) f = aged_same s
 event_aged s (events.Posted post reply) f = posted_either s post reply (λ a. GoesAged s a.service) (aged_same s) (reply_aged s f post reply)
-event_aged s events.Step f = stepped_aged s (stale_in (answers s) (base s) s.entries) f
+event_aged s events.Step f = stepped_aged s (stale_in (answers s) (base s) (unfolded s)) f
 event_aged s (events.Order command token who i) f = order_where_aged s command token who i (ordered token s.journal)
 
 pub event_ages : (s : Kept) (e : Event) → Fits s → IsFew (event s e).service → AgesOf s → AgesOf (event s e).service

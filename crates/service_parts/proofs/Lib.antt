@@ -1,3 +1,4 @@
+pub mod WholeLemmas
 pub mod DraftLemmas
 pub mod ReplyLemmas
 pub mod BoundLaws

@@ -17,7 +17,7 @@ use Rattle.repair_messages.specs.declared.posts.PostName.TheVariants.{Call as Of
 use Rattle.journal_rows.specs.Words.{noted_at}
 use Rattle.journal_rows.specs.declared.caller.NotedRow.{NotedRow}
 use Rattle.journal_rows.specs.declared.orders.Command.{Command}
-use Rattle.journal_rows.specs.declared.orders.Command.TheVariants.{Cancel, Restore, Replace, Create, Retry}
+use Rattle.journal_rows.specs.declared.orders.Command.TheVariants.{Cancel, Restore, Replace, Create, Retry, Fold}
 use Rattle.journal_rows.specs.declared.orders.OrderedRow.{OrderedRow}
 use Rattle.journal_rows.specs.declared.row.Row.{Row}
 use Rattle.journal_rows.specs.declared.row.Row.TheVariants.{Asked}
@@ -122,7 +122,7 @@ take_admitted_aged s f set i None =
     cond_both (is_known s set) (after (acked_again s set) (Ok (taken set None)))
     (take_new s set i) (LeavesAged s)
     (λ _. again_aged s f set)
-    (λ _. take_either s set i (LeavesAged s) (aged_same s) (taken_aged s f set i (find_call (origin_of set) s.entries) set.desired refl))
+    (λ _. take_either s set i (LeavesAged s) (λ e. aged_same s) (aged_same s) (λ _. taken_aged s f set i (find_call (origin_of set) s.entries) set.desired refl))
 
 -- ---- a token
 
@@ -139,8 +139,8 @@ heard_aged s a (Some r) = by_test (not (same_text r.dest a.callee)) (is_news r a
     by_test true c = aged_same s
     by_test false true =
         let rows = noted_row (hear_rule s a r) a ∷ (confirmed_row a ∷ []) in
-        hear_either s a r (LeavesAged s) (aged_same s)
-        (aged_step s (noted rows s) (step_noted s (noted rows s) rows (tt, (tt, tt)) refl refl refl refl))
+        hear_either s a r (LeavesAged s) (aged_same s) (aged_same s)
+        (λ _. aged_step s (noted rows s) (step_noted s (noted rows s) rows (tt, (tt, tt)) refl refl refl refl))
     by_test false false =
         let rows = confirmed_row a ∷ [] in
         aged_step s (noted rows s) (step_noted s (noted rows s) rows (tt, tt) refl refl refl refl)
@@ -261,6 +261,7 @@ carried_calls s (Retry (OfCall number)) who i =
     ages_stay s (carried_out s (Retry (OfCall number)) who i) refl (ages_same number (released who) s.registers (release_keeps who))
 carried_calls s (Retry (OfReply id)) who i = ages_stay s (carried_out s (Retry (OfReply id)) who i) refl refl
 carried_calls s (Retry (OfFetch number)) who i = ages_stay s (carried_out s (Retry (OfFetch number)) who i) refl refl
+carried_calls s (Fold id) who i = ages_stay s (carried_out s (Fold id) who i) refl refl
 
 carried_marked : (s : Kept) (command : Command) (who : List ℕ) (i : Inputs) → AllMarked s → AllMarked (carried_out s command who i)
 carried_marked s (Cancel id) who i h = h
@@ -269,6 +270,7 @@ carried_marked s (Replace id method path body) who i h = h
 carried_marked s (Create before behind q) who i h = h
 carried_marked s (Retry (OfCall number)) who i h = h
 carried_marked s (Retry (OfFetch number)) who i h = h
+carried_marked s (Fold id) who i h = h
 carried_marked s (Retry (OfReply id)) who i h = replies_kept s.journal id (released_reply who) s.replies (λ p m. m) h
 
 asked_none : (s : Kept) (command : Command) (i : Inputs) → Each MarksNone (asked_rows s command i)
@@ -277,6 +279,7 @@ asked_none s (Cancel id) i = tt
 asked_none s (Restore id) i = tt
 asked_none s (Replace id method path body) i = tt
 asked_none s (Retry name) i = tt
+asked_none s (Fold id) i = tt
 
 by_aged : (s : Kept) (command : Command) (token who : List ℕ) (i : Inputs) (why : Option OrderRefused) → LeavesAged s (order_by s command token who i why)
 by_aged s command token who i (Some why) = aged_same s

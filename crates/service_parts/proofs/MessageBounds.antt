@@ -1,11 +1,11 @@
 -- Messages leave no more entries and flights than a service may have.
-use Rattle.std.proofs.Common.{◌≡◌, ℕ, ◌<◌, Bool, true, false, ◌&&◌, not, [], ◌∷◌, Option, Some, None, Result, Ok, Err, is_some, if◌then◌else◌, refl, arith, length-set}
+use Rattle.std.proofs.Common.{◌≡◌, ℕ, ◌<◌, Bool, true, false, ◌&&◌, not, [], ◌∷◌, Option, Some, None, Result, Ok, Err, is_some, if◌then◌else◌, refl, arith, length-set, insert}
 use Rattle.std.specs.List.{position_or_len}
 use Rattle.std.proofs.lemmas.Bool.{cond_both}
 use Rattle.lang_base.specs.Texts.{same_text}
 use Rattle.lang_core.specs.declared.inputs.Inputs.{Inputs}
 use Rattle.lang_core.specs.declared.request.Request.{Request}
-use Rattle.request_log.specs.Entries.{has_id, find_call}
+use Rattle.request_log.specs.Entries.{has_id, find_call, with_entry}
 use Rattle.request_log.specs.declared.entry.Entry.{Entry}
 use Rattle.repair_messages.specs.declared.messages.AnswerMessage.{AnswerMessage}
 use Rattle.repair_messages.specs.declared.messages.SetMessage.{SetMessage}
@@ -29,6 +29,7 @@ use Rattle.service_events.specs.declared.refusals.AnswerRefused.TheVariants.{Unk
 use Rattle.service_events.proofs.AskedLemmas.{take_either, hear_either}
 use Rattle.service_events.proofs.SearchLemmas.{length_insert}
 use Rattle.service_parts.proofs.BoundLaws.{IsBounded, uncrowded}
+use Rattle.std.proofs.lemmas.List.{length-drop}
 
 -- ---- a version of a call
 
@@ -46,19 +47,22 @@ second_none (Some n) second h = cc
 new_bounded : (s : Kept) (set : SetMessage) (i : Inputs) (e : Option Entry) (d : Option Request)
     → where_needed (is_some d && not (is_some e)) (is_crowded s) ≡ None → IsBounded s → IsBounded (taken_by s set i e d)
 new_bounded s set i (Some e) d place h =
-    (let size = length-set s.entries (position_or_len (has_id e.id) s.entries) (at_version set e) in omega (arith, h, size))
+    (let size = length-set s.entries (position_or_len (has_id e.id) s.entries) (at_version set e) in
+    let left = length-drop s.horizon s.entries in let now = length-drop s.horizon (with_entry (at_version set e) s.entries) in omega (arith, h, size, left, now))
 new_bounded s set i None (Some q) place h =
     let below = placed s place in
     let size = length_insert s.entries (created_place s set) (created_entry s set q i) in
-    omega (arith, below, size)
+    let left = length-drop s.horizon s.entries in
+    let now = length-drop s.horizon (insert s.entries (created_place s set) (created_entry s set q i)) in
+    omega (arith, below, size, left, now)
 new_bounded s set i None None place h = h
 
 known_or_new : (s : Kept) (set : SetMessage) (i : Inputs) (known : Bool) → or_else (is_heavy s) (where_needed (not known && makes_entry s set) (is_crowded s)) ≡ None
     → IsBounded s → IsBounded (if known then after {A = Result Taken TakeRefused} (acked_again s set) (Ok (taken set None)) else take_new s set i).service
 known_or_new s set i true place h = h
 known_or_new s set i false place h =
-    take_either s set i (λ a. IsBounded a.service) h
-    (new_bounded s set i (find_call (origin_of set) s.entries) set.desired
+    take_either s set i (λ a. IsBounded a.service) (λ e. h) h
+    (λ _. new_bounded s set i (find_call (origin_of set) s.entries) set.desired
     (second_none (is_heavy s) (where_needed (makes_entry s set) (is_crowded s)) place) h)
 
 pub take_admitted_bounded : (s : Kept) (set : SetMessage) (i : Inputs) (full : Option ℕ) → is_too_much s set ≡ full → IsBounded s → IsBounded (take_admitted s set i full).service
@@ -73,7 +77,7 @@ heard_bounded : (s : Kept) (a : TokenMessage) (r : Register) (known new : Bool) 
     then hear_new s a r
     else after (noted (confirmed_row a ∷ []) s) (Ok (heard a None)))).service
 heard_bounded s a r false new h = h
-heard_bounded s a r true true h = hear_either s a r (λ a. IsBounded a.service) h h
+heard_bounded s a r true true h = hear_either s a r (λ a. IsBounded a.service) h h (λ _. h)
 heard_bounded s a r true false h = h
 
 pub token_taken_where_bounded : (s : Kept) (a : TokenMessage) (o : Option Register) → IsBounded s → IsBounded (token_taken_where s a o).service

@@ -18,7 +18,6 @@ use Rattle.request_log.specs.Records.{Record, record_of}
 use Rattle.request_log.specs.declared.entry.Entry.{Entry}
 use Rattle.request_log.specs.declared.entry.Made.{Made}
 use Rattle.local_repair.specs.Alone.{trace_or_dead}
-use Rattle.local_repair.specs.Current.{AllRuns}
 use Rattle.local_repair.specs.Steps.{answer_at, calls_of_made}
 use Rattle.local_repair.proofs.HandlerLemmas.{handler}
 use Rattle.repair_messages.specs.declared.messages.AnswerMessage.{AnswerMessage}
@@ -34,7 +33,7 @@ use Rattle.flights.specs.Moves.{calls_in, first_other, by_run, change_or, next_m
 use Rattle.flights.specs.declared.flight.Flight.{Flight}
 use Rattle.flights.specs.declared.flight.Move.{Move}
 use Rattle.flights.specs.declared.flight.Move.TheVariants.{Commit, Name, Change}
-use Rattle.service_events.specs.State.{Kept, After, after, answers, base, or_else, is_crowded, is_heavy, is_in_flight, flight_of}
+use Rattle.service_events.specs.State.{Kept, After, after, answers, base, or_else, is_crowded, is_heavy, is_in_flight, flight_of, unfolded}
 use Rattle.service_events.specs.Arriving.{accepted, new_flight, admitted, known_by, arrives_or_known, by_version, unless_gone, arrive_event, is_for, live_answer_rows, answered_flight, call_answered_event, told, failed_flight, call_failed_event, is_new_to, seen_live}
 use Rattle.service_events.specs.Calls.{after_rows, noted, named}
 use Rattle.service_events.specs.Doing.{Does, arrive_memory, call_memory}
@@ -50,7 +49,7 @@ use Rattle.service_events.specs.declared.refusals.CallRefused.TheVariants.{NoFli
 use Rattle.service_events.proofs.AloftLemmas.{IsAloft, acked_aloft, aloft_of, answered_aloft, told_aloft}
 use Rattle.service_events.proofs.GrowthLemmas.{follows_none, few_calls}
 use Rattle.service_events.proofs.LiveRuns as live
-use Rattle.service_events.proofs.LiveRuns.{runs_of, answers_given, grows, changed_aloft, name_completes, change_completes}
+use Rattle.service_events.proofs.LiveRuns.{runs_of, answers_given, grows, changed_aloft, name_completes, change_completes, RanBehind}
 use Rattle.service_events.proofs.CallLaws.{calls_of_fits}
 use Rattle.service_events.proofs.GoingLaws.{is_other}
 use Rattle.service_parts.proofs.CommitLaws.{with_call}
@@ -102,7 +101,7 @@ completed_goes (suc runs) s f k enough c =
 
 -- ---- a flight goes on
 
-changed_goes : (s : Kept) (f : Flight) (slot : ℕ) (c : CallMade) (many : Bool) → IsAloft s.registers f.numbers f.calls → AllRuns s.setting s.entries
+changed_goes : (s : Kept) (f : Flight) (slot : ℕ) (c : CallMade) (many : Bool) → IsAloft s.registers f.numbers f.calls → RanBehind s
     → Changes many s f slot c
     (if many then completed 17 (changed_unsent s f slot c) (with_change slot (next_number s.registers) c f)
     else waits (noted (change_rows s f slot c) s) (with_change slot (next_number s.registers) c f) (next_number s.registers) c)
@@ -115,7 +114,7 @@ changed_goes s f slot c true aloft runs =
 changed_goes s f slot c false aloft runs = refl
 
 moved_goes : (s : Kept) (f : Flight) (ran : Ran) (o : Option ℕ) → first_other f.calls (calls_in ran) ≡ o
-    → IsAloft s.registers f.numbers f.calls → AllRuns s.setting s.entries → Moves s f ran (change_or o (by_run ran)) (moved s f ran (change_or o (by_run ran)))
+    → IsAloft s.registers f.numbers f.calls → RanBehind s → Moves s f ran (change_or o (by_run ran)) (moved s f ran (change_or o (by_run ran)))
 moved_goes s f ran (Some slot) e aloft runs =
     let at = is_other f.calls (calls_in ran) slot e in
     with_call (Moves s f ran (Change slot)) (slice_get (calls_in ran) slot) at.call (λ c. changed s f slot c) (committed s f (trace_or_dead ran)) at.there
@@ -123,7 +122,7 @@ moved_goes s f ran (Some slot) e aloft runs =
 moved_goes s f (Done t) None e aloft runs = (t, refl, refl)
 moved_goes s f (Wants place made c) None e aloft runs = (c, refl, refl)
 
-flight_goes : (s : Kept) (f : Flight) → IsAloft s.registers f.numbers f.calls → AllRuns s.setting s.entries → GoesOn s f (goes_on s f)
+flight_goes : (s : Kept) (f : Flight) → IsAloft s.registers f.numbers f.calls → RanBehind s → GoesOn s f (goes_on s f)
 unfolding goes_on
 flight_goes s f aloft runs = moved_goes s f (flight_run s f) (first_other f.calls (calls_in (flight_run s f))) refl aloft runs
 
@@ -247,7 +246,7 @@ admitted_goes s o q i None fits =
     let f = new_flight s o q i in
     let calls = calls_of_fits s fits in
     let a = goes_on s f in
-    begins s f a.service a.answer (flight_goes s f (record { numbered = calls.sent.numbered; apart = tt; within = tt; many = refl }) fits.runs)
+    begins s f a.service a.answer (flight_goes s f (record { numbered = calls.sent.numbered; apart = tt; within = tt; many = refl }) (fits.horizon.within, fits.runs))
 
 known_goes : (s : Kept) (f : Flight) (c : List ℕ) (n : ℕ) (e : Entry) (m : Option Record) → Leaves s f (known_by s c n e m).service (known_by s c n e m).answer
 known_goes s f c n e None = tt
@@ -286,7 +285,7 @@ abbrev LeavesOf : {E : Type 0} → Kept → Option Flight → Kept → Result Ar
 LeavesOf s o t answer = IfOk answer (λ arrived. IsSomeAnd o (λ f. GoesOnTo s f (after t arrived)))
 
 -- a flight that is there goes on, with the same entries and setting
-known_flight : (s : Kept) (f : Flight) → IsAloft s.registers f.numbers f.calls → AllRuns s.setting s.entries → GoesOnTo s f (goes_on s f)
+known_flight : (s : Kept) (f : Flight) → IsAloft s.registers f.numbers f.calls → RanBehind s → GoesOnTo s f (goes_on s f)
 known_flight s f aloft runs = goes_to s f (goes_on s f) (flight_goes s f aloft runs)
 
 heard_aloft : (a : AnswerMessage) (new : Bool) (rs : List Register) (at : ℕ) (ns : List ℕ) (cs : List CallMade) → IsAloft rs ns cs
@@ -309,7 +308,7 @@ answered_goes s id a (Some f) is fits = by_test (is_for s a f)
     by_test true =
         known_flight (noted (live_answer_rows s a) s) f
         (heard_aloft a (is_new_to a (register a.number s.registers)) (after_rows (length s.journal) s.registers (saw ∷ [])) (length s.journal + 1) f.numbers f.calls
-        (acked_aloft a.number a.version s.registers f.numbers f.calls (aloft_of s id f fits is))) fits.runs
+        (acked_aloft a.number a.version s.registers f.numbers f.calls (aloft_of s id f fits is))) (fits.horizon.within, fits.runs)
     by_test false = tt
 
 -- so does one whose call was answered
@@ -325,7 +324,7 @@ failed_goes s id number why (Some f) is fits = by_test (nat_eq (awaited f) numbe
     by_test : (b : Bool)
         → LeavesOf (told number why s) (Some f) (if b then accepted (goes_on (told number why s) f) else after s (Err (NoFlight id))).service
         (if b then accepted (goes_on (told number why s) f) else after s (Err (NoFlight id))).answer
-    by_test true = known_flight (told number why s) f (told_aloft number why s.registers f.numbers f.calls (aloft_of s id f fits is)) fits.runs
+    by_test true = known_flight (told number why s) f (told_aloft number why s.registers f.numbers f.calls (aloft_of s id f fits is)) (fits.horizon.within, fits.runs)
     by_test false = tt
 
 -- or failed
@@ -416,7 +415,7 @@ step_by_goes s (Some x) = record {
 
 -- a step runs the first stale entry through
 pub step_runs_through : (s : Kept) → IsStep s (step_event s).answer (step_event s).service
-step_runs_through s = step_by_goes s (stale_in (answers s) (base s) s.entries)
+step_runs_through s = step_by_goes s (stale_in (answers s) (base s) (unfolded s))
 
 -- ---- what is promised of each call
 

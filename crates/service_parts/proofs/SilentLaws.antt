@@ -16,14 +16,14 @@ use Rattle.repair_messages.specs.declared.posts.Post.TheVariants.{Set, Token, Fe
 use Rattle.journal_rows.specs.Words.{noted_at, ordered}
 use Rattle.journal_rows.specs.declared.caller.NotedRow.{NotedRow}
 use Rattle.journal_rows.specs.declared.orders.Command.{Command}
-use Rattle.journal_rows.specs.declared.orders.Command.TheVariants.{Cancel, Restore, Replace, Create, Retry}
+use Rattle.journal_rows.specs.declared.orders.Command.TheVariants.{Cancel, Restore, Replace, Create, Retry, Fold}
 use Rattle.journal_rows.specs.declared.orders.OrderedRow.{OrderedRow}
 use Rattle.journal_rows.specs.declared.row.Row.TheVariants.{Asked, Answered}
 use Rattle.call_registers.specs.Registers.{register, next_number, is_news, is_newer}
 use Rattle.call_registers.specs.declared.register.Hold.{Hold}
 use Rattle.call_registers.specs.declared.register.Register.{Register}
 use Rattle.flights.specs.declared.flight.Flight.{Flight}
-use Rattle.service_events.specs.State.{Kept, After, after, answers, next_id, flight_of, base}
+use Rattle.service_events.specs.State.{Kept, After, after, answers, next_id, flight_of, base, unfolded}
 use Rattle.service_events.specs.Calls.{noted, all_deleted}
 use Rattle.service_events.specs.Arriving.{abandoned}
 use Rattle.service_events.specs.Commits.{live_rows}
@@ -83,7 +83,7 @@ admitted_none s set i None =
     cond_both (is_known s set) (after (acked_again s set) (Ok (taken set None)))
     (take_new s set i) (AnswersNone s)
     (λ _. live_same s.journal (acked_row set ∷ []) (tt, tt))
-    (λ _. take_either s set i (AnswersNone s) refl (taken_none s set i (find_call (origin_of set) s.entries) set.desired))
+    (λ _. take_either s set i (AnswersNone s) (λ e. refl) refl (λ _. taken_none s set i (find_call (origin_of set) s.entries) set.desired))
 
 -- a token
 heard_none : (s : Kept) (a : TokenMessage) (o : Option Register) → AnswersNone s (token_taken_where s a o)
@@ -98,7 +98,7 @@ heard_none s a (Some r) =
         then hear_new s a r
         else after (noted (confirmed_row a ∷ []) s) (Ok (heard a None))))
     by_test true c = refl
-    by_test false true = hear_either s a r (AnswersNone s) refl (live_same s.journal (noted_row (hear_rule s a r) a ∷ (confirmed_row a ∷ [])) (tt, (tt, tt)))
+    by_test false true = hear_either s a r (AnswersNone s) refl refl (λ _. live_same s.journal (noted_row (hear_rule s a r) a ∷ (confirmed_row a ∷ [])) (tt, (tt, tt)))
     by_test false false = live_same s.journal (confirmed_row a ∷ []) (tt, tt)
 
 -- what comes back of a post
@@ -133,6 +133,7 @@ asked_silent s (Cancel id) i = tt
 asked_silent s (Restore id) i = tt
 asked_silent s (Replace id method path body) i = tt
 asked_silent s (Retry name) i = tt
+asked_silent s (Fold id) i = tt
 
 by_none : (s : Kept) (command : Command) (token who : List ℕ) (i : Inputs) (why : Option OrderRefused) → AnswersNone s (order_by s command token who i why)
 by_none s command token who i (Some why) = refl
@@ -164,5 +165,5 @@ event_answers_none s (events.Give f) runs = refl
 event_answers_none s (events.NextPost dest) runs = refl
 event_answers_none s (events.WritePost name) runs = refl
 event_answers_none s (events.Posted post reply) runs = posted_either s post reply (AnswersNone s) refl (λ _ _. posted_none s post reply)
-event_answers_none s events.Step runs = stepped_none s (stale_in (answers s) (base s) s.entries)
+event_answers_none s events.Step runs = stepped_none s (stale_in (answers s) (base s) (unfolded s))
 event_answers_none s (events.Order command token who i) runs = where_none s command token who i (ordered token s.journal)

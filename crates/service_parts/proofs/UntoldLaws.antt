@@ -16,7 +16,7 @@ use Rattle.journal_rows.specs.Words.{noted_at, ordered}
 use Rattle.journal_rows.specs.declared.caller.NotedRow.{NotedRow}
 use Rattle.journal_rows.specs.declared.caller.SentRow.{SentRow}
 use Rattle.journal_rows.specs.declared.orders.Command.{Command}
-use Rattle.journal_rows.specs.declared.orders.Command.TheVariants.{Cancel, Restore, Replace, Create, Retry}
+use Rattle.journal_rows.specs.declared.orders.Command.TheVariants.{Cancel, Restore, Replace, Create, Retry, Fold}
 use Rattle.journal_rows.specs.declared.orders.OrderedRow.{OrderedRow}
 use Rattle.journal_rows.specs.declared.row.Row.{Row}
 use Rattle.journal_rows.specs.declared.row.Row.TheVariants.{Asked, Sent}
@@ -25,7 +25,7 @@ use Rattle.call_registers.specs.declared.register.Hold.{Hold}
 use Rattle.call_registers.specs.declared.register.Register.{Register}
 use Rattle.call_registers.specs.declared.register.Why.{Why}
 use Rattle.flights.specs.declared.flight.Flight.{Flight}
-use Rattle.service_events.specs.State.{Kept, after, answers, next_id, flight_of, base}
+use Rattle.service_events.specs.State.{Kept, after, answers, next_id, flight_of, base, unfolded}
 use Rattle.service_events.specs.Arriving.{abandoned}
 use Rattle.service_events.specs.Calls.{first_sent, put_sent, after_row, after_rows, noted, all_deleted}
 use Rattle.service_events.specs.Causes.{causes_in, causes, AddsCauses}
@@ -122,7 +122,7 @@ admitted_untold s set i None =
     cond_both (is_known s set) (after (acked_again s set) (Ok (taken set None)))
     (take_new s set i) (λ a. TellsNone s a.service)
     (λ _. tells_none s (acked_again s set) (rows_add (length s.journal) s.registers (acked_row set ∷ [])))
-    (λ _. take_either s set i (λ a. TellsNone s a.service) (same_tells_none s s refl) (taken_untold s set i (find_call (origin_of set) s.entries) set.desired))
+    (λ _. take_either s set i (λ a. TellsNone s a.service) (λ e. same_tells_none s s refl) (same_tells_none s s refl) (λ _. taken_untold s set i (find_call (origin_of set) s.entries) set.desired))
 
 heard_untold : (s : Kept) (a : TokenMessage) (o : Option Register) → TellsNone s (token_taken_where s a o).service
 heard_untold s a None = same_tells_none s s refl
@@ -138,7 +138,7 @@ heard_untold s a (Some r) = by_test (not (same_text r.dest a.callee)) (is_news r
         then hear_new s a r
         else after (noted (confirmed_row a ∷ []) s) (Ok (heard a None)))).service
     by_test true c = same_tells_none s s refl
-    by_test false true = hear_either s a r (λ h. TellsNone s h.service) (same_tells_none s s refl) (noted_tells (noted_row (hear_rule s a r) a ∷ (confirmed_row a ∷ [])))
+    by_test false true = hear_either s a r (λ h. TellsNone s h.service) (same_tells_none s s refl) (same_tells_none s s refl) (λ _. noted_tells (noted_row (hear_rule s a r) a ∷ (confirmed_row a ∷ [])))
     by_test false false = noted_tells (confirmed_row a ∷ [])
 
 back_untold : (s : Kept) (post : Post) (hold : Hold) → TellsNone s (held_back s post hold)
@@ -175,6 +175,7 @@ carried_same s (Create before after q) who i = refl
 carried_same s (Retry (OfCall number)) who i = same_causes number (released who) (λ r. refl) s.registers
 carried_same s (Retry (OfReply id)) who i = refl
 carried_same s (Retry (OfFetch number)) who i = refl
+carried_same s (Fold id) who i = refl
 
 by_untold : (s : Kept) (command : Command) (token who : List ℕ) (i : Inputs) (why : Option OrderRefused) → TellsNone s (order_by s command token who i why).service
 by_untold s command token who i (Some why) = same_tells_none s s refl
@@ -205,5 +206,5 @@ event_untold s (events.NextPost dest) runs = same_tells_none s s refl
 event_untold s (events.WritePost name) runs = same_tells_none s s refl
 event_untold s (events.Posted post reply) runs =
     posted_either s post reply (λ a. TellsNone s a.service) (same_tells_none s s refl) (λ _ _. back_of_post_untold s post reply)
-event_untold s events.Step runs = stepped_untold s (stale_in (answers s) (base s) s.entries)
+event_untold s events.Step runs = stepped_untold s (stale_in (answers s) (base s) (unfolded s))
 event_untold s (events.Order command token who i) runs = where_untold s command token who i (ordered token s.journal)

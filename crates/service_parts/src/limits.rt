@@ -6,7 +6,8 @@ ghost use Rattle.service_parts.specs.Parts.{kept};
 use crate::parts::Parts;
 use request_log::MOST_ENTRIES;
 
-/// How many entries and flights there are, where there is no place for one more.
+/// How many entries that aren't folded and flights there are, where there is no place for one more.
+#[tactic(auto, using(crate::proofs::WholeLemmas::in_all_is))]
 pub fn is_crowded(parts: &Parts) -> Option<u64>
     requires { in_all (kept parts.now) ≤ 100000 }
     ensures { result ≡ is_crowded (kept parts.now) }
