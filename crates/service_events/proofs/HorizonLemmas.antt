@@ -36,7 +36,7 @@ number_behind front back p e apart found =
 
 -- ---- an entry in the place of another one
 
-with_later : (x e : Entry) (es : List Entry) → nat_eq e.id x.id ≡ false → with_entry x (e ∷ es) ≡ e ∷ with_entry x es
+pub with_later : (x e : Entry) (es : List Entry) → nat_eq e.id x.id ≡ false → with_entry x (e ∷ es) ≡ e ∷ with_entry x es
 with_later x e es differs = rw differs (set_later e x es (position_or_len (has_id x.id) es))
 
 with_front : (h : ℕ) (es : List Entry) (x : Entry) → find (has_id x.id) (take h es) ≡ None → take h (with_entry x es) ≡ take h es

@@ -1,17 +1,19 @@
 -- All entries of a service, as its log keeps them: the folded ones, and behind them the others.
-use Rattle.std.proofs.Common.{◌≡◌, ℕ, zero, suc, ◌+◌, ◌≤◌, Bool, true, false, cond, List, [], ◌∷◌, ◌++◌, Option, Some, None, drop, find, insert, length, map, max, option_map, position, set, take, refl, sym, ap, ◌∙◌, arith, length-append}
+use Rattle.std.proofs.Common.{◌≡◌, ℕ, zero, suc, ◌+◌, Bool, true, false, cond, List, [], ◌∷◌, ◌++◌, Option, Some, None, drop, find, insert, length, map, option_map, take, refl, sym, ap, ◌∙◌, arith, length-append, nat_eq}
 use Rattle.std.specs.Option.{option_or}
 use Rattle.std.proofs.lemmas.List.{length-map, map-append}
 use Rattle.std.proofs.lemmas.List.Folds.{find-append}
-use Rattle.std.proofs.Math.Seq.{take-append_seam}
-use Rattle.request_log.specs.Entries.{has_id, with_entry, changed}
-use Rattle.request_log.specs.Folded.{as_entry, whole}
+use Rattle.request_log.specs.Entries.{has_id, with_entry, changed, AreReplaced, has_origin, replace, with_call}
+use Rattle.request_log.specs.Folded.{as_entry, whole, has_caller, has_number}
 use Rattle.request_log.specs.declared.entry.Entry.{Entry}
 use Rattle.request_log.specs.declared.folded.Folded.{Folded}
 use Rattle.service_events.specs.State.{folded, in_all, unfolded}
-use Rattle.service_events.proofs.HorizonLemmas.{none_front}
-use Rattle.service_parts.specs.Parts.{kept}
+use Rattle.service_parts.specs.Parts.{kept, whole_log}
 use Rattle.service_parts.specs.declared.parts.Parts.{Parts}
+use Rattle.lang_core.specs.declared.request.Request.{Request}
+use Rattle.local_repair.specs.Repairs.{KeptRepairer}
+use Rattle.service_events.proofs.HorizonLemmas.{find_skips, with_later}
+use Rattle.service_events.proofs.SearchLemmas.{none_changed, none_first}
 
 drop_whole : (fs : List Folded) (es : List Entry) → drop (length fs) (map as_entry fs ++ es) ≡ es
 drop_whole [] es = refl
@@ -50,9 +52,11 @@ find_folded p q same (f ∷ fs) = by (p (as_entry f)) (q f) (same f)
     by false true e = cc
     by false false e = find_folded p q same fs
 
+find_past : (p : Entry → Bool) (fs : List Folded) (es : List Entry) → find p (map as_entry fs) ≡ None → find p (whole fs es) ≡ find p es
+find_past p fs es none = find_skips p (map as_entry fs) es none
+
 -- ---- changes behind the folded ones
 
--- an entry in the place of one behind
 pub whole_insert : (fs : List Folded) (es : List Entry) (at : ℕ) (x : Entry) → whole fs (insert es at x) ≡ insert (whole fs es) (length fs + at) x
 whole_insert [] es at x = ap (λ k. insert es k x) (let same : at ≡ 0 + at = omega arith in same)
 whole_insert (f ∷ fs) es at x =
@@ -62,3 +66,61 @@ whole_insert (f ∷ fs) es at x =
 pub whole_push : (fs : List Folded) (es : List Entry) (x : Entry) → whole fs (es ++ x ∷ []) ≡ whole fs es ++ x ∷ []
 whole_push [] es x = refl
 whole_push (f ∷ fs) es x = ap (λ l. as_entry f ∷ l) (whole_push fs es x)
+
+-- none of the folded ones has a number
+none_folded : (fs : List Folded) (id : ℕ) → find (has_number id) fs ≡ None → find (has_id id) (map as_entry fs) ≡ None
+none_folded fs id none = find_folded (has_id id) (has_number id) (λ f. refl) fs ∙ ap (option_map as_entry) none
+
+whole_with : (fs : List Folded) (es : List Entry) (x : Entry) → find (has_number x.id) fs ≡ None → with_entry x (map as_entry fs ++ es) ≡ map as_entry fs ++ with_entry x es
+whole_with [] es x none = refl
+whole_with (f ∷ fs) es x none =
+    let parts = none_first (nat_eq f.id x.id) f (find (has_number x.id) fs) none in
+    with_later x (as_entry f) (map as_entry fs ++ es) parts.0 ∙ ap (λ l. as_entry f ∷ l) (whole_with fs es x parts.1)
+
+whole_changed : (fs : List Folded) (es : List Entry) (id : ℕ) (g : Entry → Entry) → find (has_number id) fs ≡ None → changed id g (map as_entry fs ++ es) ≡ map as_entry fs ++ changed id g es
+whole_changed fs es id g none =
+    map-append (λ e. cond (has_id id e) (g e) e) (map as_entry fs) es ∙ ap (λ l. l ++ changed id g es) (none_changed (has_id id) g (map as_entry fs) (none_folded fs id none))
+
+module _ (old new : KeptRepairer) (same : new.folded ≡ old.folded) where
+  front : (es : List Entry) → whole new.folded es ≡ whole old.folded es
+  front es = ap (λ fs. whole fs es) same
+
+  pub pushed : (x : Entry) → new.entries ≡ old.entries ++ x ∷ [] → whole_log new ≡ whole_log old ++ x ∷ []
+  pushed x is = front new.entries ∙ ap (whole old.folded) is ∙ whole_push old.folded old.entries x
+
+  pub inserted : (at : ℕ) (x : Entry) → new.entries ≡ insert old.entries at x → whole_log new ≡ insert (whole_log old) (length old.folded + at) x
+  inserted at x is = front new.entries ∙ ap (whole old.folded) is ∙ whole_insert old.folded old.entries at x
+
+  pub amended : (x : Entry) → find (has_number x.id) old.folded ≡ None → new.entries ≡ with_entry x old.entries → whole_log new ≡ with_entry x (whole_log old)
+  amended x none is = front new.entries ∙ ap (whole old.folded) is ∙ sym (whole_with old.folded old.entries x none)
+
+  pub changed_behind : (id : ℕ) (g : Entry → Entry) → find (has_number id) old.folded ≡ None → new.entries ≡ changed id g old.entries → whole_log new ≡ changed id g (whole_log old)
+  changed_behind id g none is = front new.entries ∙ ap (whole old.folded) is ∙ sym (whole_changed old.folded old.entries id g none)
+
+  pub replaced_behind : (id : ℕ) (q : Request) → find (has_number id) old.folded ≡ None → AreReplaced id q old.entries new.entries → AreReplaced id q (whole_log old) (whole_log new)
+  replaced_behind id q none h method path body is =
+      changed_behind id (replace method path body) none
+      (h method path body (ap (λ o. option_map (with_call method path body) (option_map (λ (e : Entry). e.request) o)) (sym (find_past (has_id id) old.folded old.entries (none_folded old.folded id none))) ∙ is))
+
+-- ---- what is found of one
+
+found_by : {Y : Type 0} (g : Entry → Y) (p : Entry → Bool) (q : Folded → Bool) → ((f : Folded) → p (as_entry f) ≡ q f) → (fs : List Folded) (es : List Entry)
+    → option_map g (find p (whole fs es)) ≡ option_or (option_map (λ f. g (as_entry f)) (find q fs)) (option_map g (find p es))
+found_by g p q same fs es =
+    ap (option_map g) (find_whole p fs es ∙ ap (λ o. option_or o (find p es)) (find_folded p q same fs)) ∙ by (find q fs)
+  where
+    by : (o : Option Folded) → option_map g (option_or (option_map as_entry o) (find p es)) ≡ option_or (option_map (λ f. g (as_entry f)) o) (option_map g (find p es))
+    by None = refl
+    by (Some f) = refl
+
+pub request_found : (id : ℕ) (fs : List Folded) (es : List Entry) → option_map (λ (e : Entry). e.request) (find (has_id id) (whole fs es))
+    ≡ option_or (option_map (λ (f : Folded). f.request) (find (has_number id) fs)) (option_map (λ (e : Entry). e.request) (find (has_id id) es))
+request_found id fs es = found_by (λ (e : Entry). e.request) (has_id id) (has_number id) (λ f. refl) fs es
+
+pub request_called : (c : List ℕ) (n : ℕ) (fs : List Folded) (es : List Entry) → option_map (λ (e : Entry). e.request) (find (has_origin c n) (whole fs es))
+    ≡ option_or (option_map (λ (f : Folded). f.request) (find (has_caller c n) fs)) (option_map (λ (e : Entry). e.request) (find (has_origin c n) es))
+request_called c n fs es = found_by (λ (e : Entry). e.request) (has_origin c n) (has_caller c n) (λ f. refl) fs es
+
+pub id_called : (c : List ℕ) (n : ℕ) (fs : List Folded) (es : List Entry) → option_map (λ (e : Entry). e.id) (find (has_origin c n) (whole fs es))
+    ≡ option_or (option_map (λ (f : Folded). f.id) (find (has_caller c n) fs)) (option_map (λ (e : Entry). e.id) (find (has_origin c n) es))
+id_called c n fs es = found_by (λ (e : Entry). e.id) (has_origin c n) (has_caller c n) (λ f. refl) fs es
