@@ -113,6 +113,11 @@ found_by g p q same fs es =
     by None = refl
     by (Some f) = refl
 
+-- the entry of a call
+pub call_found : (c : List ℕ) (n : ℕ) (fs : List Folded) (es : List Entry) → find (has_origin c n) (whole fs es)
+    ≡ option_or (option_map as_entry (find (has_caller c n) fs)) (find (has_origin c n) es)
+call_found c n fs es = find_whole (has_origin c n) fs es ∙ ap (λ o. option_or o (find (has_origin c n) es)) (find_folded (has_origin c n) (has_caller c n) (λ f. refl) fs)
+
 pub request_found : (id : ℕ) (fs : List Folded) (es : List Entry) → option_map (λ (e : Entry). e.request) (find (has_id id) (whole fs es))
     ≡ option_or (option_map (λ (f : Folded). f.request) (find (has_number id) fs)) (option_map (λ (e : Entry). e.request) (find (has_id id) es))
 request_found id fs es = found_by (λ (e : Entry). e.request) (has_id id) (has_number id) (λ f. refl) fs es

@@ -1,5 +1,5 @@
 // New entries: their numbers, and how they are put into the log.
-ghost use Rattle.std.specs.Prelude.{◌≡◌, ◌+◌, ◌≤◌, [], ◌∷◌, ◌++◌, None, OnOk, OnErr, find, insert, length, option_map};
+ghost use Rattle.std.specs.Prelude.{◌≡◌, ◌+◌, ◌<◌, ◌≤◌, [], ◌∷◌, ◌++◌, None, OnOk, OnErr, find, insert, length, option_map};
 ghost use Rattle.std.specs.Option.{option_copied};
 ghost use Rattle.request_log.specs.Entries.{AreReplaced, IsNew, changed, has_id, has_origin, mark, with_entry};
 ghost use Rattle.request_log.specs.Folded.{has_number, whole};
@@ -56,6 +56,7 @@ pub fn created(alloc: Global, id: u64, request: Shared<Request>, inputs: Shared<
 #[tactic(auto, using(crate::proofs::WholeLemmas::pushed))]
 pub fn append(repairer: &mut Repairer, entry: KeptEntry) -> Result<(), NoMemory>
     requires is_new { IsNew entry (whole_log repairer.old) }
+    requires few { length repairer.old.entries < 100000 }
     ensures ok { OnOk result (whole_log repairer.new ≡ whole_log repairer.old ++ entry ∷ []) }
     ensures folded { repairer.new.folded ≡ repairer.old.folded }
     ensures base { repairer.new.base ≡ repairer.old.base }

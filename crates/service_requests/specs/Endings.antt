@@ -15,7 +15,7 @@ use Rattle.flights.specs.Numbers.{without_flight, with_flight}
 use Rattle.flights.specs.declared.flight.Flight.{Flight}
 use Rattle.flights.specs.declared.flight.Move.{Move}
 use Rattle.flights.specs.declared.flight.Move.TheVariants.{Commit, Name, Change}
-use Rattle.service_events.specs.State.{Kept, After, after, me, next_id}
+use Rattle.service_events.specs.State.{Kept, After, after, me, next_id, unfolded}
 use Rattle.service_events.specs.Calls.{noted, named}
 use Rattle.service_events.specs.Flying.{before_answer, live_answer, answer_to_caller, with_slot, with_change, change_rows, waits, untold, wanted_of}
 use Rattle.service_events.specs.declared.answers.Arrived.{Arrived}
@@ -110,13 +110,13 @@ pub record MayEnd (s : Kept) (f : Flight) : Type 0 where
   pub number : 1 ≤ f.id
   pub id : find (has_id (next_id s)) s.entries ≡ None
   pub origin : find_call f.origin s.entries ≡ None
-  pub few : length s.entries < 100000
+  pub few : length (unfolded s) < 100000
   pub replies : IsAboveAll (next_id s) s.replies
 
 -- what it needs of a service
 abbrev pub CanEnd : Kept → Ending → Type 0
 CanEnd s (Commits flight entry reply index) =
-    IsNew entry s.entries × (length s.entries < 100000) × IfSome reply (λ p. IsAboveAll p.id s.replies)
+    IsNew entry s.entries × (length (unfolded s) < 100000) × IfSome reply (λ p. IsAboveAll p.id s.replies)
 CanEnd s (Waits flight set) = 1 ≤ flight.id
 
 abbrev pub CanStep : Kept → Step → Type 0

@@ -6,7 +6,7 @@ ghost use Rattle.flights.specs.Numbers.{without_flight};
 ghost use Rattle.service_events.specs.State.{after};
 ghost use Rattle.service_parts.specs.Drafts.{with_draft};
 ghost use Rattle.service_requests.specs.Endings.{ends, listed, CanEnd};
-ghost use Rattle.service_parts.specs.Parts.{kept};
+ghost use Rattle.service_parts.specs.Parts.{kept, whole_log};
 ghost use Rattle.service_events.specs.Flying.{answer_to_caller};
 ghost use Rattle.service_parts.specs.Rooms.{aloft};
 ghost use Rattle.service_parts.specs.declared.draft.Draft.{Draft};
@@ -18,25 +18,11 @@ use crate::outcome::DraftedEnd;
 use call_registers::{Replies, Reply};
 use flights::{Flight, Flights};
 use lang_core::{NoMemory, Origin};
-use local_repair::Repairer;
 use repair_messages::{AnswerMessage, SetMessage};
 use request_log::{Entry, KeptEntry};
 use service_events::Arrived;
-use service_parts::{Draft, Parts, last_answer, note_draft, reserve_draft};
+use service_parts::{Draft, Parts, append, last_answer, note_draft, reserve_draft};
 use std::alloc::Global;
-
-// Puts an entry last in a log that isn't full.
-fn append(repairer: &mut Repairer, entry: KeptEntry) -> Result<(), NoMemory>
-    requires is_new { IsNew entry repairer.old.entries }
-    requires few { length repairer.old.entries < 100000 }
-    ensures ok { OnOk result (repairer.new.entries ≡ repairer.old.entries ++ entry ∷ []) }
-    ensures err { OnErr result (repairer.new.entries ≡ repairer.old.entries) }
-{
-    match repairer.append(entry) {
-        Ok(()) => Ok(()),
-        Err(_) => Err(NoMemory),
-    }
-}
 
 #[tactic(auto, using(lang_lists::proofs::RoomLemmas::made_last))]
 fn ready_reply(replies: &mut Replies, reply: &Option<Reply>) -> Result<(), NoMemory>
@@ -90,9 +76,9 @@ fn add_entry(
     entry: KeptEntry,
     reply: &Option<Reply>,
 ) -> Result<(), NoMemory>
-    requires is_new { IsNew entry parts.old.repairer.entries }
+    requires is_new { IsNew entry (whole_log parts.old.repairer) }
     requires few { length parts.old.repairer.entries < 100000 }
-    ensures ok { OnOk result (kept parts.new ≡ with_entries (parts.old.repairer.entries ++ entry ∷ []) (kept parts.old)) }
+    ensures ok { OnOk result (kept parts.new ≡ with_entries (whole_log parts.old.repairer ++ entry ∷ []) (kept parts.old)) }
     ensures rows { OnOk result (vec_len draft.now.rows + aloft parts.old.flights.list ≤ parts.new.journal.spare) }
     ensures added { OnOk result (vec_len draft.now.changes.added ≤ parts.new.registers.spare) }
     ensures reply { OnOk result (IsReadyFor reply.now parts.new.replies.room) }
@@ -131,6 +117,7 @@ fn land(flights: &mut Flights, replies: &mut Replies, flight: u64, reply: Option
 }
 
 // The flight of this number is the last entry of the log.
+#[tactic(auto, using(service_parts::proofs::WholeLemmas::unfolded_kept))]
 fn commit(
     parts: &mut Parts,
     draft: Draft,

@@ -2,17 +2,18 @@
 ghost use Rattle.std.specs.Prelude.{◌≡◌, ◌≤◌, Err, Ok, option_map};
 ghost use Rattle.lang_core.specs.declared.ids.Origin.{Origin};
 ghost use Rattle.request_log.specs.Entries.{find_call};
+ghost use Rattle.request_log.specs.Folded.{as_entry};
 ghost use Rattle.request_log.specs.Records.{record_of};
 ghost use Rattle.journal_rows.specs.Words.{last_taken};
 ghost use Rattle.service_events.specs.State.{in_all};
-ghost use Rattle.service_parts.specs.Parts.{kept};
+ghost use Rattle.service_parts.specs.Parts.{kept, whole_log};
 ghost use Rattle.service_events.specs.Doing.{arrive_memory};
 ghost use Rattle.service_requests.specs.Arrivals.{Says, early, by_made, by_entry, deletion_in, unless_deleted, known, too_much, refusal, before_run};
 
 use lang_core::{Name, Origin};
-use request_log::Entry;
+use request_log::{Entry, Folded};
 use service_events::{ArriveRefused, Arrived};
-use service_parts::{Parts, is_crowded, is_heavy, last_answer};
+use service_parts::{Parts, is_crowded, is_heavy, last_answer, past_answer};
 use std::alloc::Global;
 
 fn by_made(
@@ -33,7 +34,21 @@ fn by_made(
     }
 }
 
-fn by_entry(
+// A folded entry ran.
+fn by_past(
+    alloc: Global,
+    parts: &Parts,
+    caller: &Name,
+    number: u64,
+    past: &Folded,
+) -> Result<Option<Arrived>, ArriveRefused>
+    ensures { Says arrive_memory result (early result ≡ by_made (kept parts.now) caller.now number (as_entry past.now) (record_of (as_entry past.now))) }
+{
+    let answer = past_answer(alloc, parts, caller, number, past)?;
+    Ok(Some(Arrived::Known(answer)))
+}
+
+fn by_present(
     alloc: Global,
     parts: &Parts,
     caller: &Name,
@@ -44,6 +59,21 @@ fn by_entry(
     match parts.repairer.log().find_origin(caller, number) {
         None => Ok(None),
         Some(entry) => by_made(alloc, parts, caller, number, entry),
+    }
+}
+
+#[tactic(auto, using(service_parts::proofs::WholeLemmas::call_found))]
+fn by_entry(
+    alloc: Global,
+    parts: &Parts,
+    caller: &Name,
+    number: u64,
+) -> Result<Option<Arrived>, ArriveRefused>
+    ensures { Says arrive_memory result (early result ≡ by_entry (kept parts.now) caller.now number (find_call (Origin.Call caller.now number) (whole_log parts.now.repairer))) }
+{
+    match parts.repairer.log().folded_origin(caller, number) {
+        Some(past) => by_past(alloc, parts, caller, number, past),
+        None => by_present(alloc, parts, caller, number),
     }
 }
 
@@ -64,7 +94,7 @@ fn by_deletion(
     caller: &Name,
     number: u64,
 ) -> Result<Option<Arrived>, ArriveRefused>
-    ensures { Says arrive_memory result (early result ≡ unless_deleted (deletion_in (last_taken caller.now number parts.now.journal.rows)) (by_entry (kept parts.now) caller.now number (find_call (Origin.Call caller.now number) parts.now.repairer.entries))) }
+    ensures { Says arrive_memory result (early result ≡ unless_deleted (deletion_in (last_taken caller.now number parts.now.journal.rows)) (by_entry (kept parts.now) caller.now number (find_call (Origin.Call caller.now number) (whole_log parts.now.repairer)))) }
 {
     match deletion(parts, caller, number) {
         Some(version) => Err(ArriveRefused::Gone(version)),
