@@ -9,11 +9,11 @@ use Rattle.call_registers.specs.declared.register.Register.{Register}
 use Rattle.service_events.specs.State.{Kept, After, after}
 use Rattle.service_events.specs.Calls.{noted}
 use Rattle.service_events.specs.Questions.{is_denied, rule_of}
-use Rattle.service_events.specs.Messages.{heard, hear_decision, token_taken_where, take_token_event}
+use Rattle.service_events.specs.Messages.{heard, hear_decision, token_taken_where, take_token_event, is_past_call}
 use Rattle.service_events.specs.declared.answers.Heard.{Heard}
 use Rattle.service_events.specs.declared.refusals.AnswerRefused.{AnswerRefused}
-use Rattle.service_events.specs.declared.refusals.AnswerRefused.TheVariants.{Unknown, Denied}
-use Rattle.service_deliveries.specs.Hearing.{admission, allowance, token_rows}
+use Rattle.service_events.specs.declared.refusals.AnswerRefused.TheVariants.{Unknown, Denied, TooOld}
+use Rattle.service_deliveries.specs.Hearing.{admission, allowance, token_rows, unless_past}
 
 -- what the event leaves, by the rule by which the token is taken or why it isn't
 abbrev pub left : Kept → TokenMessage → Result (Option ℕ) AnswerRefused → After (Result Heard AnswerRefused)
@@ -25,11 +25,17 @@ allowed : (s : Kept) (a : TokenMessage) (d : Decision)
 allowed s a (Allow rule) = refl
 allowed s a (Deny rule) = refl
 
+past : (s : Kept) (a : TokenMessage) (d : Decision) (b : Bool)
+    → left s a (cond b (Err (TooOld a.number)) (allowance d))
+    ≡ cond b (after s (Err (TooOld a.number))) (if is_denied d then after s (Err (Denied (rule_of d))) else after (noted (token_rows a (Some (rule_of d))) s) (Ok (heard a (Some (rule_of d)))))
+past s a d true = refl
+past s a d false = allowed s a d
+
 ordered : (s : Kept) (a : TokenMessage) (d : Decision) (known new : Bool)
-    → left s a (cond known (cond new (allowance d) (Ok None)) (Err (Unknown a.number)))
-    ≡ (if not known then after s (Err (Unknown a.number)) else (if new then (if is_denied d then after s (Err (Denied (rule_of d))) else after (noted (token_rows a (Some (rule_of d))) s) (Ok (heard a (Some (rule_of d))))) else after (noted (token_rows a None) s) (Ok (heard a None))))
+    → left s a (cond known (cond new (unless_past s a (allowance d)) (Ok None)) (Err (Unknown a.number)))
+    ≡ (if not known then after s (Err (Unknown a.number)) else (if new then cond (is_past_call a.number s) (after s (Err (TooOld a.number))) (if is_denied d then after s (Err (Denied (rule_of d))) else after (noted (token_rows a (Some (rule_of d))) s) (Ok (heard a (Some (rule_of d))))) else after (noted (token_rows a None) s) (Ok (heard a None))))
 ordered s a d false new = refl
-ordered s a d true true = allowed s a d
+ordered s a d true true = past s a d (is_past_call a.number s)
 ordered s a d true false = refl
 
 where_is : (s : Kept) (a : TokenMessage) (o : Option Register) → left s a (admission s a o) ≡ token_taken_where s a o

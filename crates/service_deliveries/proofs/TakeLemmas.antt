@@ -1,22 +1,22 @@
 -- Why a version isn't taken, or by which rule, and what taking it leaves and answers.
-use Rattle.std.proofs.Common.{◌≡◌, ◌∙◌, sym, ap, refl, subst, ℕ, ◌<◌, ◌≤◌, ◌^◌, Bool, true, false, cond, List, find, length, Option, Some, None, Result, Ok, Err, IfOk, OnOk, OnErr}
+use Rattle.std.proofs.Common.{◌≡◌, ◌∙◌, sym, ap, refl, subst, ℕ, ◌<◌, ◌≤◌, ◌^◌, Bool, true, false, cond, List, find, length, Option, Some, None, Result, Ok, Err, IfOk, OnOk, OnErr, is_some, option_map}
 use Rattle.lang_base.specs.declared.memory.NoMemory.{NoMemory}
 use Rattle.lang_core.specs.declared.inputs.Inputs.{Inputs}
 use Rattle.lang_core.specs.declared.request.Request.{Request}
-use Rattle.request_log.specs.Entries.{has_id, find_call, IsNew}
+use Rattle.request_log.specs.Entries.{has_id, find_call, IsNew, has_origin}
 use Rattle.request_log.specs.declared.entry.Entry.{Entry}
 use Rattle.local_repair.specs.Repairs.{Amends, IsAmended}
 use Rattle.repair_messages.specs.declared.messages.SetMessage.{SetMessage}
 use Rattle.authorise_rules.specs.declared.asked.Decision.{Decision}
 use Rattle.authorise_rules.specs.declared.asked.Decision.TheVariants.{Allow, Deny}
 use Rattle.journal_rows.specs.declared.row.Row.{Row}
-use Rattle.call_registers.specs.Replies.{IsAboveAll}
+use Rattle.call_registers.specs.Replies.{IsAboveAll, at_entry}
 use Rattle.call_registers.specs.declared.reply.Reply.{Reply}
-use Rattle.service_events.specs.State.{Kept, After, after, is_in_flight, next_id}
+use Rattle.service_events.specs.State.{Kept, After, after, is_in_flight, next_id, folded, unfolded}
 use Rattle.service_events.specs.Calls.{noted}
 use Rattle.service_events.specs.Fits.{Fits}
 use Rattle.service_events.specs.Questions.{is_denied, rule_of}
-use Rattle.service_events.specs.Messages.{acked_again, at_version, created_entry, created_reply, is_known, is_too_much, origin_of, take_admitted, take_allowed, take_decision, take_event, take_rule, taken}
+use Rattle.service_events.specs.Messages.{acked_again, at_version, created_entry, created_reply, is_known, is_too_much, origin_of, take_admitted, take_allowed, take_decision, take_event, take_rule, taken, at_reply_of, take_unless_past}
 use Rattle.service_events.specs.declared.answers.Taken.{Taken}
 use Rattle.service_events.specs.declared.event.Event.TheVariants as events
 use Rattle.service_events.specs.declared.refusals.TakeRefused.{TakeRefused}
@@ -31,8 +31,12 @@ use Rattle.service_parts.specs.Services.{HasRoom, IsService}
 use Rattle.service_parts.specs.declared.parts.Parts.{Parts}
 use Rattle.service_parts.specs.Drafts.{TellNoCall}
 use Rattle.service_parts.proofs.ServiceLaws.{event_service, same_service}
-use Rattle.service_deliveries.specs.TakeChanges.{admission, allowance, changed_by, left_by, unless_much, CanChange, CanCreate, Leaves}
+use Rattle.service_deliveries.specs.TakeChanges.{admission, allowance, changed_by, left_by, unless_much, CanChange, CanCreate, Leaves, unless_past}
 use Rattle.service_deliveries.specs.declared.take_changes.Taking.{Taking}
+use Rattle.std.specs.Option.{option_map_or}
+use Rattle.service_events.proofs.HorizonLemmas.{number_past}
+use Rattle.service_events.proofs.StepLaw.{apart_behind}
+use Rattle.service_deliveries.specs.declared.take_changes.TakeChange.TheVariants.{Amend}
 
 -- ---- taken, or not
 
@@ -47,14 +51,18 @@ module _ (s : Kept) (set : SetMessage) (i : Inputs) where
   allowed (Allow rule) = refl
   allowed (Deny rule) = refl
 
-  admitted_by : (known : Bool) (d : Decision) → taken_as (cond known (Ok None) (allowance d))
-      ≡ cond known (after (acked_again s set) (Ok (taken set None))) (cond (is_denied d) (after s (Err (Denied (rule_of d)))) (take_allowed s set i))
-  admitted_by true d = refl
-  admitted_by false d = allowed d
+  new_by : (o : Option Entry) → taken_as (unless_past o (allowance (take_decision s set))) ≡ take_unless_past s set i o
+  new_by (Some e) = refl
+  new_by None = allowed (take_decision s set)
+
+  admitted_by : (known : Bool) (o : Option Entry) → taken_as (cond known (Ok None) (unless_past o (allowance (take_decision s set))))
+      ≡ cond known (after (acked_again s set) (Ok (taken set None))) (take_unless_past s set i o)
+  admitted_by true o = refl
+  admitted_by false o = new_by o
 
   much_by : (much : Option ℕ) → taken_as (unless_much s set much) ≡ take_admitted s set i much
   much_by (Some n) = refl
-  much_by None = admitted_by (is_known s set) (take_decision s set)
+  much_by None = admitted_by (is_known s set) (find_call (origin_of set) (folded s))
 
   landed_by : (flies : Bool) → flies ≡ false → take_admitted s set i (is_too_much s set) ≡ cond flies (after s (Err (NotYet set.number))) (take_admitted s set i (is_too_much s set))
   landed_by true landed = cc
@@ -89,16 +97,22 @@ allowed_rule : (rule : ℕ) (d : Decision) → allowance d ≡ Ok (Some rule) �
 allowed_rule rule (Allow n) is = cc
 allowed_rule rule (Deny n) is = cc
 
-admitted_rule : (rule : ℕ) (known : Bool) (d : Decision) → cond known (Ok None) (allowance d) ≡ Ok (Some rule) → rule ≡ rule_of d
-admitted_rule rule true d is = cc
-admitted_rule rule false d is = allowed_rule rule d is
+-- and its call's entry isn't folded
+admitted_rule : (rule : ℕ) (known : Bool) (o : Option Entry) (d : Decision) → cond known (Ok None) (unless_past o (allowance d)) ≡ Ok (Some rule) → (rule ≡ rule_of d) × (o ≡ None)
+admitted_rule rule true o d is = cc
+admitted_rule rule false (Some e) d is = cc
+admitted_rule rule false None d is = (allowed_rule rule d is, refl)
 
-much_rule : (s : Kept) (set : SetMessage) (rule : ℕ) (much : Option ℕ) → unless_much s set much ≡ Ok (Some rule) → rule ≡ take_rule s set
+much_rule : (s : Kept) (set : SetMessage) (rule : ℕ) (much : Option ℕ) → unless_much s set much ≡ Ok (Some rule)
+    → (rule ≡ take_rule s set) × (find_call (origin_of set) (folded s) ≡ None)
 much_rule s set rule (Some n) is = cc
-much_rule s set rule None is = admitted_rule rule (is_known s set) (take_decision s set) is
+much_rule s set rule None is = admitted_rule rule (is_known s set) (find_call (origin_of set) (folded s)) (take_decision s set) is
 
 pub rule_is : (s : Kept) (set : SetMessage) (rule : ℕ) → admission s set ≡ Ok (Some rule) → rule ≡ take_rule s set
-rule_is s set rule is = much_rule s set rule (is_too_much s set) is
+rule_is s set rule is = (much_rule s set rule (is_too_much s set) is).0
+
+pub recent_is : (s : Kept) (set : SetMessage) (rule : ℕ) → admission s set ≡ Ok (Some rule) → find_call (origin_of set) (folded s) ≡ None
+recent_is s set rule is = (much_rule s set rule (is_too_much s set) is).1
 
 -- ---- what is drafted
 
@@ -117,15 +131,18 @@ leaves_of s left t answer rows answers noting changes plain can = record {
 pub leaves_same : (s : Kept) (t : Taking) (a b : After (Result Taken TakeRefused)) → a ≡ b → Leaves s t a → Leaves s t b
 leaves_same s t a b same h = record { is = h.is ∙ same; can = h.can; plain = h.plain }
 
--- the entry of the call can have this version
-pub can_amend : (s : Kept) (set : SetMessage) (e : Entry) → Fits s → find_call (origin_of set) s.entries ≡ Some e → IsAmended (at_version set e) s.entries
-can_amend s set e fits found =
-    some_and (find (has_id e.id) s.entries) e (λ old. Amends old (at_version set e))
-    (found_by_call s.entries set.caller set.number e fits.asked.distinct found).1 refl
+-- the entry of the call, which isn't folded, can have this version
+pub can_amend : (s : Kept) (set : SetMessage) (e : Entry) (since : ℕ) → Fits s → find_call (origin_of set) (folded s) ≡ None → find_call (origin_of set) (unfolded s) ≡ Some e
+    → CanChange s (Amend (at_version set e) since)
+can_amend s set e since fits recent found = (
+  some_and (find (has_id e.id) (unfolded s)) e (λ old. Amends old (at_version set e))
+      (found_by_call (unfolded s) set.caller set.number e (apart_behind s fits.asked.distinct) found).1 refl,
+  number_past s (has_origin set.caller set.number) e fits.asked.distinct found,
+)
 
 -- an entry can be made of a call that has none
 pub can_create : (s : Kept) (set : SetMessage) (q : Request) (i : Inputs) (at : ℕ) (e : Entry) (p : Reply) → Fits s → find_call (origin_of set) s.entries ≡ None
-    → at ≤ length s.entries → e ≡ created_entry s set q i → p ≡ created_reply s set → CanCreate s at e p
+    → at ≤ length (unfolded s) → e ≡ created_entry s set q i → p ≡ created_reply s set → CanCreate s at e p
 can_create s set q i at e p fits none within entry reply =
     let l = logged s fits in
     record {
@@ -133,6 +150,18 @@ can_create s set q i at e p fits none within entry reply =
       is_new = subst (λ e. IsNew e s.entries) (sym entry) (record { id = unfound s.journal s.entries s.replies l; origin = none });
       above = subst (λ (p : Reply). IsAboveAll p.id s.replies) (sym reply) (above_all (next_id s) s.replies (below_next s.journal s.entries s.replies l));
     }
+
+-- ---- what is found
+
+-- no entry is there exactly where no request of one is
+pub none_asked : (o : Option Entry) → is_some (option_map (λ (e : Entry). e.request) o) ≡ is_some o
+none_asked None = refl
+none_asked (Some e) = refl
+
+-- the reply of what is found, by its number
+pub due_by : (o : Option Entry) (f : Reply → Reply) (replies : List Reply) → at_reply_of o f replies ≡ option_map_or (λ id. at_entry id f replies) (option_map (λ (e : Entry). e.id) o) replies
+due_by None f replies = refl
+due_by (Some e) f replies = refl
 
 -- ---- what is put in place
 

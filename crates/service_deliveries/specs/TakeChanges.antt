@@ -1,6 +1,6 @@
 -- Why a version of a call isn't taken, or which rule allows it; what taking it is to leave and to answer.
-use Rattle.std.specs.Prelude.{ℕ, ◌≡◌, ◌≤◌, [], ◌∷◌, ◌++◌, Option, Some, None, Result, Ok, Err, if◌then◌else◌, insert, length}
-use Rattle.request_log.specs.Entries.{with_entry, IsNew}
+use Rattle.std.specs.Prelude.{ℕ, ◌≡◌, ◌≤◌, [], ◌∷◌, ◌++◌, Option, Some, None, Result, Ok, Err, if◌then◌else◌, insert, length, ◌+◌, find}
+use Rattle.request_log.specs.Entries.{with_entry, IsNew, find_call, has_id}
 use Rattle.request_log.specs.declared.entry.Entry.{Entry}
 use Rattle.local_repair.specs.Repairs.{IsAmended}
 use Rattle.repair_messages.specs.declared.messages.SetMessage.{SetMessage}
@@ -8,12 +8,12 @@ use Rattle.authorise_rules.specs.declared.asked.Decision.{Decision}
 use Rattle.authorise_rules.specs.declared.asked.Decision.TheVariants.{Allow, Deny}
 use Rattle.call_registers.specs.Replies.{at_entry, made_due, with_taken, IsAboveAll}
 use Rattle.call_registers.specs.declared.reply.Reply.{Reply}
-use Rattle.service_events.specs.State.{Kept, After, after}
+use Rattle.service_events.specs.State.{Kept, After, after, folded, unfolded}
 use Rattle.service_events.specs.Calls.{noted}
-use Rattle.service_events.specs.Messages.{is_known, is_too_much, take_decision}
+use Rattle.service_events.specs.Messages.{is_known, is_too_much, take_decision, origin_of, created_place}
 use Rattle.service_events.specs.declared.answers.Taken.{Taken}
 use Rattle.service_events.specs.declared.refusals.TakeRefused.{TakeRefused}
-use Rattle.service_events.specs.declared.refusals.TakeRefused.TheVariants.{Full, Denied}
+use Rattle.service_events.specs.declared.refusals.TakeRefused.TheVariants.{Full, Denied, TooOld}
 use Rattle.service_parts.specs.Drafts.{TellNoCall}
 use Rattle.service_deliveries.specs.declared.take_changes.TakeChange.{TakeChange}
 use Rattle.service_deliveries.specs.declared.take_changes.TakeChange.TheVariants.{Nothing, Due, Amend, Create}
@@ -24,9 +24,15 @@ abbrev pub allowance : Decision → Result (Option ℕ) TakeRefused
 allowance (Allow rule) = Ok (Some rule)
 allowance (Deny rule) = Err (Denied rule)
 
+-- not where its call's entry is folded
+abbrev pub unless_past : Option Entry → Result (Option ℕ) TakeRefused → Result (Option ℕ) TakeRefused
+unless_past (Some e) allowed = Err (TooOld e.id)
+unless_past None allowed = allowed
+
 -- by which rule it is taken, and one that is known by none
 abbrev pub admitted : Kept → SetMessage → Result (Option ℕ) TakeRefused
-admitted s set = if is_known s set then Ok None else allowance (take_decision s set)
+admitted s set =
+    if is_known s set then Ok None else unless_past (find_call (origin_of set) (folded s)) (allowance (take_decision s set))
 
 abbrev pub unless_much : Kept → SetMessage → Option ℕ → Result (Option ℕ) TakeRefused
 unless_much s set (Some much) = Err (Full much)
@@ -45,18 +51,23 @@ changed_by s (Amend entry since) =
       replies = at_entry entry.id (λ p. made_due since (with_taken entry.version entry.wanted p)) s.replies;
     }
 changed_by s (Create at entry reply) =
-    record s { entries = insert s.entries at entry; replies = s.replies ++ reply ∷ [] }
+    record s { entries = insert s.entries (s.horizon + at) entry; replies = s.replies ++ reply ∷ [] }
 
--- a created entry and its reply are new, and the place is one of the log
+-- a created entry at its place, with its reply
+abbrev pub created_change : Kept → SetMessage → Entry → Reply → Kept
+created_change s set entry reply =
+    record s { entries = insert s.entries (created_place s set) entry; replies = s.replies ++ reply ∷ [] }
+
+-- a created entry and its reply are new, and the place is one behind the folded entries
 pub record CanCreate (s : Kept) (at : ℕ) (entry : Entry) (reply : Reply) : Type 0 where
-  pub within : at ≤ length s.entries
+  pub within : at ≤ length (unfolded s)
   pub is_new : IsNew entry s.entries
   pub above : IsAboveAll reply.id s.replies
 
 abbrev pub CanChange : Kept → TakeChange → Type 0
 CanChange s Nothing = Unit {0}
 CanChange s (Due id since) = Unit {0}
-CanChange s (Amend entry since) = IsAmended entry s.entries
+CanChange s (Amend entry since) = IsAmended entry (unfolded s) × (find (has_id entry.id) (folded s) ≡ None)
 CanChange s (Create at entry reply) = CanCreate s at entry reply
 
 abbrev pub left_by : Kept → Taking → Kept

@@ -2,17 +2,18 @@
 ghost use Rattle.std.specs.Prelude.{◌≡◌, ◌≤◌, ◌&&◌, not, IfOk};
 ghost use Rattle.std.specs.Option.{option_copied};
 ghost use Rattle.journal_rows.specs.Words.{taken_version};
-ghost use Rattle.service_events.specs.State.{in_all, is_crowded, is_in_flight, where_needed};
+ghost use Rattle.service_events.specs.State.{folded, in_all, is_crowded, is_in_flight, where_needed};
 ghost use Rattle.service_events.specs.Messages.{is_known, is_too_much, known_request, makes_entry, origin_of, take_decision};
 ghost use Rattle.service_parts.specs.Parts.{kept};
-ghost use Rattle.service_deliveries.specs.TakeChanges.{admission, allowance};
+ghost use Rattle.service_deliveries.specs.TakeChanges.{admission, allowance, unless_past};
+ghost use Rattle.request_log.specs.Entries.{find_call};
 
 use crate::making::origin_of;
 use authorise_rules::Decision;
 use lang_core::{NoMemory, Request};
 use repair_messages::{SetMessage, kind_of};
 use service_events::TakeRefused;
-use service_parts::{Parts, decision_by, is_crowded, is_heavy, path_of};
+use service_parts::{Parts, decision_by, is_crowded, is_heavy, path_of, request_from};
 use std::alloc::Global;
 
 fn taken_version(parts: &Parts, set: &SetMessage) -> u64
@@ -32,15 +33,11 @@ fn is_known(parts: &Parts, set: &SetMessage) -> bool
 }
 
 // Whether its call has no entry, and asks something.
+#[tactic(auto, using(crate::proofs::TakeLemmas::none_asked))]
 fn makes_entry(parts: &Parts, set: &SetMessage) -> bool
     ensures { result ≡ makes_entry (kept parts.now) set.now }
 {
-    set.desired.is_some()
-        && parts
-            .repairer
-            .log()
-            .find_origin(&set.caller, set.number)
-            .is_none()
+    set.desired.is_some() && request_from(parts.repairer.log(), &set.caller, set.number).is_none()
 }
 
 fn crowded_for(parts: &Parts, set: &SetMessage) -> Option<u64>
@@ -79,10 +76,7 @@ pub(crate) fn is_in_flight(alloc: Global, parts: &Parts, set: &SetMessage) -> Re
 fn known_request<'a>(parts: &'a Parts, set: &SetMessage) -> Option<&'a Request>
     ensures { option_copied result ≡ known_request (kept parts.now) set.now }
 {
-    match parts.repairer.log().find_origin(&set.caller, set.number) {
-        None => None,
-        Some(entry) => Some(entry.request.get()),
-    }
+    request_from(parts.repairer.log(), &set.caller, set.number)
 }
 
 // What the service's rules decide of it: by the request that its call's entry has now.
@@ -112,8 +106,19 @@ fn allowance(parts: &Parts, set: &SetMessage) -> Result<Option<u32>, TakeRefused
     }
 }
 
+// The same, unless its call's entry is folded.
+#[tactic(auto, using(service_parts::proofs::WholeLemmas::past_call_found))]
+fn newly_allowed(parts: &Parts, set: &SetMessage) -> Result<Option<u32>, TakeRefused>
+    ensures { result ≡ unless_past (find_call (origin_of set.now) (folded (kept parts.now))) (allowance (take_decision (kept parts.now) set.now)) }
+{
+    match parts.repairer.log().folded_origin(&set.caller, set.number) {
+        Some(past) => Err(TakeRefused::TooOld(past.id)),
+        None => allowance(parts, set),
+    }
+}
+
 /// The rule by which a version is taken whose call isn't in flight, or why it isn't taken. Rules are asked last, and of one
-/// that is known they aren't asked.
+/// that is known, or whose call's entry is folded, they aren't asked.
 pub(crate) fn admission(parts: &Parts, set: &SetMessage) -> Result<Option<u32>, TakeRefused>
     requires { in_all (kept parts.now) ≤ 100000 }
     ensures { result ≡ admission (kept parts.now) set.now }
@@ -124,7 +129,7 @@ pub(crate) fn admission(parts: &Parts, set: &SetMessage) -> Result<Option<u32>, 
             if is_known(parts, set) {
                 Ok(None)
             } else {
-                allowance(parts, set)
+                newly_allowed(parts, set)
             }
         }
     }

@@ -6,7 +6,7 @@ ghost use Rattle.service_events.specs.Doing.{Does, answer_memory};
 ghost use Rattle.service_events.specs.Messages.{hear_decision, heard, noted_row, take_token_event};
 ghost use Rattle.service_parts.specs.Parts.{kept};
 ghost use Rattle.service_parts.specs.Services.{HasRoom, IsService};
-ghost use Rattle.service_deliveries.specs.Hearing.{admission, admitted, allowance, noted_rows, token_rows};
+ghost use Rattle.service_deliveries.specs.Hearing.{admission, admitted, allowance, noted_rows, token_rows, unless_past};
 
 use crate::noting::note_at_once;
 use authorise_rules::{Asked, Decision, decide};
@@ -15,7 +15,7 @@ use journal_rows::{ConfirmedRow, NotedRow, Row};
 use lang_core::{Copied, NoMemory, Same};
 use repair_messages::{Confirm, Kind, TokenMessage, copied_pair};
 use service_events::{AnswerRefused, Heard};
-use service_parts::{Parts, path_of};
+use service_parts::{Parts, is_past_call, path_of};
 use std::alloc::Global;
 
 // ---- why it isn't taken, or which rule allows it
@@ -53,6 +53,22 @@ fn allowance(
     }
 }
 
+// The same, unless its call is one of a folded entry.
+#[tactic(auto, using(service_parts::proofs::WholeLemmas::past_call_is))]
+fn newly_allowed(
+    parts: &Parts,
+    token: &TokenMessage,
+    register: &Register,
+) -> Result<Option<u32>, AnswerRefused>
+    ensures { result ≡ unless_past (kept parts.now) token.now (allowance (hear_decision (kept parts.now) token.now register.now)) }
+{
+    if is_past_call(parts.repairer.log().folded().as_slice(), token.number) {
+        Err(AnswerRefused::TooOld(token.number))
+    } else {
+        allowance(parts, token, register)
+    }
+}
+
 fn admitted(
     parts: &Parts,
     token: &TokenMessage,
@@ -63,7 +79,7 @@ fn admitted(
     if !register.dest.is(&token.callee) {
         Err(AnswerRefused::Unknown(token.number))
     } else if is_news(register, token.answer_version) {
-        allowance(parts, token, register)
+        newly_allowed(parts, token, register)
     } else {
         Ok(None)
     }
@@ -173,7 +189,8 @@ fn confirm_token(
 
 /// A token came, which announces an answer to one of the service's calls. It is refused where no call to that service has its
 /// number. One that isn't above the answer that is held, or the one that was noted, is confirmed again. Of any other the
-/// service's rules are asked: it is refused where they deny it, with the number of the rule; else it is noted, and confirmed.
+/// service's rules are asked, unless the call is one of a folded entry, where it is too old: it is refused where they deny it,
+/// with the number of the rule; else it is noted, and confirmed.
 pub fn take_token(
     alloc: Global,
     parts: &mut Parts,

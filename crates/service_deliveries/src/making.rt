@@ -13,7 +13,7 @@ use lang_core::{Copied, Inputs, Name, NoMemory, Origin, Request, Shared};
 use repair_messages::{Ack, SetMessage, copied_pair};
 use request_log::{Entry, KeptEntry};
 use service_events::Taken;
-use service_parts::{Parts, created, next_id};
+use service_parts::{Parts, created, id_from, next_id};
 use std::alloc::Global;
 
 /// What is answered, where this rule allowed it.
@@ -233,13 +233,13 @@ pub(crate) fn created_reply(
 fn neighbour(parts: &Parts, caller: &Name, number: Option<u64>) -> Option<u64>
     ensures { result ≡ neighbour (kept parts.now) caller.now number }
 {
-    let entry = parts.repairer.log().find_origin(caller, number?)?;
-    Some(entry.id)
+    id_from(parts.repairer.log(), caller, number?)
 }
 
-/// The place in the log of the entry that a version makes.
+/// The place of the entry that a version makes, counted from 0 behind the folded entries.
+#[tactic(auto, using(service_parts::proofs::PlaceLaw::place_behind_all))]
 pub(crate) fn created_place(parts: &Parts, set: &SetMessage) -> u64
-    ensures place { result ≡ created_place (kept parts.now) set.now }
+    ensures place { length parts.now.repairer.folded + result ≡ created_place (kept parts.now) set.now }
     ensures within { result ≤ length parts.now.repairer.entries }
 {
     let before = neighbour(parts, &set.caller, set.before);

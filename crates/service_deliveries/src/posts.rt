@@ -174,6 +174,7 @@ pub(crate) fn hold_of(word: PostWord, number: u64) -> Option<Hold>
     match word {
         PostWord::Denied => Some(Hold::Rule(number)),
         PostWord::Unknown => Some(Hold::Unknown),
+        PostWord::TooOld => Some(Hold::TooOld(number)),
         PostWord::NoMemory => None,
         PostWord::Full => None,
         PostWord::NotYet => None,

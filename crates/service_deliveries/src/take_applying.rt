@@ -1,9 +1,10 @@
 // What taking a version changes, put in place.
-ghost use Rattle.std.specs.Prelude.{◌≡◌, ◌<◌, ◌≤◌, ◌^◌, ◌∷◌, ◌++◌, [], insert, length, IfOk, OnOk, OnErr};
+ghost use Rattle.std.specs.Prelude.{◌≡◌, ◌+◌, ◌<◌, ◌≤◌, ◌^◌, ◌∷◌, ◌++◌, [], None, find, insert, length, IfOk, OnOk, OnErr};
 ghost use Rattle.request_log.specs.Entries.{with_entry, IsNew};
+ghost use Rattle.request_log.specs.Folded.{has_number};
 ghost use Rattle.local_repair.specs.Repairs.{IsAmended};
 ghost use Rattle.call_registers.specs.Replies.{at_entry, made_due, with_taken, IsAboveAll};
-ghost use Rattle.service_parts.specs.Parts.{kept};
+ghost use Rattle.service_parts.specs.Parts.{kept, whole_log};
 ghost use Rattle.service_parts.specs.Services.{HasRoom};
 ghost use Rattle.service_parts.specs.Drafts.{TellNoCall};
 ghost use Rattle.service_deliveries.specs.TakeChanges.{changed_by, left_by, CanChange};
@@ -14,7 +15,7 @@ use lang_core::NoMemory;
 use local_repair::Repairer;
 use request_log::{Entry, KeptEntry};
 use service_events::Taken;
-use service_parts::{Parts, insert, push_rows, reserve};
+use service_parts::{Parts, amend, insert, push_rows, reserve};
 
 // ---- replies, where an entry has one
 
@@ -36,14 +37,17 @@ fn note_taken(replies: &mut Replies, id: u64, version: u64, wanted: bool)
 
 // ---- entries
 
-fn amend(repairer: &mut Repairer, replies: &mut Replies, entry: Entry, since: u64)
-    requires { IsAmended entry repairer.old.entries }
-    ensures entries { repairer.new.entries ≡ with_entry entry repairer.old.entries }
+fn amend_due(repairer: &mut Repairer, replies: &mut Replies, entry: Entry, since: u64)
+    requires past { find (has_number entry.id) repairer.old.folded ≡ None }
+    requires amends { IsAmended entry repairer.old.entries }
+    ensures entries { whole_log repairer.new ≡ with_entry entry (whole_log repairer.old) }
+    ensures folded { repairer.new.folded ≡ repairer.old.folded }
+    ensures base { repairer.new.base ≡ repairer.old.base }
     ensures replies { replies.new.list ≡ at_entry entry.id (λ p. made_due since (with_taken entry.version entry.wanted p)) replies.old.list }
 {
     note_taken(replies, entry.id, entry.version, entry.wanted);
     make_due(replies, entry.id, since);
-    repairer.amend(entry);
+    amend(repairer, entry);
 }
 
 #[tactic(auto, using(lang_lists::proofs::RoomLemmas::made_last))]
@@ -55,11 +59,13 @@ fn create(
     reply: Reply,
 ) -> Result<(), NoMemory>
     requires within { at ≤ length repairer.old.entries }
-    requires is_new { IsNew entry repairer.old.entries }
+    requires is_new { IsNew entry (whole_log repairer.old) }
     requires above { IsAboveAll reply.id replies.old.list }
-    ensures entries { OnOk result (repairer.new.entries ≡ insert repairer.old.entries at entry) }
+    ensures entries { OnOk result (whole_log repairer.new ≡ insert (whole_log repairer.old) (length repairer.old.folded + at) entry) }
+    ensures folded { repairer.new.folded ≡ repairer.old.folded }
+    ensures base { repairer.new.base ≡ repairer.old.base }
     ensures replies { OnOk result (replies.new.list ≡ replies.old.list ++ reply ∷ []) }
-    ensures entries_err { OnErr result (repairer.new.entries ≡ repairer.old.entries) }
+    ensures repairer_err { OnErr result (repairer.new ≡ repairer.old) }
     ensures replies_err { OnErr result (replies.new.list ≡ replies.old.list) }
 {
     replies.ready_add(&reply)?;
@@ -71,6 +77,7 @@ fn create(
 // ---- all of it
 
 // Changes entries and replies so. Refused, they stay.
+#[tactic(auto, using(service_parts::proofs::WholeLemmas::unfolded_kept), using(service_parts::proofs::WholeLemmas::none_past))]
 fn apply(parts: &mut Parts, change: TakeChange) -> Result<(), NoMemory>
     requires { CanChange (kept parts.old) change }
     ensures ok { OnOk result (kept parts.new ≡ changed_by (kept parts.old) change) }
@@ -85,7 +92,7 @@ fn apply(parts: &mut Parts, change: TakeChange) -> Result<(), NoMemory>
             Ok(())
         }
         TakeChange::Amend { entry, since } => {
-            amend(&mut parts.repairer, &mut parts.replies, entry, since);
+            amend_due(&mut parts.repairer, &mut parts.replies, entry, since);
             Ok(())
         }
         TakeChange::Create { at, entry, reply } => {

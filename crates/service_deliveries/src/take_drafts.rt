@@ -2,13 +2,13 @@
 ghost use Rattle.std.specs.Prelude.{◌≡◌, false, None, Some, Ok, IfOk, length};
 ghost use Rattle.lang_core.specs.declared.inputs.Inputs.{Inputs};
 ghost use Rattle.request_log.specs.Entries.{find_call};
-ghost use Rattle.local_repair.specs.Repairs.{IsAmended};
+ghost use Rattle.service_deliveries.specs.declared.take_changes.TakeChange.{TakeChange};
 ghost use Rattle.call_registers.specs.Replies.{made_due};
-ghost use Rattle.service_events.specs.State.{after, is_in_flight};
+ghost use Rattle.service_events.specs.State.{after, folded, is_in_flight};
 ghost use Rattle.service_events.specs.Fits.{Fits};
 ghost use Rattle.service_events.specs.Messages.{acked_again, at_reply_of, at_version, created_entry, created_place, created_reply, origin_of, take_event, take_rule, taken, taken_by};
-ghost use Rattle.service_parts.specs.Parts.{kept};
-ghost use Rattle.service_deliveries.specs.TakeChanges.{admission, changed_by, CanChange, Leaves};
+ghost use Rattle.service_parts.specs.Parts.{kept, whole_log};
+ghost use Rattle.service_deliveries.specs.TakeChanges.{admission, changed_by, created_change, CanChange, Leaves};
 
 use crate::making::{
     at_version, created_entry, created_place, created_reply, created_rows, index, known_rows,
@@ -19,7 +19,7 @@ use journal_rows::Row;
 use lang_core::{Inputs, NoMemory, Request, Shared};
 use repair_messages::SetMessage;
 use request_log::Entry;
-use service_parts::Parts;
+use service_parts::{Parts, id_from};
 use std::alloc::Global;
 
 fn taking(
@@ -41,15 +41,16 @@ fn taking(
 
 // ---- a version that is known
 
-// The reply of the call's entry is due, if there is one.
+// The reply of the call's entry, folded or not, is due, if there is one.
+#[tactic(auto, using(crate::proofs::TakeLemmas::due_by))]
 fn due_again(parts: &Parts, set: &SetMessage) -> TakeChange
-    ensures is { changed_by (kept parts.now) result ≡ record (kept parts.now) { replies = at_reply_of (find_call (origin_of set.now) parts.now.repairer.entries) (made_due (length parts.now.journal.rows)) parts.now.replies.list } }
+    ensures is { changed_by (kept parts.now) result ≡ record (kept parts.now) { replies = at_reply_of (find_call (origin_of set.now) (whole_log parts.now.repairer)) (made_due (length parts.now.journal.rows)) parts.now.replies.list } }
     ensures can { CanChange (kept parts.now) result }
 {
-    match parts.repairer.log().find_origin(&set.caller, set.number) {
+    match id_from(parts.repairer.log(), &set.caller, set.number) {
         None => TakeChange::Nothing,
-        Some(entry) => TakeChange::Due {
-            id: entry.id,
+        Some(id) => TakeChange::Due {
+            id,
             since: index(parts, 0),
         },
     }
@@ -74,7 +75,7 @@ fn amended(
     old: &Entry,
     rule: u32,
 ) -> Result<Taking, NoMemory>
-    requires can { IsAmended (at_version set.now old.now) parts.now.repairer.entries }
+    requires can { CanChange (kept parts.now) (TakeChange.Amend (at_version set.now old.now) 0) }
     requires rule { rule ≡ take_rule (kept parts.now) set.now }
     ensures { (i : Inputs) → IfOk result (λ t. Leaves (kept parts.now) t (after (taken_by (kept parts.now) set.now i (Some old.now) set.now.desired) (Ok (taken set.now (Some (take_rule (kept parts.now) set.now)))))) }
 {
@@ -99,8 +100,8 @@ fn create(
     inputs: &Shared<Inputs>,
 ) -> Result<TakeChange, NoMemory>
     requires fits { Fits (kept parts.now) }
-    requires none { find_call (origin_of set.now) parts.now.repairer.entries ≡ None }
-    ensures is { IfOk result (λ change. change ≡ TakeChange.Create (created_place (kept parts.now) set.now) (created_entry (kept parts.now) set.now request.now inputs.now) (created_reply (kept parts.now) set.now)) }
+    requires none { find_call (origin_of set.now) (whole_log parts.now.repairer) ≡ None }
+    ensures is { IfOk result (λ change. changed_by (kept parts.now) change ≡ created_change (kept parts.now) set.now (created_entry (kept parts.now) set.now request.now inputs.now) (created_reply (kept parts.now) set.now)) }
     ensures can { IfOk result (λ change. CanChange (kept parts.now) change) }
 {
     let at = created_place(parts, set);
@@ -119,7 +120,7 @@ fn made(
     rule: u32,
 ) -> Result<Taking, NoMemory>
     requires fits { Fits (kept parts.now) }
-    requires none { find_call (origin_of set.now) parts.now.repairer.entries ≡ None }
+    requires none { find_call (origin_of set.now) (whole_log parts.now.repairer) ≡ None }
     requires rule { rule ≡ take_rule (kept parts.now) set.now }
     ensures { IfOk result (λ t. Leaves (kept parts.now) t (after (taken_by (kept parts.now) set.now inputs.now None (Some request.now)) (Ok (taken set.now (Some (take_rule (kept parts.now) set.now)))))) }
 {
@@ -138,7 +139,7 @@ fn made_of(
     rule: u32,
 ) -> Result<Taking, NoMemory>
     requires fits { Fits (kept parts.now) }
-    requires none { find_call (origin_of set.now) parts.now.repairer.entries ≡ None }
+    requires none { find_call (origin_of set.now) (whole_log parts.now.repairer) ≡ None }
     requires rule { rule ≡ take_rule (kept parts.now) set.now }
     ensures { IfOk result (λ t. Leaves (kept parts.now) t (after (taken_by (kept parts.now) set.now inputs None (Some request.now)) (Ok (taken set.now (Some (take_rule (kept parts.now) set.now)))))) }
 {
@@ -165,7 +166,7 @@ fn unknown(
     rule: u32,
 ) -> Result<Taking, NoMemory>
     requires fits { Fits (kept parts.now) }
-    requires none { find_call (origin_of set.now) parts.now.repairer.entries ≡ None }
+    requires none { find_call (origin_of set.now) (whole_log parts.now.repairer) ≡ None }
     requires rule { rule ≡ take_rule (kept parts.now) set.now }
     ensures { IfOk result (λ t. Leaves (kept parts.now) t (after (taken_by (kept parts.now) set.now inputs None set.now.desired) (Ok (taken set.now (Some (take_rule (kept parts.now) set.now)))))) }
 {
@@ -175,7 +176,7 @@ fn unknown(
     }
 }
 
-// This rule allowed it.
+// This rule allowed it, and its call's entry isn't folded.
 fn newer(
     alloc: Global,
     parts: &Parts,
@@ -184,8 +185,9 @@ fn newer(
     rule: u32,
 ) -> Result<Taking, NoMemory>
     requires fits { Fits (kept parts.now) }
+    requires recent { find_call (origin_of set.now) (folded (kept parts.now)) ≡ None }
     requires rule { rule ≡ take_rule (kept parts.now) set.now }
-    ensures { IfOk result (λ t. Leaves (kept parts.now) t (after (taken_by (kept parts.now) set.now inputs (find_call (origin_of set.now) parts.now.repairer.entries) set.now.desired) (Ok (taken set.now (Some (take_rule (kept parts.now) set.now)))))) }
+    ensures { IfOk result (λ t. Leaves (kept parts.now) t (after (taken_by (kept parts.now) set.now inputs (find_call (origin_of set.now) (whole_log parts.now.repairer)) set.now.desired) (Ok (taken set.now (Some (take_rule (kept parts.now) set.now)))))) }
 {
     match parts.repairer.log().find_origin(&set.caller, set.number) {
         Some(entry) => amended(alloc, parts, set, entry, rule),

@@ -54,7 +54,8 @@ fn landed(
 }
 
 /// A version of another service's call comes by a message. It is refused where that call is in flight, and where there is too
-/// much. One that isn't above the version that was taken is acknowledged again. Of any other the service's rules are asked:
+/// much. One that isn't above the version that was taken is acknowledged again. One whose call's entry is folded is too old. Of
+/// any other the service's rules are asked:
 /// it is refused where they deny it, with the number of the rule; else it is taken, and where its call has no entry and asks
 /// something, one is made, which never ran.
 pub fn take(

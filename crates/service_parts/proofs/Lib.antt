@@ -1,4 +1,5 @@
 pub mod WholeLemmas
+pub mod PlaceLaw
 pub mod DraftLemmas
 pub mod ReplyLemmas
 pub mod BoundLaws

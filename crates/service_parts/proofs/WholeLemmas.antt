@@ -1,5 +1,5 @@
 -- All entries of a service, as its log keeps them: the folded ones, and behind them the others.
-use Rattle.std.proofs.Common.{◌≡◌, ℕ, zero, suc, ◌+◌, Bool, true, false, cond, List, [], ◌∷◌, ◌++◌, Option, Some, None, drop, find, insert, length, map, option_map, take, refl, sym, ap, ◌∙◌, arith, length-append, nat_eq}
+use Rattle.std.proofs.Common.{◌≡◌, ℕ, zero, suc, ◌+◌, Bool, true, false, cond, List, [], ◌∷◌, ◌++◌, Option, Some, None, drop, find, insert, length, map, option_map, take, refl, sym, ap, ◌∙◌, arith, length-append, nat_eq, ◌||◌}
 use Rattle.std.specs.Option.{option_or}
 use Rattle.std.proofs.lemmas.List.{length-map, map-append}
 use Rattle.std.proofs.lemmas.List.Folds.{find-append}
@@ -14,6 +14,8 @@ use Rattle.lang_core.specs.declared.request.Request.{Request}
 use Rattle.local_repair.specs.Repairs.{KeptRepairer}
 use Rattle.service_events.proofs.HorizonLemmas.{find_skips, with_later}
 use Rattle.service_events.proofs.SearchLemmas.{none_changed, none_first}
+use Rattle.std.specs.List.{list_any}
+use Rattle.service_events.specs.Messages.{is_past_call}
 
 drop_whole : (fs : List Folded) (es : List Entry) → drop (length fs) (map as_entry fs ++ es) ≡ es
 drop_whole [] es = refl
@@ -129,3 +131,25 @@ request_called c n fs es = found_by (λ (e : Entry). e.request) (has_origin c n)
 pub id_called : (c : List ℕ) (n : ℕ) (fs : List Folded) (es : List Entry) → option_map (λ (e : Entry). e.id) (find (has_origin c n) (whole fs es))
     ≡ option_or (option_map (λ (f : Folded). f.id) (find (has_caller c n) fs)) (option_map (λ (e : Entry). e.id) (find (has_origin c n) es))
 id_called c n fs es = found_by (λ (e : Entry). e.id) (has_origin c n) (has_caller c n) (λ f. refl) fs es
+
+any_mapped : (number : ℕ) (fs : List Folded) → list_any (λ (e : Entry). list_any (nat_eq number) e.slots) (map as_entry fs) ≡ list_any (λ (f : Folded). list_any (nat_eq number) f.slots) fs
+any_mapped number [] = refl
+any_mapped number (f ∷ fs) = ap (λ b. list_any (nat_eq number) f.slots || b) (any_mapped number fs)
+
+-- whether a call is one of a folded entry
+pub past_call_is : (p : Parts) (number : ℕ) → is_past_call number (kept p) ≡ list_any (λ (f : Folded). list_any (nat_eq number) f.slots) p.repairer.folded
+past_call_is p number = ap (list_any (λ (e : Entry). list_any (nat_eq number) e.slots)) (folded_kept p) ∙ any_mapped number p.repairer.folded
+
+-- the folded entry of a call
+pub past_call_found : (p : Parts) (c : List ℕ) (n : ℕ) → find (has_origin c n) (folded (kept p)) ≡ option_map as_entry (find (has_caller c n) p.repairer.folded)
+past_call_found p c n = ap (find (has_origin c n)) (folded_kept p) ∙ find_folded (has_origin c n) (has_caller c n) (λ f. refl) p.repairer.folded
+
+no_entry : (o : Option Folded) → option_map as_entry o ≡ None → o ≡ None
+no_entry None h = refl
+no_entry (Some f) h = cc
+
+-- no folded entry has a number
+pub none_past : (p : Parts) (id : ℕ) → find (has_id id) (folded (kept p)) ≡ None → find (has_number id) p.repairer.folded ≡ None
+none_past p id none =
+    no_entry (find (has_number id) p.repairer.folded)
+    (sym (ap (find (has_id id)) (folded_kept p) ∙ find_folded (has_id id) (has_number id) (λ f. refl) p.repairer.folded) ∙ none)

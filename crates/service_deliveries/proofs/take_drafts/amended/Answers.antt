@@ -21,5 +21,5 @@ returns c i =
     leaves_of s (changed_by s (Amend (at_version set c.args.old.now) (length s.journal + 1))) t (taken set (Some (take_rule s set))) (taken_rows (take_rule s set) set)
     (ap (λ (t : Taking). t.taken) h ∙ ap (λ n. taken set (Some n)) c.requires.rule)
     (ap (λ (t : Taking). t.rows.items) h ∙ c.in_ok-rows.ensures ∙ ap (λ n. taken_rows n set) c.requires.rule)
-    (ap (changed_by s) change) (λ at rs. refl) (subst (CanChange s) (sym change) c.requires.can))
+    (ap (changed_by s) change) (λ at rs. refl) (subst (CanChange s) (sym change) (c.requires.can.0, c.requires.can.1)))
     c.taking.ensures

@@ -1,7 +1,7 @@
 use Rattle.std.proofs.Common.{◌∙◌, ap, Ok}
 use Rattle.std.proofs.lemmas.Result.{IfOk-weaker}
 use Rattle.service_parts.specs.Parts.{kept}
-use Rattle.service_deliveries.proofs.TakeLemmas.{again_is, leaves_same, newer_is, rule_is}
+use Rattle.service_deliveries.proofs.TakeLemmas.{again_is, leaves_same, newer_is, recent_is, rule_is}
 use Rattle.service_deliveries.proofs.take_drafts.draft.Goals as goal
 
 pub returns-in-None : goal.returns-in-None
@@ -14,6 +14,10 @@ returns-in-None c =
 pub newer-requires-clause-rule : goal.newer-requires-clause-rule
 newer-requires-clause-rule c =
     rule_is (kept c.args.parts.now) c.args.set.now c.in-Some.rule (c.requires.admitted ∙ ap (λ r. Ok r) c.in-Some.is)
+
+pub newer-requires-clause-recent : goal.newer-requires-clause-recent
+newer-requires-clause-recent c =
+    recent_is (kept c.args.parts.now) c.args.set.now c.in-Some.rule (c.requires.admitted ∙ ap (λ r. Ok r) c.in-Some.is)
 
 pub returns-in-Some : goal.returns-in-Some
 returns-in-Some c =

@@ -1,7 +1,7 @@
 use Rattle.std.proofs.Common.{◌∙◌, ap}
 use Rattle.call_registers.specs.Replies.{at_entry, made_due}
 use Rattle.service_deliveries.proofs.ReplyLemmas.{taken_and_due}
-use Rattle.service_deliveries.proofs.take_applying.amend.Goals as goal
+use Rattle.service_deliveries.proofs.take_applying.amend_due.Goals as goal
 
 pub returns-clause-replies : goal.returns-clause-replies
 returns-clause-replies c =
