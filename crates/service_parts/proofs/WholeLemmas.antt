@@ -1,5 +1,5 @@
 -- All entries of a service, as its log keeps them: the folded ones, and behind them the others.
-use Rattle.std.proofs.Common.{◌≡◌, ℕ, zero, suc, ◌+◌, Bool, true, false, cond, List, [], ◌∷◌, ◌++◌, Option, Some, None, drop, find, insert, length, map, option_map, take, refl, sym, ap, ◌∙◌, arith, length-append, nat_eq, ◌||◌}
+use Rattle.std.proofs.Common.{◌≡◌, ℕ, zero, suc, ◌+◌, Bool, true, false, cond, List, [], ◌∷◌, ◌++◌, Option, Some, None, drop, find, insert, length, map, option_map, take, refl, sym, ap, ◌∙◌, arith, length-append, nat_eq, ◌||◌, is_some}
 use Rattle.std.specs.Option.{option_or}
 use Rattle.std.proofs.lemmas.List.{length-map, map-append}
 use Rattle.std.proofs.lemmas.List.Folds.{find-append}
@@ -7,7 +7,7 @@ use Rattle.request_log.specs.Entries.{has_id, with_entry, changed, AreReplaced, 
 use Rattle.request_log.specs.Folded.{as_entry, whole, has_caller, has_number}
 use Rattle.request_log.specs.declared.entry.Entry.{Entry}
 use Rattle.request_log.specs.declared.folded.Folded.{Folded}
-use Rattle.service_events.specs.State.{folded, in_all, unfolded}
+use Rattle.service_events.specs.State.{folded, in_all, unfolded, is_past}
 use Rattle.service_parts.specs.Parts.{kept, whole_log}
 use Rattle.service_parts.specs.declared.parts.Parts.{Parts}
 use Rattle.lang_core.specs.declared.request.Request.{Request}
@@ -153,3 +153,16 @@ pub none_past : (p : Parts) (id : ℕ) → find (has_id id) (folded (kept p)) �
 none_past p id none =
     no_entry (find (has_number id) p.repairer.folded)
     (sym (ap (find (has_id id)) (folded_kept p) ∙ find_folded (has_id id) (has_number id) (λ f. refl) p.repairer.folded) ∙ none)
+
+some_kept : (o : Option Folded) → is_some (option_map as_entry o) ≡ is_some o
+some_kept None = refl
+some_kept (Some f) = refl
+
+-- whether an entry is folded
+pub past_entry_is : (p : Parts) (id : ℕ) → is_past id (kept p) ≡ is_some (find (has_number id) p.repairer.folded)
+past_entry_is p id =
+    ap is_some (ap (find (has_id id)) (folded_kept p) ∙ find_folded (has_id id) (has_number id) (λ f. refl) p.repairer.folded) ∙ some_kept (find (has_number id) p.repairer.folded)
+
+-- the entry of a number
+pub entry_found : (id : ℕ) (fs : List Folded) (es : List Entry) → find (has_id id) (whole fs es) ≡ option_or (option_map as_entry (find (has_number id) fs)) (find (has_id id) es)
+entry_found id fs es = find_whole (has_id id) fs es ∙ ap (λ o. option_or o (find (has_id id) es)) (find_folded (has_id id) (has_number id) (λ f. refl) fs)

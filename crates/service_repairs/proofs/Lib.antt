@@ -4,3 +4,4 @@ pub mod OrderLemmas
 mod RepairLemmas
 mod DraftedLemmas
 pub mod DoneLemmas
+pub mod FoldLemmas

@@ -4,7 +4,7 @@ use Rattle.std.specs.Option.{option_map_or}
 use Rattle.lang_core.specs.declared.inputs.Inputs.{Inputs}
 use Rattle.repair_messages.specs.declared.posts.PostName.TheVariants.{Call as OfCall, Reply as OfReply}
 use Rattle.journal_rows.specs.declared.orders.Command.{Command}
-use Rattle.journal_rows.specs.declared.orders.Command.TheVariants.{Cancel, Restore, Replace, Create, Retry}
+use Rattle.journal_rows.specs.declared.orders.Command.TheVariants.{Cancel, Restore, Replace, Create, Retry, Fold}
 use Rattle.call_registers.specs.Registers.{register}
 use Rattle.call_registers.specs.Replies.{reply}
 use Rattle.call_registers.specs.declared.register.Register.{Register}
@@ -35,3 +35,4 @@ orders_tell_none s (Restore id) token who i = λ at rs. refl
 orders_tell_none s (Replace id method path body) token who i = λ at rs. refl
 orders_tell_none s (Create before after q) token who i = λ at rs. refl
 orders_tell_none s (Retry name) token who i = λ at rs. refl
+orders_tell_none s (Fold id) token who i = λ at rs. refl

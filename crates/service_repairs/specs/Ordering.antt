@@ -13,7 +13,7 @@ use Rattle.journal_rows.specs.declared.row.Row.{Row}
 use Rattle.journal_rows.specs.declared.row.Row.TheVariants.{Asked, Ordered as OrderedAs}
 use Rattle.service_events.specs.State.{Kept, next_id, or_else, is_crowded, is_heavy}
 use Rattle.service_events.specs.Questions.{question_about}
-use Rattle.service_events.specs.Orders.{about, misnamed, order_rows, order_rule, refused}
+use Rattle.service_events.specs.Orders.{about, misnamed, order_rows, order_rule, refused, unless_quiet}
 use Rattle.service_events.specs.declared.refusals.OrderRefused.{OrderRefused}
 use Rattle.service_events.specs.declared.refusals.OrderRefused.TheVariants.{Denied, Full}
 use Rattle.service_repairs.specs.Resolving.{Resolution}
@@ -25,7 +25,7 @@ too_much s created = or_else (is_heavy s) (if is_some created then is_crowded s 
 
 -- why it can't be carried out, whoever may order it
 abbrev pub unless_carried : Kept → Resolution → Option OrderRefused
-unless_carried s r = or_else r.misnamed (option_map (λ n. Full n) (too_much s r.created))
+unless_carried s r = or_else (or_else r.misnamed (unless_quiet s r.command)) (option_map (λ n. Full n) (too_much s r.created))
 
 -- what the service's rules decide of it
 abbrev pub decision_on : Kept → Resolution → List ℕ → Decision
@@ -71,7 +71,8 @@ pub record IsDraft (s : Kept) (command : Command) (token who : List ℕ) (i : In
   pub rule : d.ordered.rule ≡ order_rule s command who
   pub rows : d.rows.items ≡ order_rows s command token who i
 
--- what the order names is there, and the next entry is a new one
+-- what the order names is there, what it folds is quiet, and the next entry is a new one
 pub record MayOrder (s : Kept) (command : Command) : Type 0 where
   pub named : misnamed s command ≡ None
+  pub quiet : unless_quiet s command ≡ None
   pub id : find (has_id (next_id s)) s.entries ≡ None

@@ -7,6 +7,7 @@ ghost use Rattle.service_parts.specs.Parts.{kept};
 ghost use Rattle.service_repairs.specs.Ordering.{admission, allowance, decision_on, too_much, unless_carried};
 ghost use Rattle.service_repairs.specs.Resolving.{put_request, resolved};
 
+use crate::folding::unless_quiet;
 use crate::resolving::{Put, Resolved};
 use authorise_rules::Decision;
 use lang_core::{Request, Text};
@@ -47,12 +48,16 @@ fn unless_room(parts: &Parts, created: Option<&Request>) -> Option<OrderRefused>
     }
 }
 
-// Why an order can't be carried out.
+// Why an order can't be carried out: what it names counts first, then whether what it folds is quiet, and then how much there
+// is.
 fn unless_carried(parts: &Parts, order: &Resolved<'_>) -> Option<OrderRefused>
     requires { in_all (kept parts.now) ≤ 100000 }
     ensures { result ≡ unless_carried (kept parts.now) (resolved order.now) }
 {
-    match order.misnamed {
+    if let Some(why) = order.misnamed {
+        return Some(why);
+    }
+    match unless_quiet(parts, order.command) {
         Some(why) => Some(why),
         None => unless_room(parts, order.created),
     }

@@ -4,12 +4,15 @@
 
 mod admitting;
 mod book;
+mod folding;
 mod order_drafts;
 mod ordering;
 mod repairing;
 mod resolving;
 mod settling;
+mod stale;
 mod step_drafts;
 
 pub use ordering::order;
 pub use repairing::repair_step;
+pub use stale::first_stale;

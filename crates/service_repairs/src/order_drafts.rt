@@ -1,16 +1,18 @@
 // The orders of operators.
-ghost use Rattle.std.specs.Prelude.{◌≡◌, ◌+◌, ◌<◌, ◌≤◌, [], ◌∷◌, ◌++◌, None, IfOk, OnOk, OnErr, find, insert, length, option_map};
+ghost use Rattle.std.specs.Prelude.{◌≡◌, ◌+◌, ◌<◌, ◌≤◌, [], ◌∷◌, ◌++◌, None, IfOk, OnOk, OnErr, find, insert, length, option_map, max};
 ghost use Rattle.std.specs.Option.{option_copied};
 ghost use Rattle.request_log.specs.Entries.{changed, has_id, replace, IsNew, with_call};
 ghost use Rattle.create_placement.specs.Placement.{created, place_between};
 ghost use Rattle.service_events.specs.Calls.{noted};
 ghost use Rattle.service_events.specs.Orders.{carried_out, hold_on, released_post, request_of, unless_held};
-ghost use Rattle.service_parts.specs.Parts.{kept};
+ghost use Rattle.request_log.specs.Folded.{has_number};
+ghost use Rattle.service_parts.specs.Parts.{kept, whole_log};
 ghost use Rattle.service_parts.specs.Rooms.{aloft};
 ghost use Rattle.service_parts.specs.Drafts.{TellNoCall};
 ghost use Rattle.service_repairs.specs.Ordering.{MayOrder, allowed_rows, made_rows};
 ghost use Rattle.service_repairs.specs.Resolving.{put_request, resolved};
 
+use crate::folding::fold;
 use crate::resolving::{Put, Resolved, put_like, request_of};
 use create_placement::place;
 use journal_rows::{AskedRow, Command, OrderedRow, Row};
@@ -19,7 +21,9 @@ use lang_core::{Copied, Inputs, Method, NoMemory, Origin, Request, Seq, Shared, 
 use local_repair::Repairer;
 use repair_messages::{PostName, copied_pair};
 use request_log::{Entry, KeptEntry, Log};
-use service_parts::{Parts, created, insert, next_id, next_in, push_rows, reserve};
+use service_parts::{
+    Parts, created, insert, next_id, next_in, push_rows, reserve, rewrite, set_struck,
+};
 use std::alloc::Global;
 
 // ---- its rows
@@ -179,7 +183,9 @@ fn created_entry(
     KeptEntry::of(alloc, created(alloc, id, request, inputs))
 }
 
-// Makes an entry of a request that is to have been made, at its place among the others. Refused, the log stays.
+// Makes an entry of a request that is to have been made, at its place among the others, behind the folded ones. Refused, the log
+// stays.
+#[tactic(auto, using(service_parts::proofs::PlaceLaw::place_behind_all))]
 fn create(
     alloc: Global,
     repairer: &mut Repairer,
@@ -188,9 +194,11 @@ fn create(
     request: Request,
     inputs: Inputs,
 ) -> Result<(), NoMemory>
-    requires is_new { find (has_id (length repairer.old.entries + 1)) repairer.old.entries ≡ None }
-    ensures ok { OnOk result (repairer.new.entries ≡ insert repairer.old.entries (place_between before after repairer.old.entries) (created (length repairer.old.entries + 1) request inputs)) }
-    ensures err { OnErr result (repairer.new.entries ≡ repairer.old.entries) }
+    requires is_new { find (has_id (length (whole_log repairer.old) + 1)) (whole_log repairer.old) ≡ None }
+    ensures ok { OnOk result (whole_log repairer.new ≡ insert (whole_log repairer.old) (max (length repairer.old.folded) (place_between before after (whole_log repairer.old))) (created (length (whole_log repairer.old) + 1) request inputs)) }
+    ensures folded { repairer.new.folded ≡ repairer.old.folded }
+    ensures base { repairer.new.base ≡ repairer.old.base }
+    ensures err { OnErr result (repairer.new ≡ repairer.old) }
 {
     let at = place(repairer.log(), before, after);
     let entry = created_entry(alloc, next_in(repairer.log()), request, inputs)?;
@@ -235,7 +243,8 @@ fn replace(
     path: &Text,
     body: &Text,
 ) -> Result<(), NoMemory>
-    ensures ok { OnOk result (kept parts.new ≡ record (kept parts.old) { entries = changed id (replace method path.now body.now) parts.old.repairer.entries }) }
+    requires { find (has_number id) parts.old.repairer.folded ≡ None }
+    ensures ok { OnOk result (kept parts.new ≡ record (kept parts.old) { entries = changed id (replace method path.now body.now) (whole_log parts.old.repairer) }) }
     ensures err { OnErr result (kept parts.new ≡ kept parts.old) }
     ensures journal { parts.new.journal ≡ parts.old.journal }
     ensures flights { parts.new.flights ≡ parts.old.flights }
@@ -245,7 +254,7 @@ fn replace(
         None => Ok(()),
         Some(request) => {
             let held = Shared::new(alloc, request)?;
-            let _there = parts.repairer.rewrite(id, held);
+            rewrite(&mut parts.repairer, id, held);
             Ok(())
         }
     }
@@ -267,11 +276,11 @@ fn carry_out(
 {
     match command {
         Command::Cancel(id) => {
-            let _there = parts.repairer.set_struck(id, true);
+            set_struck(&mut parts.repairer, id, true);
             Ok(())
         }
         Command::Restore(id) => {
-            let _there = parts.repairer.set_struck(id, false);
+            set_struck(&mut parts.repairer, id, false);
             Ok(())
         }
         Command::Replace {
@@ -289,6 +298,7 @@ fn carry_out(
             release(parts, name, who);
             Ok(())
         }
+        Command::Fold(id) => fold(alloc, parts, id),
     }
 }
 

@@ -1,7 +1,7 @@
 // A repair step.
 ghost use Rattle.std.specs.Prelude.{◌≡◌, Ok};
 ghost use Rattle.local_repair.specs.Current.{AllCurrent};
-ghost use Rattle.service_events.specs.State.{answers, base};
+ghost use Rattle.service_events.specs.State.{answers, base, unfolded};
 ghost use Rattle.service_parts.specs.Parts.{kept};
 ghost use Rattle.service_parts.specs.Services.{IsService};
 ghost use Rattle.service_repairs.specs.Answers.{IsChecked, Steps};
@@ -23,7 +23,7 @@ pub fn repair_step(
     requires checked { IsChecked (kept parts.old) checked.old }
     ensures checked { IsChecked (kept parts.new) checked.new }
     ensures steps { Steps (kept parts.old) result (kept parts.new) }
-    ensures free { AllCurrent (answers (kept parts.old)) (base (kept parts.old)) parts.old.repairer.entries → result ≡ Ok Stepped.Idle }
+    ensures free { AllCurrent (answers (kept parts.old)) (base (kept parts.old)) (unfolded (kept parts.old)) → result ≡ Ok Stepped.Idle }
     ensures service { IsService parts.new }
 {
     repair(alloc, parts, checked)

@@ -1,11 +1,9 @@
 // What an operator's command comes to in a service: all that is asked of it before it is carried out, answered once.
 ghost use Rattle.std.specs.Prelude.{◌≡◌, None, Some, option_map};
 ghost use Rattle.std.specs.Option.{option_copied};
-ghost use Rattle.lang_core.specs.declared.request.Request.{Request};
 ghost use Rattle.request_log.specs.Entries.{with_call};
-ghost use Rattle.request_log.specs.declared.entry.Entry.{Entry};
 ghost use Rattle.service_events.specs.State.{next_id};
-ghost use Rattle.service_events.specs.Orders.{entry_of, hold_on, request_of, request_retried, subject, unless_held, unless_outside, unless_replaced, unless_there};
+ghost use Rattle.service_events.specs.Orders.{entry_of, hold_on, request_of, request_retried, subject, unless_held, unless_outside, unless_past, unless_present, unless_replaced};
 ghost use Rattle.service_parts.specs.Parts.{kept};
 ghost use Rattle.service_repairs.specs.Resolving.{put_request, resolution, resolved};
 
@@ -13,7 +11,6 @@ use call_registers::Hold;
 use journal_rows::{About, Command};
 use lang_core::{Method, Origin, Request, Text};
 use repair_messages::{Kind, PostName};
-use request_log::Entry;
 use service_events::OrderRefused;
 use service_parts::{Parts, next_id};
 
@@ -47,12 +44,28 @@ pub(crate) struct Resolved<'a> {
 
 // ---- why it can't be about what it names
 
-fn unless_there(id: u64, entry: Option<&Entry>) -> Option<OrderRefused>
-    ensures { result ≡ unless_there id (option_copied entry.entry) }
+#[tactic(auto, using(service_parts::proofs::WholeLemmas::past_entry_is))]
+fn unless_past(parts: &Parts, id: u64) -> Option<OrderRefused>
+    ensures { result ≡ unless_past id (kept parts.now) }
 {
-    match entry {
-        None => Some(OrderRefused::NoSuchRequest(id)),
-        Some(_) => None,
+    if parts.repairer.log().find_folded(id).is_some() {
+        Some(OrderRefused::TooOld(id))
+    } else {
+        None
+    }
+}
+
+// An order about an entry is about one that is there and isn't folded.
+#[tactic(auto, using(service_parts::proofs::WholeLemmas::entry_found))]
+fn unless_present(parts: &Parts, id: u64) -> Option<OrderRefused>
+    ensures { result ≡ unless_present id (kept parts.now) (entry_of id (kept parts.now)) }
+{
+    match unless_past(parts, id) {
+        Some(why) => Some(why),
+        None => match parts.repairer.log().find(id) {
+            None => Some(OrderRefused::NoSuchRequest(id)),
+            Some(_) => None,
+        },
     }
 }
 
@@ -65,12 +78,17 @@ fn unless_outside(id: u64, origin: &Origin) -> Option<OrderRefused>
     }
 }
 
-fn unless_replaced(id: u64, entry: Option<&Entry>) -> Option<OrderRefused>
-    ensures { result ≡ unless_replaced id (option_copied entry.entry) }
+// A replacement is besides of one that comes from outside.
+#[tactic(auto, using(service_parts::proofs::WholeLemmas::entry_found))]
+fn unless_replaced(parts: &Parts, id: u64) -> Option<OrderRefused>
+    ensures { result ≡ unless_replaced id (kept parts.now) (entry_of id (kept parts.now)) }
 {
-    match entry {
-        None => Some(OrderRefused::NoSuchRequest(id)),
-        Some(entry) => unless_outside(id, &entry.origin),
+    match unless_past(parts, id) {
+        Some(why) => Some(why),
+        None => match parts.repairer.log().find(id) {
+            None => Some(OrderRefused::NoSuchRequest(id)),
+            Some(entry) => unless_outside(id, &entry.origin),
+        },
     }
 }
 
@@ -101,20 +119,11 @@ fn unless_held(parts: &Parts, name: PostName) -> Option<OrderRefused>
 
 // ---- requests
 
-fn request_in(entry: Option<&Entry>) -> Option<&Request>
-    ensures { option_copied result ≡ option_map (λ (e : Entry). e.request) (option_copied entry.entry) }
-{
-    match entry {
-        None => None,
-        Some(entry) => Some(entry.request.get()),
-    }
-}
-
-/// The request of the entry of this number, if there is one.
+/// The request of the entry of this number, folded or not, if there is one.
 pub(crate) fn request_of(parts: &Parts, id: u64) -> Option<&Request>
     ensures { option_copied result ≡ request_of id (kept parts.now) }
 {
-    request_in(parts.repairer.log().find(id))
+    service_parts::request_of(parts.repairer.log(), id)
 }
 
 // The request that a retried call asks, where it asks something.
@@ -174,7 +183,7 @@ fn put_whole(request: &Request) -> Put<'_>
 fn marking<'a>(parts: &'a Parts, command: &'a Command, id: u64, kind: Kind) -> Resolved<'a>
     ensures { resolved result ≡ record {
       command = command.now;
-      misnamed = unless_there id (entry_of id (kept parts.now));
+      misnamed = unless_present id (kept parts.now) (entry_of id (kept parts.now));
       kind = kind;
       about = About.Request id;
       subject = request_of id (kept parts.now);
@@ -183,11 +192,10 @@ fn marking<'a>(parts: &'a Parts, command: &'a Command, id: u64, kind: Kind) -> R
       created = None;
     } }
 {
-    let entry = parts.repairer.log().find(id);
-    let found = request_in(entry);
+    let found = request_of(parts, id);
     Resolved {
         command,
-        misnamed: unless_there(id, entry),
+        misnamed: unless_present(parts, id),
         kind,
         about: About::Request(id),
         subject: found,
@@ -207,7 +215,7 @@ fn replacing<'a>(
 ) -> Resolved<'a>
     ensures { resolved result ≡ record {
       command = command.now;
-      misnamed = unless_replaced id (entry_of id (kept parts.now));
+      misnamed = unless_replaced id (kept parts.now) (entry_of id (kept parts.now));
       kind = Kind.Replace;
       about = About.Request id;
       subject = request_of id (kept parts.now);
@@ -216,11 +224,10 @@ fn replacing<'a>(
       created = None;
     } }
 {
-    let entry = parts.repairer.log().find(id);
-    let found = request_in(entry);
+    let found = request_of(parts, id);
     Resolved {
         command,
-        misnamed: unless_replaced(id, entry),
+        misnamed: unless_replaced(parts, id),
         kind: Kind::Replace,
         about: About::Request(id),
         subject: found,
@@ -278,6 +285,30 @@ fn retrying<'a>(parts: &'a Parts, command: &'a Command, name: PostName) -> Resol
     }
 }
 
+fn folding<'a>(parts: &'a Parts, command: &'a Command, id: u64) -> Resolved<'a>
+    ensures { resolved result ≡ record {
+      command = command.now;
+      misnamed = unless_present id (kept parts.now) (entry_of id (kept parts.now));
+      kind = Kind.Fold;
+      about = About.Request id;
+      subject = None;
+      original = None;
+      repaired = None;
+      created = None;
+    } }
+{
+    Resolved {
+        command,
+        misnamed: unless_present(parts, id),
+        kind: Kind::Fold,
+        about: About::Request(id),
+        subject: None,
+        original: None,
+        put: None,
+        created: None,
+    }
+}
+
 /// What a command comes to as the service stands now.
 pub(crate) fn resolve<'a>(parts: &'a Parts, command: &'a Command) -> Resolved<'a>
     ensures { resolved result ≡ resolution (kept parts.now) command.now }
@@ -293,5 +324,6 @@ pub(crate) fn resolve<'a>(parts: &'a Parts, command: &'a Command) -> Resolved<'a
         } => replacing(parts, command, *id, *method, path, body),
         Command::Create { request, .. } => creating(parts, command, request),
         Command::Retry(name) => retrying(parts, command, *name),
+        Command::Fold(id) => folding(parts, command, *id),
     }
 }

@@ -1,10 +1,10 @@
 // A repair step of a service that calls others.
 ghost use Rattle.std.specs.Prelude.{◌≡◌, ◌≤◌, Ok, IfOk, OnErr};
 ghost use Rattle.local_repair.specs.Current.{AllCurrent};
-ghost use Rattle.service_events.specs.State.{after, answers, base};
+ghost use Rattle.service_events.specs.State.{after, answers, base, unfolded};
 ghost use Rattle.service_events.specs.Steps.{step_event};
 ghost use Rattle.service_events.specs.Fits.{Fits};
-ghost use Rattle.service_parts.specs.Parts.{kept};
+ghost use Rattle.service_parts.specs.Parts.{kept, whole_log};
 ghost use Rattle.service_parts.specs.Rooms.{aloft};
 ghost use Rattle.service_repairs.specs.Answers.{IsChecked};
 ghost use Rattle.service_repairs.specs.Books.{book_of, with_book};
@@ -40,7 +40,7 @@ fn take_book(alloc: Global, parts: &mut Parts) -> Book
 
 // Puts a book back into a service.
 fn put_book(parts: &mut Parts, book: Book)
-    ensures kept { kept parts.new ≡ with_book (kept parts.old) parts.old.repairer.entries book }
+    ensures kept { kept parts.new ≡ with_book (kept parts.old) (whole_log parts.old.repairer) book }
     ensures room { aloft parts.new.flights.list ≤ parts.new.journal.spare }
 {
     let Book {
@@ -65,7 +65,7 @@ pub fn repair(alloc: Global, parts: &mut Parts, checked: &mut usize) -> Result<S
     ensures ok { IfOk result (λ stepped. after (kept parts.new) stepped ≡ step_event (kept parts.old)) }
     ensures err { OnErr result (kept parts.new ≡ kept parts.old) }
     ensures room { aloft parts.new.flights.list ≤ parts.new.journal.spare }
-    ensures free { AllCurrent (answers (kept parts.old)) (base (kept parts.old)) parts.old.repairer.entries → result ≡ Ok Stepped.Idle }
+    ensures free { AllCurrent (answers (kept parts.old)) (base (kept parts.old)) (unfolded (kept parts.old)) → result ≡ Ok Stepped.Idle }
 {
     let mut book = take_book(alloc, parts);
     let stepped = parts

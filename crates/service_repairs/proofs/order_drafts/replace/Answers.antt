@@ -14,5 +14,5 @@ pub returns-in_ok-held-in-Some-clause-ok : goal.returns-in_ok-held-in-Some-claus
 returns-in_ok-held-in-Some-clause-ok c =
     let s = kept c.args.parts.now in
     ap (λ (es : List Entry). record s { entries = es })
-    (c.rewrite-there.ensures.replaced c.args.method c.args.path.now c.args.body.now
+    (c.rewrite.ensures.replaced c.args.method c.args.path.now c.args.body.now
     (sym c.in_ok-repaired.ensures ∙ c.in-Some.is ∙ ap Some (sym c.in_ok-held-in-Some.ensures)))

@@ -1,11 +1,10 @@
 // The first stale entry.
 ghost use Rattle.std.specs.Prelude.{◌≡◌, MatchOption};
 ghost use Rattle.local_repair.specs.Current.{AllCurrent};
-ghost use Rattle.local_repair.specs.Repairs.{IsStaleId};
+ghost use Rattle.local_repair.specs.Repairs.{IsStaleId, stale_id};
 ghost use Rattle.service_events.specs.State.{answers, base};
 ghost use Rattle.service_parts.specs.Parts.{kept};
 ghost use Rattle.service_repairs.specs.Answers.{IsChecked};
-ghost use Rattle.service_core.specs.Readings.{first_stale};
 
 use call_registers::Registers;
 use lang_core::{NoMemory, Response, Trace};
@@ -50,14 +49,15 @@ impl Slots for Held<'_> {
     }
 }
 
-/// The number of the first stale entry, where so many of the log's first entries are known to be current; None exactly where no
-/// entry is stale.
-pub(crate) fn first_stale(parts: &Parts, checked: usize) -> Option<u64>
+/// The number of the first stale entry, where so many of the first entries behind the folded ones are known to be current; None
+/// exactly where no entry is stale.
+#[tactic(auto, using(service_parts::proofs::WholeLemmas::unfolded_kept))]
+pub fn first_stale(parts: &Parts, checked: usize) -> Option<u64>
     requires { IsChecked (kept parts.now) checked }
     ensures first { MatchOption result
         (AllCurrent (answers (kept parts.now)) (base (kept parts.now)) parts.now.repairer.entries)
         (λ id. IsStaleId (answers (kept parts.now)) (base (kept parts.now)) parts.now.repairer.entries id) }
-    ensures test { result ≡ first_stale (kept parts.now) }
+    ensures test { result ≡ stale_id (answers (kept parts.now)) (base (kept parts.now)) parts.now.repairer.entries }
 {
     let held = Held {
         registers: &parts.registers,

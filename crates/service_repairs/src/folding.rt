@@ -1,0 +1,115 @@
+// Orders that fold: whether what they fold is quiet, and the fold.
+ghost use Rattle.std.specs.Prelude.{◌≡◌, ◌+◌, ◌≤◌, ◌&&◌, not, length, take, OnOk, OnErr};
+ghost use Rattle.std.specs.List.{list_all};
+ghost use Rattle.request_log.specs.declared.entry.Entry.{Entry};
+ghost use Rattle.local_repair.specs.Current.{rows_after};
+ghost use Rattle.service_events.specs.Orders.{first_unquiet, folded_on, is_done_with, is_due, is_quiet_call, to_fold, unless_quiet};
+ghost use Rattle.service_events.specs.State.{base};
+ghost use Rattle.service_parts.specs.Parts.{kept};
+ghost use Rattle.service_repairs.specs.Ordering.{MayOrder};
+ghost use Rattle.journal_rows.specs.declared.orders.Command.{Command as Ordered};
+
+use crate::stale::first_stale;
+use call_registers::{Register, owes_fetch};
+use journal_rows::Command;
+use lang_core::NoMemory;
+use request_log::{Entry, KeptEntry};
+use service_events::OrderRefused;
+use service_parts::Parts;
+use std::alloc::Global;
+
+// ---- an entry's reply and its calls
+
+fn is_done_with(register: &Register) -> bool
+    ensures { result ≡ is_done_with register.now }
+{
+    register.acked >= register.version && !owes_fetch(register)
+}
+
+fn is_quiet_call(parts: &Parts, number: u64) -> bool
+    ensures { result ≡ is_quiet_call (kept parts.now) number }
+{
+    match parts.registers.get(number) {
+        None => false,
+        Some(register) => is_done_with(register),
+    }
+}
+
+fn are_quiet_calls(parts: &Parts, numbers: &[u64]) -> bool
+    ensures { result ≡ list_all (is_quiet_call (kept parts.now)) numbers.now }
+{
+    numbers.iter().all(|number| is_quiet_call(parts, *number))
+}
+
+fn is_due(parts: &Parts, entry: &Entry) -> bool
+    ensures { result ≡ is_due (kept parts.now) entry.now }
+{
+    match parts.replies.get(entry.id) {
+        None => false,
+        Some(reply) => reply.due,
+    }
+}
+
+// Whether nothing of an entry that is current is on its way.
+fn is_settled(parts: &Parts, entry: &Entry) -> bool
+    ensures { result ≡ (not (is_due (kept parts.now) entry.now) && list_all (is_quiet_call (kept parts.now)) entry.now.slots) }
+{
+    !is_due(parts, entry) && are_quiet_calls(parts, entry.slots.as_slice())
+}
+
+// ---- what a fold folds
+
+// How many entries a fold up to that of this number folds: all up to it, or all where there is none.
+fn count_to(parts: &Parts, id: u64) -> u64
+    ensures count { result ≡ length (to_fold id (kept parts.now)) }
+    ensures within { result ≤ length parts.now.repairer.entries }
+{
+    let log = parts.repairer.log();
+    match log.place_of(id) {
+        None => log.len(),
+        Some(place) => place + 1,
+    }
+}
+
+// The first of these entries that is the first stale one, or of which something is on its way.
+fn unquiet_among(parts: &Parts, entries: &[KeptEntry], stale: Option<u64>) -> Option<u64> {
+    for kept in entries {
+        let entry = kept.entry();
+        if stale == Some(entry.id) || !is_settled(parts, entry) {
+            return Some(entry.id);
+        }
+    }
+    None
+}
+
+// The first entry that a fold up to that of this number would fold and that isn't quiet.
+fn first_unquiet(parts: &Parts, id: u64) -> Option<u64>
+    ensures { result ≡ first_unquiet (kept parts.now) (base (kept parts.now)) (to_fold id (kept parts.now)) }
+{
+    let stale = first_stale(parts, 0);
+    let count = count_to(parts, id) as usize;
+    unquiet_among(parts, &parts.repairer.log().as_slice()[..count], stale)
+}
+
+/// Why a fold can't be carried out: the first entry that it would fold and that isn't quiet. Other orders fold nothing.
+pub(crate) fn unless_quiet(parts: &Parts, command: &Command) -> Option<OrderRefused>
+    ensures { result ≡ unless_quiet (kept parts.now) command.now }
+{
+    match command {
+        Command::Fold(id) => first_unquiet(parts, *id).map(OrderRefused::NotQuiet),
+        _ => None,
+    }
+}
+
+/// Folds the entries up to that of this number, which are quiet. Refused, nothing changes.
+#[tactic(auto, using(crate::proofs::FoldLemmas::folds_on))]
+pub(crate) fn fold(alloc: Global, parts: &mut Parts, id: u64) -> Result<(), NoMemory>
+    requires { MayOrder (kept parts.old) (Ordered.Fold id) }
+    ensures ok { OnOk result (kept parts.new ≡ folded_on (length (to_fold id (kept parts.old))) (kept parts.old)) }
+    ensures err { OnErr result (kept parts.new ≡ kept parts.old) }
+    ensures journal { parts.new.journal ≡ parts.old.journal }
+    ensures flights { parts.new.flights ≡ parts.old.flights }
+{
+    let count = count_to(parts, id);
+    parts.repairer.fold(alloc, count)
+}
