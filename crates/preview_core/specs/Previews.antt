@@ -10,7 +10,7 @@ use Rattle.call_registers.specs.declared.register.Answer.{Answer}
 use Rattle.call_registers.specs.declared.register.Register.{Register}
 use Rattle.flights.specs.declared.flight.Flight.{Flight}
 use Rattle.service_core.specs.Readings.{AreReplayed, first_stale}
-use Rattle.service_events.specs.State.{Kept, base, or_else}
+use Rattle.service_events.specs.State.{Kept, base, or_else, unfolded}
 use Rattle.preview_core.specs.Differences.{LeadsTo}
 use Rattle.preview_core.specs.Posts.{new_posts}
 use Rattle.preview_core.specs.Repairs.{AreResponses, HaveRunAtMost, HaveRunUntilIdle, all_asks}
@@ -47,7 +47,7 @@ not_ready s = or_else (option_map NotIdle (not_idle s)) (option_map Untimely (un
 
 -- the rows of a service
 abbrev pub rows_of : Kept → List Cell
-rows_of s = rows_after (base s) s.entries
+rows_of s = rows_after (base s) (unfolded s)
 
 -- what repair steps on a service are: the entries that ran at them, and the service then
 abbrev pub Steps : Type 1
@@ -91,7 +91,7 @@ IsPreviewAtMost s trials who result = IsPreviewBy HaveRunAtMost s trials who res
 pub record IsReplayOf (was tried : Kept) (p : Preview) : Type 0 where
   pub now : Kept
   pub same : all_asks now ≡ all_asks tried
-  pub replayed : AreReplayed now now.entries
+  pub replayed : AreReplayed now (unfolded now)
   pub rows : apply (rows_of was) p.rows ≡ rows_of now
 
 -- so it is with trials that were accepted, each after those before it

@@ -10,7 +10,7 @@ use Rattle.local_repair.specs.Current.{AllCurrent}
 use Rattle.local_repair.specs.declared.stepped.Stepped.{Stepped}
 use Rattle.local_repair.specs.declared.stepped.Stepped.TheVariants.{Idle, Ran}
 use Rattle.service_events.specs.Orders.{entry_of}
-use Rattle.service_events.specs.State.{Kept, answers, base}
+use Rattle.service_events.specs.State.{Kept, answers, base, unfolded}
 use Rattle.service_events.specs.Steps.{step_event}
 use Rattle.preview_core.specs.declared.told.RanOne.{RanOne}
 
@@ -29,11 +29,11 @@ pub record HaveRunUntilIdle (s : Kept) (ids : List ℕ) (now : Kept) : Type 0 wh
   pub ran : HaveRun s ids now
   pub idle : (step_event now).answer ≡ Idle
 
--- They ran, at most as many as there are entries, and the next step is idle or they are as many.
+-- They ran, at most as many as there are entries that aren't folded, and the next step is idle or they are as many.
 pub record HaveRunAtMost (s : Kept) (ids : List ℕ) (now : Kept) : Type 0 where
   pub ran : HaveRun s ids now
-  pub most : length ids ≤ length s.entries
-  pub ends : ((step_event now).answer ≡ Idle) ⊎ (length ids ≡ length s.entries)
+  pub most : length ids ≤ length (unfolded s)
+  pub ends : ((step_event now).answer ≡ Idle) ⊎ (length ids ≡ length (unfolded s))
 
 -- ---- what they answer
 
@@ -75,12 +75,12 @@ asks e = record {
 abbrev pub all_asks : Kept → List Asks
 all_asks s = map asks s.entries
 
--- Steps until one is idle are at most as many as there are entries, and leave none stale. Each entry that ran has a response,
+-- Steps until one is idle are at most as many as there are entries that aren't folded, and leave none stale. Each entry that ran has a response,
 -- and what is asked stays.
 pub record HasRepaired (s : Kept) (ids : List ℕ) (now : Kept) : Type 0 where
   pub repaired : HaveRunUntilIdle s ids now
-  pub most : length ids ≤ length s.entries
-  pub current : AllCurrent (answers now) (base now) now.entries
+  pub most : length ids ≤ length (unfolded s)
+  pub current : AllCurrent (answers now) (base now) (unfolded now)
   pub answered : All (λ id. IsSome (response_of id now)) ids
   pub same : all_asks now ≡ all_asks s
 

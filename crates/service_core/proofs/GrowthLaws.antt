@@ -11,14 +11,14 @@ use Rattle.request_log.specs.Entries.{find_call}
 use Rattle.request_log.specs.Records.{Record, record_of}
 use Rattle.request_log.specs.declared.entry.Entry.{Entry}
 use Rattle.repair_messages.specs.declared.messages.SetMessage.{SetMessage}
-use Rattle.journal_rows.specs.Words.{last_taken}
+use Rattle.journal_rows.specs.Words.{last_taken, ordered}
 use Rattle.journal_rows.specs.declared.callee.TookRow.{TookRow}
 use Rattle.journal_rows.specs.declared.row.Row.TheVariants.{Asked}
 use Rattle.service_events.specs.Arriving.{admitted, arrives_or_known, by_version, known_by, new_flight, unless_gone}
 use Rattle.service_events.specs.Event.{event, is_lacking, Happens}
 use Rattle.service_events.specs.Flying.{goes_on}
 use Rattle.service_events.specs.Messages.{acked_again, acked_row, is_known, is_too_much, origin_of, take_admitted, take_new, taken, taken_by, took_row}
-use Rattle.service_events.specs.State.{After, Kept, after, answers, base, is_crowded, is_heavy, next_id, or_else}
+use Rattle.service_events.specs.State.{After, Kept, after, answers, base, is_crowded, is_heavy, next_id, or_else, unfolded}
 use Rattle.service_events.specs.Steps.{Stale, answer_rows, new_record, sent_rows, stale_in, step_by}
 use Rattle.service_events.specs.declared.answers.Arrived.{Arrived}
 use Rattle.service_events.specs.declared.refusals.ArriveRefused.{ArriveRefused}
@@ -29,6 +29,13 @@ use Rattle.service_events.proofs.AskedLemmas.{arrives_either, take_either, takes
 use Rattle.service_events.proofs.CallLaws.{Grows}
 use Rattle.service_events.proofs.EventLaws.{event_goes}
 use Rattle.service_events.proofs.GoingLaws.{goes_on_goes}
+use Rattle.journal_rows.specs.declared.orders.Command.{Command}
+use Rattle.journal_rows.specs.declared.orders.Command.TheVariants.{Cancel, Restore, Replace, Create, Retry, Fold}
+use Rattle.journal_rows.specs.declared.orders.OrderedRow.{OrderedRow}
+use Rattle.repair_messages.specs.declared.posts.PostName.TheVariants.{Call as OfCall, Reply as OfReply, Fetch as OfFetch}
+use Rattle.service_events.specs.Orders.{carried_out, order_by, order_rows, order_where, refused}
+use Rattle.service_events.specs.declared.refusals.OrderRefused.{OrderRefused}
+use Rattle.service_events.proofs.OrderLaws.{same_journal}
 
 grows_none : (s : Kept) → Grows s s
 grows_none s = record { rows = []; is = sym (append-nil s.journal); setting = refl }
@@ -58,7 +65,7 @@ take_admitted_grows s set i (Some n) = grows_none s
 take_admitted_grows s set i None =
     cond_both (is_known s set) (after (acked_again s set) (Ok (taken set None))) (take_new s set i) (LeavesGrown s)
     (λ _. record { rows = acked_row set ∷ []; is = refl; setting = refl })
-    (λ _. take_either s set i (LeavesGrown s) (grows_none s) (taken_grows s set i (find_call (origin_of set) s.entries) set.desired))
+    (λ _. take_either s set i (LeavesGrown s) (λ e. grows_none s) (grows_none s) (λ _. taken_grows s set i (find_call (origin_of set) s.entries) set.desired))
 
 -- ---- an arrival
 
@@ -87,13 +94,37 @@ gone_grows s (Some t) known h = version_grows s t.version t.desired known h
 
 -- ---- all events
 
+-- ---- an order
+
+same_setting : (s : Kept) (command : Command) (who : List ℕ) (i : Inputs) → (carried_out s command who i).setting ≡ s.setting
+same_setting s (Cancel id) who i = refl
+same_setting s (Restore id) who i = refl
+same_setting s (Replace id method path body) who i = refl
+same_setting s (Create before after q) who i = refl
+same_setting s (Retry (OfCall number)) who i = refl
+same_setting s (Retry (OfReply id)) who i = refl
+same_setting s (Retry (OfFetch number)) who i = refl
+same_setting s (Fold id) who i = refl
+
+order_by_grows : (s : Kept) (command : Command) (token who : List ℕ) (i : Inputs) (o : Option OrderRefused) → Grows s (order_by s command token who i o).service
+order_by_grows s command token who i (Some why) = grows_none s
+order_by_grows s command token who i None = record {
+  rows = order_rows s command token who i;
+  is = ap (λ j. j ++ order_rows s command token who i) (same_journal s command who i);
+  setting = same_setting s command who i;
+}
+
+order_where_grows : (s : Kept) (command : Command) (token who : List ℕ) (i : Inputs) (o : Option OrderedRow) → Grows s (order_where s command token who i o).service
+order_where_grows s command token who i (Some o) = grows_none s
+order_where_grows s command token who i None = order_by_grows s command token who i (refused s command who)
+
 pub event_grows : (s : Kept) (e : Event) → Grows s (event s e).service
 event_grows s (events.Arrive Outside q i) = admitted_grows s Outside q i (or_else (is_crowded s) (is_heavy s))
 event_grows s (events.Arrive (Call c n) q i) =
     arrives_either s c n q i (LeavesGrown s) (grows_none s)
     (gone_grows s (last_taken c n s.journal) (arrives_or_known s c n q i (find_call (Call c n) s.entries)) (or_known_grows s c n q i (find_call (Call c n) s.entries)))
 event_grows s (events.Take set i) = takes_either s set i (LeavesGrown s) (grows_none s) (take_admitted_grows s set i (is_too_much s set))
-event_grows s events.Step = step_by_grows s (stale_in (answers s) (base s) s.entries)
+event_grows s events.Step = step_by_grows s (stale_in (answers s) (base s) (unfolded s))
 event_grows s (events.CallAnswered id a) = (event_goes s (events.CallAnswered id a) tt).grows
 event_grows s (events.CallFailed id number why) = (event_goes s (events.CallFailed id number why) tt).grows
 event_grows s (events.Abandon id) = (event_goes s (events.Abandon id) tt).grows
@@ -102,7 +133,7 @@ event_grows s (events.Give f) = grows_none s
 event_grows s (events.NextPost dest) = grows_none s
 event_grows s (events.WritePost name) = grows_none s
 event_grows s (events.Posted post reply) = (event_goes s (events.Posted post reply) tt).grows
-event_grows s (events.Order command token who i) = (event_goes s (events.Order command token who i) tt).grows
+event_grows s (events.Order command token who i) = order_where_grows s command token who i (ordered token s.journal)
 
 -- a call that makes it lets the journal grow as it does; for want of memory, nothing changed
 pub grown : (s t : Kept) (e : Event) (d : Done) → Happens e s d t → Grows s t

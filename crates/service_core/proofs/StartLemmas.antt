@@ -13,10 +13,11 @@ use Rattle.service_parts.specs.Parts.{kept}
 use Rattle.service_parts.specs.Rooms.{aloft}
 use Rattle.service_parts.specs.Services.{IsService}
 use Rattle.service_parts.specs.declared.parts.Parts.{Parts}
+use Rattle.service_parts.proofs.WholeLemmas.{in_all_is}
 
 -- parts without entries, flights, rows, registers and replies are a service
-pub new_service : (p : Parts) → p.repairer.entries ≡ [] → p.flights.list ≡ [] → p.journal.rows ≡ [] → p.registers.list ≡ [] → p.replies.list ≡ [] → IsService p
-new_service p entries flights journal registers replies =
+pub new_service : (p : Parts) → p.repairer.folded ≡ [] → p.repairer.base ≡ [] → p.repairer.entries ≡ [] → p.flights.list ≡ [] → p.journal.rows ≡ [] → p.registers.list ≡ [] → p.replies.list ≡ [] → IsService p
+new_service p folded base entries flights journal registers replies =
     let same : kept p ≡ fresh p.setting p.rules = cc in
     let entered : length p.repairer.entries ≡ 0 = ap length entries in
     let flying : length p.flights.list ≡ 0 = ap length flights in
@@ -25,6 +26,6 @@ new_service p entries flights journal registers replies =
       fits = subst Fits (sym same) (fits_start p.setting p.rules);
       allowed = subst IsAllowed (sym same) (allowed_start p.setting p.rules);
       ages = subst AgesOf (sym same) (record { calls = All-nil (IsAged []); replies = All-nil (IsMarked []); fetches = All-nil (IsNotedAt []) });
-      few = omega (arith, entered, flying);
+      few = (let all = in_all_is p in omega (arith, all, entered, flying));
       room = (let R : List Flight → Type 0 = λ fs. aloft fs ≤ p.journal.spare in subst R (sym flights) least);
     }

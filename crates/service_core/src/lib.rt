@@ -4,6 +4,5 @@
 
 mod copying;
 mod service;
-mod stale;
 
 pub use service::Service;

@@ -1,9 +1,10 @@
 // A service, and its events.
-ghost use Rattle.std.specs.Prelude.{◌≡◌, false, IfOk, MatchOption, Ok, OnOk, Some, IfSome, IsSome, IsSomeAnd};
+ghost use Rattle.std.specs.Prelude.{◌≡◌, false, length, map, IfOk, MatchOption, Ok, OnOk, Some, IfSome, IsSome, IsSomeAnd};
 ghost use Rattle.call_registers.specs.Registers.{IsTimely};
 ghost use Rattle.local_repair.specs.Current.{AllCurrent, rows_after};
 ghost use Rattle.local_repair.specs.Repairs.{IsStaleId};
-ghost use Rattle.service_events.specs.State.{after, answers, flight_of, fresh, base};
+ghost use Rattle.service_events.specs.State.{after, answers, flight_of, folded, fresh, base, unfolded};
+ghost use Rattle.request_log.specs.Folded.{as_entry, whole};
 ghost use Rattle.service_events.specs.Arriving.{abandon_event, arrive_event, call_answered_event, call_failed_event, live_answer_rows, new_flight, told};
 ghost use Rattle.service_events.specs.Ages.{GoesFirst, HasAges};
 ghost use Rattle.service_events.specs.Allowed.{IsAllowed};
@@ -25,7 +26,6 @@ ghost use Rattle.service_posts.specs.Goes.{GoesTo};
 ghost use Rattle.service_repairs.specs.Answers.{answered_by, Steps};
 
 use crate::copying::copied_parts;
-use crate::stale::first_stale;
 use authorise_rules::Rules;
 use call_registers::{Registers, Replies, Why};
 use flights::Flights;
@@ -41,7 +41,7 @@ use service_events::{
 };
 use service_parts::Parts;
 use service_posts::{next_post, write_post};
-use service_repairs::{order, repair_step};
+use service_repairs::{first_stale, order, repair_step};
 use service_requests::{abandon, arrive, call_answered, call_failed};
 use std::alloc::Global;
 use std::marker::Model;
@@ -111,9 +111,13 @@ impl Service {
         &self.parts.rules
     }
 
-    /// Its log.
+    /// Its log: all its entries are the folded ones, and behind them the others.
+    #[tactic(auto, using(service_parts::proofs::WholeLemmas::unfolded_kept), using(service_parts::proofs::WholeLemmas::folded_kept))]
     pub fn entries(&self) -> &Log
-        ensures { result.now.entries ≡ self.now.entries }
+        ensures whole { whole result.now.folded result.now.entries ≡ self.now.entries }
+        ensures entries { result.now.entries ≡ unfolded self.now }
+        ensures folded { map as_entry result.now.folded ≡ folded self.now }
+        ensures horizon { length result.now.folded ≡ self.now.horizon }
     {
         self.parts.repairer.log()
     }
@@ -152,7 +156,7 @@ impl Service {
 
     /// The rows at the end of the log.
     pub fn rows(&self, alloc: Global) -> Result<Cells, NoMemory>
-        ensures { IfOk result (λ rows. rows ≡ rows_after (base self.now) self.now.entries) }
+        ensures { IfOk result (λ rows. rows ≡ rows_after (base self.now) (unfolded self.now)) }
     {
         self.parts.repairer.rows(alloc)
     }
@@ -166,13 +170,13 @@ impl Service {
     }
 
     /// The number of the first stale entry; None exactly where no entry is stale. The entries before it, or all where none is
-    /// stale, are the replay of their requests from empty rows on.
+    /// stale, are the replay of their requests from the rows on that the folded ones left.
     pub fn first_stale(&self) -> Option<u64>
         ensures first { MatchOption result
-            (AllCurrent (answers self.now) (base self.now) self.now.entries)
-            (λ id. IsStaleId (answers self.now) (base self.now) self.now.entries id) }
+            (AllCurrent (answers self.now) (base self.now) (unfolded self.now))
+            (λ id. IsStaleId (answers self.now) (base self.now) (unfolded self.now) id) }
         ensures test { result ≡ first_stale self.now }
-        ensures replay { MatchOption result (AreReplayed self.now self.now.entries) (λ id. IsReplayedBefore self.now id) }
+        ensures replay { MatchOption result (AreReplayed self.now (unfolded self.now)) (λ id. IsReplayedBefore self.now id) }
     {
         first_stale(&self.parts, self.checked)
     }
@@ -291,7 +295,7 @@ impl Service {
     pub fn repair_step(&mut self, alloc: Global) -> Result<Stepped, NoMemory>
         ensures steps { Steps self.old result self.new }
         ensures again { IfOk result (λ stepped. IsStep self.old stepped self.new) }
-        ensures free { AllCurrent (answers self.old) (base self.old) self.old.entries → result ≡ Ok Stepped.Idle }
+        ensures free { AllCurrent (answers self.old) (base self.old) (unfolded self.old) → result ≡ Ok Stepped.Idle }
         ensures local { IfOk result (λ stepped. IsLocalStep self.old stepped self.new) }
         ensures once { IfOk result (λ stepped. Counts self.old stepped self.new) }
         ensures further { OnOk result (IsTimely self.old.registers → GoesFurther self.old self.new) }

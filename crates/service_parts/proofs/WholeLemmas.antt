@@ -17,7 +17,7 @@ use Rattle.service_events.proofs.SearchLemmas.{none_changed, none_first}
 use Rattle.std.specs.List.{list_any}
 use Rattle.service_events.specs.Messages.{is_past_call}
 
-drop_whole : (fs : List Folded) (es : List Entry) → drop (length fs) (map as_entry fs ++ es) ≡ es
+pub drop_whole : (fs : List Folded) (es : List Entry) → drop (length fs) (map as_entry fs ++ es) ≡ es
 drop_whole [] es = refl
 drop_whole (f ∷ fs) es = drop_whole fs es
 

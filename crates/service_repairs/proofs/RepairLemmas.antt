@@ -14,7 +14,7 @@ use Rattle.service_events.proofs.FreshLemmas.{unfound}
 use Rattle.service_events.proofs.PartLemmas.{logged}
 use Rattle.service_parts.specs.Parts.{kept}
 use Rattle.service_parts.specs.declared.parts.Parts.{Parts}
-use Rattle.service_parts.proofs.StepBoundLaws.{accepted_named}
+use Rattle.service_events.proofs.OrderLaw.{well_named}
 use Rattle.service_repairs.specs.Ordering.{admission, admitted, unless_carried, MayOrder}
 use Rattle.service_parts.specs.Services.{HasRoom, IsService}
 use Rattle.service_repairs.specs.Answers.{Steps}
@@ -37,7 +37,8 @@ step_service p p' (Err why) h ok err room = same_service p p' err room h
 -- an order that isn't refused can be carried out
 pub may_order : (p : Parts) (command : Command) (who : List ℕ) → IsService p → refused (kept p) command who ≡ None → MayOrder (kept p) command
 may_order p command who h none = record {
-  named = accepted_named (kept p) command who none;
+  named = (well_named (kept p) command who none).0;
+  quiet = (well_named (kept p) command who none).1;
   id = unfound (kept p).journal (kept p).entries (kept p).replies (logged (kept p) h.fits);
 }
 

@@ -2,7 +2,8 @@
 ghost use Rattle.std.specs.Prelude.{◌≡◌, ◌≤◌, None, if◌then◌else◌, is_some, option_map};
 ghost use Rattle.std.specs.Option.{option_copied};
 ghost use Rattle.lang_core.specs.declared.request.Request.{Request};
-ghost use Rattle.service_events.specs.State.{in_all, is_crowded};
+ghost use Rattle.service_events.specs.State.{in_all, is_crowded, unfolded};
+ghost use Rattle.request_log.specs.Entries.{IsDistinct};
 ghost use Rattle.service_parts.specs.Parts.{kept};
 ghost use Rattle.service_repairs.specs.Ordering.{admission, allowance, decision_on, too_much, unless_carried};
 ghost use Rattle.service_repairs.specs.Resolving.{put_request, resolved};
@@ -51,7 +52,8 @@ fn unless_room(parts: &Parts, created: Option<&Request>) -> Option<OrderRefused>
 // Why an order can't be carried out: what it names counts first, then whether what it folds is quiet, and then how much there
 // is.
 fn unless_carried(parts: &Parts, order: &Resolved<'_>) -> Option<OrderRefused>
-    requires { in_all (kept parts.now) ≤ 100000 }
+    requires few { in_all (kept parts.now) ≤ 100000 }
+    requires apart { IsDistinct (unfolded (kept parts.now)) }
     ensures { result ≡ unless_carried (kept parts.now) (resolved order.now) }
 {
     if let Some(why) = order.misnamed {
@@ -98,7 +100,8 @@ pub(crate) fn admission(
     order: &Resolved<'_>,
     who: &Text,
 ) -> Result<u32, OrderRefused>
-    requires { in_all (kept parts.now) ≤ 100000 }
+    requires few { in_all (kept parts.now) ≤ 100000 }
+    requires apart { IsDistinct (unfolded (kept parts.now)) }
     ensures { result ≡ admission (kept parts.now) (resolved order.now) who.now }
 {
     match unless_carried(parts, order) {

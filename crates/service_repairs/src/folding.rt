@@ -1,10 +1,10 @@
 // Orders that fold: whether what they fold is quiet, and the fold.
-ghost use Rattle.std.specs.Prelude.{◌≡◌, ◌+◌, ◌≤◌, ◌&&◌, not, length, take, OnOk, OnErr};
+ghost use Rattle.std.specs.Prelude.{◌≡◌, ◌≤◌, ◌||◌, not, length, OnOk, OnErr};
 ghost use Rattle.std.specs.List.{list_all};
-ghost use Rattle.request_log.specs.declared.entry.Entry.{Entry};
-ghost use Rattle.local_repair.specs.Current.{rows_after};
 ghost use Rattle.service_events.specs.Orders.{first_unquiet, folded_on, is_done_with, is_due, is_quiet_call, to_fold, unless_quiet};
-ghost use Rattle.service_events.specs.State.{base};
+ghost use Rattle.request_log.specs.Entries.{IsDistinct};
+ghost use Rattle.service_events.specs.State.{base, unfolded};
+ghost use Rattle.service_repairs.specs.Folding.{is_it, is_settled, unquiet_among};
 ghost use Rattle.service_parts.specs.Parts.{kept};
 ghost use Rattle.service_repairs.specs.Ordering.{MayOrder};
 ghost use Rattle.journal_rows.specs.declared.orders.Command.{Command as Ordered};
@@ -52,7 +52,7 @@ fn is_due(parts: &Parts, entry: &Entry) -> bool
 
 // Whether nothing of an entry that is current is on its way.
 fn is_settled(parts: &Parts, entry: &Entry) -> bool
-    ensures { result ≡ (not (is_due (kept parts.now) entry.now) && list_all (is_quiet_call (kept parts.now)) entry.now.slots) }
+    ensures { result ≡ is_settled (kept parts.now) entry.now }
 {
     !is_due(parts, entry) && are_quiet_calls(parts, entry.slots.as_slice())
 }
@@ -71,19 +71,36 @@ fn count_to(parts: &Parts, id: u64) -> u64
     }
 }
 
-// The first of these entries that is the first stale one, or of which something is on its way.
-fn unquiet_among(parts: &Parts, entries: &[KeptEntry], stale: Option<u64>) -> Option<u64> {
-    for kept in entries {
-        let entry = kept.entry();
-        if stale == Some(entry.id) || !is_settled(parts, entry) {
-            return Some(entry.id);
-        }
+fn is_it(stale: Option<u64>, entry: &Entry) -> bool
+    ensures { result ≡ is_it stale entry.now }
+{
+    match stale {
+        None => false,
+        Some(id) => id == entry.id,
     }
-    None
+}
+
+fn is_unquiet(parts: &Parts, stale: Option<u64>, entry: &Entry) -> bool
+    ensures { result ≡ (is_it stale entry.now || not (is_settled (kept parts.now) entry.now)) }
+{
+    is_it(stale, entry) || !is_settled(parts, entry)
+}
+
+// The first of these entries that is the stale one of this number, or of which something is on its way.
+#[tactic(auto, using(crate::proofs::FoldLemmas::unquiet_found))]
+fn unquiet_among(parts: &Parts, entries: &[KeptEntry], stale: Option<u64>) -> Option<u64>
+    ensures { result ≡ unquiet_among (kept parts.now) stale entries.now }
+{
+    entries
+        .iter()
+        .find(|kept| is_unquiet(parts, stale, kept.entry()))
+        .map(|kept| kept.entry().id)
 }
 
 // The first entry that a fold up to that of this number would fold and that isn't quiet.
+#[tactic(auto, using(crate::proofs::FoldLemmas::unquiet_is))]
 fn first_unquiet(parts: &Parts, id: u64) -> Option<u64>
+    requires { IsDistinct (unfolded (kept parts.now)) }
     ensures { result ≡ first_unquiet (kept parts.now) (base (kept parts.now)) (to_fold id (kept parts.now)) }
 {
     let stale = first_stale(parts, 0);
@@ -93,6 +110,7 @@ fn first_unquiet(parts: &Parts, id: u64) -> Option<u64>
 
 /// Why a fold can't be carried out: the first entry that it would fold and that isn't quiet. Other orders fold nothing.
 pub(crate) fn unless_quiet(parts: &Parts, command: &Command) -> Option<OrderRefused>
+    requires { IsDistinct (unfolded (kept parts.now)) }
     ensures { result ≡ unless_quiet (kept parts.now) command.now }
 {
     match command {

@@ -5,7 +5,8 @@ ghost use Rattle.journal_rows.specs.declared.orders.OrderedRow.{OrderedRow};
 ghost use Rattle.service_events.specs.Doing.{Does, order_memory};
 ghost use Rattle.service_events.specs.Calls.{noted};
 ghost use Rattle.service_events.specs.Orders.{carried_out, order_event, refused};
-ghost use Rattle.service_events.specs.State.{in_all};
+ghost use Rattle.request_log.specs.Entries.{IsDistinct};
+ghost use Rattle.service_events.specs.State.{in_all, unfolded};
 ghost use Rattle.service_parts.specs.Drafts.{TellNoCall};
 ghost use Rattle.service_parts.specs.Parts.{kept};
 ghost use Rattle.service_parts.specs.Rooms.{aloft};
@@ -74,7 +75,8 @@ fn drafted(
     who: &Text,
     inputs: Inputs,
 ) -> Result<OrderDraft, OrderRefused>
-    requires { in_all (kept parts.now) ≤ 100000 }
+    requires few { in_all (kept parts.now) ≤ 100000 }
+    requires apart { IsDistinct (unfolded (kept parts.now)) }
     ensures draft { IfOk result (λ draft. IsDraft (kept parts.now) command.now token who.now inputs draft) }
     ensures refused { IfErr result (λ why. order_memory why ≡ false → refused (kept parts.now) command.now who.now ≡ Some why) }
 {
