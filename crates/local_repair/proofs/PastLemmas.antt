@@ -2,7 +2,7 @@
 use Rattle.std.proofs.Common.{◌≡◌, List, [], ◌∷◌, ◌++◌, Option, Some, None, IsSomeAnd, All, map, option_map, refl, sym, ap, ◌∙◌, subst}
 use Rattle.std.specs.Option.{option_map_or}
 use Rattle.std.proofs.lemmas.List.Elements.{All-head, All-tail}
-use Rattle.lang_core.specs.Rows.{apply}
+use Rattle.lang_core.specs.Rows.{apply, cell_place}
 use Rattle.lang_core.specs.declared.cells.Cell.{Cell}
 use Rattle.lang_core.specs.declared.request.Response.{Response}
 use Rattle.lang_core.specs.declared.setting.Setting.{Setting}
@@ -16,6 +16,8 @@ use Rattle.local_repair.specs.Current.{Consumed, after_entry, rows_after, IsCurr
 use Rattle.local_repair.specs.Histories.{deed_in, act_with, act_of, act_kept, ReplayAsKept}
 use Rattle.local_repair.proofs.ReplayLemmas.{replays}
 use Rattle.std.proofs.lemmas.List.{map-append}
+use Rattle.lang_core.specs.Places.{IsOrdered}
+use Rattle.lang_core.proofs.RowLemmas.{ordered-apply}
 
 -- ---- what is kept of one
 
@@ -74,3 +76,14 @@ pub fold_kept : (setting : Setting) (consumed : Consumed) (past : List Entry) (b
 fold_kept setting consumed past base es before runs current =
     let R : List Act → Type 0 = λ acts. Replays setting [] acts (rows_after base es) in
     subst R (sym (map-append act_kept past (map bare es))) (fold_replays setting consumed (map act_kept past) base es before runs current)
+
+-- ---- rows that a replay leaves stand in order
+
+replay_ordered : (setting : Setting) (acts : List Act) (ts : List Trace) (rows last : List Cell) → IsReplay setting rows acts ts last → IsOrdered cell_place rows → IsOrdered cell_place last
+replay_ordered setting [] [] rows last h o = subst (λ r. IsOrdered cell_place r) h o
+replay_ordered setting [] (t ∷ ts) rows last h o = absurd h
+replay_ordered setting (a ∷ acts) [] rows last h o = absurd h
+replay_ordered setting (a ∷ acts) (t ∷ ts) rows last h o = replay_ordered setting acts ts (apply rows t.writes) last h.1 (ordered-apply rows t.writes o)
+
+pub kept_ordered : (setting : Setting) (past : List Entry) (rows : List Cell) → ReplayAsKept setting past rows → IsOrdered cell_place rows
+kept_ordered setting past rows r = replay_ordered setting (map act_kept past) r.traces [] rows r.replay tt

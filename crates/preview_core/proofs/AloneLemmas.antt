@@ -10,7 +10,7 @@ use Rattle.local_repair.specs.Current.{after_entry, rows_after, writes_of}
 use Rattle.local_repair.specs.declared.stepped.Stepped.{Stepped}
 use Rattle.local_repair.specs.declared.stepped.Stepped.TheVariants.{Idle, Ran}
 use Rattle.journal_rows.specs.declared.row.Row.{Row}
-use Rattle.service_events.specs.State.{Kept, base}
+use Rattle.service_events.specs.State.{Kept, base, unfolded}
 use Rattle.service_events.specs.Steps.{step_event}
 use Rattle.service_events.specs.declared.answers.Ordered.{Ordered}
 use Rattle.service_events.specs.declared.refusals.OrderRefused.{OrderRefused}
@@ -107,11 +107,11 @@ somes_alone (x ∷ xs) (y ∷ ys) e =
 
 -- ---- what is shown
 
-shown_alone : (was tried : Kept) (p q : Preview) → IsShown HaveRunAtMost was tried p → IsShown HaveRunAtMost was tried q → p ≡ q
-shown_alone was tried p q a b =
-    let one = ids_alone (length tried.entries) tried a.now b.now a.ids b.ids a.repaired.ran a.repaired.most a.repaired.ends b.repaired.ran b.repaired.most b.repaired.ends in
+shown_alone : (was tried : Kept) (ordered : IsOrdered cell_place (base was)) (p q : Preview) → IsShown HaveRunAtMost was tried p → IsShown HaveRunAtMost was tried q → p ≡ q
+shown_alone was tried ordered p q a b =
+    let one = ids_alone (length (unfolded tried)) tried a.now b.now a.ids b.ids a.repaired.ran a.repaired.most a.repaired.ends b.repaired.ran b.repaired.most b.repaired.ends in
     let ran : p.ran ≡ q.ran = somes_alone p.ran q.ran (a.ran ∙ ap (λ k. map (ran_one k) a.ids) one.1 ∙ ap (map (ran_one b.now)) one.0 ∙ sym b.ran) in
-    let rows : p.rows ≡ q.rows = leads_alone (rows_of was) (rows_of b.now) (rows_ordered (base was) was.entries tt) p.rows q.rows
+    let rows : p.rows ≡ q.rows = leads_alone (rows_of was) (rows_of b.now) (rows_ordered (base was) (unfolded was) ordered) p.rows q.rows
     (subst (λ k. LeadsTo (rows_of was) (rows_of k) p.rows) one.1 a.rows) b.rows in
     let posts : p.posts ≡ q.posts = a.posts ∙ ap (new_posts was) one.1 ∙ sym b.posts in
     λ i. record { ran = ran i; rows = rows i; posts = posts i }

@@ -19,14 +19,32 @@ use Rattle.local_repair.proofs.TestLemmas.{stale_id_none}
 use Rattle.call_registers.specs.Registers.{IsTimely}
 use Rattle.service_events.specs.Fits.{Fits}
 use Rattle.service_events.specs.Progress.{changes}
-use Rattle.service_events.specs.State.{Kept, answers, base}
+use Rattle.service_events.specs.State.{Kept, answers, base, folded, unfolded}
 use Rattle.service_events.specs.Steps.{Stale, new_numbers, new_record, stale_in, step_by, step_event}
 use Rattle.service_events.proofs.CallLaws.{IsFew}
 use Rattle.service_events.proofs.StepForms.{Names, run_again, step_entries, step_names}
 use Rattle.service_core.proofs.HandedOn.{step_as_many, step_further, step_steps, step_timely}
 use Rattle.preview_core.specs.Repairs.{HasRepaired, HasRun, HaveRun, IsNoted, all_asks, asks, response_of}
+use Rattle.service_events.proofs.HorizonLemmas.{all_entries}
+use Rattle.std.proofs.lemmas.List.{map-append}
+use Rattle.std.specs.Option.{option_or}
+use Rattle.request_log.specs.Folded.{as_entry, has_number, whole}
+use Rattle.request_log.specs.declared.folded.Folded.{Folded}
+use Rattle.service_parts.proofs.WholeLemmas.{entry_found}
 
 -- ---- which entries ran
+
+-- what is found among those that aren't folded is found among all
+found_too : {X : Type 0} (p : X → Bool) (xs ys : List X) → IsSome (find p ys) → IsSome (find p (xs ++ ys))
+found_too p [] ys some = some
+found_too p (x ∷ xs) ys some = by (p x)
+  where
+    by : (b : Bool) → IsSome (cond b (Some x) (find p (xs ++ ys)))
+    by true = refl
+    by false = found_too p xs ys some
+
+there_too : (s : Kept) (id : ℕ) → IsSome (find (has_id id) (unfolded s)) → IsSome (find (has_id id) s.entries)
+there_too s id some = subst (λ l. IsSome (find (has_id id) l)) (all_entries s) (found_too (has_id id) (folded s) (unfolded s) some)
 
 pub has_run_more : (s now : Kept) (ids : List ℕ) (id : ℕ) → HaveRun s ids now → HasRun id (step_event now).answer → HaveRun s (ids ++ id ∷ []) (step_event now).service
 has_run_more s now [] id same ran =
@@ -43,7 +61,9 @@ asks_with s rows (e ∷ es) = elim (cases_Bool (is_current (answers s) rows e)) 
 ]
 
 step_asks : (s : Kept) → IsDistinct s.entries → all_asks (step_event s).service ≡ all_asks s
-step_asks s apart = ap (map asks) (step_entries s apart) ∙ asks_with s (base s) s.entries
+step_asks s apart =
+    ap (map asks) (step_entries s apart) ∙ map-append asks (folded s) (step_with (answers s) (run_again s) (base s) (unfolded s))
+    ∙ ap (λ l. map asks (folded s) ++ l) (asks_with s (base s) (unfolded s)) ∙ sym (map-append asks (folded s) (unfolded s)) ∙ ap (map asks) (all_entries s)
 
 -- ---- what an entry that ran answers
 
@@ -101,19 +121,19 @@ stale_there s rows (e ∷ es) x is = elim (cases_Bool (is_current (answers s) ro
 
 -- it has a response then
 step_responds : (s : Kept) (id : ℕ) → HasRun id (step_event s).answer → IsSome (response_of id (step_event s).service)
-step_responds s id ran = by (stale_in (answers s) (base s) s.entries) refl ran
+step_responds s id ran = by (stale_in (answers s) (base s) (unfolded s)) refl ran
   where
-    by : (o : Option Stale) → stale_in (answers s) (base s) s.entries ≡ o → HasRun id (step_by s o).answer → IsSome (response_of id (step_by s o).service)
+    by : (o : Option Stale) → stale_in (answers s) (base s) (unfolded s) ≡ o → HasRun id (step_by s o).answer → IsSome (response_of id (step_by s o).service)
     by None is ran = absurd ran
     by (Some x) is ran =
         let m = new_record s x.rows x.entry in
         let y = remade x.entry m (new_numbers s x.entry m) in
-        let there : IsSome (find (has_id id) s.entries) = subst (λ k. IsSome (find (has_id k) s.entries)) ran (stale_there s (base s) s.entries x is) in
+        let there : IsSome (find (has_id id) s.entries) = subst (λ k. IsSome (find (has_id k) s.entries)) ran (there_too s (x.entry).id (stale_there s (base s) (unfolded s) x is)) in
         subst (λ o. IsSome (response_in o)) (sym (found_put id s.entries y ran there)) refl
 
 -- and keeps one
 step_keeps : (s : Kept) (id : ℕ) → IsSome (response_of id s) → IsSome (response_of id (step_event s).service)
-step_keeps s id some = by (stale_in (answers s) (base s) s.entries)
+step_keeps s id some = by (stale_in (answers s) (base s) (unfolded s))
   where
     by : (o : Option Stale) → IsSome (response_of id (step_by s o).service)
     by None = some
@@ -139,15 +159,15 @@ idle_by s None e = refl
 idle_by s (Some x) e = cc
 
 idle_same : (s : Kept) → (step_event s).answer ≡ Idle → (step_event s).service ≡ s
-idle_same s e = idle_by s (stale_in (answers s) (base s) s.entries) e
+idle_same s e = idle_by s (stale_in (answers s) (base s) (unfolded s)) e
 
-idle_current : (s : Kept) → Fits s → IsFew (step_event s).service → (step_event s).answer ≡ Idle → AllCurrent (answers s) (base s) s.entries
+idle_current : (s : Kept) → Fits s → IsFew (step_event s).service → (step_event s).answer ≡ Idle → AllCurrent (answers s) (base s) (unfolded s)
 idle_current s f few e =
-    let S : Stepped → Type 0 = λ a. StepsTo s.setting (changes s (step_event s).service) (base s) s.entries a (step_event s).service.entries in
+    let S : Stepped → Type 0 = λ a. StepsTo s.setting (changes s (step_event s).service) (base s) (unfolded s) a (unfolded (step_event s).service) in
     (subst S e (step_steps s f few)).0
 
-current_idle : (s : Kept) → AllCurrent (answers s) (base s) s.entries → (step_event s).answer ≡ Idle
-current_idle s current = subst (λ o. Names o (step_event s).answer) (sym (stale_id_none (answers s) s.entries current)) (step_names s)
+current_idle : (s : Kept) → AllCurrent (answers s) (base s) (unfolded s) → (step_event s).answer ≡ Idle
+current_idle s current = subst (λ o. Names o (step_event s).answer) (sym (stale_id_none (answers s) (base s) (unfolded s) current)) (step_names s)
 
 -- ---- the way
 
@@ -157,11 +177,11 @@ pub record Going (start now : Kept) (ids : List ℕ) (left : ℕ) : Type 0 where
   pub same : all_asks now ≡ all_asks start
   pub timely : IsTimely now.registers
   pub far : ℕ
-  pub current : AllCurrent (answers now) (base now) (take far now.entries)
-  pub sum : left + far ≡ length now.entries
-  pub most : length ids + left ≤ length start.entries
+  pub current : AllCurrent (answers now) (base now) (take far (unfolded now))
+  pub sum : left + far ≡ length (unfolded now)
+  pub most : length ids + left ≤ length (unfolded start)
 
-pub going_none : (s : Kept) → IsTimely s.registers → Going s s [] (length s.entries)
+pub going_none : (s : Kept) → IsTimely s.registers → Going s s [] (length (unfolded s))
 going_none s timely = record {
   ran = refl;
   same = refl;
@@ -199,15 +219,15 @@ module _ (start now next : Kept) (ids then : List ℕ) (left : ℕ) (g : Going s
 
   -- none did
   module _ (idle : (step_event now).answer ≡ Idle) (noted : then ≡ ids) where
-    whole : take (length now.entries) now.entries ≡ now.entries
-    whole = take-length now.entries
+    whole : take (length (unfolded now)) (unfolded now) ≡ unfolded now
+    whole = take-length (unfolded now)
 
     at_rest : Going start now ids 0
     at_rest = record {
       ran = g.ran;
       same = g.same;
       timely = g.timely;
-      far = length now.entries;
+      far = length (unfolded now);
       current = subst (AllCurrent (answers now) (base now)) (sym whole) (idle_current now f few_next idle);
       sum = omega arith;
       most = (let m = g.most in omega (arith, m));
@@ -232,8 +252,8 @@ module _ (start now next : Kept) (ids then : List ℕ) (left : ℕ) (g : Going s
 
 pub going_done : (start now : Kept) (ids : List ℕ) (left : ℕ) → left ≡ 0 → Going start now ids left → HasRepaired start ids now
 going_done start now ids left none g =
-    let all : g.far ≡ length now.entries = (let whole = g.sum in omega (arith, whole, none)) in
-    let current : AllCurrent (answers now) (base now) now.entries = subst (AllCurrent (answers now) (base now)) (ap (λ n. take n now.entries) all ∙ take-length now.entries) g.current in
+    let all : g.far ≡ length (unfolded now) = (let whole = g.sum in omega (arith, whole, none)) in
+    let current : AllCurrent (answers now) (base now) (unfolded now) = subst (AllCurrent (answers now) (base now)) (ap (λ n. take n (unfolded now)) all ∙ take-length (unfolded now)) g.current in
     record {
       repaired = record { ran = g.ran; idle = current_idle now current };
       current = current;
@@ -241,3 +261,14 @@ going_done start now ids left none g =
       most = (let m = g.most in omega (arith, m));
       same = g.same;
     }
+
+-- ---- what an entry answered
+
+-- one that is folded has what is kept of it
+pub response_found : (id : ℕ) (fs : List Folded) (es : List Entry) → response_in (find (has_id id) (whole fs es))
+    ≡ option_or (option_map (λ (f : Folded). f.response) (find (has_number id) fs)) (response_in (find (has_id id) es))
+response_found id fs es = ap response_in (entry_found id fs es) ∙ by (find (has_number id) fs)
+  where
+    by : (o : Option Folded) → response_in (option_or (option_map as_entry o) (find (has_id id) es)) ≡ option_or (option_map (λ (f : Folded). f.response) o) (response_in (find (has_id id) es))
+    by None = refl
+    by (Some f) = refl

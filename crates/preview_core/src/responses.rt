@@ -8,12 +8,16 @@ use lang_core::{Copied, NoMemory, Response};
 use service_core::Service;
 use std::alloc::Global;
 
-// What the entry of a number answered in its last run.
+// What the entry of a number, folded or not, answered in its last run.
+#[tactic(auto, using(crate::proofs::StepLemmas::response_found))]
 fn response_of(service: &Service, id: u64) -> Option<&Response>
     ensures { option_copied result ≡ response_of id service.now }
 {
-    let entry = service.entries().find(id)?;
-    match &entry.made {
+    let log = service.entries();
+    if let Some(past) = log.find_folded(id) {
+        return Some(&past.response);
+    }
+    match &log.find(id)?.made {
         Some(made) => Some(&made.trace.response),
         None => None,
     }

@@ -4,6 +4,6 @@ use Rattle.service_core.proofs.service.Service.new.Goals as goal
 
 pub invariant_of-result : goal.invariant_of-result
 invariant_of-result c = (
-  new_service _ c.new.ensures c.new-2.ensures c.new-3.ensures c.new-4.ensures c.new-5.ensures.list,
+  new_service _ c.new.ensures.folded c.new.ensures.base c.new.ensures.entries c.new-2.ensures c.new-3.ensures c.new-4.ensures c.new-5.ensures.list,
   record { within = omega arith; current = tt },
 )
