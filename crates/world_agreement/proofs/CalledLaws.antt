@@ -7,12 +7,12 @@ use Rattle.lang_core.specs.declared.ids.Origin.{Origin}
 use Rattle.lang_core.specs.declared.ids.Origin.TheVariants.{Outside, Call}
 use Rattle.lang_core.specs.declared.request.Request.{Request}
 use Rattle.lang_core.specs.declared.trace.CallMade.{CallMade}
+use Rattle.execution.specs.Executions.{IsEmptyIfDead}
 use Rattle.execution.specs.Together.{history_in, IsAmong, Makes, IsCalledFor, WantedIsCalledFor}
 use Rattle.request_log.specs.Entries.{is_alive}
 use Rattle.request_log.specs.Records.{record_in}
 use Rattle.request_log.specs.declared.entry.Entry.{Entry}
 use Rattle.request_log.specs.declared.entry.Made.{Made}
-use Rattle.local_repair.specs.Current.{IsRun}
 use Rattle.local_repair.specs.Histories.{deed_in, act_of}
 use Rattle.local_repair.specs.Steps.{calls_of_made}
 use Rattle.journal_rows.specs.Words.{last_sent, last_taken, wants}
@@ -31,7 +31,8 @@ use Rattle.world_agreement.proofs.ListLemmas.{some_out, all_from, any_from, cont
 use Rattle.world_agreement.proofs.NameLemmas.{found_by_name, name_is, found_history, found_own}
 use Rattle.world_agreement.proofs.SentFacts.{IsSentBefore, sent_before}
 use Rattle.world_agreement.proofs.TakenFacts.{taken_from}
-use Rattle.world_agreement.proofs.EntryFacts.{IsMadeNow, all_made_now, asks_last}
+use Rattle.world_agreement.proofs.EntryFacts.{IsMadeNow, each_made_now, asks_last}
+use Rattle.world_agreement.proofs.ReplayLaws.{each_empty_if_dead}
 use Rattle.world_agreement.proofs.Settled.{AreAtRest, fits_of, quiet_of, partner, settled}
 use Rattle.world_agreement.proofs.ServedLaws.{wants_calls}
 
@@ -63,12 +64,13 @@ not_among n call [] h = h
 not_among n call (m ∷ ms) h = h
 
 -- an entry with a call survives
-makes : (e : Entry) (n : ℕ) (call : CallMade) (s : Kept) (o : Option Made) → IsSomeAnd o (IsMadeNow e) → IfSome o (IsRun s.setting e.inputs)
+makes : (e : Entry) (n : ℕ) (call : CallMade) (o : Option Made) → IsSomeAnd o (IsMadeNow e)
+    → (is_alive e ≡ false → IfSome (option_map deed_in (option_map record_in o)) (λ d. d.calls ≡ []))
     → IsAmong n call e.slots (calls_of_made o) → (is_alive e ≡ true) × IsSomeAnd (option_map deed_in (option_map record_in o)) (λ d. IsAmong n call e.slots d.calls)
-makes e n call s None made run has = absurd made
-makes e n call s (Some m) made run has = elim (cases_Bool m.alive) [
-  | inl live ↦ (sym made.alive ∙ live, has)
-  | inr dead ↦ absurd (not_among n call e.slots (subst (λ t. IsAmong n call e.slots t.calls) (run.dead dead) has))
+makes e n call None made empty has = absurd made
+makes e n call (Some m) made empty has = elim (cases_Bool (is_alive e)) [
+  | inl live ↦ (live, has)
+  | inr dead ↦ absurd (not_among n call e.slots (subst (λ cs. IsAmong n call e.slots cs) (empty dead) has))
 ]
 
 -- ---- who calls
@@ -105,11 +107,11 @@ module _ (services : List Kept) (h : AreAtRest services) where
       let place = some_place n s.entries (omega (arith, one, both, none)) in
       let e = place.0 in
       let has = among s.registers n call is e.slots (calls_of_made e.made) (wants_calls s fits e place.1) place.2 in
-      let made = All-contains (λ y. IsSomeAnd y.made (IsMadeNow y)) s.entries e (all_made_now (answers s) [] s.entries quiet.current) place.1 in
-      let run = All-contains (λ y. IfSome y.made (IsRun s.setting y.inputs)) s.entries e fits.runs place.1 in
-      let m = makes e n call s e.made made run has in
-      any_from (Makes n call) (history s).acts (act_of (answers s) e) (contains_map (act_of (answers s)) s.entries e place.1)
-      (record { survives = m.0; makes = m.1 })
+      let made = All-contains (λ y. IsSomeAnd y.made (IsMadeNow y)) s.entries e (each_made_now s fits quiet.current) place.1 in
+      let act = contains_map (act_of (answers s)) s.entries e place.1 in
+      let empty = All-contains IsEmptyIfDead (history s).acts (act_of (answers s) e) (each_empty_if_dead s fits quiet.current) act in
+      let m = makes e n call e.made made empty has in
+      any_from (Makes n call) (history s).acts (act_of (answers s) e) act (record { survives = m.0; makes = m.1 })
 
   module _ (t : Kept) (there : service_of (me t) services ≡ Some t) where
     -- what the caller wants now is what was taken last

@@ -1,7 +1,8 @@
 -- What a service that fits its journal, and that nothing stale is in, has of an entry.
 use Rattle.std.proofs.Common.{◌≡◌, ℕ, true, false, List, [], ◌∷◌, Option, Some, None, IfSome, IsSomeAnd, All, find, is_some, option_map, refl, sym, ap, ◌∙◌, subst, eqb-true}
 use Rattle.std.specs.Option.{option_map_or}
-use Rattle.std.proofs.lemmas.List.Elements.{All-cons, All-nil}
+use Rattle.std.proofs.lemmas.List.{take-append-drop}
+use Rattle.std.proofs.lemmas.List.Elements.{All-append, All-cons, All-contains, All-nil}
 use Rattle.lang_core.specs.Origins.{is_call}
 use Rattle.lang_core.specs.declared.cells.Cell.{Cell}
 use Rattle.lang_core.specs.declared.ids.Origin.TheVariants.{Call}
@@ -13,12 +14,12 @@ use Rattle.local_repair.specs.Current.{Consumed, after_entry, IsCurrentRecord, A
 use Rattle.journal_rows.specs.Words.{asked, last_taken, version_in, taken_version_of, wants, request_now}
 use Rattle.journal_rows.specs.declared.callee.AskedRow.{AskedRow}
 use Rattle.journal_rows.specs.declared.callee.TookRow.{TookRow}
-use Rattle.service_events.specs.State.{Kept}
-use Rattle.service_events.specs.Fits.{Fits, IsAsNow, made_as, asked_as}
+use Rattle.service_events.specs.State.{Kept, answers, base, folded, unfolded}
+use Rattle.service_events.specs.Fits.{Fits, IsAsNow, IsBare, IsPast, made_as, asked_as}
 use Rattle.service_events.proofs.SearchLemmas.{found_all}
 use Rattle.service_events.proofs.JournalLemmas.{taken_with}
 use Rattle.service_events.proofs.LogLemmas.{call_is, found_call, itself}
-use Rattle.world_agreement.proofs.ListLemmas.{some_of, found_passes}
+use Rattle.world_agreement.proofs.ListLemmas.{all_from, some_of, found_passes}
 use Rattle.world_agreement.proofs.NameLemmas.{found_by_id}
 use Rattle.world_agreement.proofs.RequestFacts.{asks_taken}
 
@@ -34,10 +35,24 @@ made_now consumed rows e None h = h
 made_now consumed rows e (Some m) h = record { alive = h.alive; version = h.version }
 
 -- each entry that isn't stale has such a record
-pub all_made_now : (consumed : Consumed) (rows : List Cell) (entries : List Entry) → AllCurrent consumed rows entries → All (λ e. IsSomeAnd e.made (IsMadeNow e)) entries
+all_made_now : (consumed : Consumed) (rows : List Cell) (entries : List Entry) → AllCurrent consumed rows entries → All (λ e. IsSomeAnd e.made (IsMadeNow e)) entries
 all_made_now consumed rows [] h = All-nil (λ e. IsSomeAnd e.made (IsMadeNow e))
 all_made_now consumed rows (e ∷ es) h =
     All-cons (λ x. IsSomeAnd x.made (IsMadeNow x)) e es (made_now consumed rows e e.made h.0) (all_made_now consumed (after_entry rows e) es h.1)
+
+-- and so has each that is folded
+made_past : (e : Entry) (made : Option Made) → IsSomeAnd made (IsBare e) → IsSomeAnd made (IsMadeNow e)
+made_past e None h = h
+made_past e (Some m) h = record { alive = h.alive; version = h.version }
+
+-- where nothing is stale, each entry has
+pub each_made_now : (s : Kept) → Fits s → AllCurrent (answers s) (base s) (unfolded s) → All (λ e. IsSomeAnd e.made (IsMadeNow e)) s.entries
+each_made_now s fits current =
+    let Now : Entry → Type 0 = λ e. IsSomeAnd e.made (IsMadeNow e) in
+    let past = all_from Now (folded s) (λ e has. made_past e e.made (All-contains (IsPast s) (folded s) e fits.horizon.each has).bare) in
+    let all : List Entry → Type 0 = λ es. All Now es in
+    subst all (take-append-drop s.horizon s.entries)
+    (All-append Now (folded s) (unfolded s) past (all_made_now (answers s) (base s) (unfolded s) current))
 
 -- ---- the entry of a call
 

@@ -155,6 +155,7 @@ module _ (setting : Setting) (buy pay : Request) (i : Inputs) (written : List Wr
     };
     flights = record { numbered = All-nil _; others = no_pairs AreOther; untaken = All-nil _ };
     orders = (tt, (tt, (tt, (tt, (tt, (refl, (tt, (tt, (tt, tt)))))))));
+    horizon = record { within = omega arith; last = refl; each = All-nil _; replayed = record { traces = []; replay = refl } };
   }
 
   -- ---- the bank fits its journal
@@ -207,6 +208,7 @@ module _ (setting : Setting) (buy pay : Request) (i : Inputs) (written : List Wr
     places = record { calls = all_one (WantsItsCalls bank.registers) _ refl; once = λ n. refl };
     flights = record { numbered = All-nil _; others = no_pairs AreOther; untaken = All-nil _ };
     orders = (tt, (tt, (tt, (tt, (tt, (tt, tt))))));
+    horizon = record { within = omega arith; last = refl; each = All-nil _; replayed = record { traces = []; replay = refl } };
   }
 
   legal : AreLegal both

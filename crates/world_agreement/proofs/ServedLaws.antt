@@ -18,7 +18,7 @@ use Rattle.world_agreement.specs.Partners.{service_of}
 use Rattle.world_agreement.specs.Legal.{history, histories}
 use Rattle.world_agreement.proofs.ListLemmas.{some_out, all_from, contains_map, filter_map_is}
 use Rattle.world_agreement.proofs.NameLemmas.{found_by_name, found_history, only_one}
-use Rattle.world_agreement.proofs.EntryFacts.{IsMadeNow, all_made_now, entered}
+use Rattle.world_agreement.proofs.EntryFacts.{IsMadeNow, each_made_now, entered}
 use Rattle.world_agreement.proofs.Settled.{AreAtRest, fits_of, quiet_of, settled}
 use Rattle.world_agreement.proofs.AnswerLaws.{consumes}
 
@@ -41,7 +41,7 @@ module _ (services : List Kept) (h : AreAtRest services) where
         let quiet = quiet_of services h r.dest t z.there in
         let x = entered t fits (me s) n z.last z.taken call.request (z.desired ∙ w.desired) in
         let made = some_out (x.entry).made (IsMadeNow x.entry)
-        (found_all (λ y. IsSomeAnd y.made (IsMadeNow y)) (has_id (x.entry).id) t.entries x.entry (all_made_now (answers t) [] t.entries quiet.current) x.by_id) in
+        (found_all (λ y. IsSomeAnd y.made (IsMadeNow y)) (has_id (x.entry).id) t.entries x.entry (each_made_now t fits quiet.current) x.by_id) in
         let consumed_is = consumes services h s here n r w.found z call.request w.desired x made.0 made.1 (made.2).version in
         let found : history_in call.dest (histories services) ≡ Some (history t) =
         ap (λ d. history_in d (histories services)) (sym w.dest) ∙ found_history r.dest services t z.there in
@@ -74,7 +74,7 @@ module _ (services : List Kept) (h : AreAtRest services) where
     served_entry : (e : Entry) → Contains s.entries e → CallsAreServed (histories services) (history s) (act_of (answers s) e)
     served_entry e has alive =
         served_by e e.made
-        (All-contains (λ y. IsSomeAnd y.made (IsMadeNow y)) s.entries e (all_made_now (answers s) [] s.entries (quiet_of services h (me s) s here).current) has)
+        (All-contains (λ y. IsSomeAnd y.made (IsMadeNow y)) s.entries e (each_made_now s (fits_of services h.together (me s) s here) (quiet_of services h (me s) s here).current) has)
         (served_calls e.slots (calls_of_made e.made) (wants_calls s (fits_of services h.together (me s) s here) e has))
 
   pub all_served : All (λ y. All (CallsAreServed (histories services) y) y.acts) (histories services)
