@@ -29,7 +29,7 @@ use Rattle.flights.specs.declared.flight.Flight.{Flight}
 use Rattle.service_events.specs.Arriving.{arrive_event, call_answered_event, call_failed_event}
 use Rattle.service_events.specs.Messages.{acked_again, is_known, is_too_much, origin_of, take_admitted, take_event, take_new, taken, taken_by}
 use Rattle.service_events.specs.Posts.{fetch_message, fetch_post, next_post, set_message, token_message, token_post, write_post}
-use Rattle.service_events.specs.State.{Kept, After, after, me, or_else, is_in_flight, flight_of, base}
+use Rattle.service_events.specs.State.{Kept, After, after, me, or_else, is_in_flight, flight_of, base, unfolded}
 use Rattle.service_events.specs.Steps.{Stale, stale_in, step_by}
 use Rattle.service_events.specs.State.{answers}
 use Rattle.service_events.specs.declared.answers.Arrived.{Arrived}
@@ -134,7 +134,7 @@ admitted_setting s set i (Some n) = refl
 admitted_setting s set i None =
     cond_both (is_known s set) (after (acked_again s set) (Ok (taken set None)))
     (take_new s set i) (λ a. a.service.setting ≡ s.setting) (λ _. refl)
-    (λ _. take_either s set i (λ a. a.service.setting ≡ s.setting) refl (taken_setting s set i (find_call (origin_of set) s.entries) set.desired))
+    (λ _. take_either s set i (λ a. a.service.setting ≡ s.setting) (λ why. refl) (taken_setting s set i (find_call (origin_of set) s.entries) set.desired))
 
 take_setting : (s : Kept) (set : SetMessage) (i : Inputs) → (take_event s set i).service.setting ≡ s.setting
 take_setting s set i =
@@ -265,7 +265,7 @@ module _ (services : List Kept) (packets : List Packet) (h : AreClosed services 
   posts_writes to there (Some n) goes = record { setting = refl; packet = post_ends to there (write_post s n) goes (posts_own s n) }
 
   steps_writes : Writes services s (repair_step_served s)
-  steps_writes = record { setting = step_setting s (stale_in (answers s) (base s) s.entries); packet = tt }
+  steps_writes = record { setting = step_setting s (stale_in (answers s) (base s) (unfolded s)); packet = tt }
 
   gives_up_writes : (flight : ℕ) → Writes services s (abandon_served flight s)
   gives_up_writes flight = record { setting = (event_goes s (service_event.Abandon flight) tt).grows.setting; packet = tt }

@@ -14,7 +14,7 @@ use Rattle.local_repair.specs.Current.{rows_after}
 use Rattle.call_registers.specs.Registers.{next_number}
 use Rattle.flights.specs.Moves.{calls_in, first_other, by_run, change_or}
 use Rattle.flights.specs.declared.flight.Flight.{Flight}
-use Rattle.service_events.specs.State.{Kept, After, me, answers, without_flight, base}
+use Rattle.service_events.specs.State.{Kept, After, me, answers, without_flight, base, unfolded}
 use Rattle.service_events.specs.Calls.{noted, named}
 use Rattle.service_events.specs.Flying.{flight_run, committed, with_slot, with_change, change_rows, waits, call_or_none, changed_unsent, completed, changed, moved, goes_on}
 use Rattle.service_events.specs.declared.answers.Arrived.{Arrived}
@@ -84,13 +84,13 @@ got P (x ∷ cs) (suc slot) c e h = got P cs slot c e h.1
 onwards : (s : Kept) (f : Flight) (ran : Ran) → flight_run s f ≡ ran → Each (IsOnward (me s) s.setting.peers f.request) (calls_in ran)
 onwards s f ran is =
     let E : Ran → Type 0 = λ r. Each (IsOnward (me s) s.setting.peers f.request) (calls_in r) in
-    subst E is (calls_onward s.setting f.request f.inputs (map (answers s) f.numbers) (rows_after (base s) s.entries))
+    subst E is (calls_onward s.setting f.request f.inputs (map (answers s) f.numbers) (rows_after (base s) (unfolded s)))
 
 -- a run that wants an answer was given fewer than 16, one by each number
 few_numbers : (s : Kept) (f : Flight) (slot : ℕ) (calls : List CallMade) (call : CallMade) → flight_run s f ≡ Wants slot calls call → length f.numbers < 16
 few_numbers s f slot calls call is =
     let given = map (answers s) f.numbers in
-    let rows = rows_after (base s) s.entries in
+    let rows = rows_after (base s) (unfolded s) in
     let few = few_wants s.setting f.request f.inputs given rows slot calls call is in
     let all = (goes_on_wants s.setting f.request f.inputs given rows slot calls call is).0 in
     let many : length given ≡ length f.numbers = length-map f.numbers (answers s) in

@@ -1,6 +1,7 @@
 -- A service calls its peers alone: each event keeps it so.
 use Rattle.std.proofs.Common.{◌≡◌, ℕ, zero, suc, not, ◌+◌, Bool, true, false, cond, List, [], ◌∷◌, ◌++◌, Option, Some, None, IfSome, Contains, Result, Ok, Err, drop, length, map, nat_eq, nat_le, option_map, slice_get, slice_set, All, refl, sym, ap, ◌∙◌, subst, append_assoc, append-nil}
 use Rattle.std.proofs.lemmas.Bool.{cond_both}
+use Rattle.std.proofs.lemmas.List.{take-append-drop}
 use Rattle.std.proofs.lemmas.List.Elements.{All-append, All-contains, Contains-append_right}
 use Rattle.lang_base.specs.Texts.{same_text}
 use Rattle.lang_core.specs.Traces.{dead_trace}
@@ -32,7 +33,7 @@ use Rattle.journal_rows.specs.Words.{last_sent, last_taken, noted_at, ordered}
 use Rattle.journal_rows.specs.declared.caller.NotedRow.{NotedRow}
 use Rattle.journal_rows.specs.declared.callee.TookRow.{TookRow}
 use Rattle.journal_rows.specs.declared.orders.Command.{Command}
-use Rattle.journal_rows.specs.declared.orders.Command.TheVariants.{Cancel, Restore, Replace, Create, Retry}
+use Rattle.journal_rows.specs.declared.orders.Command.TheVariants.{Cancel, Restore, Replace, Create, Retry, Fold}
 use Rattle.journal_rows.specs.declared.orders.OrderedRow.{OrderedRow}
 use Rattle.journal_rows.specs.declared.row.Row.{Row}
 use Rattle.journal_rows.specs.declared.row.Row.TheVariants.{Asked, Sent}
@@ -51,7 +52,7 @@ use Rattle.service_events.specs.Fits.{Fits, WantsItsCalls, NumberedCalls, calls_
 use Rattle.service_events.specs.Flying.{awaited, flight_run, before_answer, live_answer, surplus_rows, took_rows, committed, with_slot, with_change, deletion, change_rows, waits, call_or_none, wanted_of, named_unsent, changed_unsent, completing, completed, changed, moved, goes_on}
 use Rattle.service_events.specs.Messages.{hear_new, hear_rule, take_new, origin_of, is_known, is_too_much, acked_row, took_row, acked_again, taken_by, taken, take_admitted, confirmed_row, noted_row, heard, token_taken_by, token_taken_where, fetched_row, fetched, is_now, hold_of, held_back, held_where, posted}
 use Rattle.service_events.specs.Orders.{order_rows, carried_out, order_by, order_where, refused}
-use Rattle.service_events.specs.State.{Kept, After, after, answers, or_else, is_crowded, is_heavy, flight_of, base}
+use Rattle.service_events.specs.State.{Kept, After, after, answers, or_else, is_crowded, is_heavy, flight_of, base, folded, unfolded}
 use Rattle.service_events.specs.Steps.{ended_or, rerun, new_trace, new_record, sent_rows, answer_rows, stepped, Stale, stale_in, step_by}
 use Rattle.service_events.specs.declared.answers.Arrived.{Arrived}
 use Rattle.service_events.specs.declared.answers.Heard.{Heard}
@@ -169,7 +170,7 @@ run_to s q i given rows ran is =
     (calls_onward s.setting q i given rows))
 
 pub flight_to : (s : Kept) (f : Flight) (ran : Ran) → flight_run s f ≡ ran → CallsTo s.setting.peers (calls_in ran)
-flight_to s f ran is = run_to s f.request f.inputs (map (answers s) f.numbers) (rows_after (base s) s.entries) ran is
+flight_to s f ran is = run_to s f.request f.inputs (map (answers s) f.numbers) (rows_after (base s) (unfolded s)) ran is
 
 -- ---- a flight goes on
 
@@ -365,6 +366,13 @@ module _ (s : Kept) (fits : Fits s) (calls : CallsPeers s) where
       later None h = tt
       later (Some x) h = Contains-append_right (e ∷ []) es x.entry h
 
+  -- it is one of all entries
+  stale_is_there : (o : Option Stale) → IfSome o (λ x. Contains (unfolded s) x.entry) → IfSome o (λ x. Contains s.entries x.entry)
+  stale_is_there None h = tt
+  stale_is_there (Some x) h =
+      let In : List Entry → Type 0 = λ es. Contains es x.entry in
+      subst In (take-append-drop s.horizon s.entries) (Contains-append_right (folded s) (unfolded s) x.entry h)
+
   stepped_reaches : (e : Entry) (rows : List Cell) → Contains s.entries e → Stays (stepped s e (new_record s rows e))
   stepped_reaches e rows has =
       let m = new_record s rows e in
@@ -388,6 +396,7 @@ module _ (s : Kept) (fits : Fits s) (calls : CallsPeers s) where
   ordered_reaches (Retry (OfCall n)) token who i = reaches_by s _ (order_rows s (Retry (OfCall n)) token who i) refl refl (tt, tt)
   ordered_reaches (Retry (OfReply id)) token who i = reaches_by s _ (order_rows s (Retry (OfReply id)) token who i) refl refl (tt, tt)
   ordered_reaches (Retry (OfFetch n)) token who i = reaches_by s _ (order_rows s (Retry (OfFetch n)) token who i) refl refl (tt, tt)
+  ordered_reaches (Fold id) token who i = reaches_by s _ (order_rows s (Fold id) token who i) refl refl (tt, tt)
 
   order_by_reaches : (command : Command) (token who : List ℕ) (i : Inputs) (o : Option OrderRefused) → Stays (order_by s command token who i o)
   order_by_reaches command token who i (Some why) = same
@@ -407,7 +416,7 @@ module _ (s : Kept) (fits : Fits s) (calls : CallsPeers s) where
   take_admitted_reaches set i None =
       cond_both (is_known s set) (after (acked_again s set) (Ok (taken set None))) (take_new s set i)
       (λ a. Reaches s a.service) (λ _. reaches_by s (acked_again s set) (acked_row set ∷ []) refl refl (tt, tt))
-      (λ _. take_either s set i (λ a. Reaches s a.service) same (taken_reaches set i (find_call (origin_of set) s.entries) set.desired))
+      (λ _. take_either s set i (λ a. Reaches s a.service) (λ why. same) (taken_reaches set i (find_call (origin_of set) s.entries) set.desired))
 
   token_taken_by_reaches : (a : TokenMessage) (r : Register) → Stays (token_taken_by s a r)
   token_taken_by_reaches a r = by (same_text r.dest a.callee) (is_news r a.answer_version)
@@ -416,7 +425,7 @@ module _ (s : Kept) (fits : Fits s) (calls : CallsPeers s) where
           → Stays {A = Result Heard AnswerRefused} (cond (not goes) (after s (Err (AnswerRefused.Unknown a.number)))
           (cond new (hear_new s a r) (after (noted (confirmed_row a ∷ []) s) (Ok (heard a None)))))
       by false new = same
-      by true true = hear_either s a r (λ x. Reaches s x.service) same (reaches_by s _ (noted_row (hear_rule s a r) a ∷ (confirmed_row a ∷ [])) refl refl (tt, (tt, tt)))
+      by true true = hear_either s a r (λ x. Reaches s x.service) (λ why. same) (reaches_by s _ (noted_row (hear_rule s a r) a ∷ (confirmed_row a ∷ [])) refl refl (tt, (tt, tt)))
       by true false = reaches_by s _ (confirmed_row a ∷ []) refl refl (tt, tt)
 
   token_taken_where_reaches : (a : TokenMessage) (o : Option Register) → Stays (token_taken_where s a o)
@@ -464,5 +473,6 @@ module _ (s : Kept) (fits : Fits s) (calls : CallsPeers s) where
   event_reaches (events.NextPost dest) = same
   event_reaches (events.WritePost name) = same
   event_reaches (events.Posted post reply) = posted_either s post reply (λ a. Reaches s a.service) same (λ _ _. replied_reaches post reply)
-  event_reaches events.Step = step_by_reaches (stale_in (answers s) (base s) s.entries) (stale_there (answers s) (base s) s.entries)
+  event_reaches events.Step =
+      step_by_reaches (stale_in (answers s) (base s) (unfolded s)) (stale_is_there (stale_in (answers s) (base s) (unfolded s)) (stale_there (answers s) (base s) (unfolded s)))
   event_reaches (events.Order command token who i) = order_where_reaches command token who i (ordered token s.journal)

@@ -24,7 +24,7 @@ use Rattle.repair_messages.specs.declared.posts.PostName.TheVariants.{Call as Of
 use Rattle.journal_rows.specs.Words.{last_sent, seen_acked, last_seen, last_noted, noted_at, ordered}
 use Rattle.journal_rows.specs.declared.caller.NotedRow.{NotedRow}
 use Rattle.journal_rows.specs.declared.orders.Command.{Command}
-use Rattle.journal_rows.specs.declared.orders.Command.TheVariants.{Cancel, Restore, Replace, Create, Retry}
+use Rattle.journal_rows.specs.declared.orders.Command.TheVariants.{Cancel, Restore, Replace, Create, Retry, Fold}
 use Rattle.journal_rows.specs.declared.orders.OrderedRow.{OrderedRow}
 use Rattle.journal_rows.specs.declared.row.Row.{Row}
 use Rattle.journal_rows.specs.declared.row.Row.TheVariants.{Asked, Answered, Sent, Noted, Ordered}
@@ -41,7 +41,7 @@ use Rattle.service_events.specs.Fits.{Fits, HasAnswered as HasItsAnswer, HasNote
 use Rattle.service_events.specs.Messages.{hear_new, hear_rule, take_new, take_rule, origin_of, is_known, is_too_much, ack_of, acked_row, took_row, acked_again, taken_by, taken, take_admitted, take_event, confirm_of, confirmed_row, noted_row, heard, token_taken_where, take_token_event, fetched_row, fetched, had_call, has_call, had, is_ack_of, is_given_to, replies_to, is_now, hold_of, held_back, held_where, posted}
 use Rattle.service_events.specs.Orders.{order_rows, carried_out, order_by, order_where, refused}
 use Rattle.service_events.specs.Posts.{set_message, token_message, token_post, fetch_message, fetch_post, write_post}
-use Rattle.service_events.specs.State.{Kept, After, after, me, answers, flight_of, has_flight, next_id, base}
+use Rattle.service_events.specs.State.{Kept, After, after, me, answers, flight_of, has_flight, next_id, base, unfolded}
 use Rattle.service_events.specs.Steps.{Stale, new_record, sent_rows, answer_rows, stepped, stale_in, step_by}
 use Rattle.service_events.specs.declared.answers.Heard.{Heard}
 use Rattle.service_events.specs.declared.answers.PostReply.{PostReply}
@@ -145,6 +145,7 @@ module _ (services : List Kept) (s : Kept) (fits : Fits s) (flights : FlightsSta
   ordered_turns (Retry (OfCall n)) token who i = own_turns services s _ (order_rows s (Retry (OfCall n)) token who i) refl refl (tt, tt) flights
   ordered_turns (Retry (OfReply id)) token who i = own_turns services s _ (order_rows s (Retry (OfReply id)) token who i) refl refl (tt, tt) flights
   ordered_turns (Retry (OfFetch n)) token who i = own_turns services s _ (order_rows s (Retry (OfFetch n)) token who i) refl refl (tt, tt) flights
+  ordered_turns (Fold id) token who i = own_turns services s _ (order_rows s (Fold id) token who i) refl refl (tt, tt) flights
 
   order_by_turns : (command : Command) (token who : List ℕ) (i : Inputs) (o : Option OrderRefused) → Turns services s (order_by s command token who i o).service
   order_by_turns command token who i (Some why) = no_turn services s flights
@@ -215,7 +216,7 @@ module _ (services : List Kept) (s : Kept) (fits : Fits s) (flights : FlightsSta
     admitted_takes i None =
         cond_both (is_known s set) (after (acked_again s set) (Ok (taken set None))) (take_new s set i) (Takes set)
         (λ _. takes_by (acked_again s set) [] None refl refl refl (All-nil (HasPartner services s)))
-        (λ _. take_either s set i (Takes set) (takes_not (TakeRefused.Denied (take_rule s set))) (takes_new i (find_call (origin_of set) s.entries) set.desired))
+        (λ _. take_either s set i (Takes set) takes_not (takes_new i (find_call (origin_of set) s.entries) set.desired))
 
     pub take_takes : (i : Inputs) → Takes set (take_event s set i)
     take_takes i =
@@ -256,7 +257,7 @@ module _ (services : List Kept) (s : Kept) (fits : Fits s) (flights : FlightsSta
         → KeepsOver a (cond b (hear_new s a r) (after (noted (confirmed_row a ∷ []) s) (Ok (heard a None))))
     heard_new r found dest true =
         let row = noted_row (hear_rule s a r) a in
-        hear_either s a r (KeepsOver a) (hears_not (AnswerRefused.Denied (hear_rule s a r)))
+        hear_either s a r (KeepsOver a) hears_not
         (hears_by (row ∷ []) (Some (hear_rule s a r)) (All-cons (HasPartner services s) row [] (token_said r found dest) (All-nil (HasPartner services s))))
     heard_new r found dest false = hears_by [] None (All-nil (HasPartner services s))
 
@@ -381,7 +382,7 @@ module _ (services : List Kept) (s : Kept) (fits : Fits s) (flights : FlightsSta
   event_turns (events.WritePost name) _ = no_turn services s flights
   event_turns (events.Posted post reply) stands =
       posted_either s post reply (λ x. Turns services s x.service) (no_turn services s flights) (λ has is. replied_turns post reply has is stands)
-  event_turns events.Step _ = step_by_turns (stale_in (answers s) (base s) s.entries)
+  event_turns events.Step _ = step_by_turns (stale_in (answers s) (base s) (unfolded s))
   event_turns (events.Order command token who i) _ = order_where_turns command token who i (ordered token s.journal)
 
   -- ---- a post is written

@@ -39,7 +39,7 @@ use Rattle.service_events.specs.Arriving.{told}
 use Rattle.service_events.specs.Calls.{noted}
 use Rattle.service_events.specs.Flying.{goes_on, moved, committed, committed_entry}
 use Rattle.service_events.specs.Messages.{acked_again, saw_ack_row, noted_row, confirmed_row, fetched_row, posted_event}
-use Rattle.service_events.specs.State.{After, Kept, after, answers, base}
+use Rattle.service_events.specs.State.{After, Kept, after, answers, base, unfolded}
 use Rattle.service_events.specs.Steps.{ended_or, rerun, new_numbers, new_trace, stepped, stale_in, step_by, step_event}
 use Rattle.service_events.specs.declared.answers.Posted.TheVariants.{Acked as WasAcked, Confirmed as WasConfirmed, Saw}
 use Rattle.service_events.specs.declared.answers.PostReply.TheVariants.{Acked, Confirmed, Given}
@@ -74,8 +74,8 @@ answers_apart {m = m} consumed rows e made apart =
     ∙ last_fails (equal coded_bool m.alive (is_alive e)) (nat_eq m.version e.version) (equal request.the_row.coded m.request e.request)
     (list_all (gives rows) m.trace.reads) (equal (coded_list response.the_row.coded) m.trace.answers (map consumed e.slots)) apart
 
--- a service whose one entry is current has nothing to run again
-rests : {e : Entry} {m : Made} (s : Kept) → s.entries ≡ e ∷ [] → e.made ≡ Some m
+-- a service whose one entry that isn't folded is current has nothing to run again
+rests : {e : Entry} {m : Made} (s : Kept) → unfolded s ≡ e ∷ [] → e.made ≡ Some m
     → equal coded_bool m.alive (is_alive e) ≡ true → nat_eq m.version e.version ≡ true → equal request.the_row.coded m.request e.request ≡ true
     → list_all (gives (base s)) m.trace.reads ≡ true → equal (coded_list response.the_row.coded) m.trace.answers (map (answers s) e.slots) ≡ true
     → step_event s ≡ after s Idle
@@ -271,7 +271,7 @@ module _ (program : List Route) (token : List ℕ) where
   is_stale : is_current (answers saw) [] tried_entry ≡ false
   is_stale = answers_apart (answers saw) [] tried_entry refl other_answers
 
-  first_stale : stale_in (answers saw) (base saw) saw.entries ≡ Some (record { entry = tried_entry; rows = [] })
+  first_stale : stale_in (answers saw) (base saw) (unfolded saw) ≡ Some (record { entry = tried_entry; rows = [] })
   first_stale = ap (λ (b : Bool). if b then None else Some (record { entry = tried_entry; rows = [] })) is_stale
 
   new_answer : is_new_answer tried_entry.made made ≡ true
