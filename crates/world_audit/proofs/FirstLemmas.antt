@@ -4,7 +4,7 @@ use Rattle.std.specs.List.{AllWithin, HoldsAt}
 use Rattle.std.proofs.lemmas.List.{get_or_default}
 use Rattle.world_agreement.proofs.HandedOn.{none_first}
 use Rattle.flights.specs.declared.flight.Flight.{Flight}
-use Rattle.service_events.specs.State.{Kept, answers}
+use Rattle.service_events.specs.State.{Kept, answers, base, unfolded}
 use Rattle.world_agreement.specs.Partners.{HasPartner}
 use Rattle.world_audit.specs.First.{IsFirstWithout}
 use Rattle.world_audit.specs.Verdicts.{IsAcknowledged, IsFetched, IsGiven, NoneOf, IsFirstIn, IsFirstOf, IsJoinedIn, IsForged}
@@ -29,7 +29,7 @@ none_flying (g ∷ gs) n f none = cc
 
 not_done : (kind : OutstandingKind) (s : Kept) (number : ℕ) → IsFirstIn kind s number → ¬ (NoneOf kind s)
 not_done Flights s number f done = none_flying s.flights number f done
-not_done Entries s number f done = none_first (answers s) s.entries f.place done f.first
+not_done Entries s number f done = none_first (answers s) (base s) (unfolded s) f.place done f.first
 not_done Calls s number f done = not_all IsAcknowledged s.registers f.place f.first done
 not_done Fetches s number f done = not_all IsFetched s.registers f.place f.first done
 not_done Answers s number f done = not_all IsGiven s.replies f.place f.first done

@@ -10,7 +10,7 @@ use Rattle.journal_rows.specs.declared.verdict.Verdict.TheVariants.{Legal, Forge
 use Rattle.call_registers.specs.Registers.{owes_fetch}
 use Rattle.call_registers.specs.declared.register.Register.{Register}
 use Rattle.call_registers.specs.declared.reply.Reply.{Reply}
-use Rattle.service_events.specs.State.{Kept, answers, base}
+use Rattle.service_events.specs.State.{Kept, answers, base, unfolded}
 use Rattle.world_agreement.specs.Partners.{HasPartner, IsJoined}
 use Rattle.world_agreement.specs.Quiet.{AreQuiet}
 use Rattle.world_audit.specs.First.{IsFirstWithout, IsFirstNumber}
@@ -31,7 +31,7 @@ IsGiven p = p.due ≡ false
 -- nothing of this kind is outstanding of a service
 abbrev pub NoneOf : OutstandingKind → Kept → Type 0
 NoneOf Flights s = s.flights ≡ []
-NoneOf Entries s = AllCurrent (answers s) (base s) s.entries
+NoneOf Entries s = AllCurrent (answers s) (base s) (unfolded s)
 NoneOf Calls s = All IsAcknowledged s.registers
 NoneOf Fetches s = All IsFetched s.registers
 NoneOf Answers s = All IsGiven s.replies
@@ -39,7 +39,7 @@ NoneOf Answers s = All IsGiven s.replies
 -- the first of this kind that is outstanding of a service has this number
 abbrev pub IsFirstIn : OutstandingKind → Kept → ℕ → Type 0
 IsFirstIn Flights s number = IsSomeAnd (slice_get s.flights 0) (λ f. f.id ≡ number)
-IsFirstIn Entries s number = IsStaleId (answers s) (base s) s.entries number
+IsFirstIn Entries s number = IsStaleId (answers s) (base s) (unfolded s) number
 IsFirstIn Calls s number = IsFirstNumber IsAcknowledged (λ r. r.number) s.registers number
 IsFirstIn Fetches s number = IsFirstNumber IsFetched (λ r. r.number) s.registers number
 IsFirstIn Answers s number = IsFirstNumber IsGiven (λ p. p.id) s.replies number
