@@ -1,4 +1,4 @@
--- In services that agree on what went between them, a service's steps leave no stale entry.
+-- In services that agree on what went between them, a service's steps leave no stale entry; as many as it has entries that aren't folded will do.
 use Rattle.std.proofs.Common.{◌≡◌, ℕ, zero, suc, ◌+◌, ◌<◌, ◌^◌, List, [], ◌∷◌, Option, Some, None, IfSome, length, take, refl, sym, ap, ◌∙◌, subst, arith}
 use Rattle.std.specs.Option.{option_map_or}
 use Rattle.std.proofs.Math.Seq.{take-length}
@@ -9,7 +9,7 @@ use Rattle.local_repair.specs.declared.stepped.Stepped.TheVariants.{Idle, Ran}
 use Rattle.call_registers.specs.Registers.{IsTimely}
 use Rattle.service_events.specs.Fits.{Fits}
 use Rattle.service_events.specs.Progress.{changes}
-use Rattle.service_events.specs.State.{Kept, answers, base, me}
+use Rattle.service_events.specs.State.{Kept, answers, base, me, unfolded}
 use Rattle.service_events.specs.Steps.{Stale, stale_in, step_by, step_event}
 use Rattle.service_events.specs.declared.event.Event.TheVariants.{Step as StepEvent}
 use Rattle.service_events.proofs.EventLaws.{event_fits}
@@ -43,27 +43,27 @@ module _ (s : Kept) where
   idle_by (Some x) e = cc
 
   step_named : me (step_event s).service ≡ me s
-  step_named = named_by (stale_in (answers s) (base s) s.entries)
+  step_named = named_by (stale_in (answers s) (base s) (unfolded s))
 
   idle_same : (step_event s).answer ≡ Idle → (step_event s).service ≡ s
-  idle_same e = idle_by (stale_in (answers s) (base s) s.entries) e
+  idle_same e = idle_by (stale_in (answers s) (base s) (unfolded s)) e
 
   abbrev Current : Type 0
-  Current = AllCurrent (answers s) (base s) s.entries
+  Current = AllCurrent (answers s) (base s) (unfolded s)
 
   idle_current : Fits s → length (step_event s).service.journal < 2 ^ 64 → (step_event s).answer ≡ Idle → Current
   idle_current f few e =
-      let S : Stepped → Type 0 = λ a. StepsTo s.setting (changes s (step_event s).service) (base s) s.entries a (step_event s).service.entries in
+      let S : Stepped → Type 0 = λ a. StepsTo s.setting (changes s (step_event s).service) (base s) (unfolded s) a (unfolded (step_event s).service) in
       (subst S e (step_steps s f few)).0
 
 abbrev Rests : Kept → Type 0
-Rests s = AllCurrent (answers s) (base s) s.entries
+Rests s = AllCurrent (answers s) (base s) (unfolded s)
 
-steps_on : (name : List ℕ) (n k : ℕ) (w : World) (s : Kept) → service_of name w.services ≡ Some s → Fits s → IsTimely s.registers → AllCurrent (answers s) (base s) (take k s.entries)
-    → n + k ≡ length s.entries → (events : List Event) → IsStepping name n w events → AllFew w events → IsAtRest name (after_events w events)
+steps_on : (name : List ℕ) (n k : ℕ) (w : World) (s : Kept) → service_of name w.services ≡ Some s → Fits s → IsTimely s.registers → AllCurrent (answers s) (base s) (take k (unfolded s))
+    → n + k ≡ length (unfolded s) → (events : List Event) → IsStepping name n w events → AllFew w events → IsAtRest name (after_events w events)
 steps_on name zero k w s found f timely current sum events none few =
-    let all : k ≡ length s.entries = omega (arith, sum) in
-    let here : Rests s = subst (AllCurrent (answers s) (base s)) (ap (λ m. take m s.entries) all ∙ take-length s.entries) current in
+    let all : k ≡ length (unfolded s) = omega (arith, sum) in
+    let here : Rests s = subst (AllCurrent (answers s) (base s)) (ap (λ m. take m (unfolded s)) all ∙ take-length (unfolded s)) current in
     let R : List Event → Type 0 = λ es. IsAtRest name (after_events w es) in
     subst R (sym none) (subst (λ o. IfSome o Rests) (sym found) here)
 steps_on name (suc n) k w s found f timely current sum [] are few = absurd are
@@ -104,16 +104,16 @@ steps_rest w name events sound are few = by_there (service_of name w.services) r
   where
     by_there : (o : Option Kept) → service_of name w.services ≡ o → IsAtRest name (after_events w events)
     by_there None gone =
-        let S : Option Kept → Type 0 = λ o. IsStepping name (option_map_or (λ (s : Kept). length s.entries) o 0) w events in
+        let S : Option Kept → Type 0 = λ o. IsStepping name (option_map_or (λ (s : Kept). length (unfolded s)) o 0) w events in
         let none : events ≡ [] = subst S gone are in
         let R : List Event → Type 0 = λ es. IsAtRest name (after_events w es) in
         subst R (sym none) (subst (λ o. IfSome o Rests) (sym gone) tt)
     by_there (Some s) here =
-        let S : Option Kept → Type 0 = λ o. IsStepping name (option_map_or (λ (s : Kept). length s.entries) o 0) w events in
+        let S : Option Kept → Type 0 = λ o. IsStepping name (option_map_or (λ (s : Kept). length (unfolded s)) o 0) w events in
         let fits = found_all Fits (has_name name) w.services s sound.fits here in
         let timely = found_all (λ (x : Kept). IsTimely x.registers) (has_name name) w.services s (joined_timely w.services sound.fits sound.differ sound.joined) here in
-        let sum : length s.entries + 0 ≡ length s.entries = omega arith in
-        steps_on name (length s.entries) 0 w s here fits timely tt sum events (subst S here are) few
+        let sum : length (unfolded s) + 0 ≡ length (unfolded s) = omega arith in
+        steps_on name (length (unfolded s)) 0 w s here fits timely tt sum events (subst S here are) few
 
 pub does_rest : (w now : World) (name : List ℕ) (t u : Tally) → Does w (IsStepping name (entries_of name w)) t u now → IsSound w → IsAtRest name now
 does_rest w now name t u d sound = subst (IsAtRest name) (sym (d.happened).world) (steps_rest w name d.events sound d.are (d.happened).few)

@@ -2,7 +2,7 @@
 use Rattle.std.specs.Prelude.{ℕ, ◌≡◌, Bool, ◌||◌, List, [], ◌∷◌, ◌++◌, Option, IfSome, if◌then◌else◌}
 use Rattle.local_repair.specs.Current.{AllCurrent}
 use Rattle.call_registers.specs.Changes.{raised}
-use Rattle.service_events.specs.State.{answers, base}
+use Rattle.service_events.specs.State.{answers, base, unfolded}
 use Rattle.world_agreement.specs.Partners.{NamesDiffer, service_of}
 use Rattle.world_events.specs.Events.{Answer, after_event, after_events, answer_to}
 use Rattle.world_events.specs.Sound.{AllFew, AreFew, IsSound}
@@ -65,7 +65,7 @@ pub record IsSettled (w : World) (n : ℕ) : Type 0 where
 
 -- the service of this name, if it is there, has no stale entry
 abbrev pub IsAtRest : List ℕ → World → Type 0
-IsAtRest name w = IfSome (service_of name w.services) (λ s. AllCurrent (answers s) (base s) s.entries)
+IsAtRest name w = IfSome (service_of name w.services) (λ s. AllCurrent (answers s) (base s) (unfolded s))
 
 -- ---- what is counted on the way
 

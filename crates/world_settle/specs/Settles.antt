@@ -6,7 +6,7 @@ use Rattle.lang_base.specs.Texts.{same_text}
 use Rattle.local_repair.specs.declared.stepped.Stepped.TheVariants.{Ran}
 use Rattle.service_events.specs.Flying.{awaited}
 use Rattle.service_events.specs.Posts.{outstanding}
-use Rattle.service_events.specs.State.{Kept, me}
+use Rattle.service_events.specs.State.{Kept, me, unfolded}
 use Rattle.service_events.specs.declared.answers.Posted.TheVariants.{Acked, Confirmed, Saw, Held}
 use Rattle.world_agreement.specs.Partners.{service_of}
 use Rattle.world_events.specs.Events.{Answer, after_event, after_events, answer_to}
@@ -83,9 +83,9 @@ IsStepping name (suc more) w [] = ⊥
 IsStepping name (suc more) w (e ∷ events) =
     (e ≡ Step name) × Follows (came is_run (answer_to w e)) (IsStepping name more (after_event w e) events) events
 
--- how many entries it has
+-- how many entries it has that aren't folded, which nothing repairs any more
 abbrev pub entries_of : List ℕ → World → ℕ
-entries_of name w = option_map_or (λ (s : Kept). length s.entries) (service_of name w.services) 0
+entries_of name w = option_map_or (λ (s : Kept). length (unfolded s)) (service_of name w.services) 0
 
 -- ---- a service posts to another one
 
@@ -138,7 +138,7 @@ PostsBy false name other w events = IsPosting name other w events
 abbrev pub PostsTo : List ℕ → List ℕ → World → List Event → Type 0
 PostsTo name other w events = PostsBy (same_text other name) name other w events
 
--- a service steps, at most as often as it has entries, and then posts to each other one
+-- a service steps, at most as often as it has entries that aren't folded, and then posts to each other one
 abbrev pub IsShare : List (List ℕ) → List ℕ → World → List Event → Type 0
 IsShare names name w events =
     Then (IsStepping name (entries_of name w)) (EachInOrder (IsPosting name) (others name names)) w events

@@ -30,7 +30,7 @@ fn step(alloc: Global, world: &mut World, name: &Name, tally: &mut Tally) -> Res
     happen(alloc, world, Event::Step { service }, tally)
 }
 
-/// The service makes repair steps until one is idle, at most as many as it has entries.
+/// The service makes repair steps until one is idle, at most as many as it has entries that aren't folded.
 #[tactic(auto, using(crate::proofs::Parts::stepping_none, crate::proofs::Parts::stepping_on, crate::proofs::Parts::stepping_done, crate::proofs::Parts::stepping_first, crate::proofs::EventLemmas::on_err))]
 pub(crate) fn step_until_idle(
     alloc: Global,
