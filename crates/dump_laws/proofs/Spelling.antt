@@ -19,7 +19,7 @@ use Rattle.report_text.specs.Reports.{escaped_key}
 use Rattle.request_log.specs.Records.{Record, record_of, recorded_calls}
 use Rattle.request_log.specs.declared.entry.Entry.{Entry}
 use Rattle.local_repair.specs.Current.{Consumed, rows_after}
-use Rattle.service_events.specs.State.{Kept, answers, base, me}
+use Rattle.service_events.specs.State.{Kept, answers, base, me, unfolded}
 use Rattle.dump_lines.specs.Dumps as dump
 use Rattle.dump_lines.specs.Dumps.{digit_of, dump_text, names_text, origin_text}
 use Rattle.dump_words.specs.Lines.{line_at}
@@ -254,7 +254,7 @@ service_tells : (s : Kept) → IsDumpService (dumped s) → Tells (dump.service_
 service_tells s is =
     let d = dumped s in
     let entries = flat_map (dump.entry_lines (answers s)) s.entries in
-    let rows = rows_after (base s) s.entries in
+    let rows = rows_after (base s) (unfolded s) in
     let entry_lines = flat_map spelled.entry_lines d.entries in
     let head = spelled.head_lines d.setting in
     let all : Tells (dump.service_lines s) (head ++ (entry_lines ++ (map Row rows ++ End ∷ []))) =

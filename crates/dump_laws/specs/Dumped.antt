@@ -6,7 +6,7 @@ use Rattle.lang_core.specs.declared.setting.Setting.{Setting}
 use Rattle.request_log.specs.Records.{Record, record_of, recorded_calls}
 use Rattle.request_log.specs.declared.entry.Entry.{Entry}
 use Rattle.local_repair.specs.Current.{Consumed, rows_after}
-use Rattle.service_events.specs.State.{Kept, answers, base}
+use Rattle.service_events.specs.State.{Kept, answers, base, unfolded}
 use Rattle.dump_tables.specs.declared.dump.DumpEntry.{DumpEntry}
 use Rattle.dump_tables.specs.declared.dump.DumpService.{DumpService}
 
@@ -34,12 +34,12 @@ dumped_entry consumed e = record {
 abbrev pub weightless : Setting → Setting
 weightless s = record { me = s.me; peers = s.peers; program = s.program; weight = 0; alone = s.alone }
 
--- a service's entries in logged order, and the rows after them
+-- a service's entries in logged order, the folded ones first, and the rows after them
 abbrev pub dumped : Kept → DumpService
 dumped s = record {
   setting = weightless s.setting;
   entries = map (dumped_entry (answers s)) s.entries;
-  rows = rows_after (base s) s.entries;
+  rows = rows_after (base s) (unfolded s);
 }
 
 abbrev pub dumped_all : List Kept → List DumpService

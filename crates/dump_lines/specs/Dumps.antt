@@ -14,7 +14,7 @@ use Rattle.request_log.specs.Records.{Record, record_of, recorded_calls}
 use Rattle.request_log.specs.declared.entry.Entry.{Entry}
 use Rattle.local_repair.specs.Current.{Consumed, rows_after}
 use Rattle.report_text.specs.Reports.{asked_text, body_behind, escaped_key, response_text}
-use Rattle.service_events.specs.State.{Kept, answers, base, me}
+use Rattle.service_events.specs.State.{Kept, answers, base, me, unfolded}
 
 -- ---- words
 
@@ -97,11 +97,11 @@ head_lines s =
     codes "service " ++ (me s ++ (codes "\npeers " ++ (names_text s.setting.peers
     ++ (codes "\nprogram" ++ (body_behind (text_of s.setting.program) ++ codes "\n")))))
 
--- what it is set to do, its entries in logged order, the rows after them, and `end`
+-- what it is set to do, its entries in logged order, the folded ones first and like the others, the rows after them, and `end`
 abbrev pub service_lines : Kept → List ℕ
 service_lines s =
     head_lines s ++ (flat_map (entry_lines (answers s)) s.entries
-    ++ (flat_map row_line (rows_after (base s) s.entries) ++ codes "end\n"))
+    ++ (flat_map row_line (rows_after (base s) (unfolded s)) ++ codes "end\n"))
 
 -- the services, one after the other
 abbrev pub dump_text : List Kept → List ℕ
