@@ -16,4 +16,5 @@ pub mod CalledLaws
 pub mod LegalLaws
 pub mod PurchaseTogether
 pub mod PurchaseUndone
+pub mod PurchaseFolded
 pub mod HandedOn

@@ -78,7 +78,7 @@ module _ (setting : Setting) (buy pay : Request) (i : Inputs) (written : List Wr
     given = All-nil (λ (p : Reply). p.due ≡ false);
   }
 
-  bank_quiet : IsQuiet bank
+  pub bank_quiet : IsQuiet bank
   bank_quiet = record {
     landed = refl;
     current = (record { alive = refl; version = refl; request = refl; reads = All-nil _; answers = refl }, tt);
@@ -182,7 +182,7 @@ module _ (setting : Setting) (buy pay : Request) (i : Inputs) (written : List Wr
     now = all_one (IsAsNow bank.journal) _ (record { version = refl; wanted = refl; request = refl; struck = refl });
   }
 
-  bank_fits : All (λ (e : Entry). IfSome e.made (IsRun at_bank e.inputs)) bank.entries → Fits bank
+  pub bank_fits : All (λ (e : Entry). IfSome e.made (IsRun at_bank e.inputs)) bank.entries → Fits bank
   bank_fits runs = record {
     sent = record { rows = (tt, (tt, (tt, tt))); registers = λ n. refl; count = refl; numbered = tt };
     seen = record { rows = (tt, (tt, (tt, tt))); registers = λ n. tt; answered = λ n told. cc; heard = λ n. omega arith; told = λ n. omega arith };
