@@ -48,7 +48,7 @@ module _ (setting : Setting) (buy pay : Request) (i : Inputs) (written : List Wr
   abbrev shop : Kept
   shop = bought at_shop buy pay i [] written token ann
 
-  abbrev bank : Kept
+  abbrev pub bank : Kept
   bank = paid at_bank buy pay i [] written token ann
 
   abbrev both : List Kept
