@@ -17,4 +17,5 @@ pub mod LegalLaws
 pub mod PurchaseTogether
 pub mod PurchaseUndone
 pub mod PurchaseFolded
+pub mod FoldLaws
 pub mod HandedOn
