@@ -134,7 +134,7 @@ admitted_setting s set i (Some n) = refl
 admitted_setting s set i None =
     cond_both (is_known s set) (after (acked_again s set) (Ok (taken set None)))
     (take_new s set i) (λ a. a.service.setting ≡ s.setting) (λ _. refl)
-    (λ _. take_either s set i (λ a. a.service.setting ≡ s.setting) (λ why. refl) (taken_setting s set i (find_call (origin_of set) s.entries) set.desired))
+    (λ _. take_either s set i (λ a. a.service.setting ≡ s.setting) (λ e. refl) refl (λ _. taken_setting s set i (find_call (origin_of set) s.entries) set.desired))
 
 take_setting : (s : Kept) (set : SetMessage) (i : Inputs) → (take_event s set i).service.setting ≡ s.setting
 take_setting s set i =

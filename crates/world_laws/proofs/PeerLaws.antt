@@ -416,7 +416,7 @@ module _ (s : Kept) (fits : Fits s) (calls : CallsPeers s) where
   take_admitted_reaches set i None =
       cond_both (is_known s set) (after (acked_again s set) (Ok (taken set None))) (take_new s set i)
       (λ a. Reaches s a.service) (λ _. reaches_by s (acked_again s set) (acked_row set ∷ []) refl refl (tt, tt))
-      (λ _. take_either s set i (λ a. Reaches s a.service) (λ why. same) (taken_reaches set i (find_call (origin_of set) s.entries) set.desired))
+      (λ _. take_either s set i (λ a. Reaches s a.service) (λ e. same) same (λ _. taken_reaches set i (find_call (origin_of set) s.entries) set.desired))
 
   token_taken_by_reaches : (a : TokenMessage) (r : Register) → Stays (token_taken_by s a r)
   token_taken_by_reaches a r = by (same_text r.dest a.callee) (is_news r a.answer_version)
@@ -425,7 +425,7 @@ module _ (s : Kept) (fits : Fits s) (calls : CallsPeers s) where
           → Stays {A = Result Heard AnswerRefused} (cond (not goes) (after s (Err (AnswerRefused.Unknown a.number)))
           (cond new (hear_new s a r) (after (noted (confirmed_row a ∷ []) s) (Ok (heard a None)))))
       by false new = same
-      by true true = hear_either s a r (λ x. Reaches s x.service) (λ why. same) (reaches_by s _ (noted_row (hear_rule s a r) a ∷ (confirmed_row a ∷ [])) refl refl (tt, (tt, tt)))
+      by true true = hear_either s a r (λ x. Reaches s x.service) same same (λ _. reaches_by s _ (noted_row (hear_rule s a r) a ∷ (confirmed_row a ∷ [])) refl refl (tt, (tt, tt)))
       by true false = reaches_by s _ (confirmed_row a ∷ []) refl refl (tt, tt)
 
   token_taken_where_reaches : (a : TokenMessage) (o : Option Register) → Stays (token_taken_where s a o)

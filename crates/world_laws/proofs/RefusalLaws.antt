@@ -122,7 +122,7 @@ module _ (s : Kept) where
   take_admitted_stays set i (Some n) = λ bad. refl
   take_admitted_stays set i None =
       cond_both (is_known s set) (after (acked_again s set) (Ok (taken set None))) (take_new s set i) (StaysIfRefused s)
-      (λ _ bad. cc) (λ _. take_either s set i (StaysIfRefused s) (λ why bad. refl) (λ bad. cc))
+      (λ _ bad. cc) (λ _. take_either s set i (StaysIfRefused s) (λ e bad. refl) (λ bad. refl) (λ _ bad. cc))
 
   heard_stays : (a : TokenMessage) (o : Option Register) → StaysIfRefused s (token_taken_where s a o)
   heard_stays a None = λ bad. refl
@@ -132,7 +132,7 @@ module _ (s : Kept) where
           → StaysIfRefused {A = Heard} {E = AnswerRefused} s (cond (not goes) (after s (Err (AnswerRefused.Unknown a.number)))
           (cond new (hear_new s a r) (after (noted (confirmed_row a ∷ []) s) (Ok (heard a None)))))
       by false new = λ bad. refl
-      by true true = hear_either s a r (StaysIfRefused s) (λ why bad. refl) (λ bad. cc)
+      by true true = hear_either s a r (StaysIfRefused s) (λ bad. refl) (λ bad. refl) (λ _ bad. cc)
       by true false = λ bad. cc
 
   held_stays : (post : Post) (o : Option Hold) → StaysIfRefused s (held_where s post o)

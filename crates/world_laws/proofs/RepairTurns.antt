@@ -216,7 +216,8 @@ module _ (services : List Kept) (s : Kept) (fits : Fits s) (flights : FlightsSta
     admitted_takes i None =
         cond_both (is_known s set) (after (acked_again s set) (Ok (taken set None))) (take_new s set i) (Takes set)
         (λ _. takes_by (acked_again s set) [] None refl refl refl (All-nil (HasPartner services s)))
-        (λ _. take_either s set i (Takes set) takes_not (takes_new i (find_call (origin_of set) s.entries) set.desired))
+        (λ _. take_either s set i (Takes set) (λ e. takes_not (TakeRefused.TooOld e.id)) (takes_not (TakeRefused.Denied (take_rule s set)))
+        (λ _. takes_new i (find_call (origin_of set) s.entries) set.desired))
 
     pub take_takes : (i : Inputs) → Takes set (take_event s set i)
     take_takes i =
@@ -257,8 +258,8 @@ module _ (services : List Kept) (s : Kept) (fits : Fits s) (flights : FlightsSta
         → KeepsOver a (cond b (hear_new s a r) (after (noted (confirmed_row a ∷ []) s) (Ok (heard a None))))
     heard_new r found dest true =
         let row = noted_row (hear_rule s a r) a in
-        hear_either s a r (KeepsOver a) hears_not
-        (hears_by (row ∷ []) (Some (hear_rule s a r)) (All-cons (HasPartner services s) row [] (token_said r found dest) (All-nil (HasPartner services s))))
+        hear_either s a r (KeepsOver a) (hears_not (AnswerRefused.TooOld a.number)) (hears_not (AnswerRefused.Denied (hear_rule s a r)))
+        (λ _. hears_by (row ∷ []) (Some (hear_rule s a r)) (All-cons (HasPartner services s) row [] (token_said r found dest) (All-nil (HasPartner services s))))
     heard_new r found dest false = hears_by [] None (All-nil (HasPartner services s))
 
     heard_if : (r : Register) → register a.number s.registers ≡ Some r → (b : Bool) → same_text r.dest a.callee ≡ b
