@@ -4,7 +4,7 @@ use Rattle.std.proofs.lemmas.List.{map-append}
 use Rattle.std.proofs.lemmas.List.Elements.{All-append, All-cons, All-contains, All-head, All-nil, All-tail}
 use Rattle.std.proofs.lemmas.List.Sums.{fold-append}
 use Rattle.lang_core.specs.declared.cells.Cell.{Cell}
-use Rattle.execution.specs.Executions.{Act, History}
+use Rattle.execution.specs.Executions.{Act}
 use Rattle.request_log.specs.Folded.{bare, bare_by}
 use Rattle.request_log.specs.Records.{record_in}
 use Rattle.request_log.specs.declared.entry.Entry.{Entry}
@@ -42,7 +42,7 @@ acts_stay : (consumed : Consumed) (k : ℕ) (entries : List Entry) → All HasRe
 acts_stay consumed k entries some =
     let act = act_of consumed in
     map-append act (map bare (take k entries)) (drop k entries)
-    ∙ ap (λ acts. acts ++ map act (drop k entries)) (acts_bare consumed (take k entries) some)
+    ∙ ap (λ (acts : List Act). acts ++ map act (drop k entries)) (acts_bare consumed (take k entries) some)
     ∙ sym (map-append act (take k entries) (drop k entries))
     ∙ ap (map act) (take-append-drop k entries)
 
@@ -75,8 +75,8 @@ current_both consumed rows (e ∷ es) rest h later = (h.0, current_both consumed
 -- ---- a service whose first entries behind the horizon are folded, none of which is stale
 
 module _ (s : Kept) (fits : Fits s) (n : ℕ) (current : AllCurrent (answers s) (base s) (take n (unfolded s))) where
-  abbrev later : Kept
-  later = folded_on n s
+  abbrev pub once_folded : Kept
+  once_folded = folded_on n s
 
   all_have : All HasRecord (take (s.horizon + n) s.entries)
   all_have =
@@ -86,37 +86,37 @@ module _ (s : Kept) (fits : Fits s) (n : ℕ) (current : AllCurrent (answers s) 
       subst H (sym (take-add s.horizon n s.entries)) (All-append HasRecord (folded s) (take n (unfolded s)) past here)
 
   -- what stays behind the horizon
-  left : unfolded later ≡ drop n (unfolded s)
+  left : unfolded once_folded ≡ drop n (unfolded s)
   left = mapped_behind bare (s.horizon + n) s.entries ∙ sym (drop-drop n s.horizon s.entries)
 
-  rows_stay : rows_after (base later) (unfolded later) ≡ rows_after (base s) (unfolded s)
+  rows_stay : rows_after (base once_folded) (unfolded once_folded) ≡ rows_after (base s) (unfolded s)
   rows_stay =
-      ap (rows_after (base later)) left
+      ap (rows_after (base once_folded)) left
       ∙ sym (fold-append after_entry (base s) (take n (unfolded s)) (drop n (unfolded s)))
       ∙ ap (rows_after (base s)) (take-append-drop n (unfolded s))
 
   -- its history is the same, request by request, and so are its rows
-  pub fold_history : history later ≡ history s
+  pub fold_history : history once_folded ≡ history s
   fold_history =
-      let acts : map (act_of (answers s)) later.entries ≡ map (act_of (answers s)) s.entries = acts_stay (answers s) (s.horizon + n) s.entries all_have in
-      ap (λ (now : List Act). record { setting = s.setting; acts = now; rows = rows_after (base later) (unfolded later) }) acts
+      let acts : map (act_of (answers s)) once_folded.entries ≡ map (act_of (answers s)) s.entries = acts_stay (answers s) (s.horizon + n) s.entries all_have in
+      ap (λ (now : List Act). record { setting = s.setting; acts = now; rows = rows_after (base once_folded) (unfolded once_folded) }) acts
       ∙ ap (λ (now : List Cell). record { setting = s.setting; acts = map (act_of (answers s)) s.entries; rows = now }) rows_stay
 
   -- and nothing of it is stale where nothing was
-  fold_current : AllCurrent (answers s) (base s) (unfolded s) → AllCurrent (answers later) (base later) (unfolded later)
+  fold_current : AllCurrent (answers s) (base s) (unfolded s) → AllCurrent (answers once_folded) (base once_folded) (unfolded once_folded)
   fold_current h =
       let A : List Entry → Type 0 = λ es. AllCurrent (answers s) (base s) es in
-      let B : List Entry → Type 0 = λ es. AllCurrent (answers s) (base later) es in
+      let B : List Entry → Type 0 = λ es. AllCurrent (answers s) (base once_folded) es in
       subst B (sym left) (current_behind (answers s) (base s) (take n (unfolded s)) (drop n (unfolded s)) (subst A (sym (take-append-drop n (unfolded s))) h))
 
-  current_before : AllCurrent (answers later) (base later) (unfolded later) → AllCurrent (answers s) (base s) (unfolded s)
+  current_before : AllCurrent (answers once_folded) (base once_folded) (unfolded once_folded) → AllCurrent (answers s) (base s) (unfolded s)
   current_before h =
       let A : List Entry → Type 0 = λ es. AllCurrent (answers s) (base s) es in
-      let B : List Entry → Type 0 = λ es. AllCurrent (answers s) (base later) es in
+      let B : List Entry → Type 0 = λ es. AllCurrent (answers s) (base once_folded) es in
       subst A (take-append-drop n (unfolded s)) (current_both (answers s) (base s) (take n (unfolded s)) (drop n (unfolded s)) current (subst B left h))
 
-  pub fold_quiet : IsQuiet s → IsQuiet later
+  pub fold_quiet : IsQuiet s → IsQuiet once_folded
   fold_quiet q = record { landed = q.landed; current = fold_current q.current; acknowledged = q.acknowledged; fetched = q.fetched; given = q.given }
 
-  pub quiet_before : IsQuiet later → IsQuiet s
+  pub quiet_before : IsQuiet once_folded → IsQuiet s
   quiet_before q = record { landed = q.landed; current = current_before q.current; acknowledged = q.acknowledged; fetched = q.fetched; given = q.given }
