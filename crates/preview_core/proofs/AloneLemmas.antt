@@ -1,20 +1,14 @@
 -- A service has one preview of some trials alone.
 use Rattle.std.proofs.Common.{◌≡◌, ℕ, zero, suc, ◌+◌, ◌<◌, ◌≤◌, ◌⊎◌, List, [], ◌∷◌, Option, Some, None, Result, Ok, Err, MatchOption, length, map, refl, sym, ap, ◌∙◌, subst, inl, inr, arith}
 use Rattle.std.proofs.lemmas.Bool.{cases_lt}
-use Rattle.lang_core.specs.Places.{IsOrdered}
-use Rattle.lang_core.specs.Rows.{cell_place}
-use Rattle.lang_core.specs.declared.cells.Cell.{Cell}
-use Rattle.lang_core.proofs.RowLemmas.{ordered-apply}
-use Rattle.request_log.specs.declared.entry.Entry.{Entry}
-use Rattle.local_repair.specs.Current.{after_entry, rows_after, writes_of}
 use Rattle.local_repair.specs.declared.stepped.Stepped.{Stepped}
 use Rattle.local_repair.specs.declared.stepped.Stepped.TheVariants.{Idle, Ran}
 use Rattle.journal_rows.specs.declared.row.Row.{Row}
-use Rattle.service_events.specs.State.{Kept, base, unfolded}
+use Rattle.service_events.specs.State.{Kept, unfolded}
 use Rattle.service_events.specs.Steps.{step_event}
 use Rattle.service_events.specs.declared.answers.Ordered.{Ordered}
 use Rattle.service_events.specs.declared.refusals.OrderRefused.{OrderRefused}
-use Rattle.preview_core.specs.Differences.{LeadsTo}
+use Rattle.preview_core.specs.Differences.{difference}
 use Rattle.preview_core.specs.Posts.{new_posts}
 use Rattle.preview_core.specs.Previews.{IsPreviewAtMost, IsShown, Shows, ShowsTrials, not_ready, rows_of}
 use Rattle.preview_core.specs.Repairs.{HasRun, HaveRun, HaveRunAtMost, ran_one}
@@ -23,13 +17,6 @@ use Rattle.preview_core.specs.declared.refused.PreviewRefused.{PreviewRefused}
 use Rattle.preview_core.specs.declared.told.Preview.{Preview}
 use Rattle.preview_core.specs.declared.told.RanOne.{RanOne}
 use Rattle.preview_core.specs.declared.trial.Trial.{Trial}
-use Rattle.preview_core.proofs.DifferenceAlone.{leads_alone}
-
--- ---- rows stand in order
-
-pub rows_ordered : (rows : List Cell) (es : List Entry) → IsOrdered cell_place rows → IsOrdered cell_place (rows_after rows es)
-rows_ordered rows [] o = o
-rows_ordered rows (e ∷ es) o = rows_ordered (after_entry rows e) es (ordered-apply rows (writes_of e.made) o)
 
 -- ---- tokens
 
@@ -107,12 +94,11 @@ somes_alone (x ∷ xs) (y ∷ ys) e =
 
 -- ---- what is shown
 
-shown_alone : (was tried : Kept) (ordered : IsOrdered cell_place (base was)) (p q : Preview) → IsShown HaveRunAtMost was tried p → IsShown HaveRunAtMost was tried q → p ≡ q
-shown_alone was tried ordered p q a b =
+shown_alone : (was tried : Kept) (p q : Preview) → IsShown HaveRunAtMost was tried p → IsShown HaveRunAtMost was tried q → p ≡ q
+shown_alone was tried p q a b =
     let one = ids_alone (length (unfolded tried)) tried a.now b.now a.ids b.ids a.repaired.ran a.repaired.most a.repaired.ends b.repaired.ran b.repaired.most b.repaired.ends in
     let ran : p.ran ≡ q.ran = somes_alone p.ran q.ran (a.ran ∙ ap (λ k. map (ran_one k) a.ids) one.1 ∙ ap (map (ran_one b.now)) one.0 ∙ sym b.ran) in
-    let rows : p.rows ≡ q.rows = leads_alone (rows_of was) (rows_of b.now) (rows_ordered (base was) (unfolded was) ordered) p.rows q.rows
-    (subst (λ k. LeadsTo (rows_of was) (rows_of k) p.rows) one.1 a.rows) b.rows in
+    let rows : p.rows ≡ q.rows = a.rows ∙ ap (λ k. difference (rows_of was) (rows_of k)) one.1 ∙ sym b.rows in
     let posts : p.posts ≡ q.posts = a.posts ∙ ap (new_posts was) one.1 ∙ sym b.posts in
     λ i. record { ran = ran i; rows = rows i; posts = posts i }
 

@@ -252,9 +252,13 @@ module _ (ws : List Write) (old new : List Cell) (o : IsOrdered write_place (ws 
         by false h = front_ordered ws (put d) (difference cs ds) h
 
 -- where none is left, all are there
+pub none_differ : (was is old new : List Cell) (ws : List Write) → ws ++ difference old new ≡ difference was is → length old ≡ 0 → length new ≡ 0 → ws ≡ difference was is
+none_differ was is old new ws whole none_old none_new =
+    let W : List Cell → List Cell → Type 0 = λ xs ys. ws ++ difference xs ys ≡ difference was is in
+    let at_end : ws ++ [] ≡ difference was is = subst (W []) (none_there new none_new) (subst (λ xs. W xs new) (none_there old none_old) whole) in
+    sym (append-nil ws) ∙ at_end
+
 pub all_differ : (was is old new : List Cell) (ws : List Write) → IsOrdered cell_place was → IsOrdered cell_place is → ws ++ difference old new ≡ difference was is
     → length old ≡ 0 → length new ≡ 0 → LeadsTo was is ws
 all_differ was is old new ws o q whole none_old none_new =
-    let W : List Cell → List Cell → Type 0 = λ xs ys. ws ++ difference xs ys ≡ difference was is in
-    let at_end : ws ++ [] ≡ difference was is = subst (W []) (none_there new none_new) (subst (λ xs. W xs new) (none_there old none_old) whole) in
-    subst (LeadsTo was is) (sym at_end ∙ append-nil ws) (leads_to was is o q)
+    subst (LeadsTo was is) (sym (none_differ was is old new ws whole none_old none_new)) (leads_to was is o q)

@@ -3,6 +3,7 @@ pub mod DifferenceAlone
 pub mod TrialLemmas
 pub mod PostLemmas
 pub mod StepLemmas
+pub mod ResponseLemmas
 pub mod PreviewLemmas
 pub mod AloneLemmas
 pub mod MadeLemmas

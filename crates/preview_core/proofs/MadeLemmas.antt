@@ -1,4 +1,4 @@
--- There is a preview of whatever trials, where at most as many steps are made as there are entries.
+-- There is a preview of whatever trials, where at most as many steps are made as there are entries that aren't folded.
 use Rattle.std.proofs.Common.{◌≡◌, ℕ, zero, suc, ◌+◌, ◌-◌, ◌<◌, ◌≤◌, ◌⊎◌, ◌^◌, List, [], ◌∷◌, Option, Some, None, IsSome, All, Result, Ok, Err, MatchOption, length, map, option_map, refl, sym, ap, ◌∙◌, subst, inl, inr, arith}
 use Rattle.std.proofs.lemmas.Bool.{cases_Bool, cases_lt}
 use Rattle.std.proofs.lemmas.List.Elements.{All-head, All-tail}
@@ -6,7 +6,7 @@ use Rattle.lang_core.specs.declared.request.Response.{Response}
 use Rattle.local_repair.specs.declared.stepped.Stepped.{Stepped}
 use Rattle.local_repair.specs.declared.stepped.Stepped.TheVariants.{Idle, Ran}
 use Rattle.journal_rows.specs.declared.row.Row.{Row}
-use Rattle.service_events.specs.State.{Kept, base}
+use Rattle.service_events.specs.State.{Kept, unfolded}
 use Rattle.service_events.specs.Steps.{step_event}
 use Rattle.service_events.specs.declared.answers.Ordered.{Ordered}
 use Rattle.service_events.specs.declared.refusals.OrderRefused.{OrderRefused}
@@ -20,8 +20,6 @@ use Rattle.preview_core.specs.declared.refused.PreviewRefused.TheVariants.{Order
 use Rattle.preview_core.specs.declared.told.Preview.{Preview}
 use Rattle.preview_core.specs.declared.told.RanOne.{RanOne}
 use Rattle.preview_core.specs.declared.trial.Trial.{Trial}
-use Rattle.preview_core.proofs.AloneLemmas.{rows_ordered}
-use Rattle.preview_core.proofs.DifferenceLemmas.{leads_to}
 use Rattle.preview_core.proofs.StepLemmas.{run_responds}
 use Rattle.preview_core.proofs.TrialLemmas.{AreTaken, next_free, none_taken, one_taken}
 
@@ -106,7 +104,7 @@ has_responses s (id ∷ ids) all =
 has_shown : (was : Kept) (out : Tried) → (r : Result Preview PreviewRefused) × Shows HaveRunAtMost was out r
 has_shown was (Err f) = (Err (Order f.at f.refused), refl)
 has_shown was (Ok tried) =
-    let m = has_made (length tried.entries) tried in
+    let m = has_made (length (unfolded tried)) tried in
     let ran = has_responses m.now m.ids (run_responds tried m.now m.ids m.ran) in
     let p : Preview = record { ran = ran.0; rows = difference (rows_of was) (rows_of m.now); posts = new_posts was m.now } in (
       Ok p,
@@ -118,7 +116,7 @@ has_shown was (Ok tried) =
           now = m.now;
           repaired = record { ran = m.ran; most = m.most; ends = m.ends };
           ran = ran.1;
-          rows = leads_to (rows_of was) (rows_of m.now) (rows_ordered (base was) was.entries tt) (rows_ordered (base m.now) m.now.entries tt);
+          rows = refl;
           posts = refl;
         },
       ),

@@ -12,7 +12,7 @@ use Rattle.service_events.specs.Fits.{Fits}
 use Rattle.service_events.specs.State.{Kept}
 use Rattle.service_events.proofs.SearchLemmas.{neither, none_mid, splits}
 use Rattle.service_core.proofs.ReplayLemmas.{replayed}
-use Rattle.preview_core.specs.Differences.{LeadsTo}
+use Rattle.preview_core.specs.Differences.{LeadsTo, difference}
 use Rattle.preview_core.specs.Posts.{new_posts}
 use Rattle.preview_core.specs.Previews.{HasReplay, IsReplayOf, IsShown, ShowsTrials, Steps, is_early, not_idle, not_ready, preview_memory, rows_of, untimely}
 use Rattle.preview_core.specs.Repairs.{AreResponses, HasRepaired, HaveRunAtMost}
@@ -57,7 +57,7 @@ tried_timely s tried start journal who trials ready same are =
 -- ---- what is shown of a repair
 
 pub shows_repair : (Are : Steps) (was tried now : Kept) (ids : List ℕ) (r : Result Preview LacksMemory) → Are tried ids now → IfOk r (λ p. AreResponses now ids p.ran)
-    → IfOk r (λ p. LeadsTo (rows_of was) (rows_of now) p.rows) → IfOk r (λ p. p.posts ≡ new_posts was now) → IfOk r (IsShown Are was tried)
+    → IfOk r (λ p. p.rows ≡ difference (rows_of was) (rows_of now)) → IfOk r (λ p. p.posts ≡ new_posts was now) → IfOk r (IsShown Are was tried)
 shows_repair Are was tried now ids (Ok p) repaired ran rows posts = record { ids = ids; now = now; repaired = repaired; ran = ran; rows = rows; posts = posts }
 shows_repair Are was tried now ids (Err why) repaired ran rows posts = tt
 
@@ -66,7 +66,7 @@ at_most s now ids h = record { ran = h.repaired.ran; most = h.most; ends = inl h
 
 pub replays_repair : (was tried now : Kept) (ids : List ℕ) (r : Result Preview LacksMemory) → HasRepaired tried ids now → Fits now
     → IfOk r (λ p. LeadsTo (rows_of was) (rows_of now) p.rows) → IfOk r (IsReplayOf was tried)
-replays_repair was tried now ids (Ok p) h f rows = record { now = now; same = h.same; replayed = replayed now f None h.current; rows = rows.leads }
+replays_repair was tried now ids (Ok p) h f rows = record { now = now; same = h.same; replayed = replayed now f None h.current; rows = rows }
 replays_repair was tried now ids (Err why) h f rows = tt
 
 -- ---- what is shown of trials

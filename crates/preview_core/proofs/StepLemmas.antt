@@ -3,6 +3,7 @@ use Rattle.std.proofs.Common.{◌≡◌, ℕ, suc, ◌+◌, ◌-◌, ◌<◌, �
 use Rattle.std.specs.List.{position_or_len}
 use Rattle.std.proofs.Math.Seq.{take-length}
 use Rattle.std.proofs.lemmas.Bool.{cases_Bool}
+use Rattle.std.proofs.lemmas.List.{map-append}
 use Rattle.std.proofs.lemmas.List.Elements.{All-cons, All-nil}
 use Rattle.lang_core.specs.declared.cells.Cell.{Cell}
 use Rattle.lang_core.specs.declared.request.Response.{Response}
@@ -22,15 +23,10 @@ use Rattle.service_events.specs.Progress.{changes}
 use Rattle.service_events.specs.State.{Kept, answers, base, folded, unfolded}
 use Rattle.service_events.specs.Steps.{Stale, new_numbers, new_record, stale_in, step_by, step_event}
 use Rattle.service_events.proofs.CallLaws.{IsFew}
+use Rattle.service_events.proofs.HorizonLemmas.{all_entries}
 use Rattle.service_events.proofs.StepForms.{Names, run_again, step_entries, step_names}
 use Rattle.service_core.proofs.HandedOn.{step_as_many, step_further, step_steps, step_timely}
-use Rattle.preview_core.specs.Repairs.{HasRepaired, HasRun, HaveRun, IsNoted, all_asks, asks, response_of}
-use Rattle.service_events.proofs.HorizonLemmas.{all_entries}
-use Rattle.std.proofs.lemmas.List.{map-append}
-use Rattle.std.specs.Option.{option_or}
-use Rattle.request_log.specs.Folded.{as_entry, has_number, whole}
-use Rattle.request_log.specs.declared.folded.Folded.{Folded}
-use Rattle.service_parts.proofs.WholeLemmas.{entry_found}
+use Rattle.preview_core.specs.Repairs.{Asks, HasRepaired, HasRun, HaveRun, IsNoted, all_asks, asks, response_of}
 
 -- ---- which entries ran
 
@@ -62,8 +58,12 @@ asks_with s rows (e ∷ es) = elim (cases_Bool (is_current (answers s) rows e)) 
 
 step_asks : (s : Kept) → IsDistinct s.entries → all_asks (step_event s).service ≡ all_asks s
 step_asks s apart =
-    ap (map asks) (step_entries s apart) ∙ map-append asks (folded s) (step_with (answers s) (run_again s) (base s) (unfolded s))
-    ∙ ap (λ l. map asks (folded s) ++ l) (asks_with s (base s) (unfolded s)) ∙ sym (map-append asks (folded s) (unfolded s)) ∙ ap (map asks) (all_entries s)
+    let left = step_with (answers s) (run_again s) (base s) (unfolded s) in
+    ap (map asks) (step_entries s apart)
+    ∙ map-append asks (folded s) left
+    ∙ ap (λ (later : List Asks). map asks (folded s) ++ later) (asks_with s (base s) (unfolded s))
+    ∙ sym (map-append asks (folded s) (unfolded s))
+    ∙ ap (map asks) (all_entries s)
 
 -- ---- what an entry that ran answers
 
@@ -119,6 +119,15 @@ stale_there s rows (e ∷ es) x is = elim (cases_Bool (is_current (answers s) ro
     either true some = refl
     either false some = some
 
+-- what is found is found behind others too, or something before it is
+there_behind : (p : Entry → Bool) (front back : List Entry) → IsSome (find p back) → IsSome (find p (front ++ back))
+there_behind p [] back some = some
+there_behind p (e ∷ es) back some = either (p e) (there_behind p es back some)
+  where
+    either : (b : Bool) → IsSome (find p (es ++ back)) → IsSome (cond b (Some e) (find p (es ++ back)))
+    either true some = refl
+    either false some = some
+
 -- it has a response then
 step_responds : (s : Kept) (id : ℕ) → HasRun id (step_event s).answer → IsSome (response_of id (step_event s).service)
 step_responds s id ran = by (stale_in (answers s) (base s) (unfolded s)) refl ran
@@ -128,7 +137,9 @@ step_responds s id ran = by (stale_in (answers s) (base s) (unfolded s)) refl ra
     by (Some x) is ran =
         let m = new_record s x.rows x.entry in
         let y = remade x.entry m (new_numbers s x.entry m) in
-        let there : IsSome (find (has_id id) s.entries) = subst (λ k. IsSome (find (has_id k) s.entries)) ran (there_too s (x.entry).id (stale_there s (base s) (unfolded s) x is)) in
+        let behind : IsSome (find (has_id id) (unfolded s)) = subst (λ k. IsSome (find (has_id k) (unfolded s))) ran (stale_there s (base s) (unfolded s) x is) in
+        let There : List Entry → Type 0 = λ es. IsSome (find (has_id id) es) in
+        let there : There s.entries = subst There (all_entries s) (there_behind (has_id id) (folded s) (unfolded s) behind) in
         subst (λ o. IsSome (response_in o)) (sym (found_put id s.entries y ran there)) refl
 
 -- and keeps one
@@ -171,7 +182,7 @@ current_idle s current = subst (λ o. Names o (step_event s).answer) (sym (stale
 
 -- ---- the way
 
--- Entries ran, and none of the first so many entries is stale now; with the steps that are left these are all.
+-- Entries ran, and none of the first so many entries that aren't folded is stale now; with the steps that are left these are all.
 pub record Going (start now : Kept) (ids : List ℕ) (left : ℕ) : Type 0 where
   pub ran : HaveRun start ids now
   pub same : all_asks now ≡ all_asks start
@@ -253,7 +264,8 @@ module _ (start now next : Kept) (ids then : List ℕ) (left : ℕ) (g : Going s
 pub going_done : (start now : Kept) (ids : List ℕ) (left : ℕ) → left ≡ 0 → Going start now ids left → HasRepaired start ids now
 going_done start now ids left none g =
     let all : g.far ≡ length (unfolded now) = (let whole = g.sum in omega (arith, whole, none)) in
-    let current : AllCurrent (answers now) (base now) (unfolded now) = subst (AllCurrent (answers now) (base now)) (ap (λ n. take n (unfolded now)) all ∙ take-length (unfolded now)) g.current in
+    let current : AllCurrent (answers now) (base now) (unfolded now) =
+    subst (AllCurrent (answers now) (base now)) (ap (λ n. take n (unfolded now)) all ∙ take-length (unfolded now)) g.current in
     record {
       repaired = record { ran = g.ran; idle = current_idle now current };
       current = current;

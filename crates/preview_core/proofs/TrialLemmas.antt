@@ -12,7 +12,7 @@ use Rattle.service_events.specs.Orders.{order_by, order_event, order_where, refu
 use Rattle.service_events.specs.State.{Kept, After}
 use Rattle.service_events.specs.declared.answers.Ordered.{Ordered}
 use Rattle.service_events.specs.declared.refusals.OrderRefused.{OrderRefused}
-use Rattle.service_events.specs.declared.refusals.OrderRefused.TheVariants.{NoMemory, NoSuchRequest, Denied, Full, NotHeld, NotOutside}
+use Rattle.service_events.specs.declared.refusals.OrderRefused.TheVariants.{NoMemory, NoSuchRequest, Denied, Full, NotHeld, NotOutside, TooOld, NotQuiet}
 use Rattle.preview_core.specs.Previews.{preview_memory}
 use Rattle.preview_core.specs.Trials.{AreTried, GoesOn, IsNextFree, RefusedTrial, Tried, TriesAll, TriesAt, command_of, is_free, no_inputs, refused_at, token, trial_event}
 use Rattle.preview_core.specs.declared.refused.PreviewRefused.{PreviewRefused}
@@ -88,6 +88,8 @@ module _ (journal : List Row) (who : List ℕ) (at last : ℕ) (s now : Kept) (t
   refused_trial (Full much) does = (n, next, Full much, sym (ap (λ (e : After (Result Ordered OrderRefused)). e.answer) (does ∙ same_event)), refl)
   refused_trial NotHeld does = (n, next, NotHeld, sym (ap (λ (e : After (Result Ordered OrderRefused)). e.answer) (does ∙ same_event)), refl)
   refused_trial (NotOutside id) does = (n, next, NotOutside id, sym (ap (λ (e : After (Result Ordered OrderRefused)). e.answer) (does ∙ same_event)), refl)
+  refused_trial (TooOld id) does = (n, next, TooOld id, sym (ap (λ (e : After (Result Ordered OrderRefused)). e.answer) (does ∙ same_event)), refl)
+  refused_trial (NotQuiet id) does = (n, next, NotQuiet id, sym (ap (λ (e : After (Result Ordered OrderRefused)). e.answer) (does ∙ same_event)), refl)
 
 -- ---- all trials
 

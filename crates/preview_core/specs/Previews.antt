@@ -1,7 +1,6 @@
 -- What a preview of a repair is.
 use Rattle.std.specs.Prelude.{ℕ, ◌≡◌, Bool, true, false, List, Option, Result, Ok, Err, MatchOption, find, nat_lt, option_map, slice_get}
 use Rattle.std.specs.Option.{option_map_or}
-use Rattle.lang_core.specs.Rows.{apply}
 use Rattle.lang_core.specs.declared.cells.Cell.{Cell}
 use Rattle.local_repair.specs.Current.{rows_after}
 use Rattle.journal_rows.specs.declared.verdict.Outstanding.{Outstanding}
@@ -11,7 +10,7 @@ use Rattle.call_registers.specs.declared.register.Register.{Register}
 use Rattle.flights.specs.declared.flight.Flight.{Flight}
 use Rattle.service_core.specs.Readings.{AreReplayed, first_stale}
 use Rattle.service_events.specs.State.{Kept, base, or_else, unfolded}
-use Rattle.preview_core.specs.Differences.{LeadsTo}
+use Rattle.preview_core.specs.Differences.{LeadsTo, difference}
 use Rattle.preview_core.specs.Posts.{new_posts}
 use Rattle.preview_core.specs.Repairs.{AreResponses, HaveRunAtMost, HaveRunUntilIdle, all_asks}
 use Rattle.preview_core.specs.Trials.{AreTried, Tried}
@@ -54,13 +53,13 @@ abbrev pub Steps : Type 1
 Steps = Kept → List ℕ → Kept → Type 0
 
 -- It shows what a service comes to that trials left and that then steps: the entries that ran, in order, with what they
--- answer then; the writes from the rows of the service that was; and the posts that weren't outstanding of it.
+-- answer then; the writes in which its rows differ from those of the service that was; and the posts that weren't outstanding of it.
 pub record IsShown (Are : Steps) (was tried : Kept) (p : Preview) : Type 0 where
   pub ids : List ℕ
   pub now : Kept
   pub repaired : Are tried ids now
   pub ran : AreResponses now ids p.ran
-  pub rows : LeadsTo (rows_of was) (rows_of now) p.rows
+  pub rows : p.rows ≡ difference (rows_of was) (rows_of now)
   pub posts : p.posts ≡ new_posts was now
 
 -- by what the trials come to: a refusal of one is told with its place
@@ -80,19 +79,19 @@ IsPreviewBy Are s trials who result = MatchOption (not_ready s) (ShowsTrials Are
 abbrev pub IsPreview : Kept → List Trial → List ℕ → Result Preview PreviewRefused → Type 0
 IsPreview s trials who result = IsPreviewBy HaveRunUntilIdle s trials who result
 
--- where at most as many steps are made as there are entries
+-- where at most as many steps are made as there are entries that aren't folded
 abbrev pub IsPreviewAtMost : Kept → List Trial → List ℕ → Result Preview PreviewRefused → Type 0
 IsPreviewAtMost s trials who result = IsPreviewBy HaveRunAtMost s trials who result
 
 -- ---- what follows
 
--- The rows with the writes shown are those of a replay from empty rows on: of what the log is to answer that the trials left,
--- where each record is what the replay did.
+-- The writes shown lead, each where something else stands, from the rows to those of a replay: of what the log is to answer that the trials
+-- left, behind its folded entries and from the rows that these left, where each record is what the replay did.
 pub record IsReplayOf (was tried : Kept) (p : Preview) : Type 0 where
   pub now : Kept
   pub same : all_asks now ≡ all_asks tried
   pub replayed : AreReplayed now (unfolded now)
-  pub rows : apply (rows_of was) p.rows ≡ rows_of now
+  pub rows : LeadsTo (rows_of was) (rows_of now) p.rows
 
 -- so it is with trials that were accepted, each after those before it
 pub record HasReplay (s : Kept) (trials : List Trial) (who : List ℕ) (p : Preview) : Type 0 where

@@ -75,7 +75,7 @@ asks e = record {
 abbrev pub all_asks : Kept → List Asks
 all_asks s = map asks s.entries
 
--- Steps until one is idle are at most as many as there are entries that aren't folded, and leave none stale. Each entry that ran has a response,
+-- Steps until one is idle are at most as many as there are entries that aren't folded, and leave none of these stale. Each entry that ran has a response,
 -- and what is asked stays.
 pub record HasRepaired (s : Kept) (ids : List ℕ) (now : Kept) : Type 0 where
   pub repaired : HaveRunUntilIdle s ids now

@@ -120,7 +120,8 @@ fn differ_first<'a>(
 
 /// The writes that lead from these rows to those.
 pub(crate) fn difference(alloc: Global, before: &Cells, after: &Cells) -> Result<Writes, NoMemory>
-    ensures { IfOk result (λ writes. LeadsTo before.now after.now writes) }
+    ensures same { IfOk result (λ writes. writes ≡ difference before.now after.now) }
+    ensures leads { IfOk result (λ writes. LeadsTo before.now after.now writes) }
 {
     let mut writes = Writes::new(alloc);
     let mut old = before.as_slice();

@@ -2,7 +2,7 @@
 ghost use Rattle.std.specs.Prelude.{◌≡◌, All, IfOk, IsSome, None};
 ghost use Rattle.call_registers.specs.Registers.{IsTimely};
 ghost use Rattle.lang_base.specs.Memory.{Unless, lacks};
-ghost use Rattle.preview_core.specs.Differences.{LeadsTo};
+ghost use Rattle.preview_core.specs.Differences.{LeadsTo, difference};
 ghost use Rattle.preview_core.specs.Posts.{new_posts};
 ghost use Rattle.preview_core.specs.Previews.{HasReplay, IsPreview, IsPreviewAtMost, IsReplayOf, IsShown, ShowsTrials, not_ready, preview_memory, rows_of};
 ghost use Rattle.preview_core.specs.Repairs.{AreResponses, HaveRunAtMost, HaveRunUntilIdle, response_of};
@@ -23,7 +23,8 @@ use std::alloc::Global;
 
 // The writes that lead from the rows of one service to those of the other.
 fn changed_rows(alloc: Global, before: &Service, after: &Service) -> Result<Writes, NoMemory>
-    ensures { IfOk result (λ writes. LeadsTo (rows_of before.now) (rows_of after.now) writes) }
+    ensures same { IfOk result (λ writes. writes ≡ difference (rows_of before.now) (rows_of after.now)) }
+    ensures leads { IfOk result (λ writes. LeadsTo (rows_of before.now) (rows_of after.now) writes) }
 {
     let (old, new) = both(before.rows(alloc), after.rows(alloc))?;
     difference(alloc, &old, &new)
@@ -33,7 +34,8 @@ fn changed_rows(alloc: Global, before: &Service, after: &Service) -> Result<Writ
 fn told(alloc: Global, before: &Service, after: &Service, ids: &[u64]) -> Result<Preview, NoMemory>
     requires { All (λ id. IsSome (response_of id after.now)) ids.now }
     ensures ran { IfOk result (λ p. AreResponses after.now ids.now p.ran) }
-    ensures rows { IfOk result (λ p. LeadsTo (rows_of before.now) (rows_of after.now) p.rows) }
+    ensures rows { IfOk result (λ p. p.rows ≡ difference (rows_of before.now) (rows_of after.now)) }
+    ensures leads { IfOk result (λ p. LeadsTo (rows_of before.now) (rows_of after.now) p.rows) }
     ensures posts { IfOk result (λ p. p.posts ≡ new_posts before.now after.now) }
 {
     let ran = responses(alloc, after, ids);
@@ -100,10 +102,10 @@ pub fn preview(
 ) -> Result<Preview, PreviewRefused>
     ensures exact { Unless (lacks preview_memory result) (IsPreview service.now trials.now who.now result) Unit }
 
-    // There are at most as many steps as entries.
+    // There are at most as many steps as entries that aren't folded.
     ensures within { Unless (lacks preview_memory result) (IsPreviewAtMost service.now trials.now who.now result) Unit }
 
-    // The rows with the writes shown are those of a replay of the log that the trials leave.
+    // The writes shown lead to the rows of a replay of the log that the trials leave, from those that folded entries left on.
     ensures replay { IfOk result (HasReplay service.now trials.now who.now) }
 {
     match not_ready(service) {

@@ -8,18 +8,17 @@ use lang_core::{Copied, NoMemory, Response};
 use service_core::Service;
 use std::alloc::Global;
 
-// What the entry of a number, folded or not, answered in its last run.
-#[tactic(auto, using(crate::proofs::StepLemmas::response_found))]
+// What the entry of a number answered in its last run, also where it is folded.
+#[tactic(auto, using(crate::proofs::ResponseLemmas::past_response, crate::proofs::ResponseLemmas::later_response))]
 fn response_of(service: &Service, id: u64) -> Option<&Response>
     ensures { option_copied result ≡ response_of id service.now }
 {
-    let log = service.entries();
-    if let Some(past) = log.find_folded(id) {
-        return Some(&past.response);
-    }
-    match &log.find(id)?.made {
-        Some(made) => Some(&made.trace.response),
-        None => None,
+    match service.entries().find_folded(id) {
+        Some(folded) => Some(&folded.response),
+        None => match &service.entries().find(id)?.made {
+            Some(made) => Some(&made.trace.response),
+            None => None,
+        },
     }
 }
 

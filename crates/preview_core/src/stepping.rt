@@ -45,7 +45,8 @@ fn step(alloc: Global, service: &mut Service, ids: &mut Numbers) -> Result<bool,
     note(stepped?, ids)
 }
 
-/// Repair steps until one is idle; the numbers of the entries that ran, in order. There are at most as many as entries that aren't folded.
+/// Repair steps until one is idle; the numbers of the entries that ran, in order. There are at most as many as entries that
+/// aren't folded.
 pub(crate) fn step_until_idle(alloc: Global, service: &mut Service) -> Result<Numbers, NoMemory>
     requires { IsTimely service.old.registers }
     ensures { IfOk result (λ ids. HasRepaired service.old ids service.new) }

@@ -17,4 +17,4 @@ returns-clause-within c =
 
 pub returns-clause-replay : goal.returns-clause-replay
 returns-clause-replay c =
-    replays_repair c.args.service.now c.args.copy.now c.step_until_idle.new.service c.in_ok-ids.ids c.told.result c.in_ok-ids.ensures c.look_at.ensures.fits c.told.ensures.rows
+    replays_repair c.args.service.now c.args.copy.now c.step_until_idle.new.service c.in_ok-ids.ids c.told.result c.in_ok-ids.ensures c.look_at.ensures.fits c.told.ensures.leads
