@@ -1,17 +1,15 @@
 -- A service's part of a legal execution: its requests replay, the folded ones first, and those that don't survive did nothing.
-use Rattle.std.proofs.Common.{◌≡◌, List, [], ◌∷◌, ◌++◌, Option, Some, None, IfSome, IsSomeAnd, All, map, refl, sym, ap, ◌∙◌, subst}
+use Rattle.std.proofs.Common.{◌≡◌, List, [], ◌∷◌, ◌++◌, IfSome, All, map, sym, ap, ◌∙◌, subst}
 use Rattle.std.proofs.lemmas.List.{map-append, take-append-drop}
-use Rattle.std.proofs.lemmas.List.Elements.{All-cons, All-nil, All-contains, All-head, All-map, All-tail}
+use Rattle.std.proofs.lemmas.List.Elements.{All-cons, All-nil, All-contains, All-map}
 use Rattle.lang_core.specs.Rows.{apply}
 use Rattle.lang_core.specs.declared.cells.Cell.{Cell}
-use Rattle.lang_core.specs.declared.request.Response.{Response}
 use Rattle.lang_core.specs.declared.setting.Setting.{Setting}
 use Rattle.lang_core.specs.declared.trace.Trace.{Trace}
 use Rattle.execution.specs.Executions.{Act, IsPlayed, IsReplay, Replays, IsEmptyIfDead, IsLegal}
-use Rattle.request_log.specs.Records.{Record, record_of}
-use Rattle.request_log.specs.declared.entry.Entry.{Entry}
 use Rattle.local_repair.specs.Current.{AllCurrent, rows_after}
-use Rattle.local_repair.specs.Histories.{act_with, act_of, act_kept, recorded_answers, ReplayAsRecorded}
+use Rattle.local_repair.specs.Histories.{act_of, ReplayAsRecorded}
+use Rattle.local_repair.proofs.PastLemmas.{kept_is_now, replay_more}
 use Rattle.local_repair.proofs.ReplayLemmas.{replay_recorded}
 use Rattle.service_events.specs.State.{Kept, base, answers, folded, unfolded}
 use Rattle.service_events.specs.Fits.{Fits, IsPast}
@@ -29,32 +27,6 @@ all_empty setting rows (a ∷ acts) [] last h = absurd h
 all_empty setting rows (a ∷ acts) (t ∷ ts) last h =
     All-cons IsEmptyIfDead a acts (dead_is_empty setting rows a t h.0) (all_empty setting (apply rows t.writes) acts ts last h.1)
 
--- ---- a replay that goes on
-
--- what replays to these rows, and what replays from them on, replay one behind the other
-goes_on : (setting : Setting) (rows between last : List Cell) (acts more : List Act) (traces later : List Trace) → IsReplay setting rows acts traces between
-    → IsReplay setting between more later last → IsReplay setting rows (acts ++ more) (traces ++ later) last
-goes_on setting rows between last [] more [] later first next = subst (λ r. IsReplay setting r more later last) (sym first) next
-goes_on setting rows between last [] more (t ∷ ts) later first next = absurd first
-goes_on setting rows between last (a ∷ acts) more [] later first next = absurd first
-goes_on setting rows between last (a ∷ acts) more (t ∷ ts) later first next =
-    (first.0, goes_on setting (apply rows t.writes) between last acts more ts later first.1 next)
-
--- ---- folded entries
-
-kept_answers : (now : List Response) (o : Option Record) → IsSomeAnd o (λ r. r.answers ≡ now) → recorded_answers o ≡ now
-kept_answers now None h = absurd h
-kept_answers now (Some r) h = h
-
--- the answers that they keep are those that their calls consume
-acts_kept : (s : Kept) (entries : List Entry) → All (KeepsAnswers s) entries → map act_kept entries ≡ map (act_of (answers s)) entries
-acts_kept s [] h = refl
-acts_kept s (e ∷ es) h =
-    let one : act_kept e ≡ act_of (answers s) e =
-    ap (λ xs. act_with xs e) (kept_answers (map (answers s) e.slots) (record_of e) (All-head (KeepsAnswers s) e es h)) in
-    let later = acts_kept s es (All-tail (KeepsAnswers s) e es h) in
-    λ i. one i ∷ later i
-
 -- ---- a service
 
 -- a service of which nothing is stale replays to its records
@@ -66,8 +38,8 @@ recorded s fits current =
     let kept : All (KeepsAnswers s) (folded s) = all_from (KeepsAnswers s) (folded s) (λ e has. (All-contains (IsPast s) (folded s) e fits.horizon.each has).consumed) in
     let rows = rows_after (base s) (unfolded s) in
     let From : List Act → Type 0 = λ acts. IsReplay s.setting [] acts past.traces (base s) in
-    let first = subst From (acts_kept s (folded s) kept) past.replay in
-    let whole = goes_on s.setting [] (base s) rows (map act (folded s)) (map act (unfolded s)) past.traces rest.traces first rest.replay in
+    let first = subst From (kept_is_now (answers s) (folded s) kept) past.replay in
+    let whole = replay_more s.setting (map act (folded s)) (map act (unfolded s)) [] (base s) rows past.traces rest.traces first rest.replay in
     let all : map act (folded s) ++ map act (unfolded s) ≡ (history s).acts = sym (map-append act (folded s) (unfolded s)) ∙ ap (map act) (take-append-drop s.horizon s.entries) in
     let To : List Act → Type 0 = λ acts. IsReplay s.setting [] acts (past.traces ++ rest.traces) rows in
     record { before = past.traces; traces = rest.traces; replay = subst To all whole; recorded = rest.recorded; kept = kept }
