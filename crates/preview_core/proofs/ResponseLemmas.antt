@@ -1,7 +1,6 @@
 -- What an entry of a service answered last, which is kept of folded ones too.
-use Rattle.std.proofs.Common.{◌≡◌, ℕ, List, [], ◌∷◌, ◌++◌, Bool, Option, Some, None, find, map, nat_eq, option_and_then, option_map, inl, inr, refl, sym, ap, ◌∙◌}
+use Rattle.std.proofs.Common.{◌≡◌, ℕ, List, [], ◌∷◌, ◌++◌, Bool, Some, None, find, map, nat_eq, option_and_then, option_map, inl, inr, refl, sym, ap, ◌∙◌}
 use Rattle.std.proofs.lemmas.Bool.{cases_Bool}
-use Rattle.lang_core.specs.declared.request.Response.{Response}
 use Rattle.request_log.specs.Entries.{has_id}
 use Rattle.request_log.specs.Folded.{as_entry, has_number}
 use Rattle.request_log.specs.Records.{Record, record_of}
