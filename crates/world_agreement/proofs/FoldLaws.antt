@@ -1,19 +1,28 @@
 -- What is judged of a service is as it was once its first entries are folded: its history, and whether it is quiet.
-use Rattle.std.proofs.Common.{◌≡◌, ℕ, ◌+◌, List, [], ◌∷◌, ◌++◌, Option, Some, None, IsSome, IsSomeAnd, All, map, take, drop, option_map, drop-drop, take-add, take-append-drop, refl, sym, ap, ◌∙◌, subst}
+use Rattle.std.proofs.Common.{◌≡◌, ℕ, zero, suc, ◌+◌, not, ◌&&◌, List, [], ◌∷◌, ◌++◌, length, Option, Some, None, IsSome, IsSomeAnd, All, map, take, drop, option_map, drop-drop, take-add, take-append-drop, inl, inr, refl, sym, ap, ◌∙◌, subst}
+use Rattle.std.specs.List.{list_all, position_or_len}
+use Rattle.std.proofs.lemmas.Bool.{and_parts, cases_Bool}
 use Rattle.std.proofs.lemmas.List.{map-append}
 use Rattle.std.proofs.lemmas.List.Elements.{All-append, All-cons, All-contains, All-head, All-nil, All-tail}
 use Rattle.std.proofs.lemmas.List.Sums.{fold-append}
 use Rattle.lang_core.specs.declared.cells.Cell.{Cell}
+use Rattle.lang_core.specs.declared.inputs.Inputs.{Inputs}
 use Rattle.execution.specs.Executions.{Act}
+use Rattle.request_log.specs.Entries.{has_id}
 use Rattle.request_log.specs.Folded.{bare, bare_by}
 use Rattle.request_log.specs.Records.{record_in}
 use Rattle.request_log.specs.declared.entry.Entry.{Entry}
 use Rattle.request_log.specs.declared.entry.Made.{Made}
 use Rattle.local_repair.specs.Current.{Consumed, after_entry, rows_after, IsCurrentRecord, AllCurrent}
 use Rattle.local_repair.specs.Histories.{deed_in, act_of}
+use Rattle.local_repair.specs.Tests.{is_current}
+use Rattle.local_repair.proofs.TestLemmas.{is_current-true}
+use Rattle.journal_rows.specs.declared.orders.Command.TheVariants.{Fold}
 use Rattle.service_events.specs.State.{Kept, answers, base, folded, unfolded}
 use Rattle.service_events.specs.Fits.{Fits, IsBare, IsPast}
-use Rattle.service_events.specs.Orders.{folded_on}
+use Rattle.service_events.specs.Calls.{noted}
+use Rattle.service_events.specs.Orders.{carried_out, first_unquiet, folded_on, is_due, is_quiet_call, is_quiet_entry, order_rows, to_fold, unless_quiet}
+use Rattle.service_events.specs.declared.refusals.OrderRefused.TheVariants.{NotQuiet}
 use Rattle.service_events.proofs.HorizonLemmas.{mapped_behind}
 use Rattle.world_agreement.specs.Legal.{history}
 use Rattle.world_agreement.specs.Quiet.{IsQuiet}
@@ -120,3 +129,42 @@ module _ (s : Kept) (fits : Fits s) (n : ℕ) (current : AllCurrent (answers s) 
 
   pub quiet_before : IsQuiet once_folded → IsQuiet s
   quiet_before q = record { landed = q.landed; current = current_before q.current; acknowledged = q.acknowledged; fetched = q.fetched; given = q.given }
+
+-- ---- an order that folds, where nothing stands in the way
+
+mapped_none : {X Y : Type 0} (f : X → Y) (o : Option X) → option_map f o ≡ None → o ≡ None
+mapped_none f None h = refl
+mapped_none f (Some x) h = cc
+
+-- so many as there are of some first entries are these
+front_again : (k : ℕ) (entries : List Entry) → take (length (take k entries)) entries ≡ take k entries
+front_again zero entries = refl
+front_again (suc k) [] = refl
+front_again (suc k) (e ∷ es) = ap (λ (l : List Entry). e ∷ l) (front_again k es)
+
+-- what is quiet isn't stale
+quiet_current : (s : Kept) (rows : List Cell) (entries : List Entry) → first_unquiet s rows entries ≡ None → AllCurrent (answers s) rows entries
+quiet_current s rows [] none = tt
+quiet_current s rows (e ∷ es) none = elim (cases_Bool (is_quiet_entry s rows e)) [
+  | inl is ↦ (let first = and_parts (is_current (answers s) rows e && not (is_due s e)) (list_all (is_quiet_call s) e.slots) is in
+      let second = and_parts (is_current (answers s) rows e) (not (is_due s e)) first.0 in
+      (is_current-true (answers s) rows e second.0, quiet_current s (after_entry rows e) es (rw is at none)))
+  | inr other ↦ (let some : Some e.id ≡ None = rw other at none in cc)
+]
+
+module _ (s : Kept) (fits : Fits s) (id : ℕ) (token who : List ℕ) (i : Inputs) (quiet : unless_quiet s (Fold id) ≡ None) where
+  abbrev pub ordered : Kept
+  ordered = noted (order_rows s (Fold id) token who i) (carried_out s (Fold id) who i)
+
+  folded_current : AllCurrent (answers s) (base s) (take (length (to_fold id s)) (unfolded s))
+  folded_current =
+      let none = mapped_none (λ (unquiet : ℕ). NotQuiet unquiet) (first_unquiet s (base s) (to_fold id s)) quiet in
+      let A : List Entry → Type 0 = λ es. AllCurrent (answers s) (base s) es in
+      subst A (sym (front_again (position_or_len (has_id id) (unfolded s) + 1) (unfolded s))) (quiet_current s (base s) (to_fold id s) none)
+
+  pub order_history : history ordered ≡ history s
+  order_history = fold_history s fits (length (to_fold id s)) folded_current
+
+  pub order_quiet : IsQuiet s → IsQuiet ordered
+  order_quiet q = (let then = fold_quiet s fits (length (to_fold id s)) folded_current q in
+      record { landed = then.landed; current = then.current; acknowledged = then.acknowledged; fetched = then.fetched; given = then.given })
