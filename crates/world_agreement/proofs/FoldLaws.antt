@@ -166,5 +166,5 @@ module _ (s : Kept) (fits : Fits s) (id : ℕ) (token who : List ℕ) (i : Input
   order_history = fold_history s fits (length (to_fold id s)) folded_current
 
   pub order_quiet : IsQuiet s → IsQuiet ordered
-  order_quiet q = (let then = fold_quiet s fits (length (to_fold id s)) folded_current q in
-      record { landed = then.landed; current = then.current; acknowledged = then.acknowledged; fetched = then.fetched; given = then.given })
+  order_quiet q = (let left_quiet = fold_quiet s fits (length (to_fold id s)) folded_current q in
+      record { landed = left_quiet.landed; current = left_quiet.current; acknowledged = left_quiet.acknowledged; fetched = left_quiet.fetched; given = left_quiet.given })
