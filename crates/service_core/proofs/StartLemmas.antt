@@ -1,8 +1,11 @@
 -- A service at its start.
-use Rattle.std.proofs.Common.{◌≡◌, ◌≤◌, List, [], length, sym, ap, subst, arith}
+use Rattle.std.proofs.Common.{◌≡◌, ◌∙◌, ◌≤◌, List, [], length, sym, ap, subst, arith}
 use Rattle.std.proofs.lemmas.List.Elements.{All-nil}
+use Rattle.request_log.specs.Folded.{whole}
+use Rattle.request_log.specs.declared.entry.Entry.{Entry}
+use Rattle.request_log.specs.declared.folded.Folded.{Folded}
 use Rattle.flights.specs.declared.flight.Flight.{Flight}
-use Rattle.service_events.specs.State.{fresh}
+use Rattle.service_events.specs.State.{fresh, in_all, Kept}
 use Rattle.service_events.specs.Ages.{IsNotedAt}
 use Rattle.service_events.specs.Allowed.{IsAllowed}
 use Rattle.service_events.specs.Fits.{Fits}
@@ -15,17 +18,25 @@ use Rattle.service_parts.specs.Services.{IsService}
 use Rattle.service_parts.specs.declared.parts.Parts.{Parts}
 use Rattle.service_parts.proofs.WholeLemmas.{in_all_is}
 
--- parts without entries, flights, rows, registers and replies are a service
-pub new_service : (p : Parts) → p.repairer.folded ≡ [] → p.repairer.base ≡ [] → p.repairer.entries ≡ [] → p.flights.list ≡ [] → p.journal.rows ≡ [] → p.registers.list ≡ [] → p.replies.list ≡ [] → IsService p
+pub none_in_all : (folded : List Folded) (entries : List Entry) → folded ≡ [] → entries ≡ [] → whole folded entries ≡ []
+none_in_all folded entries none empty = ap (λ (fs : List Folded). whole fs entries) none ∙ empty
+
+pub none_folded : (folded : List Folded) → folded ≡ [] → length folded ≡ 0
+none_folded folded none = ap length none
+
+-- parts without entries, base rows, flights, rows, registers and replies are a service
+pub new_service : (p : Parts) → p.repairer.folded ≡ [] → p.repairer.base ≡ [] → p.repairer.entries ≡ [] → p.flights.list ≡ [] → p.journal.rows ≡ [] → p.registers.list ≡ []
+    → p.replies.list ≡ [] → IsService p
 new_service p folded base entries flights journal registers replies =
+    let all = none_in_all p.repairer.folded p.repairer.entries folded entries in
+    let horizon = none_folded p.repairer.folded folded in
     let same : kept p ≡ fresh p.setting p.rules = cc in
-    let entered : length p.repairer.entries ≡ 0 = ap length entries in
-    let flying : length p.flights.list ≡ 0 = ap length flights in
+    let none : in_all (fresh p.setting p.rules) ≤ 100000 = omega arith in
     let least : 0 ≤ p.journal.spare = omega arith in
     record {
       fits = subst Fits (sym same) (fits_start p.setting p.rules);
       allowed = subst IsAllowed (sym same) (allowed_start p.setting p.rules);
       ages = subst AgesOf (sym same) (record { calls = All-nil (IsAged []); replies = All-nil (IsMarked []); fetches = All-nil (IsNotedAt []) });
-      few = (let all = in_all_is p in omega (arith, all, entered, flying));
+      few = subst (λ (s : Kept). in_all s ≤ 100000) (sym same) none;
       room = (let R : List Flight → Type 0 = λ fs. aloft fs ≤ p.journal.spare in subst R (sym flights) least);
     }

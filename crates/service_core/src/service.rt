@@ -1,10 +1,10 @@
 // A service, and its events.
-ghost use Rattle.std.specs.Prelude.{◌≡◌, false, length, map, IfOk, MatchOption, Ok, OnOk, Some, IfSome, IsSome, IsSomeAnd};
+ghost use Rattle.std.specs.Prelude.{◌≡◌, false, IfOk, MatchOption, Ok, OnOk, Some, IfSome, IsSome, IsSomeAnd, map};
 ghost use Rattle.call_registers.specs.Registers.{IsTimely};
+ghost use Rattle.request_log.specs.Folded.{as_entry};
 ghost use Rattle.local_repair.specs.Current.{AllCurrent, rows_after};
 ghost use Rattle.local_repair.specs.Repairs.{IsStaleId};
 ghost use Rattle.service_events.specs.State.{after, answers, flight_of, folded, fresh, base, unfolded};
-ghost use Rattle.request_log.specs.Folded.{as_entry, whole};
 ghost use Rattle.service_events.specs.Arriving.{abandon_event, arrive_event, call_answered_event, call_failed_event, live_answer_rows, new_flight, told};
 ghost use Rattle.service_events.specs.Ages.{GoesFirst, HasAges};
 ghost use Rattle.service_events.specs.Allowed.{IsAllowed};
@@ -48,10 +48,11 @@ use std::marker::Model;
 
 /// A service whose requests call other services: its setting, the rules by which it allows repairs, its log under repair, its
 /// flights, its journal, its registers and its replies. Its type keeps that all of them fit the journal, that each repair in
-/// the journal was allowed, that there are at most 100,000 entries and flights, and that there is room to abandon each flight.
+/// the journal was allowed, that there are at most 100,000 flights and entries that aren't folded, and that there is room to
+/// abandon each flight.
 pub struct Service {
     parts: Parts,
-    // Of the log's first entries so many are known to be current. A repair step doesn't look at them again, and notes how many
+    // Of the first entries that aren't folded so many are known to be current. A repair step doesn't look at them again, and notes how many
     // are it then; every other event may change an answer that one of them consumed, and forgets it.
     checked: usize,
 }
@@ -82,6 +83,7 @@ impl Model for Service {
 
 impl Service {
     /// A service that has answered nothing yet, which allows repairs by these rules.
+    #[tactic(auto, using(crate::proofs::StartLemmas::none_in_all, crate::proofs::StartLemmas::none_folded))]
     pub fn new(alloc: Global, setting: Setting, rules: Rules) -> Service
         ensures { result ≡ fresh setting rules }
     {
@@ -111,13 +113,10 @@ impl Service {
         &self.parts.rules
     }
 
-    /// Its log: all its entries are the folded ones, and behind them the others.
-    #[tactic(auto, using(service_parts::proofs::WholeLemmas::unfolded_kept), using(service_parts::proofs::WholeLemmas::folded_kept))]
+    /// Its log: the folded entries, which nothing repairs any more, and behind them the others.
     pub fn entries(&self) -> &Log
-        ensures whole { whole result.now.folded result.now.entries ≡ self.now.entries }
         ensures entries { result.now.entries ≡ unfolded self.now }
         ensures folded { map as_entry result.now.folded ≡ folded self.now }
-        ensures horizon { length result.now.folded ≡ self.now.horizon }
     {
         self.parts.repairer.log()
     }
@@ -169,8 +168,8 @@ impl Service {
         Some(waiting.awaited())
     }
 
-    /// The number of the first stale entry; None exactly where no entry is stale. The entries before it, or all where none is
-    /// stale, are the replay of their requests from the rows on that the folded ones left.
+    /// The number of the first stale entry; None exactly where no entry is stale, as a folded one never is. The entries before
+    /// it, or all where none is stale, are the replay of their requests from empty rows on, the folded ones first.
     pub fn first_stale(&self) -> Option<u64>
         ensures first { MatchOption result
             (AllCurrent (answers self.now) (base self.now) (unfolded self.now))
@@ -291,7 +290,7 @@ impl Service {
 
     /// Runs the first stale entry again, if there is one, and settles its calls. Where none is stale the answer is Idle, which
     /// takes no memory. Where no answer is held for a later version of a call than its register's, the next stale entry stands
-    /// later: as many steps as there are entries, with no event between, leave none stale.
+    /// later: as many steps as there are entries that aren't folded, with no event between, leave none stale.
     pub fn repair_step(&mut self, alloc: Global) -> Result<Stepped, NoMemory>
         ensures steps { Steps self.old result self.new }
         ensures again { IfOk result (λ stepped. IsStep self.old stepped self.new) }
@@ -306,8 +305,9 @@ impl Service {
     }
 
     /// Carries out an order of an operator. An order whose token was accepted before is answered as then, without memory, and
-    /// changes nothing. It is refused where it names what isn't there, replaces a request of another service, retries a post
-    /// that isn't held, or where there is too much; and last, with the number of the rule, where the service's rules deny it.
+    /// changes nothing. It is refused where it names what isn't there or is folded, replaces a request of another service, retries
+    /// a post that isn't held, would fold an entry that is stale, owes its reply or has a call that isn't done with, or where there
+    /// is too much; and last, with the number of the rule, where the service's rules deny it.
     pub fn order(
         &mut self,
         alloc: Global,
@@ -326,9 +326,9 @@ impl Service {
     }
 
     /// A version of another service's call came by a message. It is refused where that call is in flight, and where there is
-    /// too much. One that isn't above the version that was taken is acknowledged again. Any other is refused with the number
-    /// of the rule where the service's rules deny it; else it is taken, and where its call has no entry and asks something, one
-    /// is made, which never ran.
+    /// too much. One that isn't above the version that was taken is acknowledged again. Any other is refused with the entry's
+    /// number where its call's entry is folded, and with the number of the rule where the service's rules deny it; else it is
+    /// taken, and where its call has no entry and asks something, one is made, which never ran.
     pub fn take(
         &mut self,
         alloc: Global,
@@ -344,8 +344,9 @@ impl Service {
     }
 
     /// A token came, which announces an answer to one of its calls. It is refused where no call to that service has its number.
-    /// One that isn't above the answer that is held, or the one that was noted, is confirmed again. Any other is refused with the
-    /// number of the rule where the service's rules deny it; else it is noted, so that the answer is fetched, and confirmed.
+    /// One that isn't above the answer that is held, or the one that was noted, is confirmed again. Any other is refused where its
+    /// call is one of a folded entry, and with the number of the rule where the service's rules deny it; else it is noted, so that
+    /// the answer is fetched, and confirmed.
     pub fn take_token(
         &mut self,
         alloc: Global,
@@ -368,9 +369,9 @@ impl Service {
     }
 
     /// Something came back of a post. It is noted where the post was acknowledged or confirmed, and an answer that was fetched is
-    /// held where it is above the one that is held; a refusal that the receiver's rules or its want of knowledge give holds the
-    /// post, where its version is the current one and it is no fetch; else the post is left as it is. It is refused where the
-    /// service never had that post at that version, or the reply is to another one.
+    /// held where it is above the one that is held; a refusal that the receiver's rules, its want of knowledge or its horizon
+    /// give holds the post, where its version is the current one and it is no fetch; else the post is left as it is. It is
+    /// refused where the service never had that post at that version, or the reply is to another one.
     pub fn posted(
         &mut self,
         alloc: Global,

@@ -1,0 +1,14 @@
+use Rattle.std.proofs.Common.{◌≡◌, ap, ◌∙◌, map, subst, sym}
+use Rattle.request_log.specs.Folded.{as_entry}
+use Rattle.service_events.specs.State.{Kept, folded, unfolded}
+use Rattle.service_parts.proofs.WholeLemmas.{folded_kept, unfolded_kept}
+use Rattle.service_core.proofs.service.Service.entries.Goals as goal
+
+pub returns-clause-entries : goal.returns-clause-entries
+returns-clause-entries c =
+    subst (λ (s : Kept). c.log.result.now.entries ≡ unfolded s) c.self.view_is (c.log.ensures.entries ∙ sym (unfolded_kept c.self.inside.parts))
+
+pub returns-clause-folded : goal.returns-clause-folded
+returns-clause-folded c =
+    subst (λ (s : Kept). map as_entry c.log.result.now.folded ≡ folded s) c.self.view_is
+    (ap (map as_entry) c.log.ensures.folded ∙ sym (folded_kept c.self.inside.parts))
