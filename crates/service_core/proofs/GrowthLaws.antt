@@ -11,24 +11,17 @@ use Rattle.request_log.specs.Entries.{find_call}
 use Rattle.request_log.specs.Records.{Record, record_of}
 use Rattle.request_log.specs.declared.entry.Entry.{Entry}
 use Rattle.repair_messages.specs.declared.messages.SetMessage.{SetMessage}
-use Rattle.repair_messages.specs.declared.posts.PostName.TheVariants.{Call as OfCall, Reply as OfReply, Fetch as OfFetch}
 use Rattle.journal_rows.specs.Words.{last_taken, ordered}
 use Rattle.journal_rows.specs.declared.callee.TookRow.{TookRow}
-use Rattle.journal_rows.specs.declared.orders.Command.{Command}
-use Rattle.journal_rows.specs.declared.orders.Command.TheVariants.{Cancel, Restore, Replace, Create, Retry, Fold}
-use Rattle.journal_rows.specs.declared.orders.OrderedRow.{OrderedRow}
-use Rattle.journal_rows.specs.declared.row.Row.{Row}
 use Rattle.journal_rows.specs.declared.row.Row.TheVariants.{Asked}
 use Rattle.service_events.specs.Arriving.{admitted, arrives_or_known, by_version, known_by, new_flight, unless_gone}
 use Rattle.service_events.specs.Event.{event, is_lacking, Happens}
 use Rattle.service_events.specs.Flying.{goes_on}
 use Rattle.service_events.specs.Messages.{acked_again, acked_row, is_known, is_too_much, origin_of, take_admitted, take_new, taken, taken_by, took_row}
-use Rattle.service_events.specs.Orders.{carried_out, order_by, order_rows, order_where, refused as why_refused}
 use Rattle.service_events.specs.State.{After, Kept, after, answers, base, is_crowded, is_heavy, next_id, or_else, unfolded}
 use Rattle.service_events.specs.Steps.{Stale, answer_rows, new_record, sent_rows, stale_in, step_by}
 use Rattle.service_events.specs.declared.answers.Arrived.{Arrived}
 use Rattle.service_events.specs.declared.refusals.ArriveRefused.{ArriveRefused}
-use Rattle.service_events.specs.declared.refusals.OrderRefused.{OrderRefused}
 use Rattle.service_events.specs.declared.event.Done.{Done}
 use Rattle.service_events.specs.declared.event.Event.{Event}
 use Rattle.service_events.specs.declared.event.Event.TheVariants as events
@@ -72,38 +65,7 @@ take_admitted_grows s set i (Some n) = grows_none s
 take_admitted_grows s set i None =
     cond_both (is_known s set) (after (acked_again s set) (Ok (taken set None))) (take_new s set i) (LeavesGrown s)
     (λ _. record { rows = acked_row set ∷ []; is = refl; setting = refl })
-    (λ _. take_either s set i (LeavesGrown s) (λ _. grows_none s) (grows_none s) (λ _. taken_grows s set i (find_call (origin_of set) s.entries) set.desired))
-
--- ---- an order
-
--- what it makes of the service leaves the journal and the setting
-record LeavesJournal (s t : Kept) : Type 0 where
-  journal : t.journal ≡ s.journal
-  setting : t.setting ≡ s.setting
-
-carried_leaves : (s : Kept) (command : Command) (who : List ℕ) (i : Inputs) → LeavesJournal s (carried_out s command who i)
-carried_leaves s (Cancel id) who i = record { journal = refl; setting = refl }
-carried_leaves s (Restore id) who i = record { journal = refl; setting = refl }
-carried_leaves s (Replace id method path body) who i = record { journal = refl; setting = refl }
-carried_leaves s (Create before behind q) who i = record { journal = refl; setting = refl }
-carried_leaves s (Retry (OfCall number)) who i = record { journal = refl; setting = refl }
-carried_leaves s (Retry (OfReply id)) who i = record { journal = refl; setting = refl }
-carried_leaves s (Retry (OfFetch number)) who i = record { journal = refl; setting = refl }
-carried_leaves s (Fold id) who i = record { journal = refl; setting = refl }
-
-order_by_grows : (s : Kept) (command : Command) (token who : List ℕ) (i : Inputs) (why : Option OrderRefused) → LeavesGrown s (order_by s command token who i why)
-order_by_grows s command token who i (Some why) = grows_none s
-order_by_grows s command token who i None =
-    let leaves = carried_leaves s command who i in
-    record {
-      rows = order_rows s command token who i;
-      is = ap (λ (rows : List Row). rows ++ order_rows s command token who i) leaves.journal;
-      setting = leaves.setting;
-    }
-
-order_where_grows : (s : Kept) (command : Command) (token who : List ℕ) (i : Inputs) (o : Option OrderedRow) → LeavesGrown s (order_where s command token who i o)
-order_where_grows s command token who i (Some o) = grows_none s
-order_where_grows s command token who i None = order_by_grows s command token who i (why_refused s command who)
+    (λ _. take_either s set i (LeavesGrown s) (λ e. grows_none s) (grows_none s) (λ _. taken_grows s set i (find_call (origin_of set) s.entries) set.desired))
 
 -- ---- an arrival
 

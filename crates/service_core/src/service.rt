@@ -1,7 +1,7 @@
 // A service, and its events.
-ghost use Rattle.std.specs.Prelude.{◌≡◌, false, IfOk, MatchOption, Ok, OnOk, Some, IfSome, IsSome, IsSomeAnd, map};
+ghost use Rattle.std.specs.Prelude.{◌≡◌, false, IfOk, MatchOption, Ok, OnOk, Some, IfSome, IsSome, IsSomeAnd, length, map};
 ghost use Rattle.call_registers.specs.Registers.{IsTimely};
-ghost use Rattle.request_log.specs.Folded.{as_entry};
+ghost use Rattle.request_log.specs.Folded.{as_entry, whole};
 ghost use Rattle.local_repair.specs.Current.{AllCurrent, rows_after};
 ghost use Rattle.local_repair.specs.Repairs.{IsStaleId};
 ghost use Rattle.service_events.specs.State.{after, answers, flight_of, folded, fresh, base, unfolded};
@@ -115,8 +115,10 @@ impl Service {
 
     /// Its log: the folded entries, which nothing repairs any more, and behind them the others.
     pub fn entries(&self) -> &Log
+        ensures whole { whole result.now.folded result.now.entries ≡ self.now.entries }
         ensures entries { result.now.entries ≡ unfolded self.now }
         ensures folded { map as_entry result.now.folded ≡ folded self.now }
+        ensures horizon { length result.now.folded ≡ self.now.horizon }
     {
         self.parts.repairer.log()
     }
