@@ -30,18 +30,6 @@ use Rattle.preview_core.specs.Repairs.{Asks, HasRepaired, HasRun, HaveRun, IsNot
 
 -- ---- which entries ran
 
--- what is found among those that aren't folded is found among all
-found_too : {X : Type 0} (p : X → Bool) (xs ys : List X) → IsSome (find p ys) → IsSome (find p (xs ++ ys))
-found_too p [] ys some = some
-found_too p (x ∷ xs) ys some = by (p x)
-  where
-    by : (b : Bool) → IsSome (cond b (Some x) (find p (xs ++ ys)))
-    by true = refl
-    by false = found_too p xs ys some
-
-there_too : (s : Kept) (id : ℕ) → IsSome (find (has_id id) (unfolded s)) → IsSome (find (has_id id) s.entries)
-there_too s id some = subst (λ l. IsSome (find (has_id id) l)) (all_entries s) (found_too (has_id id) (folded s) (unfolded s) some)
-
 pub has_run_more : (s now : Kept) (ids : List ℕ) (id : ℕ) → HaveRun s ids now → HasRun id (step_event now).answer → HaveRun s (ids ++ id ∷ []) (step_event now).service
 has_run_more s now [] id same ran =
     let R : Kept → Type 0 = λ k. HasRun id (step_event k).answer in (subst R same ran, ap (λ (k : Kept). (step_event k).service) same)
@@ -273,14 +261,3 @@ going_done start now ids left none g =
       most = (let m = g.most in omega (arith, m));
       same = g.same;
     }
-
--- ---- what an entry answered
-
--- one that is folded has what is kept of it
-pub response_found : (id : ℕ) (fs : List Folded) (es : List Entry) → response_in (find (has_id id) (whole fs es))
-    ≡ option_or (option_map (λ (f : Folded). f.response) (find (has_number id) fs)) (response_in (find (has_id id) es))
-response_found id fs es = ap response_in (entry_found id fs es) ∙ by (find (has_number id) fs)
-  where
-    by : (o : Option Folded) → response_in (option_or (option_map as_entry o) (find (has_id id) es)) ≡ option_or (option_map (λ (f : Folded). f.response) o) (response_in (find (has_id id) es))
-    by None = refl
-    by (Some f) = refl
