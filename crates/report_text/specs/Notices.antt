@@ -4,7 +4,7 @@ use Rattle.std.specs.List.{flat_map}
 use Rattle.repair_messages.specs.declared.posts.PostName.{PostName}
 use Rattle.repair_messages.specs.declared.posts.PostName.TheVariants.{Call, Reply, Fetch}
 use Rattle.call_registers.specs.declared.register.Hold.{Hold}
-use Rattle.call_registers.specs.declared.register.Hold.TheVariants.{Rule, Unknown}
+use Rattle.call_registers.specs.declared.register.Hold.TheVariants.{Rule, Unknown, TooOld}
 use Rattle.repair_queue.specs.declared.held.Notice.{Notice}
 use Rattle.report_text.specs.Reports.{or_none}
 
@@ -20,10 +20,11 @@ version_behind (Call n) version = codes " v" ++ decimal version
 version_behind (Reply n) version = codes " a" ++ decimal version
 version_behind (Fetch n) version = codes " a" ++ decimal version
 
--- `rule R` or `unknown`
+-- `rule R`, `unknown` or `tooold N`
 abbrev pub hold_text : Hold → List ℕ
 hold_text (Rule r) = codes "rule " ++ decimal r
 hold_text Unknown = codes "unknown"
+hold_text (TooOld n) = codes "tooold " ++ decimal n
 
 -- `call:N vV rule R`
 abbrev pub notice_line : Notice → List ℕ

@@ -71,20 +71,28 @@ made_text (Some m) = response_text m.trace.response
 abbrev pub asked_text : Request → List ℕ
 asked_text r = method_word r.method ++ (codes " " ++ r.path)
 
--- ` vV alive rR `
-abbrev pub state_text : Entry → List ℕ
-state_text e =
-    codes " v" ++ (decimal e.version ++ (codes " " ++ (alive_text (is_alive e) ++ (codes " r" ++ (decimal e.runs ++ codes " ")))))
+-- ` vV STATE rR `
+abbrev pub state_text : ℕ → List ℕ → ℕ → List ℕ
+state_text version state runs =
+    codes " v" ++ (decimal version ++ (codes " " ++ (state ++ (codes " r" ++ (decimal runs ++ codes " ")))))
 
--- `S/N vV alive rR ORIGIN METHOD PATH = STATUS BODY`
-abbrev pub entry_line : List ℕ → Entry → List ℕ
-entry_line me e =
-    id_text me e.id ++ (state_text e ++ (origin_text e.origin e.request.who ++ (codes " " ++ (asked_text e.request
+-- `S/N vV STATE rR ORIGIN METHOD PATH = STATUS BODY`
+abbrev pub line_with : List ℕ → List ℕ → Entry → List ℕ
+line_with state me e =
+    id_text me e.id ++ (state_text e.version state e.runs ++ (origin_text e.origin e.request.who ++ (codes " " ++ (asked_text e.request
     ++ (codes " = " ++ (made_text e.made ++ codes "\n"))))))
 
--- a line for each entry
-abbrev pub log_text : List ℕ → List Entry → List ℕ
-log_text me entries = or_none (flat_map (entry_line me) entries)
+-- of one that isn't folded, its state is `alive` or `dead`
+abbrev pub entry_line : List ℕ → Entry → List ℕ
+entry_line me e = line_with (alive_text (is_alive e)) me e
+
+-- and `folded` of one that is
+abbrev pub folded_line : List ℕ → Entry → List ℕ
+folded_line me e = line_with (codes "folded") me e
+
+-- a line for each entry, the folded ones first
+abbrev pub log_text : List ℕ → List Entry → List Entry → List ℕ
+log_text me folded entries = or_none (flat_map (folded_line me) folded ++ flat_map (entry_line me) entries)
 
 abbrev pub outstanding_text : List ℕ → Outstanding → List ℕ
 outstanding_text service (Flight n) = codes "flight " ++ id_text service n

@@ -37,6 +37,10 @@ fn push_hold(text: &mut String, hold: Hold) -> Result<(), NoMemory>
     match hold {
         Hold::Rule(rule) => write!(text, "rule {rule}")?,
         Hold::Unknown => text.push_str(RefusalWord::Unknown.text())?,
+        Hold::TooOld(number) => {
+            let word = RefusalWord::TooOld.text();
+            write!(text, "{word} {number}")?;
+        }
     }
     Ok(())
 }
@@ -52,8 +56,9 @@ fn push_notice(text: &mut String, notice: &Notice) -> Result<(), NoMemory>
     Ok(())
 }
 
-/// What is held, a line for each post: `call:N vV rule R` or `reply:N aA rule R`, with `unknown` in place of `rule R` where
-/// the receiver doesn't know what it speaks of; `none` alone where nothing is held.
+/// What is held, a line for each post: `call:N vV rule R` or `reply:N aA rule R`. In place of `rule R` stands `unknown` where
+/// the receiver doesn't know what it speaks of, and `tooold N` where what it speaks of is folded there: of an entry the number,
+/// of a token that of the call. `none` alone where nothing is held.
 pub fn notices_text(alloc: Global, notices: &Notices) -> Result<Text, NoMemory>
     ensures { IfOk result (λ text. text ≡ notices_text notices.now) }
 {
