@@ -4,13 +4,13 @@ use Rattle.local_repair.specs.Current.{rows_after}
 use Rattle.repair_queue.specs.Held.{notices}
 use Rattle.report_text.specs.Notices.{notices_text}
 use Rattle.report_text.specs.Reports.{log_text, rows_text}
-use Rattle.service_events.specs.State.{Kept, base, me}
+use Rattle.service_events.specs.State.{Kept, base, folded, me, unfolded}
 
 abbrev pub rows_of_service : Kept → List ℕ
-rows_of_service s = rows_text (rows_after (base s) s.entries)
+rows_of_service s = rows_text (rows_after (base s) (unfolded s))
 
 abbrev pub log_of_service : Kept → List ℕ
-log_of_service s = log_text (me s) s.entries
+log_of_service s = log_text (me s) (folded s) (unfolded s)
 
 abbrev pub notices_of_service : Kept → List ℕ
 notices_of_service s = notices_text (notices s.registers s.replies)
