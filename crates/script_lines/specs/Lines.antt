@@ -13,7 +13,7 @@ pub use Rattle.request_names.specs.Words.{at_end, cut_at, name_part, where_good,
 use Rattle.repair_messages.specs.declared.posts.PostName.{PostName}
 use Rattle.repair_messages.specs.declared.posts.PostName.TheVariants.{Call, Reply}
 use Rattle.journal_rows.specs.declared.orders.Command.{Command}
-use Rattle.journal_rows.specs.declared.orders.Command.TheVariants.{Cancel, Restore, Replace, Create, Retry}
+use Rattle.journal_rows.specs.declared.orders.Command.TheVariants.{Cancel, Restore, Replace, Create, Retry, Fold}
 use Rattle.report_text.specs.Escapes.{unescaped}
 use Rattle.world_events.specs.declared.event.Event.TheVariants as event
 use Rattle.script_lines.specs.declared.line.Line.{Line}
@@ -216,6 +216,7 @@ words_at word rest =
     else (if same_text word (codes "replace") then shaped (replace_at rest)
     else (if same_text word (codes "create") then shaped (create_at rest)
     else (if same_text word (codes "retry") then shaped (retry_at rest)
+    else (if same_text word (codes "fold") then shaped (entry_order_at Fold rest)
     else (if same_text word (codes "clock") then shaped (clock_at rest)
     else (if same_text word (codes "seed") then shaped (seed_at rest)
     else (if same_text word (codes "settle") then shaped (settle_at rest)
@@ -225,7 +226,7 @@ words_at word rest =
     else (if same_text word (codes "preview") then shaped (preview_at rest)
     else (if same_text word (codes "dump") then shaped (at_end rest (Some Dump))
     else (if same_text word (codes "audit") then shaped (at_end rest (Some Audit))
-    else Err Word))))))))))))))))))))
+    else Err Word)))))))))))))))))))))
 
 -- an empty line or a comment
 abbrev pub is_passed_over : List ℕ → Bool

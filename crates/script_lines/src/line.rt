@@ -47,7 +47,7 @@ pub enum Line {
     /// An empty line or a comment.
     Blank,
     /// One event: `begin S WHO METHOD PATH BODY`, `deliver pK`, `lose pK`, `step S`, `abandon S fN`, `post S D`, `clock N`,
-    /// `seed N`, or an order of the user WHO: `cancel S/N TOKEN WHO`, `restore S/N TOKEN WHO`,
+    /// `seed N`, or an order of the user WHO: `cancel S/N TOKEN WHO`, `restore S/N TOKEN WHO`, `fold S/N TOKEN WHO`,
     /// `replace S/N TOKEN WHO METHOD PATH BODY`, `create S TOKEN WHO BEFORE AFTER WHO2 METHOD PATH BODY` or
     /// `retry S TOKEN WHO NAME`.
     Event(Event),

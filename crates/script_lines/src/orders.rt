@@ -1,7 +1,7 @@
 // Orders in a line.
 ghost use Rattle.std.specs.Prelude.{◌≡◌, IfOk};
 ghost use Rattle.std.specs.Option.{option_map};
-ghost use Rattle.journal_rows.specs.declared.orders.Command.TheVariants.{Cancel as Strike, Restore};
+ghost use Rattle.journal_rows.specs.declared.orders.Command.TheVariants.{Cancel as Strike, Fold, Restore};
 ghost use Rattle.script_lines.specs.Lines.{create_at, created_of, created_parts, name_part, order_of, order_parts, order_with, replace_at, retry_at, entry_order_at, who_part};
 
 use crate::asking::{read_asked, request_of};
@@ -111,6 +111,20 @@ pub fn read_restore(alloc: Global, rest: Option<&str>) -> Result<Option<Line>, N
         return Ok(None);
     };
     order_with(alloc, service, Command::Restore(id), token, who)
+}
+
+/// `fold S/N TOKEN WHO`, behind its first word.
+#[tactic(auto, unfolding(crate::specs::Lines::entry_order_at))]
+pub fn read_fold(alloc: Global, rest: Option<&str>) -> Result<Option<Line>, NoMemory>
+    ensures { IfOk result (λ r. r ≡ entry_order_at Fold (option_map (λ x. x.now) rest.entry)) }
+{
+    let Some((about, token, who, None)) = cut_order(rest) else {
+        return Ok(None);
+    };
+    let Some((service, id)) = numbered_part(about) else {
+        return Ok(None);
+    };
+    order_with(alloc, service, Command::Fold(id), token, who)
 }
 
 /// `replace S/N TOKEN WHO METHOD PATH BODY`, behind its first word.

@@ -6,7 +6,7 @@ ghost use Rattle.script_lines.specs.Lines.{abandon_at, at_end, clock_at, deliver
 
 use crate::asking::{read_ask, read_begin};
 use crate::line::{Line, LineFault};
-use crate::orders::{read_cancel, read_create, read_replace, read_restore, read_retry};
+use crate::orders::{read_cancel, read_create, read_fold, read_replace, read_restore, read_retry};
 use crate::parts::{flight_part, numbered_part, packet_part};
 use lang_base::both;
 use lang_core::{LAST_MOMENT, Name, NoMemory, Text};
@@ -245,6 +245,7 @@ fn read_words(
         "replace" => Ok(shaped(read_replace(alloc, rest)?)),
         "create" => Ok(shaped(read_create(alloc, rest)?)),
         "retry" => Ok(shaped(read_retry(alloc, rest)?)),
+        "fold" => Ok(shaped(read_fold(alloc, rest)?)),
         "clock" => Ok(shaped(read_clock(rest))),
         "seed" => Ok(shaped(read_seed(rest))),
         "settle" => Ok(shaped(read_settle(rest))),
