@@ -17,7 +17,8 @@ use Rattle.call_registers.specs.Registers.{owes_fetch}
 use Rattle.call_registers.specs.declared.register.Register.{Register}
 use Rattle.call_registers.specs.declared.reply.Reply.{Reply}
 use Rattle.report_text.specs.Reports.{IsVerdictOver}
-use Rattle.service_events.specs.State.{Kept, answers}
+use Rattle.lang_core.specs.declared.cells.Cell.{Cell}
+use Rattle.service_events.specs.State.{Kept, answers, base, unfolded}
 use Rattle.world_agreement.specs.Partners.{HasPartner, IsJoined}
 use Rattle.world_agreement.specs.Quiet.{IsQuiet, AreQuiet}
 use Rattle.world_audit.specs.First.{IsFirstWithout}
@@ -109,7 +110,7 @@ due_found n p is = elim (cases_Bool p.due) [
 
 none_left : (kind : OutstandingKind) (s : Kept) → NoneOf kind s → left_of kind s ≡ None
 none_left Flights s done = ap (λ (fs : List Flight). option_map (λ f. f.id) (slice_get fs 0)) done
-none_left Entries s done = sym (stale_id_none (answers s) s.entries done)
+none_left Entries s done = sym (stale_id_none (answers s) (base s) (unfolded s) done)
 none_left Calls s done =
     ap (option_map (λ f. f.1)) (none_found IsAcknowledged (λ r. unless (nat_eq r.acked r.version) r.number) acknowledged s.registers 0 done)
 none_left Fetches s done =
@@ -121,13 +122,13 @@ flight_left : (fs : List Flight) (n : ℕ) → IsSomeAnd (slice_get fs 0) (λ f.
 flight_left [] n f = absurd f
 flight_left (g ∷ gs) n f = ap Some f
 
-stale_left : (consumed : Consumed) (entries : List Entry) (n : ℕ) → IsStaleId consumed [] entries n → stale_id consumed [] entries ≡ Some n
-stale_left consumed [] n f = absurd (omega (arith, (f.first).within))
-stale_left consumed (e ∷ es) n f = sym (stale_id_at consumed (e ∷ es) f.place e f.first) ∙ ap Some (f.names e)
+stale_left : (consumed : Consumed) (rows : List Cell) (entries : List Entry) (n : ℕ) → IsStaleId consumed rows entries n → stale_id consumed rows entries ≡ Some n
+stale_left consumed rows [] n f = absurd (omega (arith, (f.first).within))
+stale_left consumed rows (e ∷ es) n f = sym (stale_id_at consumed rows (e ∷ es) f.place e f.first) ∙ ap Some (f.names e)
 
 left_at : (kind : OutstandingKind) (s : Kept) (n : ℕ) → IsFirstIn kind s n → left_of kind s ≡ Some n
 left_at Flights s n f = flight_left s.flights n f
-left_at Entries s n f = stale_left (answers s) s.entries n f
+left_at Entries s n f = stale_left (answers s) (base s) (unfolded s) n f
 left_at Calls s n f =
     ap (option_map (λ f. f.1)) (one_found IsAcknowledged (IsOpen n) (λ r. unless (nat_eq r.acked r.version) r.number) n acknowledged (open_found n) s.registers 0 f.place
     (f.first).0 (f.first).1 (λ d. ((f.first).2 d, f.names d)))

@@ -1,6 +1,8 @@
--- What is written of calls: of the pairs of two lists, one after the other, and of the tentative answer.
-use Rattle.std.proofs.Common.{ℕ, ◌≡◌, ◌⊎◌, decimal, inl, inr, List, [], ◌∷◌, ◌++◌, flat_map, refl, sym, ap, ◌∙◌}
+-- What is written of calls: of the pairs of two lists, one after the other, and of the tentative answer; and of all entries.
+use Rattle.std.proofs.Common.{ℕ, ◌≡◌, ◌⊎◌, decimal, drop, inl, inr, List, [], ◌∷◌, ◌++◌, flat_map, take, refl, sym, ap, ◌∙◌}
 use Rattle.std.proofs.lemmas.List.{append-nil}
+use Rattle.std.proofs.lemmas.List.Concat.{flat_map-append}
+use Rattle.request_log.specs.declared.entry.Entry.{Entry}
 use Rattle.std.specs.List.{zip}
 use Rattle.local_repair.specs.Steps.{tentative}
 use Rattle.report_text.specs.Reports.{response_text}
@@ -18,3 +20,7 @@ pair_end f all text ks vs is none = sym (is ∙ ap (λ x. text ++ flat_map f x) 
 
 pub tentative_text : response_text tentative ≡ decimal 504
 tentative_text = append-nil (decimal 504)
+
+-- what is written of the folded entries and then of the others is written of all entries
+pub all_lines : (f : Entry → List ℕ) (n : ℕ) (entries : List Entry) → flat_map f (take n entries) ++ flat_map f (drop n entries) ≡ flat_map f entries
+all_lines f n entries = sym (flat_map-append f (take n entries) (drop n entries)) ∙ ap (flat_map f) (take-drop n entries)

@@ -4,7 +4,7 @@ use Rattle.local_repair.specs.Repairs.{stale_id}
 use Rattle.journal_rows.specs.declared.verdict.Verdict.{Verdict}
 use Rattle.journal_rows.specs.declared.verdict.Verdict.TheVariants.{Legal, Forged, Unsettled}
 use Rattle.call_registers.specs.Registers.{owes_fetch}
-use Rattle.service_events.specs.State.{Kept, answers, base}
+use Rattle.service_events.specs.State.{Kept, answers, base, unfolded}
 use Rattle.world_audit.specs.Conditions.{is_partnered}
 pub use Rattle.world_audit.specs.Verdicts.{SaysForged}
 use Rattle.world_audit.specs.Verdicts.{what_is}
@@ -32,7 +32,7 @@ alone services s = option_map (λ f. f.0) (first_found (λ row. unless (is_partn
 -- the first of this kind that is outstanding of a service
 abbrev pub left_of : OutstandingKind → Kept → Option ℕ
 left_of Flights s = option_map (λ f. f.id) (slice_get s.flights 0)
-left_of Entries s = stale_id (answers s) (base s) s.entries
+left_of Entries s = stale_id (answers s) (base s) (unfolded s)
 left_of Calls s = option_map (λ f. f.1) (first_found (λ r. unless (nat_eq r.acked r.version) r.number) 0 s.registers)
 left_of Fetches s = option_map (λ f. f.1) (first_found (λ r. if owes_fetch r then Some r.number else None) 0 s.registers)
 left_of Answers s = option_map (λ f. f.1) (first_found (λ p. if p.due then Some p.id else None) 0 s.replies)

@@ -1,29 +1,47 @@
 // An entry, its calls and its reply.
-ghost use Rattle.std.specs.Prelude.{◌≡◌, ◌++◌, OnOk, string_bytes};
+ghost use Rattle.std.specs.Prelude.{◌≡◌, ◌++◌, OnOk, codes, decimal, string_bytes};
 ghost use Rattle.std.specs.List.{flat_map, zip};
+ghost use Rattle.request_log.specs.Folded.{as_entry};
 ghost use Rattle.request_log.specs.Records.{recorded_calls, record_of, record_in};
 ghost use Rattle.std.specs.Option.{option_copied, option_map};
 ghost use Rattle.local_repair.specs.Steps.{answer_or_tentative};
 ghost use Rattle.call_registers.specs.Registers.{consumed};
-ghost use Rattle.dump_lines.specs.Dumps.{answer_line, call_line, call_lines, entry_line, entry_lines, reply_line, standing_text};
+ghost use Rattle.report_text.specs.Reports.{response_text};
+ghost use Rattle.dump_lines.specs.Dumps.{answer_line, call_line, call_lines, digit_of, entry_line, entry_lines, inputs_text, reply_line, request_text};
 
 use crate::dump_words::{digit_of, push_inputs, push_origin, push_request};
 use call_registers::Registers;
-use lang_core::{CallMade, NoMemory, Response};
+use lang_core::{CallMade, Inputs, NoMemory, Request, Response};
 use report_text::{push_asked, push_body_behind, push_response};
-use request_log::{Entry, Made};
+use request_log::{Entry, Folded, Made};
 
 // The status of the tentative answer, which a call consumes that has none.
 const TENTATIVE_STATUS: u16 = 504;
 
 // ` V WANTED STRUCK`
-fn push_standing(text: &mut String, entry: &Entry) -> Result<(), NoMemory>
-    ensures { OnOk result (string_bytes text.new ≡ string_bytes text.old ++ standing_text entry.now) }
+fn push_standing(
+    text: &mut String,
+    version: u64,
+    wanted: bool,
+    struck: bool,
+) -> Result<(), NoMemory>
+    ensures { OnOk result (string_bytes text.new ≡ string_bytes text.old
+        ++ (codes " " ++ (decimal version ++ (codes " " ++ (digit_of wanted ++ (codes " " ++ digit_of struck)))))) }
 {
-    let version = entry.version;
-    let wanted = digit_of(entry.wanted);
-    let struck = digit_of(entry.struck);
+    let wanted = digit_of(wanted);
+    let struck = digit_of(struck);
     write!(text, " {version} {wanted} {struck}")?;
+    Ok(())
+}
+
+// What it drew and what it asks, at the end of its line.
+fn push_given(text: &mut String, inputs: &Inputs, request: &Request) -> Result<(), NoMemory>
+    ensures { OnOk result (string_bytes text.new ≡ string_bytes text.old
+        ++ (inputs_text inputs.now ++ (request_text request.now ++ codes "\n"))) }
+{
+    push_inputs(text, inputs)?;
+    push_request(text, request)?;
+    text.push_str("\n")?;
     Ok(())
 }
 
@@ -33,11 +51,18 @@ fn push_entry_line(text: &mut String, entry: &Entry) -> Result<(), NoMemory>
     let id = entry.id;
     write!(text, "entry {id} ")?;
     push_origin(text, &entry.origin)?;
-    push_standing(text, entry)?;
-    push_inputs(text, entry.inputs.get())?;
-    push_request(text, entry.request.get())?;
-    text.push_str("\n")?;
-    Ok(())
+    push_standing(text, entry.version, entry.wanted, entry.struck)?;
+    push_given(text, entry.inputs.get(), entry.request.get())
+}
+
+fn push_folded_line(text: &mut String, folded: &Folded) -> Result<(), NoMemory>
+    ensures { OnOk result (string_bytes text.new ≡ string_bytes text.old ++ entry_line (as_entry folded.now)) }
+{
+    let id = folded.id;
+    write!(text, "entry {id} ")?;
+    push_origin(text, &folded.origin)?;
+    push_standing(text, folded.version, folded.wanted, folded.struck)?;
+    push_given(text, folded.inputs.get(), folded.request.get())
 }
 
 fn push_call_line(text: &mut String, number: u64, call: &CallMade) -> Result<(), NoMemory>
@@ -87,6 +112,16 @@ fn push_calls(
     Ok(())
 }
 
+fn push_reply(text: &mut String, response: &Response) -> Result<(), NoMemory>
+    ensures { OnOk result (string_bytes text.new ≡ string_bytes text.old
+        ++ (codes "reply " ++ (response_text response.now ++ codes "\n"))) }
+{
+    text.push_str("reply ")?;
+    push_response(text, response)?;
+    text.push_str("\n")?;
+    Ok(())
+}
+
 fn push_reply_line(text: &mut String, made: &Option<Made>) -> Result<(), NoMemory>
     ensures { OnOk result (string_bytes text.new ≡ string_bytes text.old ++ reply_line (option_map record_in made.now)) }
 {
@@ -95,12 +130,7 @@ fn push_reply_line(text: &mut String, made: &Option<Made>) -> Result<(), NoMemor
             text.push_str("reply none\n")?;
             Ok(())
         }
-        Some(made) => {
-            text.push_str("reply ")?;
-            push_response(text, &made.trace.response)?;
-            text.push_str("\n")?;
-            Ok(())
-        }
+        Some(made) => push_reply(text, &made.trace.response),
     }
 }
 
@@ -130,4 +160,23 @@ pub(crate) fn push_entry(
         calls_of(&entry.made),
     )?;
     push_reply_line(text, &entry.made)
+}
+
+/// Puts a folded entry last like one that isn't folded: with its calls, what they consume by these registers, and its reply.
+pub(crate) fn push_folded(
+    text: &mut String,
+    registers: &Registers,
+    folded: &Folded,
+) -> Result<(), NoMemory>
+    ensures { OnOk result (string_bytes text.new ≡ string_bytes text.old
+        ++ entry_lines (λ n. answer_or_tentative (consumed n registers.now.list)) (as_entry folded.now)) }
+{
+    push_folded_line(text, folded)?;
+    push_calls(
+        text,
+        registers,
+        folded.slots.as_slice(),
+        folded.calls.as_slice(),
+    )?;
+    push_reply(text, &folded.response)
 }

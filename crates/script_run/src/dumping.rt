@@ -1,10 +1,11 @@
 // A service, and all services.
-ghost use Rattle.std.specs.Prelude.{◌≡◌, ◌++◌, IfOk, OnOk, string_bytes};
+ghost use Rattle.std.specs.Prelude.{◌≡◌, ◌++◌, IfOk, OnOk, map, string_bytes};
 ghost use Rattle.std.specs.List.{flat_map};
-ghost use Rattle.service_events.specs.State.{answers};
+ghost use Rattle.request_log.specs.Folded.{as_entry};
+ghost use Rattle.service_events.specs.State.{answers, folded, unfolded};
 ghost use Rattle.dump_lines.specs.Dumps.{dump_text, entry_lines, head_lines, row_line, service_lines};
 
-use crate::dump_entries::push_entry;
+use crate::dump_entries::{push_entry, push_folded};
 use crate::dump_words::push_names;
 use handler_lang::print_program;
 use lang_core::{Cell, Cells, NoMemory, Text};
@@ -47,13 +48,31 @@ fn push_rows(text: &mut String, cells: &Cells) -> Result<(), NoMemory>
     Ok(())
 }
 
+fn push_all_folded(text: &mut String, service: &Service) -> Result<(), NoMemory>
+    ensures { OnOk result (string_bytes text.new ≡ string_bytes text.old ++ flat_map (entry_lines (answers service.now)) (folded service.now)) }
+{
+    for kept in service.entries().folded().as_slice() {
+        push_folded(text, service.registers(), kept.folded())?;
+    }
+    Ok(())
+}
+
+fn push_unfolded(text: &mut String, service: &Service) -> Result<(), NoMemory>
+    ensures { OnOk result (string_bytes text.new ≡ string_bytes text.old ++ flat_map (entry_lines (answers service.now)) (unfolded service.now)) }
+{
+    for kept in service.entries().as_slice() {
+        push_entry(text, service.registers(), kept.entry())?;
+    }
+    Ok(())
+}
+
+// Its entries, the folded ones first.
+#[tactic(auto, using(crate::proofs::DumpLemmas::all_lines))]
 fn push_entries(text: &mut String, service: &Service) -> Result<(), NoMemory>
     ensures { OnOk result (string_bytes text.new ≡ string_bytes text.old ++ flat_map (entry_lines (answers service.now)) service.now.entries) }
 {
-    for entry in service.entries().as_slice() {
-        push_entry(text, service.registers(), entry.entry())?;
-    }
-    Ok(())
+    push_all_folded(text, service)?;
+    push_unfolded(text, service)
 }
 
 fn push_service(alloc: Global, text: &mut String, service: &Service) -> Result<(), NoMemory>
@@ -67,8 +86,8 @@ fn push_service(alloc: Global, text: &mut String, service: &Service) -> Result<(
     Ok(())
 }
 
-/// These services as a text, from which they can be judged: each with its peers, its program, its entries in logged order and
-/// its rows. An entry has its request as it is now, its calls in the order of their slots, what each consumes now, and its reply.
+/// These services as a text, from which they can be judged: each with its peers, its program, its entries in logged order, the
+/// folded ones first, and its rows. An entry has its request as it is now, its calls in the order of their slots, what each consumes now, and its reply.
 pub fn dump_text(alloc: Global, services: &[Service]) -> Result<Text, NoMemory>
     ensures { IfOk result (λ text. text ≡ dump_text services.now) }
 {
