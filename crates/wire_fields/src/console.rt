@@ -14,6 +14,7 @@ pub enum ConsoleWord {
     Replace,
     Create,
     Retry,
+    Fold,
     Notices,
     Log,
     Rows,
@@ -51,7 +52,7 @@ impl Copied for ConsoleRequest {
     }
 }
 
-/// What the word asks for; None exactly where it is none of the eleven.
+/// What the word asks for; None exactly where it is none of the twelve.
 #[tactic(auto, unfolding(crate::specs::Kinds::console_word))]
 pub fn console_word(word: &[u8]) -> Option<ConsoleWord>
     ensures { result ≡ console_word word.now }
@@ -66,6 +67,8 @@ pub fn console_word(word: &[u8]) -> Option<ConsoleWord>
         Some(ConsoleWord::Create)
     } else if word == b"retry".as_slice() {
         Some(ConsoleWord::Retry)
+    } else if word == b"fold".as_slice() {
+        Some(ConsoleWord::Fold)
     } else if word == b"notices".as_slice() {
         Some(ConsoleWord::Notices)
     } else if word == b"log".as_slice() {
