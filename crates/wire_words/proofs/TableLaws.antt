@@ -7,7 +7,7 @@ use Rattle.repair_messages.specs.declared.messages.AnswerMessage.{AnswerMessage}
 use Rattle.repair_messages.specs.declared.posts.Post.{Post}
 use Rattle.repair_messages.specs.declared.posts.Post.TheVariants as posts
 use Rattle.repair_messages.specs.declared.refusals.RefusalWord.{RefusalWord}
-use Rattle.repair_messages.specs.declared.refusals.RefusalWord.TheVariants.{NoMemory, Full, NotYet, Gone, NoFlight, Denied, Unknown, Foreign, NoSuchRequest, NotHeld, NotOutside}
+use Rattle.repair_messages.specs.declared.refusals.RefusalWord.TheVariants.{NoMemory, Full, NotYet, Gone, NoFlight, Denied, Unknown, Foreign, NoSuchRequest, NotHeld, NotOutside, TooOld, NotQuiet}
 use Rattle.call_registers.specs.declared.register.Why.{Why}
 use Rattle.call_registers.specs.declared.register.Why.TheVariants as why
 use Rattle.service_events.specs.Refusals.{refusing_post}
@@ -48,12 +48,14 @@ take_spelt take.NoMemory = inl (refl, refl)
 take_spelt (take.Full n) = inr refl
 take_spelt (take.NotYet n) = inr refl
 take_spelt (take.Denied rule) = inr refl
+take_spelt (take.TooOld id) = inr refl
 
 pub answer_spelt : (why : AnswerRefused) → IsTold (answer_told why)
 unfolding lone_status numbered_status unread_word word_said
 answer_spelt answer.NoMemory = inl (refl, refl)
 answer_spelt (answer.Unknown n) = inr refl
 answer_spelt (answer.Denied rule) = inr refl
+answer_spelt (answer.TooOld n) = inr refl
 
 pub give_spelt : (why : GiveRefused) → IsTold (give_told why)
 unfolding lone_status numbered_status unread_word word_said
@@ -68,6 +70,8 @@ order_spelt (order.Denied rule) = inr refl
 order_spelt (order.Full n) = inr refl
 order_spelt order.NotHeld = inl (refl, refl)
 order_spelt (order.NotOutside id) = inr refl
+order_spelt (order.TooOld id) = inr refl
+order_spelt (order.NotQuiet id) = inr refl
 
 -- the text of what has a spelling is read as it
 pub told_back : (word : List ℕ) (n : ℕ) → n < 2 ^ 64 → IsTold (word, n) → refusal_of (refusal_text word n) ≡ Some (word, n)
@@ -104,6 +108,8 @@ told_so Foreign n refused is = absurd (cc is)
 told_so NoSuchRequest n refused is = absurd (cc is)
 told_so NotHeld n refused is = absurd (cc is)
 told_so NotOutside n refused is = absurd (cc is)
+told_so TooOld n refused is = absurd (cc is)
+told_so NotQuiet n refused is = absurd (cc is)
 
 -- what is read as a refusal tells that one
 arrive_only : (text : List ℕ) (n : ℕ) (refused : ArriveRefused) → arrive_refused text n ≡ Some refused → ◌≡◌ {A = Told} (text, n) (arrive_told refused)
@@ -144,12 +150,14 @@ take_back take.NoMemory = refl
 take_back (take.Full n) = refl
 take_back (take.NotYet n) = refl
 take_back (take.Denied rule) = refl
+take_back (take.TooOld id) = refl
 
 pub answer_back : (why : AnswerRefused) → IsAnswerTold why
 unfolding post_word word_said
 answer_back answer.NoMemory = refl
 answer_back (answer.Unknown n) = refl
 answer_back (answer.Denied rule) = refl
+answer_back (answer.TooOld n) = refl
 
 pub give_back : (why : GiveRefused) → IsGiveTold why
 unfolding post_word word_said
@@ -163,12 +171,14 @@ post_spelled Full refuses is = let it : words.Full ≡ refuses = cc in ap post_w
 post_spelled NotYet refuses is = let it : words.NotYet ≡ refuses = cc in ap post_word_text it
 post_spelled Denied refuses is = let it : words.Denied ≡ refuses = cc in ap post_word_text it
 post_spelled Unknown refuses is = let it : words.Unknown ≡ refuses = cc in ap post_word_text it
+post_spelled TooOld refuses is = let it : words.TooOld ≡ refuses = cc in ap post_word_text it
 post_spelled Gone refuses is = absurd (cc is)
 post_spelled NoFlight refuses is = absurd (cc is)
 post_spelled Foreign refuses is = absurd (cc is)
 post_spelled NoSuchRequest refuses is = absurd (cc is)
 post_spelled NotHeld refuses is = absurd (cc is)
 post_spelled NotOutside refuses is = absurd (cc is)
+post_spelled NotQuiet refuses is = absurd (cc is)
 
 word_only : (text : List ℕ) (refuses : PostWord) → post_word text ≡ Some refuses → text ≡ post_word_text refuses
 unfolding post_word
@@ -209,7 +219,9 @@ order_named word n =
     (cond (same_text word (word_text Denied)) (Some (order.Denied n))
     (cond (same_text word (word_text Full)) (Some (order.Full n))
     (cond (same_text word (word_text NotHeld)) (Some order.NotHeld)
-    (cond (same_text word (word_text NotOutside)) (Some (order.NotOutside n)) None)))))
+    (cond (same_text word (word_text NotOutside)) (Some (order.NotOutside n))
+    (cond (same_text word (word_text TooOld)) (Some (order.TooOld n))
+    (cond (same_text word (word_text NotQuiet)) (Some (order.NotQuiet n)) None)))))))
 
 order_back : (why : OrderRefused) → order_named (order_told why).0 (order_told why).1 ≡ Some why
 unfolding order_named
@@ -219,6 +231,8 @@ order_back (order.Denied rule) = refl
 order_back (order.Full n) = refl
 order_back order.NotHeld = refl
 order_back (order.NotOutside id) = refl
+order_back (order.TooOld id) = refl
+order_back (order.NotQuiet id) = refl
 
 pub order_apart : (why : OrderRefused) → IsOrderTold why
 order_apart why = λ other same.

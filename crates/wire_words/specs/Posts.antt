@@ -4,7 +4,7 @@ use Rattle.repair_messages.specs.Refusals.{word_said, word_text}
 use Rattle.repair_messages.specs.declared.messages.AnswerMessage.{AnswerMessage}
 use Rattle.repair_messages.specs.declared.posts.Post.{Post}
 use Rattle.repair_messages.specs.declared.posts.Post.TheVariants as posts
-use Rattle.repair_messages.specs.declared.refusals.RefusalWord.TheVariants.{NoMemory, Full, NotYet, Denied, Unknown}
+use Rattle.repair_messages.specs.declared.refusals.RefusalWord.TheVariants.{NoMemory, Full, NotYet, Denied, Unknown, TooOld}
 use Rattle.service_events.specs.Refusals.{answer_refused, give_refused, refusing_post, set_refused}
 use Rattle.service_events.specs.declared.answers.PostReply.{PostReply}
 use Rattle.service_events.specs.declared.answers.PostReply.TheVariants as back
@@ -32,6 +32,7 @@ post_word_text words.Full = word_text Full
 post_word_text words.NotYet = word_text NotYet
 post_word_text words.Denied = word_text Denied
 post_word_text words.Unknown = word_text Unknown
+post_word_text words.TooOld = word_text TooOld
 
 -- which word of these it is; None where it is none
 unfoldable pub post_word : List ℕ → Option PostWord
