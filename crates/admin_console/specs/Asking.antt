@@ -61,6 +61,10 @@ cancel_at json = option_map command.Cancel (number_at (codes "id") json)
 abbrev pub restore_at : Data → Option Command
 restore_at json = option_map command.Restore (number_at (codes "id") json)
 
+-- the first requests are folded, up to the one of this number
+abbrev pub fold_at : Data → Option Command
+fold_at json = option_map command.Fold (number_at (codes "id") json)
+
 abbrev pub retry_at : Data → Option Command
 retry_at json = option_map command.Retry (post_at json)
 
@@ -71,6 +75,7 @@ command_at word.Restore json = restore_at json
 command_at word.Replace json = replace_at json
 command_at word.Create json = create_at json
 command_at word.Retry json = retry_at json
+command_at word.Fold json = fold_at json
 command_at word json = None
 
 abbrev pub order_of : List ℕ × Command → Asked

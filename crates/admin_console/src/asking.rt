@@ -1,7 +1,7 @@
 // What an operator asks of a service.
 ghost use Rattle.std.specs.Prelude.{◌≡◌, IfOk};
 ghost use Rattle.serde_json.specs.View.{view};
-ghost use Rattle.admin_console.specs.Asking.{asked_at, asked_in, call_at, cancel_at, command_at, create_at, is_of_the_run, neighbours_at, order_at, replace_at, report_named, request_at, restore_at, retry_at};
+ghost use Rattle.admin_console.specs.Asking.{asked_at, asked_in, call_at, cancel_at, command_at, create_at, fold_at, is_of_the_run, neighbours_at, order_at, replace_at, report_named, request_at, restore_at, retry_at};
 
 use crate::fields::{
     body_at, method_at, neighbour_at, number_at, object_in, path_at, post_at, who_at,
@@ -57,6 +57,13 @@ fn restore_at(object: &Value) -> Option<Command>
 {
     let id = number_at(object, "id")?;
     Some(Command::Restore(id))
+}
+
+fn fold_at(object: &Value) -> Option<Command>
+    ensures { result ≡ fold_at (view object.now) }
+{
+    let id = number_at(object, "id")?;
+    Some(Command::Fold(id))
 }
 
 fn retry_at(object: &Value) -> Option<Command>
@@ -152,6 +159,7 @@ fn command_at(alloc: Global, word: ConsoleWord, object: &Value) -> Result<Option
         ConsoleWord::Replace => replace_at(alloc, object),
         ConsoleWord::Create => create_at(alloc, object),
         ConsoleWord::Retry => Ok(retry_at(object)),
+        ConsoleWord::Fold => Ok(fold_at(object)),
         _ => Ok(None),
     }
 }
@@ -192,7 +200,7 @@ fn asked_at(alloc: Global, word: ConsoleWord, object: &Value) -> Result<Option<A
 
 /// What is asked, by the word and by the body, which is a JSON object that has these fields and may have others:
 ///
-/// - `cancel` and `restore`: `token` and `id`, a number;
+/// - `cancel`, `restore` and `fold`: `token` and `id`, a number;
 /// - `replace`: these, `method`, `path` and `body`;
 /// - `create`: `token`, `before` and `after`, each the number of a request or null, `who`, `method`, `path` and `body`;
 /// - `retry`: `token` and `name`, `call:N` or `reply:N`;
