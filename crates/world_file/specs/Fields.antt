@@ -22,6 +22,7 @@ field_word field.Console = codes "console"
 field_word field.Door = codes "door"
 field_word field.Workers = codes "workers"
 field_word field.Weight = codes "weight"
+field_word field.Keep = codes "keep"
 
 -- what was read, or what is wrong with a field
 abbrev pub Read : Type 0 → Type 0
@@ -104,6 +105,14 @@ weight_of (Some value) = number_between 1000 1000000000 field.Weight value
 abbrev pub weight_in : Data → Read ℕ
 weight_in service = weight_of (get (field_word field.Weight) service)
 
+-- how many entries the service never folds by itself, where it is given; else it folds none
+abbrev pub keep_of : Option Data → Read (Option ℕ)
+keep_of None = Ok None
+keep_of (Some value) = and_then (number_between 1000 90000 field.Keep value) (λ keep. Ok (Some keep))
+
+abbrev pub keep_in : Data → Read (Option ℕ)
+keep_in service = keep_of (get (field_word field.Keep) service)
+
 -- ---- all of them
 
 -- what a service's fields say
@@ -116,6 +125,7 @@ pub record Fields : Type 0 where
   pub door : List ℕ
   pub workers : ℕ
   pub weight : ℕ
+  pub keep : Option ℕ
 
 -- the fields behind the name, in their order
 unfoldable pub rest_in : Data → List ℕ → Read Fields
@@ -127,7 +137,8 @@ rest_in service name =
     and_then (door_in service) (λ door.
     and_then (workers_in service) (λ workers.
     and_then (weight_in service) (λ weight.
-    Ok (record { name = name; program = program; rules = rules; secret = secret; console = console; door = door; workers = workers; weight = weight }))))))))
+    and_then (keep_in service) (λ keep.
+    Ok (record { name = name; program = program; rules = rules; secret = secret; console = console; door = door; workers = workers; weight = weight; keep = keep })))))))))
 
 -- all fields in their order; the first that is missing or bad is the fault
 abbrev pub fields_in : Data → Read Fields

@@ -12,7 +12,7 @@ use Rattle.world_file.specs.declared.members.Member.{Member as Held}
 use Rattle.world_file.specs.declared.standard.Standard.{Standard}
 
 abbrev pub fields_of : Spelled → Fields
-fields_of s = record { name = s.name; program = s.program.now; rules = s.rules.now; secret = s.secret.now; console = s.console.now; door = s.door.now; workers = s.workers; weight = s.weight }
+fields_of s = record { name = s.name; program = s.program.now; rules = s.rules.now; secret = s.secret.now; console = s.console.now; door = s.door.now; workers = s.workers; weight = s.weight; keep = s.keep }
 
 -- what was read, without its references
 abbrev pub seen : Result Spelled FieldFault → Read Fields

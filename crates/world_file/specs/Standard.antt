@@ -17,6 +17,7 @@ standard name program door = record {
   door = door;
   workers = 4;
   weight = 1000000000;
+  keep = None;
 }
 
 -- a service that keeps notes

@@ -88,6 +88,7 @@ setup_of names m = record {
   console = m.fields.console;
   door = m.fields.door;
   workers = m.fields.workers;
+  keep = m.fields.keep;
 }
 
 abbrev pub world_with : List Member → List Setup

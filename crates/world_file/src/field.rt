@@ -23,6 +23,8 @@ pub enum Field {
     Workers,
     /// How heavy its journal may grow.
     Weight,
+    /// How many entries are never folded by the service itself.
+    Keep,
 }
 
 impl Field {
@@ -40,6 +42,7 @@ impl Field {
             Field::Door => "door",
             Field::Workers => "workers",
             Field::Weight => "weight",
+            Field::Keep => "keep",
         }
     }
 }

@@ -1,7 +1,7 @@
 // The fields of one service, read from its JSON value.
 ghost use Rattle.std.specs.Prelude.{◌≡◌, IfOk, IfErr, Ok, Err};
 ghost use Rattle.serde_json.specs.View.{view};
-ghost use Rattle.world_file.specs.Fields.{door_in, fields_in, is_between, is_door, is_rules_text, is_secret, is_word_of_rules, name_in, number_between, rest_in, rules_in, secret_in, text_in, wanted, weight_in, workers_in};
+ghost use Rattle.world_file.specs.Fields.{door_in, fields_in, is_between, is_door, is_rules_text, is_secret, is_word_of_rules, keep_in, name_in, number_between, rest_in, rules_in, secret_in, text_in, wanted, weight_in, workers_in};
 ghost use Rattle.world_file.specs.Spelled.{seen};
 
 use crate::field::{Field, FieldFault};
@@ -14,6 +14,12 @@ pub const MOST_WEIGHT: u64 = 1000000000;
 
 /// The least weight that a world file may give.
 pub const LEAST_WEIGHT: u64 = 1000;
+
+/// The fewest entries that a world file may have a service keep.
+pub const LEAST_KEPT: u64 = 1000;
+
+/// The most entries that it may have a service keep.
+pub const MOST_KEPT: u64 = 90000;
 
 /// The most workers of a service.
 pub const MOST_WORKERS: u64 = 8;
@@ -38,6 +44,7 @@ pub struct Spelled<'v> {
     pub door: &'v str,
     pub workers: u64,
     pub weight: u64,
+    pub keep: Option<u64>,
 }
 
 // The value of a field that has to be given.
@@ -170,6 +177,19 @@ fn weight_in(service: &Value) -> Result<u64, FieldFault>
     }
 }
 
+// A service keeps all its entries where the file doesn't say.
+fn keep_in(service: &Value) -> Result<Option<u64>, FieldFault>
+    ensures { result ≡ keep_in (view service.now) }
+{
+    match service.get(Field::Keep.as_str()) {
+        Some(value) => {
+            let keep = number_between(value, LEAST_KEPT, MOST_KEPT, Field::Keep)?;
+            Ok(Some(keep))
+        }
+        None => Ok(None),
+    }
+}
+
 // The fields behind the name.
 #[tactic(auto, unfolding(crate::specs::Fields::rest_in))]
 fn rest_in(service: &Value, name: Name) -> Result<Spelled<'_>, FieldFault>
@@ -185,6 +205,7 @@ fn rest_in(service: &Value, name: Name) -> Result<Spelled<'_>, FieldFault>
         door: door_in(service)?,
         workers: workers_in(service)?,
         weight: weight_in(service)?,
+        keep: keep_in(service)?,
     })
 }
 

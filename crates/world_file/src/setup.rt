@@ -18,6 +18,9 @@ pub struct Setup {
     pub door: Text,
     /// How many workers serve requests, from 1 to 8.
     pub workers: u64,
+    /// How many entries it leaves that aren't folded where it folds by itself, which it does while it is served; from 1,000 to
+    /// 90,000. None where it never does.
+    pub keep: Option<u64>,
 }
 
 impl Drop for Setup {
@@ -29,6 +32,7 @@ impl Drop for Setup {
             console: _,
             door: _,
             workers: _,
+            keep: _,
         } = self;
     }
 }
@@ -46,6 +50,7 @@ impl Copied for Setup {
             console: secrets.1,
             door,
             workers: self.workers,
+            keep: self.keep,
         })
     }
 }

@@ -39,6 +39,7 @@ fn spelled_of(alloc: Global, service: &Standard) -> Result<Spelled<'static>, NoM
         door: service.door,
         workers: 4,
         weight: MOST_WEIGHT,
+        keep: None,
     })
 }
 

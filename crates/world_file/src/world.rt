@@ -74,6 +74,7 @@ fn set_up(alloc: Global, member: Member<'_>, names: &[Name]) -> Result<Setup, No
     let console = Text::of(alloc, spelled.console)?;
     let door = Text::of(alloc, spelled.door)?;
     let workers = spelled.workers;
+    let keep = spelled.keep;
     let setting = setting_of(alloc, spelled.name, program, spelled.weight, names)?;
     Ok(Setup {
         setting,
@@ -82,6 +83,7 @@ fn set_up(alloc: Global, member: Member<'_>, names: &[Name]) -> Result<Setup, No
         console,
         door,
         workers,
+        keep,
     })
 }
 

@@ -6,4 +6,4 @@ use Rattle.world_file.proofs.world.set_up.Goals as goal
 pub returns : goal.returns
 returns c =
     let made = c.in_ok-setting.ensures in
-    set_up_is _ _ _ _ _ _ c.args.names.now (member_seen c.args.member) made.me made.peers made.program made.weight refl c.in_ok-secret.ensures c.in_ok-console.ensures c.in_ok-door.ensures refl
+    set_up_is _ _ _ _ _ _ _ c.args.names.now (member_seen c.args.member) made.me made.peers made.program made.weight refl c.in_ok-secret.ensures c.in_ok-console.ensures c.in_ok-door.ensures refl refl
