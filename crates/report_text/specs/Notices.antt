@@ -1,8 +1,10 @@
 -- What is held as a text.
-use Rattle.std.specs.Prelude.{ℕ, ◌++◌, List, codes, decimal}
+use Rattle.std.specs.Prelude.{ℕ, ◌++◌, List, [], Option, Some, None, codes, decimal}
 use Rattle.std.specs.List.{flat_map}
 use Rattle.repair_messages.specs.declared.posts.PostName.{PostName}
 use Rattle.repair_messages.specs.declared.posts.PostName.TheVariants.{Call, Reply, Fetch}
+use Rattle.repair_messages.specs.Refusals.{word_text}
+use Rattle.repair_messages.specs.declared.refusals.Refusal.{Refusal}
 use Rattle.call_registers.specs.declared.register.Hold.{Hold}
 use Rattle.call_registers.specs.declared.register.Hold.TheVariants.{Rule, Unknown, TooOld}
 use Rattle.repair_queue.specs.declared.held.Notice.{Notice}
@@ -31,6 +33,11 @@ abbrev pub notice_line : Notice → List ℕ
 notice_line n =
     post_name_text n.name ++ (version_behind n.name n.version ++ (codes " " ++ (hold_text n.hold ++ codes "\n")))
 
--- a line for each notice
-abbrev pub notices_text : List Notice → List ℕ
-notices_text notices = or_none (flat_map notice_line notices)
+-- `fold WORD NUMBER`: why a service doesn't fold that folds by itself
+abbrev pub fold_line : Option Refusal → List ℕ
+fold_line None = []
+fold_line (Some why) = codes "fold " ++ (word_text why.word ++ (codes " " ++ (decimal why.number ++ codes "\n")))
+
+-- a line for each notice, and one for a fold that waits
+abbrev pub notices_text : List Notice → Option Refusal → List ℕ
+notices_text notices waits = or_none (flat_map notice_line notices ++ fold_line waits)

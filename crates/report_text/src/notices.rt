@@ -1,11 +1,12 @@
 // What is held as a text.
 ghost use Rattle.std.specs.Prelude.{◌≡◌, ◌++◌, IfOk, OnOk, string_bytes};
-ghost use Rattle.report_text.specs.Notices.{hold_text, notice_line, notices_text, post_name_text, version_behind};
+ghost use Rattle.std.specs.List.{flat_map};
+ghost use Rattle.report_text.specs.Notices.{fold_line, hold_text, notice_line, notices_text, post_name_text, version_behind};
 
 use crate::rows::or_none;
 use call_registers::Hold;
 use lang_core::{NoMemory, Text};
-use repair_messages::{PostName, RefusalWord};
+use repair_messages::{PostName, Refusal, RefusalWord};
 use repair_queue::{Notice, Notices};
 use std::alloc::Global;
 
@@ -56,15 +57,39 @@ fn push_notice(text: &mut String, notice: &Notice) -> Result<(), NoMemory>
     Ok(())
 }
 
+fn push_notices(text: &mut String, notices: &[Notice]) -> Result<(), NoMemory>
+    ensures { OnOk result (string_bytes text.new ≡ string_bytes text.old ++ flat_map notice_line notices.now) }
+{
+    for notice in notices {
+        push_notice(text, notice)?;
+    }
+    Ok(())
+}
+
+fn push_fold(text: &mut String, waits: Option<Refusal>) -> Result<(), NoMemory>
+    ensures { OnOk result (string_bytes text.new ≡ string_bytes text.old ++ fold_line waits) }
+{
+    if let Some(why) = waits {
+        let word = why.word.text();
+        let number = why.number;
+        write!(text, "fold {word} {number}\n")?;
+    }
+    Ok(())
+}
+
 /// What is held, a line for each post: `call:N vV rule R` or `reply:N aA rule R`. In place of `rule R` stands `unknown` where
 /// the receiver doesn't know what it speaks of, and `tooold N` where what it speaks of is folded there: of an entry the number,
-/// of a token that of the call. `none` alone where nothing is held.
-pub fn notices_text(alloc: Global, notices: &Notices) -> Result<Text, NoMemory>
-    ensures { IfOk result (λ text. text ≡ notices_text notices.now) }
+/// of a token that of the call. Behind them stands `fold WORD NUMBER` where a fold waits for this reason that the service would
+/// make by itself. `none` alone where nothing is held and no fold waits.
+pub fn notices_text(
+    alloc: Global,
+    notices: &Notices,
+    waits: Option<Refusal>,
+) -> Result<Text, NoMemory>
+    ensures { IfOk result (λ text. text ≡ notices_text notices.now waits) }
 {
     let mut lines = String::new(alloc);
-    for notice in notices.as_slice() {
-        push_notice(&mut lines, notice)?;
-    }
+    push_notices(&mut lines, notices.as_slice())?;
+    push_fold(&mut lines, waits)?;
     or_none(lines)
 }
