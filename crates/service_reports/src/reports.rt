@@ -4,6 +4,7 @@ ghost use Rattle.service_reports.specs.Reports.{log_of_service, notices_of_servi
 
 use lang_core::{NoMemory, Text};
 use preview_core::Service;
+use repair_messages::Refusal;
 use repair_queue::notices;
 use report_text::{log_text, notices_text, rows_text};
 use std::alloc::Global;
@@ -22,12 +23,17 @@ pub fn log_of(alloc: Global, service: &Service) -> Result<Text, NoMemory>
     log_text(alloc, &service.setting().me, service.entries())
 }
 
-/// What it has held.
-pub fn notices_of(alloc: Global, service: &Service) -> Result<Text, NoMemory>
-    ensures { IfOk result (λ text. text ≡ notices_of_service service.now) }
+/// What it has held, and why a fold waits that it would make by itself, if one does.
+pub fn notices_of(
+    alloc: Global,
+    service: &Service,
+    waits: Option<Refusal>,
+) -> Result<Text, NoMemory>
+    ensures { IfOk result (λ text. text ≡ notices_of_service waits service.now) }
 {
     notices_text(
         alloc,
         &notices(alloc, service.registers(), service.replies())?,
+        waits,
     )
 }
