@@ -55,7 +55,7 @@ abbrev pub Says : World → Line → List Event → LineAnswer → Type 0
 Says w (Settle n) events said = SaysSettled n w events said
 Says w (Rows service) events said = said ≡ report_of rows_of_service (service_of service w.services)
 Says w (Log service) events said = said ≡ report_of log_of_service (service_of service w.services)
-Says w (Notices service) events said = said ≡ report_of notices_of_service (service_of service w.services)
+Says w (Notices service) events said = said ≡ report_of (notices_of_service None) (service_of service w.services)
 Says w (Preview service id who) events said = SaysPreview id who (service_of service w.services) said
 Says w Dump events said = said ≡ Ok (printed (dump_text w.services))
 Says w Audit events said = said ≡ Ok (printed (audit_text w.services))

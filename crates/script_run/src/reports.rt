@@ -1,5 +1,5 @@
 // Lines that print what stands in a world.
-ghost use Rattle.std.specs.Prelude.{◌≡◌, All, Ok, IfOk, length};
+ghost use Rattle.std.specs.Prelude.{◌≡◌, All, None, Ok, IfOk, length};
 ghost use Rattle.call_registers.specs.Registers.{IsTimely};
 ghost use Rattle.journal_rows.specs.declared.verdict.Verdict.TheVariants.{Legal};
 ghost use Rattle.report_text.specs.Reports.{IsVerdictOver};
@@ -46,16 +46,16 @@ pub fn log(alloc: Global, world: &World, name: &Name) -> Result<Result<Said, Lin
     }
 }
 
-/// What the service of this name has held, if it is there.
+/// What the service of this name has held, if it is there. In a script no service folds by itself, so that no fold waits.
 pub fn notices(
     alloc: Global,
     world: &World,
     name: &Name,
 ) -> Result<Result<Said, LineFault>, NoMemory>
-    ensures { IfOk result (λ said. said ≡ report_of notices_of_service (service_of name.now world.now.services)) }
+    ensures { IfOk result (λ said. said ≡ report_of (notices_of_service None) (service_of name.now world.now.services)) }
 {
     match world.service(name) {
-        Some(service) => Ok(Ok(Said::printed(Printed::report(notices_of(alloc, service)?)))),
+        Some(service) => Ok(Ok(Said::printed(Printed::report(notices_of(alloc, service, None)?)))),
         None => Ok(Err(LineFault::Service)),
     }
 }
