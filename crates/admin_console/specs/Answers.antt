@@ -2,6 +2,7 @@
 use Rattle.std.specs.Prelude.{ℕ, ◌≡◌, ◌⊎◌, List, Option, Some, None, Result}
 use Rattle.lang_core.specs.declared.inputs.Inputs.{Inputs}
 use Rattle.journal_rows.specs.declared.orders.Command.{Command}
+use Rattle.repair_messages.specs.declared.refusals.Refusal.{Refusal}
 use Rattle.service_events.specs.Doing.{Does, order_memory}
 use Rattle.service_events.specs.Orders.{order_event}
 use Rattle.service_events.specs.State.{Kept, me}
@@ -19,6 +20,10 @@ use Rattle.admin_console.specs.declared.asking.Asked.TheVariants.{Order, Report}
 abbrev pub Makes : Type 0 → Type 1
 Makes Desk = Desk → Command → List ℕ → List ℕ → Inputs → Result Ordered OrderRefused → Desk → Type 0
 
+-- why a fold waits at a desk, if one does
+abbrev pub Waits : Type 0 → Type 0
+Waits Desk = Desk → Option Refusal
+
 -- at a service it is the order of that service, unless memory is wanting
 abbrev pub MakesOrder : Makes Kept
 MakesOrder s command token who i answer s' = Does order_memory (order_event s command token who i) s answer s'
@@ -31,14 +36,14 @@ pub record IsOrdered {Desk : Type 0} (kept : Desk → Kept) (Made : Makes Desk) 
 
 -- What is asked is done. A report is of the service that the desk has at that moment, and changes nothing; neither does a body
 -- that is ill.
-abbrev pub IsDone : {Desk : Type 0} → (Desk → Kept) → Makes Desk → Desk → Option Asked → List ℕ → Inputs → WireResponse → Desk → Type 0
-IsDone kept Made desk None who i response after = (after ≡ desk) × (response ≡ bad)
-IsDone kept Made desk (Some (Order token command)) who i response after = IsOrdered kept Made desk command token who i response after
-IsDone kept Made desk (Some (Report report)) who i response after = (after ≡ desk) × (response ≡ report_reply (report_of report (kept desk)))
+abbrev pub IsDone : {Desk : Type 0} → (Desk → Kept) → Waits Desk → Makes Desk → Desk → Option Asked → List ℕ → Inputs → WireResponse → Desk → Type 0
+IsDone kept waits Made desk None who i response after = (after ≡ desk) × (response ≡ bad)
+IsDone kept waits Made desk (Some (Order token command)) who i response after = IsOrdered kept Made desk command token who i response after
+IsDone kept waits Made desk (Some (Report report)) who i response after = (after ≡ desk) × (response ≡ report_reply (report_of report (waits desk) (kept desk)))
 
 -- what an operator's request is answered
-abbrev pub IsAnswered : {Desk : Type 0} → (Desk → Kept) → Makes Desk → Desk → ConsoleRequest → Inputs → WireResponse → Desk → Type 0
-IsAnswered kept Made desk request i response after = IsDone kept Made desk (asked_in request) request.who i response after
+abbrev pub IsAnswered : {Desk : Type 0} → (Desk → Kept) → Waits Desk → Makes Desk → Desk → ConsoleRequest → Inputs → WireResponse → Desk → Type 0
+IsAnswered kept waits Made desk request i response after = IsDone kept waits Made desk (asked_in request) request.who i response after
 
 -- ---- want of memory
 

@@ -24,8 +24,8 @@ fn make_order<O: Orders>(
     who: Text,
     inputs: Inputs,
 ) -> Result<WireResponse, NoMemory>
-    ensures desk { IfOk result (λ response. IsDone O.kept O.made desk.old (Some (Order token command)) who inputs response desk.new) }
-    ensures service { IfOk result (λ response. IsDone (λ s. s) MakesOrder (O.kept desk.old) (Some (Order token command)) who inputs response (O.kept desk.new)) }
+    ensures desk { IfOk result (λ response. IsDone O.kept O.waits O.made desk.old (Some (Order token command)) who inputs response desk.new) }
+    ensures service { IfOk result (λ response. IsDone (λ s. s) (λ _. O.waits desk.old) MakesOrder (O.kept desk.old) (Some (Order token command)) who inputs response (O.kept desk.new)) }
     ensures desk_err { OnErr result (IsLeft O.made desk.old (Some (Order token command)) who inputs desk.new) }
     ensures service_err { OnErr result (IsLeft MakesOrder (O.kept desk.old) (Some (Order token command)) who inputs (O.kept desk.new)) }
     ensures silent { live_rows (O.kept desk.new).journal ≡ live_rows (O.kept desk.old).journal }
@@ -46,8 +46,8 @@ pub fn carry_out<O: Orders>(
     who: Text,
     inputs: Inputs,
 ) -> Result<WireResponse, NoMemory>
-    ensures desk { IfOk result (λ response. IsDone O.kept O.made desk.old asked who inputs response desk.new) }
-    ensures service { IfOk result (λ response. IsDone (λ s. s) MakesOrder (O.kept desk.old) asked who inputs response (O.kept desk.new)) }
+    ensures desk { IfOk result (λ response. IsDone O.kept O.waits O.made desk.old asked who inputs response desk.new) }
+    ensures service { IfOk result (λ response. IsDone (λ s. s) (λ _. O.waits desk.old) MakesOrder (O.kept desk.old) asked who inputs response (O.kept desk.new)) }
     ensures desk_err { OnErr result (IsLeft O.made desk.old asked who inputs desk.new) }
     ensures service_err { OnErr result (IsLeft MakesOrder (O.kept desk.old) asked who inputs (O.kept desk.new)) }
     ensures silent { live_rows (O.kept desk.new).journal ≡ live_rows (O.kept desk.old).journal }
@@ -56,7 +56,7 @@ pub fn carry_out<O: Orders>(
         Some(Asked::Order { token, command }) => make_order(
             alloc, desk, token, command, who, inputs,
         ),
-        Some(Asked::Report(which)) => service_report(alloc, desk.service(), which),
+        Some(Asked::Report(which)) => service_report(alloc, desk.service(), desk.waits(), which),
         None => bad(alloc),
     }
 }
@@ -71,8 +71,8 @@ pub fn answer<O: Orders>(
     inputs: Inputs,
 ) -> Result<WireResponse, NoMemory>
     requires word { is_of_the_run request.now.word ≡ false }
-    ensures desk { IfOk result (λ response. IsAnswered O.kept O.made desk.old request.now inputs response desk.new) }
-    ensures service { IfOk result (λ response. IsAnswered (λ s. s) MakesOrder (O.kept desk.old) request.now inputs response (O.kept desk.new)) }
+    ensures desk { IfOk result (λ response. IsAnswered O.kept O.waits O.made desk.old request.now inputs response desk.new) }
+    ensures service { IfOk result (λ response. IsAnswered (λ s. s) (λ _. O.waits desk.old) MakesOrder (O.kept desk.old) request.now inputs response (O.kept desk.new)) }
     ensures desk_err { OnErr result (IsUnanswered O.made desk.old request.now inputs desk.new) }
     ensures service_err { OnErr result (IsUnanswered MakesOrder (O.kept desk.old) request.now inputs (O.kept desk.new)) }
     ensures silent { live_rows (O.kept desk.new).journal ≡ live_rows (O.kept desk.old).journal }

@@ -1,7 +1,8 @@
 // Where operators' orders are made.
-ghost use Rattle.std.specs.Prelude.{◌≡◌, ℕ, List, Result};
+ghost use Rattle.std.specs.Prelude.{◌≡◌, ℕ, List, None, Option, Result};
 ghost use Rattle.lang_core.specs.declared.inputs.Inputs.{Inputs};
 ghost use Rattle.journal_rows.specs.declared.orders.Command.{Command};
+ghost use Rattle.repair_messages.specs.declared.refusals.Refusal.{Refusal};
 ghost use Rattle.service_events.specs.Commits.{live_rows};
 ghost use Rattle.service_events.specs.State.{Kept};
 ghost use Rattle.service_events.specs.declared.answers.Ordered.{Ordered};
@@ -10,6 +11,7 @@ ghost use Rattle.admin_console.specs.Answers.{MakesOrder};
 
 use journal_rows::Command;
 use lang_core::{Inputs, Text};
+use repair_messages::Refusal;
 use service_events::{OrderRefused, Ordered};
 use service_reports::Service;
 use std::alloc::Global;
@@ -19,12 +21,19 @@ pub trait Orders {
     // The service.
     ghost kept: { Self → Kept };
 
+    // Why a fold waits that the service would make by itself, if one does.
+    ghost waits: { Self → Option Refusal };
+
     // What an order that was made is at this desk, besides what it is at the service.
     ghost made: { Self → Command → List ℕ → List ℕ → Inputs → Result Ordered OrderRefused → Self → Type 0 };
 
     /// The service, as it is now.
     fn service(&self) -> &Service
         ensures { result.now ≡ kept self.now };
+
+    /// Why a fold waits that the service would make by itself; None where none does.
+    fn waits(&self) -> Option<Refusal>
+        ensures { result ≡ waits self.now };
 
     /// Makes an order at the service, which is one call of its own `order`. It makes no live answer.
     fn order(
@@ -43,10 +52,17 @@ pub trait Orders {
 impl Orders for Service {
     ghost kept = { λ s. s };
 
+    ghost waits = { λ _. None };
+
     ghost made = { MakesOrder };
 
     fn service(&self) -> &Service {
         self
+    }
+
+    // A service alone folds nothing by itself.
+    fn waits(&self) -> Option<Refusal> {
+        None
     }
 
     fn order(
