@@ -34,7 +34,7 @@ use Rattle.service_events.specs.Calls.{all_deleted, named, noted}
 use Rattle.service_events.specs.Event.{event, is_lacking, Happens}
 use Rattle.service_events.specs.Flying.{awaited, before_answer, call_or_none, change_rows, changed, changed_unsent, committed, completed, completing, flight_run, goes_on, live_answer, moved, named_unsent, surplus_rows, took_rows, waits, wanted_of, with_change, with_slot}
 use Rattle.service_events.specs.Messages.{acked_again, acked_row, confirmed_row, fetched, fetched_row, hear_new, hear_rule, heard, held_back, held_where, hold_of, is_known, is_now, is_too_much, noted_row, origin_of, posted, saw_ack_row, take_admitted, take_new, taken, taken_by, token_taken_where, took_row, was_confirmed_row}
-use Rattle.service_events.specs.State.{Kept, After, after, answers, base, flight_of, is_crowded, is_heavy, next_id, or_else}
+use Rattle.service_events.specs.State.{Kept, After, after, answers, base, flight_of, is_crowded, is_heavy, next_id, or_else, unfolded}
 use Rattle.service_events.specs.Steps.{answer_rows, new_record, sent_rows, Stale, stale_in, step_by, step_event}
 use Rattle.service_events.specs.declared.answers.Arrived.{Arrived}
 use Rattle.service_events.specs.declared.answers.PostReply.{PostReply}
@@ -297,7 +297,7 @@ event_has s (events.NextPost dest) none = refl
 event_has s (events.WritePost name) none = refl
 event_has s (events.Posted post reply) none =
     posted_either s post reply (λ a. ordered_rows a.service.journal ≡ ordered_rows s.journal) refl (λ _ _. reply_has (ordered_rows s.journal) s post reply refl)
-event_has s events.Step none = stepped_has (ordered_rows s.journal) s (stale_in (answers s) (base s) s.entries) refl
+event_has s events.Step none = stepped_has (ordered_rows s.journal) s (stale_in (answers s) (base s) (unfolded s)) refl
 event_has s (events.Order command token who i) none = absurd none
 
 -- where a call makes it, or lacks memory for it, the journal has the orders that it had

@@ -90,6 +90,7 @@ fn left_of<R: Ledger>(
         secret: _,
         stopped: _,
         since: rows,
+        folds: _,
     } = state.into_inner();
     if was_opened_at(since, place, rows) {
         Ok((share, service))

@@ -169,6 +169,7 @@ pub fn event<R: Ledger, Q: Ledger, W: Wait>(
         secret,
         stopped: _,
         since: _,
+        folds: _,
     } = kept;
     let index = row_count(service);
     let done = service.event(alloc, event);

@@ -34,5 +34,5 @@ pub use pass::Pass;
 pub use receipt::Receipt;
 pub use repair_messages::RefusalWord as TurnWord;
 pub use service_events::{Done as NodeDone, Event as NodeEvent};
-pub use state::NodeState;
+pub use state::{NodeState, OwnFolds};
 pub use tally::Tally;

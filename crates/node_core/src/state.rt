@@ -1,16 +1,28 @@
 // What stands behind a node's lock.
-ghost use Rattle.std.specs.Prelude.{◌≡◌, ◌≤◌, length, false, true};
+ghost use Rattle.std.specs.Prelude.{◌≡◌, ◌≤◌, None, length, false, true};
 ghost use Rattle.node_core.specs.Closings.{row_count, told_since};
 
 use lang_core::Text;
+use repair_messages::Refusal;
 use service_core::Service;
 use std::sync::ledger::{Ledger, Share};
 
-/// A service, its share of the ledger of rows, the secret with which it seals, whether it is to stop, and how many rows its
-/// journal had when the node was opened. Its type keeps that the journal still has as many, that the share is one part of the
+/// How far a service is that folds by itself.
+#[derive(Clone, Copy)]
+pub struct OwnFolds {
+    /// Up to this number the tokens of its orders to fold are all used.
+    pub used: u64,
+    /// What its last order to fold was refused with, or what stands in the way of one; None where no fold waits.
+    pub waits: Option<Refusal>,
+}
+
+/// A service, its share of the ledger of rows, the secret with which it seals, whether it is to stop, how many rows its
+/// journal had when the node was opened, and how far it is with folds of its own. Its type keeps that the journal still has as
+/// many, that the share is one part of the
 /// ledger, and that its amount is the number of live requests that the journal answers since then, with that of the orders that
 /// it got; the service's own type keeps that the service fits its journal. So all of it holds whenever somebody gets the lock.
-/// Nothing outside of this crate makes one, copies one, or changes more of it than that it is to stop.
+/// Nothing outside of this crate makes one, copies one, or changes more of it than that it is to stop, and
+/// how far it is with those folds.
 #[derive(Drop)]
 pub struct NodeState<R: Ledger> {
     pub(crate) service: Service,
@@ -18,6 +30,7 @@ pub struct NodeState<R: Ledger> {
     pub(crate) secret: Text,
     pub(crate) stopped: bool,
     pub(crate) since: u64,
+    pub(crate) folds: OwnFolds,
     ghost one_part: { share.parts ≡ 1 },
     ghost within: { since ≤ length service.journal },
     ghost counted: { share.amount ≡ told_since since service },
@@ -34,6 +47,7 @@ impl<R: Ledger> NodeState<R> {
         ensures secret { result.secret ≡ secret }
         ensures stopped { result.stopped ≡ false }
         ensures since { result.since ≡ row_count service }
+        ensures folds { result.folds.waits ≡ None }
     {
         let since = service.journal().len();
         NodeState {
@@ -42,6 +56,10 @@ impl<R: Ledger> NodeState<R> {
             secret,
             stopped: false,
             since,
+            folds: OwnFolds {
+                used: 0,
+                waits: None,
+            },
         }
     }
 
@@ -89,7 +107,27 @@ impl<R: Ledger> NodeState<R> {
         ensures share { self.new.share ≡ self.old.share }
         ensures secret { self.new.secret ≡ self.old.secret }
         ensures since { self.new.since ≡ self.old.since }
+        ensures folds { self.new.folds ≡ self.old.folds }
     {
         self.stopped = true;
+    }
+
+    /// How far it is with folds of its own.
+    pub fn folds(&self) -> OwnFolds
+        ensures { result ≡ self.now.folds }
+    {
+        self.folds
+    }
+
+    /// So far it is with them now. Nothing else changes.
+    pub fn note_folds(&mut self, folds: OwnFolds)
+        ensures folds { self.new.folds ≡ folds }
+        ensures service { self.new.service ≡ self.old.service }
+        ensures share { self.new.share ≡ self.old.share }
+        ensures secret { self.new.secret ≡ self.old.secret }
+        ensures stopped { self.new.stopped ≡ self.old.stopped }
+        ensures since { self.new.since ≡ self.old.since }
+    {
+        self.folds = folds;
     }
 }
