@@ -8,6 +8,7 @@ pub mod WantLemmas
 pub mod CommitLemmas
 pub mod MessageLemmas
 pub mod HeldLemmas
+pub mod FoldingLemmas
 pub mod OperatorLemmas
 pub mod ServeLemmas
 pub mod NotedLemmas

@@ -26,7 +26,7 @@ use Rattle.node_exchanges.specs.Replies.{IsSaid}
 use Rattle.node_exchanges.specs.declared.served.Served.{Served}
 use Rattle.node_exchanges.specs.declared.served.Served.TheVariants as served
 use Rattle.node_workers.specs.Desks.{IsServiceOf}
-use Rattle.node_workers.specs.Held.{IsUnmade, OrdersThere, service_at}
+use Rattle.node_workers.specs.Held.{IsUnmade, OrdersThere, service_at, waits_at}
 use Rattle.node_workers.specs.Operators.{TellsReport}
 use Rattle.node_workers.specs.Posting.{Keeps}
 use Rattle.node_workers.specs.Serving.{IsDoneSo, IsOperatorTold, IsPreviewTold, IsWantTold}
@@ -95,7 +95,7 @@ module _ {R Q W : Type 0} (before now : HeldNode R Q W) (i : Inputs) where
   same_lent same = ap (λ (h : HeldNode R Q W). h.pass.ghost_name) (sym same)
 
   -- where it was replied, and where memory was wanting
-  done_lent : (asked : Option Asked) (who : List ℕ) (response : WireResponse) → IsDone service_at OrdersThere before asked who i response now → IsLent
+  done_lent : (asked : Option Asked) (who : List ℕ) (response : WireResponse) → IsDone service_at waits_at OrdersThere before asked who i response now → IsLent
   done_lent None who response is = same_lent is.0
   done_lent (Some (Order token command)) who response is = order_lent command token who is.answer is.made
   done_lent (Some (Report report)) who response is = same_lent is.0
@@ -106,7 +106,7 @@ module _ {R Q W : Type 0} (before now : HeldNode R Q W) (i : Inputs) where
   left_lent (Some (Order token command)) who (inr is) = order_lent command token who is.0 is.1
   left_lent (Some (Report report)) who is = same_lent is
 
-  lent : (asked : Option Asked) (who : List ℕ) (reply : Reply) → IfOk reply (λ (response : WireResponse). IsDone service_at OrdersThere before asked who i response now)
+  lent : (asked : Option Asked) (who : List ℕ) (reply : Reply) → IfOk reply (λ (response : WireResponse). IsDone service_at waits_at OrdersThere before asked who i response now)
       → OnErr reply (IsLeft OrdersThere before asked who i now) → IsLent
   lent asked who (Ok response) is left = done_lent asked who response is
   lent asked who (Err lacks) is left = left_lent asked who left
@@ -125,7 +125,7 @@ module _ {R Q W : Type 0} (before now : HeldNode R Q W) (i : Inputs) where
       let K : HeldNode R Q W → Type 0 = λ h. MakesAsked name i who asked before.pass.now.notes h.pass.now.notes before.pass.now.receipts.items h.pass.now.receipts.items in
       subst K (sym same) (asks_nothing name i who asked before.pass.now.notes before.pass.now.receipts.items)
 
-  done_makes : (asked : Option Asked) (who : List ℕ) (response : WireResponse) → IsDone service_at OrdersThere before asked who i response now
+  done_makes : (asked : Option Asked) (who : List ℕ) (response : WireResponse) → IsDone service_at waits_at OrdersThere before asked who i response now
       → Makes (me (service_at before)) asked who
   done_makes None who response is = same_makes (me (service_at before)) None who is.0
   done_makes (Some (Order token command)) who response is = order_makes command token who is.answer is.made
@@ -138,14 +138,14 @@ module _ {R Q W : Type 0} (before now : HeldNode R Q W) (i : Inputs) where
   left_makes (Some (Report report)) who is = same_makes (me (service_at before)) (Some (Report report)) who is
 
   makes_by : (asked : Option Asked) (who : List ℕ) (reply : Reply)
-      → IfOk reply (λ (response : WireResponse). IsDone service_at OrdersThere before asked who i response now)
+      → IfOk reply (λ (response : WireResponse). IsDone service_at waits_at OrdersThere before asked who i response now)
       → OnErr reply (IsLeft OrdersThere before asked who i now) → Makes (me (service_at before)) asked who
   makes_by asked who (Ok response) is left = done_makes asked who response is
   makes_by asked who (Err lacks) is left = left_makes asked who left
 
   -- by the pass that was lent, with these notes and receipts
   pub reply_makes : (name : List ℕ) → me (service_at before) ≡ name → (asked : Option Asked) (who : List ℕ) (reply : Reply) (notes : Notes) (receipts : List Receipt)
-      → IfOk reply (λ (response : WireResponse). IsDone service_at OrdersThere before asked who i response now)
+      → IfOk reply (λ (response : WireResponse). IsDone service_at waits_at OrdersThere before asked who i response now)
       → OnErr reply (IsLeft OrdersThere before asked who i now) → (IsLent → notes ≡ now.pass.now.notes) → (IsLent → receipts ≡ now.pass.now.receipts.items)
       → MakesAsked name i who asked before.pass.now.notes notes before.pass.now.receipts.items receipts
   reply_makes name named asked who reply notes receipts is left noted received =
@@ -156,7 +156,7 @@ module _ {R Q W : Type 0} (before now : HeldNode R Q W) (i : Inputs) where
 
   -- a report is one of the service behind the lock
   pub report_told : (asked : Option Asked) (who : List ℕ) (reply : Reply)
-      → IfOk reply (λ (response : WireResponse). IsDone service_at OrdersThere before asked who i response now) → IfOk reply (TellsReport asked (service_at before))
+      → IfOk reply (λ (response : WireResponse). IsDone service_at waits_at OrdersThere before asked who i response now) → IfOk reply (TellsReport asked (waits_at before) (service_at before))
   report_told None who (Ok response) is = tt
   report_told (Some (Order token command)) who (Ok response) is = tt
   report_told (Some (Report report)) who (Ok response) is = is.1
@@ -176,14 +176,14 @@ module _ {R Q W : Type 0} (before now : HeldNode R Q W) (i : Inputs) where
     order_told command token who response answer named told (inr unmade) =
         inr (ap (λ (n : Notes). n.gave) unmade.notes ∙ fresh, told ∙ ap (λ (a : Result Ordered OrderRefused). order_reply (me (service_at now)) a) unmade.lacks)
 
-    done_told : (asked : Option Asked) (who : List ℕ) (response : WireResponse) → IsDone service_at OrdersThere before asked who i response now
+    done_told : (asked : Option Asked) (who : List ℕ) (response : WireResponse) → IsDone service_at waits_at OrdersThere before asked who i response now
         → IsToldSo e i now.pass.now.notes who asked response
     done_told None who response is = inl is.1
     done_told (Some (Order token command)) who response is = order_told command token who response is.answer is.made.named is.told is.made.made
-    done_told (Some (Report report)) who response is = inl (record { service = service_at before; of = of; told = is.1 })
+    done_told (Some (Report report)) who response is = inl (record { service = service_at before; of = of; waits = waits_at before; told = is.1 })
 
     pub reply_told : (asked : Option Asked) (who : List ℕ) (reply : Reply) (notes : Notes)
-        → IfOk reply (λ (response : WireResponse). IsDone service_at OrdersThere before asked who i response now) → (IsLent → notes ≡ now.pass.now.notes)
+        → IfOk reply (λ (response : WireResponse). IsDone service_at waits_at OrdersThere before asked who i response now) → (IsLent → notes ≡ now.pass.now.notes)
         → IfOk reply (λ (response : WireResponse). IsToldSo e i notes who asked response)
     reply_told asked who (Ok response) notes is noted =
         let told = done_told asked who response is in

@@ -1,7 +1,8 @@
 -- A node whose lock is held, and what an order is that is made there.
-use Rattle.std.specs.Prelude.{ℕ, ◌≡◌, ◌⊎◌, List, Result, Ok, Err}
+use Rattle.std.specs.Prelude.{ℕ, ◌≡◌, ◌⊎◌, List, Option, Result, Ok, Err}
 use Rattle.lang_base.specs.declared.memory.NoMemory.{NoMemory as LacksMemory}
 use Rattle.lang_core.specs.declared.inputs.Inputs.{Inputs}
+use Rattle.repair_messages.specs.declared.refusals.Refusal.{Refusal}
 use Rattle.journal_rows.specs.declared.orders.Command.{Command}
 use Rattle.service_events.specs.State.{Kept, me}
 use Rattle.service_events.specs.declared.answers.Ordered.{Ordered}
@@ -18,6 +19,10 @@ use Rattle.node_workers.specs.declared.held.HeldNode.{HeldNode}
 -- the service behind the lock
 abbrev pub service_at : {R Q W : Type 0} → HeldNode R Q W → Kept
 service_at held = held.state.now.service
+
+-- why a fold of its own waits there, if one does
+abbrev pub waits_at : {R Q W : Type 0} → HeldNode R Q W → Option Refusal
+waits_at held = held.state.now.folds.waits
 
 -- an event was answered as an order is
 abbrev pub IsOrderAnswer : NodeDone → Type 0

@@ -1,6 +1,7 @@
 pub mod Desks
 pub mod Turns
 pub mod Held
+pub mod Folding
 pub mod Posting
 pub mod Calling
 pub mod Operators

@@ -5,6 +5,7 @@ use Rattle.lang_core.specs.declared.ids.Origin.TheVariants as origins
 use Rattle.lang_core.specs.declared.inputs.Inputs.{Inputs}
 use Rattle.lang_core.specs.declared.request.Request.{Request}
 use Rattle.repair_messages.specs.Refusals.{word_text}
+use Rattle.repair_messages.specs.declared.refusals.Refusal.{Refusal}
 use Rattle.repair_messages.specs.declared.messages.AnswerMessage.{AnswerMessage}
 use Rattle.journal_rows.specs.declared.callee.AnsweredRow.{AnsweredRow}
 use Rattle.journal_rows.specs.declared.orders.Command.{Command}
@@ -197,11 +198,12 @@ pub record IsOrderTold (name : List ℕ) (command : Command) (token who : List �
   pub so : IsOrderedSo command token who i notes answer
   pub told : response ≡ order_reply name answer
 
--- a report of a service of this name; that it is the one that the lock lends is said where the lock is held
+-- a report of a service of this name, and of why a fold of its own waits, if one does; that it is the one that the lock lends is said where the lock is held
 pub record IsReportOf (name : List ℕ) (report : Report) (response : WireResponse) : Type 0 where
   pub service : Kept
   pub of : IsServiceOf name service
-  pub told : response ≡ report_reply (report_of report service)
+  pub waits : Option Refusal
+  pub told : response ≡ report_reply (report_of report waits service)
 
 -- what was asked is done and told; of a body that was ill it is told that it was
 abbrev pub IsDoneSo : Endpoint → Inputs → Notes → List ℕ → Option Asked → WireResponse → Type 0

@@ -1,12 +1,13 @@
 // A node whose lock is held, where operators' orders are made.
 ghost use Rattle.std.specs.Prelude.{◌≡◌, IfOk};
-ghost use Rattle.node_workers.specs.Held.{service_at, AnswersAs, IsOrderAnswer, OrdersThere};
+ghost use Rattle.node_workers.specs.Held.{service_at, waits_at, AnswersAs, IsOrderAnswer, OrdersThere};
 
 use crate::turns::fits;
 use admin_console::{Orders, Service};
 use journal_rows::Command;
 use lang_core::{Inputs, NoMemory, Text};
 use node_core::{NodeDone, NodeEvent, NodeState, Pass, Tally, event};
+use repair_messages::Refusal;
 use service_events::{OrderRefused, Ordered};
 use std::alloc::Global;
 use std::sync::Wait;
@@ -51,10 +52,16 @@ fn ordered_by(done: Result<NodeDone, NoMemory>) -> Result<Ordered, OrderRefused>
 impl<'a, R: Ledger, Q: Ledger, W: Wait> Orders for HeldNode<'a, R, Q, W> {
     ghost kept = { service_at };
 
+    ghost waits = { waits_at };
+
     ghost made = { OrdersThere };
 
     fn service(&self) -> &Service {
         self.state.service()
+    }
+
+    fn waits(&self) -> Option<Refusal> {
+        self.state.folds().waits
     }
 
     fn order(

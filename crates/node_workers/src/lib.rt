@@ -6,6 +6,7 @@
 
 mod desk;
 mod flying;
+mod folding;
 mod held;
 mod live;
 mod messages;
@@ -16,6 +17,7 @@ mod serve;
 mod turns;
 
 pub use desk::Desk;
+pub use folding::{FoldDue, fold_due, fold_up_to, note_waiting};
 pub use node_exchanges::{Doors, Served};
 pub use operators::{tell_preview, tell_text};
 pub use posts::{PostedOne, post_one};

@@ -38,7 +38,7 @@ fn reply_under_lock<R: Ledger, Q: Ledger, W: Wait>(
     inputs: Inputs,
 ) -> Result<WireResponse, NoMemory>
     requires fresh { pass.old.notes.gave ≡ None }
-    ensures report { IfOk result (TellsReport asked state.old.service) }
+    ensures report { IfOk result (TellsReport asked state.old.folds.waits state.old.service) }
     ensures told { IfOk result (λ response. IsDoneSo (at_desk desk.now) inputs pass.new.notes who asked response ⊎ IsWantTold pass.new.notes response) }
     ensures makes { MakesAsked (at_desk desk.now).me inputs who asked pass.old.notes pass.new.notes pass.old.receipts.items pass.new.receipts.items }
 {

@@ -1,0 +1,253 @@
+// Folds that a service orders by itself.
+ghost use Rattle.std.specs.Prelude.{◌≡◌, IfOk, is_none};
+ghost use Rattle.std.specs.List.{list_all};
+ghost use Rattle.journal_rows.specs.Words.{ordered};
+ghost use Rattle.node_workers.specs.Desks.{at_desk};
+ghost use Rattle.node_workers.specs.Folding.{can_go, fold_token, front_of, is_answered, is_call_over, is_over, is_owed, place_or, FoldsOnce};
+
+use crate::desk::Desk;
+use crate::turns::ask_under_lock;
+use admin_console::Service;
+use call_registers::{Register, Registers, Replies, owes_fetch};
+use journal_rows::{Command, Rows};
+use lang_core::{Copied, Inputs, NoMemory, Text};
+use node_core::{NodeDone, NodeEvent, NodeState, OwnFolds, Pass};
+use repair_messages::{Refusal, RefusalWord};
+use request_log::{Entry, KeptEntry};
+use service_events::{OrderRefused, Ordered};
+use std::alloc::Global;
+use std::sync::Wait;
+use std::sync::ledger::Ledger;
+
+/// A service folds by itself once this part of what it keeps can go: a sixteenth. Each order to fold has a row in the journal,
+/// and the log's index is made afresh at it, so that one for each request would cost more than it frees.
+const PART: u64 = 16;
+
+/// What is to be done about the first entries of a service that folds by itself.
+#[derive(Clone, Copy)]
+pub enum FoldDue {
+    /// Nothing: it keeps all its entries, or so few aren't folded that none is to go yet.
+    Nothing,
+    /// Nothing, since its last order to fold was refused, and would be again.
+    Refused,
+    /// The entry of this number stands in the way.
+    Waits(u64),
+    /// Those up to and including the entry of this number can go.
+    UpTo(u64),
+}
+
+// ---- which entries can go
+
+fn is_answered(register: &Register) -> bool
+    ensures { result ≡ is_answered register.now }
+{
+    match &register.answer {
+        Some(answer) => register.version <= answer.version,
+        None => false,
+    }
+}
+
+fn is_over(register: &Register) -> bool
+    ensures { result ≡ is_over register.now }
+{
+    register.version <= register.acked && !owes_fetch(register) && is_answered(register)
+}
+
+fn is_call_over(registers: &Registers, number: u64) -> bool
+    ensures { result ≡ is_call_over registers.now.list number }
+{
+    match registers.get(number) {
+        Some(register) => is_over(register),
+        None => false,
+    }
+}
+
+fn are_over(registers: &Registers, slots: &[u64]) -> bool
+    ensures { result ≡ list_all (is_call_over registers.now.list) slots.now }
+{
+    slots.iter().all(|number| is_call_over(registers, *number))
+}
+
+fn is_owed(replies: &Replies, id: u64) -> bool
+    ensures { result ≡ is_owed id replies.now.list }
+{
+    match replies.get(id) {
+        Some(reply) => reply.due,
+        None => false,
+    }
+}
+
+fn can_go(service: &Service, entry: &Entry) -> bool
+    ensures { result ≡ can_go service.now entry.now }
+{
+    !is_owed(service.replies(), entry.id) && are_over(service.registers(), entry.slots.as_slice())
+}
+
+fn place_or(place: Option<usize>, length: usize) -> usize
+    ensures { result ≡ place_or place length }
+{
+    match place {
+        Some(place) => place,
+        None => length,
+    }
+}
+
+// How many of the first of these can go.
+fn front_of(service: &Service, entries: &[KeptEntry]) -> usize
+    ensures { result ≡ front_of service.now entries.now }
+{
+    let first = entries
+        .iter()
+        .position(|kept| !can_go(service, kept.entry()));
+    place_or(first, entries.len())
+}
+
+fn id_at(entries: &[KeptEntry], place: usize) -> u64 {
+    match entries.get(place) {
+        Some(kept) => kept.entry().id,
+        None => 0,
+    }
+}
+
+// Of these, so many have to stay.
+fn due_of(service: &Service, entries: &[KeptEntry], keep: usize, part: usize) -> FoldDue {
+    let front = front_of(service, entries);
+    let most = entries.len().saturating_sub(keep);
+    if front < part {
+        FoldDue::Waits(id_at(entries, front))
+    } else if front < most {
+        FoldDue::UpTo(id_at(entries, front - 1))
+    } else {
+        FoldDue::UpTo(id_at(entries, most.saturating_sub(1)))
+    }
+}
+
+// Whether an order to fold would be refused again: rules stay, and a journal gets no lighter.
+fn stays_refused(waits: Option<Refusal>) -> bool {
+    match waits {
+        Some(why) => matches!(why.word, RefusalWord::Denied | RefusalWord::Full),
+        None => false,
+    }
+}
+
+/// What is to be done about the first entries of the service behind the lock, of which so many have to stay. A part of those at
+/// least has to go at once. No entry is taken that is stale, since this is asked where none is.
+pub fn fold_due<R: Ledger>(kept: &NodeState<R>, keep: Option<u64>) -> FoldDue {
+    let Some(keep) = keep else {
+        return FoldDue::Nothing;
+    };
+    let entries = kept.service().entries().as_slice();
+    let part = keep / PART;
+    if (entries.len() as u64) < keep.saturating_add(part) {
+        return FoldDue::Nothing;
+    }
+    if stays_refused(kept.folds().waits) {
+        return FoldDue::Refused;
+    }
+    due_of(kept.service(), entries, keep as usize, part as usize)
+}
+
+// ---- the order
+
+fn fold_token(alloc: Global, number: u64) -> Result<Text, NoMemory>
+    ensures { IfOk result (λ text. text ≡ fold_token number) }
+{
+    let mut text = String::new(alloc);
+    write!(text, "fold-{number}")?;
+    Text::shared(text)
+}
+
+fn is_free(journal: &Rows, token: &Text) -> bool
+    ensures { result ≡ is_none (ordered token.now journal.now.rows) }
+{
+    match journal.ordered(token) {
+        None => true,
+        Some(_) => false,
+    }
+}
+
+// The first number behind this one whose token no order of the journal had, and that token. One of 64 bits is always found,
+// since a journal has fewer rows.
+fn next_token(alloc: Global, journal: &Rows, used: u64) -> Result<(u64, Text), NoMemory>
+    ensures { IfOk result (λ found. found.1 ≡ fold_token found.0) }
+{
+    let mut number = used;
+    while number < u64::MAX {
+        number += 1;
+        let token = fold_token(alloc, number)?;
+        if is_free(journal, &token) {
+            return Ok((number, token));
+        }
+    }
+    Err(NoMemory)
+}
+
+// Notes what an order to fold of this number came to, and answers whether it came to an end. One that was refused leaves its
+// token to the next.
+fn note_answer<R: Ledger>(
+    kept: &mut NodeState<R>,
+    number: u64,
+    answer: Result<Ordered, OrderRefused>,
+) -> bool {
+    let (used, waits) = match answer {
+        Ok(_) => (number, None),
+        Err(why) => (number.saturating_sub(1), Some(why.refusal())),
+    };
+    kept.note_folds(OwnFolds { used, waits });
+    waits.is_none() || stays_refused(waits)
+}
+
+// The number of the next order's token, the token, and in whose name the order is made.
+fn signed<R: Ledger, Q: Ledger>(
+    alloc: Global,
+    desk: &Desk<'_, R, Q>,
+    kept: &NodeState<R>,
+) -> Result<(u64, Text, Text), NoMemory>
+    ensures token { IfOk result (λ signed. signed.1 ≡ fold_token signed.0) }
+    ensures who { IfOk result (λ signed. signed.2 ≡ (at_desk desk.now).me) }
+{
+    let (number, token) = next_token(alloc, kept.service().journal(), kept.folds().used)?;
+    let who = desk.setup.setting.me.text().copied(alloc)?;
+    Ok((number, token, who))
+}
+
+/// Orders that the entries up to and including the one of this number are folded, as the service behind the lock does by itself:
+/// by its own name, under the first token of `fold-1`, `fold-2` and so on that no order of it had. What comes of it is noted.
+/// Whether it came to an end: it was accepted, or refused as it would be again.
+#[tactic(auto, using(crate::proofs::FoldingLemmas::folds_made, crate::proofs::FoldingLemmas::folds_none))]
+pub fn fold_up_to<R: Ledger, Q: Ledger, W: Wait>(
+    rt: &W,
+    alloc: Global,
+    desk: &Desk<'_, R, Q>,
+    kept: &mut NodeState<R>,
+    pass: &mut Pass<Q>,
+    id: u64,
+    inputs: Inputs,
+) -> Result<bool, NoMemory>
+    ensures { FoldsOnce (at_desk desk.now).me pass.old.notes pass.new.notes pass.old.receipts.items pass.new.receipts.items }
+{
+    let (number, token, who) = signed(alloc, desk, kept)?;
+    let order = NodeEvent::Order {
+        command: Command::Fold(id),
+        token,
+        who,
+        inputs,
+    };
+    match ask_under_lock(rt, alloc, desk, kept, pass, order)? {
+        NodeDone::Order(answer) => Ok(note_answer(kept, number, answer)),
+        _ => Ok(false),
+    }
+}
+
+/// No fold waits, or one does since the entry of this number stands in the way.
+pub fn note_waiting<R: Ledger>(kept: &mut NodeState<R>, id: Option<u64>) {
+    let used = kept.folds().used;
+    let waits = match id {
+        None => None,
+        Some(number) => Some(Refusal {
+            word: RefusalWord::NotQuiet,
+            number,
+        }),
+    };
+    kept.note_folds(OwnFolds { used, waits });
+}
