@@ -28,7 +28,7 @@ use Rattle.node_run.specs.contracts.jobs.Requests as requests
 use Rattle.node_run.specs.contracts.shared.Shared as shared
 
 state_send : (R : RattleType) (g : Ghosts R.Denot) → IsSend (state.the_row R g)
-state_send R g = recorded_send (state.the_field R g).row _ _ (state.the_type R g).to_one (struct_send (shape (state.the_type R g)) (service_send, (share.the_send R g, (text.the_send, (search sendable, (search sendable, tt))))))
+state_send R g = recorded_send (state.the_field R g).row _ _ (state.the_type R g).to_one (struct_send (shape (state.the_type R g)) (service_send, (share.the_send R g, (text.the_send, (search sendable, (search sendable, (search (sendable, crosses) depth 10, tt)))))))
 
 node_sync : (R : RattleType) (g : Ghosts R.Denot) → IsSync (node.the_row R g)
 node_sync R g = recorded_sync (node.the_field R g).row _ _ (node.the_type R g).to_one (struct_sync (shape (node.the_type R g)) (name.the_sync, search (sendable, crosses, state_send, condvar.the_field_sync) depth 20))
@@ -36,8 +36,8 @@ node_sync R g = recorded_sync (node.the_field R g).row _ _ (node.the_type R g).t
 desk_sync : (κ : NamedLft) (R Q : RattleType) (g : Ghosts R.Denot) (g' : Ghosts Q.Denot) → IsSync (desk.the_row κ R Q g g')
 desk_sync κ R Q g g' = recorded_sync (desk.the_field κ R Q g g').row _ _ (desk.the_type κ R Q g g').to_one (struct_sync (shape (desk.the_type κ R Q g g')) (shr_sync _ _ _ (tally.the_sync R Q g g'), (shr_sync _ _ _ (node_sync R g), (shr_sync _ _ _ setup_sync, (by_name.the_sync _ text.the_sync, (by_name.the_sync _ text.the_sync, tt))))))
 
-pub repairs_send : (κ : NamedLft) (R Q W : RattleType) (g : Ghosts R.Denot) (g' : Ghosts Q.Denot) → IsSync W → IsSend (repairs.the_row κ R Q W g g')
-repairs_send κ R Q W g g' w = recorded_send (repairs.the_field κ R Q W g g').row _ _ (repairs.the_type κ R Q W g g').to_one (struct_send (shape (repairs.the_type κ R Q W g g')) (shr_send _ _ _ w, (heap.the_field_send, (shr_send _ _ _ (desk_sync κ R Q g g'), (pass.the_field_send Q g', tt)))))
+pub repairs_send : (κ : NamedLft) (R Q W D : RattleType) (g : Ghosts R.Denot) (g' : Ghosts Q.Denot) → IsSync W → IsSync D → IsSend (repairs.the_row κ R Q W D g g')
+repairs_send κ R Q W D g g' w d = recorded_send (repairs.the_field κ R Q W D g g').row _ _ (repairs.the_type κ R Q W D g g').to_one (struct_send (shape (repairs.the_type κ R Q W D g g')) (shr_send _ _ _ w, (heap.the_field_send, (shr_send _ _ _ (desk_sync κ R Q g g'), (shr_send _ _ _ d, (pass.the_field_send Q g', tt))))))
 
 pub posts_send : (κ : NamedLft) (R Q W L : RattleType) (g : Ghosts R.Denot) (g' : Ghosts Q.Denot) → IsSync W → IsSend L → IsSend (posts.the_row κ R Q W L g g')
 posts_send κ R Q W L g g' w l = recorded_send (posts.the_field κ R Q W L g g').row _ _ (posts.the_type κ R Q W L g g').to_one (struct_send (shape (posts.the_type κ R Q W L g g')) (shr_send _ _ _ w, (heap.the_field_send, (shr_send _ _ _ (desk_sync κ R Q g g'), (l, (pass.the_field_send Q g', tt))))))

@@ -14,7 +14,7 @@ use Rattle.call_registers.specs.declared.register.Answer.{Answer}
 use Rattle.call_registers.specs.declared.register.Register.{Register}
 use Rattle.service_events.specs.Commits.{live_rows}
 use Rattle.service_events.specs.Progress.{GoesFurther, IsLocalStep}
-use Rattle.service_events.specs.State.{After, Kept, after, answers, base}
+use Rattle.service_events.specs.State.{After, Kept, after, answers, base, unfolded}
 use Rattle.service_events.specs.Steps.{Stale, answer_rows, new_record, sent_rows, stale_in, step_by, step_event}
 use Rattle.service_events.proofs.SearchLemmas.{none_mid, splits}
 use Rattle.node_core.proofs.OrderRowLaws.{step_orders_none}
@@ -45,9 +45,9 @@ goes_by s (Some x) silent unordered =
     let m = new_record s x.rows x.entry in
     record { name = refl; rows = sent_rows s x.entry m ++ answer_rows x.entry m; is = refl; silent = silent; unordered = unordered }
 
-many_by : (s t : Kept) (stepped : Stepped) → IsLocalStep s stepped t → length t.entries ≡ length s.entries
+many_by : (s t : Kept) (stepped : Stepped) → IsLocalStep s stepped t → length (unfolded t) ≡ length (unfolded s)
 many_by s t Idle local = ap length local.1
-many_by s t (Ran id answered) local = ap length local.rest ∙ length-set s.entries local.place local.entry
+many_by s t (Ran id answered) local = ap length local.rest ∙ length-set (unfolded s) local.place local.entry
 
 idle_by : (s : Kept) (o : Option Stale) → (step_by s o).answer ≡ Idle → (step_by s o).service ≡ s
 idle_by s None h = refl
@@ -57,7 +57,7 @@ idle_rests : (s t : Kept) (stepped : Stepped) → after t stepped ≡ step_event
 idle_rests s t Idle is local none =
     let first : t ≡ (step_event s).service = ap (λ (a : After Stepped). a.service) is in
     let idle : (step_event s).answer ≡ Idle = sym (ap (λ (a : After Stepped). a.answer) is) in
-    subst IsAtRest (sym (first ∙ idle_by s (stale_in (answers s) (base s) s.entries) idle)) local.0
+    subst IsAtRest (sym (first ∙ idle_by s (stale_in (answers s) (base s) (unfolded s)) idle)) local.0
 idle_rests s t (Ran id answered) is local none = cc
 
 -- what a repair step says of itself
@@ -67,7 +67,7 @@ has_stepped s t stepped ran is local further silent told =
     let first : t ≡ (step_event s).service = ap (λ (a : After Stepped). a.service) is in
     let L : Kept → Type 0 = λ k. live_rows k.journal ≡ live_rows s.journal in
     record {
-      goes = subst (GoesOnFrom s) (sym first) (goes_by s (stale_in (answers s) (base s) s.entries) (subst L first silent) (step_orders_none s));
+      goes = subst (GoesOnFrom s) (sym first) (goes_by s (stale_in (answers s) (base s) (unfolded s)) (subst L first silent) (step_orders_none s));
       many = many_by s t stepped local;
       further = further;
       idle = λ none. idle_rests s t stepped is local (sym told ∙ none);
@@ -79,14 +79,14 @@ has_stepped s t stepped ran is local further silent told =
 pub record IsAhead (now : Kept) (left : ℕ) : Type 0 where
   pub timely : IsTimely now.registers
   pub far : ℕ
-  pub current : AllCurrent (answers now) (base now) (take far now.entries)
-  pub sum : left + far ≡ length now.entries
+  pub current : AllCurrent (answers now) (base now) (take far (unfolded now))
+  pub sum : left + far ≡ length (unfolded now)
 
 pub record Going (start now : Kept) (left : ℕ) : Type 0 where
   pub goes : GoesOnFrom start now
   pub ahead : IsTimely start.registers → IsAhead now left
 
-pub going_none : (s : Kept) → Going s s (length s.entries)
+pub going_none : (s : Kept) → Going s s (length (unfolded s))
 going_none s = record {
   goes = goes_none s;
   ahead = λ timely. record { timely = timely; far = 0; current = tt; sum = omega arith };
@@ -101,8 +101,8 @@ ahead_by now next left true some step a = record {
 }
 ahead_by now next left false some step a = record {
   timely = (step.further a.timely).timely;
-  far = length next.entries;
-  current = subst (AllCurrent (answers next) (base next)) (sym (take-length next.entries)) (step.idle refl);
+  far = length (unfolded next);
+  current = subst (AllCurrent (answers next) (base next)) (sym (take-length (unfolded next))) (step.idle refl);
   sum = omega arith;
 }
 
@@ -117,8 +117,8 @@ going_done start now left none g = record {
   goes = g.goes;
   timely = λ timely. (g.ahead timely).timely;
   rests = λ timely. (let a = g.ahead timely in
-      let all : a.far ≡ length now.entries = (let whole = a.sum in omega (arith, whole, none)) in
-      subst (AllCurrent (answers now) (base now)) (ap (λ n. take n now.entries) all ∙ take-length now.entries) a.current);
+      let all : a.far ≡ length (unfolded now) = (let whole = a.sum in omega (arith, whole, none)) in
+      subst (AllCurrent (answers now) (base now)) (ap (λ n. take n (unfolded now)) all ∙ take-length (unfolded now)) a.current);
 }
 
 -- ---- whether a service is timely

@@ -7,12 +7,12 @@ use Rattle.call_registers.specs.declared.register.Answer.{Answer}
 use Rattle.call_registers.specs.declared.register.Register.{Register}
 use Rattle.local_repair.specs.Current.{AllCurrent}
 use Rattle.service_events.specs.Commits.{live_rows}
-use Rattle.service_events.specs.State.{Kept, answers, base, me}
+use Rattle.service_events.specs.State.{Kept, answers, base, me, unfolded}
 use Rattle.node_core.specs.Orders.{ordered_rows}
 
--- no entry of it is stale
+-- no entry of it is stale; folded ones never are
 abbrev pub IsAtRest : Kept → Type 0
-IsAtRest s = AllCurrent (answers s) (base s) s.entries
+IsAtRest s = AllCurrent (answers s) (base s) (unfolded s)
 
 -- a call holds an answer to a later version of it than its own
 abbrev pub is_early : Register → Bool

@@ -2,7 +2,7 @@
 ghost use Rattle.io_links.specs.Connections.{GivesNew, IsNew};
 ghost use Rattle.io_links.specs.Exchanges.{Exchanges};
 ghost use Rattle.node_workers.specs.Desks.{at_desk};
-ghost use Rattle.node_run.specs.Repairing.{StepsAlone, StepsOnce};
+ghost use Rattle.node_run.specs.Repairing.{FoldsOrRests, RepairsAlone, RepairsOnce, StepsOnce};
 ghost use Rattle.node_run.specs.Turns.{Turns};
 ghost use Rattle.node_run.specs.Workers.{standing, PostsOrRests, ServesNext};
 
@@ -15,7 +15,7 @@ use io_links::{Accepted, Ear, Gate, Job, Link};
 use lang_core::{Name, NoMemory};
 use local_repair::Stepped;
 use node_core::{NodeDone, NodeEvent, NodeState, Pass, event};
-use node_workers::{Desk, PostedOne, post_one};
+use node_workers::{Desk, FoldDue, PostedOne, fold_due, fold_up_to, note_waiting, post_one};
 use service_events::Posted;
 use std::alloc::Global;
 use std::sync::Wait;
@@ -104,12 +104,14 @@ impl<
     }
 }
 
-/// Repairs one service until its node is to stop.
+/// Repairs one service until its node is to stop, and folds its first entries where it keeps no more than so many.
 #[derive(Drop)]
-pub struct Repairs<'a, R: Ledger, Q: Ledger, W> {
+pub struct Repairs<'a, R: Ledger, Q: Ledger, W, D> {
     pub rt: &'a W,
     pub alloc: Global,
     pub desk: &'a Desk<'a, R, Q>,
+    /// Where inputs are drawn.
+    pub drawing: &'a D,
     pub pass: Pass<Q>,
 }
 
@@ -130,53 +132,106 @@ fn step_under_lock<R: Ledger, Q: Ledger, W: Wait>(
     }
 }
 
-// Takes a repair step, in one hold of the lock.
-fn step<R: Ledger, Q: Ledger, W: Wait>(
+// Folds at a service under the lock, if a fold is due there; whether it came to an end. Else memory was wanting for it, and it is
+// to be tried again.
+#[tactic(auto, using(crate::proofs::TurnLemmas::folded_once, crate::proofs::TurnLemmas::folded_none))]
+fn fold_under_lock<R: Ledger, Q: Ledger, W: Wait, D: Draw>(
     rt: &W,
     alloc: Global,
     desk: &Desk<'_, R, Q>,
+    drawing: &D,
+    kept: &mut NodeState<R>,
     pass: &mut Pass<Q>,
-) -> Result<Stepped, NoMemory>
-    ensures steps { StepsOnce pass.old.notes pass.new.notes }
+) -> bool
+    ensures folds { FoldsOrRests (at_desk desk.now).me pass.old.notes pass.new.notes }
 {
-    let mut state = desk.node.state.lock(rt);
-    step_under_lock(rt, alloc, desk, &mut *state, pass)
+    match fold_due(kept, desk.setup.keep) {
+        FoldDue::Nothing => note_waiting(kept, None),
+        FoldDue::Refused => (),
+        FoldDue::Waits(id) => note_waiting(kept, Some(id)),
+        FoldDue::UpTo(id) => {
+            let ended = fold_up_to(rt, alloc, desk, kept, pass, id, drawing.inputs(rt));
+            return ended.unwrap_or(false);
+        }
+    }
+    true
 }
 
-// Takes a repair step, and rests where none is to be taken.
-fn repair<R: Ledger, Q: Ledger, W: Wait + Clock>(
+// Takes a repair step at a service under the lock, and folds where none is to be taken.
+#[tactic(auto, using(crate::proofs::TurnLemmas::repaired_once, crate::proofs::TurnLemmas::repaired_alone))]
+fn repair_under_lock<R: Ledger, Q: Ledger, W: Wait, D: Draw>(
     rt: &W,
     alloc: Global,
     desk: &Desk<'_, R, Q>,
+    drawing: &D,
+    kept: &mut NodeState<R>,
+    pass: &mut Pass<Q>,
+) -> Result<Stepped, NoMemory>
+    ensures repairs { RepairsOnce (at_desk desk.now).me pass.old.notes pass.new.notes }
+{
+    let stepped = step_under_lock(rt, alloc, desk, kept, pass)?;
+    match stepped {
+        Stepped::Ran { .. } => Ok(stepped),
+        Stepped::Idle if fold_under_lock(rt, alloc, desk, drawing, kept, pass) => Ok(stepped),
+        Stepped::Idle => Err(NoMemory),
+    }
+}
+
+// Takes a repair step or folds, in one hold of the lock.
+fn turn<R: Ledger, Q: Ledger, W: Wait, D: Draw>(
+    rt: &W,
+    alloc: Global,
+    desk: &Desk<'_, R, Q>,
+    drawing: &D,
+    pass: &mut Pass<Q>,
+) -> Result<Stepped, NoMemory>
+    ensures repairs { RepairsOnce (at_desk desk.now).me pass.old.notes pass.new.notes }
+{
+    let mut state = desk.node.state.lock(rt);
+    repair_under_lock(rt, alloc, desk, drawing, &mut *state, pass)
+}
+
+// Takes a turn, and rests where no repair step is to be taken.
+fn repair<R: Ledger, Q: Ledger, W: Wait + Clock, D: Draw>(
+    rt: &W,
+    alloc: Global,
+    desk: &Desk<'_, R, Q>,
+    drawing: &D,
     pass: &mut Pass<Q>,
 )
-    ensures steps { StepsOnce pass.old.notes pass.new.notes }
+    ensures repairs { RepairsOnce (at_desk desk.now).me pass.old.notes pass.new.notes }
 {
-    match step(rt, alloc, desk, pass) {
+    match turn(rt, alloc, desk, drawing, pass) {
         Ok(Stepped::Ran { .. }) => desk.node.work.notify_all(),
-        Ok(Stepped::Idle) => rest_from_repair(rt, desk.node),
+        Ok(Stepped::Idle) => rest_from_repair(rt, desk.node, desk.setup.keep),
         Err(_) => pause(rt, desk.node),
     }
 }
 
-impl<'a, R: Ledger + Send + Sync, Q: Ledger + Send + Sync, W: Wait + Clock + Sync> Job
-    for Repairs<'a, R, Q, W> {
+impl<
+    'a,
+    R: Ledger + Send + Sync,
+    Q: Ledger + Send + Sync,
+    W: Wait + Clock + Sync,
+    D: Draw + Sync,
+> Job for Repairs<'a, R, Q, W, D> {
     type Out = Pass<Q>;
 
     fn run(self) -> Pass<Q>
-        ensures steps { StepsAlone self.entry.pass.notes result.notes }
+        ensures repairs { RepairsAlone (at_desk self.entry.desk.now).me self.entry.pass.notes result.notes }
     {
         let Repairs {
             rt,
             alloc,
             desk,
+            drawing,
             mut pass,
         } = self;
         for _turn in rt.forever() {
             if is_stopped(rt, desk.node) {
                 return pass;
             }
-            repair(rt, alloc, desk, &mut pass);
+            repair(rt, alloc, desk, drawing, &mut pass);
         }
         unreachable!()
     }

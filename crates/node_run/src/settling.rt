@@ -28,7 +28,7 @@ fn step(alloc: Global, service: &mut Service) -> Result<bool, NoMemory>
     Ok(has_run(stepped))
 }
 
-// Repair steps until one is idle, at most as many as there are entries.
+// Repair steps until one is idle, at most as many as there are entries that aren't folded.
 fn step_until_idle(alloc: Global, service: &mut Service) -> Result<(), NoMemory>
     ensures { OnOk result (ComesToRest service.old service.new) }
 {

@@ -91,6 +91,7 @@ fn start_others<
     Q: Ledger + Send + Sync + 'scope,
     W: Threads + Wait + Clock + Sync + 'scope,
     L: Link + Send + 'scope,
+    D: Draw + Sync + 'scope,
     P: Spawner,
 >(
     rt: &'scope W,
@@ -98,6 +99,7 @@ fn start_others<
     scope: &'scope Scope<'scope, &'env ()>,
     spawner: &mut P,
     desk: &'scope Desk<'scope, R, Q>,
+    drawing: &'scope D,
     links: &L,
     passes: &mut Vec<Pass<Q>>,
     tickets: &mut Vec<Ticket<'scope, Pass<Q>>>,
@@ -112,6 +114,7 @@ fn start_others<
             rt,
             alloc,
             desk,
+            drawing,
             pass,
         };
         start(scope, spawner, job, tickets)?;
@@ -164,7 +167,17 @@ pub fn start_all<
         start_requests(
             rt, alloc, scope, spawner, shared, desk, ear, links, passes, tickets,
         )?;
-        start_others(rt, alloc, scope, spawner, desk, links, passes, tickets)?;
+        start_others(
+            rt,
+            alloc,
+            scope,
+            spawner,
+            desk,
+            shared.drawing,
+            links,
+            passes,
+            tickets,
+        )?;
     }
     Ok(())
 }
