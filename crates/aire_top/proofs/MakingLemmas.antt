@@ -1,7 +1,11 @@
 -- What a script that is made comes to, step by step.
-use Rattle.std.proofs.Common.{◌≡◌, ◌⊎◌, ℕ, ◌+◌, ◌<◌, List, take, length, get_or, Some, None, inl, inr, ap, sym, subst, ◌∙◌}
+use Rattle.std.proofs.Common.{◌≡◌, ◌⊎◌, ℕ, ◌+◌, ◌<◌, List, map, take, length, get_or, Some, None, inl, inr, ap, sym, subst, ◌∙◌, arith, length-append}
+use Rattle.std.proofs.lemmas.List.{length-map}
 use Rattle.std.proofs.lemmas.List.Sums.{sum_by_more}
 use Rattle.io_edge.specs.Edge.{Writes}
+use Rattle.request_log.specs.Folded.{as_entry, whole}
+use Rattle.request_log.specs.declared.entry.Entry.{Entry}
+use Rattle.request_log.specs.declared.folded.Folded.{Folded}
 use Rattle.service_events.specs.State.{Kept}
 use Rattle.world_events.specs.Worlds.{World}
 use Rattle.script_run.specs.Counting.{capped}
@@ -16,11 +20,24 @@ use Rattle.aire_top.specs.Making.{Prints, ScriptTold, counts_of, entries_of, mad
 abbrev entries_in : Kept → ℕ
 entries_in s = length s.entries
 
+-- the folded ones and the others are all
+pub in_both : (folded : List Folded) (entries : List Entry) (all : List Entry) → whole folded entries ≡ all → capped (length folded + length entries) ≡ capped (length all)
+in_both folded entries all is =
+    ap capped (sym (length-append (map as_entry folded) entries ∙ ap (λ n. n + length entries) (length-map as_entry folded)) ∙ ap length is)
+
+-- what is capped once more is capped
+capped_both : (a b : ℕ) → capped (a + capped b) ≡ capped (a + b)
+capped_both a b =
+    let flip : a + capped b ≡ capped b + a = omega arith in
+    let back : b + a ≡ a + b = omega arith in
+    ap capped flip ∙ capped_more b a ∙ ap capped back
+
 -- with the entries of one service more
-pub one_service : (services : List Kept) (i : ℕ) (s : Kept) (so now : ℕ) → i < length services → so ≡ capped (entries_of (take i services)) → now ≡ capped (so + length (get_or services i s).entries)
+pub one_service : (services : List Kept) (i : ℕ) (s : Kept) (so now : ℕ) → i < length services → so ≡ capped (entries_of (take i services)) → now ≡ capped (so + capped (length (get_or services i s).entries))
     → now ≡ capped (entries_of (take (i + 1) services))
 one_service services i s so now inside is added =
-    added ∙ ap (λ (n : ℕ). capped (n + length (get_or services i s).entries)) is
+    added ∙ ap (λ (n : ℕ). capped (n + capped (length (get_or services i s).entries))) is
+    ∙ capped_both (capped (entries_of (take i services))) (length (get_or services i s).entries)
     ∙ capped_more (entries_of (take i services)) (length (get_or services i s).entries)
     ∙ ap capped (sym (sum_by_more entries_in services i s inside))
 

@@ -1,5 +1,5 @@
 // A script that is made of a number, and its run.
-ghost use Rattle.std.specs.Prelude.{◌≡◌, ◌⊎◌, ◌++◌, ◌≤◌, Some, IfOk, IsSome, OnOk, codes, map, option_map, string_bytes};
+ghost use Rattle.std.specs.Prelude.{◌≡◌, ◌⊎◌, ◌++◌, ◌≤◌, Some, IfOk, IsSome, OnOk, codes, length, map, option_map, string_bytes};
 ghost use Rattle.script_run.specs.Counting.{capped};
 ghost use Rattle.script_run.specs.Plays.{audit_text};
 ghost use Rattle.world_agreement.specs.Partners.{IsJoined};
@@ -39,13 +39,22 @@ impl Sink for Nowhere {
     }
 }
 
+// How many entries a service has, folded ones among them, as far as 64 bits count.
+#[tactic(auto, using(crate::proofs::MakingLemmas::in_both))]
+fn entries_in(service: &Service) -> u64
+    ensures { result ≡ capped (length service.now.entries) }
+{
+    let log = service.entries();
+    log.folded().len().saturating_add(log.len())
+}
+
 // How many entries services have, as far as 64 bits count.
 fn entries_of(services: &[Service]) -> u64
     ensures { result ≡ capped (entries_of services.now) }
 {
     let mut entries: u64 = 0;
     for service in services {
-        entries = entries.saturating_add(service.entries().len());
+        entries = entries.saturating_add(entries_in(service));
     }
     entries
 }
