@@ -49,6 +49,7 @@ pub mod StepLaws
 pub mod PlainLaws
 pub mod MessageLaws
 pub mod OrderLaws
+pub mod OrderSettings
 pub mod BehindLemmas
 pub mod BehindLaws
 pub mod LiveBehind
