@@ -232,7 +232,7 @@ module _ (orders : List Row) where
   version_taken_has s set i None h =
       cond_both (is_known s set) (after (acked_again s set) (Ok (taken set None))) (take_new s set i) (λ a. Has a.service)
       (λ _. by_rows s (acked_again s set) (acked_row set ∷ []) refl (tt, tt) h)
-      (λ _. take_either s set i (λ a. Has a.service) h (taken_has s set i _ set.desired h))
+      (λ _. take_either s set i (λ a. Has a.service) (λ _. h) h (λ _. taken_has s set i _ set.desired h))
 
   -- a token
   heard_has : (s : Kept) (a : TokenMessage) (r : Register) (known new : Bool) → Has s
@@ -240,7 +240,7 @@ module _ (orders : List Row) where
   heard_has s a r false new h = h
   heard_has s a r true true h =
       let rows = noted_row (hear_rule s a r) a ∷ (confirmed_row a ∷ []) in
-      hear_either s a r (λ a. Has a.service) h (by_rows s (noted rows s) rows refl (tt, (tt, tt)) h)
+      hear_either s a r (λ a. Has a.service) h h (λ _. by_rows s (noted rows s) rows refl (tt, (tt, tt)) h)
   heard_has s a r true false h = by_rows s (noted (confirmed_row a ∷ []) s) (confirmed_row a ∷ []) refl (tt, tt) h
 
   token_has : (s : Kept) (a : TokenMessage) (o : Option Register) → Has s → Has (token_taken_where s a o).service
