@@ -16,7 +16,7 @@ use Rattle.service_events.specs.declared.event.Done.TheVariants as done
 use Rattle.service_events.specs.declared.event.Event.{Event as NodeEvent}
 use Rattle.service_events.specs.declared.event.Event.TheVariants as events
 use Rattle.service_events.specs.declared.refusals.OrderRefused.{OrderRefused}
-use Rattle.service_events.proofs.EventLaws.{event_goes}
+use Rattle.service_events.proofs.OrderSettings.{order_setting}
 use Rattle.admin_console.specs.Answers.{MakesOrder}
 use Rattle.node_core.specs.Doings.{HasReceipts, IsDone}
 use Rattle.node_core.specs.Notes.{noted_at}
@@ -77,4 +77,4 @@ module _ (command : Command) (token who : List ℕ) (i : Inputs) where
         by : (lacking : Bool) → Unless lacking (after t answer ≡ order_event s command token who i) (t ≡ s) → me t ≡ me s
         by true same = ap (λ (k : Kept). me k) same
         by false is =
-            ap (λ (a : After (Result Ordered OrderRefused)). me a.service) is ∙ ap (λ (x : Setting). x.me) (event_goes s Order tt).grows.setting
+            ap (λ (a : After (Result Ordered OrderRefused)). me a.service) is ∙ ap (λ (x : Setting). x.me) (order_setting s command token who i)

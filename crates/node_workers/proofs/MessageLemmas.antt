@@ -8,20 +8,22 @@ use Rattle.repair_messages.specs.declared.messages.SetMessage.{SetMessage}
 use Rattle.repair_messages.specs.declared.messages.TokenMessage.{TokenMessage}
 use Rattle.journal_rows.specs.Words.{given_at}
 use Rattle.journal_rows.specs.declared.callee.AnsweredRow.{AnsweredRow}
+use Rattle.request_log.specs.Entries.{find_call}
+use Rattle.request_log.specs.declared.entry.Entry.{Entry}
 use Rattle.journal_rows.specs.declared.orders.Command.{Command}
 use Rattle.call_registers.specs.Registers.{is_news, register}
 use Rattle.call_registers.specs.declared.register.Register.{Register}
 use Rattle.service_events.specs.Calls.{noted}
-use Rattle.service_events.specs.Messages.{ack_of, acked_again, confirm_of, confirmed_row, give_event, given_where, hear_allowed, hear_decision, hear_denied, hear_new, heard, is_known, is_too_much, origin_of, take_admitted, take_allowed, take_decision, take_denied, take_event, take_new, take_token_event, taken, token_taken_where}
+use Rattle.service_events.specs.Messages.{ack_of, acked_again, confirm_of, confirmed_row, give_event, given_where, hear_allowed, hear_decision, hear_denied, hear_new, heard, is_known, is_past_call, is_too_much, origin_of, take_admitted, take_allowed, take_decision, take_denied, take_event, take_new, take_token_event, take_unless_past, taken, token_taken_where}
 use Rattle.service_events.specs.Questions.{is_denied}
-use Rattle.service_events.specs.State.{After, Kept, after, is_in_flight, me}
+use Rattle.service_events.specs.State.{After, Kept, after, folded, is_in_flight, me}
 use Rattle.service_events.specs.declared.answers.Heard.{Heard}
 use Rattle.service_events.specs.declared.answers.Ordered.{Ordered}
 use Rattle.service_events.specs.declared.answers.Taken.{Taken}
 use Rattle.service_events.specs.declared.event.Done.TheVariants as done
 use Rattle.service_events.specs.declared.event.Event.TheVariants as events
 use Rattle.service_events.specs.declared.refusals.AnswerRefused.{AnswerRefused}
-use Rattle.service_events.specs.declared.refusals.AnswerRefused.TheVariants.{Unknown}
+use Rattle.service_events.specs.declared.refusals.AnswerRefused.TheVariants.{Unknown, TooOld}
 use Rattle.service_events.specs.declared.refusals.GiveRefused.{GiveRefused}
 use Rattle.service_events.specs.declared.refusals.OrderRefused.{OrderRefused}
 use Rattle.service_events.specs.declared.refusals.TakeRefused.{TakeRefused}
@@ -38,13 +40,17 @@ module _ (s : Kept) (set : SetMessage) (i : Inputs) where
   abbrev Acks : After (Result Taken TakeRefused) → Type 0
   Acks a = IfOk a.answer (λ (t : Taken). t.ack ≡ ack_of set)
 
-  new_acks : (b : Bool) → Acks (if b then take_denied s set else take_allowed s set i)
-  new_acks true = tt
-  new_acks false = refl
+  asked_acks : (b : Bool) → Acks (if b then take_denied s set else take_allowed s set i)
+  asked_acks true = tt
+  asked_acks false = refl
+
+  new_acks : (past : Option Entry) → Acks (take_unless_past s set i past)
+  new_acks (Some e) = tt
+  new_acks None = asked_acks (is_denied (take_decision s set))
 
   known_acks : (b : Bool) → Acks (if b then after (acked_again s set) (Ok (taken set None)) else take_new s set i)
   known_acks true = refl
-  known_acks false = new_acks (is_denied (take_decision s set))
+  known_acks false = new_acks (find_call (origin_of set) (folded s))
 
   admitted_acks : (much : Option ℕ) → Acks (take_admitted s set i much)
   admitted_acks (Some n) = tt
@@ -83,12 +89,16 @@ module _ (s : Kept) (a : TokenMessage) where
   Confirms x = IfOk x.answer (λ (h : Heard). h.confirm ≡ confirm_of a)
 
   module _ (r : Register) where
-    new_confirms : (b : Bool) → Confirms (if b then hear_denied s a r else hear_allowed s a r)
+    asked_confirms : (b : Bool) → Confirms (if b then hear_denied s a r else hear_allowed s a r)
+    asked_confirms true = tt
+    asked_confirms false = refl
+
+    new_confirms : (b : Bool) → Confirms (if b then after s (Err (TooOld a.number)) else (if is_denied (hear_decision s a r) then hear_denied s a r else hear_allowed s a r))
     new_confirms true = tt
-    new_confirms false = refl
+    new_confirms false = asked_confirms (is_denied (hear_decision s a r))
 
     newer_confirms : (b : Bool) → Confirms (if b then hear_new s a r else after (noted (confirmed_row a ∷ []) s) (Ok (heard a None)))
-    newer_confirms true = new_confirms (is_denied (hear_decision s a r))
+    newer_confirms true = new_confirms (is_past_call a.number s)
     newer_confirms false = refl
 
     other_confirms : (b : Bool)
