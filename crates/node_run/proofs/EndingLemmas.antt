@@ -1,6 +1,5 @@
 -- From services that are brought to rest to what a run comes to.
 use Rattle.std.proofs.Common.{◌≡◌, ℕ, ◌<◌, List, [], ◌∷◌, All, IfOk, Result, Ok, Err, length, map, refl, sym, ap, ◌∙◌, subst, arith}
-use Rattle.std.specs.Prelude.{None}
 use Rattle.std.specs.List.{IsDistinct}
 use Rattle.std.specs.Cmp.Lexicographic.{bytes_decides}
 use Rattle.std.proofs.lemmas.List.{get_or-map, length-map}
@@ -12,7 +11,7 @@ use Rattle.lang_base.specs.declared.memory.NoMemory.{NoMemory}
 use Rattle.call_registers.specs.Registers.{IsTimely}
 use Rattle.service_events.specs.Fits.{Fits}
 use Rattle.service_events.specs.State.{Kept, me}
-use Rattle.service_core.proofs.ReplayLemmas.{replayed}
+use Rattle.world_agreement.proofs.HandedOn.{recorded as as_recorded}
 use Rattle.world_agreement.specs.Partners.{NamesDiffer}
 use Rattle.world_file.specs.Worlds.{name_of}
 use Rattle.world_file.specs.declared.setup.Setup.{Setup}
@@ -66,7 +65,7 @@ all_replayed [] (t ∷ ts) settled fits = absurd settled
 all_replayed (s ∷ ss) [] settled fits = absurd settled
 all_replayed (s ∷ ss) (t ∷ ts) settled fits =
     let one : TimelyIsReplayed t = λ timely. (let rests = settled.0.rests timely in
-    record { rests = rests; recorded = replayed t (All-head Fits t ts fits) None rests }) in
+    record { rests = rests; recorded = as_recorded t (All-head Fits t ts fits) rests }) in
     All-cons TimelyIsReplayed t ts one (all_replayed ss ts settled.1 (All-tail Fits t ts fits))
 
 -- ---- the end of a run
