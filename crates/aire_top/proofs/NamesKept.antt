@@ -10,8 +10,7 @@ use Rattle.repair_messages.specs.declared.messages.SetMessage.{SetMessage}
 use Rattle.journal_rows.specs.declared.orders.Command.{Command}
 use Rattle.call_registers.specs.declared.register.Why.TheVariants.{Refused as WasRefused}
 use Rattle.service_events.specs.State.{Kept, me}
-use Rattle.service_events.specs.declared.event.Event.TheVariants as service_event
-use Rattle.service_events.proofs.EventLaws.{event_goes}
+use Rattle.service_events.proofs.OrderSettings.{order_setting}
 use Rattle.world_agreement.specs.Partners.{has_name, service_of}
 use Rattle.world_events.specs.Ends.{IsThere}
 use Rattle.world_events.specs.Events.{Served, after_event, after_events, answer_to, arrive_served, call_answered_served, call_arrive_served, call_delivered, call_failed_served, delivered, if_there, order_served, refused, reply_delivered, turn, turn_at, turned}
@@ -63,7 +62,7 @@ begun_names w name q = turn_names w (once_drawn w) name (λ s. arrive_served w.p
 pub ordered_names : (w : World) (name : List ℕ) (command : Command) (token who : List ℕ) → KeepsNames w (after_event w (Order name command token who))
 unfolding turn
 ordered_names w name command token who =
-    turn_names w (once_drawn w) name (λ s. order_served command token who s (next_inputs w)) refl (λ s. (event_goes s (service_event.Order command token who (next_inputs w)) tt).grows.setting)
+    turn_names w (once_drawn w) name (λ s. order_served command token who s (next_inputs w)) refl (λ s. order_setting s command token who (next_inputs w))
 
 call_names : (w : World) (number flight : ℕ) (set : SetMessage) (o : Option Request) → KeepsNames w (call_delivered w number flight set o).world
 call_names w number flight set None = refl
