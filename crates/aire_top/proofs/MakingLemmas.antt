@@ -3,10 +3,10 @@ use Rattle.std.proofs.Common.{◌≡◌, ◌⊎◌, ℕ, ◌+◌, ◌<◌, List,
 use Rattle.std.proofs.lemmas.List.{length-map}
 use Rattle.std.proofs.lemmas.List.Sums.{sum_by_more}
 use Rattle.io_edge.specs.Edge.{Writes}
-use Rattle.request_log.specs.Folded.{as_entry, whole}
+use Rattle.request_log.specs.Folded.{as_entry}
 use Rattle.request_log.specs.declared.entry.Entry.{Entry}
 use Rattle.request_log.specs.declared.folded.Folded.{Folded}
-use Rattle.service_events.specs.State.{Kept}
+use Rattle.service_events.specs.State.{Kept, folded, unfolded}
 use Rattle.world_events.specs.Worlds.{World}
 use Rattle.script_run.specs.Counting.{capped}
 use Rattle.script_run.specs.Stops.{AreCountsOf, DoesAll}
@@ -21,9 +21,14 @@ abbrev entries_in : Kept → ℕ
 entries_in s = length s.entries
 
 -- the folded ones and the others are all
-pub in_both : (folded : List Folded) (entries : List Entry) (all : List Entry) → whole folded entries ≡ all → capped (length folded + length entries) ≡ capped (length all)
-in_both folded entries all is =
-    ap capped (sym (length-append (map as_entry folded) entries ∙ ap (λ n. n + length entries) (length-map as_entry folded)) ∙ ap length is)
+pub in_both : (s : Kept) (past : List Folded) (others : List Entry) → map as_entry past ≡ folded s → others ≡ unfolded s
+    → capped (length past + length others) ≡ capped (length s.entries)
+in_both s past others first behind =
+    let before : length past ≡ length (folded s) = sym (length-map past as_entry) ∙ ap length first in
+    let many = ap length behind in
+    let all : length (folded s) + length (unfolded s) ≡ length s.entries =
+    sym (length-append (folded s) (unfolded s)) ∙ ap length (take-drop s.horizon s.entries) in
+    ap capped (omega (arith, before, many, all))
 
 -- what is capped once more is capped
 capped_both : (a b : ℕ) → capped (a + capped b) ≡ capped (a + b)
