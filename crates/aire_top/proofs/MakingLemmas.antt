@@ -1,6 +1,6 @@
 -- What a script that is made comes to, step by step.
 use Rattle.std.proofs.Common.{◌≡◌, ◌⊎◌, ℕ, ◌+◌, ◌<◌, List, map, take, length, get_or, Some, None, inl, inr, ap, sym, subst, ◌∙◌, arith, length-append}
-use Rattle.std.proofs.lemmas.List.{length-map}
+use Rattle.std.proofs.lemmas.List.{length-map, take-append-drop}
 use Rattle.std.proofs.lemmas.List.Sums.{sum_by_more}
 use Rattle.io_edge.specs.Edge.{Writes}
 use Rattle.request_log.specs.Folded.{as_entry}
@@ -27,7 +27,7 @@ in_both s past others first behind =
     let before : length past ≡ length (folded s) = sym (length-map past as_entry) ∙ ap length first in
     let many = ap length behind in
     let all : length (folded s) + length (unfolded s) ≡ length s.entries =
-    sym (length-append (folded s) (unfolded s)) ∙ ap length (take-drop s.horizon s.entries) in
+    sym (length-append (folded s) (unfolded s)) ∙ ap length (take-append-drop s.horizon s.entries) in
     ap capped (omega (arith, before, many, all))
 
 -- what is capped once more is capped

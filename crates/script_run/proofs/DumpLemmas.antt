@@ -1,6 +1,6 @@
 -- What is written of calls: of the pairs of two lists, one after the other, and of the tentative answer; and of all entries.
 use Rattle.std.proofs.Common.{ℕ, ◌≡◌, ◌⊎◌, decimal, drop, inl, inr, List, [], ◌∷◌, ◌++◌, flat_map, take, refl, sym, ap, ◌∙◌}
-use Rattle.std.proofs.lemmas.List.{append-nil}
+use Rattle.std.proofs.lemmas.List.{append-nil, take-append-drop}
 use Rattle.std.proofs.lemmas.List.Concat.{flat_map-append}
 use Rattle.request_log.specs.declared.entry.Entry.{Entry}
 use Rattle.std.specs.List.{zip}
@@ -23,4 +23,4 @@ tentative_text = append-nil (decimal 504)
 
 -- what is written of the folded entries and then of the others is written of all entries
 pub all_lines : (f : Entry → List ℕ) (n : ℕ) (entries : List Entry) → flat_map f (take n entries) ++ flat_map f (drop n entries) ≡ flat_map f entries
-all_lines f n entries = sym (flat_map-append f (take n entries) (drop n entries)) ∙ ap (flat_map f) (take-drop n entries)
+all_lines f n entries = sym (flat_map-append f (take n entries) (drop n entries)) ∙ ap (flat_map f) (take-append-drop n entries)
