@@ -1,0 +1,80 @@
+#!/usr/bin/env bash
+# What a fold costs, and what it frees: of 80,000 requests to @notes the first 75,000 are folded. Then a million requests in one script, of which
+# all but the last thousand are folded as it goes. Where a service folds by itself is measured by a served world (`keep`), as requests come in.
+. "$(dirname "${BASH_SOURCE[0]}")/timing.sh"
+
+# Requests FROM to TO of one user, each of which puts a note over 5,000 keys or reads one.
+asks() { # FROM TO
+    awk -v from="$1" -v to="$2" 'BEGIN {
+        for (i = from; i <= to; i++) {
+            if (i % 2) printf "ask notes ann PUT /n/k%d value %d\n", i % 5000, i
+            else printf "ask notes ann GET /n/k%d\n", (i - 1) % 5000
+        }
+    }'
+}
+
+# Twenty repairs of the first request behind the line: it is cancelled and restored by turns, and settled.
+repairs() { # ID
+    local i order
+    for ((i = 1; i <= 20; i++)); do
+        order=cancel
+        if ((i % 2 == 0)); then order=restore; fi
+        echo "$order notes/$1 t$i root"
+        echo "settle 1"
+    done
+    echo "audit"
+}
+
+# The seconds of a script less those of another that it begins with.
+more_than() { # SCRIPT FRONT
+    less "$(least_seconds_of @notes "$1")" "$(least_seconds_of @notes "$2")"
+}
+
+asks 1 80000 >"$folder/asks"
+(cat "$folder/asks"; echo "fold notes/75000 f1 root") >"$folder/folded"
+echo "a fold of 75,000 of 80,000 requests: $(more_than "$folder/folded" "$folder/asks") s"
+
+# A service can take as many again behind the fold: without it the 100,001st would be refused.
+if [ -n "$timer" ]; then
+    (cat "$folder/folded"; asks 80001 155000) >"$folder/again"
+    echo "the most memory: $(peak_of "$folder/asks") KiB with 80,000, $(peak_of "$folder/again") KiB with 75,000 more behind the fold"
+fi
+
+# A request and an undo among 5,000, and among 5,000 behind 75,000 that are folded.
+asks 1 5000 >"$folder/few"
+(cat "$folder/few"; asks 5001 15000) >"$folder/few_more"
+(cat "$folder/folded"; asks 80001 90000) >"$folder/folded_more"
+few=$(more_than "$folder/few_more" "$folder/few")
+behind=$(more_than "$folder/folded_more" "$folder/folded")
+echo "10,000 requests among 5,000: $few s, behind the fold $behind s, ratio $(ratio "$behind" "$few")"
+(cat "$folder/few"; repairs 1) >"$folder/few_repaired"
+(cat "$folder/folded"; repairs 75001) >"$folder/folded_repaired"
+few=$(more_than "$folder/few_repaired" "$folder/few")
+behind=$(more_than "$folder/folded_repaired" "$folder/folded")
+[ "$(tail -n 1 "$folder/told")" = "legal" ]
+echo "twenty repairs among 5,000: $few s, behind the fold $behind s, ratio $(ratio "$behind" "$few")"
+
+# A script has at most 16 MB, so a million lines have to be short: a service and a user of one letter each.
+cat >"$folder/short.json" <<'END'
+{"services":[{"name":"n","program":"route GET \"/\" { reply 200 \"\"; }","rules":"allow any any any /","secret":"s","console":"c","door":"d","workers":1}]}
+END
+million() { # LINES, a fold after each 10,000 but for the last thousand
+    awk -v lines="$1" 'BEGIN {
+        for (i = 1; i <= lines; i++) {
+            print "ask n a GET /"
+            if (i % 10000 == 0) printf "fold n/%d f%d r\n", i - 1000, i / 10000
+        }
+    }'
+}
+peak_and_seconds_of() { # SCRIPT
+    local TIMEFORMAT='%U %S'
+    { time "$timer" -f %M -o "$folder/peak" "$program" run "$folder/short.json" "$1" >"$folder/told"; } 2>"$folder/took"
+    echo "$(cat "$folder/peak") KiB, $(awk '{ printf "%.2f", $1 + $2 }' "$folder/took") s"
+}
+if [ -n "$timer" ]; then
+    for lines in 250000 500000 1000000; do
+        million "$lines" >"$folder/script"
+        echo "$lines requests, folded as they come: $(peak_and_seconds_of "$folder/script")"
+        grep -q refused "$folder/told" && { echo "some were refused" >&2; exit 1; }
+    done
+fi
