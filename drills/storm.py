@@ -1,9 +1,10 @@
 #!/usr/bin/env python3
 """A storm over loopback: clients post questions to the three services of @posts, an operator cancels a tenth of them meanwhile, and
 connections between the services are cut at random (cut.c). Once the audit says legal, each cancelled question has to be dead and
-gone at both services that had it, and each other one alive and there; and in the end each answer has its receipt.
+gone at both services that had it, and each other one alive and there; and in the end each answer has its receipt. With KEEP each service
+folds by itself all but so many of its requests meanwhile; a cancellation that comes too late for that is refused, and its question stays.
 
-    drills/storm.py [PROGRAM [POSTS [CLIENTS [CUT_ONE_IN [SEED]]]]]
+    drills/storm.py [PROGRAM [POSTS [CLIENTS [CUT_ONE_IN [SEED [KEEP]]]]]]
 """
 import json
 import os
@@ -20,7 +21,7 @@ import time
 from served import PROGRAM, TOP, Served, exchange, request, told
 
 LEGAL_WITHIN = 300
-ENTRY = re.compile(r"^\w+/(\d+) v\d+ (alive|dead) r\d+ (\S+) \S+ (\S+) = (\S+)", re.M)
+ENTRY = re.compile(r"^\w+/(\d+) v\d+ (alive|dead|folded) r\d+ (\S+) \S+ (\S+) = (\S+)", re.M)
 
 
 def built_in(name):
@@ -29,10 +30,11 @@ def built_in(name):
         return re.search(rf'const {name.upper()}: &str =\s*r#"(.*?)"#;', file.read(), re.S)[1]
 
 
-def world():
+def world(keep):
     def service(name):
         rules = "allow any any any /\n"
-        return {"name": name, "program": built_in(name), "rules": rules, "secret": f"secret of {name}", "console": f"console of {name}", "workers": 8}
+        folds = {"keep": keep} if keep else {}
+        return {**folds, "name": name, "program": built_in(name), "rules": rules, "secret": f"secret of {name}", "console": f"console of {name}", "workers": 8}
 
     return {"services": [service(name) for name in ("oauth", "askbot", "dpaste")]}
 
@@ -55,6 +57,7 @@ class Storm:
         self.asked = {}  # by question: the number of its entry at askbot
         self.statuses = {}  # how many were answered so at first
         self.cancelled = set()
+        self.late = 0  # how many cancellations came when their question was folded
         self.audits = []  # how long each took
         self.unheard = 0  # how many of them got no reply
         self.orders = queue.Queue()
@@ -87,6 +90,8 @@ class Storm:
             status, reply = self.served.ask("askbot", "cancel", fields)
             if status == 200:
                 self.cancelled.add(question)
+            elif reply.get("refused") == "tooold":
+                self.late += 1
             else:
                 self.faults.append(f"the order to cancel {question}: {status} {reply}")
             if len(self.cancelled) % 50 == 1:
@@ -134,7 +139,7 @@ class Storm:
         """Where rows or entries that are alive aren't those of the questions that weren't cancelled."""
         differences = []
         wanted = sorted(self.asked.keys() - self.cancelled)
-        alive = {service: [it for it in ENTRY.findall(self.text(service, "log", differences)) if it[1] == "alive"] for service in ("askbot", "dpaste")}
+        alive = {service: [it for it in ENTRY.findall(self.text(service, "log", differences)) if it[1] == "alive" or it[1] == "folded" and it[4] != "410"] for service in ("askbot", "dpaste")}
         found = {
             "rows of askbot": re.findall(r"^posts (\S+) ", self.text("askbot", "rows", differences), re.M),
             "rows of dpaste": re.findall(r"^pastes (\S+) ", self.text("dpaste", "rows", differences), re.M),
@@ -151,9 +156,9 @@ class Storm:
         return differences
 
 
-def main(program, posts, clients, one_in, seed):
+def main(program, posts, clients, one_in, seed, keep):
     with tempfile.TemporaryDirectory() as folder:
-        served = Served(program, world(), folder, preload(folder, one_in, seed))
+        served = Served(program, world(keep), folder, preload(folder, one_in, seed))
         try:
             for n in range(clients):
                 exchange(served.ports["oauth"], request("PUT", f"/token/u{n}", f"k{n}".encode(), Aire_Who=f"u{n}"))
@@ -166,6 +171,7 @@ def main(program, posts, clients, one_in, seed):
                 storm.faults.append(f"not legal within {LEGAL_WITHIN} s: {storm.audit()}")
             else:
                 storm.faults += storm.differences()
+            folds = storm.text("askbot", "log", []).count(" folded ") if keep else 0
             begun = time.monotonic()
             status, out = served.stop()
             ended = time.monotonic() - begun
@@ -177,11 +183,11 @@ def main(program, posts, clients, one_in, seed):
         storm.faults.append(f"it ended with status {status} and {out!r}")
     for fault in storm.faults[:20]:
         print(fault)
-    print(f"{len(storm.asked)} of {posts} posts answered in {raged:.1f} s, by status at first {json.dumps(storm.statuses)}; {len(storm.cancelled)} cancelled; {cut} of {opened} connections cut")
+    print(f"{len(storm.asked)} of {posts} posts answered in {raged:.1f} s, by status at first {json.dumps(storm.statuses)}; {len(storm.cancelled)} cancelled, {storm.late} too late; {folds} folded at askbot; {cut} of {opened} connections cut")
     print(f"settled {settled and round(settled, 1)} s after the last, {out.splitlines()[-1:]} {ended:.1f} s after the stop, {len(storm.audits)} audits, {max(storm.audits):.1f} s at most, {storm.unheard} without a reply; receipts {json.dumps(receipts)}; {len(storm.faults)} faults")
     return 1 if storm.faults else 0
 
 
 if __name__ == "__main__":
-    words = sys.argv[1:] + [PROGRAM, "4000", "16", "20", "1"][len(sys.argv) - 1:]
-    sys.exit(main(words[0], *map(int, words[1:5])))
+    words = sys.argv[1:] + [PROGRAM, "4000", "16", "20", "1", "0"][len(sys.argv) - 1:]
+    sys.exit(main(words[0], *map(int, words[1:6])))

@@ -114,12 +114,10 @@ fn due_of(service: &Service, entries: &[KeptEntry], keep: usize, part: usize) ->
     let front = front_of(service, entries);
     let most = entries.len().saturating_sub(keep);
     if front < part {
-        FoldDue::Waits(id_at(entries, front))
-    } else if front < most {
-        FoldDue::UpTo(id_at(entries, front - 1))
-    } else {
-        FoldDue::UpTo(id_at(entries, most.saturating_sub(1)))
+        return FoldDue::Waits(id_at(entries, front));
     }
+    let count = if front < most { front } else { most };
+    FoldDue::UpTo(id_at(entries, count.saturating_sub(1)))
 }
 
 // Whether an order to fold would be refused again: rules stay, and a journal gets no lighter.
