@@ -5,7 +5,7 @@ use crate::given::{holds, name, same, text};
 use call_registers::Hold;
 use journal_rows::{Row, Verdict};
 use lang_core::Names;
-use repair_messages::{Ack, Fetch, Post, PostName, TokenMessage};
+use repair_messages::{Ack, Fetch, Post, PostName, Refusal, RefusalWord, TokenMessage};
 use repair_queue::{Notice, Notices};
 use report_text::{notices_text, verdict_text};
 use script_text::{Detail, happened_line};
@@ -37,7 +37,7 @@ fn told(rt: &(impl Abort + AllocGlobal), name: PostName, version: u64, hold: Hol
         hold,
     };
     holds(rt, want, list.push(notice).is_ok());
-    let line = notices_text(rt.alloc(), &list).expect(rt, "memory");
+    let line = notices_text(rt.alloc(), &list, None).expect(rt, "memory");
     same(rt, line.as_str(), want);
 }
 
@@ -65,6 +65,24 @@ fn notices_are_told(rt: HostRuntime) {
         Hold::Unknown,
         "call:4 v1 unknown\n",
     );
+    told(
+        &rt,
+        PostName::Reply(last),
+        3,
+        Hold::TooOld(last),
+        "reply:18446744073709551615 a3 tooold 18446744073709551615\n",
+    );
+}
+
+#[test]
+fn a_fold_that_waits_is_told_alone(rt: HostRuntime) {
+    let why = Refusal {
+        word: RefusalWord::NotQuiet,
+        number: u64::MAX,
+    };
+    let none = Notices::new(rt.alloc());
+    let line = notices_text(rt.alloc(), &none, Some(why)).expect(&rt, "memory");
+    same(&rt, line.as_str(), "fold notquiet 18446744073709551615\n");
 }
 
 // A token of the third answer to the shop's seventh call.
