@@ -16,6 +16,7 @@ use Rattle.lang_core.proofs.ids.Name.TheSendSync as name
 use Rattle.wire_fields.proofs.named.ByName.TheSendSync as by_name
 use Rattle.node_core.proofs.tally.Tally.TheSendSync as tally
 use Rattle.node_core.proofs.pass.Pass.TheSendSync as pass
+use Rattle.node_core.proofs.state.OwnFolds.TheSendSync as folds
 use Rattle.node_core.specs.contracts.state.NodeState as state
 use Rattle.node_core.specs.contracts.nodes.Node as node
 use Rattle.node_core.specs.contracts.nodes.Nodes as nodes
@@ -28,7 +29,7 @@ use Rattle.node_run.specs.contracts.jobs.Requests as requests
 use Rattle.node_run.specs.contracts.shared.Shared as shared
 
 state_send : (R : RattleType) (g : Ghosts R.Denot) → IsSend (state.the_row R g)
-state_send R g = recorded_send (state.the_field R g).row _ _ (state.the_type R g).to_one (struct_send (shape (state.the_type R g)) (service_send, (share.the_send R g, (text.the_send, (search sendable, (search sendable, (search (sendable, crosses) depth 10, tt)))))))
+state_send R g = recorded_send (state.the_field R g).row _ _ (state.the_type R g).to_one (struct_send (shape (state.the_type R g)) (service_send, (share.the_send R g, (text.the_send, (search sendable, (search sendable, (folds.the_field_send, tt)))))))
 
 node_sync : (R : RattleType) (g : Ghosts R.Denot) → IsSync (node.the_row R g)
 node_sync R g = recorded_sync (node.the_field R g).row _ _ (node.the_type R g).to_one (struct_sync (shape (node.the_type R g)) (name.the_sync, search (sendable, crosses, state_send, condvar.the_field_sync) depth 20))

@@ -38,10 +38,7 @@ fn push_hold(text: &mut String, hold: Hold) -> Result<(), NoMemory>
     match hold {
         Hold::Rule(rule) => write!(text, "rule {rule}")?,
         Hold::Unknown => text.push_str(RefusalWord::Unknown.text())?,
-        Hold::TooOld(number) => {
-            let word = RefusalWord::TooOld.text();
-            write!(text, "{word} {number}")?;
-        }
+        Hold::TooOld(number) => write!(text, "tooold {number}")?,
     }
     Ok(())
 }
