@@ -1,7 +1,6 @@
 // A service, and all services.
-ghost use Rattle.std.specs.Prelude.{◌≡◌, ◌++◌, IfOk, OnOk, map, string_bytes};
+ghost use Rattle.std.specs.Prelude.{◌≡◌, ◌++◌, IfOk, OnOk, string_bytes};
 ghost use Rattle.std.specs.List.{flat_map};
-ghost use Rattle.request_log.specs.Folded.{as_entry};
 ghost use Rattle.service_events.specs.State.{answers, folded, unfolded};
 ghost use Rattle.dump_lines.specs.Dumps.{dump_text, entry_lines, head_lines, row_line, service_lines};
 
