@@ -64,7 +64,6 @@ fn spelled<'a>(words: &'a [RefusalWord], text: &str) -> Option<&'a RefusalWord>
 
 impl RefusalWord {
     /// The word that a reply spells so; None where no word that a reply may say is spelled so.
-    #[tactic(auto, unfolding(crate::specs::Refusals::word_said))]
     pub fn said(text: &str) -> Option<RefusalWord>
         ensures { result ≡ word_said text.now }
     {

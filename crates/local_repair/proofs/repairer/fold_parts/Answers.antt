@@ -6,22 +6,22 @@ use Rattle.local_repair.specs.Current.{writes_of}
 use Rattle.local_repair.specs.Held.{looked}
 use Rattle.local_repair.proofs.repairer.fold_parts.Goals as goal
 
-pub fold-2-requires-clause-within : goal.fold-2-requires-clause-within
-fold-2-requires-clause-within c =
+pub fold-requires-clause-within-2 : goal.fold-requires-clause-within-2
+fold-requires-clause-within-2 c =
     let n = ap length (c.in_ok-ready_fold.ensures.writes ∙ c.requires.tied) in
     let m = length-map c.args.log.now.entries (λ (e : Entry). writes_of e.made) in
     let within = c.requires.within in
     omega arith
 
-pub fold-2-requires-clause-rows : goal.fold-2-requires-clause-rows
-fold-2-requires-clause-rows c =
+pub fold-requires-clause-rows : goal.fold-requires-clause-rows
+fold-requires-clause-rows c =
     let n = c.args.n in
     let rows = c.args.rows.now in
     let ready = c.ready_fold.new.self in
     c.requires.left ∙ ap (λ b. rows_made b (take n rows.writes)) (sym c.in_ok-ready_fold.ensures.base) ∙ ap (λ w. rows_made ready.base (take n w)) (sym c.in_ok-ready_fold.ensures.writes)
 
-pub fold-3-requires : goal.fold-3-requires
-fold-3-requires c =
+pub fold-requires : goal.fold-requires
+fold-requires c =
     let n = ap length c.requires.looked in
     let m = length-map c.args.log.now.entries looked in
     let within = c.requires.within in

@@ -1,14 +1,23 @@
 use Rattle.std.proofs.Common.{◌≡◌, ◌≤◌, ◌++◌, length, take, drop, ap, ◌∙◌, arith}
 use Rattle.std.specs.List.{filter_map}
+use Rattle.request_log.specs.Entries.{KeptLog}
 use Rattle.request_log.specs.Folded.{folded_as}
 use Rattle.local_repair.specs.Current.{rows_after}
 use Rattle.local_repair.specs.Repairs.{KeptRepairer}
-use Rattle.local_repair.proofs.FoldLemmas.{kept_folded}
+use Rattle.local_repair.proofs.FoldLemmas.{kept_folded, kept_same}
 use Rattle.local_repair.proofs.WrittenLemmas.{seen_before}
 use Rattle.local_repair.proofs.repairer.Repairer.fold.Goals as goal
 
 pub invariant_of-self : goal.invariant_of-self
 invariant_of-self c =
+    let inside = c.self.inside in
+    let new = c.fold_parts.new in
+    let same = c.in_err-fold_parts.ensures in
+    kept_same inside.rows.base new.rows.base inside.log.entries new.log.entries inside.rows.writes new.rows.writes inside.marks new.marks inside.calls
+    same.err_base (ap (λ (k : KeptLog). k.entries) same.err) same.err_writes same.err_marks c.self.invariant
+
+pub invariant_of-self-2 : goal.invariant_of-self-2
+invariant_of-self-2 c =
     let inside = c.self.inside in
     let new = c.fold_parts.new in
     let many = ap length (ap (λ (k : KeptRepairer). k.entries) c.self.view_is) in

@@ -17,8 +17,8 @@ forget_first-requires c =
     let within = c.requires.within in
     omega arith
 
-pub forget_first-2-requires : goal.forget_first-2-requires
-forget_first-2-requires c =
+pub forget_first-requires-2 : goal.forget_first-requires-2
+forget_first-requires-2 c =
     let writes = ap length (ap (λ (k : KeptWrites). k.writes) c.self.view_is) in
     let n = length-map c.self.inside.versions.versions (λ (p : PlaceWrites). p.writes) in
     let many = as_many c.self.inside.order.labels c.self.inside.versions.versions c.self.invariant in
