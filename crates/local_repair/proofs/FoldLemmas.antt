@@ -21,14 +21,20 @@ rows_behind base entries n place =
     sym (fold-append after_entry base (take n entries) (take place (drop n entries))) ∙ ap (rows_after base) (sym (take-add n place entries))
 
 -- the same is kept of the same
-pub kept_same : (base base' : List Cell) (entries entries' : List Entry) (writes writes' : List (List Write)) (m m' : KeptMarks) (calls : Bool) → base' ≡ base → entries' ≡ entries → writes' ≡ writes → m' ≡ m
-    → IsKept base entries writes m calls → IsKept base' entries' writes' m' calls
-kept_same base base' entries entries' writes writes' m m' calls rows left wrote_left marks kept =
-    let B : List Cell → Type 0 = λ b. IsKept b entries writes m calls in
-    let E : List Entry → Type 0 = λ es. IsKept base' es writes m calls in
-    let W : List (List Write) → Type 0 = λ ws. IsKept base' entries' ws m calls in
-    let M : KeptMarks → Type 0 = λ k. IsKept base' entries' writes' k calls in
-    subst M (sym marks) (subst W (sym wrote_left) (subst E (sym left) (subst B (sym rows) kept)))
+pub kept_same : (base base' : List Cell) (entries entries' : List Entry) (writes writes' : List (List Write)) (m m' : KeptMarks) (calls : Bool) → base' ≡ base → entries' ≡ entries → writes' ≡ writes → m'.reads ≡ m.reads
+    → m'.marks ≡ m.marks → IsKept base entries writes m calls → IsKept base' entries' writes' m' calls
+kept_same base base' entries entries' writes writes' m m' calls rows left wrote_left reads marks kept =
+    let B : List Cell → Type 0 = λ b. IsKept b entries writes m' calls in
+    let E : List Entry → Type 0 = λ es. IsKept base' es writes m' calls in
+    let W : List (List Write) → Type 0 = λ ws. IsKept base' entries' ws m' calls in
+    let marked : IsKept base entries writes m' calls = record {
+      ordered = kept.ordered;
+      tied = kept.tied;
+      looked = reads ∙ kept.looked;
+      held = λ place d within unmarked. kept.held place d within (ap (is_marked place) (sym marks) ∙ unmarked);
+      quiet = kept.quiet;
+    } in
+    subst W (sym wrote_left) (subst E (sym left) (subst B (sym rows) marked))
 
 -- what is kept behind them
 pub kept_folded : (base now : List Cell) (entries after : List Entry) (writes written : List (List Write)) (m m' : KeptMarks) (n : ℕ) (calls : Bool) → IsKept base entries writes m calls → n ≤ length entries

@@ -6,15 +6,15 @@ use Rattle.local_repair.specs.Current.{writes_of}
 use Rattle.local_repair.specs.Held.{looked}
 use Rattle.local_repair.proofs.repairer.fold_parts.Goals as goal
 
-pub fold-requires-clause-within-2 : goal.fold-requires-clause-within-2
-fold-requires-clause-within-2 c =
+pub fold-requires-2-clause-within : goal.fold-requires-2-clause-within
+fold-requires-2-clause-within c =
     let n = ap length (c.in_ok-ready_fold.ensures.writes ∙ c.requires.tied) in
     let m = length-map c.args.log.now.entries (λ (e : Entry). writes_of e.made) in
     let within = c.requires.within in
     omega arith
 
-pub fold-requires-clause-rows : goal.fold-requires-clause-rows
-fold-requires-clause-rows c =
+pub fold-requires-2-clause-rows : goal.fold-requires-2-clause-rows
+fold-requires-2-clause-rows c =
     let n = c.args.n in
     let rows = c.args.rows.now in
     let ready = c.ready_fold.new.self in

@@ -2,6 +2,7 @@ use Rattle.std.proofs.Common.{◌≡◌, ◌≤◌, ◌++◌, length, take, drop
 use Rattle.std.specs.List.{filter_map}
 use Rattle.request_log.specs.Entries.{KeptLog}
 use Rattle.request_log.specs.Folded.{folded_as}
+use Rattle.log_index.specs.Marks.{KeptMarks}
 use Rattle.local_repair.specs.Current.{rows_after}
 use Rattle.local_repair.specs.Repairs.{KeptRepairer}
 use Rattle.local_repair.proofs.FoldLemmas.{kept_folded, kept_same}
@@ -14,7 +15,7 @@ invariant_of-self c =
     let new = c.fold_parts.new in
     let same = c.in_err-fold_parts.ensures in
     kept_same inside.rows.base new.rows.base inside.log.entries new.log.entries inside.rows.writes new.rows.writes inside.marks new.marks inside.calls
-    same.err_base (ap (λ (k : KeptLog). k.entries) same.err) same.err_writes same.err_marks c.self.invariant
+    same.err_base (ap (λ (k : KeptLog). k.entries) same.err) same.err_writes (ap (λ (k : KeptMarks). k.reads) same.err_marks) (ap (λ (k : KeptMarks). k.marks) same.err_marks) c.self.invariant
 
 pub invariant_of-self-2 : goal.invariant_of-self-2
 invariant_of-self-2 c =
