@@ -1,18 +1,18 @@
 -- A fold of the first entries: what is kept of them is what they were but for what they read and wrote, nothing else changes, and the service
 -- fits its journal as before.
-use Rattle.std.proofs.Common.{◌≡◌, ℕ, ◌+◌, ◌≤◌, Bool, true, false, not, ◌&&◌, cond, List, [], ◌∷◌, ◌++◌, All, Option, Some, None, IsSome, IsSomeAnd, drop, find, is_some, length, map, nat_eq, nat_lt, option_map, take, refl, sym, ap, ◌∙◌, subst, arith, inl, inr, length-append, take-append-drop, drop-drop, append_assoc, eqb-true}
+use Rattle.std.proofs.Common.{◌≡◌, ℕ, ◌+◌, ◌≤◌, Bool, true, false, not, ◌&&◌, cond, List, [], ◌∷◌, ◌++◌, All, Option, Some, None, IsSome, IsSomeAnd, drop, find, is_some, length, map, nat_eq, nat_lt, option_map, take, refl, sym, ap, ◌∙◌, subst, arith, inl, inr, take-append-drop, drop-drop, append_assoc, eqb-true}
 use Rattle.std.specs.List.{last_or, list_all, position_or_len}
 use Rattle.std.specs.Option.{option_map_or}
 use Rattle.std.proofs.lemmas.Bool.{and_parts, cases_Bool, ltb-false}
-use Rattle.std.proofs.lemmas.List.{length-drop, length-map, length-take, map-append}
+use Rattle.std.proofs.lemmas.List.{length-drop, length-take, map-append}
 use Rattle.std.proofs.lemmas.List.Elements.{All-append, All-cons, All-head, All-nil, All-tail, All-take, All-weaker}
 use Rattle.std.proofs.Math.Seq.{take-add, take-append_seam, take-append-add}
 use Rattle.lang_core.specs.Origins.{is_call}
 use Rattle.lang_core.specs.declared.cells.Cell.{Cell}
 use Rattle.lang_core.specs.declared.ids.Origin.{Origin}
 use Rattle.lang_core.specs.declared.ids.Origin.TheVariants.{Outside, Call}
-use Rattle.request_log.specs.Entries.{has_id, has_origin, find_call, IsDistinct}
-use Rattle.request_log.specs.Folded.{bare, bare_by}
+use Rattle.request_log.specs.Entries.{has_id, has_origin, IsDistinct}
+use Rattle.request_log.specs.Folded.{as_entry, bare, bare_by, folded_with}
 use Rattle.request_log.specs.Records.{Record, record_in, record_of, recorded_calls}
 use Rattle.request_log.specs.declared.entry.Entry.{Entry}
 use Rattle.request_log.specs.declared.entry.Made.{Made}
@@ -27,10 +27,10 @@ use Rattle.call_registers.specs.Registers.{owes_fetch, register}
 use Rattle.call_registers.specs.Replies.{reply}
 use Rattle.call_registers.specs.declared.register.Register.{Register}
 use Rattle.call_registers.specs.declared.reply.Reply.{Reply}
-use Rattle.service_events.specs.Fits.{Fits, FitsHorizon, FitsPlaces, HasAnswered, HasReply, IsAsNow, IsBare, IsDoneWith, IsPast, IsReply, calls_of_entry, calls_of_flight, made_as, places, answer_recorded}
+use Rattle.service_events.specs.Fits.{Fits, FitsHorizon, FitsPlaces, HasAnswered, HasReply, IsAsNow, IsBare, IsDoneWith, IsPast, IsReply, calls_of_entry, calls_of_flight, made_as, answer_recorded}
 use Rattle.service_events.specs.Orders.{first_unquiet, folded_on, is_done_with, is_due, is_quiet_call, is_quiet_entry, to_fold}
 use Rattle.service_events.specs.State.{Kept, answers, base, folded, unfolded}
-use Rattle.service_events.proofs.HorizonLemmas.{all_entries, mapped_behind, mapped_front}
+use Rattle.service_events.proofs.HorizonLemmas.{mapped_behind, mapped_front}
 use Rattle.service_events.proofs.PartLemmas.{IsLogged}
 use Rattle.service_events.proofs.RunLemmas.{HasRun}
 use Rattle.service_events.proofs.SearchLemmas.{place_is, splits}
@@ -38,10 +38,14 @@ use Rattle.journal_rows.specs.Words.{last_folded}
 
 -- ---- what is tested of those that are folded
 
+-- the call of this number is done with
+abbrev pub IsDoneCall : Kept → ℕ → Type 0
+IsDoneCall s number = IsSomeAnd (register number s.registers) IsDoneWith
+
 -- an entry that is folded: current, and with calls that are done with
 pub record IsQuiet (s : Kept) (rows : List Cell) (e : Entry) : Type 0 where
   pub current : IsCurrent (answers s) rows e
-  pub calls : All (λ number. IsSomeAnd (register number s.registers) IsDoneWith) e.slots
+  pub calls : All (IsDoneCall s) e.slots
 
 -- each of these, where these are the rows before them
 abbrev pub AreQuiet : Kept → List Cell → List Entry → Type 0
@@ -61,11 +65,11 @@ call_done : (o : Option Register) → option_map_or is_done_with o false ≡ tru
 call_done None h = cc
 call_done (Some r) h = done_with r h
 
-calls_done : (s : Kept) (ns : List ℕ) → list_all (is_quiet_call s) ns ≡ true → All (λ number. IsSomeAnd (register number s.registers) IsDoneWith) ns
-calls_done s [] h = All-nil (λ number. IsSomeAnd (register number s.registers) IsDoneWith)
+calls_done : (s : Kept) (ns : List ℕ) → list_all (is_quiet_call s) ns ≡ true → All (IsDoneCall s) ns
+calls_done s [] h = All-nil (IsDoneCall s)
 calls_done s (n ∷ ns) h =
     let parts = and_parts (is_quiet_call s n) (list_all (is_quiet_call s) ns) h in
-    All-cons (λ number. IsSomeAnd (register number s.registers) IsDoneWith) n ns (call_done (register n s.registers) parts.0) (calls_done s ns parts.1)
+    All-cons (IsDoneCall s) n ns (call_done (register n s.registers) parts.0) (calls_done s ns parts.1)
 
 quiet_is : (s : Kept) (rows : List Cell) (e : Entry) → is_quiet_entry s rows e ≡ true → IsQuiet s rows e
 quiet_is s rows e h =
@@ -102,7 +106,10 @@ bare_seen : (consumed : Consumed) (rows : List Cell) (e : Entry) (o : Option Mad
     → record_of (bare_by e (option_map record_in o)) ≡ option_map record_in o
 bare_seen consumed rows e None is h = absurd h
 bare_seen consumed rows e (Some m) is h =
-    λ i. Some (record { alive = sym h.alive i; version = sym h.version i; request = sym h.request i; calls = m.trace.calls; answers = m.trace.answers; response = m.trace.response })
+    let alive = sym h.alive in
+    let version = sym h.version in
+    let request = sym h.request in
+    (λ i. Some (record { alive = alive i; version = version i; request = request i; calls = m.trace.calls; answers = m.trace.answers; response = m.trace.response }))
 
 -- one that is current is, once it is folded, like what it was
 pub alike_bare : (consumed : Consumed) (rows : List Cell) (e : Entry) → IsCurrent consumed rows e → IsAlike e (bare e)
@@ -116,15 +123,21 @@ is_bare_by e (Some m) some = record { alive = refl; version = refl; request = re
 bare_again_by : (e : Entry) (o : Option Made) → e.made ≡ o → IsSomeAnd o (IsBare e) → bare_by e (option_map record_in o) ≡ e
 bare_again_by e None is h = absurd h
 bare_again_by e (Some m) is h =
+    let alive = sym h.alive in
+    let version = sym h.version in
+    let request = sym h.request in
+    let reads = sym h.reads in
+    let writes = sym h.writes in
+    let kept : as_entry (folded_with e (record_in m)) ≡ record e { made = Some m } =
     (λ i. record e {
       made = Some (record {
-        alive = sym h.alive i;
-        version = sym h.version i;
-        request = sym h.request i;
-        trace = record { reads = sym h.reads i; calls = m.trace.calls; answers = m.trace.answers; writes = sym h.writes i; response = m.trace.response };
+        alive = alive i;
+        version = version i;
+        request = request i;
+        trace = record { reads = reads i; calls = m.trace.calls; answers = m.trace.answers; writes = writes i; response = m.trace.response };
       });
-    })
-    ∙ ap (λ o. record e { made = o }) (sym is)
+    }) in
+    kept ∙ ap (λ (o : Option Made). record e { made = o }) (sym is)
 
 bare_again : (e : Entry) → IsSomeAnd e.made (IsBare e) → bare e ≡ e
 bare_again e h = bare_again_by e e.made refl h
@@ -254,13 +267,13 @@ module _ (j : List Row) (kept : List Reply) where
       rows = h.replies.rows;
       entries = all_alike (λ e. HasReply j kept e e.origin) (λ e. HasReply j kept e e.origin)
           (λ x y a n. subst (λ e. HasReply j kept e e.origin) (sym a.same) (replied_alike x y.made x.origin n)) xs ys alike h.replies.entries;
-      others = λ k d l. there_too (h.replies.others k d l);
+      others = All-weaker (λ (p : Reply). IsSome (find (has_id p.id) xs)) (λ (p : Reply). IsSome (find (has_id p.id) ys)) (λ p. there_too p.id) kept h.replies.others;
       rising = h.replies.rising;
     };
   }
     where
-      there_too : {id : ℕ} → IsSome (find (has_id id) xs) → IsSome (find (has_id id) ys)
-      there_too {id} some = there_alike (find (has_id id) xs) (find (has_id id) ys) (found_alike (has_id id) (λ x y a. ap (λ (e : Entry). nat_eq e.id id) a.same) xs ys alike) ∙ some
+      there_too : (id : ℕ) → IsSome (find (has_id id) xs) → IsSome (find (has_id id) ys)
+      there_too id some = there_alike (find (has_id id) xs) (find (has_id id) ys) (found_alike (has_id id) (λ x y a. ap (λ (e : Entry). nat_eq e.id id) a.same) xs ys alike) ∙ some
 
 -- ---- a fold
 
@@ -352,7 +365,7 @@ module _ (s : Kept) (f : Fits s) (id : ℕ) (e : Entry) (there : find (has_id id
       let slots : (bare e).slots ≡ e.slots = ap (λ (x : Entry). x.slots) a.same in
       record {
         bare = is_bare_by e e.made (has_record e.made q.current);
-        calls = subst (λ ns. All (λ number. IsSomeAnd (register number s.registers) IsDoneWith) ns) (sym slots) q.calls;
+        calls = subst (λ ns. All (IsDoneCall s) ns) (sym slots) q.calls;
         consumed = subst (λ o. IsSomeAnd o (λ (r : Record). r.answers ≡ map (answers s) (bare e).slots)) (sym a.seen)
             (consumed_by e.made (bare e).slots (sym slots) q.current);
       }
@@ -381,7 +394,7 @@ module _ (s : Kept) (f : Fits s) (id : ℕ) (e : Entry) (there : find (has_id id
       let at = splits p (unfolded s) e there in
       let place : position_or_len p (unfolded s) ≡ length at.before = ap (position_or_len p) at.is ∙ place_is p at.before e at.rest at.none at.passes in
       let upto : to_fold id s ≡ at.before ++ e ∷ [] =
-      (λ i. take (place i + 1) (at.is i)) ∙ front_of at.before e at.rest in
+      ap (λ (k : ℕ). take (k + 1) (unfolded s)) place ∙ ap (take (length at.before + 1)) at.is ∙ front_of at.before e at.rest in
       let ends : folded t ≡ (folded s ++ map bare at.before) ++ bare e ∷ [] =
       then_folded ∙ ap (λ l. folded s ++ map bare l) upto ∙ ap (λ l. folded s ++ l) (map-append bare at.before (e ∷ [])) ∙ sym (append_assoc (folded s) (map bare at.before) (bare e ∷ [])) in
       ap (λ l. option_map (λ (x : Entry). x.id) (last_or None l)) ends

@@ -1,18 +1,15 @@
 -- What entries behind the folded ones become where the log changes behind the horizon.
-use Rattle.std.proofs.Common.{◌≡◌, ℕ, zero, suc, ◌+◌, ◌≤◌, true, false, cond, List, [], ◌∷◌, ◌++◌, map, length, take, drop, Option, Some, None, find, insert, nat_eq, set, refl, sym, ap, ◌∙◌, subst, arith, append_assoc, take-append-drop, max}
+use Rattle.std.proofs.Common.{◌≡◌, ℕ, zero, suc, ◌+◌, ◌≤◌, Bool, false, List, [], ◌∷◌, ◌++◌, map, length, take, drop, Some, None, find, insert, nat_eq, refl, sym, ap, ◌∙◌, subst, arith, append_assoc, take-append-drop, max}
 use Rattle.std.specs.List.{position_or_len}
-use Rattle.std.proofs.lemmas.Bool.{cases_Bool}
 use Rattle.std.proofs.lemmas.List.Elements.{All-push}
-use Rattle.lang_core.specs.declared.ids.Origin.TheVariants.{Call}
-use Rattle.lang_core.specs.declared.setting.Setting.{Setting}
-use Rattle.request_log.specs.Entries.{has_id, has_origin, find_call, IsDistinct, with_entry, changed}
+use Rattle.request_log.specs.Entries.{has_id, IsDistinct, with_entry, changed}
 use Rattle.request_log.specs.declared.entry.Entry.{Entry}
 use Rattle.local_repair.specs.Current.{AllRuns}
 use Rattle.service_events.specs.State.{Kept, folded, unfolded}
 use Rattle.service_events.proofs.EntryPlaces.{set_later}
 use Rattle.service_events.proofs.LogLemmas.{front_id}
 use Rattle.service_events.proofs.RunLemmas.{HasRun, runs_insert}
-use Rattle.service_events.proofs.SearchLemmas.{none_first, none_changed, splits}
+use Rattle.service_events.proofs.SearchLemmas.{none_first, splits}
 use Rattle.std.proofs.lemmas.List.{take-append-le, drop-append-le}
 
 -- ---- searches in the first elements and behind them

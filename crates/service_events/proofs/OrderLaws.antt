@@ -1,5 +1,5 @@
 -- An order keeps what fits of calls.
-use Rattle.std.proofs.Common.{◌≡◌, ℕ, true, false, List, [], ◌∷◌, ◌++◌, Option, Some, None, map, insert, refl, sym, subst, inl, inr, if◌then◌else◌, append-nil, length, find, option_map}
+use Rattle.std.proofs.Common.{◌≡◌, ℕ, true, false, List, [], ◌∷◌, ◌++◌, Option, Some, None, map, insert, refl, sym, subst, inl, inr, if◌then◌else◌, append-nil, length, find}
 use Rattle.std.proofs.lemmas.Bool.{cases_Bool}
 use Rattle.lang_core.specs.declared.inputs.Inputs.{Inputs}
 use Rattle.request_log.specs.Entries.{has_id, changed, mark, replace}
@@ -16,7 +16,7 @@ use Rattle.journal_rows.specs.declared.row.Row.TheVariants.{Ordered as OrderedAs
 use Rattle.call_registers.specs.Registers.{released}
 use Rattle.service_events.specs.State.{Kept, next_id, base, unfolded}
 use Rattle.service_events.specs.Calls.{noted}
-use Rattle.service_events.specs.Orders.{refused, about, original, repaired, asked_rows, order_rule, order_rows, released_post, carried_out, order_by, order_where, entry_of, first_unquiet, folded_on, misnamed, place_made, to_fold, unless_quiet}
+use Rattle.service_events.specs.Orders.{refused, about, original, repaired, asked_rows, order_rule, order_rows, released_post, carried_out, order_by, order_where, entry_of, first_unquiet, folded_on, place_made, to_fold}
 use Rattle.service_events.specs.declared.refusals.OrderRefused.{OrderRefused}
 use Rattle.service_events.specs.Fits.{EachAfter, OrdersOn, calls_of_entry, calls_of_flight, Fits}
 use Rattle.service_events.proofs.CallRowLemmas.{Each, IsPlain, IsUnseen, IsUntaken}
