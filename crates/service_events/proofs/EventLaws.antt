@@ -1,5 +1,5 @@
 -- Laws of all events of a service: each is one statement, with a case for each event.
-use Rattle.std.proofs.Common.{refl, ℕ, List, [], ◌++◌, Option, Some, None}
+use Rattle.std.proofs.Common.{◌≡◌, ℕ, List, [], ◌++◌, Option, Some, None, refl, sym, ap, ◌∙◌, take, arith}
 use Rattle.lang_core.specs.declared.ids.Origin.TheVariants.{Outside, Call}
 use Rattle.request_log.specs.Entries.{find_call}
 use Rattle.journal_rows.specs.Words.{last_taken, ordered, fold_step}
@@ -7,7 +7,7 @@ use Rattle.call_registers.specs.Registers.{register}
 use Rattle.service_events.specs.Event.{event}
 use Rattle.service_events.specs.Fits.{Fits, FitsFlights, FitsHorizon}
 use Rattle.service_events.specs.Messages.{is_too_much, origin_of}
-use Rattle.service_events.specs.State.{Kept, answers, base, flight_of, is_crowded, is_heavy, is_in_flight, or_else, unfolded}
+use Rattle.service_events.specs.State.{Kept, KeepsFolded, answers, base, flight_of, is_crowded, is_heavy, is_in_flight, or_else, unfolded}
 use Rattle.service_events.specs.Steps.{stale_in}
 use Rattle.service_events.specs.declared.event.Event.{Event}
 use Rattle.service_events.specs.declared.event.Event.TheVariants as events
@@ -36,7 +36,7 @@ use Rattle.service_events.specs.Calls.{noted}
 use Rattle.service_events.specs.Orders.{carried_out, entry_of, first_unquiet, order_by, order_rows, order_rule, order_where, refused, to_fold}
 use Rattle.service_events.specs.declared.refusals.OrderRefused.{OrderRefused}
 use Rattle.service_events.proofs.BehindLaws.{GoesBehind, behind_fits, behind_same}
-use Rattle.service_events.proofs.FoldLaw.{fold_horizon}
+use Rattle.service_events.proofs.FoldLaw.{fold_horizon, fold_keeps}
 use Rattle.service_events.proofs.LiveBehind.{LeavesBehind, abandoned_behind, admitted_behind, answered_behind, call_behind, failed_behind}
 use Rattle.service_events.proofs.RepairBehind.{ordered_behind, posted_by_behind, step_by_behind, take_admitted_behind, token_taken_where_behind}
 
@@ -143,11 +143,11 @@ order_where_horizon s f command token who i (Some o) calls = f.horizon
 order_where_horizon s f command token who i None calls = order_by_horizon s f command token who i (refused s command who) refl calls
 
 -- what an event leaves that is no order
-abbrev EventBehind : Kept → Event → Type 0
+abbrev pub EventBehind : Kept → Event → Type 0
 EventBehind s (events.Order command token who i) = Unit {0}
 EventBehind s e = GoesBehind s (event s e).service
 
-event_behind : (s : Kept) (e : Event) → Fits s → EventBehind s e
+pub event_behind : (s : Kept) (e : Event) → Fits s → EventBehind s e
 event_behind s (events.Arrive Outside q i) f = admitted_behind s f.horizon.within Outside q i (or_else (is_crowded s) (is_heavy s))
 event_behind s (events.Arrive (Call c n) q i) f =
     arrives_either s c n q i (LeavesBehind s) (behind_same s f.horizon.within) (call_behind s f.horizon.within c n q i)
@@ -164,7 +164,7 @@ event_behind s (events.Posted post reply) f =
 event_behind s events.Step f = step_by_behind s f (stale_in (answers s) (base s) (unfolded s)) refl
 event_behind s (events.Order command token who i) f = tt
 
-event_horizon : (s : Kept) (e : Event) → Fits s → FitsCalls (event s e).service → FitsHorizon (event s e).service
+pub event_horizon : (s : Kept) (e : Event) → Fits s → FitsCalls (event s e).service → FitsHorizon (event s e).service
 event_horizon s (events.Order command token who i) f calls = order_where_horizon s f command token who i (ordered token s.journal) calls
 event_horizon s (events.Arrive o q i) f calls = behind_fits s (event s (events.Arrive o q i)).service f calls.sent calls.seen (event_behind s (events.Arrive o q i) f)
 event_horizon s (events.CallAnswered id a) f calls = behind_fits s (event s (events.CallAnswered id a)).service f calls.sent calls.seen (event_behind s (events.CallAnswered id a) f)
@@ -177,6 +177,52 @@ event_horizon s (events.NextPost dest) f calls = f.horizon
 event_horizon s (events.WritePost name) f calls = f.horizon
 event_horizon s (events.Posted post reply) f calls = behind_fits s (event s (events.Posted post reply)).service f calls.sent calls.seen (event_behind s (events.Posted post reply) f)
 event_horizon s events.Step f calls = behind_fits s (event s events.Step).service f calls.sent calls.seen (event_behind s events.Step f)
+
+-- ---- and an event changes no folded entry
+
+behind_keeps : (s t : Kept) → GoesBehind s t → KeepsFolded s t
+behind_keeps s t g =
+    let same = g.horizon in
+    record { within = omega (arith, same); entries = ap (λ (k : ℕ). take k t.entries) (sym same) ∙ g.folded }
+
+keeps_all : (s : Kept) → KeepsFolded s s
+keeps_all s = record { within = omega arith; entries = refl }
+
+order_keeps : (s : Kept) (f : Fits s) (command : Command) (token who : List ℕ) (i : Inputs) → IsNamed s command
+    → KeepsFolded s (noted (order_rows s command token who i) (carried_out s command who i))
+order_keeps s f (Fold id) token who i ok =
+    let at = to_fold_is s id (entry_of id s) refl ok.0 in
+    fold_keeps s f id at.0 at.1 (quiet_by (first_unquiet s (base s) (to_fold id s)) ok.1) (s.journal ++ order_rows s (Fold id) token who i)
+order_keeps s f (Cancel id) token who i ok = behind_keeps s (noted (order_rows s (Cancel id) token who i) (carried_out s (Cancel id) who i)) (ordered_behind s f (Cancel id) token who i ok.0)
+order_keeps s f (Restore id) token who i ok = behind_keeps s (noted (order_rows s (Restore id) token who i) (carried_out s (Restore id) who i)) (ordered_behind s f (Restore id) token who i ok.0)
+order_keeps s f (Replace id m p b) token who i ok = behind_keeps s (noted (order_rows s (Replace id m p b) token who i) (carried_out s (Replace id m p b) who i)) (ordered_behind s f (Replace id m p b) token who i ok.0)
+order_keeps s f (Create before after q) token who i ok = behind_keeps s (noted (order_rows s (Create before after q) token who i) (carried_out s (Create before after q) who i)) (ordered_behind s f (Create before after q) token who i ok.0)
+order_keeps s f (Retry name) token who i ok = behind_keeps s (noted (order_rows s (Retry name) token who i) (carried_out s (Retry name) who i)) (ordered_behind s f (Retry name) token who i ok.0)
+
+order_by_keeps : (s : Kept) (f : Fits s) (command : Command) (token who : List ℕ) (i : Inputs) (o : Option OrderRefused) → refused s command who ≡ o
+    → KeepsFolded s (order_by s command token who i o).service
+order_by_keeps s f command token who i (Some why) is = keeps_all s
+order_by_keeps s f command token who i None is = order_keeps s f command token who i (well_named s command who is)
+
+order_where_keeps : (s : Kept) (f : Fits s) (command : Command) (token who : List ℕ) (i : Inputs) (o : Option OrderedRow)
+    → KeepsFolded s (order_where s command token who i o).service
+order_where_keeps s f command token who i (Some o) = keeps_all s
+order_where_keeps s f command token who i None = order_by_keeps s f command token who i (refused s command who) refl
+
+-- whatever happens, what was folded is folded still, and is as it was
+pub event_keeps : (s : Kept) (e : Event) → Fits s → KeepsFolded s (event s e).service
+event_keeps s (events.Order command token who i) f = order_where_keeps s f command token who i (ordered token s.journal)
+event_keeps s (events.Arrive o q i) f = behind_keeps s (event s (events.Arrive o q i)).service (event_behind s (events.Arrive o q i) f)
+event_keeps s (events.CallAnswered id a) f = behind_keeps s (event s (events.CallAnswered id a)).service (event_behind s (events.CallAnswered id a) f)
+event_keeps s (events.CallFailed id number why) f = behind_keeps s (event s (events.CallFailed id number why)).service (event_behind s (events.CallFailed id number why) f)
+event_keeps s (events.Abandon id) f = behind_keeps s (event s (events.Abandon id)).service (event_behind s (events.Abandon id) f)
+event_keeps s (events.Take set i) f = behind_keeps s (event s (events.Take set i)).service (event_behind s (events.Take set i) f)
+event_keeps s (events.TakeToken t) f = behind_keeps s (event s (events.TakeToken t)).service (event_behind s (events.TakeToken t) f)
+event_keeps s (events.Give x) f = keeps_all s
+event_keeps s (events.NextPost dest) f = keeps_all s
+event_keeps s (events.WritePost name) f = keeps_all s
+event_keeps s (events.Posted post reply) f = behind_keeps s (event s (events.Posted post reply)).service (event_behind s (events.Posted post reply) f)
+event_keeps s events.Step f = behind_keeps s (event s events.Step).service (event_behind s events.Step f)
 
 -- ---- all of it
 

@@ -4,7 +4,7 @@ use Rattle.std.proofs.Common.{◌≡◌, ℕ, ◌+◌, ◌≤◌, Bool, true, fa
 use Rattle.std.specs.List.{last_or, list_all, position_or_len}
 use Rattle.std.specs.Option.{option_map_or}
 use Rattle.std.proofs.lemmas.Bool.{and_parts, cases_Bool, ltb-false}
-use Rattle.std.proofs.lemmas.List.{length-drop, length-take, map-append}
+use Rattle.std.proofs.lemmas.List.{length-drop, length-take, length-take-le, map-append, take_at}
 use Rattle.std.proofs.lemmas.List.Elements.{All-append, All-cons, All-head, All-nil, All-tail, All-take, All-weaker}
 use Rattle.std.proofs.Math.Seq.{take-add, take-append_seam, take-append-add}
 use Rattle.lang_core.specs.Origins.{is_call}
@@ -29,7 +29,7 @@ use Rattle.call_registers.specs.declared.register.Register.{Register}
 use Rattle.call_registers.specs.declared.reply.Reply.{Reply}
 use Rattle.service_events.specs.Fits.{Fits, FitsHorizon, FitsPlaces, HasAnswered, HasReply, IsAsNow, IsBare, IsDoneWith, IsPast, IsReply, calls_of_entry, calls_of_flight, made_as, answer_recorded}
 use Rattle.service_events.specs.Orders.{first_unquiet, folded_on, is_done_with, is_due, is_quiet_call, is_quiet_entry, to_fold}
-use Rattle.service_events.specs.State.{Kept, answers, base, folded, unfolded}
+use Rattle.service_events.specs.State.{Kept, KeepsFolded, answers, base, folded, unfolded}
 use Rattle.service_events.proofs.HorizonLemmas.{mapped_behind, mapped_front}
 use Rattle.service_events.proofs.PartLemmas.{IsLogged}
 use Rattle.service_events.proofs.RunLemmas.{HasRun}
@@ -411,6 +411,18 @@ module _ (s : Kept) (f : Fits s) (id : ℕ) (e : Entry) (there : find (has_id id
       let rest = length-drop s.horizon s.entries in
       let few = f.horizon.within in
       omega (arith, many, most, rest, few)
+
+  -- what was folded before stays
+  pub fold_keeps : (j : List Row) → KeepsFolded s (record t { journal = j })
+  fold_keeps j =
+      let h = s.horizon in
+      let few : length (folded s) ≡ h = length-take-le h s.entries f.horizon.within in
+      let first : length (take h t.entries) ≡ h = length-take-le h t.entries (let all = within_then in omega (arith, all)) in
+      let parts : take h t.entries ++ take n (drop h t.entries) ≡ folded s ++ map bare (to_fold id s) = sym (take-add h n t.entries) ∙ then_folded in
+      record {
+        within = omega arith;
+        entries = sym (take_at (take h t.entries) (take n (drop h t.entries)) h first) ∙ ap (take h) parts ∙ take_at (folded s) (map bare (to_fold id s)) h few;
+      }
 
   runs_first : AllRuns s.setting (to_fold id s)
   runs_first = All-take (HasRun s.setting) (position_or_len (has_id id) (unfolded s) + 1) (unfolded s) f.runs

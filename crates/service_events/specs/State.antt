@@ -1,5 +1,5 @@
 -- What a service keeps, and what an event leaves of it.
-use Rattle.std.specs.Prelude.{ℕ, ◌+◌, Bool, List, [], Option, Some, None, if◌then◌else◌, drop, is_some, find, nat_le, length, refl, take}
+use Rattle.std.specs.Prelude.{ℕ, ◌≡◌, ◌+◌, ◌≤◌, Bool, List, [], Option, Some, None, if◌then◌else◌, drop, is_some, find, nat_le, length, refl, take}
 use Rattle.std.specs.Coded.{Coded, coded_ℕ, code_by, coded×, coded_list}
 use Rattle.lang_core.specs.contracts.cells.Cell as cell
 use Rattle.lang_core.specs.contracts.setting.Setting as setting
@@ -90,6 +90,11 @@ folded s = take s.horizon s.entries
 
 abbrev pub unfolded : Kept → List Entry
 unfolded s = drop s.horizon s.entries
+
+-- what was folded is folded still, and stands first as it was
+pub record KeepsFolded (s s' : Kept) : Type 0 where
+  pub within : s.horizon ≤ s'.horizon
+  pub entries : take s.horizon s'.entries ≡ folded s
 
 -- the entry of this number is folded
 abbrev pub is_past : ℕ → Kept → Bool
