@@ -7,7 +7,7 @@ use Rattle.std.proofs.lemmas.List.Elements.{All-append, All-cons, All-contains, 
 use Rattle.std.proofs.lemmas.List.Sums.{fold-append}
 use Rattle.lang_core.specs.declared.cells.Cell.{Cell}
 use Rattle.lang_core.specs.declared.inputs.Inputs.{Inputs}
-use Rattle.execution.specs.Executions.{Act}
+use Rattle.execution.specs.Executions.{Act, History}
 use Rattle.request_log.specs.Entries.{has_id}
 use Rattle.request_log.specs.Folded.{bare, bare_by}
 use Rattle.request_log.specs.Records.{record_in}
@@ -108,8 +108,8 @@ module _ (s : Kept) (fits : Fits s) (n : ℕ) (current : AllCurrent (answers s) 
   pub fold_history : history once_folded ≡ history s
   fold_history =
       let acts : map (act_of (answers s)) once_folded.entries ≡ map (act_of (answers s)) s.entries = acts_stay (answers s) (s.horizon + n) s.entries all_have in
-      ap (λ (now : List Act). record { setting = s.setting; acts = now; rows = rows_after (base once_folded) (unfolded once_folded) }) acts
-      ∙ ap (λ (now : List Cell). record { setting = s.setting; acts = map (act_of (answers s)) s.entries; rows = now }) rows_stay
+      let With : List Act → List Cell → History = λ acts rows. record { setting = s.setting; acts = acts; rows = rows } in
+      ap (λ now. With now (rows_after (base once_folded) (unfolded once_folded))) acts ∙ ap (With (map (act_of (answers s)) s.entries)) rows_stay
 
   -- and nothing of it is stale where nothing was
   fold_current : AllCurrent (answers s) (base s) (unfolded s) → AllCurrent (answers once_folded) (base once_folded) (unfolded once_folded)

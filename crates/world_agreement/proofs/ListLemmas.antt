@@ -1,5 +1,5 @@
 -- What is in a list, what is found there, and what a filter keeps.
-use Rattle.std.proofs.Common.{◌≡◌, zero, suc, ◌<◌, Bool, true, List, [], ◌∷◌, Option, Some, None, IsSome, IsSomeAnd, All, AllPairs, Any, Contains, find, filter, map, option_map, inl, inr, ◌⊎◌, refl, sym, ap, subst, arith}
+use Rattle.std.proofs.Common.{◌≡◌, zero, suc, Bool, true, List, [], ◌∷◌, Option, Some, None, IsSome, IsSomeAnd, All, AllPairs, Any, Contains, find, filter, map, option_map, inl, inr, refl, sym, ap, subst, arith}
 use Rattle.std.proofs.lemmas.Bool.{cases_Bool}
 use Rattle.std.proofs.lemmas.List.Elements.{All-nil, All-cons, Contains-get_or, Contains-append_right}
 use Rattle.service_events.proofs.SearchLemmas.{splits, none_first, contains_here, contains_cases}
