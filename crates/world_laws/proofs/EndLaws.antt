@@ -18,10 +18,7 @@ use Rattle.repair_messages.specs.declared.posts.Post.{Post}
 use Rattle.repair_messages.specs.declared.posts.Post.TheVariants.{Set as SetPost, Token as TokenPost, Fetch as FetchPost}
 use Rattle.repair_messages.specs.declared.posts.PostName.{PostName}
 use Rattle.repair_messages.specs.declared.posts.PostName.TheVariants.{Call as OfCall, Reply as OfReply, Fetch as OfFetch}
-use Rattle.journal_rows.specs.Words.{ordered}
 use Rattle.journal_rows.specs.declared.orders.Command.{Command}
-use Rattle.journal_rows.specs.declared.orders.Command.TheVariants.{Cancel, Restore, Replace, Create, Retry, Fold}
-use Rattle.journal_rows.specs.declared.orders.OrderedRow.{OrderedRow}
 use Rattle.call_registers.specs.Registers.{register}
 use Rattle.call_registers.specs.Replies.{reply}
 use Rattle.call_registers.specs.declared.register.Register.{Register}
@@ -31,7 +28,6 @@ use Rattle.call_registers.specs.declared.reply.Reply.{Reply}
 use Rattle.flights.specs.declared.flight.Flight.{Flight}
 use Rattle.service_events.specs.Arriving.{arrive_event, call_answered_event, call_failed_event}
 use Rattle.service_events.specs.Messages.{acked_again, is_known, is_too_much, origin_of, take_admitted, take_event, take_new, taken, taken_by}
-use Rattle.service_events.specs.Orders.{carried_out, order_by, order_where, refused as why_refused}
 use Rattle.service_events.specs.Posts.{fetch_message, fetch_post, next_post, set_message, token_message, token_post, write_post}
 use Rattle.service_events.specs.State.{Kept, After, after, me, or_else, is_in_flight, flight_of, base, unfolded}
 use Rattle.service_events.specs.Steps.{Stale, stale_in, step_by}
@@ -41,10 +37,10 @@ use Rattle.service_events.specs.declared.answers.Arrived.TheVariants.{Done, Call
 use Rattle.service_events.specs.declared.answers.PostReply.{PostReply}
 use Rattle.service_events.specs.declared.answers.PostReply.TheVariants.{Lost as PostIsLost}
 use Rattle.service_events.specs.declared.event.Event.TheVariants as service_event
-use Rattle.service_events.specs.declared.refusals.OrderRefused.{OrderRefused}
 use Rattle.service_events.specs.declared.refusals.TakeRefused.{TakeRefused}
 use Rattle.service_events.proofs.AskedLemmas.{take_either}
 use Rattle.service_events.proofs.EventLaws.{event_goes}
+use Rattle.service_events.proofs.OrderSettings.{order_setting}
 use Rattle.service_events.proofs.SearchLemmas.{found_all}
 use Rattle.world_agreement.specs.Partners.{has_name, service_of, NamesDiffer}
 use Rattle.world_agreement.proofs.ListLemmas.{found_in}
@@ -127,7 +123,7 @@ module _ (name : List ℕ) (s t : Kept) (setting : t.setting ≡ s.setting) wher
     call = e.call;
   }
 
--- ---- settings of services that take, step or are given an order
+-- ---- settings of services that take or step
 
 taken_setting : (s : Kept) (set : SetMessage) (i : Inputs) (e : Option Entry) (q : Option Request) → (taken_by s set i e q).setting ≡ s.setting
 taken_setting s set i (Some e) q = refl
@@ -145,24 +141,6 @@ take_setting : (s : Kept) (set : SetMessage) (i : Inputs) → (take_event s set 
 take_setting s set i =
     cond_both (is_in_flight (origin_of set) s) (after s (Err (TakeRefused.NotYet set.number))) (take_admitted s set i (is_too_much s set))
     (λ a. a.service.setting ≡ s.setting) (λ _. refl) (λ _. admitted_setting s set i (is_too_much s set))
-
-carried_setting : (s : Kept) (command : Command) (who : List ℕ) (i : Inputs) → (carried_out s command who i).setting ≡ s.setting
-carried_setting s (Cancel id) who i = refl
-carried_setting s (Restore id) who i = refl
-carried_setting s (Replace id method path body) who i = refl
-carried_setting s (Create before behind q) who i = refl
-carried_setting s (Retry (OfCall n)) who i = refl
-carried_setting s (Retry (OfReply id)) who i = refl
-carried_setting s (Retry (OfFetch n)) who i = refl
-carried_setting s (Fold id) who i = refl
-
-order_by_setting : (s : Kept) (command : Command) (token who : List ℕ) (i : Inputs) (o : Option OrderRefused) → (order_by s command token who i o).service.setting ≡ s.setting
-order_by_setting s command token who i (Some why) = refl
-order_by_setting s command token who i None = carried_setting s command who i
-
-order_setting : (s : Kept) (command : Command) (token who : List ℕ) (i : Inputs) (o : Option OrderedRow) → (order_where s command token who i o).service.setting ≡ s.setting
-order_setting s command token who i (Some o) = refl
-order_setting s command token who i None = order_by_setting s command token who i (why_refused s command who)
 
 step_setting : (s : Kept) (o : Option Stale) → (step_by s o).service.setting ≡ s.setting
 step_setting s None = refl
@@ -294,7 +272,7 @@ module _ (services : List Kept) (packets : List Packet) (h : AreClosed services 
   gives_up_writes flight = record { setting = (event_goes s (service_event.Abandon flight) tt).grows.setting; packet = tt }
 
   orders_writes : (command : Command) (token who : List ℕ) (i : Inputs) → Writes services s (order_served command token who s i)
-  orders_writes command token who i = record { setting = order_setting s command token who i (ordered token s.journal); packet = tt }
+  orders_writes command token who i = record { setting = order_setting s command token who i; packet = tt }
 
   -- the world stays closed
   closed_served : (d : Served) → Writes services s d → AreClosed (with_service name d.service services) (packets ++ option_to_list d.packet)

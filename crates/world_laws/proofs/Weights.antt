@@ -1,5 +1,5 @@
 -- How much services and the message in hand weigh: a bound on the deliveries that may still follow.
-use Rattle.std.specs.Prelude.{ℕ, zero, suc, ◌+◌, ◌-◌, ◌*◌, ◌<◌, Bool, List, [], ◌∷◌, ◌++◌, Option, Some, None, Result, Ok, Err, if◌then◌else◌, length, sum_by}
+use Rattle.std.specs.Prelude.{ℕ, zero, suc, ◌+◌, ◌-◌, ◌*◌, ◌<◌, List, [], ◌∷◌, Option, Some, None, Result, Ok, Err, if◌then◌else◌, length, sum_by}
 use Rattle.lang_core.specs.declared.request.Request.{Request}
 pub use Rattle.handler_chains.specs.Onward.{is_among, chain_behind}
 use Rattle.flights.specs.declared.flight.Flight.{Flight}

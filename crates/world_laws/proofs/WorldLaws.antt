@@ -211,6 +211,7 @@ module _ (services : List Kept) (packets : List Packet) (h : AreSound services p
       said t turns (Err (take.Full n)) says = tt
       said t turns (Err (take.NotYet n)) says = tt
       said t turns (Err (take.Denied n)) says = tt
+      said t turns (Err (take.TooOld n)) says = tt
 
   take_token_served_owes : (a : TokenMessage) → a.caller ≡ name → WasGiven services a → Owes services name s (take_token_served a s)
   take_token_served_owes a caller was =
@@ -225,6 +226,7 @@ module _ (services : List Kept) (packets : List Packet) (h : AreSound services p
       said t turns (Err answer.NoMemory) says = tt
       said t turns (Err (answer.Unknown n)) says = tt
       said t turns (Err (answer.Denied n)) says = tt
+      said t turns (Err (answer.TooOld n)) says = tt
 
   give_served_owes : (f : Fetch) → PostStands services (FetchPost f) → Owes services name s (give_served f s)
   give_served_owes f was =
