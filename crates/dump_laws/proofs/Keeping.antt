@@ -1,5 +1,5 @@
 -- What is written down of services that fit their journals, have different names and are a legal execution keeps what each dump keeps.
-use Rattle.std.proofs.Common.{◌≡◌, ℕ, suc, ◌+◌, ◌≤◌, Bool, true, false, cond, ◌&&◌, List, [], ◌∷◌, ◌++◌, Option, Some, None, find, map, length, nat_eq, eq-eqb, refl, sym, ap, subst, ◌∙◌, arith}
+use Rattle.std.proofs.Common.{◌≡◌, ℕ, suc, ◌+◌, ◌≤◌, Bool, true, false, cond, ◌&&◌, List, [], ◌∷◌, ◌++◌, Option, Some, None, find, map, length, nat_eq, eq-eqb, refl, sym, ap, ◌∙◌, arith}
 use Rattle.std.specs.Prelude.{All}
 use Rattle.std.specs.List.{AllByRecursion}
 use Rattle.std.specs.Option.{option_map_or}
@@ -8,20 +8,17 @@ use Rattle.std.specs.Cmp.Lexicographic.{nat_list_eq_equiv}
 use Rattle.lang_base.specs.Texts.{same_text}
 use Rattle.lang_core.specs.Origins.{is_call}
 use Rattle.lang_core.specs.Places.{IsOrdered}
-use Rattle.lang_core.specs.Rows.{apply, cell_place}
+use Rattle.lang_core.specs.Rows.{cell_place}
 use Rattle.lang_core.specs.declared.cells.Cell.{Cell}
 use Rattle.lang_core.specs.declared.ids.Origin.{Origin}
 use Rattle.lang_core.specs.declared.ids.Origin.TheVariants.{Outside, Call}
-use Rattle.lang_core.specs.declared.setting.Setting.{Setting}
 use Rattle.lang_core.specs.declared.trace.CallMade.{CallMade}
-use Rattle.lang_core.specs.declared.trace.Trace.{Trace}
 use Rattle.lang_core.proofs.RowLemmas.{ordered-apply}
-use Rattle.execution.specs.Executions.{Act, IsReplay}
 use Rattle.request_log.specs.Entries.{IsDistinct, find_call, has_id, has_origin}
 use Rattle.request_log.specs.Records.{record_of, recorded_calls}
 use Rattle.request_log.specs.declared.entry.Entry.{Entry}
 use Rattle.local_repair.specs.Current.{Consumed, after_entry, rows_after, writes_of}
-use Rattle.local_repair.specs.Histories.{act_kept}
+use Rattle.local_repair.proofs.PastLemmas.{kept_ordered}
 use Rattle.call_registers.specs.declared.register.Register.{Register}
 use Rattle.service_events.specs.Fits.{Fits, NumberedCalls, WantsItsCalls, calls_of_entry, calls_of_flight, count, places, times_held, wanted_call}
 use Rattle.service_events.specs.State.{Kept, answers, base, folded, me, unfolded}
@@ -159,15 +156,6 @@ rows_ordered : (entries : List Entry) (rows : List Cell) → IsOrdered cell_plac
 rows_ordered [] rows ordered = ordered
 rows_ordered (e ∷ entries) rows ordered = rows_ordered entries (after_entry rows e) (ordered-apply rows (writes_of e.made) ordered)
 
--- what requests leave that replay from rows in order on
-replay_ordered : (setting : Setting) (rows : List Cell) (acts : List Act) (traces : List Trace) (last : List Cell) → IsReplay setting rows acts traces last
-    → IsOrdered cell_place rows → IsOrdered cell_place last
-replay_ordered setting rows [] [] last is ordered = (let O : List Cell → Type 0 = λ r. IsOrdered cell_place r in subst O is ordered)
-replay_ordered setting rows [] (t ∷ traces) last is ordered = absurd is
-replay_ordered setting rows (a ∷ acts) [] last is ordered = absurd is
-replay_ordered setting rows (a ∷ acts) (t ∷ traces) last is ordered =
-    replay_ordered setting (apply rows t.writes) acts traces last is.1 (ordered-apply rows t.writes ordered)
-
 -- ---- entries
 
 mapped_length : {X Y : Type 0} (f : X → Y) (xs : List X) → length (map f xs) ≡ length xs
@@ -200,13 +188,12 @@ front_all P (x ∷ xs) ys all = (all.0, front_all P xs ys all.1)
 service_kept : (s : Kept) → Fits s → AllByRecursion (AreSent (me s)) s.entries → IsKept (dumped s)
 service_kept s fits sent =
     let wants = recursion_from_All (WantsItsCalls s.registers) (places s) fits.places.calls in
-    let past = fits.horizon.replayed in
     record {
       weight = refl;
       ids = ids_apart (answers s) s.entries fits.asked.distinct;
       callers = callers_apart (answers s) s.entries fits.asked.distinct;
       numbers = numbers_apart s fits;
-      rows = rows_ordered (unfolded s) (base s) (replay_ordered s.setting [] (map act_kept (folded s)) past.traces (base s) past.replay tt);
+      rows = rows_ordered (unfolded s) (base s) (kept_ordered s.setting (folded s) (base s) fits.horizon.replayed);
       entries = wholes s s.entries (front_all (WantsItsCalls s.registers) (map calls_of_entry s.entries) (map calls_of_flight s.flights) wants) sent;
     }
 
