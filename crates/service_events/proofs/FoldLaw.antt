@@ -334,7 +334,7 @@ module _ (s : Kept) (f : Fits s) (id : ℕ) (e : Entry) (there : find (has_id id
   pub then_unfolded : unfolded t ≡ drop n (unfolded s)
   then_unfolded = mapped_behind bare (s.horizon + n) s.entries ∙ sym (drop-drop n s.horizon s.entries)
 
-  entries_alike : AreAlike s.entries t.entries
+  pub entries_alike : AreAlike s.entries t.entries
   entries_alike =
       let k = s.horizon + n in
       let A : List Entry → Type 0 = λ l. AreAlike l (map bare l) in

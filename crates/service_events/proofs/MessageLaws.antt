@@ -28,13 +28,13 @@ use Rattle.call_registers.specs.Replies.{reply, at_entry, with_taken, made_due}
 use Rattle.flights.specs.declared.flight.Flight.{Flight}
 use Rattle.service_events.specs.State.{Kept, after, me, next_id, is_in_flight, same_call_origin}
 use Rattle.service_events.specs.Calls.{noted}
-use Rattle.service_events.specs.Messages.{take_decision, take_rule, take_new, origin_of, is_known, is_too_much, acked_row, took_row, at_reply_of, acked_again, created_entry, created_reply, created_place, at_version, taken_by, take_admitted, confirmed_row, hear_decision, noted_row, heard, hear_rule, hear_allowed, hear_new, token_taken_where, fetched_row, fetched_by, fetched, had_call, is_ack_of, replies_to, had, is_now, hold_of, held_back, held_where, saw_ack_row, was_confirmed_row, confirmed_reply, posted}
-use Rattle.service_events.specs.Questions.{is_denied}
+use Rattle.service_events.specs.Messages.{take_rule, take_new, origin_of, is_known, is_too_much, acked_row, took_row, at_reply_of, acked_again, created_entry, created_reply, created_place, at_version, taken_by, take_admitted, confirmed_row, noted_row, heard, hear_rule, hear_allowed, hear_new, token_taken_where, fetched_row, fetched_by, fetched, had_call, is_ack_of, replies_to, had, is_now, hold_of, held_back, held_where, saw_ack_row, was_confirmed_row, confirmed_reply, posted}
 use Rattle.service_events.specs.declared.answers.PostReply.{PostReply}
 use Rattle.service_events.specs.declared.answers.PostReply.TheVariants.{Acked as WasAcked, Confirmed as WasConfirmedBack, Given, Refused, Lost}
 use Rattle.service_events.specs.declared.refusals.AnswerRefused.TheVariants.{Unknown}
 use Rattle.service_events.specs.declared.refusals.TakeRefused.TheVariants.{NotYet}
 use Rattle.service_events.specs.Fits.{OrdersOn, calls_of_flight}
+use Rattle.service_events.proofs.AskedLemmas.{take_either, hear_either}
 use Rattle.service_events.proofs.CallRowLemmas.{Each, kind_follows, IsPlain, IsUnseen, IsUnordered}
 use Rattle.service_events.proofs.FlightLemmas.{LeavesOrigin, same_flips, any_none, flies_rows, flies_took}
 use Rattle.service_events.proofs.HeardLemmas.{goes_heard, false_is_not_true, known, older_by, claims_below}
@@ -100,10 +100,9 @@ again_goes s set =
     (goes_plain t (acked_row set ∷ []) (tt, tt) (tt, tt) (λ h. (tt, tt)) (λ h. flies_rows s.journal (acked_row set ∷ []) s.flights (tt, tt) h))
 
 new_goes : (s : Kept) (set : SetMessage) (i : Inputs) → IsDistinct s.entries → is_in_flight (origin_of set) s ≡ false → Goes s (take_new s set i).service
-new_goes s set i distinct apart = elim (cases_Bool (is_denied (take_decision s set))) [
-  | inl denied ↦ rw denied (goes_same s)
-  | inr allowed ↦ rw allowed (taken_goes s set i (find_call (origin_of set) s.entries) set.desired distinct apart refl)
-]
+new_goes s set i distinct apart =
+    take_either s set i (λ a. Goes s a.service) (λ e. goes_same s) (goes_same s)
+    (λ recent. taken_goes s set i (find_call (origin_of set) s.entries) set.desired distinct apart refl)
 
 admitted_goes : (s : Kept) (set : SetMessage) (i : Inputs) (n : Option ℕ) → IsDistinct s.entries → is_in_flight (origin_of set) s ≡ false
     → Goes s (take_admitted s set i n).service
@@ -169,10 +168,8 @@ token_taken_by_cases : (s : Kept) (t : TokenMessage) (r : Register) (same new : 
     then hear_new s t r
     else after (noted (confirmed_row t ∷ []) s) (Ok (heard t None)))).service
 token_taken_by_cases s t r false new found is = goes_same s
-token_taken_by_cases s t r true true found is = elim (cases_Bool (is_denied (hear_decision s t r))) [
-  | inl denied ↦ rw denied (goes_same s)
-  | inr allowed ↦ rw allowed (heard_new s t r found is)
-]
+token_taken_by_cases s t r true true found is =
+    hear_either s t r (λ a. Goes s a.service) (goes_same s) (goes_same s) (λ recent. heard_new s t r found is)
 token_taken_by_cases s t r true false found is = heard_old s t r found is
 
 pub token_taken_where_goes : (s : Kept) (t : TokenMessage) (o : Option Register) → register t.number s.registers ≡ o → Goes s (token_taken_where s t o).service
