@@ -1,8 +1,7 @@
 -- Calls of folded entries stand nowhere else, and rows that say nothing of them leave their registers done with.
-use Rattle.std.proofs.Common.{◌≡◌, ℕ, ◌+◌, ◌<◌, ◌≤◌, Bool, true, false, ◌&&◌, ◌||◌, cond, List, [], ◌∷◌, ◌++◌, Option, Some, None, IsSome, IfSome, IsSomeAnd, fold, map, length, is_some, nat_eq, nat_lt, option_map, refl, sym, ap, ◌∙◌, subst, inl, inr, arith, eq-eqb, eqb-true, max}
+use Rattle.std.proofs.Common.{◌≡◌, ℕ, ◌+◌, ◌<◌, ◌≤◌, Bool, true, false, ◌&&◌, cond, List, [], ◌∷◌, ◌++◌, Option, Some, None, IsSome, IfSome, IsSomeAnd, fold, map, length, is_some, nat_eq, nat_lt, option_map, refl, sym, ap, ◌∙◌, subst, inl, inr, arith, eq-eqb, eqb-true, max}
 use Rattle.std.specs.List.{list_any}
-use Rattle.std.specs.Option.{option_map_or}
-use Rattle.std.specs.Cmp.Lexicographic.{nat_eq_equiv}
+use Rattle.std.specs.Cmp.{nat_eq_equiv}
 use Rattle.std.proofs.lemmas.Bool.{cases_Bool, or_left, or_right, or_parts}
 use Rattle.std.proofs.lemmas.List.{map-append}
 use Rattle.std.proofs.lemmas.List.Sums.{fold-append, fold_push}
@@ -18,7 +17,7 @@ use Rattle.call_registers.specs.declared.register.Answer.{Answer}
 use Rattle.call_registers.specs.declared.register.Register.{Register}
 use Rattle.flights.specs.declared.flight.Flight.{Flight}
 use Rattle.service_events.specs.Calls.{seen_answer}
-use Rattle.service_events.specs.Fits.{EachAfter, Fits, FitsPlaces, FitsSeen, FitsSent, HasNoted, HasSeen, IsDoneWith, IsNewTo, IsPast, NumberedCalls, SeesOn, call_in, calls_of_entry, calls_of_flight, count, places, sent_by, times_held, wanted_call}
+use Rattle.service_events.specs.Fits.{EachAfter, Fits, FitsPlaces, FitsSeen, FitsSent, HasNoted, HasSeen, IsDoneWith, IsPast, NumberedCalls, SeesOn, call_in, calls_of_entry, calls_of_flight, count, places, sent_by, times_held, wanted_call}
 use Rattle.service_events.specs.Messages.{is_past_call}
 use Rattle.service_events.specs.State.{Kept, answers, folded, unfolded}
 use Rattle.service_events.proofs.CallRowLemmas.{Each, each_of_all, go_on, word_same}
@@ -239,16 +238,17 @@ stays_by None o' g g' last token same h h' more done = absurd done
 stays_by (Some r) None g g' last token same h h' more done = cc
 stays_by (Some r) (Some r') g g' last token same h h' more done =
     let one : sent_by r' ≡ sent_by r = cc in
-    let version : r'.version ≡ r.version = ap (λ x. x.version) one in
-    let desired : r'.desired ≡ r.desired = ap (λ x. x.desired) one in
+    let version : r'.version ≡ r.version = ap (λ (x : SentRow). x.version) one in
+    let desired : r'.desired ≡ r.desired = ap (λ (x : SentRow). x.desired) one in
     let answer : r'.answer ≡ r.answer = h'.answer ∙ sym h.answer in
     let noted : r'.noted ≡ r.noted = noted_both token r r' h.noted h'.noted in
     let old = h.acked in
     let new = h'.acked in
-    let was = done.acked in (
+    let was = done.acked in
+    let owes : owes_fetch r' ≡ owes_fetch r = (λ i. is_some (desired i) && nat_lt (held_version (answer i)) (noted i)) in (
       record {
         acked = omega (arith, version, old, new, more, was);
-        fetched = (λ i. is_some (desired i) && nat_lt (held_version (answer i)) (noted i)) ∙ done.fetched;
+        fetched = owes ∙ done.fetched;
       },
       (λ i. answer_to (version i) (answer i)),
     )

@@ -17,7 +17,7 @@ use Rattle.repair_messages.specs.declared.messages.AnswerMessage.{AnswerMessage}
 use Rattle.journal_rows.specs.Words.{last_taken}
 use Rattle.journal_rows.specs.declared.callee.TookRow.{TookRow}
 use Rattle.journal_rows.specs.declared.row.Row.{Row}
-use Rattle.journal_rows.specs.declared.row.Row.TheVariants.{Sent, SawAck, Noted, SawAnswer}
+use Rattle.journal_rows.specs.declared.row.Row.TheVariants.{Asked, Sent, SawAck, Noted, SawAnswer}
 use Rattle.call_registers.specs.Changes.{change}
 use Rattle.call_registers.specs.Registers.{at_number, next_number, register, with_cause, has_number, sent_anew, with_ack, with_answer, with_note}
 use Rattle.call_registers.specs.declared.register.Register.{Register}
@@ -32,7 +32,7 @@ use Rattle.service_events.specs.Arriving.{accepted, new_flight, admitted, arrive
 use Rattle.service_events.specs.Calls.{after_row, after_rows, all_deleted, first_sent, named, noted, put_sent, seen_answer}
 use Rattle.service_events.specs.Fits.{count}
 use Rattle.service_events.specs.Flying.{flight_run, awaited, before_answer, committed, committed_entry, live_answer, surplus_rows, took_rows, with_slot, with_change, deletion, change_rows, waits, wanted_of, named_unsent, changed_unsent, completing, completed, changed, moved, goes_on}
-use Rattle.service_events.specs.State.{Kept, After, after, or_else, is_crowded, is_heavy, has_flight, flight_of}
+use Rattle.service_events.specs.State.{Kept, After, after, or_else, is_crowded, is_heavy, has_flight, flight_of, next_id}
 use Rattle.service_events.specs.declared.answers.Arrived.{Arrived}
 use Rattle.service_events.specs.declared.refusals.ArriveRefused.{ArriveRefused}
 use Rattle.service_events.specs.declared.refusals.CallRefused.{CallRefused}
@@ -95,12 +95,12 @@ rows_longer at rs (row ∷ rows) =
 
 -- ---- rows about calls of a flight
 
-deleted_none : (rs : List Register) (ns : List ℕ) (cs : List CallMade) → Each FoldsNone (all_deleted rs ns cs)
+pub deleted_none : (rs : List Register) (ns : List ℕ) (cs : List CallMade) → Each FoldsNone (all_deleted rs ns cs)
 deleted_none rs [] cs = tt
 deleted_none rs (n ∷ ns) [] = tt
 deleted_none rs (n ∷ ns) (c ∷ cs) = (tt, deleted_none rs ns cs)
 
-deleted_leaves : (n : ℕ) (rs : List Register) (ns : List ℕ) (cs : List CallMade) → AreNot n ns → Each (LeavesCall n) (all_deleted rs ns cs)
+pub deleted_leaves : (n : ℕ) (rs : List Register) (ns : List ℕ) (cs : List CallMade) → AreNot n ns → Each (LeavesCall n) (all_deleted rs ns cs)
 deleted_leaves n rs [] cs h = tt
 deleted_leaves n rs (m ∷ ms) [] h = tt
 deleted_leaves n rs (m ∷ ms) (c ∷ cs) h = (h.0, deleted_leaves n rs ms cs h.1)
@@ -133,7 +133,7 @@ greatest_is_not : (n : ℕ) (ms : List ℕ) (most : ℕ) → nat_eq most n ≡ f
 greatest_is_not n [] most first h = first
 greatest_is_not n (m ∷ ms) most first h = greatest_is_not n ms (max most m) (greater_is_not n most m first h.0) h.1
 
-above_is_not : (n next : ℕ) → n < next → nat_eq next n ≡ false
+pub above_is_not : (n next : ℕ) → n < next → nat_eq next n ≡ false
 above_is_not n next less = ne_eqb next n (λ same. omega (arith, less, same))
 
 -- ---- a flight that goes on
@@ -154,12 +154,13 @@ module _ (start : Kept) where
       let k = length t.calls in
       let grown = length-append s.entries (x ∷ []) in
       let few = c.behind.within in
+      let asking : Row = Asked (record { id = next_id s; origin = f.origin; request = f.request; inputs = f.inputs }) in
       behind_then start s (committed s f t).service (before_answer s f t ++ live_answer s f t ∷ []) c.behind refl
       (each_append FoldsNone (before_answer s f t) (live_answer s f t ∷ [])
-      (each_append FoldsNone (surplus_rows s f t) (_ ∷ took_rows f.origin f.request) (deleted_none s.registers (drop k f.numbers) (drop k f.calls)) (tt, took_none f.origin f.request))
+      (each_append FoldsNone (surplus_rows s f t) (asking ∷ took_rows f.origin f.request) (deleted_none s.registers (drop k f.numbers) (drop k f.calls)) (tt, took_none f.origin f.request))
       (tt, tt))
       (λ n p. each_append (LeavesCall n) (before_answer s f t) (live_answer s f t ∷ [])
-      (each_append (LeavesCall n) (surplus_rows s f t) (_ ∷ took_rows f.origin f.request)
+      (each_append (LeavesCall n) (surplus_rows s f t) (asking ∷ took_rows f.origin f.request)
       (deleted_leaves n s.registers (drop k f.numbers) (drop k f.calls) (each_drop_first (λ m. nat_eq m n ≡ false) k f.numbers (c.apart n p))) (tt, took_leaves n f.origin f.request))
       (tt, tt))
       (push_stays s x few) refl refl (omega (arith, few, grown)) refl

@@ -2,7 +2,6 @@
 use Rattle.std.proofs.Common.{◌≡◌, ℕ, zero, suc, ◌+◌, ◌<◌, ◌≤◌, Bool, true, false, cond, List, [], ◌∷◌, ◌++◌, map, length, take, set, slice_get, Option, Some, None, Result, Err, nat_eq, nat_le, refl, sym, ap, ◌∙◌, subst, arith, length-set}
 use Rattle.std.proofs.lemmas.Bool.{cond_both}
 use Rattle.std.proofs.lemmas.List.{length-map, map-append, take-map, take-set}
-use Rattle.std.proofs.lemmas.List.Elements.{All-push}
 use Rattle.lang_core.specs.Traces.{dead_trace}
 use Rattle.lang_core.specs.declared.ids.Origin.{Origin}
 use Rattle.lang_core.specs.declared.ids.Origin.TheVariants.{Call}
@@ -45,7 +44,7 @@ use Rattle.service_events.proofs.AloftLemmas.{IsAloft, Became, AnyNumber, IsNot,
 use Rattle.service_events.proofs.GrowthLemmas.{IsGrowing, growing, first_is, Follows, follows_none, follows_name, follows_change, few_calls}
 use Rattle.service_events.proofs.OwnLemmas.{before_same, all_same}
 use Rattle.service_events.proofs.RepairRuns.{LeavesRuns}
-use Rattle.service_events.proofs.RunLemmas.{HasRun, record_is_run}
+use Rattle.service_events.proofs.RunLemmas.{record_is_run}
 use Rattle.service_events.proofs.HorizonLemmas.{runs_push}
 
 -- the records behind the horizon, which stands within the log, are what runs gave

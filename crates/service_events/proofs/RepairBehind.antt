@@ -1,13 +1,13 @@
 -- Messages, steps and orders that fold nothing go on behind the horizon.
-use Rattle.std.proofs.Common.{◌≡◌, ℕ, ◌+◌, ◌<◌, ◌≤◌, Bool, true, false, not, ◌&&◌, cond, List, [], ◌∷◌, ◌++◌, Option, Some, None, IsSome, IsSomeAnd, Ok, Err, find, is_some, length, nat_eq, nat_lt, refl, sym, ap, ◌∙◌, subst, arith, append-nil, eqb-true, length-set, lt-ltb, ltb-true, IfSome, option_map}
+use Rattle.std.proofs.Common.{◌≡◌, ℕ, ◌+◌, ◌<◌, ◌≤◌, Bool, true, false, not, ◌&&◌, cond, List, [], ◌∷◌, ◌++◌, Option, Some, None, IsSome, IsSomeAnd, Ok, Err, find, if◌then◌else◌, is_some, length, nat_eq, nat_lt, refl, sym, ap, ◌∙◌, subst, arith, append-nil, eqb-true, length-set, lt-ltb, ltb-true, IfSome, option_map}
 use Rattle.std.specs.List.{position_or_len}
-use Rattle.std.proofs.lemmas.Bool.{cases_Bool, cond_both, false_from_ne_true, both_ways}
+use Rattle.std.proofs.lemmas.Bool.{cond_both, false_from_ne_true, both_ways}
 use Rattle.std.proofs.lemmas.List.{length-map}
 use Rattle.lang_base.specs.Texts.{same_text}
 use Rattle.lang_core.specs.declared.inputs.Inputs.{Inputs}
 use Rattle.lang_core.specs.declared.request.Request.{Request}
 use Rattle.lang_core.specs.declared.trace.CallMade.{CallMade}
-use Rattle.request_log.specs.Entries.{changed, find_call, has_id, has_origin, mark, replace, with_entry}
+use Rattle.request_log.specs.Entries.{changed, find_call, has_id, has_origin, mark, replace}
 use Rattle.request_log.specs.declared.entry.Entry.{Entry}
 use Rattle.request_log.specs.declared.entry.Made.{Made}
 use Rattle.create_placement.specs.Placement.{created, place_between}
@@ -19,7 +19,7 @@ use Rattle.repair_messages.specs.declared.posts.Post.{Post}
 use Rattle.repair_messages.specs.declared.posts.Post.TheVariants.{Set, Token, Fetch}
 use Rattle.repair_messages.specs.declared.posts.PostName.{PostName}
 use Rattle.repair_messages.specs.declared.posts.PostName.TheVariants.{Call as OfCall, Reply as OfReply, Fetch as OfFetch}
-use Rattle.journal_rows.specs.Words.{last_noted, noted_at, noted_version, last_seen, seen_acked}
+use Rattle.journal_rows.specs.Words.{last_noted, last_seen, noted_at, seen_acked}
 use Rattle.journal_rows.specs.declared.caller.NotedRow.{NotedRow}
 use Rattle.journal_rows.specs.declared.orders.Command.{Command}
 use Rattle.journal_rows.specs.declared.orders.Command.TheVariants.{Cancel, Restore, Replace, Create, Retry, Fold}
@@ -30,10 +30,10 @@ use Rattle.call_registers.specs.declared.register.Answer.{Answer}
 use Rattle.call_registers.specs.declared.register.Hold.{Hold}
 use Rattle.call_registers.specs.declared.register.Register.{Register}
 use Rattle.service_events.specs.Calls.{deleted, named, next_after, noted, replaced, settling_rows, slot_rows, keeps_number, seen_answer}
-use Rattle.service_events.specs.Fits.{Fits, FitsSeen, HasSeen, IsDoneWith, call_in, count, call_to}
+use Rattle.service_events.specs.Fits.{Fits, HasSeen, IsDoneWith, call_in, call_to, count}
 use Rattle.service_events.specs.Messages.{acked_again, at_version, confirmed_row, created_entry, created_place, fetched, fetched_row, hear_new, hear_rule, heard, held_back, held_where, hold_of, is_known, is_now, is_past_call, neighbour, noted_row, origin_of, posted, take_admitted, take_new, taken, taken_by, token_taken_by, token_taken_where, acked_row, hear_allowed, saw_ack_row, took_row, was_confirmed_row}
 use Rattle.service_events.specs.Orders.{carried_out, misnamed, order_rows, place_made, released_post, entry_of}
-use Rattle.service_events.specs.State.{Kept, After, after, answers, base, folded, next_id, unfolded}
+use Rattle.service_events.specs.State.{Kept, after, answers, base, folded, next_id, unfolded}
 use Rattle.service_events.specs.Steps.{Stale, answer_rows, new_numbers, new_record, sent_rows, stale_in, step_by, stepped}
 use Rattle.service_events.specs.declared.answers.PostReply.{PostReply}
 use Rattle.service_events.specs.declared.answers.PostReply.TheVariants.{Acked as WasAcked, Confirmed as WasConfirmedBack, Given, Refused, Lost}

@@ -118,7 +118,10 @@ pub step_folded : (s : Kept) → IsDistinct s.entries → folded (step_event s).
 step_folded s apart = folded_by s (stale_in (answers s) (base s) (unfolded s)) refl apart
 
 pub step_entries : (s : Kept) → IsDistinct s.entries → (step_event s).service.entries ≡ folded s ++ step_with (answers s) (run_again s) (base s) (unfolded s)
-step_entries s apart = sym (all_entries (step_event s).service) ∙ (λ i. step_folded s apart i ++ step_unfolded s apart i)
+step_entries s apart =
+    let t = (step_event s).service in
+    let parts : folded t ++ unfolded t ≡ folded s ++ step_with (answers s) (run_again s) (base s) (unfolded s) = (λ i. step_folded s apart i ++ step_unfolded s apart i) in
+    sym (all_entries t) ∙ parts
 
 -- ---- every other entry stays as it was
 
