@@ -305,7 +305,7 @@ module _ (s : Kept) (f : Fits s) (id : ℕ) (e : Entry) (there : find (has_id id
   are : AreQuiet s (base s) (to_fold id s)
   are = quiet_are s (to_fold id s) (base s) quiet
 
-  first : take n (unfolded s) ≡ to_fold id s
+  pub first : take n (unfolded s) ≡ to_fold id s
   first = take_length (position_or_len (has_id id) (unfolded s) + 1) (unfolded s)
 
   -- all that are folded then, as they were
