@@ -1,5 +1,5 @@
 -- Steps, messages and orders keep that records are what runs gave.
-use Rattle.std.proofs.Common.{◌≡◌, ℕ, true, false, not, cond, List, [], ◌∷◌, Option, Some, None, Ok, Err, refl, ◌+◌, Bool, drop, length, sym, ◌∙◌, subst, drop-drop}
+use Rattle.std.proofs.Common.{◌≡◌, ℕ, true, false, not, cond, List, [], ◌∷◌, Option, Some, None, Ok, Err, refl, ◌+◌, Bool, drop, find, length, sym, ◌∙◌, subst, drop-drop}
 use Rattle.std.proofs.lemmas.Bool.{cond_both}
 use Rattle.lang_base.specs.Texts.{same_text}
 use Rattle.lang_core.specs.declared.inputs.Inputs.{Inputs}

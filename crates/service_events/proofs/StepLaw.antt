@@ -250,8 +250,8 @@ steps_at consumed rows (y ∷ ys) x e = elim (cases_Bool (is_current consumed ro
       record { before = []; rest = ys; is = ap (λ (z : Stale). z.entry ∷ ys) same; step = λ remake. rw stale (ap (λ (z : Stale). remake z.rows z.entry ∷ ys) same) })
 ]
 
-stands_found : (consumed : Consumed) (rows : List Cell) (log : List Entry) (x : Stale) → StepsAt consumed rows log x → IsDistinct log → find (has_id (x.entry).id) log ≡ Some x.entry
-stands_found consumed rows log x s apart =
+stands_found : (consumed : Consumed) (start : List Cell) (log : List Entry) (x : Stale) → StepsAt consumed start log x → IsDistinct log → find (has_id (x.entry).id) log ≡ Some x.entry
+stands_found consumed start log x s apart =
     subst (λ l. find (has_id (x.entry).id) l ≡ Some x.entry) (sym s.is)
     (found_behind (has_id (x.entry).id) s.before x.entry s.rest (front_id s.before x.entry s.rest (subst IsDistinct s.is apart)) (eq-eqb (x.entry).id (x.entry).id refl))
 
