@@ -10,14 +10,16 @@ use Rattle.std.proofs.lemmas.List.Elements.{filter-append}
 use Rattle.std.proofs.lemmas.List.Folds.{find-append}
 use Rattle.std.proofs.lemmas.List.Quantifiers.{position-Some}
 use Rattle.std.proofs.lemmas.Option.{slice_get-get_or, slice_get_within, get_or_from_slice_get}
+use Rattle.request_log.specs.Folded.{as_entry, whole}
 use Rattle.request_log.specs.declared.entry.Entry.{Entry}
+use Rattle.request_log.specs.declared.folded.Folded.{Folded}
 use Rattle.lang_core.specs.declared.trace.CallMade.{CallMade}
 use Rattle.service_events.specs.Fits.{calls_of_entry, calls_of_flight, count, places, times_held, wanted_call, FitsPlaces, NumberedCalls}
 use Rattle.service_events.specs.Posts.{next_of, previous_of}
 use Rattle.service_events.specs.State.{Kept}
-use Rattle.service_posts.specs.Walks.{calls_in, IsSlot}
+use Rattle.service_posts.specs.Walks.{calls_by, calls_in, IsSlot}
 use Rattle.service_posts.specs.declared.outward.Slot.{Slot}
-use Rattle.service_posts.proofs.WalkLemmas.{after_here, after_later, before_here, before_later}
+use Rattle.service_posts.proofs.WalkLemmas.{after_here, after_later, before_here, before_later, calls_whole}
 
 -- ---- the first and the last of a list
 
@@ -88,14 +90,6 @@ module _ (g : ℕ → Bool) where
       ∙ ap first (flat_map-cons (λ (e : Entry). e.slots) (get_or es at d) (drop (at + 1) es))
       ∙ first_of_both (get_or es at d).slots (calls_in (drop (at + 1) es))
 
-  pub last_step : (es : List Entry) (at : ℕ) (d : Entry) → at < length es
-      → last (calls_in (take (at + 1) es)) ≡ option_or (last (get_or es at d).slots) (last (calls_in (take at es)))
-  last_step es at d lt =
-      let e = get_or es at d in
-      ap (λ l. last (calls_in l)) (take_more es at d lt)
-      ∙ ap last (flat_map-append (λ (e : Entry). e.slots) (take at es) (e ∷ []) ∙ ap (λ l. calls_in (take at es) ++ l) (flat_map-cons (λ (e : Entry). e.slots) e [] ∙ append-nil e.slots))
-      ∙ last_of_both (calls_in (take at es)) e.slots
-
   module _ (es : List Entry) (at : ℕ) (e : Entry) (lt : at < length es) (is : e ≡ get_or es at e) (found : Option ℕ) where
     abbrev onward : Option ℕ
     onward = first (calls_in (drop (at + 1) es))
@@ -110,18 +104,43 @@ module _ (g : ℕ → Bool) where
     pub first_stops : found ≡ first e.slots → is_some found ≡ true → first (calls_in (drop at es)) ≡ found
     first_stops of there = first_there of ∙ or_some found onward there
 
-    abbrev back : Option ℕ
-    back = last (calls_in (take at es))
+  -- of entries with these calls each
+  module _ {X : Type 0} (slots : X → List ℕ) where
+    last_step : (xs : List X) (at : ℕ) (d : X) → at < length xs
+        → last (calls_by slots (take (at + 1) xs)) ≡ option_or (last (slots (get_or xs at d))) (last (calls_by slots (take at xs)))
+    last_step xs at d lt =
+        let x = get_or xs at d in
+        ap (λ l. last (calls_by slots l)) (take_more xs at d lt)
+        ∙ ap last (flat_map-append slots (take at xs) (x ∷ []) ∙ ap (λ l. calls_by slots (take at xs) ++ l) (flat_map-cons slots x [] ∙ append-nil (slots x)))
+        ∙ last_of_both (calls_by slots (take at xs)) (slots x)
 
-    last_there : found ≡ last e.slots → last (calls_in (take (at + 1) es)) ≡ option_or found back
-    last_there of =
-        last_step es at e lt ∙ ap (λ (x : Entry). option_or (last x.slots) back) (sym is) ∙ ap (λ o. option_or o back) (sym of)
+    module _ (xs : List X) (at : ℕ) (x : X) (lt : at < length xs) (is : x ≡ get_or xs at x) (found : Option ℕ) where
+      abbrev back : Option ℕ
+      back = last (calls_by slots (take at xs))
 
-    pub last_passes : found ≡ last e.slots → is_some found ≡ false → last (calls_in (take (at + 1) es)) ≡ back
-    last_passes of missing = last_there of ∙ or_none found back missing
+      last_there : found ≡ last (slots x) → last (calls_by slots (take (at + 1) xs)) ≡ option_or found back
+      last_there of = last_step xs at x lt ∙ ap (λ y. option_or (last (slots y)) back) (sym is) ∙ ap (λ o. option_or o back) (sym of)
 
-    pub last_stops : found ≡ last e.slots → is_some found ≡ true → last (calls_in (take (at + 1) es)) ≡ found
-    last_stops of there = last_there of ∙ or_some found back there
+      pub last_passes : found ≡ last (slots x) → is_some found ≡ false → last (calls_by slots (take (at + 1) xs)) ≡ back
+      last_passes of missing = last_there of ∙ or_none found back missing
+
+      pub last_stops : found ≡ last (slots x) → is_some found ≡ true → last (calls_by slots (take (at + 1) xs)) ≡ found
+      last_stops of there = last_there of ∙ or_some found back there
+
+  -- the folded ones stand before
+  module _ (fs : List Folded) (es : List Entry) (found : Option ℕ) (of : found ≡ last (calls_in es)) where
+    abbrev past : Option ℕ
+    past = last (calls_by (λ (f : Folded). f.slots) fs)
+
+    last_whole : last (calls_in (whole fs es)) ≡ option_or found past
+    last_whole =
+        ap last (calls_whole fs es) ∙ last_of_both (calls_by (λ (f : Folded). f.slots) fs) (calls_in es) ∙ ap (λ o. option_or o past) (sym of)
+
+    pub last_far : is_some found ≡ false → last (calls_in (whole fs es)) ≡ past
+    last_far missing = last_whole ∙ or_none found past missing
+
+    pub last_near : is_some found ≡ true → last (calls_in (whole fs es)) ≡ found
+    last_near there = last_whole ∙ or_some found past there
 
   -- ---- past the call itself
 
@@ -204,18 +223,41 @@ module _ (number : ℕ) (es : List Entry) (at : Slot) (slot : IsSlot number es a
         ∙ ap (λ l. front ++ l) (append_assoc (take at.call entry.slots) (number ∷ drop (at.call + 1) entry.slots) rest)
         ∙ sym (append_assoc front (take at.call entry.slots) (number ∷ after))
 
-    none_ahead : count number (calls_in es) ≤ 1 → count number ahead ≡ 0
-    none_ahead once =
-        let all = ap (count number) around ∙ count_both number ahead (number ∷ after) in
-        let one : count number (number ∷ after) ≡ 1 + count number after = ap (λ b. cond b 1 0 + count number after) (same number) in
-        omega arith
+    -- behind the folded ones
+    module _ (fs : List Folded) where
+      abbrev past_calls : List ℕ
+      past_calls = calls_in (map as_entry fs)
 
-    module _ (g : ℕ → Bool) (wanted : g number ≡ true) (once : count number (calls_in es) ≤ 1) where
-      pub next_found : first g after ≡ next_of number (filter g (calls_in es))
-      next_found = sym (ap (λ l. next_of number (filter g l)) around ∙ behind_it g number ahead after wanted (none_ahead once))
+      abbrev all_ahead : List ℕ
+      all_ahead = calls_in (whole fs (take at.entry es)) ++ take at.call entry.slots
 
-      pub previous_found : last g ahead ≡ previous_of number (filter g (calls_in es))
-      previous_found = sym (ap (λ l. previous_of number (filter g l)) around ∙ before_it g None number ahead after wanted (none_ahead once))
+      -- the folded ones come first
+      past_first : (ds : List Entry) → calls_in (whole fs ds) ≡ past_calls ++ calls_in ds
+      past_first ds = flat_map-append (λ (e : Entry). e.slots) (map as_entry fs) ds
+
+      all_ahead_is : past_calls ++ ahead ≡ all_ahead
+      all_ahead_is =
+          sym (append_assoc past_calls (calls_in (take at.entry es)) (take at.call entry.slots)) ∙ ap (λ l. l ++ take at.call entry.slots) (sym (past_first (take at.entry es)))
+
+      all_around : calls_in (whole fs es) ≡ all_ahead ++ number ∷ after
+      all_around =
+          past_first es
+          ∙ ap (λ l. past_calls ++ l) around
+          ∙ sym (append_assoc past_calls ahead (number ∷ after))
+          ∙ ap (λ l. l ++ number ∷ after) all_ahead_is
+
+      none_ahead : count number (calls_in (whole fs es)) ≤ 1 → count number all_ahead ≡ 0
+      none_ahead once =
+          let all = ap (count number) all_around ∙ count_both number all_ahead (number ∷ after) in
+          let one : count number (number ∷ after) ≡ 1 + count number after = ap (λ b. cond b 1 0 + count number after) (same number) in
+          omega arith
+
+      module _ (g : ℕ → Bool) (wanted : g number ≡ true) (once : count number (calls_in (whole fs es)) ≤ 1) where
+        pub next_found : first g after ≡ next_of number (filter g (calls_in (whole fs es)))
+        next_found = sym (ap (λ l. next_of number (filter g l)) all_around ∙ behind_it g number all_ahead after wanted (none_ahead once))
+
+        pub previous_found : last g all_ahead ≡ previous_of number (filter g (calls_in (whole fs es)))
+        previous_found = sym (ap (λ l. previous_of number (filter g l)) all_around ∙ before_it g None number all_ahead after wanted (none_ahead once))
 
 -- ---- how often it stands
 

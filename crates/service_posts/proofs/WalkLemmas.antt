@@ -1,14 +1,17 @@
 -- What a walk over the calls of entries finds is what stands next to the call.
-use Rattle.std.proofs.Common.{◌≡◌, ◌∙◌, refl, sym, ap, ℕ, suc, ◌+◌, Bool, true, false, cond, not, List, [], ◌∷◌, take, drop, Option, Some, None, flat_map, fold, nat_eq, slice_get, arith}
+use Rattle.std.proofs.Common.{◌≡◌, ◌∙◌, refl, sym, ap, ℕ, suc, ◌+◌, Bool, true, false, cond, not, List, [], ◌∷◌, ◌++◌, take, drop, Option, Some, None, fold, map, nat_eq, slice_get, arith}
+use Rattle.std.proofs.lemmas.List.Concat.{flat_map-append}
 use Rattle.std.proofs.lemmas.List.Sums.{fold-append}
 use Rattle.std.specs.List.{after_first, before_first, last_or, position_or_len}
+use Rattle.request_log.specs.Folded.{as_entry, whole}
 use Rattle.request_log.specs.declared.entry.Entry.{Entry}
+use Rattle.request_log.specs.declared.folded.Folded.{Folded}
 use Rattle.call_registers.specs.declared.register.Register.{Register}
 use Rattle.service_events.specs.Fits.{wanted_call}
 use Rattle.service_events.specs.Posts.{calls_to, goes_to, next_of, previous_of}
 use Rattle.service_events.specs.State.{Kept, or_else}
 use Rattle.repair_queue.proofs.FoldLemmas.{fold_filter}
-use Rattle.service_posts.specs.Walks.{pass, seen, seen_entry}
+use Rattle.service_posts.specs.Walks.{calls_by, calls_in, pass, seen, seen_each}
 use Rattle.service_posts.specs.declared.beside.Walk.{Walk}
 
 abbrev walk : Option ℕ → Bool → Option ℕ → Walk
@@ -83,24 +86,50 @@ walked of o (m ∷ ms) = one_more of o m ms (nat_eq m of) refl (walked of (Some 
 
 -- ---- over the entries
 
-entries_walk : (registers : List Register) (dest : List ℕ) (of : ℕ) (w : Walk) (entries : List Entry)
-    → fold (seen_entry registers dest of) w entries ≡ fold (seen registers dest of) w (flat_map (λ (e : Entry). e.slots) entries)
-entries_walk registers dest of w [] = refl
-entries_walk registers dest of w (e ∷ es) =
-    entries_walk registers dest of (seen_entry registers dest of w e) es
-    ∙ sym (fold-append (seen registers dest of) w e.slots (flat_map (λ (e : Entry). e.slots) es))
+abbrev slots_of : Entry → List ℕ
+slots_of e = e.slots
 
-calls_walk : (s : Kept) (dest : List ℕ) (of : ℕ) (w : Walk) → fold (seen_entry s.registers dest of) w s.entries ≡ fold (pass of) w (calls_to dest s)
-calls_walk s dest of w =
-    entries_walk s.registers dest of w s.entries
-    ∙ fold_filter (λ n. goes_to dest (wanted_call s.registers n)) (pass of) w (flat_map (λ (e : Entry). e.slots) s.entries)
+abbrev kept_slots : Folded → List ℕ
+kept_slots f = f.slots
 
-pub next_is : (s : Kept) (dest : List ℕ) (of : ℕ) (w : Walk) → w ≡ fold (seen_entry s.registers dest of) start_walk s.entries
+entries_walk : {X : Type 0} (slots : X → List ℕ) (registers : List Register) (dest : List ℕ) (of : ℕ) (w : Walk) (xs : List X)
+    → fold (seen_each slots registers dest of) w xs ≡ fold (seen registers dest of) w (calls_by slots xs)
+entries_walk slots registers dest of w [] = refl
+entries_walk slots registers dest of w (x ∷ xs) =
+    entries_walk slots registers dest of (seen_each slots registers dest of w x) xs
+    ∙ sym (fold-append (seen registers dest of) w (slots x) (calls_by slots xs))
+
+-- the calls of folded entries
+pub calls_past : (fs : List Folded) → calls_by kept_slots fs ≡ calls_in (map as_entry fs)
+calls_past [] = refl
+calls_past (f ∷ fs) = ap (λ l. f.slots ++ l) (calls_past fs)
+
+-- come first
+pub calls_whole : (fs : List Folded) (es : List Entry) → calls_in (whole fs es) ≡ calls_by kept_slots fs ++ calls_in es
+calls_whole fs es = flat_map-append slots_of (map as_entry fs) es ∙ ap (λ l. l ++ calls_in es) (sym (calls_past fs))
+
+pub whole_same : {fs gs : List Folded} {es ds : List Entry} → fs ≡ gs → es ≡ ds → whole fs es ≡ whole gs ds
+whole_same {gs = gs} {es = es} first rest = ap (λ l. whole l es) first ∙ ap (whole gs) rest
+
+pub log_walk : (registers : List Register) (dest : List ℕ) (of : ℕ) (fs : List Folded) (es : List Entry) (past w : Walk)
+    → past ≡ fold (seen_each kept_slots registers dest of) start_walk fs → w ≡ fold (seen_each slots_of registers dest of) past es
+    → w ≡ fold (seen registers dest of) start_walk (calls_in (whole fs es))
+log_walk registers dest of fs es past w first rest =
+    let all = seen registers dest of in
+    rest
+    ∙ entries_walk slots_of registers dest of past es
+    ∙ ap (λ x. fold all x (calls_in es)) (first ∙ entries_walk kept_slots registers dest of start_walk fs)
+    ∙ sym (ap (fold all start_walk) (calls_whole fs es) ∙ fold-append all start_walk (calls_by kept_slots fs) (calls_in es))
+
+calls_walk : (s : Kept) (dest : List ℕ) (of : ℕ) (w : Walk) → fold (seen s.registers dest of) w (calls_in s.entries) ≡ fold (pass of) w (calls_to dest s)
+calls_walk s dest of w = fold_filter (λ n. goes_to dest (wanted_call s.registers n)) (pass of) w (calls_in s.entries)
+
+pub next_is : (s : Kept) (dest : List ℕ) (of : ℕ) (w : Walk) → w ≡ fold (seen s.registers dest of) start_walk (calls_in s.entries)
     → w.next ≡ next_of of (calls_to dest s)
 next_is s dest of w e =
     ap (λ (w : Walk). w.next) (e ∙ calls_walk s dest of start_walk) ∙ (walked of None (calls_to dest s)).next
 
-pub previous_is : (s : Kept) (dest : List ℕ) (of : ℕ) (w : Walk) → w ≡ fold (seen_entry s.registers dest of) start_walk s.entries
+pub previous_is : (s : Kept) (dest : List ℕ) (of : ℕ) (w : Walk) → w ≡ fold (seen s.registers dest of) start_walk (calls_in s.entries)
     → w.previous ≡ previous_of of (calls_to dest s)
 previous_is s dest of w e =
     ap (λ (w : Walk). w.previous) (e ∙ calls_walk s dest of start_walk) ∙ (walked of None (calls_to dest s)).previous

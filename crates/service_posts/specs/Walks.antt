@@ -19,9 +19,9 @@ pass of w number =
 abbrev pub seen : List Register → List ℕ → ℕ → Walk → ℕ → Walk
 seen registers dest of w number = if goes_to dest (wanted_call registers number) then pass of w number else w
 
--- the calls of an entry more
-abbrev pub seen_entry : List Register → List ℕ → ℕ → Walk → Entry → Walk
-seen_entry registers dest of w e = fold (seen registers dest of) w e.slots
+-- the calls of an entry more, which has these
+abbrev pub seen_each : {X : Type 0} → (X → List ℕ) → List Register → List ℕ → ℕ → Walk → X → Walk
+seen_each slots registers dest of w x = fold (seen registers dest of) w (slots x)
 
 -- ---- outward from where the call stands
 
@@ -29,9 +29,13 @@ seen_entry registers dest of w e = fold (seen registers dest of) w e.slots
 abbrev pub is_to : List Register → List ℕ → ℕ → Bool
 is_to registers dest number = goes_to dest (wanted_call registers number)
 
+-- the calls of what has these calls each
+abbrev pub calls_by : {X : Type 0} → (X → List ℕ) → List X → List ℕ
+calls_by slots xs = flat_map slots xs
+
 -- the calls of these entries, in logged order
 abbrev pub calls_in : List Entry → List ℕ
-calls_in entries = flat_map (λ (e : Entry). e.slots) entries
+calls_in entries = calls_by (λ (e : Entry). e.slots) entries
 
 -- the first of these that is wanted and goes to this service
 abbrev pub first_to : List Register → List ℕ → List ℕ → Option ℕ

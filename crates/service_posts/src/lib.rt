@@ -2,6 +2,7 @@
 #![tactic(auto)]
 
 mod beside;
+mod calling;
 mod outward;
 mod posting;
 

@@ -1,14 +1,16 @@
 // The neighbours of a call from the place where it stands: the nearest calls to the same service before and behind it.
 ghost use Rattle.std.specs.Prelude.{◌≡◌, ◌+◌, ◌<◌, ◌≤◌, ◌++◌, true, Some, None, IfSome, drop, filter, find, fold, get_or, length, nat_eq, position, slice_get, take};
 ghost use Rattle.std.specs.Option.{option_copied};
+ghost use Rattle.request_log.specs.Folded.{whole};
 ghost use Rattle.service_events.specs.Fits.{count};
 ghost use Rattle.service_events.specs.Posts.{next_of, previous_of};
-ghost use Rattle.service_posts.specs.Walks.{calls_in, first_to, is_to, last_to, or_later, IsSlot};
+ghost use Rattle.service_posts.specs.Walks.{calls_by, calls_in, first_to, is_to, last_to, or_later, IsSlot};
 
 use crate::beside::{Neighbours, goes_to};
+use crate::calling::Calling;
 use call_registers::Registers;
 use lang_core::Name;
-use request_log::{Entry, KeptEntry};
+use request_log::{Entry, KeptEntry, KeptFolded};
 use service_parts::Parts;
 
 /// Where a call stands: the place of its entry in the log, and its own among the entry's calls, both counted from 0.
@@ -121,10 +123,10 @@ fn first_of(registers: &Registers, dest: &Name, entry: &KeptEntry) -> Option<u64
     first_to(registers, dest, entry.entry().slots.as_slice())
 }
 
-fn last_of(registers: &Registers, dest: &Name, entry: &KeptEntry) -> Option<u64>
-    ensures { result ≡ last_to registers.now.list dest.now entry.now.slots }
+fn last_of<T: Calling>(registers: &Registers, dest: &Name, entry: &T) -> Option<u64>
+    ensures { result ≡ last_to registers.now.list dest.now (T.slots entry.now) }
 {
-    last_to(registers, dest, entry.entry().slots.as_slice())
+    last_to(registers, dest, entry.slots())
 }
 
 // The first call to this service of the entries from this place on.
@@ -144,9 +146,14 @@ fn first_from(registers: &Registers, dest: &Name, entries: &[KeptEntry], from: u
 }
 
 // The last call to this service of the entries before this place.
-fn last_before(registers: &Registers, dest: &Name, entries: &[KeptEntry], to: usize) -> Option<u64>
+fn last_before<T: Calling>(
+    registers: &Registers,
+    dest: &Name,
+    entries: &[T],
+    to: usize,
+) -> Option<u64>
     requires { to ≤ length entries.now }
-    ensures { result ≡ last_to registers.now.list dest.now (calls_in (take to entries.now)) }
+    ensures { result ≡ last_to registers.now.list dest.now (calls_by T.slots (take to entries.now)) }
 {
     let mut end = to;
     while end > 0 {
@@ -157,6 +164,24 @@ fn last_before(registers: &Registers, dest: &Name, entries: &[KeptEntry], to: us
         end -= 1;
     }
     None
+}
+
+// The last call to this service of the folded entries, and behind them of those before this place.
+fn last_among(
+    registers: &Registers,
+    dest: &Name,
+    folded: &[KeptFolded],
+    entries: &[KeptEntry],
+    to: usize,
+) -> Option<u64>
+    requires { to ≤ length entries.now }
+    ensures { result ≡ last_to registers.now.list dest.now (calls_in (whole folded.now (take to entries.now))) }
+{
+    let near = last_before(registers, dest, entries, to);
+    if near.is_some() {
+        return near;
+    }
+    last_before(registers, dest, folded, folded.len())
 }
 
 // The first call to this service behind the one at this place of its entry, which has these.
@@ -181,17 +206,18 @@ fn next_to(
 fn previous_to(
     registers: &Registers,
     dest: &Name,
+    folded: &[KeptFolded],
     entries: &[KeptEntry],
     numbers: &[u64],
     at: Slot,
 ) -> Option<u64>
     requires entry { at.entry < length entries.now }
     requires call { at.call < length numbers.now }
-    ensures { result ≡ last_to registers.now.list dest.now (calls_in (take at.entry entries.now) ++ take at.call numbers.now) }
+    ensures { result ≡ last_to registers.now.list dest.now (calls_in (whole folded.now (take at.entry entries.now)) ++ take at.call numbers.now) }
 {
     match last_to(registers, dest, ahead_of(numbers, at.call)) {
         Some(number) => Some(number),
-        None => last_before(registers, dest, entries, at.entry),
+        None => last_among(registers, dest, folded, entries, at.entry),
     }
 }
 
@@ -202,24 +228,25 @@ fn entry_in(entries: &[KeptEntry], place: usize) -> &Entry
     entries[place].entry()
 }
 
-/// The neighbours of a wanted call to this service that stands at this place. It stands nowhere else, so the nearest ones are
-/// its neighbours.
+/// The neighbours of a wanted call to this service that stands at this place of the entries behind the folded ones. It stands
+/// nowhere else, so the nearest ones are its neighbours.
 pub(crate) fn outward(
     registers: &Registers,
     dest: &Name,
+    folded: &[KeptFolded],
     entries: &[KeptEntry],
     number: u64,
     at: Slot,
 ) -> Neighbours
     requires slot { IsSlot number entries.now at }
     requires wanted { is_to registers.now.list dest.now number ≡ true }
-    requires once { count number (calls_in entries.now) ≤ 1 }
-    ensures before { result.before ≡ next_of number (filter (is_to registers.now.list dest.now) (calls_in entries.now)) }
-    ensures after { result.after ≡ previous_of number (filter (is_to registers.now.list dest.now) (calls_in entries.now)) }
+    requires once { count number (calls_in (whole folded.now entries.now)) ≤ 1 }
+    ensures before { result.before ≡ next_of number (filter (is_to registers.now.list dest.now) (calls_in (whole folded.now entries.now))) }
+    ensures after { result.after ≡ previous_of number (filter (is_to registers.now.list dest.now) (calls_in (whole folded.now entries.now))) }
 {
     let entry = entry_in(entries, at.entry);
     let numbers = entry.slots.as_slice();
     let before = next_to(registers, dest, entries, numbers, at);
-    let after = previous_to(registers, dest, entries, numbers, at);
+    let after = previous_to(registers, dest, folded, entries, numbers, at);
     Neighbours { before, after }
 }

@@ -5,4 +5,4 @@ use Rattle.service_posts.proofs.outward.slot_of.Goals as goal
 
 pub returns-in-Some : goal.returns-in-Some
 returns-in-Some c =
-    subst (λ (es : List Entry). IfSome c.slot_at.result (IsSlot c.args.number es)) (c.as_slice.ensures.entries ∙ c.log-log.ensures) c.slot_at.ensures
+    subst (λ (es : List Entry). IfSome c.slot_at.result (IsSlot c.args.number es)) (c.as_slice.ensures.entries ∙ c.log-log.ensures.entries) c.slot_at.ensures
