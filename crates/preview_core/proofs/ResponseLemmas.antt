@@ -1,14 +1,13 @@
 -- What an entry of a service answered last, which is kept of folded ones too.
-use Rattle.std.proofs.Common.{◌≡◌, ℕ, List, [], ◌∷◌, ◌++◌, Bool, Some, None, find, map, nat_eq, option_and_then, option_map, inl, inr, refl, sym, ap, ◌∙◌}
+use Rattle.std.proofs.Common.{◌≡◌, ℕ, List, [], ◌∷◌, ◌++◌, Bool, Some, None, find, map, nat_eq, option_map, inl, inr, refl, sym, ap, ◌∙◌}
 use Rattle.std.proofs.lemmas.Bool.{cases_Bool}
 use Rattle.request_log.specs.Entries.{has_id}
 use Rattle.request_log.specs.Folded.{as_entry, has_number}
-use Rattle.request_log.specs.Records.{Record, record_of}
 use Rattle.request_log.specs.declared.entry.Entry.{Entry}
 use Rattle.request_log.specs.declared.folded.Folded.{Folded}
 use Rattle.service_events.specs.State.{Kept, folded, unfolded}
 use Rattle.service_events.proofs.HorizonLemmas.{all_entries, found_past}
-use Rattle.preview_core.specs.Repairs.{response_of}
+use Rattle.preview_core.specs.Repairs.{response_in, response_of}
 
 -- a folded entry is found by its number as it is kept
 found_as : (id : ℕ) (kept : List Folded) → find (has_id id) (map as_entry kept) ≡ option_map as_entry (find (has_number id) kept)
@@ -35,11 +34,8 @@ module _ (s : Kept) (id : ℕ) (kept : List Folded) (same : map as_entry kept �
       let here : find (has_id id) (folded s) ≡ Some (as_entry f) = found_kept ∙ ap (option_map as_entry) found in
       let whole : find (has_id id) s.entries ≡ Some (as_entry f) =
       ap (find (has_id id)) (sym (all_entries s)) ∙ found_front (has_id id) (folded s) (unfolded s) (as_entry f) here in
-      ap (λ o. option_and_then (λ (e : Entry). option_map (λ (r : Record). r.response) (record_of e)) o) whole
+      ap response_in whole
 
   -- of another one
-  pub later_response : find (has_number id) kept ≡ None
-      → response_of id s ≡ option_and_then (λ (e : Entry). option_map (λ (r : Record). r.response) (record_of e)) (find (has_id id) (unfolded s))
-  later_response none =
-      ap (λ o. option_and_then (λ (e : Entry). option_map (λ (r : Record). r.response) (record_of e)) o)
-      (found_past s (has_id id) (found_kept ∙ ap (option_map as_entry) none))
+  pub later_response : find (has_number id) kept ≡ None → response_of id s ≡ response_in (find (has_id id) (unfolded s))
+  later_response none = ap response_in (found_past s (has_id id) (found_kept ∙ ap (option_map as_entry) none))

@@ -1,12 +1,11 @@
 -- Repair steps until one is idle.
-use Rattle.std.proofs.Common.{◌≡◌, ℕ, suc, ◌+◌, ◌-◌, ◌<◌, ◌≤◌, Bool, true, false, cond, List, [], ◌∷◌, ◌++◌, Option, Some, None, IsSome, All, find, length, map, option_and_then, option_map, set, take, refl, sym, ap, ◌∙◌, subst, inl, inr, nat_eq, eq-eqb, eqb-true, length-append, arith}
+use Rattle.std.proofs.Common.{◌≡◌, ℕ, suc, ◌+◌, ◌-◌, ◌<◌, ◌≤◌, Bool, true, false, cond, List, [], ◌∷◌, ◌++◌, Option, Some, None, IsSome, All, find, length, map, option_map, set, take, refl, sym, ap, ◌∙◌, subst, inl, inr, nat_eq, eq-eqb, eqb-true, length-append, arith}
 use Rattle.std.specs.List.{position_or_len}
 use Rattle.std.proofs.Math.Seq.{take-length}
 use Rattle.std.proofs.lemmas.Bool.{cases_Bool}
 use Rattle.std.proofs.lemmas.List.{map-append}
 use Rattle.std.proofs.lemmas.List.Elements.{All-cons, All-nil}
 use Rattle.lang_core.specs.declared.cells.Cell.{Cell}
-use Rattle.lang_core.specs.declared.request.Response.{Response}
 use Rattle.request_log.specs.Entries.{has_id, IsDistinct, with_entry}
 use Rattle.request_log.specs.Records.{Record, record_in, record_of}
 use Rattle.request_log.specs.declared.entry.Entry.{Entry}
@@ -26,7 +25,7 @@ use Rattle.service_events.proofs.CallLaws.{IsFew}
 use Rattle.service_events.proofs.HorizonLemmas.{all_entries}
 use Rattle.service_events.proofs.StepForms.{Names, run_again, step_entries, step_names}
 use Rattle.service_core.proofs.HandedOn.{step_as_many, step_further, step_steps, step_timely}
-use Rattle.preview_core.specs.Repairs.{Asks, HasRepaired, HasRun, HaveRun, IsNoted, all_asks, asks, response_of}
+use Rattle.preview_core.specs.Repairs.{Asks, HasRepaired, HasRun, HaveRun, IsNoted, all_asks, asks, response_in, response_of}
 
 -- ---- which entries ran
 
@@ -76,10 +75,6 @@ other_put id (e ∷ es) y differs = elim (cases_Bool (nat_eq e.id y.id)) [
   | inl here ↦ (let gone : nat_eq e.id id ≡ false = subst (λ k. nat_eq k id ≡ false) (sym (eqb-true e.id y.id here)) differs in rw (here, differs, gone) refl)
   | inr other ↦ ap (find (has_id id)) (with_later e es y other) ∙ ap (cond (nat_eq e.id id) (Some e)) (other_put id es y differs)
 ]
-
--- an entry's response, where it is found
-abbrev response_in : Option Entry → Option Response
-response_in o = option_and_then (λ (e : Entry). option_map (λ (r : Record). r.response) (record_of e)) o
 
 found_some : (o : Option Entry) → IsSome (response_in o) → IsSome o
 found_some None h = h

@@ -37,9 +37,13 @@ pub record HaveRunAtMost (s : Kept) (ids : List ℕ) (now : Kept) : Type 0 where
 
 -- ---- what they answer
 
--- what the entry of this number answered in its last run
+-- what an entry answered in its last run
+abbrev pub response_in : Option Entry → Option Response
+response_in o = option_and_then (λ (e : Entry). option_map (λ (r : Record). r.response) (record_of e)) o
+
+-- what the entry of this number did
 abbrev pub response_of : ℕ → Kept → Option Response
-response_of id s = option_and_then (λ (e : Entry). option_map (λ (r : Record). r.response) (record_of e)) (entry_of id s)
+response_of id s = response_in (entry_of id s)
 
 -- it with its number
 abbrev pub ran_one : Kept → ℕ → Option RanOne

@@ -1,24 +1,33 @@
 // What entries that ran answer.
-ghost use Rattle.std.specs.Prelude.{◌≡◌, All, IfOk, IsSome, Some};
+ghost use Rattle.std.specs.Prelude.{◌≡◌, All, IfOk, IsSome, Some, find};
 ghost use Rattle.std.specs.Option.{option_copied};
-ghost use Rattle.preview_core.specs.Repairs.{AreResponses, ran_one, response_of};
+ghost use Rattle.request_log.specs.Entries.{has_id};
+ghost use Rattle.service_events.specs.State.{unfolded};
+ghost use Rattle.preview_core.specs.Repairs.{AreResponses, ran_one, response_in, response_of};
 
 use crate::told::{RanList, RanOne};
 use lang_core::{Copied, NoMemory, Response};
 use service_core::Service;
 use std::alloc::Global;
 
+// What the entry of a number that isn't folded answered in its last run.
+fn later_response(service: &Service, id: u64) -> Option<&Response>
+    ensures { option_copied result ≡ response_in (find (has_id id) (unfolded service.now)) }
+{
+    let entry = service.entries().find(id)?;
+    match &entry.made {
+        Some(made) => Some(&made.trace.response),
+        None => None,
+    }
+}
+
 // What the entry of a number answered in its last run, also where it is folded.
-#[tactic(auto, using(crate::proofs::ResponseLemmas::past_response, crate::proofs::ResponseLemmas::later_response))]
 fn response_of(service: &Service, id: u64) -> Option<&Response>
     ensures { option_copied result ≡ response_of id service.now }
 {
     match service.entries().find_folded(id) {
-        Some(folded) => Some(&folded.response),
-        None => match &service.entries().find(id)?.made {
-            Some(made) => Some(&made.trace.response),
-            None => None,
-        },
+        Some(past) => Some(&past.response),
+        None => later_response(service, id),
     }
 }
 

@@ -1,7 +1,15 @@
-use Rattle.std.proofs.Common.{◌≡◌, ℕ, ◌-◌, Bool, cond, sym, subst, arith}
-use Rattle.preview_core.proofs.StepLemmas.{Going, going_done, going_step}
+use Rattle.std.proofs.Common.{◌≡◌, ◌∙◌, ℕ, ◌-◌, Bool, List, cond, length, sym, ap, subst, arith}
+use Rattle.service_events.specs.State.{unfolded}
+use Rattle.preview_core.proofs.StepLemmas.{Going, going_done, going_none, going_step}
 use Rattle.preview_core.proofs.stepping.step_until_idle.Goals.{then-ran, else-ran}
 use Rattle.preview_core.proofs.stepping.step_until_idle.Goals as goal
+
+pub loop-left-init : goal.loop-left-init
+loop-left-init c =
+    let s = c.args.service.now in
+    let many : c.len-left.result ≡ length (unfolded s) = c.len-left.ensures ∙ ap length c.entries.ensures.entries in
+    subst (λ (n : ℕ). Going s s c.new-ids.result n) (sym many)
+    (subst (λ (ids : List ℕ). Going s s ids (length (unfolded s))) (sym c.new-ids.ensures) (going_none s c.requires))
 
 pub loop-left-preserved : goal.loop-left-preserved
 loop-left-preserved c =
