@@ -7,7 +7,7 @@ use Rattle.std.proofs.lemmas.List.{map-append}
 use Rattle.std.proofs.lemmas.List.Elements.{All-cons, All-nil}
 use Rattle.lang_core.specs.declared.cells.Cell.{Cell}
 use Rattle.request_log.specs.Entries.{has_id, IsDistinct, with_entry}
-use Rattle.request_log.specs.Records.{Record, record_in, record_of}
+use Rattle.request_log.specs.Records.{Record, record_in}
 use Rattle.request_log.specs.declared.entry.Entry.{Entry}
 use Rattle.request_log.specs.declared.entry.Made.{Made}
 use Rattle.local_repair.specs.Current.{AllCurrent, after_entry}

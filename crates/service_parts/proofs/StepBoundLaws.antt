@@ -1,10 +1,11 @@
 -- A repair step and an order leave no more entries and flights than a service may have.
-use Rattle.std.proofs.Common.{◌≡◌, ℕ, ◌<◌, ◌≤◌, Bool, true, false, cond, List, Option, Some, None, nat_le, option_map, refl, arith, length-set, drop, insert, ◌+◌, ap}
+use Rattle.std.proofs.Common.{◌≡◌, ℕ, ◌<◌, ◌≤◌, Bool, true, false, cond, List, length, Option, Some, None, nat_le, option_map, refl, arith, length-set, drop, insert, ◌+◌, ap}
 use Rattle.std.proofs.lemmas.List.{length-map, length-drop}
 use Rattle.std.specs.List.{position_or_len}
 use Rattle.std.proofs.lemmas.Bool.Decides.{nat_tests}
 use Rattle.lang_core.specs.declared.inputs.Inputs.{Inputs}
 use Rattle.request_log.specs.Entries.{has_id, mark, replace, changed, with_entry}
+use Rattle.request_log.specs.declared.entry.Entry.{Entry}
 use Rattle.create_placement.specs.Placement.{created}
 use Rattle.repair_messages.specs.declared.posts.PostName.TheVariants.{Call as OfCall, Reply as OfReply, Fetch as OfFetch}
 use Rattle.local_repair.specs.Steps.{remade}

@@ -1,5 +1,5 @@
 -- All entries of a service, as its log keeps them: the folded ones, and behind them the others.
-use Rattle.std.proofs.Common.{◌≡◌, ℕ, zero, suc, ◌+◌, Bool, true, false, cond, List, [], ◌∷◌, ◌++◌, Option, Some, None, drop, find, insert, length, map, option_map, take, refl, sym, ap, ◌∙◌, arith, length-append, nat_eq, ◌||◌, is_some}
+use Rattle.std.proofs.Common.{◌≡◌, ℕ, suc, ◌+◌, Bool, true, false, cond, List, [], ◌∷◌, ◌++◌, Option, Some, None, drop, find, insert, length, map, option_map, take, refl, sym, ap, ◌∙◌, arith, length-append, nat_eq, ◌||◌, is_some}
 use Rattle.std.specs.Option.{option_or}
 use Rattle.std.proofs.lemmas.List.{length-map, map-append}
 use Rattle.std.proofs.lemmas.List.Folds.{find-append}
