@@ -66,13 +66,17 @@ length_dropped id (g ∷ gs) f e = elim (cases_Bool (has_flight id g)) [
 abbrev all_with : Kept → Flight → ℕ
 all_with s f = length (unfolded s) + suc (length (without_flight f.id s.flights))
 
--- so many are left
+-- so many are left at most
 abbrev Leaves : ℕ → After Arrived → Type 0
-Leaves n a = in_all a.service ≡ n
+Leaves n a = in_all a.service ≤ n
 
 committed_leaves : (s : Kept) (f : Flight) (t : Trace) → Leaves (all_with s f) (committed s f t)
-committed_leaves s f t = (let e = length-append s.entries (committed_entry s f t ∷ []) in
-    let left = length-drop s.horizon s.entries in let now = length-drop s.horizon (s.entries ++ committed_entry s f t ∷ []) in omega (arith, e, left, now))
+committed_leaves s f t =
+    let more = s.entries ++ committed_entry s f t ∷ [] in
+    let all : length more ≡ length s.entries + 1 = length-append s.entries (committed_entry s f t ∷ []) in
+    let left = length-drop s.horizon s.entries in
+    let now = length-drop s.horizon more in
+    omega (arith, all, left, now)
 
 waits_leaves : (s : Kept) (f : Flight) (number : ℕ) (call : CallMade) → Leaves (all_with s f) (waits s f number call)
 waits_leaves s f number call = (let e = length_put f (without_flight f.id s.flights) in omega (arith, e))
