@@ -1,5 +1,5 @@
 -- No event leaves more entries and flights than a service may have.
-use Rattle.std.proofs.Common.{◌≡◌, ℕ, zero, suc, ◌+◌, ◌<◌, ◌≤◌, List, [], ◌∷◌, length, find, slice_get, Option, Some, None, Result, nat_eq, nat_lt, nat_le, refl, ap, inl, inr, arith, length-append, eqb-true}
+use Rattle.std.proofs.Common.{◌≡◌, ℕ, zero, suc, ◌+◌, ◌<◌, ◌≤◌, List, [], ◌∷◌, ◌++◌, length, find, slice_get, Option, Some, None, Result, nat_eq, nat_lt, nat_le, refl, ap, inl, inr, arith, length-append, eqb-true}
 use Rattle.std.proofs.lemmas.Bool.{cases_Bool, cond_both}
 use Rattle.std.proofs.lemmas.Bool.Decides.{nat_tests}
 use Rattle.lang_core.specs.Traces.{dead_trace}
