@@ -12,6 +12,7 @@ use Rattle.request_log.specs.declared.entry.Entry.{Entry}
 use Rattle.log_index.specs.Marks.{KeptMarks, is_marked}
 use Rattle.local_repair.specs.Current.{after_entry, rows_after}
 use Rattle.local_repair.specs.Held.{looked, IsHeld, IsKept}
+use Rattle.local_repair.specs.Repairs.{IsFolded, KeptRepairer}
 use Rattle.local_repair.proofs.GivesLemmas.{wrote}
 use Rattle.local_repair.proofs.HeldLemmas.{rows_ordered}
 
@@ -19,6 +20,12 @@ use Rattle.local_repair.proofs.HeldLemmas.{rows_ordered}
 rows_behind : (base : List Cell) (entries : List Entry) (n place : ℕ) → rows_after (rows_after base (take n entries)) (take place (drop n entries)) ≡ rows_after base (take (n + place) entries)
 rows_behind base entries n place =
     sym (fold-append after_entry base (take n entries) (take place (drop n entries))) ∙ ap (rows_after base) (sym (take-add n place entries))
+
+-- they are the rows that were before it
+pub rows_stay : (n place : ℕ) (old new : KeptRepairer) → IsFolded n old new → rows_after new.base (take place new.entries) ≡ rows_after old.base (take (n + place) old.entries)
+rows_stay n place old new folded =
+    ap (λ base. rows_after base (take place new.entries)) folded.base
+    ∙ (ap (λ entries. rows_after (rows_after old.base (take n old.entries)) (take place entries)) folded.entries ∙ rows_behind old.base old.entries n place)
 
 -- the same is kept of the same
 pub kept_same : (base base' : List Cell) (entries entries' : List Entry) (writes writes' : List (List Write)) (m m' : KeptMarks) (calls : Bool) → base' ≡ base → entries' ≡ entries → writes' ≡ writes → m'.reads ≡ m.reads

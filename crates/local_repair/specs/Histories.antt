@@ -5,7 +5,7 @@ use Rattle.lang_core.specs.declared.cells.Cell.{Cell}
 use Rattle.lang_core.specs.declared.request.Response.{Response}
 use Rattle.lang_core.specs.declared.setting.Setting.{Setting}
 use Rattle.lang_core.specs.declared.trace.Trace.{Trace}
-use Rattle.execution.specs.Executions.{Act, Deed, History, IsReplay, Replays}
+use Rattle.execution.specs.Executions.{Act, Deed, IsReplay, Replays}
 use Rattle.request_log.specs.Records.{Record, record_of}
 use Rattle.request_log.specs.declared.entry.Entry.{Entry}
 use Rattle.request_log.specs.declared.entry.Made.{Made}
@@ -37,11 +37,6 @@ act_of consumed e = act_with (map consumed e.slots) e
 -- with those that it consumed when it ran last
 abbrev pub act_kept : Entry → Act
 act_kept e = act_with (option_map_or (λ (r : Record). r.answers) (record_of e) []) e
-
--- a log as a history, where these are the rows before its first entry
-abbrev pub history_of : Setting → Consumed → List Cell → List Entry → History
-history_of setting consumed base entries =
-    record { setting = setting; acts = map (act_of consumed) entries; rows = rows_after base entries }
 
 -- the whole trace of an entry's last run; none where it never ran
 abbrev pub trace_of : Entry → Option Trace

@@ -446,6 +446,7 @@ impl Repairer {
         requires within { n ≤ length self.old.entries }
         requires ran { All (λ (e : Entry). IsSome e.made) (take n self.old.entries) }
         ensures ok { OnOk result (IsFolded n self.old self.new) }
+        ensures rows { OnOk result ((place : ℕ) → rows_after self.new.base (take place self.new.entries) ≡ rows_after self.old.base (take (n + place) self.old.entries)) }
         ensures err { OnErr result (self.new ≡ self.old) }
     {
         let count = n as usize;

@@ -5,7 +5,7 @@ use Rattle.request_log.specs.Folded.{folded_as}
 use Rattle.log_index.specs.Marks.{KeptMarks}
 use Rattle.local_repair.specs.Current.{rows_after}
 use Rattle.local_repair.specs.Repairs.{KeptRepairer}
-use Rattle.local_repair.proofs.FoldLemmas.{kept_folded, kept_same}
+use Rattle.local_repair.proofs.FoldLemmas.{kept_folded, kept_same, rows_stay}
 use Rattle.local_repair.proofs.WrittenLemmas.{seen_before}
 use Rattle.local_repair.proofs.repairer.Repairer.fold.Goals as goal
 
@@ -38,3 +38,6 @@ returns-clause-ok c =
       base = c.in_ok-fold_parts.ensures.base ∙ c.in_ok-rows.ensures ∙ seen_before c.self.inside.rows c.self.inside.log.entries n c.self.invariant.tied
           ∙ ap (λ (k : KeptRepairer). rows_after k.base (take n k.entries)) seen;
     }
+
+pub returns-clause-rows : goal.returns-clause-rows
+returns-clause-rows c = λ place. rows_stay c.args.n place c.args.self.now _ (returns-clause-ok c)
