@@ -1,12 +1,15 @@
 -- What a live request is answered without a run, and when it runs.
-use Rattle.std.proofs.Common.{◌≡◌, ◌∙◌, ap, sym, refl, ℕ, ◌<◌, Bool, true, false, cond, List, Option, Some, None, Result, Err, option_map}
+use Rattle.std.proofs.Common.{◌≡◌, ◌∙◌, ap, sym, refl, ℕ, ◌<◌, Bool, true, false, cond, List, Option, Some, None, Result, Err, find, option_map}
+use Rattle.std.specs.Option.{option_or}
 use Rattle.lang_core.specs.declared.ids.Origin.{Origin}
 use Rattle.lang_core.specs.declared.ids.Origin.TheVariants.{Outside, Call}
 use Rattle.lang_core.specs.declared.inputs.Inputs.{Inputs}
 use Rattle.lang_core.specs.declared.request.Request.{Request}
 use Rattle.request_log.specs.Entries.{find_call}
+use Rattle.request_log.specs.Folded.{as_entry, has_caller}
 use Rattle.request_log.specs.Records.{Record, record_of}
 use Rattle.request_log.specs.declared.entry.Entry.{Entry}
+use Rattle.request_log.specs.declared.folded.Folded.{Folded}
 use Rattle.journal_rows.specs.Words.{last_taken}
 use Rattle.journal_rows.specs.declared.callee.TookRow.{TookRow}
 use Rattle.service_events.specs.State.{Kept, After, after, in_all, or_else, is_heavy, is_in_flight}
@@ -15,7 +18,10 @@ use Rattle.service_events.specs.Flying.{goes_on}
 use Rattle.service_events.specs.declared.answers.Arrived.{Arrived}
 use Rattle.service_events.specs.declared.refusals.ArriveRefused.{ArriveRefused}
 use Rattle.service_events.specs.declared.refusals.ArriveRefused.TheVariants.{NotYet}
+use Rattle.service_parts.specs.Parts.{kept, whole_log}
+use Rattle.service_parts.specs.declared.parts.Parts.{Parts}
 use Rattle.service_parts.proofs.BoundLaws.{uncrowded}
+use Rattle.service_parts.proofs.WholeLemmas.{call_found}
 use Rattle.service_requests.specs.Arrivals.{Early, by_made, by_entry, deletion_of, deletion_in, unless_deleted, known, too_much, refusal, before_run}
 
 -- what is left where it is answered early, or not
@@ -118,3 +124,23 @@ pub may_run : (s : Kept) (o : Origin) → before_run s o ≡ None → MayRun s o
 may_run s o h =
     let parts = neither (known s o) (option_map refusal (too_much s)) h in
     record { alone = unknown s o parts.0; place = uncrowded s (is_heavy s) (unmapped (too_much s) parts.1) }
+
+-- ---- by a folded entry, or by another one
+
+module _ (p : Parts) (c : List ℕ) (n : ℕ) where
+  abbrev answered : Option Entry → Early
+  answered o = by_entry (kept p) c n o
+
+  -- what is found among all
+  found_by : (o : Option Folded) → find (has_caller c n) p.repairer.folded ≡ o
+      → find_call (Call c n) (whole_log p.repairer) ≡ option_or (option_map as_entry o) (find_call (Call c n) p.repairer.entries)
+  found_by o is =
+      call_found c n p.repairer.folded p.repairer.entries ∙ ap (λ (x : Option Folded). option_or (option_map as_entry x) (find_call (Call c n) p.repairer.entries)) is
+
+  pub past_answers : (f : Folded) → find (has_caller c n) p.repairer.folded ≡ Some f
+      → by_made (kept p) c n (as_entry f) (record_of (as_entry f)) ≡ answered (find_call (Call c n) (whole_log p.repairer))
+  past_answers f is = sym (ap answered (found_by (Some f) is))
+
+  pub later_answers : find (has_caller c n) p.repairer.folded ≡ None
+      → answered (find_call (Call c n) p.repairer.entries) ≡ answered (find_call (Call c n) (whole_log p.repairer))
+  later_answers is = sym (ap answered (found_by None is))

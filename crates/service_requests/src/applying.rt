@@ -117,7 +117,6 @@ fn land(flights: &mut Flights, replies: &mut Replies, flight: u64, reply: Option
 }
 
 // The flight of this number is the last entry of the log.
-#[tactic(auto, using(service_parts::proofs::WholeLemmas::unfolded_kept))]
 fn commit(
     parts: &mut Parts,
     draft: Draft,

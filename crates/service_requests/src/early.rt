@@ -62,7 +62,6 @@ fn by_present(
     }
 }
 
-#[tactic(auto, using(service_parts::proofs::WholeLemmas::call_found))]
 fn by_entry(
     alloc: Global,
     parts: &Parts,
