@@ -135,10 +135,14 @@ event_grows s (events.WritePost name) = grows_none s
 event_grows s (events.Posted post reply) = (event_goes s (events.Posted post reply) tt).grows
 event_grows s (events.Order command token who i) = order_where_grows s command token who i (ordered token s.journal)
 
+-- what holds of what an event leaves, and of the service before it, holds of what a call leaves that makes it
+pub left_by : (P : Kept → Type 0) (s t : Kept) (e : Event) (d : Done) → Happens e s d t → P (event s e).service → P s → P t
+left_by P s t e d happens leaves before = by (is_lacking d) happens
+  where
+    by : (lacking : Bool) → Unless lacking (after t d ≡ event s e) (t ≡ s) → P t
+    by true same = subst P (sym same) before
+    by false is = subst P (sym (ap (λ (a : After Done). a.service) is)) leaves
+
 -- a call that makes it lets the journal grow as it does; for want of memory, nothing changed
 pub grown : (s t : Kept) (e : Event) (d : Done) → Happens e s d t → Grows s t
-grown s t e d happens = by (is_lacking d) happens
-  where
-    by : (lacking : Bool) → Unless lacking (after t d ≡ event s e) (t ≡ s) → Grows s t
-    by true same = subst (Grows s) (sym same) (grows_none s)
-    by false is = subst (Grows s) (sym (ap (λ (a : After Done). a.service) is)) (event_grows s e)
+grown s t e d happens = left_by (Grows s) s t e d happens (event_grows s e) (grows_none s)

@@ -15,6 +15,7 @@ ghost use Rattle.service_events.specs.Fits.{Fits};
 ghost use Rattle.service_events.specs.Progress.{Counts, GoesFurther, IsLocalStep};
 ghost use Rattle.service_events.specs.RunsOn.{Begins, GoesOnTo, IsStep};
 ghost use Rattle.service_core.specs.Answers.{Answers};
+ghost use Rattle.service_core.specs.Past.{EventKeeps, OrderKeeps};
 ghost use Rattle.service_core.specs.Readings.{awaited_by, first_stale, AreReplayed, IsReplayedBefore};
 ghost use Rattle.service_events.specs.Event.{Happens, IsFailure, MayHappen};
 ghost use Rattle.service_events.specs.Doing.{answer_memory, arrive_memory, call_memory, give_memory, order_memory, post_memory, take_memory, Does};
@@ -184,8 +185,20 @@ impl Service {
 
     /// An event happens: the method of its name does it, and answers. `event` of the specification is the one function that
     /// says what is left and answered, and by the event's name its answer says what the method promises. For want of memory
-    /// nothing changed.
+    /// nothing changed. No event changes a folded entry, and one that folds leaves all that is read of the service as it was.
     pub fn event(&mut self, alloc: Global, event: Event) -> Done
+        requires may { MayHappen self.old event }
+        ensures happens { Happens event self.old result self.new }
+        ensures answers { Answers self.old event result self.new }
+        ensures past { EventKeeps event self.old self.new }
+    {
+        // Asked for what it promises alone: all that the service keeps fits the journal.
+        let _fits = self.journal();
+        self.happen(alloc, event)
+    }
+
+    // The method of an event's name does it, and answers.
+    fn happen(&mut self, alloc: Global, event: Event) -> Done
         requires may { MayHappen self.old event }
         ensures happens { Happens event self.old result self.new }
         ensures answers { Answers self.old event result self.new }
@@ -309,7 +322,8 @@ impl Service {
     /// Carries out an order of an operator. An order whose token was accepted before is answered as then, without memory, and
     /// changes nothing. It is refused where it names what isn't there or is folded, replaces a request of another service, retries
     /// a post that isn't held, would fold an entry that is stale, owes its reply or has a call that isn't done with, or where there
-    /// is too much; and last, with the number of the rule, where the service's rules deny it.
+    /// is too much; and last, with the number of the rule, where the service's rules deny it. What was folded stays as it is, and
+    /// a fold leaves all that is read, replayed or audited as it was.
     pub fn order(
         &mut self,
         alloc: Global,
@@ -320,6 +334,7 @@ impl Service {
     ) -> Result<Ordered, OrderRefused>
         ensures does { Does order_memory (order_event self.old command token who inputs) self.old result self.new }
         ensures repeated { IfSome (answered_by (ordered token self.old.journal)) (λ answer. result ≡ Ok answer) }
+        ensures past { OrderKeeps command self.old self.new }
         ensures silent { live_rows self.new.journal ≡ live_rows self.old.journal }
         ensures told { AddsCauses (causes self.old) false self.new }
     {

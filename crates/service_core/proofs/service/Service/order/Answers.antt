@@ -9,7 +9,16 @@ use Rattle.service_parts.specs.Parts.{kept}
 use Rattle.service_parts.proofs.SilentLaws.{event_answers_none}
 use Rattle.service_parts.proofs.DoneLaws.{silent_done, untold_done}
 use Rattle.service_parts.proofs.UntoldLaws.{event_untold}
+use Rattle.service_core.specs.Past.{OrderKeeps}
+use Rattle.service_core.proofs.PastLaws.{order_keeps}
 use Rattle.service_core.proofs.service.Service.order.Goals as goal
+
+pub returns-clause-past : goal.returns-clause-past
+returns-clause-past c =
+    let s = kept c.self.inside.parts in
+    let t = kept c.order.new.parts in
+    subst (λ (k : Kept). OrderKeeps c.args.command k t) c.self.view_is
+    (order_keeps s t c.args.command c.args.token c.args.who c.args.inputs c.order.result c.self.invariant.0.fits c.order.ensures.does)
 
 pub returns-clause-silent : goal.returns-clause-silent
 returns-clause-silent c =
