@@ -147,7 +147,7 @@ module _ (setting : Setting) (buy pay : Request) (i : Inputs) (written : List Wr
       last = refl;
       each = all_one (IsPast shop) _ (record {
         bare = record { alive = refl; version = refl; request = refl; reads = refl; writes = refl };
-        calls = all_one (λ number. IsSomeAnd (register number shop.registers) IsDoneWith) _ (record { acked = omega arith; fetched = refl });
+        calls = all_one (λ number. IsSomeAnd (register number shop.registers) IsDoneWith) 1 (record { acked = omega arith; fetched = refl });
         consumed = refl;
       });
       replayed = record { traces = trace shop_setting buy pay i [] written token ann ∷ []; replay = (played, refl) };
