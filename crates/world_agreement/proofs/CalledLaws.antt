@@ -22,7 +22,7 @@ use Rattle.journal_rows.specs.declared.row.Row.TheVariants.{Took}
 use Rattle.call_registers.specs.Registers.{register}
 use Rattle.call_registers.specs.declared.register.Register.{Register}
 use Rattle.service_events.specs.State.{Kept, me, answers}
-use Rattle.service_events.specs.Fits.{IsAsNow, sent_by, calls_of_entry, calls_of_flight, places, call_to, call_in, wanted_call, count, times_held}
+use Rattle.service_events.specs.Fits.{IsAsNow, sent_by, calls_of_entry, calls_of_flight, call_to, call_in, wanted_call, count, times_held}
 use Rattle.service_events.proofs.PlaceLemmas.{head_of, tail_of, times_held-append}
 use Rattle.world_agreement.specs.Partners.{service_of, JournalOf, HasSent}
 use Rattle.world_agreement.specs.Legal.{history, histories}

@@ -18,7 +18,7 @@ use Rattle.service_events.specs.State.{Kept, me}
 use Rattle.service_events.specs.Calls.{noted}
 use Rattle.service_events.specs.Messages.{saw_ack_row}
 use Rattle.service_events.specs.Fits.{Fits, FitsSent, FitsSeen, FitsAsked, IsAsNow, HasAnswered, HasReply, WantsItsCalls, AreOther}
-use Rattle.service_events.proofs.PurchaseExample.{shop_name, bank_name, ok, named, cancelled, remade, dead, unwanted, unpaid, sent}
+use Rattle.service_events.proofs.PurchaseExample.{shop_name, bank_name, ok, named, cancelled, remade, unwanted, unpaid}
 use Rattle.world_agreement.specs.Partners.{NamesDiffer, HasPartner, IsJoined}
 use Rattle.world_agreement.specs.Quiet.{IsQuiet, AreQuiet}
 use Rattle.world_agreement.specs.Legal.{AreLegal}
