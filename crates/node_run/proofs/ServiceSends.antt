@@ -60,4 +60,4 @@ pub service_send : IsSend service.the_row
 service_send = view_send _ _ _ _ _ (recorded_send inside.the_field.row _ _ inside.the_type.to_one (struct_send (shape inside.the_type) (parts_send, (search sendable, tt))))
 
 pub setup_sync : IsSync setup.the_row
-setup_sync = recorded_sync setup.the_field.row _ _ setup.the_type.to_one (struct_sync (shape setup.the_type) (setting_sync, (rules.the_sync, (text.the_sync, (text.the_sync, (text.the_sync, (search sendable, (search sendable, tt))))))))
+setup_sync = recorded_sync setup.the_field.row _ _ setup.the_type.to_one (struct_sync (shape setup.the_type) (setting_sync, (rules.the_sync, (text.the_sync, (text.the_sync, (text.the_sync, (search sendable, (search (sendable, crosses) depth 20, tt))))))))

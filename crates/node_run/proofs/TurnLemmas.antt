@@ -16,7 +16,7 @@ use Rattle.node_workers.specs.Desks.{Endpoint}
 use Rattle.node_workers.specs.Posting.{IsTurn}
 use Rattle.node_workers.specs.declared.posts.PostedOne.{PostedOne}
 use Rattle.node_workers.specs.Folding.{FoldsOnce}
-use Rattle.node_run.specs.Repairing.{FoldsOrRests, RepairsOnce, StepsOnce}
+use Rattle.node_run.specs.Repairing.{FoldsOrRests, StepsOnce}
 use Rattle.node_run.specs.Turns.{Turns, TurnsBy}
 use Rattle.node_run.specs.Workers.{IsIdle, PostsOrRests, ServesNext, ServesOrRests, Standing, readied, standing}
 
@@ -45,18 +45,8 @@ stepped_once A B s t before now (Err why) noted kept = inl kept.2
 -- ---- a fold
 
 pub folded_once : (name : List ℕ) (before now : Notes) (had have : List Receipt) → FoldsOnce name before now had have → FoldsOrRests name before now
-folded_once name before now had have once = inr (had, have, once)
-
-pub folded_none : (name : List ℕ) (notes : Notes) → FoldsOrRests name notes notes
-folded_none name notes = inl refl
-
--- a step, and a fold behind it
-pub repaired_once : (name : List ℕ) (before mid now : Notes) → StepsOnce before mid → FoldsOrRests name mid now → RepairsOnce name before now
-repaired_once name before mid now steps folds = (mid, steps, folds)
-
--- or none
-pub repaired_alone : (name : List ℕ) (before now : Notes) → StepsOnce before now → RepairsOnce name before now
-repaired_alone name before now steps = (now, steps, inl refl)
+folded_once name before now had have (inl none) = inl none.0
+folded_once name before now had have (inr folds) = inr (had, have, folds)
 
 -- ---- a turn
 

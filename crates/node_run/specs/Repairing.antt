@@ -5,7 +5,7 @@ use Rattle.service_events.specs.declared.event.Event.TheVariants as events
 use Rattle.node_core.specs.Notes.{noted}
 use Rattle.node_core.specs.declared.notes.Notes.{Notes}
 use Rattle.node_core.specs.declared.receipt.Receipt.{Receipt}
-use Rattle.node_workers.specs.Folding.{FoldsOnce}
+use Rattle.node_workers.specs.Folding.{Folds}
 use Rattle.node_run.specs.Turns.{Turns}
 
 -- one repair step, or nothing
@@ -14,7 +14,7 @@ StepsOnce before now = (now ≡ before) ⊎ ((name : List ℕ) × (d : NodeDone)
 
 -- no order to fold, or one of the service of this name by itself
 abbrev pub FoldsOrRests : List ℕ → Notes → Notes → Type 0
-FoldsOrRests name before now = (now ≡ before) ⊎ ((had : List Receipt) × (have : List Receipt) × FoldsOnce name before now had have)
+FoldsOrRests name before now = (now ≡ before) ⊎ ((had : List Receipt) × (have : List Receipt) × Folds name before now had have)
 
 -- a repair step, or none, and then such an order, or none
 abbrev pub RepairsOnce : List ℕ → Notes → Notes → Type 0

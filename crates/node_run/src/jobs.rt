@@ -132,9 +132,7 @@ fn step_under_lock<R: Ledger, Q: Ledger, W: Wait>(
     }
 }
 
-// Folds at a service under the lock, if a fold is due there; whether it came to an end. Else memory was wanting for it, and it is
-// to be tried again.
-#[tactic(auto, using(crate::proofs::TurnLemmas::folded_once, crate::proofs::TurnLemmas::folded_none))]
+// Folds at a service under the lock, if a fold is due there; whether that came to an end. Else it is to be tried again.
 fn fold_under_lock<R: Ledger, Q: Ledger, W: Wait, D: Draw>(
     rt: &W,
     alloc: Global,
@@ -143,22 +141,32 @@ fn fold_under_lock<R: Ledger, Q: Ledger, W: Wait, D: Draw>(
     kept: &mut NodeState<R>,
     pass: &mut Pass<Q>,
 ) -> bool
-    ensures folds { FoldsOrRests (at_desk desk.now).me pass.old.notes pass.new.notes }
+    ensures { FoldsOrRests (at_desk desk.now).me pass.old.notes pass.new.notes }
 {
     match fold_due(kept, desk.setup.keep) {
-        FoldDue::Nothing => note_waiting(kept, None),
-        FoldDue::Refused => (),
-        FoldDue::Waits(id) => note_waiting(kept, Some(id)),
-        FoldDue::UpTo(id) => {
-            let ended = fold_up_to(rt, alloc, desk, kept, pass, id, drawing.inputs(rt));
-            return ended.unwrap_or(false);
+        FoldDue::Nothing => {
+            note_waiting(kept, None);
+            true
         }
+        FoldDue::Refused => true,
+        FoldDue::Waits(id) => {
+            note_waiting(kept, Some(id));
+            true
+        }
+        FoldDue::UpTo(id) => fold_up_to(rt, alloc, desk, kept, pass, id, drawing.inputs(rt)),
     }
-    true
 }
 
-// Takes a repair step at a service under the lock, and folds where none is to be taken.
-#[tactic(auto, using(crate::proofs::TurnLemmas::repaired_once, crate::proofs::TurnLemmas::repaired_alone))]
+fn idle_if(ended: bool) -> Result<Stepped, NoMemory> {
+    if ended {
+        Ok(Stepped::Idle)
+    } else {
+        Err(NoMemory)
+    }
+}
+
+// Takes a repair step at a service under the lock, and folds where none is to be taken. A fold that didn't come to an end is told
+// as memory that lacks, so that it is tried again.
 fn repair_under_lock<R: Ledger, Q: Ledger, W: Wait, D: Draw>(
     rt: &W,
     alloc: Global,
@@ -167,13 +175,12 @@ fn repair_under_lock<R: Ledger, Q: Ledger, W: Wait, D: Draw>(
     kept: &mut NodeState<R>,
     pass: &mut Pass<Q>,
 ) -> Result<Stepped, NoMemory>
-    ensures repairs { RepairsOnce (at_desk desk.now).me pass.old.notes pass.new.notes }
+    ensures { RepairsOnce (at_desk desk.now).me pass.old.notes pass.new.notes }
 {
-    let stepped = step_under_lock(rt, alloc, desk, kept, pass)?;
-    match stepped {
-        Stepped::Ran { .. } => Ok(stepped),
-        Stepped::Idle if fold_under_lock(rt, alloc, desk, drawing, kept, pass) => Ok(stepped),
-        Stepped::Idle => Err(NoMemory),
+    match step_under_lock(rt, alloc, desk, kept, pass) {
+        Ok(Stepped::Idle) => idle_if(fold_under_lock(rt, alloc, desk, drawing, kept, pass)),
+        Ok(stepped) => Ok(stepped),
+        Err(why) => Err(why),
     }
 }
 

@@ -1,5 +1,5 @@
 -- Folds that a service orders by itself.
-use Rattle.std.specs.Prelude.{ℕ, ◌++◌, ◌&&◌, Bool, false, not, List, Option, Some, None, codes, decimal, is_none, length, nat_le, position}
+use Rattle.std.specs.Prelude.{ℕ, ◌⊎◌, ◌++◌, ◌&&◌, Bool, false, not, List, Option, Some, None, codes, decimal, is_none, length, nat_le, position}
 use Rattle.std.specs.List.{list_all}
 use Rattle.std.specs.Option.{option_map_or}
 use Rattle.lang_core.specs.declared.inputs.Inputs.{Inputs}
@@ -7,17 +7,17 @@ use Rattle.request_log.specs.declared.entry.Entry.{Entry}
 use Rattle.journal_rows.specs.Words.{ordered}
 use Rattle.journal_rows.specs.declared.orders.Command.TheVariants.{Fold}
 use Rattle.journal_rows.specs.declared.row.Row.{Row}
-use Rattle.call_registers.specs.Registers.{owes_fetch, register}
-use Rattle.call_registers.specs.Replies.{reply}
+use Rattle.call_registers.specs.Registers.{register}
 use Rattle.call_registers.specs.declared.register.Answer.{Answer}
 use Rattle.call_registers.specs.declared.register.Register.{Register}
-use Rattle.call_registers.specs.declared.reply.Reply.{Reply}
+use Rattle.service_events.specs.Orders.{is_done_with, is_due}
 use Rattle.service_events.specs.State.{Kept}
+use Rattle.service_events.specs.declared.event.Done.{Done as NodeDone}
 use Rattle.service_events.specs.declared.event.Event.{Event as NodeEvent}
 use Rattle.service_events.specs.declared.event.Event.TheVariants as events
 use Rattle.node_core.specs.declared.notes.Notes.{Notes}
 use Rattle.node_core.specs.declared.receipt.Receipt.{Receipt}
-use Rattle.node_workers.specs.Turns.{MakesOnce}
+use Rattle.node_workers.specs.Turns.{IsUntouched, Made}
 
 -- ---- which entries can go
 
@@ -27,19 +27,15 @@ is_answered r = option_map_or (λ (a : Answer). nat_le r.version a.version) r.an
 
 -- it is acknowledged at its version, owes no fetch, and was answered
 abbrev pub is_over : Register → Bool
-is_over r = nat_le r.version r.acked && (not (owes_fetch r) && is_answered r)
-
--- the reply to this request is still to be told
-abbrev pub is_owed : ℕ → List Reply → Bool
-is_owed id replies = option_map_or (λ (p : Reply). p.due) (reply id replies) false
+is_over r = is_done_with r && is_answered r
 
 -- the call of this number is over
 abbrev pub is_call_over : List Register → ℕ → Bool
 is_call_over registers n = option_map_or is_over (register n registers) false
 
--- an entry that owes no reply and whose calls are over
+-- an entry whose reply isn't due, and whose calls are over
 abbrev pub can_go : Kept → Entry → Bool
-can_go s e = not (is_owed e.id s.replies) && list_all (is_call_over s.registers) e.slots
+can_go s e = not (is_due s e) && list_all (is_call_over s.registers) e.slots
 
 abbrev pub place_or : Option ℕ → ℕ → ℕ
 place_or None n = n
@@ -63,9 +59,14 @@ is_free journal n = is_none (ordered (fold_token n) journal)
 abbrev pub own_fold : List ℕ → ℕ → ℕ → Inputs → NodeEvent
 own_fold name id number i = events.Order (Fold id) (fold_token number) name i
 
--- such an order was made, or none
-pub record FoldsOnce (name : List ℕ) (before now : Notes) (had have : List Receipt) : Type 0 where
+-- such an order was made
+pub record Folds (name : List ℕ) (before now : Notes) (had have : List Receipt) : Type 0 where
   pub id : ℕ
   pub number : ℕ
   pub inputs : Inputs
-  pub made : MakesOnce name (own_fold name id number inputs) before now had have
+  pub done : NodeDone
+  pub made : Made name before now had have (own_fold name id number inputs) done
+
+-- or none
+abbrev pub FoldsOnce : List ℕ → Notes → Notes → List Receipt → List Receipt → Type 0
+FoldsOnce name before now had have = IsUntouched before now had have ⊎ Folds name before now had have

@@ -2,13 +2,14 @@
 ghost use Rattle.std.specs.Prelude.{◌≡◌, IfOk, is_none};
 ghost use Rattle.std.specs.List.{list_all};
 ghost use Rattle.journal_rows.specs.Words.{ordered};
+ghost use Rattle.service_events.specs.Orders.{is_done_with, is_due};
 ghost use Rattle.node_workers.specs.Desks.{at_desk};
-ghost use Rattle.node_workers.specs.Folding.{can_go, fold_token, front_of, is_answered, is_call_over, is_over, is_owed, place_or, FoldsOnce};
+ghost use Rattle.node_workers.specs.Folding.{can_go, fold_token, front_of, is_answered, is_call_over, is_over, place_or, FoldsOnce};
 
 use crate::desk::Desk;
 use crate::turns::ask_under_lock;
 use admin_console::Service;
-use call_registers::{Register, Registers, Replies, owes_fetch};
+use call_registers::{Register, Registers, owes_fetch};
 use journal_rows::{Command, Rows};
 use lang_core::{Copied, Inputs, NoMemory, Text};
 use node_core::{NodeDone, NodeEvent, NodeState, OwnFolds, Pass};
@@ -47,10 +48,16 @@ fn is_answered(register: &Register) -> bool
     }
 }
 
+fn is_done_with(register: &Register) -> bool
+    ensures { result ≡ is_done_with register.now }
+{
+    register.acked >= register.version && !owes_fetch(register)
+}
+
 fn is_over(register: &Register) -> bool
     ensures { result ≡ is_over register.now }
 {
-    register.version <= register.acked && !owes_fetch(register) && is_answered(register)
+    is_done_with(register) && is_answered(register)
 }
 
 fn is_call_over(registers: &Registers, number: u64) -> bool
@@ -68,10 +75,10 @@ fn are_over(registers: &Registers, slots: &[u64]) -> bool
     slots.iter().all(|number| is_call_over(registers, *number))
 }
 
-fn is_owed(replies: &Replies, id: u64) -> bool
-    ensures { result ≡ is_owed id replies.now.list }
+fn is_due(service: &Service, entry: &Entry) -> bool
+    ensures { result ≡ is_due service.now entry.now }
 {
-    match replies.get(id) {
+    match service.replies().get(entry.id) {
         Some(reply) => reply.due,
         None => false,
     }
@@ -80,7 +87,7 @@ fn is_owed(replies: &Replies, id: u64) -> bool
 fn can_go(service: &Service, entry: &Entry) -> bool
     ensures { result ≡ can_go service.now entry.now }
 {
-    !is_owed(service.replies(), entry.id) && are_over(service.registers(), entry.slots.as_slice())
+    !is_due(service, entry) && are_over(service.registers(), entry.slots.as_slice())
 }
 
 fn place_or(place: Option<usize>, length: usize) -> usize
@@ -169,9 +176,7 @@ fn is_free(journal: &Rows, token: &Text) -> bool
 fn next_token(alloc: Global, journal: &Rows, used: u64) -> Result<(u64, Text), NoMemory>
     ensures { IfOk result (λ found. found.1 ≡ fold_token found.0) }
 {
-    let mut number = used;
-    while number < u64::MAX {
-        number += 1;
+    for number in used.saturating_add(1)..u64::MAX {
         let token = fold_token(alloc, number)?;
         if is_free(journal, &token) {
             return Ok((number, token));
@@ -209,10 +214,37 @@ fn signed<R: Ledger, Q: Ledger>(
     Ok((number, token, who))
 }
 
+// Makes such an order under the lock, with this number, its token and in this name. Whether it came to an end.
+fn order_fold<R: Ledger, Q: Ledger, W: Wait>(
+    rt: &W,
+    alloc: Global,
+    desk: &Desk<'_, R, Q>,
+    kept: &mut NodeState<R>,
+    pass: &mut Pass<Q>,
+    id: u64,
+    signed: (u64, Text, Text),
+    inputs: Inputs,
+) -> bool
+    requires token { signed.1 ≡ fold_token signed.0 }
+    requires who { signed.2 ≡ (at_desk desk.now).me }
+    ensures { FoldsOnce (at_desk desk.now).me pass.old.notes pass.new.notes pass.old.receipts.items pass.new.receipts.items }
+{
+    let number = signed.0;
+    let order = NodeEvent::Order {
+        command: Command::Fold(id),
+        token: signed.1,
+        who: signed.2,
+        inputs,
+    };
+    match ask_under_lock(rt, alloc, desk, kept, pass, order) {
+        Ok(NodeDone::Order(answer)) => note_answer(kept, number, answer),
+        _ => false,
+    }
+}
+
 /// Orders that the entries up to and including the one of this number are folded, as the service behind the lock does by itself:
 /// by its own name, under the first token of `fold-1`, `fold-2` and so on that no order of it had. What comes of it is noted.
-/// Whether it came to an end: it was accepted, or refused as it would be again.
-#[tactic(auto, using(crate::proofs::FoldingLemmas::folds_made, crate::proofs::FoldingLemmas::folds_none))]
+/// Whether it came to an end: it was accepted, or refused as it would be again. Else it is to be tried again.
 pub fn fold_up_to<R: Ledger, Q: Ledger, W: Wait>(
     rt: &W,
     alloc: Global,
@@ -221,19 +253,12 @@ pub fn fold_up_to<R: Ledger, Q: Ledger, W: Wait>(
     pass: &mut Pass<Q>,
     id: u64,
     inputs: Inputs,
-) -> Result<bool, NoMemory>
+) -> bool
     ensures { FoldsOnce (at_desk desk.now).me pass.old.notes pass.new.notes pass.old.receipts.items pass.new.receipts.items }
 {
-    let (number, token, who) = signed(alloc, desk, kept)?;
-    let order = NodeEvent::Order {
-        command: Command::Fold(id),
-        token,
-        who,
-        inputs,
-    };
-    match ask_under_lock(rt, alloc, desk, kept, pass, order)? {
-        NodeDone::Order(answer) => Ok(note_answer(kept, number, answer)),
-        _ => Ok(false),
+    match signed(alloc, desk, kept) {
+        Ok(signed) => order_fold(rt, alloc, desk, kept, pass, id, signed, inputs),
+        Err(_) => false,
     }
 }
 
