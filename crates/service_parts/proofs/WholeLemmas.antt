@@ -43,16 +43,17 @@ in_all_is p = ap (λ (l : List Entry). length l + length p.flights.list) (unfold
 pub find_whole : (p : Entry → Bool) (fs : List Folded) (es : List Entry) → find p (whole fs es) ≡ option_or (find p (map as_entry fs)) (find p es)
 find_whole p fs es = find-append p (map as_entry fs) es
 
+-- what is found among one folded entry and others
+found_first : (b c : Bool) (f : Folded) (rest : Option Entry) (kept : Option Folded) → b ≡ c → rest ≡ option_map as_entry kept → cond b (Some (as_entry f)) rest ≡ option_map as_entry (cond c (Some f) kept)
+found_first true true f rest kept e later = refl
+found_first true false f rest kept e later = cc
+found_first false true f rest kept e later = cc
+found_first false false f rest kept e later = later
+
 -- a folded one by a test of what is kept of it
 pub find_folded : (p : Entry → Bool) (q : Folded → Bool) → ((f : Folded) → p (as_entry f) ≡ q f) → (fs : List Folded) → find p (map as_entry fs) ≡ option_map as_entry (find q fs)
 find_folded p q same [] = refl
-find_folded p q same (f ∷ fs) = by (p (as_entry f)) (q f) (same f)
-  where
-    by : (b c : Bool) → b ≡ c → cond b (Some (as_entry f)) (find p (map as_entry fs)) ≡ option_map as_entry (cond c (Some f) (find q fs))
-    by true true e = refl
-    by true false e = cc
-    by false true e = cc
-    by false false e = find_folded p q same fs
+find_folded p q same (f ∷ fs) = found_first (p (as_entry f)) (q f) f (find p (map as_entry fs)) (find q fs) (same f) (find_folded p q same fs)
 
 find_past : (p : Entry → Bool) (fs : List Folded) (es : List Entry) → find p (map as_entry fs) ≡ None → find p (whole fs es) ≡ find p es
 find_past p fs es none = find_skips p (map as_entry fs) es none
