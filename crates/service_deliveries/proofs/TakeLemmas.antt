@@ -1,16 +1,16 @@
 -- Why a version isn't taken, or by which rule, and what taking it leaves and answers.
-use Rattle.std.proofs.Common.{◌≡◌, ◌∙◌, sym, ap, refl, subst, ℕ, ◌<◌, ◌≤◌, ◌^◌, Bool, true, false, cond, List, find, length, Option, Some, None, Result, Ok, Err, IfOk, OnOk, OnErr, is_some, option_map}
+use Rattle.std.proofs.Common.{◌≡◌, ◌∙◌, sym, ap, refl, subst, ℕ, ◌≤◌, Bool, true, false, cond, List, find, length, Option, Some, None, Result, Ok, Err, IfOk, OnOk, OnErr, is_some, option_map}
 use Rattle.lang_base.specs.declared.memory.NoMemory.{NoMemory}
 use Rattle.lang_core.specs.declared.inputs.Inputs.{Inputs}
 use Rattle.lang_core.specs.declared.request.Request.{Request}
 use Rattle.request_log.specs.Entries.{has_id, find_call, IsNew, has_origin}
 use Rattle.request_log.specs.declared.entry.Entry.{Entry}
-use Rattle.local_repair.specs.Repairs.{Amends, IsAmended}
+use Rattle.local_repair.specs.Repairs.{Amends, KeptRepairer}
 use Rattle.repair_messages.specs.declared.messages.SetMessage.{SetMessage}
 use Rattle.authorise_rules.specs.declared.asked.Decision.{Decision}
 use Rattle.authorise_rules.specs.declared.asked.Decision.TheVariants.{Allow, Deny}
 use Rattle.journal_rows.specs.declared.row.Row.{Row}
-use Rattle.call_registers.specs.Replies.{IsAboveAll, at_entry}
+use Rattle.call_registers.specs.Replies.{IsAboveAll, at_entry, made_due}
 use Rattle.call_registers.specs.declared.reply.Reply.{Reply}
 use Rattle.service_events.specs.State.{Kept, After, after, is_in_flight, next_id, folded, unfolded}
 use Rattle.service_events.specs.Calls.{noted}
@@ -26,7 +26,7 @@ use Rattle.service_events.proofs.FreshLemmas.{unfound, below_next}
 use Rattle.service_events.proofs.PartLemmas.{logged}
 use Rattle.service_events.proofs.ReplyLemmas.{above_all}
 use Rattle.service_events.proofs.SearchLemmas.{some_and}
-use Rattle.service_parts.specs.Parts.{kept}
+use Rattle.service_parts.specs.Parts.{kept, whole_log}
 use Rattle.service_parts.specs.Services.{HasRoom, IsService}
 use Rattle.service_parts.specs.declared.parts.Parts.{Parts}
 use Rattle.service_parts.specs.Drafts.{TellNoCall}
@@ -159,11 +159,32 @@ none_asked None = refl
 none_asked (Some e) = refl
 
 -- the reply of what is found, by its number
-pub due_by : (o : Option Entry) (f : Reply → Reply) (replies : List Reply) → at_reply_of o f replies ≡ option_map_or (λ id. at_entry id f replies) (option_map (λ (e : Entry). e.id) o) replies
+due_by : (o : Option Entry) (f : Reply → Reply) (replies : List Reply) → at_reply_of o f replies ≡ option_map_or (λ id. at_entry id f replies) (option_map (λ (e : Entry). e.id) o) replies
 due_by None f replies = refl
 due_by (Some e) f replies = refl
 
+-- it is due, from the journal's next row on
+pub due_again_is : (s : Kept) (set : SetMessage) (id : Option ℕ) (since : ℕ) → id ≡ option_map (λ (e : Entry). e.id) (find_call (origin_of set) s.entries) → since ≡ length s.journal
+    → record s { replies = option_map_or (λ n. at_entry n (made_due since) s.replies) id s.replies }
+    ≡ record s { replies = at_reply_of (find_call (origin_of set) s.entries) (made_due (length s.journal)) s.replies }
+due_again_is s set id since found now =
+    ap (λ (k : ℕ). record s { replies = option_map_or (λ n. at_entry n (made_due k) s.replies) id s.replies }) now
+    ∙ ap (λ (o : Option ℕ). record s { replies = option_map_or (λ n. at_entry n (made_due (length s.journal)) s.replies) o s.replies }) found
+    ∙ ap (λ (ps : List Reply). record s { replies = ps }) (sym (due_by (find_call (origin_of set) s.entries) (made_due (length s.journal)) s.replies))
+
 -- ---- what is put in place
+
+-- the log has these entries behind the folded ones, which stay, and the replies are these
+pub changed_so : (p : Parts) (r : KeptRepairer) (es : List Entry) (ps qs : List Reply) → whole_log r ≡ es → r.folded ≡ p.repairer.folded → r.base ≡ p.repairer.base → ps ≡ qs
+    → record (kept p) { entries = whole_log r; horizon = length r.folded; base = r.base; replies = ps } ≡ record (kept p) { entries = es; replies = qs }
+changed_so p r es ps qs entries folded base replies = (λ i. record (kept p) { entries = entries i; horizon = length (folded i); base = base i; replies = replies i })
+
+-- the same, unless memory is wanting
+pub changed_or_not : {X E : Type 0} (p : Parts) (r : KeptRepairer) (es : List Entry) (ps qs : List Reply) (result : Result X E) → OnOk result (whole_log r ≡ es)
+    → r.folded ≡ p.repairer.folded → r.base ≡ p.repairer.base → OnOk result (ps ≡ qs)
+    → OnOk result (record (kept p) { entries = whole_log r; horizon = length r.folded; base = r.base; replies = ps } ≡ record (kept p) { entries = es; replies = qs })
+changed_or_not p r es ps qs (Ok x) entries folded base replies = changed_so p r es ps qs entries folded base replies
+changed_or_not p r es ps qs (Err why) entries folded base replies = tt
 
 pub put_is : (s s' : Kept) (t : Taking) (result : Result Taken NoMemory) (event : After (Result Taken TakeRefused)) → Leaves s t event
     → OnOk result (s' ≡ left_by s t) → IfOk result (λ answer. answer ≡ t.taken) → IfOk result (λ answer. after s' (Ok answer) ≡ event)

@@ -1,10 +1,10 @@
 // Why a version of a call isn't taken, and which rule allows it.
-ghost use Rattle.std.specs.Prelude.{◌≡◌, ◌≤◌, ◌&&◌, not, IfOk};
+ghost use Rattle.std.specs.Prelude.{◌≡◌, ◌≤◌, ◌&&◌, not, is_some, IfOk};
 ghost use Rattle.std.specs.Option.{option_copied};
 ghost use Rattle.journal_rows.specs.Words.{taken_version};
 ghost use Rattle.service_events.specs.State.{folded, in_all, is_crowded, is_in_flight, where_needed};
 ghost use Rattle.service_events.specs.Messages.{is_known, is_too_much, known_request, makes_entry, origin_of, take_decision};
-ghost use Rattle.service_parts.specs.Parts.{kept};
+ghost use Rattle.service_parts.specs.Parts.{kept, whole_log};
 ghost use Rattle.service_deliveries.specs.TakeChanges.{admission, allowance, unless_past};
 ghost use Rattle.request_log.specs.Entries.{find_call};
 
@@ -32,12 +32,21 @@ fn is_known(parts: &Parts, set: &SetMessage) -> bool
     set.version <= taken_version(parts, set)
 }
 
+// Whether its call has an entry.
+fn has_entry(parts: &Parts, set: &SetMessage) -> bool
+    ensures { result ≡ is_some (find_call (origin_of set.now) (whole_log parts.now.repairer)) }
+{
+    match known_request(parts, set) {
+        None => false,
+        Some(_) => true,
+    }
+}
+
 // Whether its call has no entry, and asks something.
-#[tactic(auto, using(crate::proofs::TakeLemmas::none_asked))]
 fn makes_entry(parts: &Parts, set: &SetMessage) -> bool
     ensures { result ≡ makes_entry (kept parts.now) set.now }
 {
-    set.desired.is_some() && request_from(parts.repairer.log(), &set.caller, set.number).is_none()
+    set.desired.is_some() && !has_entry(parts, set)
 }
 
 fn crowded_for(parts: &Parts, set: &SetMessage) -> Option<u64>
@@ -107,7 +116,6 @@ fn allowance(parts: &Parts, set: &SetMessage) -> Result<Option<u32>, TakeRefused
 }
 
 // The same, unless its call's entry is folded.
-#[tactic(auto, using(service_parts::proofs::WholeLemmas::past_call_found))]
 fn newly_allowed(parts: &Parts, set: &SetMessage) -> Result<Option<u32>, TakeRefused>
     ensures { result ≡ unless_past (find_call (origin_of set.now) (folded (kept parts.now))) (allowance (take_decision (kept parts.now) set.now)) }
 {

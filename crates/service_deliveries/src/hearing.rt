@@ -3,7 +3,7 @@ ghost use Rattle.std.specs.Prelude.{◌≡◌, ◌∷◌, [], ◌++◌, IfOk, On
 ghost use Rattle.call_registers.specs.Registers.{register};
 ghost use Rattle.service_events.specs.Calls.{noted};
 ghost use Rattle.service_events.specs.Doing.{Does, answer_memory};
-ghost use Rattle.service_events.specs.Messages.{hear_decision, heard, noted_row, take_token_event};
+ghost use Rattle.service_events.specs.Messages.{hear_decision, heard, is_past_call, noted_row, take_token_event};
 ghost use Rattle.service_parts.specs.Parts.{kept};
 ghost use Rattle.service_parts.specs.Services.{HasRoom, IsService};
 ghost use Rattle.service_deliveries.specs.Hearing.{admission, admitted, allowance, noted_rows, token_rows, unless_past};
@@ -53,8 +53,14 @@ fn allowance(
     }
 }
 
+// Whether the call of a number is one of a folded entry.
+fn is_past(parts: &Parts, number: u64) -> bool
+    ensures { result ≡ is_past_call number (kept parts.now) }
+{
+    is_past_call(parts.repairer.log().folded().as_slice(), number)
+}
+
 // The same, unless its call is one of a folded entry.
-#[tactic(auto, using(service_parts::proofs::WholeLemmas::past_call_is))]
 fn newly_allowed(
     parts: &Parts,
     token: &TokenMessage,
@@ -62,7 +68,7 @@ fn newly_allowed(
 ) -> Result<Option<u32>, AnswerRefused>
     ensures { result ≡ unless_past (kept parts.now) token.now (allowance (hear_decision (kept parts.now) token.now register.now)) }
 {
-    if is_past_call(parts.repairer.log().folded().as_slice(), token.number) {
+    if is_past(parts, token.number) {
         Err(AnswerRefused::TooOld(token.number))
     } else {
         allowance(parts, token, register)

@@ -237,7 +237,6 @@ fn neighbour(parts: &Parts, caller: &Name, number: Option<u64>) -> Option<u64>
 }
 
 /// The place of the entry that a version makes, counted from 0 behind the folded entries.
-#[tactic(auto, using(service_parts::proofs::PlaceLaw::place_behind_all))]
 pub(crate) fn created_place(parts: &Parts, set: &SetMessage) -> u64
     ensures place { length parts.now.repairer.folded + result ≡ created_place (kept parts.now) set.now }
     ensures within { result ≤ length parts.now.repairer.entries }

@@ -77,7 +77,6 @@ fn create(
 // ---- all of it
 
 // Changes entries and replies so. Refused, they stay.
-#[tactic(auto, using(service_parts::proofs::WholeLemmas::unfolded_kept, service_parts::proofs::WholeLemmas::none_past))]
 fn apply(parts: &mut Parts, change: TakeChange) -> Result<(), NoMemory>
     requires { CanChange (kept parts.old) change }
     ensures ok { OnOk result (kept parts.new ≡ changed_by (kept parts.old) change) }

@@ -42,7 +42,6 @@ fn taking(
 // ---- a version that is known
 
 // The reply of the call's entry, folded or not, is due, if there is one.
-#[tactic(auto, using(crate::proofs::TakeLemmas::due_by))]
 fn due_again(parts: &Parts, set: &SetMessage) -> TakeChange
     ensures is { changed_by (kept parts.now) result ≡ record (kept parts.now) { replies = at_reply_of (find_call (origin_of set.now) (whole_log parts.now.repairer)) (made_due (length parts.now.journal.rows)) parts.now.replies.list } }
     ensures can { CanChange (kept parts.now) result }

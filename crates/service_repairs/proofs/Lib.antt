@@ -5,3 +5,4 @@ mod RepairLemmas
 mod DraftedLemmas
 pub mod DoneLemmas
 pub mod FoldLemmas
+mod NamedLemmas

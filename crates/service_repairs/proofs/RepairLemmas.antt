@@ -15,7 +15,7 @@ use Rattle.service_events.proofs.PartLemmas.{logged}
 use Rattle.service_parts.specs.Parts.{kept}
 use Rattle.service_parts.specs.declared.parts.Parts.{Parts}
 use Rattle.service_events.proofs.OrderLaw.{well_named}
-use Rattle.service_repairs.specs.Ordering.{admission, admitted, unless_carried, MayOrder}
+use Rattle.service_repairs.specs.Ordering.{MayOrder}
 use Rattle.service_parts.specs.Services.{HasRoom, IsService}
 use Rattle.service_repairs.specs.Answers.{Steps}
 use Rattle.service_parts.proofs.ServiceLaws.{same_service, event_service}

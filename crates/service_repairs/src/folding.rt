@@ -1,12 +1,12 @@
 // Orders that fold: whether what they fold is quiet, and the fold.
-ghost use Rattle.std.specs.Prelude.{◌≡◌, ◌≤◌, ◌||◌, not, length, OnOk, OnErr};
+ghost use Rattle.std.specs.Prelude.{◌≡◌, ◌<◌, ◌≤◌, ◌||◌, None, not, find, length, position, take, IfSome, OnOk, OnErr};
 ghost use Rattle.std.specs.List.{list_all};
+ghost use Rattle.std.specs.Option.{option_copied};
 ghost use Rattle.service_events.specs.Orders.{first_unquiet, folded_on, is_done_with, is_due, is_quiet_call, to_fold, unless_quiet};
-ghost use Rattle.request_log.specs.Entries.{IsDistinct};
+ghost use Rattle.request_log.specs.Entries.{IsDistinct, has_id};
 ghost use Rattle.service_events.specs.State.{base, unfolded};
 ghost use Rattle.service_repairs.specs.Folding.{is_it, is_settled, unquiet_among};
 ghost use Rattle.service_parts.specs.Parts.{kept};
-ghost use Rattle.service_repairs.specs.Ordering.{MayOrder};
 ghost use Rattle.journal_rows.specs.declared.orders.Command.{Command as Ordered};
 
 use crate::stale::first_stale;
@@ -59,14 +59,22 @@ fn is_settled(parts: &Parts, entry: &Entry) -> bool
 
 // ---- what a fold folds
 
+// Where the entry of a number stands among those that aren't folded.
+fn place_of(parts: &Parts, id: u64) -> Option<u64>
+    ensures place { result ≡ position (has_id id) parts.now.repairer.entries }
+    ensures within { IfSome result (λ at. at < length parts.now.repairer.entries) }
+{
+    parts.repairer.log().place_of(id)
+}
+
 // How many entries a fold up to that of this number folds: all up to it, or all where there is none.
 fn count_to(parts: &Parts, id: u64) -> u64
     ensures count { result ≡ length (to_fold id (kept parts.now)) }
     ensures within { result ≤ length parts.now.repairer.entries }
 {
-    let log = parts.repairer.log();
-    match log.place_of(id) {
-        None => log.len(),
+    let all = parts.repairer.log().len();
+    match place_of(parts, id) {
+        None => all,
         Some(place) => place + 1,
     }
 }
@@ -86,26 +94,54 @@ fn is_unquiet(parts: &Parts, stale: Option<u64>, entry: &Entry) -> bool
     is_it(stale, entry) || !is_settled(parts, entry)
 }
 
-// The first of these entries that is the stale one of this number, or of which something is on its way.
-#[tactic(auto, using(crate::proofs::FoldLemmas::unquiet_found))]
-fn unquiet_among(parts: &Parts, entries: &[KeptEntry], stale: Option<u64>) -> Option<u64>
-    ensures { result ≡ unquiet_among (kept parts.now) stale entries.now }
+fn find_unquiet<'a>(
+    parts: &Parts,
+    entries: &'a [KeptEntry],
+    stale: Option<u64>,
+) -> Option<&'a KeptEntry>
+    ensures { option_copied result ≡ find (λ e. is_it stale e || not (is_settled (kept parts.now) e)) entries.now }
 {
     entries
         .iter()
         .find(|kept| is_unquiet(parts, stale, kept.entry()))
-        .map(|kept| kept.entry().id)
+}
+
+// The first of these entries that is the stale one of this number, or of which something is on its way.
+fn unquiet_among(parts: &Parts, entries: &[KeptEntry], stale: Option<u64>) -> Option<u64>
+    ensures { result ≡ unquiet_among (kept parts.now) stale entries.now }
+{
+    match find_unquiet(parts, entries, stale) {
+        None => None,
+        Some(kept) => Some(kept.entry().id),
+    }
+}
+
+fn front(entries: &[KeptEntry], n: u64) -> &[KeptEntry]
+    requires { n ≤ length entries.now }
+    ensures { result.now ≡ take n entries.now }
+{
+    &entries[..n as usize]
 }
 
 // The first entry that a fold up to that of this number would fold and that isn't quiet.
-#[tactic(auto, using(crate::proofs::FoldLemmas::unquiet_is))]
 fn first_unquiet(parts: &Parts, id: u64) -> Option<u64>
     requires { IsDistinct (unfolded (kept parts.now)) }
     ensures { result ≡ first_unquiet (kept parts.now) (base (kept parts.now)) (to_fold id (kept parts.now)) }
 {
     let stale = first_stale(parts, 0);
-    let count = count_to(parts, id) as usize;
-    unquiet_among(parts, &parts.repairer.log().as_slice()[..count], stale)
+    let count = count_to(parts, id);
+    let folds = front(parts.repairer.log().as_slice(), count);
+    unquiet_among(parts, folds, stale)
+}
+
+fn unless_all_quiet(parts: &Parts, id: u64) -> Option<OrderRefused>
+    requires { IsDistinct (unfolded (kept parts.now)) }
+    ensures { result ≡ unless_quiet (kept parts.now) (Ordered.Fold id) }
+{
+    match first_unquiet(parts, id) {
+        None => None,
+        Some(unquiet) => Some(OrderRefused::NotQuiet(unquiet)),
+    }
 }
 
 /// Why a fold can't be carried out: the first entry that it would fold and that isn't quiet. Other orders fold nothing.
@@ -114,15 +150,18 @@ pub(crate) fn unless_quiet(parts: &Parts, command: &Command) -> Option<OrderRefu
     ensures { result ≡ unless_quiet (kept parts.now) command.now }
 {
     match command {
-        Command::Fold(id) => first_unquiet(parts, *id).map(OrderRefused::NotQuiet),
-        _ => None,
+        Command::Fold(id) => unless_all_quiet(parts, *id),
+        Command::Cancel(_) => None,
+        Command::Restore(_) => None,
+        Command::Replace { .. } => None,
+        Command::Create { .. } => None,
+        Command::Retry(_) => None,
     }
 }
 
 /// Folds the entries up to that of this number, which are quiet. Refused, nothing changes.
-#[tactic(auto, using(crate::proofs::FoldLemmas::folds_on))]
 pub(crate) fn fold(alloc: Global, parts: &mut Parts, id: u64) -> Result<(), NoMemory>
-    requires { MayOrder (kept parts.old) (Ordered.Fold id) }
+    requires { unless_quiet (kept parts.old) (Ordered.Fold id) ≡ None }
     ensures ok { OnOk result (kept parts.new ≡ folded_on (length (to_fold id (kept parts.old))) (kept parts.old)) }
     ensures err { OnErr result (kept parts.new ≡ kept parts.old) }
     ensures journal { parts.new.journal ≡ parts.old.journal }

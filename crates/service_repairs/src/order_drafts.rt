@@ -1,11 +1,10 @@
 // The orders of operators.
 ghost use Rattle.std.specs.Prelude.{◌≡◌, ◌+◌, ◌<◌, ◌≤◌, [], ◌∷◌, ◌++◌, None, IfOk, OnOk, OnErr, find, insert, length, option_map, max};
 ghost use Rattle.std.specs.Option.{option_copied};
-ghost use Rattle.request_log.specs.Entries.{changed, has_id, replace, IsNew, with_call};
+ghost use Rattle.request_log.specs.Entries.{changed, has_id, mark, replace, IsNew, with_call};
 ghost use Rattle.create_placement.specs.Placement.{created, place_between};
 ghost use Rattle.service_events.specs.Calls.{noted};
-ghost use Rattle.service_events.specs.Orders.{carried_out, hold_on, released_post, request_of, unless_held};
-ghost use Rattle.request_log.specs.Folded.{has_number};
+ghost use Rattle.service_events.specs.Orders.{carried_out, entry_of, hold_on, released_post, request_of, unless_held, unless_present, unless_replaced};
 ghost use Rattle.service_parts.specs.Parts.{kept, whole_log};
 ghost use Rattle.service_parts.specs.Rooms.{aloft};
 ghost use Rattle.service_parts.specs.Drafts.{TellNoCall};
@@ -205,6 +204,16 @@ fn create(
     insert(repairer, at, entry)
 }
 
+// Sets whether the entry of a number is struck, which is there and isn't folded.
+fn strike(parts: &mut Parts, id: u64, struck: bool)
+    requires { unless_present id (kept parts.old) (entry_of id (kept parts.old)) ≡ None }
+    ensures kept { kept parts.new ≡ record (kept parts.old) { entries = changed id (mark struck) (whole_log parts.old.repairer) } }
+    ensures journal { parts.new.journal ≡ parts.old.journal }
+    ensures flights { parts.new.flights ≡ parts.old.flights }
+{
+    set_struck(&mut parts.repairer, id, struck);
+}
+
 // A held post is sent again, for this user.
 fn release(parts: &mut Parts, name: PostName, who: Text)
     requires { unless_held (hold_on (kept parts.old) name) ≡ None }
@@ -243,7 +252,7 @@ fn replace(
     path: &Text,
     body: &Text,
 ) -> Result<(), NoMemory>
-    requires { find (has_number id) parts.old.repairer.folded ≡ None }
+    requires { unless_replaced id (kept parts.old) (entry_of id (kept parts.old)) ≡ None }
     ensures ok { OnOk result (kept parts.new ≡ record (kept parts.old) { entries = changed id (replace method path.now body.now) (whole_log parts.old.repairer) }) }
     ensures err { OnErr result (kept parts.new ≡ kept parts.old) }
     ensures journal { parts.new.journal ≡ parts.old.journal }
@@ -276,11 +285,11 @@ fn carry_out(
 {
     match command {
         Command::Cancel(id) => {
-            set_struck(&mut parts.repairer, id, true);
+            strike(parts, id, true);
             Ok(())
         }
         Command::Restore(id) => {
-            set_struck(&mut parts.repairer, id, false);
+            strike(parts, id, false);
             Ok(())
         }
         Command::Replace {

@@ -44,28 +44,32 @@ pub(crate) struct Resolved<'a> {
 
 // ---- why it can't be about what it names
 
-#[tactic(auto, using(service_parts::proofs::WholeLemmas::past_entry_is))]
 fn unless_past(parts: &Parts, id: u64) -> Option<OrderRefused>
     ensures { result ≡ unless_past id (kept parts.now) }
 {
-    if parts.repairer.log().find_folded(id).is_some() {
-        Some(OrderRefused::TooOld(id))
-    } else {
-        None
+    match parts.repairer.log().find_folded(id) {
+        None => None,
+        Some(_) => Some(OrderRefused::TooOld(id)),
+    }
+}
+
+fn unless_there(parts: &Parts, id: u64) -> Option<OrderRefused>
+    requires { unless_past id (kept parts.now) ≡ None }
+    ensures { result ≡ unless_present id (kept parts.now) (entry_of id (kept parts.now)) }
+{
+    match parts.repairer.log().find(id) {
+        None => Some(OrderRefused::NoSuchRequest(id)),
+        Some(_) => None,
     }
 }
 
 // An order about an entry is about one that is there and isn't folded.
-#[tactic(auto, using(service_parts::proofs::WholeLemmas::entry_found))]
 fn unless_present(parts: &Parts, id: u64) -> Option<OrderRefused>
     ensures { result ≡ unless_present id (kept parts.now) (entry_of id (kept parts.now)) }
 {
     match unless_past(parts, id) {
+        None => unless_there(parts, id),
         Some(why) => Some(why),
-        None => match parts.repairer.log().find(id) {
-            None => Some(OrderRefused::NoSuchRequest(id)),
-            Some(_) => None,
-        },
     }
 }
 
@@ -78,17 +82,23 @@ fn unless_outside(id: u64, origin: &Origin) -> Option<OrderRefused>
     }
 }
 
+fn unless_own(parts: &Parts, id: u64) -> Option<OrderRefused>
+    requires { unless_past id (kept parts.now) ≡ None }
+    ensures { result ≡ unless_replaced id (kept parts.now) (entry_of id (kept parts.now)) }
+{
+    match parts.repairer.log().find(id) {
+        None => Some(OrderRefused::NoSuchRequest(id)),
+        Some(entry) => unless_outside(id, &entry.origin),
+    }
+}
+
 // A replacement is besides of one that comes from outside.
-#[tactic(auto, using(service_parts::proofs::WholeLemmas::entry_found))]
 fn unless_replaced(parts: &Parts, id: u64) -> Option<OrderRefused>
     ensures { result ≡ unless_replaced id (kept parts.now) (entry_of id (kept parts.now)) }
 {
     match unless_past(parts, id) {
+        None => unless_own(parts, id),
         Some(why) => Some(why),
-        None => match parts.repairer.log().find(id) {
-            None => Some(OrderRefused::NoSuchRequest(id)),
-            Some(entry) => unless_outside(id, &entry.origin),
-        },
     }
 }
 

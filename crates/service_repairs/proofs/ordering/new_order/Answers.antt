@@ -1,7 +1,11 @@
+use Rattle.service_events.proofs.StepLaw.{apart_behind}
 use Rattle.service_parts.specs.Parts.{kept}
 use Rattle.service_repairs.proofs.DraftedLemmas.{accepted_does, accepted_service, drafted_tells_none, refused_does}
 use Rattle.service_repairs.proofs.RepairLemmas.{may_order}
 use Rattle.service_repairs.proofs.ordering.new_order.Goals as goal
+
+pub drafted-requires-clause-apart : goal.drafted-requires-clause-apart
+drafted-requires-clause-apart c = apart_behind (kept c.args.parts.now) c.requires.service.fits.asked.distinct
 
 pub accepted-requires-clause-may : goal.accepted-requires-clause-may
 accepted-requires-clause-may c =
