@@ -129,14 +129,15 @@ fold_is p now id n r quiet is few done =
 
 -- ---- the first that isn't quiet
 
+found_or : {X Y : Type 0} (f : X → Y) (x : X) (b : Bool) (o : Option X) (r : Option Y) → option_map f o ≡ r → option_map f (cond b (Some x) o) ≡ cond b (Some (f x)) r
+found_or f x true o r later = refl
+found_or f x false o r later = later
+
 -- what is found first of those that pass a test
 pub unquiet_found : (s : Kept) (stale : Option ℕ) (es : List Entry) → option_map (λ (e : Entry). e.id) (find (λ e. is_it stale e || not (is_settled s e)) es) ≡ unquiet_among s stale es
 unquiet_found s stale [] = refl
-unquiet_found s stale (e ∷ es) = by (is_it stale e || not (is_settled s e))
-  where
-    by : (b : Bool) → option_map (λ (x : Entry). x.id) (cond b (Some e) (find (λ x. is_it stale x || not (is_settled s x)) es)) ≡ cond b (Some e.id) (unquiet_among s stale es)
-    by true = refl
-    by false = unquiet_found s stale es
+unquiet_found s stale (e ∷ es) =
+    found_or (λ (x : Entry). x.id) e (is_it stale e || not (is_settled s e)) (find (λ x. is_it stale x || not (is_settled s x)) es) (unquiet_among s stale es) (unquiet_found s stale es)
 
 -- the first stale one of these has another number than one that is new to them
 is_another : (consumed : Consumed) (rows : List Cell) (us : List Entry) (e : Entry) → find (has_id e.id) us ≡ None → is_it (stale_id consumed rows us) e ≡ false
