@@ -1,4 +1,4 @@
-use Rattle.std.proofs.Common.{ap, option_map, ◌∙◌}
+use Rattle.std.proofs.Common.{Some, ap, option_map, ◌∙◌}
 use Rattle.request_log.specs.declared.entry.Entry.{Entry}
 use Rattle.service_parts.specs.Parts.{kept}
 use Rattle.service_repairs.proofs.FoldLemmas.{unquiet_found}
@@ -10,4 +10,5 @@ returns-in-None c =
 
 pub returns-in-Some : goal.returns-in-Some
 returns-in-Some c =
-    ap (option_map (λ (e : Entry). e.id)) c.in-Some.ensures ∙ unquiet_found (kept c.args.parts.now) c.args.stale c.args.entries.now
+    ap (λ (e : Entry). Some e.id) c.entry.ensures
+    ∙ ap (option_map (λ (e : Entry). e.id)) c.in-Some.ensures ∙ unquiet_found (kept c.args.parts.now) c.args.stale c.args.entries.now
