@@ -17,5 +17,4 @@ pub mod LegalLaws
 pub mod PurchaseTogether
 pub mod PurchaseUndone
 pub mod PurchaseFolded
-pub mod FoldLaws
 pub mod HandedOn
