@@ -1,5 +1,5 @@
 -- What is written of calls: of the pairs of two lists, one after the other, and of the tentative answer; and of all entries.
-use Rattle.std.proofs.Common.{ℕ, ◌≡◌, ◌⊎◌, decimal, drop, inl, inr, List, [], ◌∷◌, ◌++◌, flat_map, take, refl, sym, ap, ◌∙◌}
+use Rattle.std.proofs.Common.{ℕ, ◌≡◌, ◌⊎◌, decimal, drop, inl, inr, List, [], ◌∷◌, ◌++◌, Result, Ok, Err, OnOk, append_assoc, flat_map, take, refl, sym, ap, ◌∙◌}
 use Rattle.std.proofs.lemmas.List.{append-nil, take-append-drop}
 use Rattle.std.proofs.lemmas.List.Concat.{flat_map-append}
 use Rattle.request_log.specs.declared.entry.Entry.{Entry}
@@ -22,5 +22,13 @@ pub tentative_text : response_text tentative ≡ decimal 504
 tentative_text = append-nil (decimal 504)
 
 -- what is written of the folded entries and then of the others is written of all entries
-pub all_lines : (f : Entry → List ℕ) (n : ℕ) (entries : List Entry) → flat_map f (take n entries) ++ flat_map f (drop n entries) ≡ flat_map f entries
-all_lines f n entries = sym (flat_map-append f (take n entries) (drop n entries)) ∙ ap (flat_map f) (take-append-drop n entries)
+both_lines : (f : Entry → List ℕ) (n : ℕ) (entries : List Entry) (before : List ℕ) → (before ++ flat_map f (take n entries)) ++ flat_map f (drop n entries) ≡ before ++ flat_map f entries
+both_lines f n entries before =
+    append_assoc before (flat_map f (take n entries)) (flat_map f (drop n entries))
+    ∙ ap (λ (lines : List ℕ). before ++ lines) (sym (flat_map-append f (take n entries) (drop n entries)) ∙ ap (flat_map f) (take-append-drop n entries))
+
+pub all_lines : {X E : Type 0} (f : Entry → List ℕ) (n : ℕ) (entries : List Entry) (before mid now : List ℕ) (done : Result X E) → mid ≡ before ++ flat_map f (take n entries)
+    → OnOk done (now ≡ mid ++ flat_map f (drop n entries)) → OnOk done (now ≡ before ++ flat_map f entries)
+all_lines f n entries before mid now (Ok unit) first behind =
+    behind ∙ ap (λ (text : List ℕ). text ++ flat_map f (drop n entries)) first ∙ both_lines f n entries before
+all_lines f n entries before mid now (Err lacks) first behind = tt

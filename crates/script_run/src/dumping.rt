@@ -66,7 +66,6 @@ fn push_unfolded(text: &mut String, service: &Service) -> Result<(), NoMemory>
 }
 
 // Its entries, the folded ones first.
-#[tactic(auto, using(crate::proofs::DumpLemmas::all_lines))]
 fn push_entries(text: &mut String, service: &Service) -> Result<(), NoMemory>
     ensures { OnOk result (string_bytes text.new ≡ string_bytes text.old ++ flat_map (entry_lines (answers service.now)) service.now.entries) }
 {
