@@ -1,5 +1,5 @@
 -- Equal parts of a service, with room to abandon its flights, are a service too.
-use Rattle.std.proofs.Common.{◌≡◌, Result, Ok, Err, IfOk, ◌<◌, ◌≤◌, ◌^◌, sym, subst}
+use Rattle.std.proofs.Common.{◌≡◌, Result, Ok, Err, IfOk, ◌≤◌, sym, subst}
 use Rattle.service_events.specs.Ages.{HasAges}
 use Rattle.service_events.specs.Allowed.{IsAllowed}
 use Rattle.service_events.specs.Fits.{Fits}

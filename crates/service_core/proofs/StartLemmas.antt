@@ -16,21 +16,36 @@ use Rattle.service_parts.specs.Parts.{kept}
 use Rattle.service_parts.specs.Rooms.{aloft}
 use Rattle.service_parts.specs.Services.{IsService}
 use Rattle.service_parts.specs.declared.parts.Parts.{Parts}
-use Rattle.service_parts.proofs.WholeLemmas.{in_all_is}
 
-pub none_in_all : (folded : List Folded) (entries : List Entry) → folded ≡ [] → entries ≡ [] → whole folded entries ≡ []
+none_in_all : (folded : List Folded) (entries : List Entry) → folded ≡ [] → entries ≡ [] → whole folded entries ≡ []
 none_in_all folded entries none empty = ap (λ (fs : List Folded). whole fs entries) none ∙ empty
 
-pub none_folded : (folded : List Folded) → folded ≡ [] → length folded ≡ 0
+none_folded : (folded : List Folded) → folded ≡ [] → length folded ≡ 0
 none_folded folded none = ap length none
 
--- parts without entries, base rows, flights, rows, registers and replies are a service
+-- parts without entries, base rows, flights, rows, registers and replies keep what a fresh service does
+pub starts : (p : Parts) → p.repairer.folded ≡ [] → p.repairer.base ≡ [] → p.repairer.entries ≡ [] → p.flights.list ≡ [] → p.journal.rows ≡ [] → p.registers.list ≡ []
+    → p.replies.list ≡ [] → kept p ≡ fresh p.setting p.rules
+starts p folded base entries flights journal registers replies =
+    let all = none_in_all p.repairer.folded p.repairer.entries folded entries in
+    let horizon = none_folded p.repairer.folded folded in
+    (λ i. record {
+      setting = p.setting;
+      rules = p.rules;
+      entries = all i;
+      horizon = horizon i;
+      base = base i;
+      flights = flights i;
+      journal = journal i;
+      registers = registers i;
+      replies = replies i;
+    })
+
+-- and are a service
 pub new_service : (p : Parts) → p.repairer.folded ≡ [] → p.repairer.base ≡ [] → p.repairer.entries ≡ [] → p.flights.list ≡ [] → p.journal.rows ≡ [] → p.registers.list ≡ []
     → p.replies.list ≡ [] → IsService p
 new_service p folded base entries flights journal registers replies =
-    let all = none_in_all p.repairer.folded p.repairer.entries folded entries in
-    let horizon = none_folded p.repairer.folded folded in
-    let same : kept p ≡ fresh p.setting p.rules = cc in
+    let same = starts p folded base entries flights journal registers replies in
     let none : in_all (fresh p.setting p.rules) ≤ 100000 = omega arith in
     let least : 0 ≤ p.journal.spare = omega arith in
     record {

@@ -84,7 +84,6 @@ impl Model for Service {
 
 impl Service {
     /// A service that has answered nothing yet, which allows repairs by these rules.
-    #[tactic(auto, using(crate::proofs::StartLemmas::none_in_all, crate::proofs::StartLemmas::none_folded))]
     pub fn new(alloc: Global, setting: Setting, rules: Rules) -> Service
         ensures { result ≡ fresh setting rules }
     {

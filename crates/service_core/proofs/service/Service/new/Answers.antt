@@ -1,5 +1,5 @@
 use Rattle.std.proofs.Common.{arith}
-use Rattle.service_core.proofs.StartLemmas.{new_service}
+use Rattle.service_core.proofs.StartLemmas.{new_service, starts}
 use Rattle.service_core.proofs.service.Service.new.Goals as goal
 
 pub invariant_of-result : goal.invariant_of-result
@@ -7,3 +7,17 @@ invariant_of-result c = (
   new_service _ c.new.ensures.folded c.new.ensures.base c.new.ensures.entries c.new-2.ensures c.new-3.ensures c.new-4.ensures c.new-5.ensures.list,
   record { within = omega arith; current = tt },
 )
+
+pub returns : goal.returns
+returns c =
+    starts
+    (record {
+      setting = c.args.setting;
+      rules = c.args.rules;
+      repairer = c.new.result;
+      flights = c.new-2.result;
+      journal = c.new-3.result;
+      registers = c.new-4.result;
+      replies = c.new-5.result;
+    })
+    c.new.ensures.folded c.new.ensures.base c.new.ensures.entries c.new-2.ensures c.new-3.ensures c.new-4.ensures c.new-5.ensures.list
