@@ -150,10 +150,10 @@ is_another consumed rows (u ∷ us) e none =
     ]
 
 -- one that isn't stale is quiet where it is settled
-same_test : (due calls : Bool) (yes : Option ℕ) (no : Option ℕ) → cond (false || not (not due && calls)) yes no ≡ cond ((true && not due) && calls) no yes
-same_test true calls yes no = refl
-same_test false true yes no = refl
-same_test false false yes no = refl
+same_test : (due calls : Bool) (here later : Option ℕ) → cond (false || not (not due && calls)) here later ≡ cond ((true && not due) && calls) later here
+same_test true calls here later = refl
+same_test false true here later = refl
+same_test false false here later = refl
 
 -- the first stale one of all, or one before it that isn't settled, is the first that isn't quiet
 unquiet_is : (s : Kept) (us : List Entry) (rows : List Cell) (k : ℕ) → IsDistinct us

@@ -1,5 +1,5 @@
 -- Why an order can't be about the entry that it names: by what is found among the folded entries, and behind them.
-use Rattle.std.proofs.Common.{◌≡◌, ℕ, Bool, Option, Some, None, find, is_some, sym, ap, ◌∙◌}
+use Rattle.std.proofs.Common.{◌≡◌, ℕ, Bool, Option, Some, None, find, is_some, refl, sym, ap, ◌∙◌}
 use Rattle.request_log.specs.Entries.{has_id}
 use Rattle.request_log.specs.Folded.{has_number}
 use Rattle.request_log.specs.declared.entry.Entry.{Entry}

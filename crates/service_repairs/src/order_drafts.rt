@@ -184,7 +184,6 @@ fn created_entry(
 
 // Makes an entry of a request that is to have been made, at its place among the others, behind the folded ones. Refused, the log
 // stays.
-#[tactic(auto, using(service_parts::proofs::PlaceLaw::place_behind_all))]
 fn create(
     alloc: Global,
     repairer: &mut Repairer,
