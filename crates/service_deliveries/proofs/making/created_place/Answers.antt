@@ -14,7 +14,7 @@ returns-clause-place c =
     let folded = c.log.ensures.folded in
     let entries = c.log.ensures.entries in
     let same : place_among c.neighbour-before.result c.neighbour-after.result c.log.result.now.folded c.log.result.now.entries
-        ≡ place_among (neighbour (kept p) set.caller set.before) (neighbour (kept p) set.caller set.after) p.repairer.folded p.repairer.entries =
+    ≡ place_among (neighbour (kept p) set.caller set.before) (neighbour (kept p) set.caller set.after) p.repairer.folded p.repairer.entries =
     (λ i. place_among (before i) (after i) (folded i) (entries i)) in
     ap (λ (at : ℕ). length p.repairer.folded + at) (c.place.ensures.place ∙ same)
     ∙ place_behind_all (neighbour (kept p) set.caller set.before) (neighbour (kept p) set.caller set.after) p.repairer.folded p.repairer.entries

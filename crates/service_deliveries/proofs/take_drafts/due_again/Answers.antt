@@ -14,7 +14,7 @@ returns-in-None-clause-is c =
     let entries = c.log.ensures.entries in
     let found : None ≡ option_map (λ (e : Entry). e.id) (find (has_origin set.caller set.number) (whole c.log.result.now.folded c.log.result.now.entries)) = c.in-None.ensures in
     let there : option_map (λ (e : Entry). e.id) (find (has_origin set.caller set.number) (whole c.log.result.now.folded c.log.result.now.entries))
-        ≡ option_map (λ (e : Entry). e.id) (find (has_origin set.caller set.number) (whole_log p.repairer)) =
+    ≡ option_map (λ (e : Entry). e.id) (find (has_origin set.caller set.number) (whole_log p.repairer)) =
     (λ i. option_map (λ (e : Entry). e.id) (find (has_origin set.caller set.number) (whole (folded i) (entries i)))) in
     due_again_is (kept p) set None (length p.journal.rows) (found ∙ there) refl
 
@@ -25,7 +25,7 @@ returns-in-Some-clause-is c =
     let folded = c.log.ensures.folded in
     let entries = c.log.ensures.entries in
     let there : option_map (λ (e : Entry). e.id) (find (has_origin set.caller set.number) (whole c.log.result.now.folded c.log.result.now.entries))
-        ≡ option_map (λ (e : Entry). e.id) (find (has_origin set.caller set.number) (whole_log p.repairer)) =
+    ≡ option_map (λ (e : Entry). e.id) (find (has_origin set.caller set.number) (whole_log p.repairer)) =
     (λ i. option_map (λ (e : Entry). e.id) (find (has_origin set.caller set.number) (whole (folded i) (entries i)))) in
     let now : length p.journal.rows + 0 ≡ length p.journal.rows = omega arith in
     due_again_is (kept p) set (Some c.in-Some.id) c.index.result (c.in-Some.ensures ∙ there) (c.index.ensures ∙ now)
