@@ -17,7 +17,7 @@ use Rattle.local_repair.specs.Current.{Consumed, IsCurrentRecord, after_entry, r
 use Rattle.local_repair.specs.Repairs.{IsFolded, KeptRepairer, stale_id}
 use Rattle.local_repair.specs.Tests.{is_current}
 use Rattle.journal_rows.specs.declared.orders.Command.TheVariants.{Fold}
-use Rattle.service_events.specs.Orders.{first_unquiet, folded_on, is_due, is_quiet_call, to_fold, unless_quiet}
+use Rattle.service_events.specs.Orders.{first_unquiet, folded_on, is_due, is_quiet_call, is_quiet_entry, to_fold, unless_quiet}
 use Rattle.service_events.specs.State.{Kept, answers, base, folded, unfolded}
 use Rattle.service_events.proofs.FoldLaw.{AreQuiet, quiet_are}
 use Rattle.service_events.proofs.OrderLaw.{quiet_by}
@@ -155,18 +155,34 @@ same_test true calls here later = refl
 same_test false true here later = refl
 same_test false false here later = refl
 
+-- one of these, whether another one is the stale one or this one
+one_current : (s : Kept) (rows : List Cell) (e : Entry) (stale found first : Option ℕ) → is_current (answers s) rows e ≡ true → is_it stale e ≡ false → found ≡ first
+    → cond (is_it stale e || not (is_settled s e)) (Some e.id) found ≡ cond (is_quiet_entry s rows e) first (Some e.id)
+one_current s rows e stale found first current other later =
+    rw (current, other) (same_test (is_due s e) (list_all (is_quiet_call s) e.slots) (Some e.id) found
+    ∙ ap (λ (o : Option ℕ). cond ((true && not (is_due s e)) && list_all (is_quiet_call s) e.slots) o (Some e.id)) later)
+
+one_stale : (s : Kept) (rows : List Cell) (e : Entry) (stale found first : Option ℕ) → is_current (answers s) rows e ≡ false → is_it stale e ≡ true
+    → cond (is_it stale e || not (is_settled s e)) (Some e.id) found ≡ cond (is_quiet_entry s rows e) first (Some e.id)
+one_stale s rows e stale found first current this = rw (current, this) refl
+
 -- the first stale one of all, or one before it that isn't settled, is the first that isn't quiet
 unquiet_is : (s : Kept) (us : List Entry) (rows : List Cell) (k : ℕ) → IsDistinct us
     → unquiet_among s (stale_id (answers s) rows us) (take k us) ≡ first_unquiet s rows (take k us)
 unquiet_is s us rows zero apart = refl
 unquiet_is s [] rows (suc k) apart = refl
-unquiet_is s (e ∷ us) rows (suc k) apart = elim (cases_Bool (is_current (answers s) rows e)) [
-  | inl is ↦ (let other = is_another (answers s) (after_entry rows e) us e apart.0.id in
-      let rest = unquiet_is s us (after_entry rows e) k apart.1 in
-      rw (is, other) (same_test (is_due s e) (list_all (is_quiet_call s) e.slots) (Some e.id) (unquiet_among s (stale_id (answers s) (after_entry rows e) us) (take k us))
-      ∙ ap (λ o. cond ((true && not (is_due s e)) && list_all (is_quiet_call s) e.slots) o (Some e.id)) rest))
-  | inr isnt ↦ rw (isnt, eq-eqb e.id e.id refl) refl
-]
+unquiet_is s (e ∷ us) rows (suc k) apart =
+    let stale = stale_id (answers s) rows (e ∷ us) in
+    let found = unquiet_among s (stale_id (answers s) rows (e ∷ us)) (take k us) in
+    let first = first_unquiet s (after_entry rows e) (take k us) in
+    elim (cases_Bool (is_current (answers s) rows e)) [
+      | inl is ↦ (let same : stale_id (answers s) rows (e ∷ us) ≡ stale_id (answers s) (after_entry rows e) us = rw is refl in
+          one_current s rows e stale found first is
+          (ap (λ (o : Option ℕ). is_it o e) same ∙ is_another (answers s) (after_entry rows e) us e apart.0.id)
+          (ap (λ (o : Option ℕ). unquiet_among s o (take k us)) same ∙ unquiet_is s us (after_entry rows e) k apart.1))
+      | inr isnt ↦ (let same : stale_id (answers s) rows (e ∷ us) ≡ Some e.id = rw isnt refl in
+          one_stale s rows e stale found first isnt (ap (λ (o : Option ℕ). is_it o e) same ∙ eq-eqb e.id e.id refl))
+    ]
 
 -- so it is of these entries, where the first stale one of all is known
 pub first_is : (p : Parts) (id n : ℕ) (stale : Option ℕ) → IsDistinct (unfolded (kept p)) → n ≡ length (to_fold id (kept p))

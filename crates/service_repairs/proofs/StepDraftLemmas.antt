@@ -95,7 +95,7 @@ module _ (s : Service) (f : Fits s) (b' : KeptBook) (last later : ℕ) (es' : Li
     made_leaves : after (with_book s (folded s ++ es') b') (Ran id answered) ≡ leaves r.remade.made
     made_leaves =
         let m = r.remade.made in
-        ap (λ es. after (with_book s es b') (Ran id answered)) (r.rest ∙ ap (folded s ++ set (unfolded s) r.place) (r.remade.is ∙ ap (remade r.was m) r.remade.settled.given))
+        ap (λ (es : List Entry). after (with_book s (folded s ++ es) b') (Ran id answered)) (r.rest ∙ ap (set (unfolded s) r.place) (r.remade.is ∙ ap (remade r.was m) r.remade.settled.given))
         ∙ ap (λ b. after (with_book s (folded s ++ set (unfolded s) r.place (remade r.was m (new_numbers s r.was m))) b) (Ran id answered)) r.remade.settled.is
         ∙ ap (λ n. after (with_book s (folded s ++ set (unfolded s) r.place (remade r.was m (new_numbers s r.was m))) (settled (book_of s) r.was m.trace (is_new_answer (r.was).made m))) (Ran n answered)) r.names
         ∙ ap (λ a. after (with_book s (folded s ++ set (unfolded s) r.place (remade r.was m (new_numbers s r.was m))) (settled (book_of s) r.was m.trace (is_new_answer (r.was).made m))) (Ran (r.was).id a)) r.tells
