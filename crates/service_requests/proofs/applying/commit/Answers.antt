@@ -7,7 +7,7 @@ use Rattle.service_parts.proofs.WholeLemmas.{unfolded_kept}
 use Rattle.service_requests.proofs.applying.commit.Goals as goal
 
 pub add_entry-requires-clause-few : goal.add_entry-requires-clause-few
-add_entry-requires-clause-few c = subst (λ (es : List Entry). length es < 100000) (unfolded_kept c.args.parts.now) c.requires.can.1.0
+add_entry-requires-clause-few c = subst (λ (es : List Entry). length es < 100000) (unfolded_kept c.args.parts.now) c.requires.can.1
 
 pub returns-clause-room : goal.returns-clause-room
 returns-clause-room c =
