@@ -1,5 +1,5 @@
 -- Each event leaves what a journal had, and adds rows behind: so what it answered stays where it is.
-use Rattle.std.proofs.Common.{◌≡◌, ℕ, Bool, true, false, List, [], ◌∷◌, ◌++◌, Option, Some, None, Result, Ok, Err, refl, sym, ap, subst}
+use Rattle.std.proofs.Common.{◌≡◌, ℕ, Bool, true, false, List, [], ◌∷◌, ◌++◌, Option, Some, None, Result, Ok, refl, sym, ap, subst}
 use Rattle.std.proofs.lemmas.Bool.{cond_both}
 use Rattle.std.proofs.lemmas.List.{append-nil}
 use Rattle.lang_base.specs.Memory.{Unless}
@@ -16,7 +16,6 @@ use Rattle.journal_rows.specs.declared.callee.TookRow.{TookRow}
 use Rattle.journal_rows.specs.declared.row.Row.TheVariants.{Asked}
 use Rattle.service_events.specs.Arriving.{admitted, arrives_or_known, by_version, known_by, new_flight, unless_gone}
 use Rattle.service_events.specs.Event.{event, is_lacking, Happens}
-use Rattle.service_events.specs.Flying.{goes_on}
 use Rattle.service_events.specs.Messages.{acked_again, acked_row, is_known, is_too_much, origin_of, take_admitted, take_new, taken, taken_by, took_row}
 use Rattle.service_events.specs.State.{After, Kept, after, answers, base, is_crowded, is_heavy, next_id, or_else, unfolded}
 use Rattle.service_events.specs.Steps.{Stale, answer_rows, new_record, sent_rows, stale_in, step_by}
