@@ -1,7 +1,6 @@
 -- What a script that is made comes to, step by step.
-use Rattle.std.proofs.Common.{◌≡◌, ◌⊎◌, ℕ, ◌+◌, ◌<◌, List, map, take, length, get_or, Some, None, inl, inr, ap, sym, subst, ◌∙◌, arith, length-append}
+use Rattle.std.proofs.Common.{◌≡◌, ◌⊎◌, ℕ, ◌+◌, List, map, length, Some, None, inl, inr, ap, sym, subst, ◌∙◌, arith, length-append}
 use Rattle.std.proofs.lemmas.List.{length-map, take-append-drop}
-use Rattle.std.proofs.lemmas.List.Sums.{sum_by_more}
 use Rattle.io_edge.specs.Edge.{Writes}
 use Rattle.request_log.specs.Folded.{as_entry}
 use Rattle.request_log.specs.declared.entry.Entry.{Entry}
@@ -11,14 +10,10 @@ use Rattle.world_events.specs.Worlds.{World}
 use Rattle.script_run.specs.Counting.{capped}
 use Rattle.script_run.specs.Stops.{AreCountsOf, DoesAll}
 use Rattle.script_run.specs.declared.counts.Counts.{Counts}
-use Rattle.script_run.proofs.CountLaws.{capped_more}
 use Rattle.script_run.proofs.PlayLaws.{one_run}
 use Rattle.aire_top.specs.Closings.{Closes}
 use Rattle.aire_top.specs.Endings.{Answer, LacksMemory, refused_line, standing}
-use Rattle.aire_top.specs.Making.{Prints, ScriptTold, counts_of, entries_of, made_line}
-
-abbrev entries_in : Kept → ℕ
-entries_in s = length s.entries
+use Rattle.aire_top.specs.Making.{Prints, ScriptTold, counts_of, made_line}
 
 -- the folded ones and the others are all
 pub in_both : (s : Kept) (past : List Folded) (others : List Entry) → map as_entry past ≡ folded s → others ≡ unfolded s
@@ -29,22 +24,6 @@ in_both s past others first behind =
     let all : length (folded s) + length (unfolded s) ≡ length s.entries =
     sym (length-append (folded s) (unfolded s)) ∙ ap length (take-append-drop s.horizon s.entries) in
     ap capped (omega (arith, before, many, all))
-
--- what is capped once more is capped
-capped_both : (a b : ℕ) → capped (a + capped b) ≡ capped (a + b)
-capped_both a b =
-    let flip : a + capped b ≡ capped b + a = omega arith in
-    let back : b + a ≡ a + b = omega arith in
-    ap capped flip ∙ capped_more b a ∙ ap capped back
-
--- with the entries of one service more
-pub one_service : (services : List Kept) (i : ℕ) (s : Kept) (so now : ℕ) → i < length services → so ≡ capped (entries_of (take i services)) → now ≡ capped (so + capped (length (get_or services i s).entries))
-    → now ≡ capped (entries_of (take (i + 1) services))
-one_service services i s so now inside is added =
-    added ∙ ap (λ (n : ℕ). capped (n + capped (length (get_or services i s).entries))) is
-    ∙ capped_both (capped (entries_of (take i services))) (length (get_or services i s).entries)
-    ∙ capped_more (entries_of (take i services)) (length (get_or services i s).entries)
-    ∙ ap capped (sym (sum_by_more entries_in services i s inside))
 
 -- each line is done, and what they come to is printed
 pub has_made : (start : World) (script : List ℕ) (n : ℕ) (world : World) (counts : Counts) (nowhere gone before now : Writes) (ans : Answer) → DoesAll start script None world nowhere gone → AreCountsOf start script counts
