@@ -37,13 +37,17 @@ is_call_over registers n = option_map_or is_over (register n registers) false
 abbrev pub can_go : Kept → Entry → Bool
 can_go s e = not (is_due s e) && list_all (is_call_over s.registers) e.slots
 
+-- one that can't
+abbrev pub stays : Kept → Entry → Bool
+stays s e = not (can_go s e)
+
 abbrev pub place_or : Option ℕ → ℕ → ℕ
 place_or None n = n
 place_or (Some place) n = place
 
 -- how many of the first of these can go
 abbrev pub front_of : Kept → List Entry → ℕ
-front_of s entries = place_or (position (λ e. not (can_go s e)) entries) (length entries)
+front_of s entries = place_or (position (stays s) entries) (length entries)
 
 -- ---- the order
 

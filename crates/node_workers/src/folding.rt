@@ -1,10 +1,10 @@
 // Folds that a service orders by itself.
-ghost use Rattle.std.specs.Prelude.{◌≡◌, IfOk, is_none};
+ghost use Rattle.std.specs.Prelude.{◌≡◌, IfOk, is_none, position};
 ghost use Rattle.std.specs.List.{list_all};
 ghost use Rattle.journal_rows.specs.Words.{ordered};
 ghost use Rattle.service_events.specs.Orders.{is_done_with, is_due};
 ghost use Rattle.node_workers.specs.Desks.{at_desk};
-ghost use Rattle.node_workers.specs.Folding.{can_go, fold_token, front_of, is_answered, is_call_over, is_over, place_or, FoldsOnce};
+ghost use Rattle.node_workers.specs.Folding.{can_go, fold_token, front_of, is_answered, is_call_over, is_over, place_or, stays, FoldsOnce};
 
 use crate::desk::Desk;
 use crate::turns::ask_under_lock;
@@ -90,6 +90,19 @@ fn can_go(service: &Service, entry: &Entry) -> bool
     !is_due(service, entry) && are_over(service.registers(), entry.slots.as_slice())
 }
 
+fn stays(service: &Service, entry: &Entry) -> bool
+    ensures { result ≡ stays service.now entry.now }
+{
+    !can_go(service, entry)
+}
+
+// Where the first of these stands that can't go.
+fn first_staying(service: &Service, entries: &[KeptEntry]) -> Option<usize>
+    ensures { result ≡ position (stays service.now) entries.now }
+{
+    entries.iter().position(|kept| stays(service, kept.entry()))
+}
+
 fn place_or(place: Option<usize>, length: usize) -> usize
     ensures { result ≡ place_or place length }
 {
@@ -103,10 +116,7 @@ fn place_or(place: Option<usize>, length: usize) -> usize
 fn front_of(service: &Service, entries: &[KeptEntry]) -> usize
     ensures { result ≡ front_of service.now entries.now }
 {
-    let first = entries
-        .iter()
-        .position(|kept| !can_go(service, kept.entry()));
-    place_or(first, entries.len())
+    place_or(first_staying(service, entries), entries.len())
 }
 
 fn id_at(entries: &[KeptEntry], place: usize) -> u64 {

@@ -9,8 +9,8 @@ returns-in-Ok-Order g c =
     folds_made (at_desk c.args.desk.now).me c.args.id c.args.signed.0 c.args.signed.1 c.args.signed.2 c.args.inputs before.notes now.notes before.receipts.items now.receipts.items
     c.requires.token c.requires.who c.ask_under_lock.ensures.makes
 
-pub returns-in_default : goal.returns-in_default
-returns-in_default g c =
+pub returns : goal.returns
+returns g c =
     let before = c.args.pass.now in
     let now = c.ask_under_lock.new.pass in
     folds_made (at_desk c.args.desk.now).me c.args.id c.args.signed.0 c.args.signed.1 c.args.signed.2 c.args.inputs before.notes now.notes before.receipts.items now.receipts.items
