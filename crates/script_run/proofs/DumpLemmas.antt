@@ -1,6 +1,6 @@
 -- What is written of calls: of the pairs of two lists, one after the other, and of the tentative answer; and of all entries.
-use Rattle.std.proofs.Common.{ℕ, ◌≡◌, ◌⊎◌, decimal, drop, inl, inr, List, [], ◌∷◌, ◌++◌, Result, Ok, Err, OnOk, append_assoc, flat_map, take, refl, sym, ap, ◌∙◌}
-use Rattle.std.proofs.lemmas.List.{append-nil, take-append-drop}
+use Rattle.std.proofs.Common.{ℕ, ◌≡◌, ◌⊎◌, ◌+◌, ◌<◌, decimal, drop, get_or, length, inl, inr, List, [], ◌∷◌, ◌++◌, Result, Ok, Err, OnOk, append_assoc, flat_map, take, refl, sym, ap, ◌∙◌}
+use Rattle.std.proofs.lemmas.List.{append-nil, flat_map_more, take-append-drop, take_more}
 use Rattle.std.proofs.lemmas.List.Concat.{flat_map-append}
 use Rattle.request_log.specs.declared.entry.Entry.{Entry}
 use Rattle.std.specs.List.{zip}
@@ -20,6 +20,15 @@ pair_end f all text ks vs is none = sym (is ∙ ap (λ x. text ++ flat_map f x) 
 
 pub tentative_text : response_text tentative ≡ decimal 504
 tentative_text = append-nil (decimal 504)
+
+-- what is written of the first so many entries and then of the next is written of one more
+pub one_more : (f : Entry → List ℕ) (before mid now : List ℕ) (entries : List Entry) (i : ℕ) (e d : Entry) → i < length entries → e ≡ get_or entries i d → mid ≡ before ++ flat_map f (take i entries)
+    → now ≡ mid ++ f e → now ≡ before ++ flat_map f (take (i + 1) entries)
+one_more f before mid now entries i e d inside is first then =
+    then ∙ ap (λ (text : List ℕ). text ++ f e) first
+    ∙ ap (λ (x : Entry). (before ++ flat_map f (take i entries)) ++ f x) is
+    ∙ flat_map_more f before (take i entries) (get_or entries i d)
+    ∙ ap (λ (xs : List Entry). before ++ flat_map f xs) (sym (take_more entries i d inside))
 
 -- what is written of the folded entries and then of the others is written of all entries
 both_lines : (f : Entry → List ℕ) (n : ℕ) (entries : List Entry) (before : List ℕ) → (before ++ flat_map f (take n entries)) ++ flat_map f (drop n entries) ≡ before ++ flat_map f entries
