@@ -26,8 +26,8 @@ repairs() { # ID
 }
 
 # The seconds of a script less those of another that it begins with.
-more_than() { # SCRIPT FRONT
-    less "$(least_seconds_of @notes "$1")" "$(least_seconds_of @notes "$2")"
+more_than() { # SCRIPT FRONT [WORLD]
+    less "$(least_seconds_of "${3-@notes}" "$1")" "$(least_seconds_of "${3-@notes}" "$2")"
 }
 
 asks 1 80000 >"$folder/asks"
@@ -51,8 +51,20 @@ echo "10,000 requests among 5,000: $few s, behind the fold $behind s, ratio $(ra
 (cat "$folder/folded"; repairs 75001) >"$folder/folded_repaired"
 few=$(more_than "$folder/few_repaired" "$folder/few")
 behind=$(more_than "$folder/folded_repaired" "$folder/folded")
-[ "$(tail -n 1 "$folder/told")" = "legal" ]
+"$program" run @notes "$folder/folded_repaired" | tail -n 1 | grep -qx legal
 echo "twenty repairs among 5,000: $few s, behind the fold $behind s, ratio $(ratio "$behind" "$few")"
+
+# A call of another service among 5,000 purchases, and among 5,000 behind 35,000 that both services folded.
+buys() { # FROM TO
+    awk -v from="$1" -v to="$2" 'BEGIN { for (i = from; i <= to; i++) printf "ask shop ann POST /buy/k%d %d\n", i % 1000, i }'
+}
+buys 1 5000 >"$folder/few"
+(cat "$folder/few"; buys 5001 7000) >"$folder/few_more"
+(buys 1 40000; echo "fold shop/35000 f1 root"; echo "fold bank/35000 f1 root") >"$folder/folded"
+(cat "$folder/folded"; buys 40001 42000) >"$folder/folded_more"
+few=$(more_than "$folder/few_more" "$folder/few" @shops)
+behind=$(more_than "$folder/folded_more" "$folder/folded" @shops)
+echo "2,000 purchases among 5,000: $few s, behind the fold $behind s, ratio $(ratio "$behind" "$few")"
 
 # A script has at most 16 MB, so a million lines have to be short: a service and a user of one letter each.
 cat >"$folder/short.json" <<'END'

@@ -2,7 +2,8 @@
 """A storm over loopback: clients post questions to the three services of @posts, an operator cancels a tenth of them meanwhile, and
 connections between the services are cut at random (cut.c). Once the audit says legal, each cancelled question has to be dead and
 gone at both services that had it, and each other one alive and there; and in the end each answer has its receipt. With KEEP each service
-folds by itself all but so many of its requests meanwhile; a cancellation that comes too late for that is refused, and its question stays.
+folds by itself all but so many of its requests meanwhile, and one question in a hundred is cancelled, soon after it came: what is cancelled
+when it is nearly folded may be folded already at a service that it called, which then holds its part of the repair for good.
 
     drills/storm.py [PROGRAM [POSTS [CLIENTS [CUT_ONE_IN [SEED [KEEP]]]]]]
 """
@@ -21,6 +22,7 @@ import time
 from served import PROGRAM, TOP, Served, exchange, request, told
 
 LEGAL_WITHIN = 300
+AUDIT_EACH = 2
 ENTRY = re.compile(r"^\w+/(\d+) v\d+ (alive|dead|folded) r\d+ (\S+) \S+ (\S+) = (\S+)", re.M)
 
 
@@ -52,8 +54,9 @@ def cuts(folder):
 
 
 class Storm:
-    def __init__(self, served, posts, clients, seed):
-        self.served, self.posts, self.clients, self.seed = served, posts, clients, seed
+    def __init__(self, served, posts, clients, seed, part):
+        """A part of the questions is cancelled."""
+        self.served, self.posts, self.clients, self.seed, self.part = served, posts, clients, seed, part
         self.asked = {}  # by question: the number of its entry at askbot
         self.statuses = {}  # how many were answered so at first
         self.cancelled = set()
@@ -61,6 +64,7 @@ class Storm:
         self.audits = []  # how long each took
         self.unheard = 0  # how many of them got no reply
         self.orders = queue.Queue()
+        self.ended = threading.Event()
         self.faults = []
 
     def post(self, client):
@@ -80,11 +84,11 @@ class Storm:
             status, _ = told(reply)
             self.statuses[status] = self.statuses.get(status, 0) + 1
             self.asked[question] = int(number[1])
-            if draw.random() < 0.1:
+            if draw.random() < self.part:
                 self.orders.put(question)
 
     def cancel(self):
-        """Cancels what it is told of, until it is told None, and asks for an audit now and then."""
+        """Cancels what it is told of, until it is told None."""
         while (question := self.orders.get()) is not None:
             fields = {"id": self.asked[question], "token": f"no-{question}"}
             status, reply = self.served.ask("askbot", "cancel", fields)
@@ -94,8 +98,12 @@ class Storm:
                 self.late += 1
             else:
                 self.faults.append(f"the order to cancel {question}: {status} {reply}")
-            if len(self.cancelled) % 50 == 1:
-                self.audit()
+        self.ended.set()
+
+    def watch(self):
+        """Asks for an audit now and then, until all is cancelled."""
+        while not self.ended.wait(AUDIT_EACH):
+            self.audit()
 
     def audit(self):
         """The verdict, or None where the audit got no reply within its connection's time."""
@@ -110,14 +118,15 @@ class Storm:
         return verdict
 
     def rage(self):
-        operator = threading.Thread(target=self.cancel)
+        operators = [threading.Thread(target=it) for it in (self.cancel, self.watch)]
         clients = [threading.Thread(target=self.post, args=(n,)) for n in range(self.clients)]
-        for it in (operator, *clients):
+        for it in (*operators, *clients):
             it.start()
         for it in clients:
             it.join()
         self.orders.put(None)
-        operator.join()
+        for it in operators:
+            it.join()
 
     def settle(self):
         """How long it took until the audit said legal, or, where audits get no reply, until all is as it has to be; or None."""
@@ -162,7 +171,7 @@ def main(program, posts, clients, one_in, seed, keep):
         try:
             for n in range(clients):
                 exchange(served.ports["oauth"], request("PUT", f"/token/u{n}", f"k{n}".encode(), Aire_Who=f"u{n}"))
-            storm = Storm(served, posts, clients, seed)
+            storm = Storm(served, posts, clients, seed, 0.01 if keep else 0.1)
             begun = time.monotonic()
             storm.rage()
             raged = time.monotonic() - begun
