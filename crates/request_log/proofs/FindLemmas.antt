@@ -21,31 +21,31 @@ use Rattle.request_log.specs.Keys.{number_of, origin_key, entry_key}
 -- ---- of a call
 
 -- the last that passes, in a fold
-abbrev pub last_of : (Entry → Bool) → Option Entry → Entry → Option Entry
+abbrev pub last_of : {X : Type 0} → (X → Bool) → Option X → X → Option X
 last_of p last e = cond (p e) (Some e) last
 
-pub not_last : (b : Bool) (e : Entry) (last : Option Entry) → b ≡ false → cond b (Some e) last ≡ last
+pub not_last : {X : Type 0} (b : Bool) (e : X) (last : Option X) → b ≡ false → cond b (Some e) last ≡ last
 not_last true e last h = cc
 not_last false e last h = refl
 
-other_key : (caller : List ℕ) (number id : ℕ) (o : Origin) → nat_eq (call_key caller number) (origin_key id o) ≡ false → is_call caller number o ≡ false
+pub other_key : (caller : List ℕ) (number id : ℕ) (o : Origin) → nat_eq (call_key caller number) (origin_key id o) ≡ false → is_call caller number o ≡ false
 other_key caller number id Outside h = refl
 other_key caller number id (Call c n) h = call_other caller c number n h
 
 pub call_quiet : (caller : List ℕ) (number : ℕ) → IsQuiet entry_key (last_of (has_origin caller number)) (call_key caller number)
 call_quiet caller number = record { stays = λ last e h. not_last (has_origin caller number e) e last (other_key caller number e.id e.origin h) }
 
-found_or : Option Entry → Option Entry → Option Entry
+unfoldable pub found_or : {X : Type 0} → Option X → Option X → Option X
 found_or None last = last
 found_or (Some e) last = Some e
 
-found_alone : (o : Option Entry) → found_or o None ≡ o
+pub found_alone : {X : Type 0} (o : Option X) → found_or o None ≡ o
 unfolding found_or
 found_alone None = refl
 found_alone (Some e) = refl
 
 -- a call that comes again is found nowhere else
-found_again : (caller : List ℕ) (number : ℕ) (o : Origin) (es : List Entry) → is_call caller number o ≡ true → find_call o es ≡ None → find (has_origin caller number) es ≡ None
+pub found_again : (caller : List ℕ) (number : ℕ) (o : Origin) (es : List Entry) → is_call caller number o ≡ true → find_call o es ≡ None → find (has_origin caller number) es ≡ None
 found_again caller number Outside es is new = cc
 found_again caller number (Call c n) es is new =
     let parts = and_parts (same_text c caller) (nat_eq n number) is in
@@ -54,7 +54,7 @@ found_again caller number (Call c n) es is new =
     let P : List ℕ → ℕ → Type 0 = λ t m. find (has_origin t m) es ≡ None in
     subst (P caller) numbers (subst (λ t. P t n) name new)
 
-first_head : (b : Bool) (e : Entry) (rest last : Option Entry) → (b ≡ true → rest ≡ None) → found_or rest (cond b (Some e) last) ≡ found_or (cond b (Some e) rest) last
+pub first_head : {X : Type 0} (b : Bool) (e : X) (rest last : Option X) → (b ≡ true → rest ≡ None) → found_or rest (cond b (Some e) last) ≡ found_or (cond b (Some e) rest) last
 unfolding found_or
 first_head true e rest last h = ap (λ o. found_or o (Some e)) (h refl)
 first_head false e rest last h = refl

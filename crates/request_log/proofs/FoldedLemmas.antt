@@ -81,6 +81,23 @@ pub distinct-behind : (xs rest : List Entry) → IsDistinct (xs ++ rest) → IsD
 distinct-behind [] rest d = d
 distinct-behind (x ∷ xs) rest d = distinct-behind xs rest d.1
 
+none-front : {X : Type 0} (p : X → Bool) (xs ys : List X) → find p (xs ++ ys) ≡ None → find p xs ≡ None
+none-front p [] ys n = refl
+none-front p (x ∷ xs) ys n =
+    let parts = not_first (p x) x (find p (xs ++ ys)) n in
+    nowhere (p x) x (find p xs) parts.0 (none-front p xs ys parts.1)
+
+new-front : (x : Entry) (xs ys : List Entry) → IsNew x (xs ++ ys) → IsNew x xs
+new-front x xs ys new = record {
+  id = none-front (has_id x.id) xs ys new.id;
+  origin = find_call-is x.origin xs ∙ none-front (λ e. from_call x.origin e.origin) xs ys (sym (find_call-is x.origin (xs ++ ys)) ∙ new.origin);
+}
+
+-- and those in front
+distinct-front : (xs ys : List Entry) → IsDistinct (xs ++ ys) → IsDistinct xs
+distinct-front [] ys d = tt
+distinct-front (x ∷ xs) ys d = (new-front x xs ys d.0, distinct-front xs ys d.1)
+
 -- ---- a fold
 
 bare_leaves : Leaves bare
@@ -130,6 +147,15 @@ distinct-folded fs es n ran d =
     ap (λ l. map as_entry fs ++ l) (sym (take-append-drop n es)) ∙ sym (append_assoc (map as_entry fs) (take n es) (drop n es)) in
     let P : List Entry → Type 0 = λ l. IsDistinct l in
     subst P (sym (whole_folded fs es n ran)) (distinct-map bare bare_leaves (map as_entry fs ++ take n es) (drop n es) (subst P split d))
+
+-- and so are the folded ones
+pub folded_apart : (fs : List Folded) (es : List Entry) (ns os : List ℕ) (k : KeptLog) (n : ℕ) → (record { folded = fs; entries = es }) ≡ k → All (λ (e : Entry). IsSome e.made) (take n k.entries) → IsIndexed fs es ns os
+    → (front : List Entry) → front ≡ take n es → IsDistinct (map as_entry (fs ++ filter_map folded_as front))
+folded_apart fs es ns os k n is ran log front cut =
+    let R : List Entry → Type 0 = λ l. All (λ (e : Entry). IsSome e.made) (take n l) in
+    let D : List Entry → Type 0 = λ l. IsDistinct (map as_entry (fs ++ filter_map folded_as l)) in
+    let seen : es ≡ k.entries = ap (λ (v : KeptLog). v.entries) is in
+    subst D (sym cut) (distinct-front (map as_entry (fs ++ filter_map folded_as (take n es))) (drop n es) (distinct-folded fs es n (subst R (sym seen) ran) log.apart))
 
 -- a log after a fold
 pub log-fold : (fs : List Folded) (es : List Entry) (ns os : List ℕ) (k : KeptLog) (n : ℕ) → (record { folded = fs; entries = es }) ≡ k → All (λ (e : Entry). IsSome e.made) (take n k.entries) → IsIndexed fs es ns os

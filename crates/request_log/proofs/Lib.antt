@@ -1,5 +1,6 @@
 pub mod ChangeLemmas
 pub mod EntryLemmas
 pub mod FindLemmas
+pub mod FoldedFindLemmas
 pub mod FoldedLemmas
 pub mod WholeLemmas

@@ -2,8 +2,13 @@ use Rattle.std.proofs.Common.{◌++◌, drop, take, map, ap, ◌∙◌}
 use Rattle.request_log.specs.Folded.{folded_as}
 use Rattle.std.specs.List.{filter_map}
 use Rattle.request_log.specs.Keys.{entry_key, number_of}
-use Rattle.request_log.proofs.FoldedLemmas.{log-fold}
+use Rattle.request_log.proofs.FoldedLemmas.{folded_apart, log-fold}
 use Rattle.request_log.proofs.log.Log.fold.Goals as goal
+
+pub fold-requires : goal.fold-requires
+fold-requires c =
+    folded_apart c.self.inside.folded c.self.inside.items.items c.self.inside.numbers.keys c.self.inside.origins.keys c.args.self.now c.args.n c.self.view_is c.requires.ran c.self.invariant
+    c.front.result.now (c.front.ensures ∙ ap (take c.args.n) c.deref-2.ensures.value)
 
 pub invariant_of-self-2 : goal.invariant_of-self-2
 invariant_of-self-2 c =
