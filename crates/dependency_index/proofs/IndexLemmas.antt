@@ -1,15 +1,15 @@
 -- What it comes to for the labels of all reads that one label's reads are noted or forgotten.
-use Rattle.std.proofs.Common.{◌≡◌, ℕ, suc, ◌<◌, Bool, true, false, cond, List, [], ◌∷◌, ◌++◌, nat_lt, length, get_or, take, drop, map, refl, sym, ap, ◌∙◌, subst}
+use Rattle.std.proofs.Common.{◌≡◌, ℕ, suc, ◌<◌, Bool, true, false, cond, List, [], ◌∷◌, ◌++◌, nat_lt, length, get_or, set, take, drop, map, refl, sym, ap, ◌∙◌, subst}
 use Rattle.std.specs.List.{filter, list_any, All, AllByRecursion}
-use Rattle.std.proofs.lemmas.List.{map-append}
+use Rattle.std.proofs.lemmas.List.{map-append, set_split}
 use Rattle.std.proofs.lemmas.List.Elements.{filter-append, All-append, All-cons, All-filter, All-from_recursion, recursion_from_All}
 use Rattle.key_labels.specs.Labels.{is_other}
 use Rattle.key_labels.proofs.ListLemmas.{filter_filter, filter-map}
 use Rattle.dependency_index.specs.Numbers.{Rises, with_number}
-use Rattle.dependency_index.specs.Reads.{label_of, labels_with, with_noted, without}
+use Rattle.dependency_index.specs.Reads.{label_of, labels_with, with_noted}
 use Rattle.dependency_index.specs.declared.noted.Noted.{Noted}
 use Rattle.dependency_index.specs.declared.reads.ReadAt.{ReadAt}
-use Rattle.dependency_index.proofs.NumberLemmas.{rises_kept, rises_put, join_ends, others, put_anew, parted, take-drop, rises_if}
+use Rattle.dependency_index.proofs.NumberLemmas.{rises_put, join_ends, others, put_anew, parted, take-drop, rises_if}
 
 pub map_if : (n : Noted) (ns : List Noted) (b : Bool) → map label_of (cond b (n ∷ ns) ns) ≡ cond b (label_of n ∷ map label_of ns) (map label_of ns)
 map_if n ns true = refl
@@ -102,6 +102,13 @@ module _ (test : ReadAt → Bool) where
       by true e = sym (put_anew (label_of own) (labels_with test ns))
       by false e = sym (others (label_of own) (labels_with test ns) (labels_rise ns r))
 
+-- they are put in place of those that it had, at the place of the label
+pub set_is : (at : ℕ) (own : Noted) (ns : List Noted) → at < length ns → filter (λ n. nat_lt (label_of n) (label_of own)) ns ≡ take at ns
+    → filter (λ n. nat_lt (label_of own) (label_of n)) ns ≡ drop (suc at) ns → set ns at own ≡ with_noted own ns
+set_is at own ns lt below above =
+    set_split ns at own lt
+    ∙ sym (join_ends (filter (λ m. nat_lt (label_of m) (label_of own)) ns) (filter (λ m. nat_lt (label_of own) (label_of m)) ns) (take at ns) (drop (suc at) ns) own below above)
+
 same_noted : (m n : Noted) → label_of m ≡ label_of n → m.reads ≡ n.reads → m ≡ n
 same_noted m n e f = λ i. record { label = e i; reads = f i }
 
@@ -134,13 +141,3 @@ noted_all P own ns all here =
     subst Q (sym (labels_anew own ns))
     (All-append P (filter (λ x. nat_lt x l) xs) (l ∷ filter (λ x. nat_lt l x) xs) (All-filter (λ x. nat_lt x l) P xs all)
     (All-cons P l (filter (λ x. nat_lt l x) xs) here (All-filter (λ x. nat_lt l x) P xs all)))
-
-pub left_all : (P : ℕ → Type 0) (label : ℕ) (ns : List Noted) → All P (map label_of ns) → All P (map label_of (without label ns))
-left_all P label ns all =
-    let Q : List ℕ → Type 0 = λ m. All P m in
-    subst Q (filter-map label_of (is_other label) ns) (All-filter (is_other label) P (map label_of ns) all)
-
-pub left_rise : (label : ℕ) (ns : List Noted) → Rises (map label_of ns) → Rises (map label_of (without label ns))
-left_rise label ns r =
-    let P : List ℕ → Type 0 = λ m. Rises m in
-    subst P (filter-map label_of (is_other label) ns) (rises_kept (is_other label) (map label_of ns) r)

@@ -1,3 +1,4 @@
+pub mod ClearLemmas
 pub mod IndexLemmas
 pub mod LoopLemmas
 pub mod NumberLemmas

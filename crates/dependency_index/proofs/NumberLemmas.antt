@@ -2,7 +2,7 @@
 use Rattle.std.proofs.Common.{◌≡◌, ◌≢◌, ℕ, zero, suc, ◌+◌, ◌<◌, ◌≤◌, Bool, true, false, cond, ◌&&◌, ◌||◌, List, [], ◌∷◌, ◌++◌, nat_eq, nat_lt, length, get_or, take, drop, map, refl, sym, ap, ◌∙◌, subst, inl, inr, arith, length-append, eq-eqb, eqb-true}
 use Rattle.std.specs.List.{filter, list_any, AllByRecursion}
 use Rattle.std.proofs.lemmas.Bool.{cases_order, cases_lt, lt-ltb, le-ltb, ltb-true, ne_eqb}
-use Rattle.std.proofs.lemmas.List.{get_or-map, length-map}
+use Rattle.std.proofs.lemmas.List.{get_or-map, length-map, map-id}
 use Rattle.std.proofs.lemmas.List.Elements.{filter-append}
 use Rattle.std.proofs.lemmas.List.Folds.{list_any-append}
 use Rattle.lang_core.specs.Places.{past}
@@ -222,24 +222,29 @@ put_twice n xs =
     append_none [] = refl
     append_none (x ∷ xs) = ap (λ l. x ∷ l) (append_none xs)
 
-none_below : (n x : ℕ) (xs : List ℕ) → n < x → AllByRecursion (λ y. x < y) xs → filter (λ y. nat_lt y n) xs ≡ []
-none_below n x [] lt all = refl
-none_below n x (y ∷ ys) lt all =
-    let a = all.0 in
-    let e : nat_lt y n ≡ false = le-ltb y n (omega arith) in
-    rw e (none_below n x ys lt all.1)
+module _ {X : Type 0} (number : X → ℕ) (n : ℕ) where
+  none_below : (x : ℕ) (xs : List X) → n < x → AllByRecursion (λ y. x < y) (map number xs) → filter (λ y. nat_lt (number y) n) xs ≡ []
+  none_below x [] lt all = refl
+  none_below x (y ∷ ys) lt all =
+      let a = all.0 in
+      let e : nat_lt (number y) n ≡ false = le-ltb (number y) n (omega arith) in
+      rw e (none_below x ys lt all.1)
 
--- all others are those below and those above
+  -- all others are those below and those above
+  pub others_by : (xs : List X) → Rises (map number xs) → filter (λ x. is_other n (number x)) xs ≡ filter (λ x. nat_lt (number x) n) xs ++ filter (λ x. nat_lt n (number x)) xs
+  others_by [] r = refl
+  others_by (x ∷ xs) r =
+      let m = number x in
+      elim (cases_order m n) [
+        | inl e ↦ (let f : nat_lt m n ≡ false = le-ltb m n (omega arith) in let g : nat_lt n m ≡ false = le-ltb n m (omega arith) in let h : nat_eq m n ≡ true = eq-eqb m n e in rw (f, g, h) (others_by xs r.1))
+        | inr (inl lt) ↦ (let f : nat_lt m n ≡ true = lt-ltb m n lt in let g : nat_lt n m ≡ false = le-ltb n m (omega arith) in let h : nat_eq m n ≡ false = ne_eqb m n (λ e. omega arith) in rw (f, g, h) (ap (λ l. x ∷ l) (others_by xs r.1)))
+        | inr (inr gt) ↦ (let f : nat_lt m n ≡ false = le-ltb m n (omega arith) in let g : nat_lt n m ≡ true = lt-ltb n m gt in let h : nat_eq m n ≡ false = ne_eqb m n (λ e. omega arith) in
+            let none = none_below m xs gt r.0 in
+            rw (f, g, h) (ap (λ l. x ∷ l) (others_by xs r.1 ∙ ap (λ l. l ++ filter (λ x. nat_lt n (number x)) xs) none) ∙ sym (ap (λ l. l ++ x ∷ filter (λ x. nat_lt n (number x)) xs) none)))
+      ]
+
 pub others : (n : ℕ) (xs : List ℕ) → Rises xs → filter (is_other n) xs ≡ filter (λ x. nat_lt x n) xs ++ filter (λ x. nat_lt n x) xs
-others n [] r = refl
-others n (x ∷ xs) r =
-    elim (cases_order x n) [
-      | inl e ↦ (let f : nat_lt x n ≡ false = le-ltb x n (omega arith) in let g : nat_lt n x ≡ false = le-ltb n x (omega arith) in let h : nat_eq x n ≡ true = eq-eqb x n e in rw (f, g, h) (others n xs r.1))
-      | inr (inl lt) ↦ (let f : nat_lt x n ≡ true = lt-ltb x n lt in let g : nat_lt n x ≡ false = le-ltb n x (omega arith) in let h : nat_eq x n ≡ false = ne_eqb x n (λ e. omega arith) in rw (f, g, h) (ap (λ l. x ∷ l) (others n xs r.1)))
-      | inr (inr gt) ↦ (let f : nat_lt x n ≡ false = le-ltb x n (omega arith) in let g : nat_lt n x ≡ true = lt-ltb n x gt in let h : nat_eq x n ≡ false = ne_eqb x n (λ e. omega arith) in
-          let none = none_below n x xs gt r.0 in
-          rw (f, g, h) (ap (λ l. x ∷ l) (others n xs r.1 ∙ ap (λ l. l ++ filter (λ x. nat_lt n x) xs) none) ∙ sym (ap (λ l. l ++ x ∷ filter (λ x. nat_lt n x) xs) none)))
-    ]
+others n xs r = let P : List ℕ → Type 0 = λ l. Rises l in others_by (λ x. x) n xs (subst P (sym (map-id xs)) r)
 
 other_below : (n x : ℕ) → nat_lt x n ≡ true → is_other n x ≡ true
 other_below n x h = let a = ltb-true x n h in let e : nat_eq x n ≡ false = ne_eqb x n (λ e. omega arith) in rw e refl

@@ -1,5 +1,5 @@
 -- Where reads looked, and which labels read a key or scan it.
-use Rattle.std.specs.Prelude.{ℕ, Bool, true, false, ◌&&◌, not, List, ◌∷◌, ◌++◌, Option, nat_eq, nat_lt, map, filter}
+use Rattle.std.specs.Prelude.{ℕ, Bool, true, false, ◌&&◌, not, List, [], ◌∷◌, ◌++◌, Option, nat_eq, nat_lt, map, filter}
 use Rattle.std.specs.List.{list_any}
 use Rattle.lang_base.specs.Texts.{same_text, begins_with}
 use Rattle.lang_core.specs.Places.{Place, place_of, same_place}
@@ -60,3 +60,16 @@ with_noted n ns =
 -- without a label's reads
 abbrev pub without : ℕ → List Noted → List Noted
 without label ns = filter (λ m. not (nat_eq (label_of m) label)) ns
+
+-- without the reads of each of these labels
+abbrev pub without_each : List ℕ → List Noted → List Noted
+without_each [] ns = ns
+without_each (x ∷ xs) ns = without x (without_each xs ns)
+
+-- a label reads something
+abbrev pub has_reads : Noted → Bool
+has_reads n = list_any (λ _. true) n.reads
+
+-- the labels that read something
+abbrev pub with_reads : List Noted → List Noted
+with_reads ns = filter has_reads ns

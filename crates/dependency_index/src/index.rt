@@ -8,11 +8,11 @@ ghost use Rattle.key_labels.specs.Labels.{is_other};
 ghost use Rattle.key_labels.specs.Rows.{row_place};
 ghost use Rattle.dependency_index.specs.Index.{call_code, note_call, IsIndexed};
 ghost use Rattle.dependency_index.specs.Numbers.{Rises, with_numbers};
-ghost use Rattle.dependency_index.specs.Reads.{read_at, is_at, is_between, label_of, readers, scanners, with_noted, without};
+ghost use Rattle.dependency_index.specs.Reads.{read_at, is_at, is_between, label_of, readers, scanners, with_noted, with_reads, without, without_each};
 ghost use Rattle.dependency_index.specs.Rows.{AreOrdered, labels_by, spare_by, under};
 ghost use Rattle.dependency_index.specs.declared.reads.ReadKind.{ReadKind};
 
-use crate::noted::{Noted, has_noted, set_noted, unset_noted};
+use crate::noted::{Noted, clear_noted, drop_cleared, has_noted, set_noted};
 use crate::numbers::{put_number, seek_number};
 use crate::reads::ReadsAt;
 use crate::room::{IndexCall, ready_reads, take_reads};
@@ -29,6 +29,7 @@ pub type Labels = Seq<u64>;
 /// Where the reads of each label looked, which contracts see as a list in the order of the labels' numbers, and the room
 /// that was made for calls to come.
 pub struct Index {
+    alloc: Global,
     noted: Vec<Noted>,
     rows: ReadRows,
     room: Vec<IndexCall>,
@@ -37,6 +38,7 @@ pub struct Index {
 impl Drop for Index {
     fn drop(self) {
         let Self {
+            alloc: _,
             noted: _,
             rows: _,
             room: _,
@@ -91,17 +93,46 @@ fn note(noted: &mut Vec<Noted>, rows: &mut ReadRows, own: Noted)
     set_noted(noted, own);
 }
 
-// Takes a label's reads out.
-fn unnote(noted: &mut Vec<Noted>, rows: &mut ReadRows, label: u64)
+// Takes a label out of all rows, and its reads away.
+fn clear(alloc: Global, noted: &mut Vec<Noted>, rows: &mut ReadRows, label: u64)
     requires { IsIndexed noted.old.items rows.old }
-    ensures noted { noted.new.items ≡ without label noted.old.items }
+    ensures left { with_reads noted.new.items ≡ without label (with_reads noted.old.items) }
+    ensures indexed { IsIndexed noted.new.items rows.new }
+    ensures spare { (kind : ReadKind) (t k : List ℕ) → spare_by rows.old kind t k ≤ spare_by rows.new kind t k }
+    ensures len { vec_len noted.new ≡ vec_len noted.old }
+    ensures capacity { vec_capacity noted.new ≡ vec_capacity noted.old }
+{
+    drop_noted(noted, rows, label);
+    clear_noted(alloc, noted, label);
+}
+
+// Takes these labels out of all rows, and their reads away, the last first.
+fn clear_each(alloc: Global, noted: &mut Vec<Noted>, rows: &mut ReadRows, labels: &[u64])
+    requires { IsIndexed noted.old.items rows.old }
+    ensures left { with_reads noted.new.items ≡ without_each labels.now (with_reads noted.old.items) }
+    ensures indexed { IsIndexed noted.new.items rows.new }
+    ensures spare { (kind : ReadKind) (t k : List ℕ) → spare_by rows.old kind t k ≤ spare_by rows.new kind t k }
+    ensures len { vec_len noted.new ≡ vec_len noted.old }
+    ensures capacity { vec_capacity noted.new ≡ vec_capacity noted.old }
+{
+    let mut left = labels.len();
+    while left > 0 {
+        left -= 1;
+        clear(alloc, noted, rows, labels[left]);
+    }
+}
+
+// Takes these labels' reads out, and the labels without reads.
+fn unnote_all(alloc: Global, noted: &mut Vec<Noted>, rows: &mut ReadRows, labels: &[u64])
+    requires { IsIndexed noted.old.items rows.old }
+    ensures noted { noted.new.items ≡ without_each labels.now (with_reads noted.old.items) }
     ensures indexed { IsIndexed noted.new.items rows.new }
     ensures spare { (kind : ReadKind) (t k : List ℕ) → spare_by rows.old kind t k ≤ spare_by rows.new kind t k }
     ensures len { vec_len noted.new ≤ vec_len noted.old }
     ensures capacity { vec_capacity noted.new ≡ vec_capacity noted.old }
 {
-    drop_noted(noted, rows, label);
-    unset_noted(noted, label);
+    clear_each(alloc, noted, rows, labels);
+    drop_cleared(noted);
 }
 
 fn is_between(order: &Order, label: u64, from: u64, to: Option<u64>) -> bool
@@ -190,6 +221,7 @@ impl Index {
         ensures room { result.room ≡ [] }
     {
         Index {
+            alloc,
             noted: Vec::new(alloc),
             rows: ReadRows {
                 keys: KeyRows::new(alloc),
@@ -208,6 +240,7 @@ impl Index {
         let noted = copied_items(alloc, &self.noted)?;
         let rows = copied_reads(alloc, &self.rows)?;
         Ok(Index {
+            alloc,
             noted,
             rows,
             room: Vec::new(alloc),
@@ -249,13 +282,13 @@ impl Index {
         )
     }
 
-    /// Takes out what was noted of a label, if anything was.
-    pub fn forget(&mut self, label: u64)
-        ensures reads { self.new.reads ≡ without label self.old.reads }
-        ensures known { (order : List ℕ) → All (Contains order) (map label_of self.old.reads) → All (Contains order) (map label_of self.new.reads) }
+    /// Takes out what was noted of these labels, in one pass over all labels, however many these are. Labels that read nothing
+    /// go with them.
+    pub fn forget_all(&mut self, labels: &[u64])
+        ensures reads { self.new.reads ≡ without_each labels.now (with_reads self.old.reads) }
         ensures room { self.new.room ≡ self.old.room }
     {
-        unnote(&mut self.noted, &mut self.rows, label);
+        unnote_all(self.alloc, &mut self.noted, &mut self.rows, labels);
     }
 
     /// The labels after one and before another, or before the end where there is none, that read the key.

@@ -1,16 +1,16 @@
 -- The reads that are noted under labels, once others were noted.
 use Rattle.std.proofs.Common.{◌≡◌, ◌≢◌, ℕ, zero, suc, ◌+◌, ◌<◌, Bool, true, false, cond, not, List, [], ◌∷◌, ◌++◌, nat_eq, nat_lt, length, get_or, set, take, drop, map, refl, sym, ap, ◌∙◌, subst, inl, inr, arith, append_assoc, eq-eqb, eqb-true}
-use Rattle.std.specs.List.{All, AllByRecursion, Contains, filter, insert}
+use Rattle.std.specs.List.{All, AllByRecursion, Contains, filter, insert, list_any}
 use Rattle.std.proofs.lemmas.Bool.{cases_order, lt-ltb, le-ltb, ne_eqb, eqb-false}
 use Rattle.std.proofs.lemmas.List.{get_or_default, length-map, take-append-drop}
 use Rattle.std.proofs.lemmas.List.Elements.{All-from_recursion, Contains-append_cases, Contains-append_right, recursion_from_All}
 use Rattle.place_order.specs.Labels.{IsNew}
 use Rattle.log_index.specs.Rows.{IsApart}
 use Rattle.log_index.proofs.EditLemmas.{map_insert}
-use Rattle.dependency_index.specs.Reads.{label_of, with_noted, without}
+use Rattle.dependency_index.specs.Reads.{has_reads, label_of, with_noted, with_reads, without, without_each}
 use Rattle.dependency_index.specs.declared.noted.Noted.{Noted}
 use Rattle.dependency_index.specs.declared.reads.ReadAt.{ReadAt}
-use Rattle.log_index.specs.Marks.{reads_under, reads_by, without_each}
+use Rattle.log_index.specs.Marks.{reads_under, reads_by}
 
 none_after : {X : Type 0} (xs : List X) → xs ++ [] ≡ xs
 none_after [] = refl
@@ -111,6 +111,24 @@ noted_there own ns (x ∷ xs) (suc place) apart lt is =
     ∙ ap (λ l. reads_under ns x ∷ l) (noted_there own ns xs place apart.1 n is)
 
 -- ---- without the reads of some labels
+
+beside : (b : Bool) (xs : List ReadAt) → xs ≡ cond b [] [] ++ xs
+beside true xs = refl
+beside false xs = refl
+
+first_if : (x : ℕ) (reads : List ReadAt) (kept whole : List Noted) (label : ℕ) → reads_under kept label ≡ reads_under whole label
+    → reads_under (cond (list_any (λ _. true) reads) (record { label = x; reads = reads } ∷ kept) kept) label ≡ cond (nat_eq x label) reads [] ++ reads_under whole label
+first_if x [] kept whole label h = h ∙ beside (nat_eq x label) (reads_under whole label)
+first_if x (r ∷ rs) kept whole label h = ap (λ l. cond (nat_eq x label) (r ∷ rs) [] ++ l) h
+
+-- a label that reads nothing adds none
+under_with : (ns : List Noted) (label : ℕ) → reads_under (with_reads ns) label ≡ reads_under ns label
+under_with [] label = refl
+under_with (n ∷ ns) label = first_if n.label n.reads (with_reads ns) ns label (under_with ns label)
+
+pub by_with : (ns : List Noted) (labels : List ℕ) → reads_by (with_reads ns) labels ≡ reads_by ns labels
+by_with ns [] = refl
+by_with ns (l ∷ ls) = ap (λ r. r ∷ reads_by (with_reads ns) ls) (under_with ns l) ∙ ap (λ rs. reads_under ns l ∷ rs) (by_with ns ls)
 
 -- a label that is another has the reads that it had
 pub under_without : (xs : List ℕ) (ns : List Noted) (label : ℕ) → IsNew label xs → reads_under (without_each xs ns) label ≡ reads_under ns label

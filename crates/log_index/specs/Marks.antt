@@ -9,7 +9,7 @@ use Rattle.lang_core.specs.declared.writes.Write.{Write}
 use Rattle.place_order.specs.Labels.{place_in}
 use Rattle.dependency_index.specs.Index.{call_code as note_code, note_call}
 use Rattle.dependency_index.specs.Numbers.{Rises}
-use Rattle.dependency_index.specs.Reads.{is_at, is_scan_of, label_of, without}
+use Rattle.dependency_index.specs.Reads.{is_at, is_scan_of, label_of}
 use Rattle.dependency_index.specs.declared.noted.Noted.{Noted}
 use Rattle.dependency_index.specs.declared.reads.ReadAt.{ReadAt}
 use Rattle.dependency_index.specs.declared.reads.ReadKind.TheVariants.{Key}
@@ -91,11 +91,6 @@ places_behind labels place found = filter (nat_lt place) (map (place_in labels) 
 -- where a mark stands once something was put in at a place
 abbrev pub shifted : ℕ → ℕ → ℕ
 shifted place q = if nat_lt q place then q else q + 1
-
--- without the reads of each of these labels
-abbrev pub without_each : List ℕ → List Noted → List Noted
-without_each [] noted = noted
-without_each (x ∷ xs) noted = without x (without_each xs noted)
 
 -- where a mark stands once so many places before it are gone
 abbrev pub lowered : ℕ → ℕ → ℕ

@@ -1,7 +1,7 @@
 // Where the reads of entries looked, and which entries are marked.
 ghost use Rattle.std.specs.Prelude.{ℕ, ◌≡◌, ◌+◌, ◌<◌, ◌≤◌, ◌&&◌, ◌||◌, not, nat_eq, nat_lt, [], drop, length, map, insert, slice_set, IsTrue, IfOk, OnOk, OnErr};
 ghost use Rattle.dependency_index.specs.Reads.{read_at};
-ghost use Rattle.log_index.specs.Marks.{changes, is_marked, lacking, sees_behind, without_each, AreMarks, IsReadyToInsert, IsReadyToSet};
+ghost use Rattle.log_index.specs.Marks.{changes, is_marked, lacking, sees_behind, AreMarks, IsReadyToInsert, IsReadyToSet};
 
 use crate::behind::{mark_writes, write_one_key};
 use crate::numbers::Marks;
@@ -50,17 +50,6 @@ impl Model for EntryMarks {
 
     ghost invariant = { λ m. IsNoted m.places.labels m.index.reads m.marks.items
         × (length m.places.labels ≤ m.marks.spots) };
-}
-
-// Takes out what was noted of these labels, the last first.
-fn forget_each(index: &mut Index, labels: &[u64])
-    ensures { index.new.reads ≡ without_each labels.now index.old.reads }
-{
-    let mut left = labels.len();
-    while left > 0 {
-        left -= 1;
-        index.forget(labels[left]);
-    }
 }
 
 impl EntryMarks {
@@ -215,7 +204,7 @@ impl EntryMarks {
         ensures marks { (q : ℕ) → is_marked q self.new.marks ≡ is_marked (n + q) self.old.marks }
     {
         let count = self.places.len();
-        forget_each(&mut self.index, self.places.first(n));
+        self.index.forget_all(self.places.first(n));
         self.places.forget_first(n);
         self.marks.fold(n as u64, count);
     }

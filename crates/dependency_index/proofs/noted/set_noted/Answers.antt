@@ -1,8 +1,8 @@
-use Rattle.std.proofs.Common.{◌<◌, suc, length, take, drop, nat_lt, sym, ◌∙◌}
+use Rattle.std.proofs.Common.{◌<◌, length, take, drop, nat_lt, sym, ◌∙◌}
 use Rattle.std.specs.List.{filter}
-use Rattle.std.proofs.lemmas.List.{set_split}
 use Rattle.key_labels.proofs.EditLemmas.{ok_is}
 use Rattle.dependency_index.specs.Reads.{label_of}
+use Rattle.dependency_index.proofs.IndexLemmas.{set_is}
 use Rattle.dependency_index.proofs.NumberLemmas.{join_ends}
 use Rattle.dependency_index.proofs.noted.set_noted.Goals as goal
 
@@ -14,7 +14,7 @@ returns-then-taken-clause-noted c =
     let below = rw c.deref.ensures.value at c.seek_number-at.ensures.below in
     let above = rw (c.if-taken.true, c.deref.ensures.value) at c.seek_number-at.ensures.above in
     let lt : at < length ns = rw c.deref.ensures.value at (c.seek_number-at.ensures.within.there c.if-taken.true) in
-    set_split ns at own lt ∙ sym (join_ends (filter (λ m. nat_lt (label_of m) (label_of own)) ns) (filter (λ m. nat_lt (label_of own) (label_of m)) ns) (take at ns) (drop (suc at) ns) own below above)
+    set_is at own ns lt below above
 
 pub returns-clause-noted : goal.returns-clause-noted
 returns-clause-noted c =
