@@ -57,7 +57,7 @@ fn allowance(
 fn is_past(parts: &Parts, number: u64) -> bool
     ensures { result ≡ is_past_call number (kept parts.now) }
 {
-    is_past_call(parts.repairer.log().folded().as_slice(), number)
+    is_past_call(parts.repairer.log().folded(), number)
 }
 
 // The same, unless its call is one of a folded entry.

@@ -14,7 +14,7 @@ ghost use Rattle.service_parts.specs.Parts.{kept, whole_log};
 use crate::parts::Parts;
 use lang_core::{Inputs, Name, NoMemory, Origin, Request, Shared, ThinSeq};
 use local_repair::Repairer;
-use request_log::{Entry, KeptEntry, KeptFolded, Log};
+use request_log::{Entry, FoldedList, KeptEntry, Log};
 use std::alloc::Global;
 
 /// The number of the next entry of a log.
@@ -168,17 +168,9 @@ fn request_in(entry: Option<&Entry>) -> Option<&Request>
     }
 }
 
-fn has_slot(slots: &[u64], number: u64) -> bool
-    ensures { result ≡ list_any (nat_eq number) slots.now }
-{
-    slots.iter().any(|slot| number == *slot)
-}
-
-/// Whether the call of a number is one of these folded entries. It costs with all their calls.
-pub fn is_past_call(folded: &[KeptFolded], number: u64) -> bool
+/// Whether the call of a number is one of these folded entries.
+pub fn is_past_call(folded: &FoldedList, number: u64) -> bool
     ensures { result ≡ list_any (λ (f : Folded). list_any (nat_eq number) f.slots) folded.now }
 {
-    folded
-        .iter()
-        .any(|kept| has_slot(kept.folded().slots.as_slice(), number))
+    folded.has_slot(number)
 }

@@ -7,5 +7,5 @@ use Rattle.service_deliveries.proofs.hearing.is_past.Goals as goal
 pub returns : goal.returns
 returns c =
     c.is_past_call.ensures
-    ∙ ap (list_any (λ (f : Folded). list_any (nat_eq c.args.number) f.slots)) (c.as_slice.ensures ∙ c.folded.ensures ∙ c.log.ensures.folded)
+    ∙ ap (list_any (λ (f : Folded). list_any (nat_eq c.args.number) f.slots)) (c.folded.ensures ∙ c.log.ensures.folded)
     ∙ sym (past_call_is c.args.parts.now c.args.number)
