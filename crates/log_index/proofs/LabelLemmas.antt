@@ -1,5 +1,5 @@
 -- Labels of an order, of which no two are equal, rise in it; and they stay so with one more.
-use Rattle.std.proofs.Common.{◌≡◌, ◌≢◌, ℕ, zero, suc, ◌+◌, ◌<◌, true, false, nat_lt, ap, ◌∙◌, List, [], ◌∷◌, ◌++◌, nat_eq, length, get_or, take, drop, sym, subst, inl, inr, refl, arith, eq-eqb}
+use Rattle.std.proofs.Common.{◌≡◌, ◌≢◌, ℕ, zero, suc, ◌<◌, true, false, nat_lt, ap, ◌∙◌, List, [], ◌∷◌, ◌++◌, nat_eq, length, get_or, take, drop, sym, subst, inl, inr, refl, arith, eq-eqb}
 use Rattle.std.specs.List.{Contains, insert}
 use Rattle.std.specs.List.Sorted.{IsPartitionedBy, IsPartitionPoint}
 use Rattle.std.proofs.lemmas.Bool.{ne_eqb, cases_order, ltb-true, ltb-false}

@@ -1,5 +1,5 @@
 -- The reads that are noted under labels, once others were noted.
-use Rattle.std.proofs.Common.{◌≡◌, ◌≢◌, ℕ, zero, suc, ◌+◌, ◌<◌, Bool, true, false, cond, not, List, [], ◌∷◌, ◌++◌, nat_eq, nat_lt, length, get_or, set, take, drop, map, refl, sym, ap, ◌∙◌, subst, inl, inr, arith, append_assoc, eq-eqb, eqb-true}
+use Rattle.std.proofs.Common.{◌≡◌, ◌≢◌, ℕ, zero, suc, ◌<◌, Bool, true, false, cond, not, List, [], ◌∷◌, ◌++◌, nat_eq, nat_lt, length, get_or, set, take, drop, map, refl, sym, ap, ◌∙◌, subst, inl, inr, arith, append_assoc, eq-eqb, eqb-true}
 use Rattle.std.specs.List.{All, AllByRecursion, Contains, filter, insert, list_any}
 use Rattle.std.proofs.lemmas.Bool.{cases_order, lt-ltb, le-ltb, ne_eqb, eqb-false}
 use Rattle.std.proofs.lemmas.List.{get_or_default, length-map, take-append-drop}
@@ -7,7 +7,7 @@ use Rattle.std.proofs.lemmas.List.Elements.{All-from_recursion, Contains-append_
 use Rattle.place_order.specs.Labels.{IsNew}
 use Rattle.log_index.specs.Rows.{IsApart}
 use Rattle.log_index.proofs.EditLemmas.{map_insert}
-use Rattle.dependency_index.specs.Reads.{has_reads, label_of, with_noted, with_reads, without, without_each}
+use Rattle.dependency_index.specs.Reads.{label_of, with_noted, with_reads, without, without_each}
 use Rattle.dependency_index.specs.declared.noted.Noted.{Noted}
 use Rattle.dependency_index.specs.declared.reads.ReadAt.{ReadAt}
 use Rattle.log_index.specs.Marks.{reads_under, reads_by}

@@ -1,4 +1,4 @@
-use Rattle.std.proofs.Common.{◌<◌, get_or, length, set, ap, ◌∙◌, arith, refl}
+use Rattle.std.proofs.Common.{◌<◌, get_or, length, set, ap, ◌∙◌, arith}
 use Rattle.std.proofs.lemmas.List.{get_or_default}
 use Rattle.std.proofs.lemmas.List.Edits.{map_over_more}
 use Rattle.log_index.specs.Marks.{lowered}

@@ -1,6 +1,6 @@
-use Rattle.std.proofs.Common.{◌≡◌, ◌-◌, ◌+◌, ◌≤◌, ◌&&◌, ℕ, List, not, nat_lt, map, sym, ap, ◌∙◌, subst, arith}
+use Rattle.std.proofs.Common.{◌-◌, ◌+◌, ◌≤◌, ℕ, List, sym, ap, ◌∙◌, subst}
 use Rattle.std.specs.List.{All}
-use Rattle.log_index.specs.Marks.{is_marked, lowered, AreMarks}
+use Rattle.log_index.specs.Marks.{is_marked, AreMarks}
 use Rattle.log_index.proofs.MarkLemmas.{all_above, lower_are, lower_behind, not_above}
 use Rattle.log_index.proofs.numbers.Marks.fold.Goals as goal
 

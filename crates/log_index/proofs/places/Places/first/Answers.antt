@@ -1,4 +1,4 @@
-use Rattle.std.proofs.Common.{length, take, ap, ◌∙◌, arith}
+use Rattle.std.proofs.Common.{take, ap, ◌∙◌}
 use Rattle.log_index.specs.Places.{KeptPlaces}
 use Rattle.log_index.proofs.places.Places.first.Goals as goal
 

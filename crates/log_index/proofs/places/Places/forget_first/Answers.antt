@@ -1,4 +1,4 @@
-use Rattle.std.proofs.Common.{◌≡◌, ℕ, List, length, drop, sym, ap, ◌∙◌, subst, arith}
+use Rattle.std.proofs.Common.{ℕ, List, length, drop, sym, ap, ◌∙◌, subst, arith}
 use Rattle.log_index.specs.Places.{KeptPlaces}
 use Rattle.log_index.specs.Rows.{IsApart}
 use Rattle.log_index.proofs.LabelLemmas.{apart_drop}
