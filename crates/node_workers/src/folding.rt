@@ -24,6 +24,9 @@ use std::sync::ledger::Ledger;
 /// and the log's index is made afresh at it, so that one for each request would cost more than it frees.
 const PART: u64 = 16;
 
+/// Or once so many can go, where that is fewer: a fold holds the service for as long as it has entries to fold.
+const MOST: u64 = 500;
+
 /// What is to be done about the first entries of a service that folds by itself.
 #[derive(Clone, Copy)]
 pub enum FoldDue {
@@ -145,6 +148,12 @@ fn stays_refused(waits: Option<Refusal>) -> bool {
     }
 }
 
+// How many of the first have to go at once, at least, where so many have to stay.
+fn part_of(keep: u64) -> u64 {
+    let part = keep / PART;
+    if part < MOST { part } else { MOST }
+}
+
 /// What is to be done about the first entries of the service behind the lock, of which so many have to stay. A part of those at
 /// least has to go at once. No entry is taken that is stale, since this is asked where none is.
 pub fn fold_due<R: Ledger>(kept: &NodeState<R>, keep: Option<u64>) -> FoldDue {
@@ -152,7 +161,7 @@ pub fn fold_due<R: Ledger>(kept: &NodeState<R>, keep: Option<u64>) -> FoldDue {
         return FoldDue::Nothing;
     };
     let entries = kept.service().entries().as_slice();
-    let part = keep / PART;
+    let part = part_of(keep);
     if (entries.len() as u64) < keep.saturating_add(part) {
         return FoldDue::Nothing;
     }
