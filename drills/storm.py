@@ -21,7 +21,7 @@ import time
 
 from served import PROGRAM, TOP, Served, exchange, request, told
 
-LEGAL_WITHIN = 300
+LEGAL_WITHIN = 120
 AUDIT_EACH = 2
 ENTRY = re.compile(r"^\w+/(\d+) v\d+ (alive|dead|folded) r\d+ (\S+) \S+ (\S+) = (\S+)", re.M)
 
@@ -178,6 +178,7 @@ def main(program, posts, clients, one_in, seed, keep):
             settled = storm.settle()
             if settled is None:
                 storm.faults.append(f"not legal within {LEGAL_WITHIN} s: {storm.audit()}")
+                storm.faults += [f"{name} held: {storm.text(name, 'notices', [])}" for name in served.ports]
             else:
                 storm.faults += storm.differences()
             folds = storm.text("askbot", "log", []).count(" folded ") if keep else 0
