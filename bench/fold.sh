@@ -13,10 +13,10 @@ asks() { # FROM TO
     }'
 }
 
-# Twenty repairs of the first request behind the line: it is cancelled and restored by turns, and settled.
+# Twenty thousand repairs of the first request behind the line: it is cancelled and restored by turns, and settled.
 repairs() { # ID
     local i order
-    for ((i = 1; i <= 20; i++)); do
+    for ((i = 1; i <= 20000; i++)); do
         order=cancel
         if ((i % 2 == 0)); then order=restore; fi
         echo "$order notes/$1 t$i root"
@@ -42,29 +42,29 @@ fi
 
 # A request and an undo among 5,000, and among 5,000 behind 75,000 that are folded.
 asks 1 5000 >"$folder/few"
-(cat "$folder/few"; asks 5001 15000) >"$folder/few_more"
-(cat "$folder/folded"; asks 80001 90000) >"$folder/folded_more"
+(cat "$folder/few"; asks 5001 45000) >"$folder/few_more"
+(cat "$folder/folded"; asks 80001 120000) >"$folder/folded_more"
 few=$(more_than "$folder/few_more" "$folder/few")
 behind=$(more_than "$folder/folded_more" "$folder/folded")
-echo "10,000 requests among 5,000: $few s, behind the fold $behind s, ratio $(ratio "$behind" "$few")"
+echo "40,000 requests among 5,000: $few s, behind the fold $behind s, ratio $(ratio "$behind" "$few")"
 (cat "$folder/few"; repairs 1) >"$folder/few_repaired"
 (cat "$folder/folded"; repairs 75001) >"$folder/folded_repaired"
 few=$(more_than "$folder/few_repaired" "$folder/few")
 behind=$(more_than "$folder/folded_repaired" "$folder/folded")
 "$program" run @notes "$folder/folded_repaired" | tail -n 1 | grep -qx legal
-echo "twenty repairs among 5,000: $few s, behind the fold $behind s, ratio $(ratio "$behind" "$few")"
+echo "20,000 repairs among 5,000: $few s, behind the fold $behind s, ratio $(ratio "$behind" "$few")"
 
 # A call of another service among 5,000 purchases, and among 5,000 behind 35,000 that both services folded.
 buys() { # FROM TO
     awk -v from="$1" -v to="$2" 'BEGIN { for (i = from; i <= to; i++) printf "ask shop ann POST /buy/k%d %d\n", i % 1000, i }'
 }
 buys 1 5000 >"$folder/few"
-(cat "$folder/few"; buys 5001 7000) >"$folder/few_more"
+(cat "$folder/few"; buys 5001 13000) >"$folder/few_more"
 (buys 1 40000; echo "fold shop/35000 f1 root"; echo "fold bank/35000 f1 root") >"$folder/folded"
-(cat "$folder/folded"; buys 40001 42000) >"$folder/folded_more"
+(cat "$folder/folded"; buys 40001 48000) >"$folder/folded_more"
 few=$(more_than "$folder/few_more" "$folder/few" @shops)
 behind=$(more_than "$folder/folded_more" "$folder/folded" @shops)
-echo "2,000 purchases among 5,000: $few s, behind the fold $behind s, ratio $(ratio "$behind" "$few")"
+echo "8,000 purchases among 5,000: $few s, behind the fold $behind s, ratio $(ratio "$behind" "$few")"
 
 # A script has at most 16 MB, so a million lines have to be short: a service and a user of one letter each.
 cat >"$folder/short.json" <<'END'
