@@ -4,6 +4,8 @@ long because of a fold. After each tenth of them it tells how long they waited a
 what is kept of each request, and by nothing else. In the end a request far behind the line is too old to be undone, and the last one isn't.
 
     drills/folding.py [PROGRAM [REQUESTS [CLIENTS [KEEP]]]]
+
+More than twice KEEP requests are to be asked.
 """
 import itertools
 import json
