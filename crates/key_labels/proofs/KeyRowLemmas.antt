@@ -8,9 +8,7 @@ use Rattle.std.specs.Option.{option_map_or}
 use Rattle.std.specs.Cmp.{Equal-is}
 use Rattle.lang_core.specs.Places.{Place, place_of, place_order, same_place, IsOrdered, by_order, rank, is_taken}
 use Rattle.lang_core.proofs.ReadLemmas.{place_same, same-order}
-use Rattle.std.specs.List.{between}
 use Rattle.std.proofs.lemmas.Bool.{cases_lt}
-use Rattle.std.proofs.lemmas.List.Edits.{length-between, get_or-between}
 use Rattle.lang_core.proofs.SeekLemmas.{parted, found_rank, found_taken, rank_parted, find_none, taken_there, taken_nowhere, sought_front, sought_rest, sought_rank, sought_taken, IsSought as IsTold}
 use Rattle.key_labels.specs.KeyRows.{in_order, is_slot_below, IsArranged, IsSought, IsSlotOf, IsFreeAt}
 use Rattle.key_labels.specs.Rows.{row_place, labels_in, spare_of, spare_in, has_row, KeepsRows}
@@ -166,39 +164,21 @@ module _ {p : Place} {items : List KeyLabels} (o : IsOrdered row_place items) {p
 pub row_inside : (order : List ℕ) (slots : List KeyLabels) {place : ℕ} → IsArranged (length slots) order → place < length order → place < length (in_order order slots)
 row_inside order slots a lt = let long = length_in order slots a.within in omega (arith, lt, long)
 
--- how many rows stand before a key that is sought between two places, told by their numbers
-pub rank_told : (order : List ℕ) (slots : List KeyLabels) (p : Place) (low high n : ℕ) → IsArranged (length slots) order → low ≤ high → high ≤ length order
-    → IsSought p (in_order order slots) low high → n ≤ high - low
-    → IsPartitionPoint (λ n. is_slot_below p slots n ≡ true) (λ n. is_slot_below p slots n ≡ false) (between low high order) n → low + n ≡ rank row_place p (in_order order slots)
-rank_told order slots p low high n a ends within s le point =
+-- how many rows stand before a key, told by their numbers
+pub rank_told : (order : List ℕ) (slots : List KeyLabels) (p : Place) (n : ℕ) → IsArranged (length slots) order → n ≤ length order
+    → IsPartitionPoint (λ m. is_slot_below p slots m ≡ true) (λ m. is_slot_below p slots m ≡ false) order n → n ≡ rank row_place p (in_order order slots)
+rank_told order slots p n a within point =
     let items = in_order order slots in
     let long = length_in order slots a.within in
-    let part = length-between order low high within in
-    let same : (k : ℕ) (d : KeyLabels) → low ≤ k → k < high → is_slot_below p slots (get_or (between low high order) (k - low) 0) ≡ is_gt (place_order p (row_place (get_or items k d))) = λ k d from to.
-    let there : low + (k - low) ≡ k = omega (arith, from) in
-    ap (is_slot_below p slots) (get_or-between order low high (k - low) 0 (omega (arith, from, to)) ∙ ap (λ i. get_or order i 0) there)
-    ∙ test_at (λ r. is_gt (place_order p (row_place r))) order slots k d a.within (omega (arith, within, to)) in
-    rank_parted row_place p items (low + n) (omega (arith, le, ends, within, long)) (
-      λ k d from to. elim (cases_lt k low) [
-        | inl less ↦ ap is_gt (s.front k d less)
-        | inr ge ↦ sym (same k d ge (omega (arith, to, le, ends))) ∙ point.0 (k - low) 0 (omega arith) (omega (arith, ge, to))
-      ],
-      λ k d from to. elim (cases_lt k high) [
-        | inl less ↦ sym (same k d (omega (arith, from)) less) ∙ point.1 (k - low) 0 (omega (arith, from)) (omega (arith, part, from, less))
-        | inr ge ↦ ap is_gt (s.rest k d ge to)
-      ],
+    let same : (k : ℕ) (d : KeyLabels) → k < length order → is_slot_below p slots (get_or order k 0) ≡ is_gt (place_order p (row_place (get_or items k d))) = λ k d lt.
+    test_at (λ r. is_gt (place_order p (row_place r))) order slots k d a.within lt in
+    rank_parted row_place p items n (omega (arith, within, long)) (
+      λ k d from to. sym (same k d (omega (arith, to, within))) ∙ point.0 k 0 from to,
+      λ k d from to. sym (same k d (omega (arith, to, long))) ∙ point.1 k 0 from (omega (arith, to, long)),
     )
 
-parted_between : {X : Type 0} (test : X → Bool) (xs : List X) (low high : ℕ) → high ≤ length xs → IsPartitionedBy test xs → IsPartitionedBy test (between low high xs)
-parted_between test xs low high within parted i j d le lt h =
-    let part = length-between xs low high within in
-    ap test (get_or-between xs low high i d (omega (arith, part, le, lt)))
-    ∙ parted (low + i) (low + j) d (omega (arith, le)) (omega (arith, part, within, lt)) (sym (ap test (get_or-between xs low high j d (omega (arith, part, lt)))) ∙ h)
-
-pub slots_parted : (order : List ℕ) (slots : List KeyLabels) (p : Place) (low high : ℕ) → IsArranged (length slots) order → IsOrdered row_place (in_order order slots) → high ≤ length order
-    → IsPartitionedBy (is_slot_below p slots) (between low high order)
-slots_parted order slots p low high a o within =
-    parted_between (is_slot_below p slots) order low high within (parted_in (λ r. is_gt (place_order p (row_place r))) order slots a.within (parted row_place p (in_order order slots) o))
+pub slots_parted : (order : List ℕ) (slots : List KeyLabels) (p : Place) → IsArranged (length slots) order → IsOrdered row_place (in_order order slots) → IsPartitionedBy (is_slot_below p slots) order
+slots_parted order slots p a o = parted_in (λ r. is_gt (place_order p (row_place r))) order slots a.within (parted row_place p (in_order order slots) o)
 
 -- a key without a row has no labels and no places for one
 module _ {seen items : List KeyLabels} {t k : List ℕ} {at : ℕ} (same : seen ≡ items) (o : IsOrdered row_place items) (free : IsFreeAt (place_of t k) seen at) where

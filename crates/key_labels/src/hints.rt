@@ -100,20 +100,22 @@ fn note(slots: &Vec<KeyLabels>, hints: &mut [u32], slot: u32) {
 }
 
 // Makes four times as many cells as there are slots, and names all rows in them. Where there is no memory, nothing changes.
-fn spread(slots: &Vec<KeyLabels>, order: &Vec<u32>, hints: &mut Vec<u32>) -> bool {
+fn spread(slots: &Vec<KeyLabels>, hints: &mut Vec<u32>) -> bool {
     if hints.resize(slots.len().saturating_mul(4), EMPTY).is_err() {
         return false;
     }
     hints.fill(EMPTY);
-    for slot in order.as_slice() {
-        note(slots, hints, *slot);
+    for slot in 0..slots.len() {
+        if slot < EMPTY as usize {
+            note(slots, hints, slot as u32);
+        }
     }
     true
 }
 
 /// Names the row in a slot, which is new. At least twice as many cells as there are slots are made, if there is memory.
-pub(crate) fn note_new(slots: &Vec<KeyLabels>, order: &Vec<u32>, hints: &mut Vec<u32>, slot: u32) {
-    if hints.len() / 2 < slots.len() && spread(slots, order, hints) {
+pub(crate) fn note_new(slots: &Vec<KeyLabels>, hints: &mut Vec<u32>, slot: u32) {
+    if hints.len() / 2 < slots.len() && spread(slots, hints) {
         return;
     }
     note(slots, hints, slot);

@@ -7,7 +7,7 @@ ghost use Rattle.key_labels.specs.KeyRows.{IsFreeAt};
 ghost use Rattle.key_labels.specs.Labels.{is_other, with_label};
 ghost use Rattle.key_labels.specs.Rows.{row_place, labels_in, spare_of, spare_in, has_row, IsCopy, IsEdited, KeepsRows};
 
-use crate::key_rows::{KeyRows, put_new, rank_in, ready_row, row_at, slot_in};
+use crate::key_rows::{KeyRows, put_new, rank_in, ready_slot, row_at, slot_in};
 use crate::labels::{count_before, position_in};
 use lang_base::both;
 use lang_core::{Copied, NoMemory, Placed, Text};
@@ -191,9 +191,10 @@ fn add_row(
     ensures spare { OnOk result (spare ≤ spare_in rows.new.items table.now key.now) }
     ensures row { OnOk result (has_row rows.new.items table.now key.now ≡ true) }
 {
-    let number = ready_row(&mut rows.slots, &mut rows.order)?;
     let row = empty_row(alloc, table, key, spare)?;
+    let number = ready_slot(&mut rows.slots)?;
     put_new(
+        alloc,
         &mut rows.slots,
         &mut rows.order,
         &mut rows.hints,
@@ -201,7 +202,7 @@ fn add_row(
         at,
         number,
         row,
-    );
+    )?;
     Ok(())
 }
 
@@ -267,7 +268,7 @@ pub fn copied_rows(alloc: Global, rows: &KeyRows) -> Result<KeyRows, NoMemory>
     ensures each { IfOk result (λ copies. (t k : List ℕ) → labels_in copies.items t k ≡ labels_in rows.now.items t k) }
     ensures rows { IfOk result (λ copies. KeepsRows rows.now.items copies.items) }
 {
-    let order = Vec::from_slice(alloc, &rows.order)?;
+    let order = rows.order.copied(alloc)?;
     let hints = Vec::from_slice(alloc, &rows.hints)?;
     let slots = copied_slots(alloc, &rows.slots)?;
     Ok(KeyRows {

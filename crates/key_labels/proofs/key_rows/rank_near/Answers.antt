@@ -7,9 +7,9 @@ use Rattle.key_labels.proofs.KeyRowLemmas.{row_inside, sought_all, sought_behind
 use Rattle.key_labels.proofs.SlotLemmas.{length_in}
 use Rattle.key_labels.proofs.key_rows.rank_near.Goals as goal
 
-pub rank_between-requires-clause-sought : goal.rank_between-requires-clause-sought
-rank_between-requires-clause-sought c =
-    let end = c.len.ensures ∙ c.args.order.now.ok.0 in
+pub rank_to-requires-clause-sought : goal.rank_to-requires-clause-sought
+rank_to-requires-clause-sought c =
+    let end = c.len.ensures in
     let lt : c.args.place < length c.args.order.now.items = grind (arith, c.if-place-len.false) in
     let inside = row_inside c.args.order.now.items c.args.slots.now.items c.requires.arranged lt in
     let items = in_order c.args.order.now.items c.args.slots.now.items in
@@ -18,7 +18,7 @@ rank_between-requires-clause-sought c =
 
 pub rank_from-requires-clause-sought : goal.rank_from-requires-clause-sought
 rank_from-requires-clause-sought c =
-    let end = c.len.ensures ∙ c.args.order.now.ok.0 in
+    let end = c.len.ensures in
     let lt : c.args.place < length c.args.order.now.items = grind (arith, c.if-place-len.false) in
     let inside = row_inside c.args.order.now.items c.args.slots.now.items c.requires.arranged lt in
     let items = in_order c.args.order.now.items c.args.slots.now.items in
@@ -27,7 +27,7 @@ rank_from-requires-clause-sought c =
 
 pub returns-in-Equal-clause-rank : goal.returns-in-Equal-clause-rank
 returns-in-Equal-clause-rank c =
-    let end = c.len.ensures ∙ c.args.order.now.ok.0 in
+    let end = c.len.ensures in
     let lt : c.args.place < length c.args.order.now.items = grind (arith, c.if-place-len.false) in
     let inside = row_inside c.args.order.now.items c.args.slots.now.items c.requires.arranged lt in
     let items = in_order c.args.order.now.items c.args.slots.now.items in
@@ -36,7 +36,7 @@ returns-in-Equal-clause-rank c =
 
 pub returns-in-Equal-clause-taken : goal.returns-in-Equal-clause-taken
 returns-in-Equal-clause-taken c =
-    let end = c.len.ensures ∙ c.args.order.now.ok.0 in
+    let end = c.len.ensures in
     let lt : c.args.place < length c.args.order.now.items = grind (arith, c.if-place-len.false) in
     let inside = row_inside c.args.order.now.items c.args.slots.now.items c.requires.arranged lt in
     let items = in_order c.args.order.now.items c.args.slots.now.items in

@@ -1,12 +1,19 @@
-use Rattle.std.proofs.Common.{◌≡◌, get_or, sym, ap, ◌∙◌}
-use Rattle.std.proofs.lemmas.List.{get_or_read}
-use Rattle.key_labels.proofs.SlotLemmas.{read_in}
+use Rattle.std.proofs.Common.{◌<◌, ℕ, length, get_or, sym, ap, ◌∙◌, subst, arith}
+use Rattle.key_labels.proofs.SlotLemmas.{all_at, read_in}
 use Rattle.key_labels.proofs.key_rows.row_at.Goals as goal
+
+pub index-requires : goal.index-requires
+index-requires c =
+    let order = c.args.order.now.items in
+    let slots = c.args.slots.now.items in
+    let P : ℕ → Type 0 = λ n. n < length slots in
+    let lt = subst P (sym c.at.ensures) (all_at P order c.args.place 0 c.requires.arranged.within c.requires.place) in
+    let ok = c.args.slots.now.ok.0 in
+    omega (arith, lt, ok)
 
 pub returns : goal.returns
 returns c =
     let order = c.args.order.now.items in
     let slots = c.args.slots.now.items in
-    let row = c.index-2.result.now in
-    let number : c.index.result.now ≡ get_or order c.args.place 0 = get_or_read order c.args.place c.index.result.now c.requires.place c.index.ensures 0 in
-    c.index-2.ensures ∙ ap (λ n. get_or slots n row) number ∙ sym (read_in order slots c.args.place row c.requires.arranged.within c.requires.place)
+    let row = c.index.result.now in
+    c.index.ensures ∙ ap (λ n. get_or slots n row) c.at.ensures ∙ sym (read_in order slots c.args.place row c.requires.arranged.within c.requires.place)

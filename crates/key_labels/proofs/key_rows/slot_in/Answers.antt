@@ -1,15 +1,13 @@
 use Rattle.std.proofs.Common.{sym, ◌∙◌, arith}
-use Rattle.std.proofs.lemmas.List.{get_or_read}
 use Rattle.key_labels.proofs.KeyRowLemmas.{slot_there}
 use Rattle.key_labels.proofs.SlotLemmas.{length_in}
 use Rattle.key_labels.proofs.key_rows.slot_in.Goals as goal
 
 pub returns-then-taken : goal.returns-then-taken
 returns-then-taken c =
-    let order = c.args.order.now.items in
     let inside = c.rank_near-at.ensures.within.there c.if-taken.true in
     slot_there c.requires.arranged c.requires.ordered (rw c.as_bytes.ensures at c.rank_near-at.ensures.rank) (sym (rw c.as_bytes.ensures at c.rank_near-at.ensures.taken) ∙ c.if-taken.true) inside
-    (get_or_read order c.rank_near-at.result.0 c.index.result.now inside c.index.ensures 0)
+    c.at.ensures
 
 pub returns-else-taken : goal.returns-else-taken
 returns-else-taken c =

@@ -16,8 +16,8 @@ copies c =
     let P : List KeyLabels → Type 0 = λ l. AllZip IsCopy l copied in
     let Q : List ℕ → Type 0 = λ l. AllZip IsCopy (in_order order slots) (in_order l copied) in
     let R : List KeyLabels → Type 0 = λ l. AllZip IsCopy l (in_order c.in_ok-order.order.items copied) in
-    let same = c.in_ok-order.ensures.items ∙ c.deref.ensures.value in
-    subst R (ap (λ v. v.items) c.rows.view_is) (subst Q (sym same) (zip_in IsCopy order slots copied c.rows.invariant.within (subst P c.deref-3.ensures.value c.in_ok-slots.ensures)))
+    let same = c.in_ok-order.ensures in
+    subst R (ap (λ v. v.items) c.rows.view_is) (subst Q (sym same) (zip_in IsCopy order slots copied c.rows.invariant.within (subst P c.deref-2.ensures.value c.in_ok-slots.ensures)))
 
 pub returns-clause-ordered : goal.returns-clause-ordered
 returns-clause-ordered c = ordered_copy _ _ (copies c) c.requires

@@ -4,4 +4,4 @@ use Rattle.key_labels.proofs.key_rows.KeyRows.len.Goals as goal
 
 pub returns : goal.returns
 returns c =
-    c.len.ensures ∙ c.self.inside.order.ok.0 ∙ sym (length_in c.self.inside.order.items c.self.inside.slots.items c.self.invariant.within) ∙ ap (λ v. length v.items) c.self.view_is
+    c.len.ensures ∙ sym (length_in c.self.inside.order.items c.self.inside.slots.items c.self.invariant.within) ∙ ap (λ v. length v.items) c.self.view_is
