@@ -8,16 +8,7 @@
 most=${1:-4000}
 part=${2:-1}
 . "$(dirname "${BASH_SOURCE[0]}")/timing.sh"
-command -v valgrind >/dev/null || {
-    echo "counts.sh: valgrind isn't here" >&2
-    exit 1
-}
-
-# The instructions of a run of this script in this world.
-count() {
-    valgrind --tool=callgrind --callgrind-out-file=/dev/null "$program" run "$1" "$2" 2>&1 >"$folder/told" |
-        sed -n 's/.*Collected : *//p'
-}
+needs_valgrind
 
 asks() {
     local n=$1 i

@@ -33,9 +33,22 @@ ratio() {
     echo "$1 $2" | awk '{ printf "%.3f", $1 / $2 }'
 }
 
-# The most memory in KiB that a run of this script in @notes has at once, by GNU time.
+# The most memory in KiB that a run of this script in this world has at once, by GNU time.
 timer=$(type -P time) || timer=
-peak_of() {
-    "$timer" -f %M -o "$folder/peak" "$program" run @notes "$1" >"$folder/told"
+peak_in() {
+    "$timer" -f %M -o "$folder/peak" "$program" run "$1" "$2" >"$folder/told"
     cat "$folder/peak"
+}
+peak_of() { peak_in @notes "$1"; }
+
+# The instructions of a run of this script in this world, for which valgrind has to be there.
+needs_valgrind() {
+    command -v valgrind >/dev/null || {
+        echo "valgrind isn't here" >&2
+        exit 1
+    }
+}
+count() {
+    valgrind --tool=callgrind --callgrind-out-file=/dev/null "$program" run "$1" "$2" 2>&1 >"$folder/told" |
+        sed -n 's/.*Collected : *//p'
 }
