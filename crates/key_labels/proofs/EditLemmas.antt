@@ -1,5 +1,5 @@
 -- What an edit of one row does to what is held at each key.
-use Rattle.std.proofs.Common.{◌≡◌, ℕ, suc, ◌+◌, ◌<◌, ◌≤◌, Bool, true, false, cond, List, [], ◌∷◌, ◌++◌, Option, Some, length, get_or, set, take, drop, refl, sym, ap, ◌∙◌, inl, inr, arith, Result, Ok, Err, IsOk, is_ok}
+use Rattle.std.proofs.Common.{◌≡◌, ℕ, suc, ◌+◌, ◌<◌, ◌≤◌, Bool, true, false, cond, List, [], ◌∷◌, ◌++◌, Option, Some, None, length, get_or, set, take, drop, refl, sym, ap, ◌∙◌, inl, inr, arith, Result, Ok, Err, IsOk, is_ok}
 use Rattle.std.specs.List.{find}
 use Rattle.std.specs.Option.{option_map_or}
 use Rattle.std.proofs.lemmas.Bool.{cases_Bool}
@@ -7,7 +7,7 @@ use Rattle.std.proofs.lemmas.List.{set_split}
 use Rattle.lang_core.specs.Places.{Place, place_of, same_place, IsOrdered, set_in, rank, is_taken, past}
 use Rattle.lang_core.proofs.PlaceLemmas.{set_edits, ordered-set}
 use Rattle.lang_core.proofs.ReadLemmas.{find-set_in, place_is, place_same}
-use Rattle.key_labels.specs.Rows.{row_place, held, labels_in, spare_of, spare_in, has_row, KeepsRows}
+use Rattle.key_labels.specs.Rows.{row_place, held, labels_in, spare_of, spare_in, base_in, has_row, IsBased, KeepsKeys, KeepsRows}
 use Rattle.key_labels.specs.declared.rows.KeyLabels.{KeyLabels}
 use Rattle.lang_core.proofs.SeekLemmas.{find_some, find_none}
 
@@ -48,6 +48,15 @@ edits_nothing rows t k labels same u v = elim (cases_Bool (same_place (place_of 
   | inr apart ↦ rw apart refl
 ]
 
+-- the same of whatever is held at a key
+held_same : {X : Type 0} (f : KeyLabels → X) (none : X) (rows : List KeyLabels) (t k : List ℕ) (x : X) → held f none rows t k ≡ x
+    → (u v : List ℕ) → held f none rows u v ≡ cond (same_place (place_of t k) (place_of u v)) x (held f none rows u v)
+held_same f none rows t k x same u v = elim (cases_Bool (same_place (place_of t k) (place_of u v))) [
+  | inl e ↦ (let p : place_of t k ≡ place_of u v = place_is (place_of t k) (place_of u v) e in
+      rw e (sym (ap (λ (q : Place). held f none rows q.table q.key) p) ∙ same))
+  | inr apart ↦ rw apart refl
+]
+
 -- what is said of a key is said of an equal one
 at_key : (rows : List KeyLabels) (t k u v : List ℕ) → same_place (place_of t k) (place_of u v) ≡ true → spare_in rows u v ≡ spare_in rows t k
 at_key rows t k u v e = ap (λ (q : Place). spare_in rows q.table q.key) (sym (place_is (place_of t k) (place_of u v) e))
@@ -62,7 +71,7 @@ pub record StandsAt (rows : List KeyLabels) (t k : List ℕ) (at : ℕ) (row : K
 
 -- the row of a key, edited where it stands
 module _ {rows : List KeyLabels} {t k : List ℕ} {at : ℕ} {row : KeyLabels} (s : StandsAt rows t k at row) where
-  row_found : find (λ r. same_place (row_place r) (place_of t k)) rows ≡ Some row
+  pub row_found : find (λ r. same_place (row_place r) (place_of t k)) rows ≡ Some row
   row_found = find_some row_place (place_of t k) rows row s.taken (s.is ∙ ap (λ i. get_or rows i row) s.rank_is)
 
   pub row_at : row_place row ≡ place_of t k
@@ -119,11 +128,20 @@ module _ {rows : List KeyLabels} {t k : List ℕ} {at : ℕ} {row : KeyLabels} (
         let m = less_if (same_place (place_of t k) (place_of u v)) (spare_of new) (spare_in rows u v) (spare_in rows u v) (λ s. let a = at_key rows t k u v s in omega arith) (omega arith) in
         omega arith
 
-    pub set_rows : KeepsRows rows (set rows at new)
-    set_rows u v h = now_held (λ _. true) false u v ∙ has_if (same_place (place_of t k) (place_of u v)) (has_row rows u v) h
+    pub set_keys : KeepsKeys rows (set rows at new)
+    set_keys u v h = now_held (λ _. true) false u v ∙ has_if (same_place (place_of t k) (place_of u v)) (has_row rows u v) h
+
+    pub set_based : (base : Option (List ℕ)) → new.base ≡ base → IsBased t k base rows (set rows at new)
+    set_based base is u v = now_held (λ (r : KeyLabels). r.base) None u v ∙ ap (λ b. cond (same_place (place_of t k) (place_of u v)) b (base_in rows u v)) is
+
+    pub set_rows : new.base ≡ row.base → KeepsRows rows (set rows at new)
+    set_rows kept = record {
+      keys = set_keys;
+      bases = λ u v. set_based row.base kept u v ∙ sym (held_same (λ (r : KeyLabels). r.base) None rows t k row.base (held_here (λ (r : KeyLabels). r.base) None) u v);
+    }
 
     pub set_there : has_row (set rows at new) t k ≡ true
-    set_there = set_rows t k (held_here (λ _. true) false)
+    set_there = set_keys t k (held_here (λ _. true) false)
 
     pub set_made : (n : ℕ) → n ≤ spare_of new → n ≤ spare_in (set rows at new) t k
     set_made n le =
@@ -137,6 +155,7 @@ pub record GoesAt (rows : List KeyLabels) (t k : List ℕ) (at : ℕ) (new : Key
   pub free : is_taken row_place (place_of t k) rows ≡ false
   pub table : new.table ≡ t
   pub key : new.key ≡ k
+  pub bare : new.base ≡ None
   pub empty : new.labels.items ≡ []
 
 -- a new row
@@ -171,7 +190,11 @@ module _ {rows : List KeyLabels} {t k : List ℕ} {at : ℕ} {new : KeyLabels} (
       omega arith
 
   pub new_rows : KeepsRows rows (take at rows ++ new ∷ drop at rows)
-  new_rows u v h = new_held (λ _. true) false u v ∙ has_if (same_place (place_of t k) (place_of u v)) (has_row rows u v) h
+  new_rows = record {
+    keys = λ u v h. new_held (λ _. true) false u v ∙ has_if (same_place (place_of t k) (place_of u v)) (has_row rows u v) h;
+    bases = λ u v. new_held (λ (r : KeyLabels). r.base) None u v
+        ∙ sym (held_same (λ (r : KeyLabels). r.base) None rows t k new.base (none_held (λ (r : KeyLabels). r.base) None ∙ sym s.bare) u v);
+  }
 
   pub new_there : has_row (take at rows ++ new ∷ drop at rows) t k ≡ true
   new_there = new_held (λ _. true) false t k ∙ ap (λ b. cond b true (has_row rows t k)) (place_same (place_of t k) (place_of t k) refl)
@@ -184,3 +207,14 @@ module _ {rows : List KeyLabels} {t k : List ℕ} {at : ℕ} {new : KeyLabels} (
 pub ok_is : {A B X : Type 0} (r : Result A B) (x y z : X) → IsOk r → z ≡ cond (is_ok r) x y → z ≡ x
 ok_is (Ok a) x y z ok e = e
 ok_is (Err b) x y z ok e = cc
+
+-- of two changes that keep them, both do
+pub keeps_both : (first second third : List KeyLabels) → KeepsRows first second → KeepsRows second third → KeepsRows first third
+keeps_both first second third one two = record {
+  keys = λ t k h. two.keys t k (one.keys t k h);
+  bases = λ t k. two.bases t k ∙ one.bases t k;
+}
+
+-- rows that stay keep them
+pub keeps_same : (rows : List KeyLabels) → KeepsRows rows rows
+keeps_same rows = record { keys = λ t k h. h; bases = λ t k. refl }

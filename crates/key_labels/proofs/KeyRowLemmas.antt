@@ -1,8 +1,9 @@
 -- A row that was found in its slot stands at its place among the rows, and an edit of the slot is an edit there.
-use Rattle.std.proofs.Common.{◌≡◌, ℕ, zero, suc, ◌+◌, ◌-◌, ◌<◌, ◌≤◌, Bool, true, false, cond, List, [], ◌∷◌, length, get_or, set, eqb, refl, sym, ap, ◌∙◌, subst, inl, inr, arith}
+use Rattle.std.proofs.Common.{◌≡◌, ℕ, zero, suc, ◌+◌, ◌-◌, ◌<◌, ◌≤◌, Bool, true, false, cond, List, [], ◌∷◌, Option, None, length, get_or, set, eqb, refl, sym, ap, ◌∙◌, subst, inl, inr, arith}
 use Rattle.std.specs.declared.cmp.Ordering.{Ordering}
 use Rattle.std.specs.declared.cmp.Ordering.TheVariants.{Less, Equal, Greater}
 use Rattle.std.specs.Ordering.{is_eq, is_gt}
+use Rattle.std.specs.List.{find}
 use Rattle.std.specs.List.Sorted.{IsPartitionedBy, IsPartitionPoint}
 use Rattle.std.specs.Option.{option_map_or}
 use Rattle.std.specs.Cmp.{Equal-is}
@@ -11,9 +12,9 @@ use Rattle.lang_core.proofs.ReadLemmas.{place_same, same-order}
 use Rattle.std.proofs.lemmas.Bool.{cases_lt}
 use Rattle.lang_core.proofs.SeekLemmas.{parted, found_rank, found_taken, rank_parted, find_none, taken_there, taken_nowhere, sought_front, sought_rest, sought_rank, sought_taken, IsSought as IsTold}
 use Rattle.key_labels.specs.KeyRows.{in_order, is_slot_below, IsArranged, IsSought, IsSlotOf, IsFreeAt}
-use Rattle.key_labels.specs.Rows.{row_place, labels_in, spare_of, spare_in, has_row, KeepsRows}
+use Rattle.key_labels.specs.Rows.{row_place, labels_in, spare_of, spare_in, base_in, has_row, IsBased, KeepsKeys, KeepsRows}
 use Rattle.key_labels.specs.declared.rows.KeyLabels.{KeyLabels}
-use Rattle.key_labels.proofs.EditLemmas.{StandsAt, GoesAt, row_at, set_ordered, set_labels, set_same, set_kept, set_less, set_rows, set_there, set_made}
+use Rattle.key_labels.proofs.EditLemmas.{StandsAt, GoesAt, row_at, set_ordered, set_labels, set_same, set_kept, set_less, set_keys, set_based, set_rows, set_there, set_made}
 use Rattle.key_labels.proofs.SlotLemmas.{all_at, read_in, length_in, set_in, parted_in, test_at}
 
 -- the order of one row and a place, as a search of a list of this one row tells it
@@ -85,8 +86,14 @@ module _ {order : List ℕ} {slots items : List KeyLabels} {t k : List ℕ} {slo
   pub slot_less : spare_of row ≤ spare_of new + 1 → (u v : List ℕ) → spare_in items u v ≤ spare_in (in_order order (set slots slot new)) u v + cond (same_place (place_of t k) (place_of u v)) 1 0
   slot_less less u v = let P : List KeyLabels → Type 0 = λ l. spare_in items u v ≤ spare_in l u v + cond (same_place (place_of t k) (place_of u v)) 1 0 in subst P (sym (s.edited new)) (set_less s.stands new same less u v)
 
-  pub slot_rows : KeepsRows items (in_order order (set slots slot new))
-  slot_rows = let P : List KeyLabels → Type 0 = λ l. KeepsRows items l in subst P (sym (s.edited new)) (set_rows s.stands new same)
+  pub slot_rows : new.base ≡ row.base → KeepsRows items (in_order order (set slots slot new))
+  slot_rows kept = let P : List KeyLabels → Type 0 = λ l. KeepsRows items l in subst P (sym (s.edited new)) (set_rows s.stands new same kept)
+
+  pub slot_keys : KeepsKeys items (in_order order (set slots slot new))
+  slot_keys = let P : List KeyLabels → Type 0 = λ l. KeepsKeys items l in subst P (sym (s.edited new)) (set_keys s.stands new same)
+
+  pub slot_based : (base : Option (List ℕ)) → new.base ≡ base → IsBased t k base items (in_order order (set slots slot new))
+  slot_based base is u v = ap (λ l. base_in l u v) (s.edited new) ∙ set_based s.stands new same base is u v
 
   pub slot_has : has_row (in_order order (set slots slot new)) t k ≡ true
   slot_has = ap (λ l. has_row l t k) (s.edited new) ∙ set_there s.stands new same
@@ -191,9 +198,15 @@ module _ {seen items : List KeyLabels} {t k : List ℕ} {at : ℕ} (same : seen 
   pub none_spare : spare_in items t k ≡ 0
   none_spare = ap (λ o. option_map_or spare_of o 0) (find_none row_place (place_of t k) items o free_here.free)
 
+  pub none_row : find (λ r. same_place (row_place r) (place_of t k)) items ≡ None
+  none_row = find_none row_place (place_of t k) items o free_here.free
+
+  pub none_there : has_row items t k ≡ false
+  none_there = ap (λ o. option_map_or (λ (r : KeyLabels). true) o false) none_row
+
 -- a new row goes in at its place
 pub new_goes : {seen items : List KeyLabels} {t k : List ℕ} {at : ℕ} {new : KeyLabels} → seen ≡ items → IsOrdered row_place items → IsFreeAt (place_of t k) items at
-    → new.table ≡ t → new.key ≡ k → new.labels.items ≡ [] → GoesAt seen t k at new
-new_goes {seen} {items} {t} {k} {at} {new} same o free table key empty =
+    → new.table ≡ t → new.key ≡ k → new.base ≡ None → new.labels.items ≡ [] → GoesAt seen t k at new
+new_goes {seen} {items} {t} {k} {at} {new} same o free table key bare empty =
     let P : List KeyLabels → Type 0 = λ l. GoesAt l t k at new in
-    subst P (sym same) (record { ordered = o; rank_is = free.rank; free = free.free; table = table; key = key; empty = empty })
+    subst P (sym same) (record { ordered = o; rank_is = free.rank; free = free.free; table = table; key = key; bare = bare; empty = empty })

@@ -1,11 +1,12 @@
 // The labels in the row of a key, and how they change.
-ghost use Rattle.std.specs.Prelude.{ℕ, List, ◌≡◌, ◌+◌, ◌<◌, ◌≤◌, [], true, filter, insert, length, vec_len, vec_capacity, IfOk, OnOk, if◌then◌else◌};
+ghost use Rattle.std.specs.Prelude.{ℕ, List, ◌≡◌, ◌+◌, ◌<◌, ◌≤◌, [], None, true, drop, filter, find, insert, length, vec_len, vec_capacity, IfOk, OnOk, if◌then◌else◌};
 ghost use Rattle.std.specs.List.{AllZip, Contains};
+ghost use Rattle.std.specs.Option.{option_copied, ForSome};
 ghost use Rattle.lang_core.specs.Places.{IsOrdered, place_of, same_place};
 ghost use Rattle.place_order.specs.Rising.{IsRising};
 ghost use Rattle.key_labels.specs.KeyRows.{IsFreeAt};
-ghost use Rattle.key_labels.specs.Labels.{is_other, with_label};
-ghost use Rattle.key_labels.specs.Rows.{row_place, labels_in, spare_of, spare_in, has_row, IsCopy, IsEdited, KeepsRows};
+ghost use Rattle.key_labels.specs.Labels.{behind, is_other, with_label};
+ghost use Rattle.key_labels.specs.Rows.{row_place, labels_in, spare_of, spare_in, has_row, IsBased, IsCopy, IsEdited, KeepsKeys, KeepsRows};
 
 use crate::key_rows::{KeyRows, put_new, rank_in, ready_slot, row_at, slot_in};
 use crate::labels::{count_before, position_in};
@@ -14,10 +15,11 @@ use lang_core::{Copied, NoMemory, Placed, Text};
 use place_order::Order;
 use std::alloc::Global;
 
-/// The labels that stand at a key. It may have none.
+/// The labels that stand at a key, and the text that stands there before all of them. It may have neither.
 pub struct KeyLabels {
     pub table: Text,
     pub key: Text,
+    pub base: Option<Text>,
     pub labels: Vec<u64>,
 }
 
@@ -26,6 +28,7 @@ impl Drop for KeyLabels {
         let Self {
             table: _,
             key: _,
+            base: _,
             labels: _,
         } = self;
     }
@@ -66,11 +69,19 @@ impl KeyLabels {
         &self.labels
     }
 
+    /// The text before all labels.
+    pub fn base(&self) -> Option<&Text>
+        ensures { option_copied result ≡ self.now.base }
+    {
+        self.base.as_ref()
+    }
+
     /// Puts a label in at a place of the labels, where there is room for it.
     pub fn insert(&mut self, at: usize, label: u64)
         requires within { at ≤ length self.old.labels.items }
         requires room { 0 < spare_of self.old }
         ensures place { row_place self.new ≡ row_place self.old }
+        ensures base { self.new.base ≡ self.old.base }
         ensures labels { self.new.labels.items ≡ insert self.old.labels.items at label }
         ensures spare { spare_of self.old ≤ spare_of self.new + 1 }
     {
@@ -80,6 +91,7 @@ impl KeyLabels {
     // Takes a label out, if it is there.
     fn drop_label(&mut self, label: u64)
         ensures place { row_place self.new ≡ row_place self.old }
+        ensures base { self.new.base ≡ self.old.base }
         ensures labels { self.new.labels.items ≡ filter (is_other label) self.old.labels.items }
         ensures spare { spare_of self.old ≤ spare_of self.new }
     {
@@ -91,6 +103,7 @@ impl KeyLabels {
         requires rising { IsRising order.now.labels self.old.labels.items }
         requires label { Contains order.now.labels label }
         ensures place { row_place self.new ≡ row_place self.old }
+        ensures base { self.new.base ≡ self.old.base }
         ensures labels { self.new.labels.items ≡ filter (is_other label) self.old.labels.items }
         ensures spare { spare_of self.old ≤ spare_of self.new }
     {
@@ -105,12 +118,36 @@ impl KeyLabels {
     // Makes places for so many labels more.
     fn reserve(&mut self, spare: usize) -> Result<(), NoMemory>
         ensures place { row_place self.new ≡ row_place self.old }
+        ensures base { self.new.base ≡ self.old.base }
         ensures labels { self.new.labels.items ≡ self.old.labels.items }
         ensures kept { spare_of self.old ≤ spare_of self.new }
         ensures spare { OnOk result (spare ≤ spare_of self.new) }
     {
         make_places(&mut self.labels, spare)
     }
+
+    // Sets the text before all labels, and takes those before a label out, or all where there is none.
+    fn settle(&mut self, order: &Order, end: Option<u64>, base: Option<Text>)
+        requires rising { IsRising order.now.labels self.old.labels.items }
+        requires end { ForSome end (Contains order.now.labels) }
+        ensures place { row_place self.new ≡ row_place self.old }
+        ensures base { self.new.base ≡ base }
+        ensures labels { self.new.labels.items ≡ behind order.now.labels end self.old.labels.items }
+        ensures spare { spare_of self.old ≤ spare_of self.new }
+    {
+        let n = count_before(order, self.labels(), end);
+        drop_front(&mut self.labels, n);
+        self.base = base;
+    }
+}
+
+fn drop_front(labels: &mut Vec<u64>, n: usize)
+    requires { n ≤ length labels.old.items }
+    ensures items { labels.new.items ≡ drop n labels.old.items }
+    ensures len { vec_len labels.new ≤ vec_len labels.old }
+    ensures capacity { vec_capacity labels.old ≤ vec_capacity labels.new }
+{
+    let _ = labels.drain(..n);
 }
 
 /// The labels in the row of a key with these bytes.
@@ -153,24 +190,56 @@ pub fn labels_near<'a>(rows: &'a KeyRows, near: usize, table: &Text, key: &Text)
     }
 }
 
-fn row_of(alloc: Global, table: &Text, key: &Text, labels: Vec<u64>) -> Result<KeyLabels, NoMemory>
+/// The row of a key.
+pub fn find_row<'a>(rows: &'a KeyRows, table: &Text, key: &Text) -> Option<&'a KeyLabels>
+    requires { IsOrdered row_place rows.now.items }
+    ensures { option_copied result ≡ find (λ r. same_place (row_place r) (place_of table.now key.now)) rows.now.items }
+{
+    match slot_in(
+        &rows.slots,
+        &rows.order,
+        &rows.hints,
+        rows.newest,
+        usize::MAX,
+        table,
+        key,
+    ) {
+        Ok(slot) => Some(&rows.slots[slot]),
+        Err(_) => None,
+    }
+}
+
+fn row_of(
+    alloc: Global,
+    table: &Text,
+    key: &Text,
+    base: Option<Text>,
+    labels: Vec<u64>,
+) -> Result<KeyLabels, NoMemory>
     ensures table { IfOk result (λ row. row.table ≡ table.now) }
     ensures key { IfOk result (λ row. row.key ≡ key.now) }
+    ensures base { IfOk result (λ row. row.base ≡ base) }
     ensures labels { IfOk result (λ row. row.labels ≡ labels) }
 {
     let (table, key) = both(table.copied(alloc), key.copied(alloc))?;
-    Ok(KeyLabels { table, key, labels })
+    Ok(KeyLabels {
+        table,
+        key,
+        base,
+        labels,
+    })
 }
 
 fn empty_row(alloc: Global, table: &Text, key: &Text, spare: usize) -> Result<KeyLabels, NoMemory>
     ensures table { IfOk result (λ row. row.table ≡ table.now) }
     ensures key { IfOk result (λ row. row.key ≡ key.now) }
+    ensures base { IfOk result (λ row. row.base ≡ None) }
     ensures labels { IfOk result (λ row. row.labels.items ≡ []) }
     ensures spare { IfOk result (λ row. spare ≤ spare_of row) }
 {
     let mut labels = Vec::new(alloc);
     make_places(&mut labels, spare)?;
-    row_of(alloc, table, key, labels)
+    row_of(alloc, table, key, None, labels)
 }
 
 // Puts in a row without labels, which has places for so many.
@@ -244,11 +313,20 @@ pub fn make_row(
     }
 }
 
+fn copied_labels(alloc: Global, labels: &[u64]) -> Result<Vec<u64>, NoMemory>
+    ensures { IfOk result (λ copy. copy.items ≡ labels.now) }
+{
+    Ok(Vec::from_slice(alloc, labels)?)
+}
+
 fn copied_row(alloc: Global, row: &KeyLabels) -> Result<KeyLabels, NoMemory>
     ensures { IfOk result (IsCopy row.now) }
 {
-    let labels = Vec::from_slice(alloc, row.labels())?;
-    row_of(alloc, row.table(), row.key(), labels)
+    let (base, labels) = both(
+        Copied::copied(&row.base, alloc),
+        copied_labels(alloc, row.labels()),
+    )?;
+    row_of(alloc, row.table(), row.key(), base, labels)
 }
 
 fn copied_slots(alloc: Global, slots: &[KeyLabels]) -> Result<Vec<KeyLabels>, NoMemory>
@@ -376,6 +454,40 @@ pub fn drop_label_in(order: &Order, rows: &mut KeyRows, table: &Text, key: &Text
         key,
     ) {
         Ok(slot) => rows.slots[slot].drop_in(order, label),
+        Err(_) => {}
+    }
+}
+
+/// Sets the text that stands at a key before all labels, and takes the labels before one out of its row, or all where there is
+/// none. The row's labels rise in an order, in which these are found by halves.
+pub fn settle_row(
+    order: &Order,
+    rows: &mut KeyRows,
+    table: &Text,
+    key: &Text,
+    end: Option<u64>,
+    base: Option<Text>,
+)
+    requires ordered { IsOrdered row_place rows.old.items }
+    requires there { has_row rows.old.items table.now key.now ≡ true }
+    requires rising { IsRising order.now.labels (labels_in rows.old.items table.now key.now) }
+    requires end { ForSome end (Contains order.now.labels) }
+    ensures ordered { IsOrdered row_place rows.new.items }
+    ensures edited { IsEdited table.now key.now (behind order.now.labels end (labels_in rows.old.items table.now key.now)) rows.old.items rows.new.items }
+    ensures based { IsBased table.now key.now base rows.old.items rows.new.items }
+    ensures spare { (t k : List ℕ) → spare_in rows.old.items t k ≤ spare_in rows.new.items t k }
+    ensures keys { KeepsKeys rows.old.items rows.new.items }
+{
+    match slot_in(
+        &rows.slots,
+        &rows.order,
+        &rows.hints,
+        rows.newest,
+        usize::MAX,
+        table,
+        key,
+    ) {
+        Ok(slot) => rows.slots[slot].settle(order, end, base),
         Err(_) => {}
     }
 }

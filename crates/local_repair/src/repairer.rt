@@ -190,35 +190,32 @@ fn replace(log: &mut Log, entry: Entry)
     let _old = log.put(entry);
 }
 
-// Folds so many of the first entries of a log: these are the rows that they leave. Refused, all stay.
+// Folds so many of the first entries of a log. Refused, all stay.
 fn fold_parts(
     alloc: Global,
     log: &mut Log,
     rows: &mut EntryRows,
     marks: &mut EntryMarks,
     n: u64,
-    left: &Cells,
 ) -> Result<(), NoMemory>
     requires within { n ≤ length log.old.entries }
     requires ran { All (λ (e : Entry). IsSome e.made) (take n log.old.entries) }
-    requires left { left.now ≡ rows_before n rows.old }
     requires tied { rows.old.writes ≡ all_written log.old.entries }
     requires looked { marks.old.reads ≡ all_looked log.old.entries }
     ensures entries { OnOk result (log.new.entries ≡ drop n log.old.entries) }
     ensures folded { OnOk result (log.new.folded ≡ log.old.folded ++ filter_map folded_as (take n log.old.entries)) }
-    ensures base { OnOk result (rows.new.base ≡ left.now) }
+    ensures base { OnOk result (rows.new.base ≡ rows_before n rows.old) }
     ensures writes { OnOk result (rows.new.writes ≡ drop n rows.old.writes) }
     ensures reads { OnOk result (marks.new.reads ≡ drop n marks.old.reads) }
     ensures marks { OnOk result ((q : ℕ) → is_marked q marks.new.marks ≡ is_marked (n + q) marks.old.marks) }
     ensures err { OnErr result (log.new ≡ log.old) }
-    ensures err_base { OnErr result (rows.new.base ≡ rows.old.base) }
-    ensures err_writes { OnErr result (rows.new.writes ≡ rows.old.writes) }
+    ensures err_rows { OnErr result (rows.new ≡ rows.old) }
     ensures err_marks { OnErr result (marks.new ≡ marks.old) }
 {
     let count = n as usize;
-    rows.ready_fold(alloc, left)?;
+    let texts = rows.first_texts(alloc, count)?;
     log.fold(alloc, n)?;
-    rows.fold(alloc, count, left);
+    rows.fold(count, texts);
     marks.fold(count);
     Ok(())
 }
@@ -441,7 +438,7 @@ impl Repairer {
 impl Repairer {
     /// Folds so many of the first entries, each of which ran: nothing of them is repaired any more, the rows that they leave
     /// stand before all others, and what they read and wrote is gone. Refused, nothing changes. It costs with the number of
-    /// entries and of rows.
+    /// entries and of what they wrote.
     pub fn fold(&mut self, alloc: Global, n: u64) -> Result<(), NoMemory>
         requires within { n ≤ length self.old.entries }
         requires ran { All (λ (e : Entry). IsSome e.made) (take n self.old.entries) }
@@ -449,16 +446,7 @@ impl Repairer {
         ensures rows { OnOk result ((place : ℕ) → rows_after self.new.base (take place self.new.entries) ≡ rows_after self.old.base (take (n + place) self.old.entries)) }
         ensures err { OnErr result (self.new ≡ self.old) }
     {
-        let count = n as usize;
-        let rows = self.rows.rows_before(alloc, count)?;
-        fold_parts(
-            alloc,
-            &mut self.log,
-            &mut self.rows,
-            &mut self.marks,
-            n,
-            &rows,
-        )?;
+        fold_parts(alloc, &mut self.log, &mut self.rows, &mut self.marks, n)?;
         Ok(())
     }
 }

@@ -1,5 +1,6 @@
 -- What the entries of a log wrote, in order, and the rows that come of it.
 use Rattle.std.specs.Prelude.{ℕ, ◌≡◌, List, [], ◌∷◌, Option, Some, None, IsTrue, map, fold, take, slice_get, option_map, length, nat_lt, if◌then◌else◌}
+use Rattle.std.specs.List.{flat_map}
 use Rattle.lang_core.specs.Rows.{apply}
 use Rattle.lang_core.specs.declared.cells.Cell.{Cell}
 use Rattle.lang_core.specs.declared.writes.Write.{Write}
@@ -10,7 +11,7 @@ use Rattle.place_order.specs.Rooms.{call_code as label_code}
 use Rattle.place_order.specs.declared.room.OrderCall.{OrderCall}
 use Rattle.place_order.specs.declared.room.OrderCall.TheVariants.{Append, InsertBefore}
 use Rattle.versioned_rows.specs.Places.{label_of}
-use Rattle.versioned_rows.specs.Versions.{base_call, call_code, write_call}
+use Rattle.versioned_rows.specs.Versions.{call_code, write_call}
 use Rattle.versioned_rows.specs.declared.places.PlaceWrites.{PlaceWrites}
 use Rattle.versioned_rows.specs.declared.room.VersionsCall.{VersionsCall}
 
@@ -71,6 +72,6 @@ pub record IsReadyToInsert (place : ℕ) (writes : List Write) (kept : KeptWrite
   pub label : IsTrue (is_made label_code (call_at place (length kept.writes)) kept.places)
   pub copy : IsReadyToSet writes kept
 
--- room was made for these rows before all entries
-abbrev pub IsReadyToFold : List Cell → KeptWrites → Type 0
-IsReadyToFold rows kept = IsTrue (is_made call_code (base_call rows) kept.copies)
+-- the texts that these wrote, one after the other
+abbrev pub texts_of : List (List Write) → List (Option (List ℕ))
+texts_of writes = flat_map (map (λ (w : Write). w.text)) writes

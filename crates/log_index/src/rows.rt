@@ -2,15 +2,16 @@
 ghost use Rattle.std.specs.Prelude.{ℕ, ◌≡◌, ◌↔◌, ◌+◌, ◌<◌, ◌≤◌, [], IsTrue, IfOk, OnOk, drop, length, insert, slice_set, take};
 ghost use Rattle.std.specs.Option.{option_copied};
 ghost use Rattle.lang_core.specs.Rows.{get, scan};
-ghost use Rattle.log_index.specs.Rows.{rows_before, rows_made, writes_of, IsReadyToFold, IsReadyToInsert, IsReadyToSet};
+ghost use Rattle.log_index.specs.Rows.{rows_before, texts_of, IsReadyToInsert, IsReadyToSet};
 
 use crate::labels::{label_at, new_label, ready_label};
 use lang_base::both;
-use lang_core::{Cells, Copied, NoMemory, SharedWrites, Text, apply_writes};
+use lang_core::{Cells, NoMemory, SharedWrites, Text};
 use place_order::Order;
 use std::alloc::Global;
+use std::collections::VecDeque;
 use std::marker::Model;
-use versioned_rows::{PlaceWrites, Versions};
+use versioned_rows::Versions;
 
 /// What each entry of a log wrote, which contracts see as a list by the places of the entries, the rows before all of them,
 /// and the room that was made for calls to come. An entry that wrote nothing has its place too.
@@ -44,30 +45,6 @@ impl Model for EntryRows {
     ghost invariant = { λ r. IsPlaced r.order.labels r.versions.versions };
 }
 
-// So many of the first places, or all where there are fewer.
-#[tactic(auto, using(std::proofs::lemmas::List::take_all))]
-fn front(places: &[PlaceWrites], n: usize) -> &[PlaceWrites]
-    ensures { result.now ≡ take n places.now }
-{
-    if n < places.len() {
-        &places[..n]
-    } else {
-        places
-    }
-}
-
-// The rows that these places make of base rows.
-#[tactic(auto, using(crate::proofs::PlaceLemmas::rows_are))]
-fn rows_made(alloc: Global, base: &Cells, places: &[PlaceWrites]) -> Result<Cells, NoMemory>
-    ensures { IfOk result (λ rows. rows ≡ rows_made base.now (writes_of places.now)) }
-{
-    let mut rows = base.copied(alloc)?;
-    for place in places {
-        apply_writes(alloc, &mut rows, &place.writes)?;
-    }
-    Ok(rows)
-}
-
 impl EntryRows {
     /// What no entries wrote, with no rows before them.
     pub fn new(alloc: Global) -> EntryRows
@@ -93,8 +70,8 @@ impl EntryRows {
     pub fn rows_before(&self, alloc: Global, place: usize) -> Result<Cells, NoMemory>
         ensures { IfOk result (λ rows. rows ≡ rows_before place self.now) }
     {
-        let places = front(self.versions.as_slice(), place);
-        rows_made(alloc, self.versions.base(), places)
+        let label = label_at(self.versions.as_slice(), place);
+        self.versions.rows_before(alloc, &self.order, label)
     }
 
     /// The text at a key of a table in the rows before the entry at a place, or in those after all entries where it is
@@ -184,27 +161,24 @@ impl EntryRows {
             .unwrap();
     }
 
-    /// Makes room for a `fold` that leaves these rows.
-    pub fn ready_fold(&mut self, alloc: Global, rows: &Cells) -> Result<(), NoMemory>
-        ensures base { self.new.base ≡ self.old.base }
-        ensures writes { self.new.writes ≡ self.old.writes }
-        ensures ok { OnOk result (IsReadyToFold rows.now self.new) }
+    /// The texts that so many of the first entries wrote, one after the other, for a `fold` that takes no memory.
+    pub fn first_texts(&self, alloc: Global, n: usize) -> Result<VecDeque<Option<Text>>, NoMemory>
+        requires { n ≤ length self.now.writes }
+        ensures { IfOk result (λ texts. texts.items ≡ texts_of (take n self.now.writes)) }
     {
-        self.versions.ready_insert_base(alloc, rows)
+        self.versions.first_texts(alloc, n)
     }
 
-    /// Takes out what so many of the first entries wrote: the rows that they left stand before all others now. There is room
-    /// for these.
-    pub fn fold(&mut self, alloc: Global, n: usize, rows: &Cells)
+    /// Takes out what so many of the first entries wrote, whose texts are these: the rows that they left stand before all
+    /// others then.
+    pub fn fold(&mut self, n: usize, texts: VecDeque<Option<Text>>)
         requires within { n ≤ length self.old.writes }
-        requires rows { rows.now ≡ rows_before n self.old }
-        requires ready { IsReadyToFold rows.now self.old }
-        ensures base { self.new.base ≡ rows.now }
+        requires texts { texts.items ≡ texts_of (take n self.old.writes) }
+        ensures base { self.new.base ≡ rows_before n self.old }
         ensures writes { self.new.writes ≡ drop n self.old.writes }
         ensures rows { (place : ℕ) → rows_before place self.new ≡ rows_before (n + place) self.old }
     {
-        self.versions.insert_base(alloc, rows).unwrap();
-        self.versions.forget_first(n);
+        self.versions.fold_first(&self.order, n, texts);
         self.order.forget_first(n as u64);
     }
 }

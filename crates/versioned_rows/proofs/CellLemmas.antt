@@ -10,9 +10,9 @@ use Rattle.lang_core.specs.Rows.{get, apply, cell_place, cell_size, is_beneath, 
 use Rattle.lang_core.specs.declared.cells.Cell.{Cell}
 use Rattle.lang_core.proofs.RowLemmas.{ordered-kept, ordered-apply}
 use Rattle.place_order.specs.Rising.{IsRising}
-use Rattle.versioned_rows.specs.Places.{label_of, rows_after, before, is_held, writers}
-use Rattle.key_labels.specs.Rows.{row_place, labels_in, has_row}
-use Rattle.versioned_rows.specs.Versions.{IsBased, IsIndexed}
+use Rattle.versioned_rows.specs.Places.{label_of, rows_after, before, writers}
+use Rattle.key_labels.specs.Rows.{row_place, labels_in, base_in}
+use Rattle.versioned_rows.specs.Versions.{IsIndexed}
 use Rattle.versioned_rows.specs.Scans.{beneath, is_under, while, cell_at, with_cell, row_cells}
 use Rattle.key_labels.specs.declared.rows.KeyLabels.{KeyLabels}
 use Rattle.versioned_rows.specs.declared.places.PlaceWrites.{PlaceWrites}
@@ -22,10 +22,10 @@ use Rattle.versioned_rows.proofs.GetLemmas.{get_nothing}
 use Rattle.versioned_rows.proofs.PrefixLemmas.{under_together, same_ordered}
 
 -- the cell at a place
-abbrev at : Place → List Cell → Option Cell
+abbrev pub at : Place → List Cell → Option Cell
 at p cells = find (λ c. same_place (cell_place c) p) cells
 
-abbrev cell_of : Place → List ℕ → Cell
+abbrev pub cell_of : Place → List ℕ → Cell
 cell_of p x = record { table = p.table; key = p.key; text = x }
 
 is_cell : (p : Place) (c : Cell) → cell_place c ≡ p → c ≡ cell_of p c.text
@@ -36,7 +36,7 @@ at_by p cells None e = refl
 at_by p cells (Some c) e = ap Some (is_cell p c (place_is (cell_place c) p (found_passes (λ c. same_place (cell_place c) p) cells c e)))
 
 -- a cell is its place and what is read there
-at_is : (p : Place) (cells : List Cell) → at p cells ≡ option_map (cell_of p) (get cells p.table p.key)
+pub at_is : (p : Place) (cells : List Cell) → at p cells ≡ option_map (cell_of p) (get cells p.table p.key)
 at_is p cells = at_by p cells (at p cells) refl
 
 cell_here : (cells : List Cell) (r : KeyLabels) (p : Place) → row_place r ≡ p → cell_at cells r ≡ at p cells
@@ -122,39 +122,35 @@ filter_rows t prefix cells (r ∷ rs) =
     ∙ ap (λ l. cond (is_under t prefix r) (with_cell (cell_at cells r) l) l) (filter_rows t prefix cells rs)
     ∙ row_if cells r (filter (is_under t prefix) rs) (is_under t prefix r)
 
-nothing_by : {X Y : Type 0} (f : X → Y) (o : Option X) → is_some o ≡ false → option_map f o ≡ None
-nothing_by f None h = refl
-nothing_by f (Some x) h = cc
+pub rows_ordered : (qs : List PlaceWrites) (start : List Cell) → IsOrdered cell_place start → IsOrdered cell_place (fold (λ rows (p : PlaceWrites). apply rows p.writes) start qs)
+rows_ordered [] start o = o
+rows_ordered (q ∷ qs) start o = rows_ordered qs (apply start q.writes) (ordered-apply start q.writes o)
 
--- nothing stands before all places at a key without a row
-bare : (base : List Cell) (rows : List KeyLabels) (p : Place) → IsBased base rows → find (λ r. same_place (row_place r) p) rows ≡ None → get base p.table p.key ≡ None
-bare base rows p based none = elim (cases_Bool (is_held p.table p.key base)) [
-  | inl e ↦ (let there = based.keys p.table p.key e in
-      let not_there : has_row rows p.table p.key ≡ false = ap (λ o. option_map_or (λ (r : KeyLabels). true) o false) none in
-      cc)
-  | inr e ↦ nothing_by (λ (c : Cell). c.text) (find (λ c. same_place (cell_place c) p) base) e
-]
-
-module _ (order : List ℕ) (end : Option ℕ) (base : List Cell) (ps : List PlaceWrites) (rows : List KeyLabels) (based : IsBased base rows) (indexed : IsIndexed ps rows) (rising : IsRising order (map label_of ps)) where
+module _ (order : List ℕ) (end : Option ℕ) (base : List Cell) (ps : List PlaceWrites) (rows : List KeyLabels) (ordered : IsOrdered cell_place base) (bases : (t k : List ℕ) → get base t k ≡ base_in rows t k)
+    (indexed : IsIndexed ps rows) (rising : IsRising order (map label_of ps)) where
   abbrev cells : List Cell
   cells = rows_after base (before order end ps)
 
-  no_row : (p : Place) → find (λ r. same_place (row_place r) p) rows ≡ None → at p cells ≡ None
-  no_row p none =
+  -- nothing stands at a key without a row
+  pub nothing_read : (p : Place) → find (λ r. same_place (row_place r) p) rows ≡ None → get cells p.table p.key ≡ None
+  nothing_read p none =
       let labels : labels_in rows p.table p.key ≡ [] = ap (λ o. option_map_or (λ (r : KeyLabels). r.labels.items) o []) none in
       let wrote : [] ≡ writers p.table p.key ps = sym labels ∙ indexed.each p.table p.key in
-      at_is p cells ∙ ap (option_map (cell_of p)) (get_nothing order end base ps p.table p.key based.ordered indexed.writes rising [] 0 wrote refl refl ∙ bare base rows p based none)
+      get_nothing order end base ps p.table p.key ordered indexed.writes rising [] 0 wrote refl refl ∙ bases p.table p.key ∙ ap (λ o. option_map_or (λ (r : KeyLabels). r.base) o None) none
 
-  rows_ordered : (qs : List PlaceWrites) (start : List Cell) → IsOrdered cell_place start → IsOrdered cell_place (fold (λ rows (p : PlaceWrites). apply rows p.writes) start qs)
-  rows_ordered [] start o = o
-  rows_ordered (q ∷ qs) start o = rows_ordered qs (apply start q.writes) (ordered-apply start q.writes o)
+  no_row : (p : Place) → find (λ r. same_place (row_place r) p) rows ≡ None → at p cells ≡ None
+  no_row p none = at_is p cells ∙ ap (option_map (cell_of p)) (nothing_read p none)
+
+  -- the cells at the keys of all rows are all cells
+  pub all_are : row_cells cells rows ≡ cells
+  all_are = cells_are cells rows (rows_ordered (before order end ps) base ordered) indexed.ordered no_row
 
   -- what a scan gives, told by the rows from the prefix on
   pub scan_is : (t prefix : List ℕ) → kept_from 0 0 (row_cells cells (while (is_under t prefix) (drop (rank row_place (place_of t prefix) rows) rows))) ≡ scan cells t prefix
   scan_is t prefix =
       ap (kept_from 0 0) (ap (row_cells cells) (sym (under_together row_place t prefix rows indexed.ordered))
       ∙ sym (filter_rows t prefix cells rows)
-      ∙ ap (filter (is_beneath t prefix)) (cells_are cells rows (rows_ordered (before order end ps) base based.ordered) indexed.ordered no_row))
+      ∙ ap (filter (is_beneath t prefix)) all_are)
 
 -- a front of an ordered list is ordered
 front_below : (q : Place) (c : Cell) (xs ys : List Cell) → IsBelowAll cell_place q (xs ++ c ∷ ys) → IsBelowAll cell_place q (xs ++ c ∷ [])

@@ -1,9 +1,9 @@
 -- What it comes to for all keys that a place is taken out or put in.
-use Rattle.std.proofs.Common.{◌≡◌, ℕ, suc, ◌+◌, ◌<◌, Bool, true, false, not, cond, List, [], ◌∷◌, ◌++◌, Option, Some, None, nat_eq, nat_lt, length, get_or, map, position, refl, sym, ap, ◌∙◌, subst, inl, inr, arith, eqb-true, eq-eqb}
+use Rattle.std.proofs.Common.{◌≡◌, ℕ, suc, ◌+◌, ◌<◌, Bool, true, false, not, cond, List, [], ◌∷◌, ◌++◌, Option, Some, None, nat_eq, nat_lt, length, get_or, map, position, refl, sym, ap, ◌∙◌, subst, inl, inr, arith, eqb-true}
 use Rattle.std.specs.List.{filter, find, slice_get, AllByRecursion, position_or_len}
 use Rattle.std.proofs.lemmas.List.Folds.{find_at}
 use Rattle.std.proofs.lemmas.Option.{slice_get-get_or, slice_get_past}
-use Rattle.std.proofs.lemmas.Bool.{cases_Bool, lt-ltb, ltb-false, ne_eqb, eqb-false, not-true}
+use Rattle.std.proofs.lemmas.Bool.{cases_Bool, ltb-false, ne_eqb, eqb-false, not-true}
 use Rattle.std.proofs.lemmas.List.{map-append}
 use Rattle.std.proofs.lemmas.List.Elements.{filter-append}
 use Rattle.lang_core.specs.Places.{IsOrdered}
@@ -17,7 +17,7 @@ use Rattle.versioned_rows.specs.Versions.{IsIndexed}
 use Rattle.key_labels.specs.declared.rows.KeyLabels.{KeyLabels}
 use Rattle.versioned_rows.specs.declared.places.PlaceWrites.{PlaceWrites}
 use Rattle.key_labels.proofs.RisingLemmas.{not_before_later, rising_kept}
-use Rattle.key_labels.proofs.ApartLemmas.{position_is, all_others, apart_from, removed}
+use Rattle.key_labels.proofs.ApartLemmas.{position_is, all_others, apart_from}
 use Rattle.key_labels.proofs.ListLemmas.{filter_filter, filter-map, all_kept}
 use Rattle.versioned_rows.proofs.GetLemmas.{In, in_at}
 
@@ -149,22 +149,6 @@ take_indexed label at p ps rows after was found is ordered each =
         | inr e ↦ rw e (was.each t k ∙ sym (ap (λ l. filter (is_other l) (writers t k ps)) (sym named) ∙ unwritten t k p ps was.apart (in_at p ps at lt is) e) ∙ sym (writers_kept (is_other label) t k ps))
       ];
     }
-
--- of places whose labels differ, all but the first
-first_out : (p : PlaceWrites) (ps : List PlaceWrites) → IsApart (map label_of (p ∷ ps)) → without p.label (p ∷ ps) ≡ ps
-first_out p ps apart =
-    let e : nat_eq p.label p.label ≡ true = eq-eqb p.label p.label refl in
-    rw e (sym (rw e at (removed label_of p.label (p ∷ ps) apart)))
-
--- the first place is taken out
-pub first_indexed : (p : PlaceWrites) (ps : List PlaceWrites) (rows after : List KeyLabels) → IsIndexed (p ∷ ps) rows → IsOrdered row_place after
-    → ((t k : List ℕ) → labels_in after t k ≡ cond (is_written t k p.writes) (filter (is_other p.label) (labels_in rows t k)) (labels_in rows t k)) → IsIndexed ps after
-first_indexed p ps rows after was ordered each =
-    let e : nat_eq p.label p.label ≡ true = eq-eqb p.label p.label refl in
-    let lt : nat_lt 0 (length (p ∷ ps)) ≡ true = lt-ltb 0 (length (p ∷ ps)) (omega arith) in
-    let found : position (λ q. nat_eq (label_of q) p.label) (p ∷ ps) ≡ Some 0 = rw (e, lt) refl in
-    let P : List PlaceWrites → Type 0 = λ l. IsIndexed l after in
-    subst P (first_out p ps was.apart) (take_indexed p.label 0 p (p ∷ ps) rows after was found refl ordered each)
 
 differ : (label : ℕ) (ps : List PlaceWrites) → AllByRecursion (λ q. is_other label (label_of q) ≡ true) ps → AllByRecursion (λ y. nat_eq y label ≡ false) (map label_of ps)
 differ label [] all = tt

@@ -1,5 +1,7 @@
 pub mod AgreeLemmas
+pub mod BaseLemmas
 pub mod CellLemmas
+pub mod FoldLemmas
 pub mod GetLemmas
 pub mod HeldLemmas
 pub mod IndexLemmas

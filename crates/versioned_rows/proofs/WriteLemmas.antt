@@ -1,12 +1,13 @@
 -- What edits at each key of a place's writes come to.
-use Rattle.std.proofs.Common.{◌≡◌, ℕ, zero, suc, ◌+◌, ◌<◌, ◌≤◌, subst, Bool, true, false, ◌||◌, cond, List, [], ◌∷◌, Option, Some, None, is_some, length, get_or, take, refl, sym, ap, ◌∙◌, inl, inr, arith, add-one}
+use Rattle.std.proofs.Common.{◌≡◌, ℕ, zero, suc, ◌+◌, ◌<◌, ◌≤◌, subst, Bool, true, false, ◌||◌, cond, List, [], ◌∷◌, Option, Some, None, is_some, length, get_or, take, drop, map, refl, sym, ap, ◌∙◌, inl, inr, arith, add-one}
 use Rattle.std.specs.declared.cmp.Ordering.TheVariants.{Less}
 use Rattle.std.specs.Ordering.{is_eq}
 use Rattle.std.specs.List.{find}
+use Rattle.std.specs.Option.{option_map_or}
 use Rattle.std.proofs.lemmas.Bool.{cases_Bool}
-use Rattle.std.proofs.lemmas.List.{get_or_default}
+use Rattle.std.proofs.lemmas.List.{get_or_default, get_or-drop, get_or-map, get_or-take, length-drop, length-map, length-take}
 use Rattle.lang_core.specs.Places.{Place, place_of, place_order, same_place, IsBelowAll, IsOrdered}
-use Rattle.lang_core.specs.Rows.{write_place}
+use Rattle.lang_core.specs.Rows.{write_place, written}
 use Rattle.lang_core.specs.declared.writes.Write.{Write}
 use Rattle.versioned_rows.specs.Places.{is_among, is_written}
 use Rattle.key_labels.specs.Rows.{labels_in, spare_in, IsEdited}
@@ -128,3 +129,55 @@ module _ {X : Type 0} (place : X → Place) (xs : List X) (i : ℕ) (x : X) (lt 
   keys_more P had here t k h =
       either_by (P (place_of t k)) (is_among place t k (take i xs)) (same_place (place x) (place_of t k)) (sym (with_next t k) ∙ h)
       (had t k) (λ e. subst P (place_is (place x) (place_of t k) e) here)
+
+abbrev or_else : {X : Type 0} → Option X → Option X → Option X
+or_else None o = o
+or_else (Some x) o = Some x
+
+next_if : {X : Type 0} (b : Bool) (x : X) (o q : Option X) → cond b (Some x) (or_else o q) ≡ or_else (cond b (Some x) o) q
+next_if true x o q = refl
+next_if false x o q = refl
+
+find_next : {X : Type 0} (p : X → Bool) (xs : List X) (i : ℕ) (d : X) → i < length xs → find p (take (suc i) xs) ≡ or_else (find p (take i xs)) (cond (p (get_or xs i d)) (Some (get_or xs i d)) None)
+find_next p [] i d lt = absurd (omega (arith, lt))
+find_next p (x ∷ xs) zero d lt = refl
+find_next p (x ∷ xs) (suc i) d lt =
+    ap (λ o. cond (p x) (Some x) o) (find_next p xs i d (omega (arith, lt))) ∙ next_if (p x) x (find p (take i xs)) (cond (p (get_or xs i d)) (Some (get_or xs i d)) None)
+
+nothing_else : {X : Type 0} (o q : Option X) → is_some o ≡ false → or_else o q ≡ q
+nothing_else None q h = refl
+nothing_else (Some x) q h = cc
+
+none_more : {X : Type 0} (o : Option X) → or_else o None ≡ o
+none_more None = refl
+none_more (Some x) = refl
+
+-- one more write sets the text at its key
+pub text_more : (ws : List Write) (i : ℕ) (w : Write) (t k : List ℕ) (start before after text : Option (List ℕ)) → IsOrdered write_place ws → i < length ws → w ≡ get_or ws i w → text ≡ w.text
+    → before ≡ written (take i ws) t k start → after ≡ cond (same_place (write_place w) (place_of t k)) text before → after ≡ written (take (i + 1) ws) t k start
+text_more ws i w t k start before after text o lt is text_is first second =
+    let p = λ (v : Write). same_place (write_place v) (place_of t k) in
+    let more : find p (take (suc i) ws) ≡ or_else (find p (take i ws)) (cond (p w) (Some w) None) =
+    find_next p ws i w lt ∙ ap (λ (v : Write). or_else (find p (take i ws)) (cond (p v) (Some v) None)) (sym is) in
+    rw add-one (elim (cases_Bool (same_place (write_place w) (place_of t k))) [
+      | inl e ↦ (let at : write_place w ≡ place_of t k = place_is (write_place w) (place_of t k) e in
+          let none : is_some (find p (take i ws)) ≡ false = ap (λ (q : Place). is_some (find (λ (v : Write). same_place (write_place v) q) (take i ws))) (sym at) ∙ not_written ws i w o lt is in
+          second ∙ ap (λ b. cond b text before) e ∙ text_is
+          ∙ sym (ap (λ f. option_map_or (λ (v : Write). v.text) f start) (more ∙ nothing_else (find p (take i ws)) (cond (p w) (Some w) None) none ∙ ap (λ b. cond b (Some w) None) e)))
+      | inr e ↦ (second ∙ ap (λ b. cond b text before) e ∙ first
+          ∙ sym (ap (λ f. option_map_or (λ (v : Write). v.text) f start) (more ∙ ap (λ b. or_else (find p (take i ws)) (cond b (Some w) None)) e ∙ none_more (find p (take i ws)))))
+    ])
+
+-- the text of a write stands first among those that are left
+pub text_first : (ws : List Write) (texts : List (Option (List ℕ))) (i : ℕ) (w : Write) → i < length ws → w ≡ get_or ws i w → take (length ws) texts ≡ map (λ (v : Write). v.text) ws
+    → (0 < length (drop i texts)) × ((d : Option (List ℕ)) → get_or (drop i texts) 0 d ≡ w.text)
+text_first ws texts i w lt is are =
+    let long = ap length are ∙ length-map ws (λ (v : Write). v.text) in
+    let least = length-take (length ws) texts in
+    let left = length-drop i texts in
+    let at : i + 0 ≡ i = omega arith in (
+      omega (arith, long, least, left, lt),
+      λ d.
+          get_or-drop i texts 0 d ∙ ap (λ n. get_or texts n d) at ∙ sym (get_or-take (length ws) texts i d lt) ∙ ap (λ l. get_or l i d) are
+          ∙ get_or-map (λ (v : Write). v.text) ws i w d lt ∙ ap (λ (v : Write). v.text) (sym is),
+    )

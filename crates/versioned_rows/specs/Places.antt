@@ -1,8 +1,8 @@
 -- Places with their writes, and the rows before a place.
-use Rattle.std.specs.Prelude.{ℕ, Bool, List, ◌∷◌, ◌++◌, Option, Some, not, fold, filter, map, is_some}
-use Rattle.std.specs.List.{find}
+use Rattle.std.specs.Prelude.{ℕ, Bool, List, ◌∷◌, ◌++◌, Option, Some, not, fold, filter, map, is_some, option_map, slice_get}
+use Rattle.std.specs.List.{find, flat_map, list_any}
 use Rattle.lang_core.specs.Places.{Place, place_of, same_place}
-use Rattle.lang_core.specs.Rows.{apply, cell_place, write_place}
+use Rattle.lang_core.specs.Rows.{apply, write_place}
 use Rattle.lang_core.specs.declared.cells.Cell.{Cell}
 use Rattle.lang_core.specs.declared.writes.Write.{Write}
 use Rattle.place_order.specs.Rising.{is_before}
@@ -42,10 +42,18 @@ keys_of writes = map write_place writes
 abbrev pub is_written : List ℕ → List ℕ → List Write → Bool
 is_written t k writes = is_among write_place t k writes
 
--- whether these have a cell at the key
-abbrev pub is_held : List ℕ → List ℕ → List Cell → Bool
-is_held t k cells = is_among cell_place t k cells
-
 -- the labels of the places that write the key
 abbrev pub writers : List ℕ → List ℕ → List PlaceWrites → List ℕ
 writers t k places = map label_of (filter (λ p. is_written t k p.writes) places)
+
+-- whether one of these places writes the key
+abbrev pub is_written_by : List ℕ → List ℕ → List PlaceWrites → Bool
+is_written_by t k places = list_any (λ (p : PlaceWrites). is_written t k p.writes) places
+
+-- the texts that these places wrote, one after the other
+abbrev pub texts_of : List PlaceWrites → List (Option (List ℕ))
+texts_of places = flat_map (λ (p : PlaceWrites). map (λ (w : Write). w.text) p.writes) places
+
+-- the label of the place behind so many; none where that is the end
+abbrev pub label_behind : ℕ → List PlaceWrites → Option ℕ
+label_behind n places = option_map label_of (slice_get places n)

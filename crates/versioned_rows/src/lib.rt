@@ -2,7 +2,7 @@
 //! Before all places stand base rows, which are none at first.
 #![tactic(auto)]
 
-mod base;
+mod fold;
 mod places;
 mod room;
 mod rows;

@@ -1,5 +1,5 @@
 // Places with their writes, and the rows that name them.
-ghost use Rattle.std.specs.Prelude.{ℕ, List, ◌≡◌, ◌↔◌, ◌+◌, ◌<◌, ◌≤◌, None, Some, true, IsTrue, IfSome, drop, filter, length, slice_index_or, find, position, nat_eq, map, vec_len, vec_capacity, if◌then◌else◌};
+ghost use Rattle.std.specs.Prelude.{ℕ, List, ◌≡◌, ◌↔◌, ◌+◌, ◌<◌, ◌≤◌, None, Some, true, IsTrue, IfSome, length, slice_index_or, find, position, nat_eq, map, vec_len, vec_capacity, if◌then◌else◌};
 ghost use Rattle.std.specs.List.{Contains, AllByRecursion};
 ghost use Rattle.std.specs.Option.{option_copied};
 ghost use Rattle.lang_core.specs.Places.{IsOrdered};
@@ -105,55 +105,6 @@ pub(crate) fn take_out(
             drop_labels(rows, place.writes.as_slice(), label);
         }
     }
-}
-
-// Takes the label of a place out of the row of each key that it wrote.
-fn drop_place(rows: &mut KeyRows, place: &PlaceWrites)
-    requires { IsOrdered row_place rows.old.items }
-    ensures ordered { IsOrdered row_place rows.new.items }
-    ensures each { (t k : List ℕ) → labels_in rows.new.items t k
-        ≡ (if is_written t k place.now.writes then filter (is_other place.now.label) (labels_in rows.old.items t k) else labels_in rows.old.items t k) }
-    ensures spare { (t k : List ℕ) → spare_in rows.old.items t k ≤ spare_in rows.new.items t k }
-    ensures rows { KeepsRows rows.old.items rows.new.items }
-{
-    drop_labels(rows, place.writes.as_slice(), place.label);
-}
-
-// Takes the labels of so many of the first places out of the rows.
-fn drop_first(places: &[PlaceWrites], rows: &mut KeyRows, n: usize)
-    requires indexed { IsIndexed places.now rows.old.items }
-    requires within { n ≤ length places.now }
-    ensures indexed { IsIndexed (drop n places.now) rows.new.items }
-    ensures spare { (t k : List ℕ) → spare_in rows.old.items t k ≤ spare_in rows.new.items t k }
-    ensures rows { KeepsRows rows.old.items rows.new.items }
-{
-    for at in 0..n {
-        drop_place(rows, &places[at]);
-    }
-}
-
-fn drop_front(places: &mut Vec<PlaceWrites>, n: usize)
-    requires { n ≤ vec_len places.old }
-    ensures items { places.new.items ≡ drop n places.old.items }
-    ensures len { vec_len places.new ≤ vec_len places.old }
-    ensures capacity { vec_capacity places.old ≤ vec_capacity places.new }
-{
-    let _ = places.drain(..n);
-}
-
-/// Takes so many of the first places out.
-pub(crate) fn take_first(places: &mut Vec<PlaceWrites>, rows: &mut KeyRows, n: usize)
-    requires indexed { IsIndexed places.old.items rows.old.items }
-    requires within { n ≤ vec_len places.old }
-    ensures places { places.new.items ≡ drop n places.old.items }
-    ensures indexed { IsIndexed places.new.items rows.new.items }
-    ensures spare { (t k : List ℕ) → spare_in rows.old.items t k ≤ spare_in rows.new.items t k }
-    ensures rows { KeepsRows rows.old.items rows.new.items }
-    ensures len { vec_len places.new ≤ vec_len places.old }
-    ensures capacity { vec_capacity places.old ≤ vec_capacity places.new }
-{
-    drop_first(places, rows, n);
-    drop_front(places, n);
 }
 
 // Puts in the place of a label that isn't there, where there is room for it.

@@ -12,7 +12,7 @@ ghost use Rattle.key_labels.specs.declared.rows.KeyLabels.{KeyLabels};
 use crate::places::PlaceWrites;
 use crate::rows::make_rows;
 use key_labels::KeyRows;
-use lang_core::{Cells, Copied, NoMemory, Same, SharedWrites};
+use lang_core::{Copied, NoMemory, Same, SharedWrites};
 use lang_lists::take_room;
 use std::alloc::Global;
 
@@ -21,8 +21,6 @@ use std::alloc::Global;
 pub enum VersionsCall {
     /// The writes of a place, whichever it is.
     WriteAt { writes: SharedWrites },
-    /// The rows before all places.
-    InsertBase { cells: Cells },
 }
 
 fn is_write(call: &VersionsCall, writes: &SharedWrites) -> bool
@@ -30,7 +28,6 @@ fn is_write(call: &VersionsCall, writes: &SharedWrites) -> bool
 {
     match call {
         VersionsCall::WriteAt { writes: own } => own.is(writes),
-        VersionsCall::InsertBase { .. } => false,
     }
 }
 
@@ -51,7 +48,6 @@ fn writes_of(call: VersionsCall) -> Option<SharedWrites>
 {
     match call {
         VersionsCall::WriteAt { writes } => Some(writes),
-        VersionsCall::InsertBase { .. } => None,
     }
 }
 

@@ -1,5 +1,5 @@
 // Versions: what each place wrote, and for each key the places that write it.
-ghost use Rattle.std.specs.Prelude.{ℕ, List, ◌≡◌, ◌↔◌, ◌+◌, ◌<◌, ◌≤◌, slice_index_or, ◌++◌, false, ◌∷◌, [], length, map, drop, IfOk, IsTrue, IsOk, OnOk, OnErr};
+ghost use Rattle.std.specs.Prelude.{ℕ, List, ◌≡◌, ◌↔◌, ◌+◌, ◌<◌, ◌≤◌, slice_index_or, ◌++◌, false, ◌∷◌, [], length, map, drop, take, IfOk, IsTrue, IsOk, OnOk, OnErr};
 ghost use Rattle.std.specs.List.{All, Contains};
 ghost use Rattle.std.specs.Option.{option_copied, ForSome};
 ghost use Rattle.lang_core.specs.Places.{IsOrdered};
@@ -9,15 +9,13 @@ ghost use Rattle.key_labels.specs.Rows.{row_place};
 ghost use Rattle.versioned_rows.specs.Scans.{is_under, while, cell_at, row_cells};
 ghost use Rattle.lang_lists.specs.Room.{is_made, spend};
 ghost use Rattle.place_order.specs.Rising.{IsRising};
-ghost use Rattle.versioned_rows.specs.Places.{label_of, without, with_place, writers};
-ghost use Rattle.versioned_rows.specs.Versions.{call_code, write_call, base_call, rows_before_label, NamesWriters};
+ghost use Rattle.versioned_rows.specs.Places.{label_of, rows_after, texts_of, without, with_place};
+ghost use Rattle.versioned_rows.specs.Versions.{call_code, write_call, rows_before_label, IsRowOf};
 
-use crate::base::{ready_base, take_base, text_in};
-use crate::places::{
-    PlaceWrites, find_place, position_of, put_instead, take_first, take_out, text_at,
-};
+use crate::fold::{fold_places, texts_of};
+use crate::places::{PlaceWrites, find_place, position_of, put_instead, take_out, text_at};
 use crate::room::{VersionsCall, ready_writes, take_writes};
-use key_labels::{KeyLabels, KeyRows, copied_rows, count_before, labels_in, position_in};
+use key_labels::{KeyLabels, KeyRows, copied_rows, count_before, find_row, position_in};
 use lang_base::copied_items;
 use lang_core::{
     Cell, Cells, Copied, MOST_SCAN_BYTES, MOST_SCAN_CELLS, NoMemory, Placed, Same, SharedWrites,
@@ -25,6 +23,7 @@ use lang_core::{
 };
 use place_order::Order;
 use std::alloc::Global;
+use std::collections::VecDeque;
 use std::marker::Model;
 
 /// What each place of an order wrote, which contracts see as the list of the places with their writes, in order, the rows
@@ -32,9 +31,8 @@ use std::marker::Model;
 ///
 /// The order is the caller's: each call that takes one asks that the labels of the list rise in it.
 pub struct Versions {
-    base: Cells,
     places: Vec<PlaceWrites>,
-    // By table and key, those of base rows among them. A row stays when its last label goes.
+    // By table and key, with the text of the key before all places. A row stays when its last label goes.
     rows: KeyRows,
     // The slot of the last row that was made or looked for to be made: who makes room for a key puts a label there next.
     near: usize,
@@ -44,7 +42,6 @@ pub struct Versions {
 impl Drop for Versions {
     fn drop(self) {
         let Self {
-            base: _,
             places: _,
             rows: _,
             near: _,
@@ -55,14 +52,13 @@ impl Drop for Versions {
 
 impl Model for Versions {
     ghost use Rattle.std.specs.Prelude.{◌+◌, ◌≤◌, vec_len, vec_capacity};
-    ghost use Rattle.versioned_rows.specs.Versions.{KeptVersions, IsBased, IsIndexed, IsCovered};
+    ghost use Rattle.versioned_rows.specs.Versions.{KeptVersions, base_cells, IsIndexed, IsCovered};
 
     ghost Value = { KeptVersions };
 
-    ghost view = { λ v. record { base = v.base; versions = v.places.items; room = v.room.items } };
+    ghost view = { λ v. record { base = base_cells v.rows.items; versions = v.places.items; room = v.room.items } };
 
     ghost invariant = { λ v. IsIndexed v.places.items v.rows.items
-        × IsBased v.base v.rows.items
         × (vec_len v.places + vec_len v.room ≤ vec_capacity v.places)
         × IsCovered v.room.items v.rows.items };
 }
@@ -124,7 +120,6 @@ impl Versions {
         ensures room { result.room ≡ [] }
     {
         Versions {
-            base: Cells::new(alloc),
             places: Vec::new(alloc),
             rows: KeyRows::new(alloc),
             near: 0,
@@ -140,21 +135,12 @@ impl Versions {
     {
         let places = copied_items(alloc, &self.places)?;
         let rows = copied_rows(alloc, &self.rows)?;
-        let base = self.base.copied(alloc)?;
         Ok(Versions {
-            base,
             places,
             rows,
             near: 0,
             room: Vec::new(alloc),
         })
-    }
-
-    /// The rows before all places.
-    pub fn base(&self) -> &Cells
-        ensures { result.now ≡ self.now.base }
-    {
-        &self.base
     }
 
     /// The places with what they wrote, in order.
@@ -177,42 +163,34 @@ impl Versions {
         requires label { ForSome label (Contains order.now.labels) }
         ensures { option_copied result ≡ get (rows_before_label order.now.labels label self.now) table.now key.now }
     {
-        let labels = labels_in(&self.rows, table, key);
-        self.last_text(order, label, labels, table, key)
+        match find_row(&self.rows, table, key) {
+            None => None,
+            Some(row) => self.text_of_row(order, label, row),
+        }
     }
 
-    // The text that the last of these labels before one wrote to a key, which are those of all places that write it.
-    fn last_text(
-        &self,
+    // The text at the key of a row, which isn't looked for: that of the last of its labels before one, or the one before all
+    // labels.
+    fn text_of_row<'a>(
+        &'a self,
         order: &Order,
         label: Option<u64>,
-        labels: &[u64],
-        table: &Text,
-        key: &Text,
-    ) -> Option<&Text>
+        row: &'a KeyLabels,
+    ) -> Option<&'a Text>
         requires rising { IsRising order.now.labels (map label_of self.now.versions) }
         requires label { ForSome label (Contains order.now.labels) }
-        requires labels { labels.now ≡ writers table.now key.now self.now.versions }
-        ensures { option_copied result ≡ get (rows_before_label order.now.labels label self.now) table.now key.now }
-    {
-        let n = count_before(order, labels, label);
-        if n == 0 {
-            return text_in(self.base.as_slice(), table, key);
-        }
-        match find_place(order, &self.places, labels[n - 1]) {
-            None => None,
-            Some(place) => text_at(&place.writes, table, key),
-        }
-    }
-
-    // The text at the key of a row, which isn't looked for.
-    fn text_of_row(&self, order: &Order, label: Option<u64>, row: &KeyLabels) -> Option<&Text>
-        requires rising { IsRising order.now.labels (map label_of self.now.versions) }
-        requires label { ForSome label (Contains order.now.labels) }
-        requires held { NamesWriters self.now.versions row.now }
+        requires held { IsRowOf self.now row.now }
         ensures { option_copied result ≡ get (rows_before_label order.now.labels label self.now) row.now.table row.now.key }
     {
-        self.last_text(order, label, row.labels(), row.table(), row.key())
+        let own = row.labels();
+        let n = count_before(order, own, label);
+        if n == 0 {
+            return row.base();
+        }
+        match find_place(order, &self.places, own[n - 1]) {
+            None => None,
+            Some(place) => text_at(&place.writes, row.table(), row.key()),
+        }
     }
 
     fn cell_before(
@@ -224,7 +202,7 @@ impl Versions {
     ) -> Result<Option<Cell>, NoMemory>
         requires rising { IsRising order.now.labels (map label_of self.now.versions) }
         requires label { ForSome label (Contains order.now.labels) }
-        requires held { NamesWriters self.now.versions row.now }
+        requires held { IsRowOf self.now row.now }
         ensures { IfOk result (λ cell. cell ≡ cell_at (rows_before_label order.now.labels label self.now) row.now) }
     {
         match self.text_of_row(order, label, row) {
@@ -247,7 +225,7 @@ impl Versions {
         requires rising { IsRising order.now.labels (map label_of self.now.versions) }
         requires label { ForSome label (Contains order.now.labels) }
         requires rows { IsOrdered row_place rows.now.items }
-        requires held { All (NamesWriters self.now.versions) rows.now.items }
+        requires held { All (IsRowOf self.now) rows.now.items }
         requires from { from ≤ length rows.now.items }
         ensures { IfOk result (λ found. found ≡ kept_from 0 0 (row_cells (rows_before_label order.now.labels label self.now)
             (while (is_under table.now prefix.now) (drop from rows.now.items)))) }
@@ -293,6 +271,44 @@ impl Versions {
         self.scanned(alloc, order, label, table, prefix, &self.rows, from)
     }
 
+    // The cells at the keys of all rows.
+    fn all_cells(
+        &self,
+        alloc: Global,
+        order: &Order,
+        label: Option<u64>,
+        rows: &KeyRows,
+    ) -> Result<Cells, NoMemory>
+        requires rising { IsRising order.now.labels (map label_of self.now.versions) }
+        requires label { ForSome label (Contains order.now.labels) }
+        requires rows { IsOrdered row_place rows.now.items }
+        requires held { All (IsRowOf self.now) rows.now.items }
+        ensures { IfOk result (λ cells. cells ≡ row_cells (rows_before_label order.now.labels label self.now) rows.now.items) }
+    {
+        let mut cells = Cells::new(alloc);
+        for place in 0..rows.len() {
+            match self.cell_before(alloc, order, label, rows.at(place))? {
+                None => {}
+                Some(cell) => cells.push(cell)?,
+            }
+        }
+        Ok(cells)
+    }
+
+    /// The rows that the writes of all places before this one make of the base rows, or of all places where there is none.
+    pub fn rows_before(
+        &self,
+        alloc: Global,
+        order: &Order,
+        label: Option<u64>,
+    ) -> Result<Cells, NoMemory>
+        requires rising { IsRising order.now.labels (map label_of self.now.versions) }
+        requires label { ForSome label (Contains order.now.labels) }
+        ensures { IfOk result (λ cells. cells ≡ rows_before_label order.now.labels label self.now) }
+    {
+        self.all_cells(alloc, order, label, &self.rows)
+    }
+
     // Whether these are the cells at the keys of the rows from a place on, as long as they are under the prefix, and up to the one
     // that is too much.
     fn agrees(
@@ -307,7 +323,7 @@ impl Versions {
     ) -> bool
         requires rising { IsRising order.now.labels (map label_of self.now.versions) }
         requires label { ForSome label (Contains order.now.labels) }
-        requires held { All (NamesWriters self.now.versions) rows.now.items }
+        requires held { All (IsRowOf self.now) rows.now.items }
         requires from { from ≤ length rows.now.items }
         ensures { IsTrue result ↔ (found.now ≡ kept_from 0 0 (row_cells (rows_before_label order.now.labels label self.now)
             (while (is_under table.now prefix.now) (drop from rows.now.items)))) }
@@ -372,14 +388,25 @@ impl Versions {
         take_out(&mut self.places, &mut self.rows, label, stands);
     }
 
-    /// Takes so many of the first places out. No other place changes, nor do the rows before all places.
-    pub fn forget_first(&mut self, n: usize)
-        requires { n ≤ length self.old.versions }
+    /// The texts that so many of the first places wrote, one after the other, for a `fold_first` that takes no memory.
+    pub fn first_texts(&self, alloc: Global, n: usize) -> Result<VecDeque<Option<Text>>, NoMemory>
+        requires { n ≤ length self.now.versions }
+        ensures { IfOk result (λ texts. texts.items ≡ texts_of (take n self.now.versions)) }
+    {
+        texts_of(alloc, &self.places[..n])
+    }
+
+    /// Takes so many of the first places out, whose texts are these: what they wrote is among the rows before all places
+    /// then. No other place changes.
+    pub fn fold_first(&mut self, order: &Order, n: usize, texts: VecDeque<Option<Text>>)
+        requires rising { IsRising order.now.labels (map label_of self.old.versions) }
+        requires within { n ≤ length self.old.versions }
+        requires texts { texts.items ≡ texts_of (take n self.old.versions) }
         ensures versions { self.new.versions ≡ drop n self.old.versions }
-        ensures base { self.new.base ≡ self.old.base }
+        ensures base { self.new.base ≡ rows_after self.old.base (take n self.old.versions) }
         ensures room { self.new.room ≡ self.old.room }
     {
-        take_first(&mut self.places, &mut self.rows, n);
+        fold_places(order, &mut self.places, &mut self.rows, n, texts);
     }
 
     /// Puts these writes at the place of a label, instead of those that it had. No other place changes. Refused, none
@@ -436,35 +463,6 @@ impl Versions {
             &mut self.near,
             &mut self.room,
             writes,
-        )
-    }
-
-    /// Sets the rows before all places, instead of those that stood there. No place changes. Refused, nothing does.
-    pub fn insert_base(&mut self, alloc: Global, cells: &Cells) -> Result<(), NoMemory>
-        ensures ok { OnOk result (self.new.base ≡ cells.now) }
-        ensures err { OnErr result (self.new.base ≡ self.old.base) }
-        ensures versions { self.new.versions ≡ self.old.versions }
-        ensures room { self.new.room ≡ spend call_code (base_call cells.now) self.old.room }
-        ensures ready { IsTrue (is_made call_code (base_call cells.now) self.old.room) → IsOk result }
-    {
-        self.base = take_base(alloc, &mut self.rows, &mut self.near, &mut self.room, cells)?;
-        Ok(())
-    }
-
-    /// Makes room for an `insert_base` of these rows.
-    pub fn ready_insert_base(&mut self, alloc: Global, cells: &Cells) -> Result<(), NoMemory>
-        ensures versions { self.new.versions ≡ self.old.versions }
-        ensures base { self.new.base ≡ self.old.base }
-        ensures ok { OnOk result (self.new.room ≡ self.old.room ++ base_call cells.now ∷ []) }
-        ensures err { OnErr result (self.new.room ≡ self.old.room) }
-    {
-        ready_base(
-            alloc,
-            &mut self.places,
-            &mut self.rows,
-            &mut self.near,
-            &mut self.room,
-            cells,
         )
     }
 }

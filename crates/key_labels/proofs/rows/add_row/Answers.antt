@@ -24,7 +24,7 @@ as_they_were c =
     ap (in_order c.rows.inside.order.items) c.ready_slot.ensures.slots ∙ ap (λ v. v.items) c.rows.view_is
 
 goes : (c : goal.In_ok-put_new) → GoesAt (before c) c.args.table.now c.args.key.now c.args.at c.in_ok-row.row
-goes c = new_goes (as_they_were c) c.requires.ordered c.requires.free c.in_ok-row.ensures.table c.in_ok-row.ensures.key c.in_ok-row.ensures.labels
+goes c = new_goes (as_they_were c) c.requires.ordered c.requires.free c.in_ok-row.ensures.table c.in_ok-row.ensures.key c.in_ok-row.ensures.base c.in_ok-row.ensures.labels
 
 pub returns-clause-ordered : goal.returns-clause-ordered
 returns-clause-ordered c = let P : List KeyLabels → Type 0 = λ l. IsOrdered row_place l in subst P (sym c.in_ok-put_new.ensures.ok) (new_ordered (goes c))

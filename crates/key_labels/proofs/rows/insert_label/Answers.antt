@@ -32,7 +32,7 @@ returns-in-Ok-clause-spare c =
 pub returns-in-Ok-clause-rows : goal.returns-in-Ok-clause-rows
 returns-in-Ok-clause-rows c =
     let s = stands_in (ap (λ v. v.items) c.rows.view_is) c.rows.invariant c.requires.ordered c.in-Ok.ensures c.index_mut.ensures.value in
-    slot_rows s c.insert.new.self c.insert.ensures.place
+    slot_rows s c.insert.new.self c.insert.ensures.place c.insert.ensures.base
 
 pub returns-in-Ok-clause-edited : goal.returns-in-Ok-clause-edited
 returns-in-Ok-clause-edited c =

@@ -21,7 +21,7 @@ returns-in-Ok-clause-kept c =
 pub returns-in-Ok-clause-rows : goal.returns-in-Ok-clause-rows
 returns-in-Ok-clause-rows c =
     let s = stands_in (ap (λ v. v.items) c.rows.view_is) c.rows.invariant c.requires c.in-Ok.ensures c.index_mut.ensures.value in
-    slot_rows s c.reserve.new.self c.reserve.ensures.place
+    slot_rows s c.reserve.new.self c.reserve.ensures.place c.reserve.ensures.base
 
 pub returns-in-Ok-clause-row : goal.returns-in-Ok-clause-row
 returns-in-Ok-clause-row c =

@@ -1,7 +1,7 @@
 use Rattle.std.proofs.Common.{ℕ, List, ◌≡◌, ◌≤◌, true, take}
 use Rattle.lang_core.specs.Places.{IsOrdered}
 use Rattle.versioned_rows.specs.Places.{is_among}
-use Rattle.key_labels.specs.Rows.{labels_in, row_place, spare_in, has_row, KeepsRows}
+use Rattle.key_labels.specs.Rows.{labels_in, row_place, spare_in, KeepsRows}
 use Rattle.versioned_rows.proofs.rows.make_rows.Given as goal
 
 abbrev pub invariant-loop-item : goal.invariant-loop-item
@@ -11,5 +11,4 @@ invariant-loop-item g l = record {
   kept : (t k : List ℕ) → spare_in l.initial.rows.items t k ≤ spare_in l.rows.items t k;
   rows : KeepsRows l.initial.rows.items l.rows.items;
   spare : (t k : List ℕ) → is_among g.T.Placed.place t k (take l.item-index l.items) ≡ true → l.spare ≤ spare_in l.rows.items t k;
-  keys : (t k : List ℕ) → is_among g.T.Placed.place t k (take l.item-index l.items) ≡ true → has_row l.rows.items t k ≡ true;
 }

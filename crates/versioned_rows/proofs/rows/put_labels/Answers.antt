@@ -2,6 +2,7 @@ use Rattle.std.proofs.Common.{◌<◌, ℕ, List, length, sym, subst, arith}
 use Rattle.place_order.specs.Rising.{IsRising}
 use Rattle.key_labels.specs.Labels.{with_label}
 use Rattle.versioned_rows.proofs.WriteLemmas.{unedited, edit_more, spare_less, spare_left}
+use Rattle.key_labels.proofs.EditLemmas.{keeps_both}
 use Rattle.versioned_rows.proofs.rows.put_labels.Goals as goal
 
 pub put_label-requires-clause-spare : goal.put_label-requires-clause-spare
@@ -28,5 +29,5 @@ loop-write-preserved c =
       ordered = c.put_label.ensures.ordered;
       each = edit_more (with_label c.args.order.now.labels c.args.label) c.args.rows.now.items c.loop-write.rows.items c.put_label.new.rows.items ws i w c.requires.writes lt c.write-item.is c.loop-write.invariant.each c.put_label.ensures.edited;
       spare = spare_less c.args.rows.now.items c.loop-write.rows.items c.put_label.new.rows.items ws i w lt c.write-item.is c.requires.writes c.loop-write.invariant.spare c.put_label.ensures.spare;
-      rows = λ t k h. c.put_label.ensures.rows t k (c.loop-write.invariant.rows t k h);
+      rows = keeps_both c.args.rows.now.items c.loop-write.rows.items c.put_label.new.rows.items c.loop-write.invariant.rows c.put_label.ensures.rows;
     }

@@ -4,7 +4,7 @@ use Rattle.std.proofs.lemmas.List.{length-take-le}
 use Rattle.std.proofs.lemmas.List.Elements.{All-get_or}
 use Rattle.lang_core.specs.Rows.{is_over, cell_size, kept_from}
 use Rattle.lang_core.specs.declared.cells.Cell.{Cell}
-use Rattle.versioned_rows.specs.Versions.{rows_before_label, NamesWriters}
+use Rattle.versioned_rows.specs.Versions.{rows_before_label, IsRowOf}
 use Rattle.key_labels.specs.declared.rows.KeyLabels.{KeyLabels}
 use Rattle.versioned_rows.specs.Scans.{is_under, while, cell_at, row_cells}
 use Rattle.versioned_rows.proofs.AgreeLemmas.{take_next, whole}
@@ -14,7 +14,7 @@ use Rattle.versioned_rows.proofs.versions.Versions.agrees.Goals.{in-None, in-Som
 
 pub text_of_row-requires-clause-held : goal.text_of_row-requires-clause-held
 text_of_row-requires-clause-held c =
-    let P : KeyLabels → Type 0 = NamesWriters c.args.self.now.versions in
+    let P : KeyLabels → Type 0 = IsRowOf c.args.self.now in
     let lt : c.loop-place.place < length c.args.rows.now.items = omega arith in
     subst P (sym c.at-row.ensures) (All-get_or P c.args.rows.now.items c.loop-place.place c.at-row.result.now lt c.requires.held)
 

@@ -2,7 +2,7 @@ use Rattle.std.proofs.Common.{◌≡◌, ◌<◌, ◌+◌, ◌++◌, ◌∷◌, 
 use Rattle.std.proofs.lemmas.List.Elements.{All-get_or}
 use Rattle.lang_core.specs.Rows.{is_over, cell_size, kept_from}
 use Rattle.lang_core.specs.declared.cells.Cell.{Cell}
-use Rattle.versioned_rows.specs.Versions.{rows_before_label, NamesWriters}
+use Rattle.versioned_rows.specs.Versions.{rows_before_label, IsRowOf}
 use Rattle.key_labels.specs.declared.rows.KeyLabels.{KeyLabels}
 use Rattle.versioned_rows.specs.Scans.{is_under, while, cell_at, row_cells}
 use Rattle.versioned_rows.proofs.CellLemmas.{next_ordered, last_cell, next_cell, no_cell, kept_ordered, drop_ordered, stops, stopped, past_all}
@@ -11,7 +11,7 @@ use Rattle.versioned_rows.proofs.versions.Versions.scanned.Goals.{in-Some+in_ok-
 
 pub cell_before-requires-clause-held : goal.cell_before-requires-clause-held
 cell_before-requires-clause-held c =
-    let P : KeyLabels → Type 0 = NamesWriters c.args.self.now.versions in
+    let P : KeyLabels → Type 0 = IsRowOf c.args.self.now in
     let lt : c.loop-place.place < length c.args.rows.now.items = omega arith in
     subst P (sym c.at-row.ensures) (All-get_or P c.args.rows.now.items c.loop-place.place c.at-row.result.now lt c.requires.held)
 
