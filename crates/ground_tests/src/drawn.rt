@@ -100,6 +100,15 @@ impl Plain {
         Ok(rows)
     }
 
+    // The rows behind a place become those before all, and it and all before it wrote nothing any more.
+    fn fold(&mut self, alloc: Global, last: u64) -> Result<(), NoMemory> {
+        self.base = self.rows_before(alloc, last.saturating_add(1))?;
+        for place in 0..last.saturating_add(1) {
+            self.put(place, SharedWrites::new());
+        }
+        Ok(())
+    }
+
     fn put(&mut self, place: u64, writes: SharedWrites) {
         match self.places.get_mut(place as usize) {
             None => {}
@@ -190,19 +199,25 @@ fn write_at(
     Ok(())
 }
 
-// The rows before a place become those before all places.
-fn set_base(
+// The first places are folded, up to one: the rows that they left become those before all places.
+fn fold_first(
     alloc: Global,
+    order: &Order,
     versions: &mut Versions,
     plain: &mut Plain,
-    place: u64,
+    label: u64,
 ) -> Result<(), NoMemory>
-    ensures { versions.new.versions ≡ versions.old.versions }
+    requires rising { IsRising order.now.labels (map label_of versions.old.versions) }
+    ensures { OnOk result (IsRising order.now.labels (map label_of versions.new.versions)) }
 {
-    let rows = plain.rows_before(alloc, place)?;
-    versions.ready_insert_base(alloc, &rows)?;
-    versions.insert_base(alloc, &rows)?;
-    plain.base = rows;
+    let n = versions
+        .as_slice()
+        .iter()
+        .take_while(|place| place.label <= label)
+        .count();
+    let texts = versions.first_texts(alloc, n)?;
+    plain.fold(alloc, label)?;
+    versions.fold_first(order, n, texts);
     Ok(())
 }
 
@@ -221,7 +236,7 @@ fn change(
 {
     match draws.below(8) {
         0 => {
-            set_base(alloc, versions, plain, place)?;
+            fold_first(alloc, order, versions, plain, label)?;
             Ok(())
         }
         1 => {

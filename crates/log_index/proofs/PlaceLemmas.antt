@@ -12,11 +12,11 @@ use Rattle.lang_core.specs.declared.cells.Cell.{Cell}
 use Rattle.lang_core.specs.declared.writes.Write.{Write}
 use Rattle.place_order.specs.Labels.{place_in}
 use Rattle.place_order.specs.Rising.{IsBeforeAll, IsRising, is_before}
-use Rattle.versioned_rows.specs.Places.{label_of, rows_after, before, without, with_place}
+use Rattle.versioned_rows.specs.Places.{label_of, rows_after, before, without, with_place, texts_of as place_texts}
 use Rattle.dependency_index.specs.HandedOn.{is_other}
 use Rattle.versioned_rows.specs.Versions.{KeptVersions, rows_before_label}
 use Rattle.versioned_rows.specs.declared.places.PlaceWrites.{PlaceWrites}
-use Rattle.log_index.specs.Rows.{KeptWrites, rows_made, rows_before, writes_of, label_at}
+use Rattle.log_index.specs.Rows.{KeptWrites, rows_made, rows_before, writes_of, label_at, texts_of}
 
 passes_by : {X : Type 0} (p : X → Bool) (x : X) (xs : List X) → p x ≡ true → filter p xs ≡ xs → filter p (x ∷ xs) ≡ x ∷ xs
 passes_by p x xs e h = rw e (ap (λ l. x ∷ l) h)
@@ -156,3 +156,9 @@ rows_seen order vs place label kept based r at same =
 pub rows_behind : (base rows : List Cell) (ws : List (List Write)) (n place : ℕ) → rows ≡ rows_made base (take n ws) → rows_made rows (take place (drop n ws)) ≡ rows_made base (take (n + place) ws)
 rows_behind base rows ws n place is =
     ap (λ b. rows_made b (take place (drop n ws))) is ∙ sym (fold-append apply base (take n ws) (take place (drop n ws))) ∙ ap (rows_made base) (sym (take-add n place ws))
+
+-- the texts of places are those of their writes
+pub texts_same : (n : ℕ) (ps : List PlaceWrites) → texts_of (take n (writes_of ps)) ≡ place_texts (take n ps)
+texts_same zero ps = refl
+texts_same (suc n) [] = refl
+texts_same (suc n) (p ∷ ps) = ap (λ l. map (λ (w : Write). w.text) p.writes ++ l) (texts_same n ps)

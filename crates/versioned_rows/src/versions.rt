@@ -404,6 +404,7 @@ impl Versions {
         requires texts { texts.items ≡ texts_of (take n self.old.versions) }
         ensures versions { self.new.versions ≡ drop n self.old.versions }
         ensures base { self.new.base ≡ rows_after self.old.base (take n self.old.versions) }
+        ensures rising { IsRising order.now.labels (map label_of self.new.versions) }
         ensures room { self.new.room ≡ self.old.room }
     {
         fold_places(order, &mut self.places, &mut self.rows, n, texts);

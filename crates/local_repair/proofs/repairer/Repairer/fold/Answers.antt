@@ -3,6 +3,7 @@ use Rattle.std.specs.List.{filter_map}
 use Rattle.request_log.specs.Entries.{KeptLog}
 use Rattle.request_log.specs.Folded.{folded_as}
 use Rattle.log_index.specs.Marks.{KeptMarks}
+use Rattle.log_index.specs.Rows.{KeptWrites}
 use Rattle.local_repair.specs.Current.{rows_after}
 use Rattle.local_repair.specs.Repairs.{KeptRepairer}
 use Rattle.local_repair.proofs.FoldLemmas.{kept_folded, kept_same, rows_stay}
@@ -15,7 +16,7 @@ invariant_of-self c =
     let new = c.fold_parts.new in
     let same = c.in_err-fold_parts.ensures in
     kept_same inside.rows.base new.rows.base inside.log.entries new.log.entries inside.rows.writes new.rows.writes inside.marks new.marks inside.calls
-    same.err_base (ap (λ (k : KeptLog). k.entries) same.err) same.err_writes (ap (λ (k : KeptMarks). k.reads) same.err_marks) (ap (λ (k : KeptMarks). k.marks) same.err_marks) c.self.invariant
+    (ap (λ (k : KeptWrites). k.base) same.err_rows) (ap (λ (k : KeptLog). k.entries) same.err) (ap (λ (k : KeptWrites). k.writes) same.err_rows) (ap (λ (k : KeptMarks). k.reads) same.err_marks) (ap (λ (k : KeptMarks). k.marks) same.err_marks) c.self.invariant
 
 pub invariant_of-self-2 : goal.invariant_of-self-2
 invariant_of-self-2 c =
@@ -25,7 +26,7 @@ invariant_of-self-2 c =
     let w = c.requires.within in
     let within : c.args.n ≤ length inside.log.entries = omega arith in
     kept_folded inside.rows.base new.rows.base inside.log.entries new.log.entries inside.rows.writes new.rows.writes inside.marks new.marks c.args.n inside.calls c.self.invariant within
-    (c.in_ok-fold_parts.ensures.base ∙ c.in_ok-rows.ensures ∙ seen_before inside.rows inside.log.entries c.args.n c.self.invariant.tied)
+    (c.in_ok-fold_parts.ensures.base ∙ seen_before inside.rows inside.log.entries c.args.n c.self.invariant.tied)
     c.in_ok-fold_parts.ensures.entries c.in_ok-fold_parts.ensures.writes c.in_ok-fold_parts.ensures.reads c.in_ok-fold_parts.ensures.marks
 
 pub returns-clause-ok : goal.returns-clause-ok
@@ -35,7 +36,7 @@ returns-clause-ok c =
     record {
       entries = c.in_ok-fold_parts.ensures.entries ∙ ap (λ (k : KeptRepairer). drop n k.entries) seen;
       folded = c.in_ok-fold_parts.ensures.folded ∙ ap (λ (k : KeptRepairer). k.folded ++ filter_map folded_as (take n k.entries)) seen;
-      base = c.in_ok-fold_parts.ensures.base ∙ c.in_ok-rows.ensures ∙ seen_before c.self.inside.rows c.self.inside.log.entries n c.self.invariant.tied
+      base = c.in_ok-fold_parts.ensures.base ∙ seen_before c.self.inside.rows c.self.inside.log.entries n c.self.invariant.tied
           ∙ ap (λ (k : KeptRepairer). rows_after k.base (take n k.entries)) seen;
     }
 

@@ -1,18 +1,17 @@
-use Rattle.std.proofs.Common.{take, sym, ap, ◌∙◌}
-use Rattle.std.proofs.lemmas.List.{take-map}
+use Rattle.std.proofs.Common.{ap, ◌∙◌}
 use Rattle.std.proofs.lemmas.Result.{IfOk-weaker}
-use Rattle.versioned_rows.specs.declared.places.PlaceWrites.{PlaceWrites}
-use Rattle.log_index.specs.Rows.{KeptWrites, rows_made, writes_of}
+use Rattle.log_index.specs.Rows.{KeptWrites, label_at}
+use Rattle.log_index.proofs.EditLemmas.{known_label}
+use Rattle.log_index.proofs.PlaceLemmas.{rows_seen}
 use Rattle.log_index.proofs.rows.EntryRows.rows_before.Goals as goal
+
+pub rows_before-requires-clause-label : goal.rows_before-requires-clause-label
+rows_before-requires-clause-label c =
+    let vs = c.self.inside.versions.versions in
+    known_label c.self.inside.order.labels vs c.self.invariant c.args.place c.label_at-label.result (c.label_at-label.ensures ∙ ap (label_at c.args.place) c.as_slice.ensures)
 
 pub returns : goal.returns
 returns c =
-    let now = c.args.self.now in
-    let vs = c.self.inside.versions in
-    let place = c.args.place in
-    let based = c.base.ensures ∙ ap (λ (k : KeptWrites). k.base) c.self.view_is in
-    let front = c.front-places.ensures ∙ ap (take place) c.as_slice.ensures in
-    let wrote = sym (take-map (λ (p : PlaceWrites). p.writes) place vs.versions) ∙ ap (take place) (ap (λ (k : KeptWrites). k.writes) c.self.view_is) in
-    IfOk-weaker c.rows_made.result _ _
-    (λ rows h. h ∙ ap (λ b. rows_made b (writes_of c.front-places.result.now)) based ∙ ap (λ l. rows_made now.base (writes_of l)) front ∙ ap (rows_made now.base) wrote)
-    c.rows_made.ensures
+    let seen = rows_seen c.self.inside.order.labels c.self.inside.versions c.args.place c.label_at-label.result c.args.self.now (ap (λ (k : KeptWrites). k.base) c.self.view_is) c.self.invariant.rising
+    (c.label_at-label.ensures ∙ ap (label_at c.args.place) c.as_slice.ensures) (ap (λ (k : KeptWrites). k.writes) c.self.view_is) in
+    IfOk-weaker c.rows_before.result _ _ (λ rows h. h ∙ seen) c.rows_before.ensures
