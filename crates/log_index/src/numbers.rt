@@ -269,7 +269,7 @@ impl Marks {
         lower_marks(&mut self.numbers, n);
     }
 
-    /// Takes out the marks of so many of the first places, of so many in all, and moves the others down by as many.
+    /// Takes out the marks of the `n` first places, of `count` in all, and moves the others down by `n`.
     pub fn fold(&mut self, n: u64, count: usize)
         requires marks { AreMarks count self.old.items }
         requires within { n ≤ count }

@@ -18,11 +18,10 @@ pub struct OwnFolds {
 
 /// A service, its share of the ledger of rows, the secret with which it seals, whether it is to stop, how many rows its
 /// journal had when the node was opened, and how far it is with folds of its own. Its type keeps that the journal still has as
-/// many, that the share is one part of the
-/// ledger, and that its amount is the number of live requests that the journal answers since then, with that of the orders that
-/// it got; the service's own type keeps that the service fits its journal. So all of it holds whenever somebody gets the lock.
-/// Nothing outside of this crate makes one, copies one, or changes more of it than that it is to stop, and
-/// how far it is with those folds.
+/// many, that the share is one part of the ledger, and that its amount is the number of live requests that the journal answers
+/// since then, with that of the orders that it got; the service's own type keeps that the service fits its journal. So all of
+/// it holds whenever somebody gets the lock. Nothing outside of this crate makes one or copies one. What others change of it
+/// is two things: that it is to stop, and how far it is with folds of its own.
 #[derive(Drop)]
 pub struct NodeState<R: Ledger> {
     pub(crate) service: Service,

@@ -104,7 +104,7 @@ impl<
     }
 }
 
-/// Repairs one service until its node is to stop, and folds its first entries where it keeps no more than so many.
+/// Repairs one service until its node is to stop, and folds its first entries, all but so many, where its setup says how many stay.
 #[derive(Drop)]
 pub struct Repairs<'a, R: Ledger, Q: Ledger, W, D> {
     pub rt: &'a W,
