@@ -40,7 +40,8 @@ looked e = map read_at (reads_of e.made)
 abbrev pub all_looked : List Entry → List (List ReadAt)
 all_looked entries = map looked entries
 
--- what a repairer keeps beside its entries and the rows before them, which stand in order: what they wrote, where they looked, that each which isn't marked can be stale by an answer alone, and whether one may have calls
+-- what a repairer keeps beside its entries and the rows before them, which stand in order: what they wrote, where they looked, which are
+-- marked, and whether one may have calls. An entry that isn't marked can be stale by an answer alone
 pub record IsKept (base : List Cell) (entries : List Entry) (writes : List (List Write)) (marks : KeptMarks) (calls : Bool) : Type 0 where
   pub ordered : IsOrdered cell_place base
   pub tied : writes ≡ all_written entries
