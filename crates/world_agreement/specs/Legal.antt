@@ -9,7 +9,8 @@ use Rattle.local_repair.specs.Current.{rows_after}
 use Rattle.local_repair.specs.Histories.{act_of, trace_of}
 use Rattle.service_events.specs.State.{Kept, base, answers, folded, unfolded}
 
--- a service's log as a history, its folded entries first, with what its calls consume now
+-- a service's log as a history, its folded entries first, with what its calls consume now. Of a folded entry these are the answers that it
+-- keeps, as `IsAsRecorded` has it, so that it replays with what it keeps
 abbrev pub history : Kept → History
 history s =
     record { setting = s.setting; acts = map (act_of (answers s)) s.entries; rows = rows_after (base s) (unfolded s) }
