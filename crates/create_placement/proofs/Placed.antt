@@ -8,7 +8,7 @@ use Rattle.std.proofs.lemmas.Option.{slice_get_within}
 use Rattle.request_log.specs.Entries.{has_id}
 use Rattle.request_log.specs.declared.entry.Entry.{Entry}
 use Rattle.request_log.specs.declared.folded.Folded.{Folded}
-use Rattle.create_placement.specs.Placement.{known_place, behind_or, is_past, place_among, place_behind, named, StandsBefore, StandsBehind, StandsFirst, IsPlaced}
+use Rattle.create_placement.specs.Placement.{known_place, behind_or, names_folded, place_among, place_behind, named, StandsBefore, StandsBehind, StandsFirst, IsPlaced}
 
 none_past : {P : Type 0} (entries : List Entry) (at : ℕ) → nat_lt at (length entries) ≡ true → None ≡ slice_get entries at → P
 none_past [] at within none = grind (arith, nat_tests)
@@ -84,12 +84,12 @@ by_place entries None (Some next) end past last there rest = absurd there
 by_place entries None None end past last there rest = rest
 
 placed_by : (folded : List Folded) (entries : List Entry) (before after : Option ℕ) (first : Bool)
-    → IsPlaced first (named before entries) (is_past after folded) (named after entries) (cond first 0 (unwrap_or (known_place before entries) (place_behind after folded entries))) entries
+    → IsPlaced first (named before entries) (names_folded after folded) (named after entries) (cond first 0 (unwrap_or (known_place before entries) (place_behind after folded entries))) entries
 placed_by folded entries before after true = put_first entries
 placed_by folded entries before after false =
-    by_place entries (known_place before entries) (named before entries) (place_behind after folded entries) (is_past after folded) (named after entries) (known_at before entries)
-    (behind_place entries (known_place after entries) (named after entries) (is_past after folded) (known_at after entries))
+    by_place entries (known_place before entries) (named before entries) (place_behind after folded entries) (names_folded after folded) (named after entries) (known_at before entries)
+    (behind_place entries (known_place after entries) (named after entries) (names_folded after folded) (known_at after entries))
 
 pub is_placed : (before after : Option ℕ) (folded : List Folded) (entries : List Entry) (at : ℕ) → at ≡ place_among before after folded entries
-    → IsPlaced (is_past before folded) (named before entries) (is_past after folded) (named after entries) at entries
-is_placed before after folded entries at is = rw is (placed_by folded entries before after (is_past before folded))
+    → IsPlaced (names_folded before folded) (named before entries) (names_folded after folded) (named after entries) at entries
+is_placed before after folded entries at is = rw is (placed_by folded entries before after (names_folded before folded))

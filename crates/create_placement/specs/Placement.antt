@@ -42,18 +42,18 @@ place_between before after entries = unwrap_or (known_place before entries) (beh
 -- ---- in a log of which the first entries are folded
 
 -- an entry of this number is folded, where one is given
-abbrev pub is_past : Option ℕ → List Folded → Bool
-is_past None folded = false
-is_past (Some id) folded = is_some (find (has_number id) folded)
+abbrev pub names_folded : Option ℕ → List Folded → Bool
+names_folded None folded = false
+names_folded (Some id) folded = is_some (find (has_number id) folded)
 
 -- at the front where the entry `after` is folded, else behind it where it is known, else at the end
 abbrev pub place_behind : Option ℕ → List Folded → List Entry → ℕ
-place_behind after folded entries = if is_past after folded then 0 else behind_or (known_place after entries) (length entries)
+place_behind after folded entries = if names_folded after folded then 0 else behind_or (known_place after entries) (length entries)
 
 -- among those that aren't folded: at the front where the entry `before` is folded, else at it where it is known, else as `after` says
 abbrev pub place_among : Option ℕ → Option ℕ → List Folded → List Entry → ℕ
 place_among before after folded entries =
-    if is_past before folded then 0 else unwrap_or (known_place before entries) (place_behind after folded entries)
+    if names_folded before folded then 0 else unwrap_or (known_place before entries) (place_behind after folded entries)
 
 -- ---- the same, by what stands beside the entry that is put there
 

@@ -1,6 +1,6 @@
 // The place of a created entry.
 ghost use Rattle.std.specs.Prelude.{◌≡◌, ◌<◌, ◌≤◌, length, IfSome};
-ghost use Rattle.create_placement.specs.Placement.{IsPlaced, is_past, known_place, named, place_among, place_behind};
+ghost use Rattle.create_placement.specs.Placement.{IsPlaced, known_place, named, names_folded, place_among, place_behind};
 
 use request_log::Log;
 
@@ -14,8 +14,8 @@ fn known_place(log: &Log, id: Option<u64>) -> Option<u64>
     }
 }
 
-fn is_past(log: &Log, id: Option<u64>) -> bool
-    ensures { result ≡ is_past id log.now.folded }
+fn names_folded(log: &Log, id: Option<u64>) -> bool
+    ensures { result ≡ names_folded id log.now.folded }
 {
     match id {
         Some(id) => log.find_folded(id).is_some(),
@@ -28,7 +28,7 @@ fn place_behind(log: &Log, after: Option<u64>) -> u64
     ensures within { result ≤ length log.now.entries }
 {
     let end = log.len();
-    if is_past(log, after) {
+    if names_folded(log, after) {
         return 0;
     }
     match known_place(log, after) {
@@ -41,7 +41,7 @@ fn place_among(log: &Log, before: Option<u64>, after: Option<u64>) -> u64
     ensures place { result ≡ place_among before after log.now.folded log.now.entries }
     ensures within { result ≤ length log.now.entries }
 {
-    if is_past(log, before) {
+    if names_folded(log, before) {
         return 0;
     }
     match known_place(log, before) {
@@ -57,7 +57,7 @@ pub fn place(log: &Log, before: Option<u64>, after: Option<u64>) -> u64
     ensures place { result ≡ place_among before after log.now.folded log.now.entries }
     ensures within { result ≤ length log.now.entries }
     ensures stands { let folded = log.now.folded in let entries = log.now.entries in
-        IsPlaced (is_past before folded) (named before entries) (is_past after folded) (named after entries) result entries }
+        IsPlaced (names_folded before folded) (named before entries) (names_folded after folded) (named after entries) result entries }
 {
     place_among(log, before, after)
 }

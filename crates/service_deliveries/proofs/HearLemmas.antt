@@ -13,7 +13,7 @@ use Rattle.service_events.specs.Messages.{heard, hear_decision, token_taken_wher
 use Rattle.service_events.specs.declared.answers.Heard.{Heard}
 use Rattle.service_events.specs.declared.refusals.AnswerRefused.{AnswerRefused}
 use Rattle.service_events.specs.declared.refusals.AnswerRefused.TheVariants.{Unknown, Denied, TooOld}
-use Rattle.service_deliveries.specs.Hearing.{admission, allowance, token_rows, unless_past}
+use Rattle.service_deliveries.specs.Hearing.{admission, allowance, token_rows, unless_past_call}
 
 -- what the event leaves, by the rule by which the token is taken or why it isn't
 abbrev pub left : Kept → TokenMessage → Result (Option ℕ) AnswerRefused → After (Result Heard AnswerRefused)
@@ -32,7 +32,7 @@ past s a d true = refl
 past s a d false = allowed s a d
 
 ordered : (s : Kept) (a : TokenMessage) (d : Decision) (known new : Bool)
-    → left s a (cond known (cond new (unless_past s a (allowance d)) (Ok None)) (Err (Unknown a.number)))
+    → left s a (cond known (cond new (unless_past_call s a (allowance d)) (Ok None)) (Err (Unknown a.number)))
     ≡ (if not known then after s (Err (Unknown a.number)) else (if new then cond (is_past_call a.number s) (after s (Err (TooOld a.number))) (if is_denied d then after s (Err (Denied (rule_of d))) else after (noted (token_rows a (Some (rule_of d))) s) (Ok (heard a (Some (rule_of d))))) else after (noted (token_rows a None) s) (Ok (heard a None))))
 ordered s a d false new = refl
 ordered s a d true true = past s a d (is_past_call a.number s)

@@ -31,7 +31,7 @@ use Rattle.service_parts.specs.Services.{HasRoom, IsService}
 use Rattle.service_parts.specs.declared.parts.Parts.{Parts}
 use Rattle.service_parts.specs.Drafts.{TellNoCall}
 use Rattle.service_parts.proofs.ServiceLaws.{event_service, same_service}
-use Rattle.service_deliveries.specs.TakeChanges.{admission, allowance, changed_by, left_by, unless_much, CanChange, CanCreate, Leaves, unless_past}
+use Rattle.service_deliveries.specs.TakeChanges.{admission, allowance, changed_by, left_by, unless_much, CanChange, CanCreate, Leaves, unless_past_entry}
 use Rattle.service_deliveries.specs.declared.take_changes.Taking.{Taking}
 use Rattle.std.specs.Option.{option_map_or}
 use Rattle.service_events.proofs.HorizonLemmas.{number_past}
@@ -51,11 +51,11 @@ module _ (s : Kept) (set : SetMessage) (i : Inputs) where
   allowed (Allow rule) = refl
   allowed (Deny rule) = refl
 
-  new_by : (o : Option Entry) → taken_as (unless_past o (allowance (take_decision s set))) ≡ take_unless_past s set i o
+  new_by : (o : Option Entry) → taken_as (unless_past_entry o (allowance (take_decision s set))) ≡ take_unless_past s set i o
   new_by (Some e) = refl
   new_by None = allowed (take_decision s set)
 
-  admitted_by : (known : Bool) (o : Option Entry) → taken_as (cond known (Ok None) (unless_past o (allowance (take_decision s set))))
+  admitted_by : (known : Bool) (o : Option Entry) → taken_as (cond known (Ok None) (unless_past_entry o (allowance (take_decision s set))))
       ≡ cond known (after (acked_again s set) (Ok (taken set None))) (take_unless_past s set i o)
   admitted_by true o = refl
   admitted_by false o = new_by o
@@ -98,7 +98,7 @@ allowed_rule rule (Allow n) is = cc
 allowed_rule rule (Deny n) is = cc
 
 -- and its call's entry isn't folded
-admitted_rule : (rule : ℕ) (known : Bool) (o : Option Entry) (d : Decision) → cond known (Ok None) (unless_past o (allowance d)) ≡ Ok (Some rule) → (rule ≡ rule_of d) × (o ≡ None)
+admitted_rule : (rule : ℕ) (known : Bool) (o : Option Entry) (d : Decision) → cond known (Ok None) (unless_past_entry o (allowance d)) ≡ Ok (Some rule) → (rule ≡ rule_of d) × (o ≡ None)
 admitted_rule rule true o d is = cc
 admitted_rule rule false (Some e) d is = cc
 admitted_rule rule false None d is = (allowed_rule rule d is, refl)

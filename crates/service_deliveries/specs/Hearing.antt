@@ -18,14 +18,14 @@ allowance (Allow rule) = Ok (Some rule)
 allowance (Deny rule) = Err (Denied rule)
 
 -- not where its call is one of a folded entry
-abbrev pub unless_past : Kept → TokenMessage → Result (Option ℕ) AnswerRefused → Result (Option ℕ) AnswerRefused
-unless_past s t allowed = if is_past_call t.number s then Err (TooOld t.number) else allowed
+abbrev pub unless_past_call : Kept → TokenMessage → Result (Option ℕ) AnswerRefused → Result (Option ℕ) AnswerRefused
+unless_past_call s t allowed = if is_past_call t.number s then Err (TooOld t.number) else allowed
 
 -- by which rule it is taken, and by none where it tells nothing new
 abbrev pub admitted : Kept → TokenMessage → Register → Result (Option ℕ) AnswerRefused
 admitted s t r =
     if same_text r.dest t.callee
-    then (if is_news r t.answer_version then unless_past s t (allowance (hear_decision s t r)) else Ok None)
+    then (if is_news r t.answer_version then unless_past_call s t (allowance (hear_decision s t r)) else Ok None)
     else Err (Unknown t.number)
 
 -- the same, where there may be a call of its number

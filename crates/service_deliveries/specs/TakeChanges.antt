@@ -25,14 +25,14 @@ allowance (Allow rule) = Ok (Some rule)
 allowance (Deny rule) = Err (Denied rule)
 
 -- not where its call's entry is folded
-abbrev pub unless_past : Option Entry → Result (Option ℕ) TakeRefused → Result (Option ℕ) TakeRefused
-unless_past (Some e) allowed = Err (TooOld e.id)
-unless_past None allowed = allowed
+abbrev pub unless_past_entry : Option Entry → Result (Option ℕ) TakeRefused → Result (Option ℕ) TakeRefused
+unless_past_entry (Some e) allowed = Err (TooOld e.id)
+unless_past_entry None allowed = allowed
 
 -- by which rule it is taken, and one that is known by none
 abbrev pub admitted : Kept → SetMessage → Result (Option ℕ) TakeRefused
 admitted s set =
-    if is_known s set then Ok None else unless_past (find_call (origin_of set) (folded s)) (allowance (take_decision s set))
+    if is_known s set then Ok None else unless_past_entry (find_call (origin_of set) (folded s)) (allowance (take_decision s set))
 
 abbrev pub unless_much : Kept → SetMessage → Option ℕ → Result (Option ℕ) TakeRefused
 unless_much s set (Some much) = Err (Full much)

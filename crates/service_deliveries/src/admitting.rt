@@ -5,7 +5,7 @@ ghost use Rattle.journal_rows.specs.Words.{taken_version};
 ghost use Rattle.service_events.specs.State.{folded, in_all, is_crowded, is_in_flight, where_needed};
 ghost use Rattle.service_events.specs.Messages.{is_known, is_too_much, known_request, makes_entry, origin_of, take_decision};
 ghost use Rattle.service_parts.specs.Parts.{kept, whole_log};
-ghost use Rattle.service_deliveries.specs.TakeChanges.{admission, allowance, unless_past};
+ghost use Rattle.service_deliveries.specs.TakeChanges.{admission, allowance, unless_past_entry};
 ghost use Rattle.request_log.specs.Entries.{find_call};
 
 use crate::making::origin_of;
@@ -117,7 +117,7 @@ fn allowance(parts: &Parts, set: &SetMessage) -> Result<Option<u32>, TakeRefused
 
 // The same, unless its call's entry is folded.
 fn newly_allowed(parts: &Parts, set: &SetMessage) -> Result<Option<u32>, TakeRefused>
-    ensures { result ≡ unless_past (find_call (origin_of set.now) (folded (kept parts.now))) (allowance (take_decision (kept parts.now) set.now)) }
+    ensures { result ≡ unless_past_entry (find_call (origin_of set.now) (folded (kept parts.now))) (allowance (take_decision (kept parts.now) set.now)) }
 {
     match parts.repairer.log().folded_origin(&set.caller, set.number) {
         Some(past) => Err(TakeRefused::TooOld(past.id)),

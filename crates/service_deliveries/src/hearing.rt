@@ -6,7 +6,7 @@ ghost use Rattle.service_events.specs.Doing.{Does, answer_memory};
 ghost use Rattle.service_events.specs.Messages.{hear_decision, heard, is_past_call, noted_row, take_token_event};
 ghost use Rattle.service_parts.specs.Parts.{kept};
 ghost use Rattle.service_parts.specs.Services.{HasRoom, IsService};
-ghost use Rattle.service_deliveries.specs.Hearing.{admission, admitted, allowance, noted_rows, token_rows, unless_past};
+ghost use Rattle.service_deliveries.specs.Hearing.{admission, admitted, allowance, noted_rows, token_rows, unless_past_call};
 
 use crate::noting::note_at_once;
 use authorise_rules::{Asked, Decision, decide};
@@ -66,7 +66,7 @@ fn newly_allowed(
     token: &TokenMessage,
     register: &Register,
 ) -> Result<Option<u32>, AnswerRefused>
-    ensures { result ≡ unless_past (kept parts.now) token.now (allowance (hear_decision (kept parts.now) token.now register.now)) }
+    ensures { result ≡ unless_past_call (kept parts.now) token.now (allowance (hear_decision (kept parts.now) token.now register.now)) }
 {
     if is_past(parts, token.number) {
         Err(AnswerRefused::TooOld(token.number))

@@ -43,14 +43,14 @@ abbrev pub IsDoneCall : Kept → ℕ → Type 0
 IsDoneCall s number = IsSomeAnd (register number s.registers) IsDoneWith
 
 -- an entry that is folded: current, and with calls that are done with
-pub record IsQuiet (s : Kept) (rows : List Cell) (e : Entry) : Type 0 where
+pub record IsQuietEntry (s : Kept) (rows : List Cell) (e : Entry) : Type 0 where
   pub current : IsCurrent (answers s) rows e
   pub calls : All (IsDoneCall s) e.slots
 
 -- each of these, where these are the rows before them
-abbrev pub AreQuiet : Kept → List Cell → List Entry → Type 0
-AreQuiet s rows [] = Unit {0}
-AreQuiet s rows (e ∷ es) = IsQuiet s rows e × AreQuiet s (after_entry rows e) es
+abbrev pub AreQuietEntries : Kept → List Cell → List Entry → Type 0
+AreQuietEntries s rows [] = Unit {0}
+AreQuietEntries s rows (e ∷ es) = IsQuietEntry s rows e × AreQuietEntries s (after_entry rows e) es
 
 done_with : (r : Register) → is_done_with r ≡ true → IsDoneWith r
 done_with r h =
@@ -71,20 +71,20 @@ calls_done s (n ∷ ns) h =
     let parts = and_parts (is_quiet_call s n) (list_all (is_quiet_call s) ns) h in
     All-cons (IsDoneCall s) n ns (call_done (register n s.registers) parts.0) (calls_done s ns parts.1)
 
-quiet_is : (s : Kept) (rows : List Cell) (e : Entry) → is_quiet_entry s rows e ≡ true → IsQuiet s rows e
+quiet_is : (s : Kept) (rows : List Cell) (e : Entry) → is_quiet_entry s rows e ≡ true → IsQuietEntry s rows e
 quiet_is s rows e h =
     let calls = and_parts (is_current (answers s) rows e && not (is_due s e)) (list_all (is_quiet_call s) e.slots) h in
     let first = and_parts (is_current (answers s) rows e) (not (is_due s e)) calls.0 in
     record { current = is_current-true (answers s) rows e first.0; calls = calls_done s e.slots calls.1 }
 
-pub quiet_are : (s : Kept) (es : List Entry) (rows : List Cell) → first_unquiet s rows es ≡ None → AreQuiet s rows es
+pub quiet_are : (s : Kept) (es : List Entry) (rows : List Cell) → first_unquiet s rows es ≡ None → AreQuietEntries s rows es
 quiet_are s [] rows h = tt
 quiet_are s (e ∷ es) rows h = elim (cases_Bool (is_quiet_entry s rows e)) [
   | inl is ↦ (quiet_is s rows e is, quiet_are s es (after_entry rows e) (rw is at h))
   | inr isnt ↦ (let never : Some e.id ≡ None = rw isnt at h in cc)
 ]
 
-all_current : (s : Kept) (es : List Entry) (rows : List Cell) → AreQuiet s rows es → AllCurrent (answers s) rows es
+all_current : (s : Kept) (es : List Entry) (rows : List Cell) → AreQuietEntries s rows es → AllCurrent (answers s) rows es
 all_current s [] rows h = tt
 all_current s (e ∷ es) rows h = (h.0.current, all_current s es (after_entry rows e) h.1)
 
@@ -166,7 +166,7 @@ alike_past (e ∷ es) h =
     let A : Entry → Type 0 = λ x. IsAlike e x in
     (subst A (sym (bare_again e (All-head P e es h))) (alike_self e), alike_past es (All-tail P e es h))
 
-alike_quiet : (s : Kept) (es : List Entry) (rows : List Cell) → AreQuiet s rows es → AreAlike es (map bare es)
+alike_quiet : (s : Kept) (es : List Entry) (rows : List Cell) → AreQuietEntries s rows es → AreAlike es (map bare es)
 alike_quiet s [] rows h = tt
 alike_quiet s (e ∷ es) rows h = (alike_bare (answers s) rows e h.0.current, alike_quiet s es (after_entry rows e) h.1)
 
@@ -302,7 +302,7 @@ module _ (s : Kept) (f : Fits s) (id : ℕ) (e : Entry) (there : find (has_id id
   abbrev t : Kept
   t = folded_on (length (to_fold id s)) s
 
-  are : AreQuiet s (base s) (to_fold id s)
+  are : AreQuietEntries s (base s) (to_fold id s)
   are = quiet_are s (to_fold id s) (base s) quiet
 
   pub first : take n (unfolded s) ≡ to_fold id s
@@ -359,7 +359,7 @@ module _ (s : Kept) (f : Fits s) (id : ℕ) (e : Entry) (there : find (has_id id
       subst (λ ps. FitsPlaces registers (ps ++ map calls_of_flight s.flights)) (sym (same_calls s.entries t.entries entries_alike)) h
 
   -- what is told of the folded entries
-  past_by : (j : List Row) (e : Entry) (rows : List Cell) → IsQuiet s rows e → IsPast (record t { journal = j }) (bare e)
+  past_by : (j : List Row) (e : Entry) (rows : List Cell) → IsQuietEntry s rows e → IsPast (record t { journal = j }) (bare e)
   past_by j e rows q =
       let a = alike_bare (answers s) rows e q.current in
       let slots : (bare e).slots ≡ e.slots = ap (λ (x : Entry). x.slots) a.same in
@@ -379,7 +379,7 @@ module _ (s : Kept) (f : Fits s) (id : ℕ) (e : Entry) (there : find (has_id id
       consumed_by None ns is h = absurd h
       consumed_by (Some m) ns is h = h.answers ∙ ap (map (answers s)) is
 
-  past_now : (j : List Row) (es : List Entry) (rows : List Cell) → AreQuiet s rows es → All (IsPast (record t { journal = j })) (map bare es)
+  past_now : (j : List Row) (es : List Entry) (rows : List Cell) → AreQuietEntries s rows es → All (IsPast (record t { journal = j })) (map bare es)
   past_now j [] rows h = All-nil (IsPast (record t { journal = j }))
   past_now j (x ∷ xs) rows h =
       All-cons (IsPast (record t { journal = j })) (bare x) (map bare xs) (past_by j x rows h.0) (past_now j xs (after_entry rows x) h.1)

@@ -6,7 +6,7 @@ use Rattle.request_log.specs.Entries.{has_id}
 use Rattle.request_log.specs.Folded.{as_entry, has_number, whole}
 use Rattle.request_log.specs.declared.entry.Entry.{Entry}
 use Rattle.request_log.specs.declared.folded.Folded.{Folded}
-use Rattle.create_placement.specs.Placement.{behind_or, is_past, known_place, place_among, place_behind, place_between}
+use Rattle.create_placement.specs.Placement.{behind_or, known_place, names_folded, place_among, place_behind, place_between}
 use Rattle.service_parts.proofs.WholeLemmas.{many_in_all}
 
 -- where a number is that is given: among the folded ones, nowhere, or behind them
@@ -57,7 +57,7 @@ where_it_is : (id : ℕ) (fs : List Folded) (es : List Entry) → WhereItIs (is_
 where_it_is id [] es = at_front (position (has_id id) es)
 where_it_is id (f ∷ fs) es = where_first (nat_eq f.id id) id f fs es refl (where_it_is id fs es)
 
-given : (id : Option ℕ) (fs : List Folded) (es : List Entry) → WhereItIs (is_past id fs) (known_place id es) (known_place id (whole fs es)) (length fs)
+given : (id : Option ℕ) (fs : List Folded) (es : List Entry) → WhereItIs (names_folded id fs) (known_place id es) (known_place id (whole fs es)) (length fs)
 given None fs es = refl
 given (Some id) fs es = where_it_is id fs es
 
@@ -75,6 +75,6 @@ before false (Some k) outer h rest all same at = rw at (omega arith)
 pub place_behind_all : (first second : Option ℕ) (fs : List Folded) (es : List Entry)
     → length fs + place_among first second fs es ≡ max (length fs) (place_between first second (whole fs es))
 place_behind_all first second fs es =
-    before (is_past first fs) (known_place first es) (known_place first (whole fs es)) (length fs) (place_behind second fs es) (behind_or (known_place second (whole fs es)) (length (whole fs es)))
-    (behind (is_past second fs) (known_place second es) (known_place second (whole fs es)) (length fs) (length es) (length (whole fs es)) (many_in_all fs es) (given second fs es))
+    before (names_folded first fs) (known_place first es) (known_place first (whole fs es)) (length fs) (place_behind second fs es) (behind_or (known_place second (whole fs es)) (length (whole fs es)))
+    (behind (names_folded second fs) (known_place second es) (known_place second (whole fs es)) (length fs) (length es) (length (whole fs es)) (many_in_all fs es) (given second fs es))
     (given first fs es)

@@ -19,7 +19,7 @@ use Rattle.local_repair.specs.Tests.{is_current}
 use Rattle.journal_rows.specs.declared.orders.Command.TheVariants.{Fold}
 use Rattle.service_events.specs.Orders.{first_unquiet, folded_on, is_due, is_quiet_call, is_quiet_entry, to_fold, unless_quiet}
 use Rattle.service_events.specs.State.{Kept, answers, base, folded, unfolded}
-use Rattle.service_events.proofs.FoldLaw.{AreQuiet, quiet_are}
+use Rattle.service_events.proofs.FoldLaw.{AreQuietEntries, quiet_are}
 use Rattle.service_events.proofs.OrderLaw.{quiet_by}
 use Rattle.service_events.proofs.SearchLemmas.{none_first}
 use Rattle.service_parts.specs.Parts.{kept, whole_log}
@@ -109,7 +109,7 @@ has_record : (consumed : Consumed) (rows : List Cell) (e : Entry) (o : Option Ma
 has_record consumed rows e None h = absurd h
 has_record consumed rows e (Some m) h = refl
 
-have_run : (s : Kept) (es : List Entry) (rows : List Cell) → AreQuiet s rows es → All HasRun es
+have_run : (s : Kept) (es : List Entry) (rows : List Cell) → AreQuietEntries s rows es → All HasRun es
 have_run s [] rows h = All-nil HasRun
 have_run s (e ∷ es) rows h = All-cons HasRun e es (has_record (answers s) rows e e.made h.0.current) (have_run s es (after_entry rows e) h.1)
 
