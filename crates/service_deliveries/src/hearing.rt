@@ -15,7 +15,7 @@ use journal_rows::{ConfirmedRow, NotedRow, Row};
 use lang_core::{Copied, NoMemory, Same};
 use repair_messages::{Confirm, Kind, TokenMessage, copied_pair};
 use service_events::{AnswerRefused, Heard};
-use service_parts::{Parts, is_past_call, path_of};
+use service_parts::{Parts, path_of};
 use std::alloc::Global;
 
 // ---- why it isn't taken, or which rule allows it
@@ -54,10 +54,10 @@ fn allowance(
 }
 
 // Whether the call of a number is one of a folded entry.
-fn is_past(parts: &Parts, number: u64) -> bool
+fn is_past_call(parts: &Parts, number: u64) -> bool
     ensures { result ≡ is_past_call number (kept parts.now) }
 {
-    is_past_call(parts.repairer.log().folded(), number)
+    parts.repairer.log().folded().has_slot(number)
 }
 
 // The same, unless its call is one of a folded entry.
@@ -68,7 +68,7 @@ fn newly_allowed(
 ) -> Result<Option<u32>, AnswerRefused>
     ensures { result ≡ unless_past_call (kept parts.now) token.now (allowance (hear_decision (kept parts.now) token.now register.now)) }
 {
-    if is_past(parts, token.number) {
+    if is_past_call(parts, token.number) {
         Err(AnswerRefused::TooOld(token.number))
     } else {
         allowance(parts, token, register)

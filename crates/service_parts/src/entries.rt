@@ -1,11 +1,9 @@
 // New entries: their numbers, and how they are put into the log.
-ghost use Rattle.std.specs.Prelude.{◌≡◌, ◌+◌, ◌<◌, ◌≤◌, [], ◌∷◌, ◌++◌, None, OnOk, OnErr, find, insert, length, nat_eq, option_map};
-ghost use Rattle.std.specs.List.{list_any};
+ghost use Rattle.std.specs.Prelude.{◌≡◌, ◌+◌, ◌<◌, ◌≤◌, [], ◌∷◌, ◌++◌, None, OnOk, OnErr, find, insert, length, option_map};
 ghost use Rattle.std.specs.Option.{option_copied};
 ghost use Rattle.request_log.specs.Entries.{AreReplaced, IsNew, changed, has_id, has_origin, mark, with_entry};
 ghost use Rattle.request_log.specs.Folded.{has_number, whole};
 ghost use Rattle.request_log.specs.declared.entry.Entry.{Entry};
-ghost use Rattle.request_log.specs.declared.folded.Folded.{Folded};
 ghost use Rattle.local_repair.specs.Repairs.{IsAmended};
 ghost use Rattle.create_placement.specs.Placement.{created};
 ghost use Rattle.service_events.specs.State.{next_id};
@@ -14,7 +12,7 @@ ghost use Rattle.service_parts.specs.Parts.{kept, whole_log};
 use crate::parts::Parts;
 use lang_core::{Inputs, Name, NoMemory, Origin, Request, Shared, ThinSeq};
 use local_repair::Repairer;
-use request_log::{Entry, FoldedList, KeptEntry, Log};
+use request_log::{Entry, KeptEntry, Log};
 use std::alloc::Global;
 
 /// The number of the next entry of a log.
@@ -166,11 +164,4 @@ fn request_in(entry: Option<&Entry>) -> Option<&Request>
         None => None,
         Some(entry) => Some(entry.request.get()),
     }
-}
-
-/// Whether the call of a number is one of these folded entries.
-pub fn is_past_call(folded: &FoldedList, number: u64) -> bool
-    ensures { result ≡ list_any (λ (f : Folded). list_any (nat_eq number) f.slots) folded.now }
-{
-    folded.has_slot(number)
 }
