@@ -1,5 +1,5 @@
 -- Folds that a service orders by itself.
-use Rattle.std.specs.Prelude.{ℕ, ◌⊎◌, ◌++◌, ◌&&◌, Bool, false, not, List, Option, Some, None, codes, decimal, is_none, length, nat_le, position}
+use Rattle.std.specs.Prelude.{ℕ, ◌⊎◌, ◌++◌, ◌&&◌, Bool, false, not, List, codes, decimal, is_none, length, nat_le, position, unwrap_or}
 use Rattle.std.specs.List.{list_all}
 use Rattle.std.specs.Option.{option_map_or}
 use Rattle.lang_core.specs.declared.inputs.Inputs.{Inputs}
@@ -41,13 +41,9 @@ can_go s e = not (is_due s e) && list_all (is_call_over s.registers) e.slots
 abbrev pub stays : Kept → Entry → Bool
 stays s e = not (can_go s e)
 
-abbrev pub place_or : Option ℕ → ℕ → ℕ
-place_or None n = n
-place_or (Some place) n = place
-
 -- how many of the first of these can go
 abbrev pub front_of : Kept → List Entry → ℕ
-front_of s entries = place_or (position (stays s) entries) (length entries)
+front_of s entries = unwrap_or (position (stays s) entries) (length entries)
 
 -- ---- the order
 

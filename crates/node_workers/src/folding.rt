@@ -4,7 +4,7 @@ ghost use Rattle.std.specs.List.{list_all};
 ghost use Rattle.journal_rows.specs.Words.{ordered};
 ghost use Rattle.service_events.specs.Orders.{is_done_with, is_due};
 ghost use Rattle.node_workers.specs.Desks.{at_desk};
-ghost use Rattle.node_workers.specs.Folding.{can_go, fold_token, front_of, is_answered, is_call_over, is_over, place_or, stays, FoldsOnce};
+ghost use Rattle.node_workers.specs.Folding.{can_go, fold_token, front_of, is_answered, is_call_over, is_over, stays, FoldsOnce};
 
 use crate::desk::Desk;
 use crate::turns::ask_under_lock;
@@ -25,7 +25,7 @@ use std::sync::ledger::Ledger;
 const PART: u64 = 16;
 
 /// Or once so many can go, where that is fewer: a fold holds the service for as long as it has entries to fold.
-const MOST: u64 = 500;
+const ENOUGH: u64 = 500;
 
 /// What is to be done about the first entries of a service that folds by itself.
 #[derive(Clone, Copy)]
@@ -106,20 +106,11 @@ fn first_staying(service: &Service, entries: &[KeptEntry]) -> Option<usize>
     entries.iter().position(|kept| stays(service, kept.entry()))
 }
 
-fn place_or(place: Option<usize>, length: usize) -> usize
-    ensures { result ≡ place_or place length }
-{
-    match place {
-        Some(place) => place,
-        None => length,
-    }
-}
-
 // How many of the first of these can go.
 fn front_of(service: &Service, entries: &[KeptEntry]) -> usize
     ensures { result ≡ front_of service.now entries.now }
 {
-    place_or(first_staying(service, entries), entries.len())
+    first_staying(service, entries).unwrap_or(entries.len())
 }
 
 fn id_at(entries: &[KeptEntry], place: usize) -> u64 {
@@ -151,7 +142,7 @@ fn stays_refused(waits: Option<Refusal>) -> bool {
 // How many of the first have to go at once, at least, where so many have to stay.
 fn part_of(keep: u64) -> u64 {
     let part = keep / PART;
-    if part < MOST { part } else { MOST }
+    if part < ENOUGH { part } else { ENOUGH }
 }
 
 /// What is to be done about the first entries of the service behind the lock, of which so many have to stay. A part of those at
@@ -219,40 +210,65 @@ fn note_answer<R: Ledger>(
     waits.is_none() || stays_refused(waits)
 }
 
-// The number of the next order's token, the token, and in whose name the order is made.
-fn signed<R: Ledger, Q: Ledger>(
+// An order to fold that a service makes by itself.
+#[derive(Drop)]
+struct OwnOrder {
+    /// The number of the last entry that it folds.
+    id: u64,
+    /// The number of its token, `fold-1` and so on.
+    number: u64,
+    token: Text,
+    /// In whose name it is made.
+    who: Text,
+    inputs: Inputs,
+}
+
+// The next order of the service behind the lock to fold up to this entry.
+fn own_order<R: Ledger, Q: Ledger>(
     alloc: Global,
     desk: &Desk<'_, R, Q>,
     kept: &NodeState<R>,
-) -> Result<(u64, Text, Text), NoMemory>
-    ensures token { IfOk result (λ signed. signed.1 ≡ fold_token signed.0) }
-    ensures who { IfOk result (λ signed. signed.2 ≡ (at_desk desk.now).me) }
+    id: u64,
+    inputs: Inputs,
+) -> Result<OwnOrder, NoMemory>
+    ensures token { IfOk result (λ own. own.token ≡ fold_token own.number) }
+    ensures who { IfOk result (λ own. own.who ≡ (at_desk desk.now).me) }
 {
     let (number, token) = next_token(alloc, kept.service().journal(), kept.folds().used)?;
     let who = desk.setup.setting.me.text().copied(alloc)?;
-    Ok((number, token, who))
+    Ok(OwnOrder {
+        id,
+        number,
+        token,
+        who,
+        inputs,
+    })
 }
 
-// Makes such an order under the lock, with this number, its token and in this name. Whether it came to an end.
+// Makes such an order under the lock. Whether it came to an end.
 fn order_fold<R: Ledger, Q: Ledger, W: Wait>(
     rt: &W,
     alloc: Global,
     desk: &Desk<'_, R, Q>,
     kept: &mut NodeState<R>,
     pass: &mut Pass<Q>,
-    id: u64,
-    signed: (u64, Text, Text),
-    inputs: Inputs,
+    own: OwnOrder,
 ) -> bool
-    requires token { signed.1 ≡ fold_token signed.0 }
-    requires who { signed.2 ≡ (at_desk desk.now).me }
+    requires token { own.token ≡ fold_token own.number }
+    requires who { own.who ≡ (at_desk desk.now).me }
     ensures { FoldsOnce (at_desk desk.now).me pass.old.notes pass.new.notes pass.old.receipts.items pass.new.receipts.items }
 {
-    let number = signed.0;
+    let OwnOrder {
+        id,
+        number,
+        token,
+        who,
+        inputs,
+    } = own;
     let order = NodeEvent::Order {
         command: Command::Fold(id),
-        token: signed.1,
-        who: signed.2,
+        token,
+        who,
         inputs,
     };
     match ask_under_lock(rt, alloc, desk, kept, pass, order) {
@@ -275,8 +291,8 @@ pub fn fold_up_to<R: Ledger, Q: Ledger, W: Wait>(
 ) -> bool
     ensures { FoldsOnce (at_desk desk.now).me pass.old.notes pass.new.notes pass.old.receipts.items pass.new.receipts.items }
 {
-    match signed(alloc, desk, kept) {
-        Ok(signed) => order_fold(rt, alloc, desk, kept, pass, id, signed, inputs),
+    match own_order(alloc, desk, kept, id, inputs) {
+        Ok(own) => order_fold(rt, alloc, desk, kept, pass, own),
         Err(_) => false,
     }
 }

@@ -25,7 +25,7 @@ use Rattle.service_events.proofs.SearchLemmas.{none_first}
 use Rattle.service_parts.specs.Parts.{kept, whole_log}
 use Rattle.service_parts.specs.declared.parts.Parts.{Parts}
 use Rattle.service_parts.proofs.WholeLemmas.{folded_kept, unfolded_kept}
-use Rattle.service_repairs.specs.Folding.{is_it, is_settled, unquiet_among}
+use Rattle.service_repairs.specs.Folding.{first_unquiet_among, is_settled, is_stale_one}
 
 -- ---- how many a fold folds
 
@@ -134,13 +134,13 @@ found_or f x true o r later = refl
 found_or f x false o r later = later
 
 -- what is found first of those that pass a test
-pub unquiet_found : (s : Kept) (stale : Option ℕ) (es : List Entry) → option_map (λ (e : Entry). e.id) (find (λ e. is_it stale e || not (is_settled s e)) es) ≡ unquiet_among s stale es
+pub unquiet_found : (s : Kept) (stale : Option ℕ) (es : List Entry) → option_map (λ (e : Entry). e.id) (find (λ e. is_stale_one stale e || not (is_settled s e)) es) ≡ first_unquiet_among s stale es
 unquiet_found s stale [] = refl
 unquiet_found s stale (e ∷ es) =
-    found_or (λ (x : Entry). x.id) e (is_it stale e || not (is_settled s e)) (find (λ x. is_it stale x || not (is_settled s x)) es) (unquiet_among s stale es) (unquiet_found s stale es)
+    found_or (λ (x : Entry). x.id) e (is_stale_one stale e || not (is_settled s e)) (find (λ x. is_stale_one stale x || not (is_settled s x)) es) (first_unquiet_among s stale es) (unquiet_found s stale es)
 
 -- the first stale one of these has another number than one that is new to them
-is_another : (consumed : Consumed) (rows : List Cell) (us : List Entry) (e : Entry) → find (has_id e.id) us ≡ None → is_it (stale_id consumed rows us) e ≡ false
+is_another : (consumed : Consumed) (rows : List Cell) (us : List Entry) (e : Entry) → find (has_id e.id) us ≡ None → is_stale_one (stale_id consumed rows us) e ≡ false
 is_another consumed rows [] e none = refl
 is_another consumed rows (u ∷ us) e none =
     let parts = none_first (nat_eq u.id e.id) u (find (has_id e.id) us) none in
@@ -156,41 +156,41 @@ same_test false true here later = refl
 same_test false false here later = refl
 
 -- one of these, whether another one is the stale one or this one
-one_current : (s : Kept) (rows : List Cell) (e : Entry) (stale found first : Option ℕ) → is_current (answers s) rows e ≡ true → is_it stale e ≡ false → found ≡ first
-    → cond (is_it stale e || not (is_settled s e)) (Some e.id) found ≡ cond (is_quiet_entry s rows e) first (Some e.id)
+one_current : (s : Kept) (rows : List Cell) (e : Entry) (stale found first : Option ℕ) → is_current (answers s) rows e ≡ true → is_stale_one stale e ≡ false → found ≡ first
+    → cond (is_stale_one stale e || not (is_settled s e)) (Some e.id) found ≡ cond (is_quiet_entry s rows e) first (Some e.id)
 one_current s rows e stale found first current other later =
     rw (current, other) (same_test (is_due s e) (list_all (is_quiet_call s) e.slots) (Some e.id) found
     ∙ ap (λ (o : Option ℕ). cond ((true && not (is_due s e)) && list_all (is_quiet_call s) e.slots) o (Some e.id)) later)
 
-one_stale : (s : Kept) (rows : List Cell) (e : Entry) (stale found first : Option ℕ) → is_current (answers s) rows e ≡ false → is_it stale e ≡ true
-    → cond (is_it stale e || not (is_settled s e)) (Some e.id) found ≡ cond (is_quiet_entry s rows e) first (Some e.id)
+one_stale : (s : Kept) (rows : List Cell) (e : Entry) (stale found first : Option ℕ) → is_current (answers s) rows e ≡ false → is_stale_one stale e ≡ true
+    → cond (is_stale_one stale e || not (is_settled s e)) (Some e.id) found ≡ cond (is_quiet_entry s rows e) first (Some e.id)
 one_stale s rows e stale found first current this = rw (current, this) refl
 
 -- the first stale one of all, or one before it that isn't settled, is the first that isn't quiet
 unquiet_is : (s : Kept) (us : List Entry) (rows : List Cell) (k : ℕ) → IsDistinct us
-    → unquiet_among s (stale_id (answers s) rows us) (take k us) ≡ first_unquiet s rows (take k us)
+    → first_unquiet_among s (stale_id (answers s) rows us) (take k us) ≡ first_unquiet s rows (take k us)
 unquiet_is s us rows zero apart = refl
 unquiet_is s [] rows (suc k) apart = refl
 unquiet_is s (e ∷ us) rows (suc k) apart =
     let stale = stale_id (answers s) rows (e ∷ us) in
-    let found = unquiet_among s (stale_id (answers s) rows (e ∷ us)) (take k us) in
+    let found = first_unquiet_among s (stale_id (answers s) rows (e ∷ us)) (take k us) in
     let first = first_unquiet s (after_entry rows e) (take k us) in
     elim (cases_Bool (is_current (answers s) rows e)) [
       | inl is ↦ (let same : stale_id (answers s) rows (e ∷ us) ≡ stale_id (answers s) (after_entry rows e) us = rw is refl in
           one_current s rows e stale found first is
-          (ap (λ (o : Option ℕ). is_it o e) same ∙ is_another (answers s) (after_entry rows e) us e apart.0.id)
-          (ap (λ (o : Option ℕ). unquiet_among s o (take k us)) same ∙ unquiet_is s us (after_entry rows e) k apart.1))
+          (ap (λ (o : Option ℕ). is_stale_one o e) same ∙ is_another (answers s) (after_entry rows e) us e apart.0.id)
+          (ap (λ (o : Option ℕ). first_unquiet_among s o (take k us)) same ∙ unquiet_is s us (after_entry rows e) k apart.1))
       | inr isnt ↦ (let same : stale_id (answers s) rows (e ∷ us) ≡ Some e.id = rw isnt refl in
-          one_stale s rows e stale found first isnt (ap (λ (o : Option ℕ). is_it o e) same ∙ eq-eqb e.id e.id refl))
+          one_stale s rows e stale found first isnt (ap (λ (o : Option ℕ). is_stale_one o e) same ∙ eq-eqb e.id e.id refl))
     ]
 
 -- so it is of these entries, where the first stale one of all is known
 pub first_is : (p : Parts) (id n : ℕ) (stale : Option ℕ) → IsDistinct (unfolded (kept p)) → n ≡ length (to_fold id (kept p))
     → stale ≡ stale_id (answers (kept p)) (base (kept p)) p.repairer.entries
-    → unquiet_among (kept p) stale (take n p.repairer.entries) ≡ first_unquiet (kept p) (base (kept p)) (to_fold id (kept p))
+    → first_unquiet_among (kept p) stale (take n p.repairer.entries) ≡ first_unquiet (kept p) (base (kept p)) (to_fold id (kept p))
 first_is p id n stale apart is test =
     let s : Kept = kept p in
     let known : stale ≡ stale_id (answers s) (base s) (unfolded s) = test ∙ ap (stale_id (answers s) (base s)) (sym (unfolded_kept p)) in
-    ap (λ (es : List Entry). unquiet_among s stale es) (folds_these p id n is)
-    ∙ ap (λ (o : Option ℕ). unquiet_among s o (to_fold id s)) known
+    ap (λ (es : List Entry). first_unquiet_among s stale es) (folds_these p id n is)
+    ∙ ap (λ (o : Option ℕ). first_unquiet_among s o (to_fold id s)) known
     ∙ unquiet_is s (unfolded s) (base s) (position_or_len (has_id id) (unfolded s) + 1) apart

@@ -9,11 +9,12 @@ use Rattle.service_events.specs.State.{Kept}
 abbrev pub is_settled : Kept → Entry → Bool
 is_settled s e = not (is_due s e) && list_all (is_quiet_call s) e.slots
 
-abbrev pub is_it : Option ℕ → Entry → Bool
-is_it None e = false
-is_it (Some id) e = nat_eq id e.id
+-- it is the stale one, where that has this number
+abbrev pub is_stale_one : Option ℕ → Entry → Bool
+is_stale_one None e = false
+is_stale_one (Some id) e = nat_eq id e.id
 
 -- the first of these that is the stale one of this number, or isn't settled
-abbrev pub unquiet_among : Kept → Option ℕ → List Entry → Option ℕ
-unquiet_among s stale [] = None
-unquiet_among s stale (e ∷ es) = if is_it stale e || not (is_settled s e) then Some e.id else unquiet_among s stale es
+abbrev pub first_unquiet_among : Kept → Option ℕ → List Entry → Option ℕ
+first_unquiet_among s stale [] = None
+first_unquiet_among s stale (e ∷ es) = if is_stale_one stale e || not (is_settled s e) then Some e.id else first_unquiet_among s stale es

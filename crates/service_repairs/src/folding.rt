@@ -5,7 +5,7 @@ ghost use Rattle.std.specs.Option.{option_copied};
 ghost use Rattle.service_events.specs.Orders.{first_unquiet, folded_on, is_done_with, is_due, is_quiet_call, to_fold, unless_quiet};
 ghost use Rattle.request_log.specs.Entries.{IsDistinct, has_id};
 ghost use Rattle.service_events.specs.State.{base, unfolded};
-ghost use Rattle.service_repairs.specs.Folding.{is_it, is_settled, unquiet_among};
+ghost use Rattle.service_repairs.specs.Folding.{first_unquiet_among, is_settled, is_stale_one};
 ghost use Rattle.service_parts.specs.Parts.{kept};
 ghost use Rattle.journal_rows.specs.declared.orders.Command.{Command as Ordered};
 
@@ -79,8 +79,9 @@ fn count_to(parts: &Parts, id: u64) -> u64
     }
 }
 
-fn is_it(stale: Option<u64>, entry: &Entry) -> bool
-    ensures { result ≡ is_it stale entry.now }
+// Whether it is the stale one, where that has this number.
+fn is_stale_one(stale: Option<u64>, entry: &Entry) -> bool
+    ensures { result ≡ is_stale_one stale entry.now }
 {
     match stale {
         None => false,
@@ -89,9 +90,9 @@ fn is_it(stale: Option<u64>, entry: &Entry) -> bool
 }
 
 fn is_unquiet(parts: &Parts, stale: Option<u64>, entry: &Entry) -> bool
-    ensures { result ≡ (is_it stale entry.now || not (is_settled (kept parts.now) entry.now)) }
+    ensures { result ≡ (is_stale_one stale entry.now || not (is_settled (kept parts.now) entry.now)) }
 {
-    is_it(stale, entry) || !is_settled(parts, entry)
+    is_stale_one(stale, entry) || !is_settled(parts, entry)
 }
 
 fn find_unquiet<'a>(
@@ -99,7 +100,7 @@ fn find_unquiet<'a>(
     entries: &'a [KeptEntry],
     stale: Option<u64>,
 ) -> Option<&'a KeptEntry>
-    ensures { option_copied result ≡ find (λ e. is_it stale e || not (is_settled (kept parts.now) e)) entries.now }
+    ensures { option_copied result ≡ find (λ e. is_stale_one stale e || not (is_settled (kept parts.now) e)) entries.now }
 {
     entries
         .iter()
@@ -107,8 +108,8 @@ fn find_unquiet<'a>(
 }
 
 // The first of these entries that is the stale one of this number, or of which something is on its way.
-fn unquiet_among(parts: &Parts, entries: &[KeptEntry], stale: Option<u64>) -> Option<u64>
-    ensures { result ≡ unquiet_among (kept parts.now) stale entries.now }
+fn first_unquiet_among(parts: &Parts, entries: &[KeptEntry], stale: Option<u64>) -> Option<u64>
+    ensures { result ≡ first_unquiet_among (kept parts.now) stale entries.now }
 {
     match find_unquiet(parts, entries, stale) {
         None => None,
@@ -131,7 +132,7 @@ fn first_unquiet(parts: &Parts, id: u64) -> Option<u64>
     let stale = first_stale(parts, 0);
     let count = count_to(parts, id);
     let folds = front(parts.repairer.log().as_slice(), count);
-    unquiet_among(parts, folds, stale)
+    first_unquiet_among(parts, folds, stale)
 }
 
 fn unless_all_quiet(parts: &Parts, id: u64) -> Option<OrderRefused>

@@ -2,7 +2,7 @@ use Rattle.std.proofs.Common.{Some, ap, option_map, ◌∙◌}
 use Rattle.request_log.specs.declared.entry.Entry.{Entry}
 use Rattle.service_parts.specs.Parts.{kept}
 use Rattle.service_repairs.proofs.FoldLemmas.{unquiet_found}
-use Rattle.service_repairs.proofs.folding.unquiet_among.Goals as goal
+use Rattle.service_repairs.proofs.folding.first_unquiet_among.Goals as goal
 
 pub returns-in-None : goal.returns-in-None
 returns-in-None c =
