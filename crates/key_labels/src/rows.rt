@@ -190,7 +190,7 @@ pub fn labels_near<'a>(rows: &'a KeyRows, near: usize, table: &Text, key: &Text)
     }
 }
 
-/// The row of a key.
+/// The row of a key, found by its hash, or else by halves.
 pub fn find_row<'a>(rows: &'a KeyRows, table: &Text, key: &Text) -> Option<&'a KeyLabels>
     requires { IsOrdered row_place rows.now.items }
     ensures { option_copied result ≡ find (λ r. same_place (row_place r) (place_of table.now key.now)) rows.now.items }
@@ -459,7 +459,7 @@ pub fn drop_label_in(order: &Order, rows: &mut KeyRows, table: &Text, key: &Text
 }
 
 /// Sets the text that stands at a key before all labels, and takes the labels before one out of its row, or all where there is
-/// none. The row's labels rise in an order, in which these are found by halves.
+/// none. The row's labels rise in an order, in which these are found by halves, and those that stay are moved once.
 pub fn settle_row(
     order: &Order,
     rows: &mut KeyRows,

@@ -1,4 +1,4 @@
-use Rattle.std.proofs.Common.{◌≡◌, ◌+◌, ◌-◌, ◌<◌, ◌≤◌, length, sym, ◌∙◌, arith}
+use Rattle.std.proofs.Common.{◌≡◌, ◌+◌, ◌-◌, ◌<◌, length, sym, ◌∙◌, arith}
 use Rattle.lang_core.specs.Places.{place_of}
 use Rattle.lang_core.proofs.SeekLemmas.{found_rank, found_taken}
 use Rattle.key_labels.specs.KeyRows.{in_order}

@@ -1,4 +1,4 @@
-use Rattle.std.proofs.Common.{List, ℕ, ap, sym, ◌∙◌, subst}
+use Rattle.std.proofs.Common.{List, ℕ, ap, sym, subst}
 use Rattle.std.specs.List.{AllZip}
 use Rattle.key_labels.specs.KeyRows.{in_order}
 use Rattle.key_labels.specs.Rows.{IsCopy}

@@ -1,5 +1,4 @@
 use Rattle.std.proofs.Common.{arith}
-use Rattle.std.specs.List.{insert}
 use Rattle.key_labels.proofs.EditLemmas.{ok_is}
 use Rattle.key_labels.proofs.rows.KeyLabels.insert.Goals as goal
 
