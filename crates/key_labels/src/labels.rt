@@ -24,7 +24,8 @@ impl Labelled for u64 {
     }
 }
 
-fn is_before(order: &Order, label: u64, end: Option<u64>) -> bool
+/// Whether a label stands before another; each does where there is none.
+pub fn is_before(order: &Order, label: u64, end: Option<u64>) -> bool
     requires label { Contains order.now.labels label }
     requires end { ForSome end (Contains order.now.labels) }
     ensures { result ≡ is_before order.now.labels end label }
