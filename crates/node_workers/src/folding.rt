@@ -120,15 +120,14 @@ fn id_at(entries: &[KeptEntry], place: usize) -> u64 {
     }
 }
 
-// Of these, so many have to stay.
+// Of these, so many have to stay, and the others are at least a part. They alone are looked at.
 fn due_of(service: &Service, entries: &[KeptEntry], keep: usize, part: usize) -> FoldDue {
-    let front = front_of(service, entries);
     let most = entries.len().saturating_sub(keep);
+    let front = front_of(service, &entries[..most]);
     if front < part {
         return FoldDue::Waits(id_at(entries, front));
     }
-    let count = if front < most { front } else { most };
-    FoldDue::UpTo(id_at(entries, count.saturating_sub(1)))
+    FoldDue::UpTo(id_at(entries, front.saturating_sub(1)))
 }
 
 // Whether an order to fold would be refused again: rules stay, and a journal gets no lighter.
