@@ -15,7 +15,9 @@ use io_links::{Accepted, Ear, Gate, Job, Link};
 use lang_core::{Name, NoMemory};
 use local_repair::Stepped;
 use node_core::{NodeDone, NodeEvent, NodeState, Pass, event};
-use node_workers::{Desk, FoldDue, PostedOne, fold_due, fold_up_to, note_waiting, post_one};
+use node_workers::{
+    Desk, FoldDue, PostedOne, RepairTurn, fold_due, fold_up_to, note_waiting, post_one,
+};
 use service_events::Posted;
 use std::alloc::Global;
 use std::sync::Wait;
@@ -132,7 +134,7 @@ fn step_under_lock<R: Ledger, Q: Ledger, W: Wait>(
     }
 }
 
-// Folds at a service under the lock, if a fold is due there; whether that came to an end. Else it is to be tried again.
+// Folds at a service under the lock, if a fold is due there.
 fn fold_under_lock<R: Ledger, Q: Ledger, W: Wait, D: Draw>(
     rt: &W,
     alloc: Global,
@@ -140,33 +142,24 @@ fn fold_under_lock<R: Ledger, Q: Ledger, W: Wait, D: Draw>(
     drawing: &D,
     kept: &mut NodeState<R>,
     pass: &mut Pass<Q>,
-) -> bool
+) -> RepairTurn
     ensures { FoldsOrRests (at_desk desk.now).me pass.old.notes pass.new.notes }
 {
     match fold_due(kept, desk.setup.keep) {
         FoldDue::Nothing => {
             note_waiting(kept, None);
-            true
+            RepairTurn::Rests
         }
-        FoldDue::Refused => true,
+        FoldDue::Refused => RepairTurn::Rests,
         FoldDue::Waits(id) => {
             note_waiting(kept, Some(id));
-            true
+            RepairTurn::Rests
         }
         FoldDue::UpTo(id) => fold_up_to(rt, alloc, desk, kept, pass, id, drawing.inputs(rt)),
     }
 }
 
-fn idle_if(ended: bool) -> Result<Stepped, NoMemory> {
-    if ended {
-        Ok(Stepped::Idle)
-    } else {
-        Err(NoMemory)
-    }
-}
-
-// Takes a repair step at a service under the lock, and folds where none is to be taken. A fold that didn't come to an end is told
-// as memory that lacks, so that it is tried again.
+// Takes a repair step at a service under the lock, and folds where none is to be taken.
 fn repair_under_lock<R: Ledger, Q: Ledger, W: Wait, D: Draw>(
     rt: &W,
     alloc: Global,
@@ -174,13 +167,13 @@ fn repair_under_lock<R: Ledger, Q: Ledger, W: Wait, D: Draw>(
     drawing: &D,
     kept: &mut NodeState<R>,
     pass: &mut Pass<Q>,
-) -> Result<Stepped, NoMemory>
+) -> RepairTurn
     ensures { RepairsOnce (at_desk desk.now).me pass.old.notes pass.new.notes }
 {
     match step_under_lock(rt, alloc, desk, kept, pass) {
-        Ok(Stepped::Idle) => idle_if(fold_under_lock(rt, alloc, desk, drawing, kept, pass)),
-        Ok(stepped) => Ok(stepped),
-        Err(why) => Err(why),
+        Ok(Stepped::Idle) => fold_under_lock(rt, alloc, desk, drawing, kept, pass),
+        Ok(Stepped::Ran { .. }) => RepairTurn::Ran,
+        Err(_) => RepairTurn::Again,
     }
 }
 
@@ -191,14 +184,14 @@ fn turn<R: Ledger, Q: Ledger, W: Wait, D: Draw>(
     desk: &Desk<'_, R, Q>,
     drawing: &D,
     pass: &mut Pass<Q>,
-) -> Result<Stepped, NoMemory>
+) -> RepairTurn
     ensures repairs { RepairsOnce (at_desk desk.now).me pass.old.notes pass.new.notes }
 {
     let mut state = desk.node.state.lock(rt);
     repair_under_lock(rt, alloc, desk, drawing, &mut *state, pass)
 }
 
-// Takes a turn, and rests where no repair step is to be taken.
+// Takes a turn, and rests where nothing is to be done.
 fn repair<R: Ledger, Q: Ledger, W: Wait + Clock, D: Draw>(
     rt: &W,
     alloc: Global,
@@ -209,9 +202,9 @@ fn repair<R: Ledger, Q: Ledger, W: Wait + Clock, D: Draw>(
     ensures repairs { RepairsOnce (at_desk desk.now).me pass.old.notes pass.new.notes }
 {
     match turn(rt, alloc, desk, drawing, pass) {
-        Ok(Stepped::Ran { .. }) => desk.node.work.notify_all(),
-        Ok(Stepped::Idle) => rest_from_repair(rt, desk.node, desk.setup.keep),
-        Err(_) => pause(rt, desk.node),
+        RepairTurn::Ran => desk.node.work.notify_all(),
+        RepairTurn::Rests => rest_from_repair(rt, desk.node, desk.setup.keep),
+        RepairTurn::Again => pause(rt, desk.node),
     }
 }
 

@@ -40,6 +40,17 @@ pub enum FoldDue {
     UpTo(u64),
 }
 
+/// What a worker that repairs came to in one turn, and so what it does next.
+#[derive(Clone, Copy)]
+pub enum RepairTurn {
+    /// A repair step was taken: the next turn follows at once.
+    Ran,
+    /// There is nothing to do before something changes.
+    Rests,
+    /// What was to be done didn't come to an end: it is tried again in a moment.
+    Again,
+}
+
 // ---- which entries can go
 
 fn is_answered(register: &Register) -> bool
@@ -194,19 +205,23 @@ fn next_token(alloc: Global, journal: &Rows, used: u64) -> Result<(u64, Text), N
     Err(NoMemory)
 }
 
-// Notes what an order to fold of this number came to, and answers whether it came to an end. One that was refused leaves its
-// token to the next.
+// Notes what an order to fold of this number came to. It came to an end where it was accepted, or refused as it would be again.
+// One that was refused leaves its token to the next.
 fn note_answer<R: Ledger>(
     kept: &mut NodeState<R>,
     number: u64,
     answer: Result<Ordered, OrderRefused>,
-) -> bool {
+) -> RepairTurn {
     let (used, waits) = match answer {
         Ok(_) => (number, None),
         Err(why) => (number.saturating_sub(1), Some(why.refusal())),
     };
     kept.note_folds(OwnFolds { used, waits });
-    waits.is_none() || stays_refused(waits)
+    if waits.is_none() || stays_refused(waits) {
+        RepairTurn::Rests
+    } else {
+        RepairTurn::Again
+    }
 }
 
 // An order to fold that a service makes by itself.
@@ -244,7 +259,7 @@ fn own_order<R: Ledger, Q: Ledger>(
     })
 }
 
-// Makes such an order under the lock. Whether it came to an end.
+// Makes such an order under the lock.
 fn order_fold<R: Ledger, Q: Ledger, W: Wait>(
     rt: &W,
     alloc: Global,
@@ -252,7 +267,7 @@ fn order_fold<R: Ledger, Q: Ledger, W: Wait>(
     kept: &mut NodeState<R>,
     pass: &mut Pass<Q>,
     own: OwnOrder,
-) -> bool
+) -> RepairTurn
     requires token { own.token ≡ fold_token own.number }
     requires who { own.who ≡ (at_desk desk.now).me }
     ensures { FoldsOnce (at_desk desk.now).me pass.old.notes pass.new.notes pass.old.receipts.items pass.new.receipts.items }
@@ -272,13 +287,13 @@ fn order_fold<R: Ledger, Q: Ledger, W: Wait>(
     };
     match ask_under_lock(rt, alloc, desk, kept, pass, order) {
         Ok(NodeDone::Order(answer)) => note_answer(kept, number, answer),
-        _ => false,
+        _ => RepairTurn::Again,
     }
 }
 
 /// Orders that the entries up to and including the one of this number are folded, as the service behind the lock does by itself:
 /// by its own name, under the first token of `fold-1`, `fold-2` and so on that no order of it had. What comes of it is noted.
-/// Whether it came to an end: it was accepted, or refused as it would be again. Else it is to be tried again.
+/// The worker rests where it was accepted, or refused as it would be again. Else it is to be tried again.
 pub fn fold_up_to<R: Ledger, Q: Ledger, W: Wait>(
     rt: &W,
     alloc: Global,
@@ -287,12 +302,12 @@ pub fn fold_up_to<R: Ledger, Q: Ledger, W: Wait>(
     pass: &mut Pass<Q>,
     id: u64,
     inputs: Inputs,
-) -> bool
+) -> RepairTurn
     ensures { FoldsOnce (at_desk desk.now).me pass.old.notes pass.new.notes pass.old.receipts.items pass.new.receipts.items }
 {
     match own_order(alloc, desk, kept, id, inputs) {
         Ok(own) => order_fold(rt, alloc, desk, kept, pass, own),
-        Err(_) => false,
+        Err(_) => RepairTurn::Again,
     }
 }
 

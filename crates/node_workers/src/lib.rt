@@ -17,7 +17,7 @@ mod serve;
 mod turns;
 
 pub use desk::Desk;
-pub use folding::{FoldDue, fold_due, fold_up_to, note_waiting};
+pub use folding::{FoldDue, RepairTurn, fold_due, fold_up_to, note_waiting};
 pub use node_exchanges::{Doors, Served};
 pub use operators::{tell_preview, tell_text};
 pub use posts::{PostedOne, post_one};
