@@ -1,5 +1,5 @@
 -- Registers: which call has a number, what it consumes, and what each change makes of them.
-use Rattle.std.specs.Prelude.{ℕ, ◌≡◌, ◌+◌, ◌≤◌, Bool, true, ◌&&◌, List, [], ◌∷◌, ◌++◌, Option, Some, None, IsSome, IfSome, if◌then◌else◌, nat_eq, nat_lt, is_some, max, length, find}
+use Rattle.std.specs.Prelude.{ℕ, ◌≡◌, ◌+◌, ◌≤◌, Bool, true, ◌&&◌, not, List, [], ◌∷◌, ◌++◌, Option, Some, None, IsSome, IfSome, if◌then◌else◌, nat_eq, nat_lt, is_some, max, length, find}
 use Rattle.lang_core.specs.declared.request.Request.{Request}
 use Rattle.lang_core.specs.declared.request.Response.{Response}
 use Rattle.call_registers.specs.Changes.{change, raised}
@@ -117,6 +117,10 @@ is_news r answer_version = nat_lt (max (held_version r.answer) r.noted) answer_v
 -- an answer was noted that is above the one that is held, and the call is wanted
 abbrev pub owes_fetch : Register → Bool
 owes_fetch r = is_some r.desired && nat_lt (held_version r.answer) r.noted
+
+-- its last version is acknowledged, and it owes no fetch
+abbrev pub is_done_with : Register → Bool
+is_done_with r = not (nat_lt r.acked r.version) && not (owes_fetch r)
 
 -- an answer of this version was announced, at this index of the journal
 abbrev pub with_note : ℕ → List ℕ → ℕ → ℕ → Register → Register

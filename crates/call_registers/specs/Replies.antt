@@ -1,6 +1,6 @@
 -- Replies: which entry has one, and what each change makes of them.
-use Rattle.std.specs.Prelude.{ℕ, ◌≤◌, ◌<◌, Bool, ◌&&◌, not, List, [], ◌∷◌, Option, Some, None, IsSome, if◌then◌else◌, nat_eq, find}
-use Rattle.std.specs.Option.{option_and_then}
+use Rattle.std.specs.Prelude.{ℕ, ◌≤◌, ◌<◌, Bool, false, ◌&&◌, not, List, [], ◌∷◌, Option, Some, None, IsSome, if◌then◌else◌, nat_eq, find}
+use Rattle.std.specs.Option.{option_and_then, option_map_or}
 use Rattle.lang_lists.specs.Keys.{text_key}
 use Rattle.lang_lists.specs.declared.age_keys.AgeKey.{AgeKey}
 use Rattle.call_registers.specs.Changes.{change}
@@ -29,6 +29,10 @@ reply id replies = find (has_entry id) replies
 
 abbrev pub IsThere : ℕ → List Reply → Type 0
 IsThere id replies = IsSome (reply id replies)
+
+-- the reply of an entry is due
+abbrev pub is_reply_due : ℕ → List Reply → Bool
+is_reply_due id replies = option_map_or (λ (p : Reply). p.due) (reply id replies) false
 
 -- the number is above those of each of these
 abbrev pub IsAboveAll : ℕ → List Reply → Type 0

@@ -14,7 +14,8 @@ mod reply;
 
 pub use changes::RegisterChanges;
 pub use register::{
-    Answer, Hold, Register, RegisterChange, Why, held_version, is_newer, is_news, owes_fetch,
+    Answer, Hold, Register, RegisterChange, Why, held_version, is_done_with, is_newer, is_news,
+    owes_fetch,
 };
 pub use registers::Registers;
 pub use replies::{Replies, RepliesCall};

@@ -1,6 +1,6 @@
 // A register: what is kept of one call.
 ghost use Rattle.std.specs.Prelude.{◌≡◌, IfOk};
-ghost use Rattle.call_registers.specs.Registers.{first_register, sent_anew, held_version, is_news, is_newer, owes_fetch, with_answer, with_note, released, changed};
+ghost use Rattle.call_registers.specs.Registers.{first_register, sent_anew, held_version, is_done_with, is_news, is_newer, owes_fetch, with_answer, with_note, released, changed};
 
 use lang_base::both;
 use lang_core::{Copied, FaultNote, Name, NoMemory, Request, Response, Text};
@@ -226,6 +226,13 @@ pub fn owes_fetch(register: &Register) -> bool
     ensures { result ≡ owes_fetch register.now }
 {
     register.desired.is_some() && held_version(&register.answer) < register.noted
+}
+
+/// Whether nothing of a call is on its way: its last version is acknowledged, and it owes no fetch.
+pub fn is_done_with(register: &Register) -> bool
+    ensures { result ≡ is_done_with register.now }
+{
+    register.acked >= register.version && !owes_fetch(register)
 }
 
 // The answer is held where its answer version is the greatest so far.

@@ -4,7 +4,7 @@ ghost use Rattle.std.specs.Option.{option_copied};
 ghost use Rattle.lang_base.specs.Equal.{equal};
 ghost use Rattle.lang_lists.specs.Room.{is_made, spend};
 ghost use Rattle.call_registers.specs.Queues.{IsQueue};
-ghost use Rattle.call_registers.specs.Replies.{reply, due_key, AreDue, IsThere, IsAboveAll, IsRising, at_entry, with_taken, with_answer, with_confirm, made_due, with_hold, released, changed, call_code, add_call};
+ghost use Rattle.call_registers.specs.Replies.{reply, is_reply_due, due_key, AreDue, IsThere, IsAboveAll, IsRising, at_entry, with_taken, with_answer, with_confirm, made_due, with_hold, released, changed, call_code, add_call};
 ghost use Rattle.call_registers.specs.declared.reply.ReplyChange.{ReplyChange};
 
 use crate::register::Hold;
@@ -231,6 +231,16 @@ impl Replies {
         ensures { option_copied result ≡ reply id self.now.list }
     {
         find_number(&self.list, id)
+    }
+
+    /// Whether the reply of an entry is due; false where it has none.
+    pub fn is_due(&self, id: u64) -> bool
+        ensures { result ≡ is_reply_due id self.now.list }
+    {
+        match self.get(id) {
+            None => false,
+            Some(reply) => reply.due,
+        }
     }
 
     /// The keys of the replies to this service that are due, the oldest first, found by halves. Those to another service are

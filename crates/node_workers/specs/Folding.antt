@@ -7,10 +7,10 @@ use Rattle.request_log.specs.declared.entry.Entry.{Entry}
 use Rattle.journal_rows.specs.Words.{ordered}
 use Rattle.journal_rows.specs.declared.orders.Command.TheVariants.{Fold}
 use Rattle.journal_rows.specs.declared.row.Row.{Row}
-use Rattle.call_registers.specs.Registers.{register}
+use Rattle.call_registers.specs.Registers.{is_done_with, register}
 use Rattle.call_registers.specs.declared.register.Answer.{Answer}
 use Rattle.call_registers.specs.declared.register.Register.{Register}
-use Rattle.service_events.specs.Orders.{is_done_with, is_due}
+use Rattle.service_events.specs.Orders.{is_due}
 use Rattle.service_events.specs.State.{Kept}
 use Rattle.service_events.specs.declared.event.Done.{Done as NodeDone}
 use Rattle.service_events.specs.declared.event.Event.{Event as NodeEvent}

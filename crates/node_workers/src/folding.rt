@@ -2,14 +2,14 @@
 ghost use Rattle.std.specs.Prelude.{◌≡◌, IfOk, is_none, position};
 ghost use Rattle.std.specs.List.{list_all};
 ghost use Rattle.journal_rows.specs.Words.{ordered};
-ghost use Rattle.service_events.specs.Orders.{is_done_with, is_due};
+ghost use Rattle.service_events.specs.Orders.{is_due};
 ghost use Rattle.node_workers.specs.Desks.{at_desk};
 ghost use Rattle.node_workers.specs.Folding.{can_go, fold_token, front_of, is_answered, is_call_over, is_over, stays, FoldsOnce};
 
 use crate::desk::Desk;
 use crate::turns::ask_under_lock;
 use admin_console::Service;
-use call_registers::{Register, Registers, owes_fetch};
+use call_registers::{Register, Registers, is_done_with};
 use journal_rows::{Command, Rows};
 use lang_core::{Copied, Inputs, NoMemory, Text};
 use node_core::{NodeDone, NodeEvent, NodeState, OwnFolds, Pass};
@@ -62,12 +62,6 @@ fn is_answered(register: &Register) -> bool
     }
 }
 
-fn is_done_with(register: &Register) -> bool
-    ensures { result ≡ is_done_with register.now }
-{
-    register.acked >= register.version && !owes_fetch(register)
-}
-
 fn is_over(register: &Register) -> bool
     ensures { result ≡ is_over register.now }
 {
@@ -92,10 +86,7 @@ fn are_over(registers: &Registers, slots: &[u64]) -> bool
 fn is_due(service: &Service, entry: &Entry) -> bool
     ensures { result ≡ is_due service.now entry.now }
 {
-    match service.replies().get(entry.id) {
-        Some(reply) => reply.due,
-        None => false,
-    }
+    service.replies().is_due(entry.id)
 }
 
 fn can_go(service: &Service, entry: &Entry) -> bool

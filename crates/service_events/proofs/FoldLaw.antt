@@ -23,12 +23,12 @@ use Rattle.local_repair.specs.Tests.{is_current}
 use Rattle.local_repair.proofs.PastLemmas.{fold_kept}
 use Rattle.local_repair.proofs.TestLemmas.{is_current-true}
 use Rattle.journal_rows.specs.declared.row.Row.{Row}
-use Rattle.call_registers.specs.Registers.{owes_fetch, register}
+use Rattle.call_registers.specs.Registers.{is_done_with, owes_fetch, register}
 use Rattle.call_registers.specs.Replies.{reply}
 use Rattle.call_registers.specs.declared.register.Register.{Register}
 use Rattle.call_registers.specs.declared.reply.Reply.{Reply}
 use Rattle.service_events.specs.Fits.{Fits, FitsHorizon, FitsPlaces, HasAnswered, HasReply, IsAsNow, IsBare, IsDoneWith, IsPast, IsReply, calls_of_entry, calls_of_flight, made_as, answer_recorded}
-use Rattle.service_events.specs.Orders.{first_unquiet, folded_on, is_done_with, is_due, is_quiet_call, is_quiet_entry, to_fold}
+use Rattle.service_events.specs.Orders.{first_unquiet, folded_on, is_due, is_quiet_call, is_quiet_entry, to_fold}
 use Rattle.service_events.specs.State.{Kept, KeepsFolded, answers, base, folded, unfolded}
 use Rattle.service_events.proofs.HorizonLemmas.{mapped_behind, mapped_front}
 use Rattle.service_events.proofs.PartLemmas.{IsLogged}

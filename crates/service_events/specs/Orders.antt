@@ -1,5 +1,5 @@
 -- Orders of operators.
-use Rattle.std.specs.Prelude.{ℕ, ◌+◌, Bool, true, false, ◌&&◌, not, List, [], ◌∷◌, ◌++◌, Option, Some, None, Result, Ok, Err, if◌then◌else◌, drop, find, insert, length, map, max, nat_lt, option_map, take}
+use Rattle.std.specs.Prelude.{ℕ, ◌+◌, Bool, true, false, ◌&&◌, not, List, [], ◌∷◌, ◌++◌, Option, Some, None, Result, Ok, Err, if◌then◌else◌, drop, find, insert, length, map, max, option_map, take}
 use Rattle.std.specs.List.{list_all, position_or_len}
 use Rattle.std.specs.Option.{option_map_or}
 use Rattle.lang_core.specs.declared.cells.Cell.{Cell}
@@ -25,8 +25,8 @@ use Rattle.journal_rows.specs.declared.orders.Command.TheVariants.{Cancel, Resto
 use Rattle.journal_rows.specs.declared.orders.OrderedRow.{OrderedRow}
 use Rattle.journal_rows.specs.declared.row.Row.{Row}
 use Rattle.journal_rows.specs.declared.row.Row.TheVariants.{Asked, Ordered as OrderedAs}
-use Rattle.call_registers.specs.Registers.{register, at_number, owes_fetch, released}
-use Rattle.call_registers.specs.Replies.{reply, at_entry, released as released_reply}
+use Rattle.call_registers.specs.Registers.{register, at_number, is_done_with, released}
+use Rattle.call_registers.specs.Replies.{reply, at_entry, is_reply_due, released as released_reply}
 use Rattle.call_registers.specs.declared.register.Hold.{Hold}
 use Rattle.call_registers.specs.declared.register.Register.{Register}
 use Rattle.call_registers.specs.declared.reply.Reply.{Reply}
@@ -77,10 +77,6 @@ misnamed s (Create before after q) = None
 misnamed s (Retry name) = unless_held (hold_on s name)
 misnamed s (Fold id) = unless_present id s (entry_of id s)
 
--- its last version is acknowledged, and it owes no fetch
-abbrev pub is_done_with : Register → Bool
-is_done_with r = not (nat_lt r.acked r.version) && not (owes_fetch r)
-
 -- the entries that a fold up to this one folds: all that aren't folded yet, up to it
 abbrev pub to_fold : ℕ → Kept → List Entry
 to_fold id s = take (position_or_len (has_id id) (unfolded s) + 1) (unfolded s)
@@ -91,7 +87,7 @@ is_quiet_call s number = option_map_or is_done_with (register number s.registers
 
 -- its reply is due
 abbrev pub is_due : Kept → Entry → Bool
-is_due s e = option_map_or (λ (p : Reply). p.due) (reply e.id s.replies) false
+is_due s e = is_reply_due e.id s.replies
 
 -- an entry is quiet, where these are the rows before it: it isn't stale, its reply isn't due, and all its calls are quiet
 abbrev pub is_quiet_entry : Kept → List Cell → Entry → Bool

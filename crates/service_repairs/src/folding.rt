@@ -2,7 +2,7 @@
 ghost use Rattle.std.specs.Prelude.{◌≡◌, ◌<◌, ◌≤◌, ◌||◌, None, not, find, length, position, take, IfSome, OnOk, OnErr};
 ghost use Rattle.std.specs.List.{list_all};
 ghost use Rattle.std.specs.Option.{option_copied};
-ghost use Rattle.service_events.specs.Orders.{first_unquiet, folded_on, is_done_with, is_due, is_quiet_call, to_fold, unless_quiet};
+ghost use Rattle.service_events.specs.Orders.{first_unquiet, folded_on, is_due, is_quiet_call, to_fold, unless_quiet};
 ghost use Rattle.request_log.specs.Entries.{IsDistinct, has_id};
 ghost use Rattle.service_events.specs.State.{base, unfolded};
 ghost use Rattle.service_repairs.specs.Folding.{first_unquiet_among, is_settled, is_stale_one};
@@ -10,7 +10,7 @@ ghost use Rattle.service_parts.specs.Parts.{kept};
 ghost use Rattle.journal_rows.specs.declared.orders.Command.{Command as Ordered};
 
 use crate::stale::first_stale;
-use call_registers::{Register, owes_fetch};
+use call_registers::is_done_with;
 use journal_rows::Command;
 use lang_core::NoMemory;
 use request_log::{Entry, KeptEntry};
@@ -19,12 +19,6 @@ use service_parts::Parts;
 use std::alloc::Global;
 
 // ---- an entry's reply and its calls
-
-fn is_done_with(register: &Register) -> bool
-    ensures { result ≡ is_done_with register.now }
-{
-    register.acked >= register.version && !owes_fetch(register)
-}
 
 fn is_quiet_call(parts: &Parts, number: u64) -> bool
     ensures { result ≡ is_quiet_call (kept parts.now) number }
@@ -44,10 +38,7 @@ fn are_quiet_calls(parts: &Parts, numbers: &[u64]) -> bool
 fn is_due(parts: &Parts, entry: &Entry) -> bool
     ensures { result ≡ is_due (kept parts.now) entry.now }
 {
-    match parts.replies.get(entry.id) {
-        None => false,
-        Some(reply) => reply.due,
-    }
+    parts.replies.is_due(entry.id)
 }
 
 // Whether nothing of an entry that is current is on its way.
