@@ -35,7 +35,8 @@ abbrev pub behind_or : Option ℕ → ℕ → ℕ
 behind_or None end = end
 behind_or (Some at) end = at + 1
 
--- at the entry `before` where it is known, else behind the entry `after` where that is known, else at the end
+-- at the entry `before` where it is known, else behind the entry `after` where that is known, else at the end. Definitions alone ask this, of
+-- all entries of a service; code asks `place_among`, and that both are one place is proved of services (`place_behind_all`)
 abbrev pub place_between : Option ℕ → Option ℕ → List Entry → ℕ
 place_between before after entries = unwrap_or (known_place before entries) (behind_or (known_place after entries) (length entries))
 
