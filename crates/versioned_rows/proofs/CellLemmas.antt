@@ -1,10 +1,10 @@
 -- Rows that have a key for each cell give all cells.
-use Rattle.std.proofs.Common.{◌≡◌, ℕ, zero, suc, ◌+◌, ◌<◌, ◌≤◌, Bool, true, false, cond, List, [], ◌∷◌, ◌++◌, Option, Some, None, is_some, option_map, length, get_or, drop, map, fold, refl, sym, ap, ◌∙◌, subst, inl, inr, arith, add-one, length-append, append_assoc}
+use Rattle.std.proofs.Common.{◌≡◌, ℕ, zero, suc, ◌+◌, ◌<◌, ◌≤◌, Bool, true, false, cond, List, [], ◌∷◌, ◌++◌, Option, Some, None, is_some, option_map, length, get_or, take, drop, map, fold, refl, sym, ap, ◌∙◌, subst, inl, inr, arith, add-one, length-append, append_assoc}
 use Rattle.std.specs.declared.cmp.Ordering.TheVariants.{Less}
 use Rattle.std.specs.List.{filter, find}
 use Rattle.std.specs.Option.{option_map_or}
 use Rattle.std.proofs.lemmas.Bool.{cases_Bool}
-use Rattle.std.proofs.lemmas.List.{append-nil, get_or_at}
+use Rattle.std.proofs.lemmas.List.{append-nil, get_or_at, take_more}
 use Rattle.lang_core.specs.Places.{Place, place_of, place_order, same_place, IsBelowAll, IsOrdered, rank}
 use Rattle.lang_core.specs.Rows.{get, apply, cell_place, cell_size, is_beneath, is_over, kept_from, scan}
 use Rattle.lang_core.specs.declared.cells.Cell.{Cell}
@@ -227,6 +227,38 @@ module _ (t prefix : List ℕ) (cells : List Cell) (rows : List KeyLabels) (i : 
         ap (λ n. (kept ++ c ∷ []) ++ kept_from n (bytes + cell_size c) later) (length-append kept (c ∷ []))
         ∙ append_assoc kept (c ∷ []) more
         ∙ ap (λ b. kept ++ c ∷ cond b [] more) (sym over) ∙ added
+
+-- ---- the cells at the keys of all rows, one after the other
+
+append_with : (o : Option Cell) (xs ys : List Cell) → with_cell o (xs ++ ys) ≡ with_cell o xs ++ ys
+append_with None xs ys = refl
+append_with (Some c) xs ys = refl
+
+cells_append : (from : List Cell) (rows rest : List KeyLabels) → row_cells from (rows ++ rest) ≡ row_cells from rows ++ row_cells from rest
+cells_append from [] rest = refl
+cells_append from (r ∷ rs) rest = ap (with_cell (cell_at from r)) (cells_append from rs rest) ∙ append_with (cell_at from r) (row_cells from rs) (row_cells from rest)
+
+take_below : (q : Place) (rows : List KeyLabels) (n : ℕ) → IsBelowAll row_place q rows → IsBelowAll row_place q (take n rows)
+take_below q [] zero all = tt
+take_below q [] (suc n) all = tt
+take_below q (r ∷ rs) zero all = tt
+take_below q (r ∷ rs) (suc n) all = (all.0, take_below q rs n all.1)
+
+take_ordered : (rows : List KeyLabels) (n : ℕ) → IsOrdered row_place rows → IsOrdered row_place (take n rows)
+take_ordered [] zero o = tt
+take_ordered [] (suc n) o = tt
+take_ordered (r ∷ rs) zero o = tt
+take_ordered (r ∷ rs) (suc n) o = (take_below (row_place r) rs n o.0, take_ordered rs n o.1)
+
+module _ (from : List Cell) (rows : List KeyLabels) (i : ℕ) (r : KeyLabels) (lt : i < length rows) (is : r ≡ get_or rows i r) where
+  -- one more cell, or none
+  pub cells_more : (o : Option Cell) → cell_at from r ≡ o → row_cells from (take (i + 1) rows) ≡ row_cells from (take i rows) ++ with_cell o []
+  cells_more o e =
+      ap (row_cells from) (take_more rows i r lt ∙ ap (λ x. take i rows ++ x ∷ []) (sym is)) ∙ cells_append from (take i rows) (r ∷ [])
+      ∙ ap (λ q. row_cells from (take i rows) ++ with_cell q []) e
+
+  pub cells_rise : IsOrdered row_place rows → (c : Cell) → cell_at from r ≡ Some c → IsOrdered cell_place (row_cells from (take i rows) ++ c ∷ [])
+  cells_rise o c e = let P : List Cell → Type 0 = λ l. IsOrdered cell_place l in subst P (cells_more (Some c) e) (ordered_rows from (take (i + 1) rows) (take_ordered rows (i + 1) o))
 
 pub drop_ordered : (rows : List KeyLabels) (n : ℕ) → IsOrdered row_place rows → IsOrdered row_place (drop n rows)
 drop_ordered rows zero o = o

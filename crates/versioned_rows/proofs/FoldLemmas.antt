@@ -1,9 +1,9 @@
 -- The first places leave: what their labels and texts come to in the rows.
-use Rattle.std.proofs.Common.{◌≡◌, ℕ, zero, suc, ◌+◌, ◌-◌, ◌<◌, ◌≤◌, Bool, true, false, not, ◌||◌, cond, List, [], ◌∷◌, ◌++◌, Option, Some, None, length, get_or, take, drop, map, fold, option_map, nat_lt, refl, sym, ap, ◌∙◌, subst, inl, inr, arith, add-one}
-use Rattle.std.specs.List.{filter, find, flat_map, list_any, slice_get, AllByRecursion, Contains}
+use Rattle.std.proofs.Common.{◌≡◌, ℕ, zero, suc, ◌+◌, ◌<◌, ◌≤◌, Bool, true, false, not, ◌||◌, cond, List, [], ◌∷◌, ◌++◌, Option, Some, None, length, get_or, take, drop, map, refl, sym, ap, ◌∙◌, subst, inl, inr, arith, add-one}
+use Rattle.std.specs.List.{filter, find, AllByRecursion, Contains}
 use Rattle.std.specs.Option.{option_map_or, ForSome}
-use Rattle.std.proofs.lemmas.Bool.{cases_Bool, cases_lt, lt-ltb, le-ltb}
-use Rattle.std.proofs.lemmas.List.{length-map, take_at, drop_at, take_more, take-append-drop}
+use Rattle.std.proofs.lemmas.Bool.{cases_lt, lt-ltb, le-ltb}
+use Rattle.std.proofs.lemmas.List.{flat_map_more, length-map, take_at, drop_at, take_more, take-append-drop}
 use Rattle.std.proofs.lemmas.List.Elements.{filter-append}
 use Rattle.std.proofs.lemmas.List.Folds.{list_any_more}
 use Rattle.std.proofs.lemmas.List.Sums.{fold-append}
@@ -54,6 +54,9 @@ module _ (qs : List PlaceWrites) (i : ℕ) (q : PlaceWrites) (lt : i < length qs
 
   next_place : take (i + 1) qs ≡ take i qs ++ q ∷ []
   next_place = take_more qs i q lt ∙ ap (λ p. take i qs ++ p ∷ []) (sym is)
+
+  pub texts_more : texts_of (take (i + 1) qs) ≡ texts_of (take i qs) ++ map (λ (w : Write). w.text) q.writes
+  texts_more = ap texts_of next_place ∙ sym (flat_map_more (λ (p : PlaceWrites). map (λ (w : Write). w.text) p.writes) [] (take i qs) q)
 
   pub based_more : (base : List Cell) (t k : List ℕ) (before after : Option (List ℕ)) → IsOrdered cell_place base → IsOrdered write_place q.writes
       → before ≡ get (rows_after base (take i qs)) t k → after ≡ written q.writes t k before → after ≡ get (rows_after base (take (i + 1) qs)) t k
@@ -217,3 +220,9 @@ end_known order zero (p ∷ ps) r = λ x e.
     let P : ℕ → Type 0 = λ n. Contains order n in
     subst P same r.0
 end_known order (suc n) (p ∷ ps) r = end_known order n ps r.2
+
+-- the labels that are left rise
+pub rising_left : (order : List ℕ) (n : ℕ) (ps : List PlaceWrites) → IsRising order (map label_of ps) → IsRising order (map label_of (drop n ps))
+rising_left order zero ps r = r
+rising_left order (suc n) [] r = r
+rising_left order (suc n) (p ∷ ps) r = rising_left order n ps r.2

@@ -182,12 +182,13 @@ impl Versions {
         requires held { IsRowOf self.now row.now }
         ensures { option_copied result ≡ get (rows_before_label order.now.labels label self.now) row.now.table row.now.key }
     {
+        let places = &self.places;
         let own = row.labels();
         let n = count_before(order, own, label);
         if n == 0 {
             return row.base();
         }
-        match find_place(order, &self.places, own[n - 1]) {
+        match find_place(order, places, own[n - 1]) {
             None => None,
             Some(place) => text_at(&place.writes, row.table(), row.key()),
         }
@@ -295,7 +296,8 @@ impl Versions {
         Ok(cells)
     }
 
-    /// The rows that the writes of all places before this one make of the base rows, or of all places where there is none.
+    /// The rows that the writes of all places before this one make of the base rows, or of all places where there is none, in
+    /// one walk over all keys that were ever written.
     pub fn rows_before(
         &self,
         alloc: Global,
@@ -397,7 +399,7 @@ impl Versions {
     }
 
     /// Takes so many of the first places out, whose texts are these: what they wrote is among the rows before all places
-    /// then. No other place changes.
+    /// then. No other place changes. It costs with what they wrote, and moves the places that stay once.
     pub fn fold_first(&mut self, order: &Order, n: usize, texts: VecDeque<Option<Text>>)
         requires rising { IsRising order.now.labels (map label_of self.old.versions) }
         requires within { n ≤ length self.old.versions }

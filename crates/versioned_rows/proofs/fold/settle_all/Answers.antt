@@ -1,8 +1,11 @@
-use Rattle.std.proofs.Common.{◌≡◌, ◌<◌, get_or, length, refl, take, sym, ap, ◌∙◌, arith}
+use Rattle.std.proofs.Common.{◌≡◌, ◌<◌, get_or, length, refl, take, sym, ap, ◌∙◌, subst, arith}
 use Rattle.std.proofs.lemmas.List.{get_or-take, length-take-le}
+use Rattle.lang_core.specs.Places.{IsOrdered}
+use Rattle.lang_core.specs.Rows.{write_place}
 use Rattle.key_labels.specs.Rows.{base_in, labels_in}
 use Rattle.versioned_rows.specs.Places.{is_written, is_written_by}
 use Rattle.versioned_rows.specs.Versions.{base_cells}
+use Rattle.versioned_rows.specs.declared.places.PlaceWrites.{PlaceWrites}
 use Rattle.versioned_rows.proofs.BaseLemmas.{get_base, ordered_base}
 use Rattle.versioned_rows.proofs.FoldLemmas.{based_more, row_of_writer, settled_more, settled_rising, texts_first, texts_left}
 use Rattle.versioned_rows.proofs.fold.settle_all.Goals as goal
@@ -22,7 +25,8 @@ settle_writes-requires-clause-there c = λ t k h.
     let ps = c.args.places.now in
     let within = c.requires.within in
     let lt : c.loop-at.at < length ps = omega arith in
-    c.loop-at.invariant.keys t k (row_of_writer ps c.args.rows.now.items c.loop-at.at c.index-places-at.result t k c.requires.indexed lt c.index-places-at.is (ap (is_written t k) (sym c.as_slice.ensures.items) ∙ h))
+    let wrote : c.as_slice.result.now ≡ c.index-places-at.result.writes = c.as_slice.ensures.items ∙ ap (λ (p : PlaceWrites). p.writes) (sym c.index-places-at.is) in
+    c.loop-at.invariant.keys t k (row_of_writer ps c.args.rows.now.items c.loop-at.at c.index-places-at.result t k c.requires.indexed lt c.index-places-at.is (ap (is_written t k) (sym wrote) ∙ h))
 
 pub settle_writes-requires-clause-rising : goal.settle_writes-requires-clause-rising
 settle_writes-requires-clause-rising c = λ t k.
@@ -38,7 +42,8 @@ settle_writes-requires-clause-texts c =
     let long = length-take-le c.args.n ps within in
     let lt : i < length (take c.args.n ps) = omega (arith, long) in
     let is : q ≡ get_or (take c.args.n ps) i q = c.index-places-at.is ∙ sym (get_or-take c.args.n ps i q (omega arith)) in
-    rw c.as_slice.ensures.items (texts_first (take c.args.n ps) i q lt is c.loop-at.texts.items c.loop-at.invariant.texts)
+    let wrote : c.as_slice.result.now ≡ c.index-places-at.result.writes = c.as_slice.ensures.items ∙ ap (λ (p : PlaceWrites). p.writes) (sym c.index-places-at.is) in
+    rw wrote (texts_first (take c.args.n ps) i q lt is c.loop-at.texts.items c.loop-at.invariant.texts)
 
 pub loop-at-preserved : goal.loop-at-preserved
 loop-at-preserved c =
@@ -54,10 +59,12 @@ loop-at-preserved c =
     let lt : i < length qs = omega (arith, long) in
     let inside : i < length ps = omega arith in
     let is : q ≡ get_or qs i q = c.index-places-at.is ∙ sym (get_or-take c.args.n ps i q (omega arith)) in
-    let each = rw c.as_slice.ensures.items at c.settle_writes.ensures.each in
-    let bases = rw c.as_slice.ensures.items at c.settle_writes.ensures.bases in
-    let texts = rw c.as_slice.ensures.items at c.settle_writes.ensures.texts in
-    let ordered = c.as_slice.ensures.ordered in
+    let wrote : c.as_slice.result.now ≡ c.index-places-at.result.writes = c.as_slice.ensures.items ∙ ap (λ (p : PlaceWrites). p.writes) (sym c.index-places-at.is) in
+    let each = rw wrote at c.settle_writes.ensures.each in
+    let bases = rw wrote at c.settle_writes.ensures.bases in
+    let texts = rw wrote at c.settle_writes.ensures.texts in
+    let P : PlaceWrites → Type 0 = λ p. IsOrdered write_place p.writes in
+    let ordered : P q = subst P (sym c.index-places-at.is) c.as_slice.ensures.ordered in
     record {
       ordered = c.settle_writes.ensures.ordered;
       each = λ t k. settled_more qs i q lt is c.args.order.now.labels c.args.end t k (labels_in rows t k) (labels_in before t k) (labels_in after t k) (c.loop-at.invariant.each t k) (each t k);
