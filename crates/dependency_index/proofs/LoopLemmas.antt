@@ -18,9 +18,13 @@ any_more p [] i d lt = absurd (omega arith)
 any_more p (x ∷ xs) zero d lt = or-false (p x)
 any_more p (x ∷ xs) (suc i) d lt = ap (λ b. p x || b) (any_more p xs i d (omega arith)) ∙ sym (or_assoc (p x) (list_any p (take i xs)) (p (get_or xs i d)))
 
+-- one more of a list passes a test, or one of those before it does
+pub one_more : {X : Type 0} (p : X → Bool) (xs : List X) (i : ℕ) (x : X) → i < length xs → x ≡ get_or xs i x → list_any p (take (i + 1) xs) ≡ (list_any p (take i xs) || p x)
+one_more p xs i x lt is = rw add-one (any_more p xs i x lt ∙ ap (λ y. list_any p (take i xs) || p y) (sym is))
+
 pub reads_of_one_more : (kind : ReadKind) (t k : List ℕ) (rs : List ReadAt) (i : ℕ) (r : ReadAt) → i < length rs → r ≡ get_or rs i r
     → list_any (is_at kind t k) (take (i + 1) rs) ≡ (list_any (is_at kind t k) (take i rs) || is_at kind t k r)
-reads_of_one_more kind t k rs i r lt is = rw add-one (any_more (is_at kind t k) rs i r lt ∙ ap (λ x. list_any (is_at kind t k) (take i rs) || is_at kind t k x) (sym is))
+reads_of_one_more kind t k = one_more (is_at kind t k)
 
 any_at : {X : Type 0} (p : X → Bool) (xs : List X) (i : ℕ) (x : X) → i < length xs → x ≡ get_or xs i x → p x ≡ true → list_any p xs ≡ true
 any_at p [] i x lt is h = absurd (omega arith)
@@ -57,13 +61,13 @@ module _ (edit : List ℕ → List ℕ) (twice : (l : List ℕ) → edit (edit l
   edit_by false true start before after h g = g ∙ ap edit h
   edit_by false false start before after h g = g ∙ h
 
-  pub edit_more : (start before after : ReadRows) (rs : List ReadAt) (i : ℕ) (r : ReadAt) → i < length rs → r ≡ get_or rs i r
-      → ((kind : ReadKind) (t k : List ℕ) → labels_by before kind t k ≡ cond (list_any (is_at kind t k) (take i rs)) (edit (labels_by start kind t k)) (labels_by start kind t k))
-      → ((kind : ReadKind) (t k : List ℕ) → labels_by after kind t k ≡ cond (is_at kind t k r) (edit (labels_by before kind t k)) (labels_by before kind t k))
-      → (kind : ReadKind) (t k : List ℕ) → labels_by after kind t k ≡ cond (list_any (is_at kind t k) (take (i + 1) rs)) (edit (labels_by start kind t k)) (labels_by start kind t k)
-  edit_more start before after rs i r lt is each now kind t k =
-      edit_by (list_any (is_at kind t k) (take i rs)) (is_at kind t k r) (labels_by start kind t k) (labels_by before kind t k) (labels_by after kind t k) (each kind t k) (now kind t k)
-      ∙ ap (λ b. cond b (edit (labels_by start kind t k)) (labels_by start kind t k)) (sym (reads_of_one_more kind t k rs i r lt is))
+  pub edit_more : {X : Type 0} (test : ReadKind → List ℕ → List ℕ → X → Bool) (start before after : ReadRows) (xs : List X) (i : ℕ) (x : X) → i < length xs → x ≡ get_or xs i x
+      → ((kind : ReadKind) (t k : List ℕ) → labels_by before kind t k ≡ cond (list_any (test kind t k) (take i xs)) (edit (labels_by start kind t k)) (labels_by start kind t k))
+      → ((kind : ReadKind) (t k : List ℕ) → labels_by after kind t k ≡ cond (test kind t k x) (edit (labels_by before kind t k)) (labels_by before kind t k))
+      → (kind : ReadKind) (t k : List ℕ) → labels_by after kind t k ≡ cond (list_any (test kind t k) (take (i + 1) xs)) (edit (labels_by start kind t k)) (labels_by start kind t k)
+  edit_more test start before after xs i x lt is each now kind t k =
+      edit_by (list_any (test kind t k) (take i xs)) (test kind t k x) (labels_by start kind t k) (labels_by before kind t k) (labels_by after kind t k) (each kind t k) (now kind t k)
+      ∙ ap (λ b. cond b (edit (labels_by start kind t k)) (labels_by start kind t k)) (sym (one_more (test kind t k) xs i x lt is))
 
   -- an edit of what is edited, or not yet
   pub edit_once : (a : Bool) (start before : List ℕ) → before ≡ cond a (edit start) start → edit before ≡ edit start

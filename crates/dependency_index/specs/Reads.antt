@@ -1,12 +1,11 @@
 -- Where reads looked, and which labels read a key or scan it.
-use Rattle.std.specs.Prelude.{ℕ, Bool, true, false, ◌&&◌, not, List, [], ◌∷◌, ◌++◌, Option, nat_eq, nat_lt, map, filter}
+use Rattle.std.specs.Prelude.{ℕ, Bool, true, false, ◌&&◌, not, List, ◌∷◌, ◌++◌, Option, nat_lt, map, filter}
 use Rattle.std.specs.List.{list_any}
 use Rattle.lang_base.specs.Texts.{same_text, begins_with}
 use Rattle.lang_core.specs.Places.{Place, place_of, same_place}
 use Rattle.lang_core.specs.declared.trace.Read.{Read}
 use Rattle.lang_core.specs.declared.trace.Read.TheVariants as read
-use Rattle.key_labels.specs.HandedOn.{place_in}
-use Rattle.key_labels.specs.HandedOn.{is_before}
+use Rattle.key_labels.specs.HandedOn.{place_in, is_before}
 use Rattle.dependency_index.specs.declared.reads.ReadAt.{ReadAt}
 use Rattle.dependency_index.specs.declared.reads.ReadKind.{ReadKind}
 use Rattle.dependency_index.specs.declared.reads.ReadKind.TheVariants.{Key, Scan}
@@ -57,19 +56,10 @@ abbrev pub with_noted : Noted → List Noted → List Noted
 with_noted n ns =
     filter (λ m. nat_lt (label_of m) (label_of n)) ns ++ n ∷ filter (λ m. nat_lt (label_of n) (label_of m)) ns
 
--- without a label's reads
-abbrev pub without : ℕ → List Noted → List Noted
-without label ns = filter (λ m. not (nat_eq (label_of m) label)) ns
+-- without what was noted of the labels before one, or without anything where that is the end
+abbrev pub noted_behind : List ℕ → Option ℕ → List Noted → List Noted
+noted_behind order end ns = filter (λ n. not (is_before order end (label_of n))) ns
 
--- without the reads of each of these labels
-abbrev pub without_each : List ℕ → List Noted → List Noted
-without_each [] ns = ns
-without_each (x ∷ xs) ns = without x (without_each xs ns)
-
--- a label reads something
-abbrev pub has_reads : Noted → Bool
-has_reads n = list_any (λ _. true) n.reads
-
--- the labels that read something
-abbrev pub with_reads : List Noted → List Noted
-with_reads ns = filter has_reads ns
+-- a label before one, or any where that is the end, reads the key or the prefix
+abbrev pub reads_before : List ℕ → Option ℕ → ReadKind → List ℕ → List ℕ → Noted → Bool
+reads_before order end kind t k n = is_before order end (label_of n) && list_any (is_at kind t k) n.reads

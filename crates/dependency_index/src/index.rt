@@ -8,16 +8,17 @@ ghost use Rattle.key_labels.specs.Labels.{is_other};
 ghost use Rattle.key_labels.specs.Rows.{row_place};
 ghost use Rattle.dependency_index.specs.Index.{call_code, note_call, IsIndexed};
 ghost use Rattle.dependency_index.specs.Numbers.{Rises, with_numbers};
-ghost use Rattle.dependency_index.specs.Reads.{read_at, is_at, is_between, label_of, readers, scanners, with_noted, with_reads, without, without_each};
+ghost use Rattle.dependency_index.specs.Reads.{read_at, is_at, is_between, label_of, readers, scanners, noted_behind, with_noted};
 ghost use Rattle.dependency_index.specs.Rows.{AreOrdered, labels_by, spare_by, under};
 ghost use Rattle.dependency_index.specs.declared.reads.ReadKind.{ReadKind};
 
-use crate::noted::{Noted, clear_noted, drop_cleared, has_noted, set_noted};
+use crate::noted::{Noted, has_noted, set_noted};
 use crate::numbers::{put_number, seek_number};
+use crate::prune::prune_rows;
 use crate::reads::ReadsAt;
 use crate::room::{IndexCall, ready_reads, take_reads};
 use crate::rows::{ReadRows, copied_reads, drop_labels, put_labels};
-use key_labels::{KeyRows, Order, labels_at, labels_in};
+use key_labels::{KeyRows, Order, drop_before, labels_at, labels_in};
 use lang_base::copied_items;
 use lang_core::{NoMemory, Reads, Seq, Text};
 use std::alloc::Global;
@@ -93,46 +94,19 @@ fn note(noted: &mut Vec<Noted>, rows: &mut ReadRows, own: Noted)
     set_noted(noted, own);
 }
 
-// Takes a label out of all rows, and its reads away.
-fn clear(alloc: Global, noted: &mut Vec<Noted>, rows: &mut ReadRows, label: u64)
-    requires { IsIndexed noted.old.items rows.old }
-    ensures left { with_reads noted.new.items ≡ without label (with_reads noted.old.items) }
-    ensures indexed { IsIndexed noted.new.items rows.new }
-    ensures spare { (kind : ReadKind) (t k : List ℕ) → spare_by rows.old kind t k ≤ spare_by rows.new kind t k }
-    ensures len { vec_len noted.new ≡ vec_len noted.old }
-    ensures capacity { vec_capacity noted.new ≡ vec_capacity noted.old }
-{
-    drop_noted(noted, rows, label);
-    clear_noted(alloc, noted, label);
-}
-
-// Takes these labels out of all rows, and their reads away, the last first.
-fn clear_each(alloc: Global, noted: &mut Vec<Noted>, rows: &mut ReadRows, labels: &[u64])
-    requires { IsIndexed noted.old.items rows.old }
-    ensures left { with_reads noted.new.items ≡ without_each labels.now (with_reads noted.old.items) }
-    ensures indexed { IsIndexed noted.new.items rows.new }
-    ensures spare { (kind : ReadKind) (t k : List ℕ) → spare_by rows.old kind t k ≤ spare_by rows.new kind t k }
-    ensures len { vec_len noted.new ≡ vec_len noted.old }
-    ensures capacity { vec_capacity noted.new ≡ vec_capacity noted.old }
-{
-    let mut left = labels.len();
-    while left > 0 {
-        left -= 1;
-        clear(alloc, noted, rows, labels[left]);
-    }
-}
-
-// Takes these labels' reads out, and the labels without reads.
-fn unnote_all(alloc: Global, noted: &mut Vec<Noted>, rows: &mut ReadRows, labels: &[u64])
-    requires { IsIndexed noted.old.items rows.old }
-    ensures noted { noted.new.items ≡ without_each labels.now (with_reads noted.old.items) }
+// Takes what was noted of the labels before one out, or of all labels where there is none.
+fn forget(order: &Order, noted: &mut Vec<Noted>, rows: &mut ReadRows, end: Option<u64>)
+    requires indexed { IsIndexed noted.old.items rows.old }
+    requires known { All (Contains order.now.labels) (map label_of noted.old.items) }
+    requires end { ForSome end (Contains order.now.labels) }
+    ensures noted { noted.new.items ≡ noted_behind order.now.labels end noted.old.items }
     ensures indexed { IsIndexed noted.new.items rows.new }
     ensures spare { (kind : ReadKind) (t k : List ℕ) → spare_by rows.old kind t k ≤ spare_by rows.new kind t k }
     ensures len { vec_len noted.new ≤ vec_len noted.old }
     ensures capacity { vec_capacity noted.new ≡ vec_capacity noted.old }
 {
-    clear_each(alloc, noted, rows, labels);
-    drop_cleared(noted);
+    prune_rows(order, rows, noted, end);
+    drop_before(order, noted, end);
 }
 
 fn is_between(order: &Order, label: u64, from: u64, to: Option<u64>) -> bool
@@ -282,13 +256,15 @@ impl Index {
         )
     }
 
-    /// Takes out what was noted of these labels, in one pass over all labels, however many these are. Labels that read nothing
-    /// go with them.
-    pub fn forget_all(&mut self, labels: &[u64])
-        ensures reads { self.new.reads ≡ without_each labels.now (with_reads self.old.reads) }
+    /// Takes out what was noted of the labels before one, or of all labels where there is none: in one pass over all labels, and
+    /// one over each row that has a label of these, however many these are.
+    pub fn forget_before(&mut self, order: &Order, end: Option<u64>)
+        requires labels { All (Contains order.now.labels) (map label_of self.old.reads) }
+        requires end { ForSome end (Contains order.now.labels) }
+        ensures reads { self.new.reads ≡ noted_behind order.now.labels end self.old.reads }
         ensures room { self.new.room ≡ self.old.room }
     {
-        unnote_all(self.alloc, &mut self.noted, &mut self.rows, labels);
+        forget(order, &mut self.noted, &mut self.rows, end);
     }
 
     /// The labels after one and before another, or before the end where there is none, that read the key.

@@ -4,6 +4,7 @@
 mod index;
 mod noted;
 mod numbers;
+mod prune;
 mod reads;
 mod room;
 mod rows;

@@ -1,14 +1,12 @@
 // What was noted of each label, in the order of the labels' numbers.
-ghost use Rattle.std.specs.Prelude.{ℕ, List, ◌≡◌, ◌+◌, ◌<◌, ◌≤◌, IsTrue, map, filter, vec_len, vec_capacity};
-ghost use Rattle.key_labels.specs.Labels.{is_other};
+ghost use Rattle.std.specs.Prelude.{◌≡◌, ◌+◌, ◌<◌, ◌≤◌, IsTrue, map, vec_len, vec_capacity};
 ghost use Rattle.dependency_index.specs.Numbers.{Rises};
-ghost use Rattle.dependency_index.specs.Reads.{is_at, has_reads, label_of, labels_with, with_noted, with_reads, without};
-ghost use Rattle.dependency_index.specs.declared.reads.ReadKind.{ReadKind};
+ghost use Rattle.dependency_index.specs.Reads.{label_of, with_noted};
 
 use crate::numbers::seek_number;
 use crate::reads::ReadsAt;
 use key_labels::Labelled;
-use lang_core::{Copied, NoMemory, Same, ThinSeq};
+use lang_core::{Copied, NoMemory, Same};
 use std::alloc::Global;
 
 /// Where the reads of a label looked.
@@ -67,36 +65,4 @@ pub(crate) fn set_noted(noted: &mut Vec<Noted>, own: Noted)
         return;
     }
     let _ = noted.insert(at, own);
-}
-
-/// Takes a label's reads away. The label stays where it is noted, without reads: to take it out would move all behind it.
-pub(crate) fn clear_noted(alloc: Global, noted: &mut Vec<Noted>, label: u64)
-    requires { Rises (map label_of noted.old.items) }
-    ensures rising { Rises (map label_of noted.new.items) }
-    ensures left { with_reads noted.new.items ≡ without label (with_reads noted.old.items) }
-    ensures each { (kind : ReadKind) (t k : List ℕ) → labels_with (is_at kind t k) noted.new.items
-        ≡ filter (is_other label) (labels_with (is_at kind t k) noted.old.items) }
-    ensures len { vec_len noted.new ≡ vec_len noted.old }
-    ensures capacity { vec_capacity noted.new ≡ vec_capacity noted.old }
-{
-    let (at, taken) = seek_number(noted, label);
-    if taken {
-        let reads = ThinSeq::new(alloc);
-        noted[at] = Noted { label, reads };
-    }
-}
-
-fn has_reads(noted: &Noted) -> bool
-    ensures { result ≡ has_reads noted.now }
-{
-    !noted.reads.as_slice().is_empty()
-}
-
-/// Takes the labels without reads out, all in one pass.
-pub(crate) fn drop_cleared(noted: &mut Vec<Noted>)
-    ensures noted { noted.new.items ≡ with_reads noted.old.items }
-    ensures len { vec_len noted.new ≤ vec_len noted.old }
-    ensures capacity { vec_capacity noted.new ≡ vec_capacity noted.old }
-{
-    noted.retain(|own| has_reads(own));
 }

@@ -32,7 +32,7 @@ loop-read-preserved c =
     let lt : c.loop-read.read-index < length c.args.reads.now = omega arith in
     record {
       ordered = c.put_read.ensures.ordered;
-      each = edit_more (with_number c.args.label) (put_twice c.args.label) c.args.rows.now c.loop-read.rows c.put_read.new.rows
+      each = edit_more (with_number c.args.label) (put_twice c.args.label) is_at c.args.rows.now c.loop-read.rows c.put_read.new.rows
           c.args.reads.now c.loop-read.read-index c.read-item.result lt c.read-item.is c.loop-read.invariant.each c.put_read.ensures.each;
       places = λ kind t k. let a = c.put_read.ensures.places kind t k in let b = c.loop-read.invariant.places kind t k in omega arith;
     }
