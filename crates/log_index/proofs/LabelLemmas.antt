@@ -1,13 +1,14 @@
 -- Labels of an order, of which no two are equal, rise in it; and they stay so with one more.
-use Rattle.std.proofs.Common.{◌≡◌, ◌≢◌, ℕ, zero, suc, ◌<◌, true, false, nat_lt, ap, ◌∙◌, List, [], ◌∷◌, ◌++◌, nat_eq, length, get_or, take, drop, sym, subst, inl, inr, refl, arith, eq-eqb}
-use Rattle.std.specs.List.{Contains, insert}
+use Rattle.std.proofs.Common.{◌≡◌, ◌≢◌, ℕ, zero, suc, ◌+◌, ◌-◌, ◌<◌, ◌≤◌, true, false, Some, None, nat_lt, ap, ◌∙◌, List, [], ◌∷◌, ◌++◌, nat_eq, length, get_or, take, drop, sym, subst, inl, inr, refl, arith, eq-eqb}
+use Rattle.std.specs.List.{Contains, insert, slice_get}
+use Rattle.std.specs.Option.{ForSome}
 use Rattle.std.specs.List.Sorted.{IsPartitionedBy, IsPartitionPoint}
-use Rattle.std.proofs.lemmas.Bool.{ne_eqb, cases_order, ltb-true, ltb-false}
-use Rattle.std.proofs.lemmas.List.{take-append-drop, get_or_default}
+use Rattle.std.proofs.lemmas.Bool.{ne_eqb, cases_lt, cases_order, le-ltb, ltb-true, ltb-false}
+use Rattle.std.proofs.lemmas.List.{take-append-drop, get_or_default, get_or-drop, length-drop}
 use Rattle.std.proofs.lemmas.List.Sorted.{IsPartitionedBy-ltb}
 use Rattle.std.proofs.lemmas.List.Elements.{Contains-append_left, Contains-append_right, Contains-append_cases}
 use Rattle.place_order.specs.Labels.{place_in, IsNew}
-use Rattle.place_order.specs.Rising.{IsBeforeAll, IsRising}
+use Rattle.place_order.specs.Rising.{IsBeforeAll, IsRising, is_before}
 use Rattle.place_order.proofs.RiseLemmas.{rising_still}
 use Rattle.log_index.specs.Rows.{IsApart}
 
@@ -68,18 +69,6 @@ apart_drop zero xs apart = apart
 apart_drop (suc n) [] apart = tt
 apart_drop (suc n) (x ∷ xs) apart = apart_drop n xs apart.1
 
--- one of those that stand there is none of the others
-pub front_apart : (n : ℕ) (xs : List ℕ) (x : ℕ) → IsApart xs → Contains (drop n xs) x → IsNew x (take n xs)
-front_apart zero [] x apart there = λ front. none x front
-front_apart zero (y ∷ ys) x apart there = λ front. none x front
-front_apart (suc n) [] x apart there = λ front. none x front
-front_apart (suc n) (y ∷ ys) x apart there = λ front.
-    elim (Contains-append_cases (y ∷ []) (take n ys) x front) [
-      | inl this ↦ (let P : ℕ → Type 0 = λ z. Contains ys z in
-          apart.0 (subst P (sym (only y x this)) (whole ys n x (Contains-append_right (take n ys) (drop n ys) x there))))
-      | inr back ↦ front_apart n ys x apart.1 there back
-    ]
-
 -- the label at a place stands there
 pub place_at : (xs : List ℕ) (i : ℕ) → IsApart xs → i < length xs → place_in xs (get_or xs i 0) ≡ i
 place_at [] i apart lt = absurd (omega arith)
@@ -105,6 +94,51 @@ module _ (xs : List ℕ) (apart : IsApart xs) where
         | inl is ↦ is
         | inr (inl lower) ↦ (let e = stands_there at 0 (omega arith) in let a = ltb-false _ _ (point.1 at 0 (omega arith) (omega arith)) in absurd (omega arith))
         | inr (inr higher) ↦ (let e = stands_there n 0 within in let a = ltb-true _ _ (point.0 n 0 (omega arith) higher) in absurd (omega arith))
+      ]
+
+-- ---- the labels behind a place
+
+got : (xs : List ℕ) (n : ℕ) → n < length xs → slice_get xs n ≡ Some (get_or xs n 0)
+got [] n lt = absurd (omega arith)
+got (x ∷ xs) zero lt = refl
+got (x ∷ xs) (suc n) lt = got xs n (omega arith)
+
+past_end : (xs : List ℕ) (n : ℕ) → length xs ≤ n → slice_get xs n ≡ None
+past_end [] n le = refl
+past_end (x ∷ xs) zero le = absurd (omega arith)
+past_end (x ∷ xs) (suc n) le = past_end xs n (omega arith)
+
+pub known_end : (xs : List ℕ) (n : ℕ) → ForSome (slice_get xs n) (Contains xs)
+known_end xs n = λ x is.
+    elim (cases_lt n (length xs)) [
+      | inl lt ↦ (let same : get_or xs n 0 ≡ x = (let here = sym (got xs n lt) ∙ is in cc) in let P : ℕ → Type 0 = λ z. Contains xs z in subst P same (contains_at xs n lt))
+      | inr ge ↦ (let none : None ≡ Some x = sym (past_end xs n ge) ∙ is in cc)
+    ]
+
+module _ (xs : List ℕ) (apart : IsApart xs) (n x : ℕ) where
+  end_at : n < length xs → is_before xs (slice_get xs n) x ≡ nat_lt (place_in xs x) n
+  end_at lt = ap (λ e. is_before xs e x) (got xs n lt) ∙ ap (nat_lt (place_in xs x)) (place_at xs n apart lt)
+
+  -- one that stands from a place on isn't before the one at it
+  pub none_before : Contains (drop n xs) x → is_before xs (slice_get xs n) x ≡ false
+  none_before (i, lt, e) =
+      let long = length-drop n xs in
+      let inside : n + i < length xs = omega arith in
+      let here : get_or xs (n + i) x ≡ x = sym (get_or-drop n xs i x) ∙ e in
+      let at : place_in xs x ≡ n + i = ap (place_in xs) (sym here) ∙ stands_there xs apart (n + i) x inside in
+      end_at (omega arith) ∙ le-ltb (place_in xs x) n (omega arith)
+
+  -- and one that isn't stands from there on
+  pub from_there : Contains xs x → is_before xs (slice_get xs n) x ≡ false → Contains (drop n xs) x
+  from_there (j, lt, e) h =
+      elim (cases_lt n (length xs)) [
+        | inl inside ↦ (
+            let at : place_in xs x ≡ j = ap (place_in xs) (sym e) ∙ stands_there xs apart j x lt in
+            let behind = ltb-false (place_in xs x) n (sym (end_at inside) ∙ h) in
+            let long = length-drop n xs in
+            let back : n + (j - n) ≡ j = omega arith in
+            (j - n, omega arith, get_or-drop n xs (j - n) x ∙ ap (λ m. get_or xs m x) back ∙ e))
+        | inr ge ↦ (let all : true ≡ false = sym (ap (λ o. is_before xs o x) (past_end xs n ge)) ∙ h in cc)
       ]
 
 -- by the places in the order, which has the same labels

@@ -1,13 +1,15 @@
 -- The reads that are noted under labels, once others were noted.
 use Rattle.std.proofs.Common.{◌≡◌, ◌≢◌, ℕ, zero, suc, ◌<◌, Bool, true, false, cond, not, List, [], ◌∷◌, ◌++◌, nat_eq, nat_lt, length, get_or, set, take, drop, map, refl, sym, ap, ◌∙◌, subst, inl, inr, arith, append_assoc, eq-eqb, eqb-true}
-use Rattle.std.specs.List.{All, AllByRecursion, Contains, filter, insert, list_any}
+use Rattle.std.specs.List.{All, AllByRecursion, Contains, filter, insert, slice_get}
 use Rattle.std.proofs.lemmas.Bool.{cases_order, lt-ltb, le-ltb, ne_eqb, eqb-false}
 use Rattle.std.proofs.lemmas.List.{get_or_default, length-map, take-append-drop}
 use Rattle.std.proofs.lemmas.List.Elements.{All-from_recursion, Contains-append_cases, Contains-append_right, recursion_from_All}
 use Rattle.place_order.specs.Labels.{IsNew}
+use Rattle.place_order.specs.Rising.{is_before}
 use Rattle.log_index.specs.Rows.{IsApart}
 use Rattle.log_index.proofs.EditLemmas.{map_insert}
-use Rattle.dependency_index.specs.Reads.{label_of, with_noted, with_reads, without, without_each}
+use Rattle.log_index.proofs.LabelLemmas.{from_there, none_before}
+use Rattle.dependency_index.specs.Reads.{label_of, noted_behind, with_noted}
 use Rattle.dependency_index.specs.declared.noted.Noted.{Noted}
 use Rattle.dependency_index.specs.declared.reads.ReadAt.{ReadAt}
 use Rattle.log_index.specs.Marks.{reads_under, reads_by}
@@ -112,85 +114,38 @@ noted_there own ns (x ∷ xs) (suc place) apart lt is =
 
 -- ---- without the reads of some labels
 
-beside : (b : Bool) (xs : List ReadAt) → xs ≡ cond b [] [] ++ xs
-beside true xs = refl
-beside false xs = refl
+-- labels that pass a test keep their reads where those stay that pass it
+by_kept : (test : ℕ → Bool) (ns : List Noted) (labels : List ℕ) → ((x : ℕ) → Contains labels x → test x ≡ true) → reads_by (filter (λ n. test (label_of n)) ns) labels ≡ reads_by ns labels
+by_kept test ns [] passes = refl
+by_kept test ns (l ∷ ls) passes =
+    let kept = filter (λ n. test (label_of n)) ns in
+    let here : reads_under kept l ≡ reads_under ns l = under_kept test ns l ∙ ap (λ b. cond b (reads_under ns l) []) (passes l (stands l ls)) in
+    ap (λ r. r ∷ reads_by kept ls) here ∙ ap (λ r. reads_under ns l ∷ r) (by_kept test ns ls (λ x there. passes x (Contains-append_right (l ∷ []) ls x there)))
 
-first_if : (x : ℕ) (reads : List ReadAt) (kept whole : List Noted) (label : ℕ) → reads_under kept label ≡ reads_under whole label
-    → reads_under (cond (list_any (λ _. true) reads) (record { label = x; reads = reads } ∷ kept) kept) label ≡ cond (nat_eq x label) reads [] ++ reads_under whole label
-first_if x [] kept whole label h = h ∙ beside (nat_eq x label) (reads_under whole label)
-first_if x (r ∷ rs) kept whole label h = ap (λ l. cond (nat_eq x label) (r ∷ rs) [] ++ l) h
+-- what the labels from a place on read is noted still
+pub by_behind : (labels : List ℕ) (n : ℕ) (ns : List Noted) → IsApart labels → reads_by (noted_behind labels (slice_get labels n) ns) (drop n labels) ≡ reads_by ns (drop n labels)
+by_behind labels n ns apart =
+    by_kept (λ x. not (is_before labels (slice_get labels n) x)) ns (drop n labels) (λ x there. ap not (none_before labels apart n x there))
 
--- a label that reads nothing adds none
-under_with : (ns : List Noted) (label : ℕ) → reads_under (with_reads ns) label ≡ reads_under ns label
-under_with [] label = refl
-under_with (n ∷ ns) label = first_if n.label n.reads (with_reads ns) ns label (under_with ns label)
+left_if : (P : ℕ → Type 0) (n : Noted) (ns : List Noted) (b : Bool) → (b ≡ true → P (label_of n)) → AllByRecursion P (map label_of ns) → AllByRecursion P (map label_of (cond b (n ∷ ns) ns))
+left_if P n ns true here all = (here refl, all)
+left_if P n ns false here all = all
 
-pub by_with : (ns : List Noted) (labels : List ℕ) → reads_by (with_reads ns) labels ≡ reads_by ns labels
-by_with ns [] = refl
-by_with ns (l ∷ ls) = ap (λ r. r ∷ reads_by (with_reads ns) ls) (under_with ns l) ∙ ap (λ rs. reads_under ns l ∷ rs) (by_with ns ls)
+left_known : (P Q : ℕ → Type 0) (test : ℕ → Bool) → ((x : ℕ) → P x → test x ≡ true → Q x) → (ns : List Noted) → AllByRecursion P (map label_of ns)
+    → AllByRecursion Q (map label_of (filter (λ n. test (label_of n)) ns))
+left_known P Q test h [] all = tt
+left_known P Q test h (n ∷ ns) all =
+    left_if Q n (filter (λ m. test (label_of m)) ns) (test (label_of n)) (h (label_of n) all.0) (left_known P Q test h ns all.1)
 
--- a label that is another has the reads that it had
-pub under_without : (xs : List ℕ) (ns : List Noted) (label : ℕ) → IsNew label xs → reads_under (without_each xs ns) label ≡ reads_under ns label
-under_without [] ns label new = refl
-under_without (x ∷ xs) ns label new =
-    let other : nat_eq label x ≡ false = ne_eqb label x (first_differs label x xs new) in
-    under_kept (λ y. not (nat_eq y x)) (without_each xs ns) label ∙ ap (λ b. cond (not b) (reads_under (without_each xs ns) label) []) other
-    ∙ under_without xs ns label (rest_new label x xs new)
+not_so : (b : Bool) → not b ≡ true → b ≡ false
+not_so true h = cc
+not_so false h = refl
 
--- those of labels that are others stay
-pub by_without : (xs labels : List ℕ) (ns : List Noted) → ((x : ℕ) → Contains labels x → IsNew x xs) → reads_by (without_each xs ns) labels ≡ reads_by ns labels
-by_without xs [] ns apart = refl
-by_without xs (l ∷ ls) ns apart =
-    ap (λ r. r ∷ reads_by (without_each xs ns) ls) (under_without xs ns l (apart l (stands l ls)))
-    ∙ ap (λ r. reads_under ns l ∷ r) (by_without xs ls ns (λ x there. apart x (Contains-append_right (l ∷ []) ls x there)))
-
--- a label whose reads are left, which is none of these
-pub record IsLeft (labels xs : List ℕ) (label : ℕ) : Type 0 where
-  pub there : Contains labels label
-  pub other : IsNew label xs
-
-not_in : (label : ℕ) → IsNew label []
-not_in label (i, lt, e) = absurd (omega arith)
-
-new_more : (label x : ℕ) (xs : List ℕ) → label ≢ x → IsNew label xs → IsNew label (x ∷ xs)
-new_more label x xs differs new (zero, lt, e) = differs (sym e)
-new_more label x xs differs new (suc i, lt, e) = new (i, omega arith, e)
-
-left_by : (labels xs : List ℕ) (x : ℕ) (n : Noted) (ns : List Noted) (b : Bool) → nat_eq (label_of n) x ≡ b → IsLeft labels xs (label_of n)
-    → AllByRecursion (IsLeft labels (x ∷ xs)) (map label_of (filter (λ m. not (nat_eq (label_of m) x)) ns))
-    → AllByRecursion (IsLeft labels (x ∷ xs)) (map label_of (cond (not b) (n ∷ filter (λ m. not (nat_eq (label_of m) x)) ns) (filter (λ m. not (nat_eq (label_of m) x)) ns)))
-left_by labels xs x n ns true is left more = more
-left_by labels xs x n ns false is left more =
-    (record { there = left.there; other = new_more (label_of n) x xs (eqb-false (label_of n) x is) left.other }, more)
-
-left_more : (labels xs : List ℕ) (x : ℕ) (ns : List Noted) → AllByRecursion (IsLeft labels xs) (map label_of ns) → AllByRecursion (IsLeft labels (x ∷ xs)) (map label_of (without x ns))
-left_more labels xs x [] all = tt
-left_more labels xs x (n ∷ ns) all = left_by labels xs x n ns (nat_eq (label_of n) x) refl all.0 (left_more labels xs x ns all.1)
-
-left_first : (labels : List ℕ) (ns : List Noted) → AllByRecursion (Contains labels) (map label_of ns) → AllByRecursion (IsLeft labels []) (map label_of ns)
-left_first labels [] all = tt
-left_first labels (n ∷ ns) all = (record { there = all.0; other = not_in (label_of n) }, left_first labels ns all.1)
-
-left_all : (labels xs : List ℕ) (ns : List Noted) → AllByRecursion (Contains labels) (map label_of ns) → AllByRecursion (IsLeft labels xs) (map label_of (without_each xs ns))
-left_all labels [] ns all = left_first labels ns all
-left_all labels (x ∷ xs) ns all = left_more labels xs x (without_each xs ns) (left_all labels xs ns all)
-
-behind_front : (labels : List ℕ) (n label : ℕ) → IsLeft labels (take n labels) label → Contains (drop n labels) label
-behind_front labels n label left =
-    let P : List ℕ → Type 0 = λ l. Contains l label in
-    elim (Contains-append_cases (take n labels) (drop n labels) label (subst P (sym (take-append-drop n labels)) left.there)) [
-      | inl front ↦ absurd (left.other front)
-      | inr back ↦ back
-    ]
-
-behind_all : (labels : List ℕ) (n : ℕ) (ls : List ℕ) → AllByRecursion (IsLeft labels (take n labels)) ls → AllByRecursion (Contains (drop n labels)) ls
-behind_all labels n [] all = tt
-behind_all labels n (l ∷ ls) all = (behind_front labels n l all.0, behind_all labels n ls all.1)
-
--- without the reads of so many of the first labels, reads are noted under the others alone
-pub known_left : (labels : List ℕ) (n : ℕ) (ns : List Noted) → All (Contains labels) (map label_of ns)
-    → All (Contains (drop n labels)) (map label_of (without_each (take n labels) ns))
-known_left labels n ns all =
-    All-from_recursion (Contains (drop n labels)) (map label_of (without_each (take n labels) ns))
-    (behind_all labels n (map label_of (without_each (take n labels) ns)) (left_all labels (take n labels) ns (recursion_from_All (Contains labels) (map label_of ns) all)))
+-- and nothing under other labels
+pub known_behind : (labels : List ℕ) (n : ℕ) (ns : List Noted) → IsApart labels → All (Contains labels) (map label_of ns)
+    → All (Contains (drop n labels)) (map label_of (noted_behind labels (slice_get labels n) ns))
+known_behind labels n ns apart all =
+    All-from_recursion (Contains (drop n labels)) (map label_of (noted_behind labels (slice_get labels n) ns))
+    (left_known (Contains labels) (Contains (drop n labels)) (λ x. not (is_before labels (slice_get labels n) x))
+    (λ x there stays. from_there labels apart n x there (not_so (is_before labels (slice_get labels n) x) stays)) ns
+    (recursion_from_All (Contains labels) (map label_of ns) all))

@@ -204,7 +204,8 @@ impl EntryMarks {
         ensures marks { (q : ℕ) → is_marked q self.new.marks ≡ is_marked (n + q) self.old.marks }
     {
         let count = self.places.len();
-        self.index.forget_all(self.places.first(n));
+        let end = self.places.get(n);
+        self.index.forget_before(self.places.order(), end);
         self.places.forget_first(n);
         self.marks.fold(n as u64, count);
     }

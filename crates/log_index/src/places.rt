@@ -1,5 +1,5 @@
 // Places in logged order, each with a label that stays when others come before it.
-ghost use Rattle.std.specs.Prelude.{◌≡◌, ◌+◌, ◌<◌, ◌≤◌, ◌∷◌, [], ◌++◌, true, IsTrue, IfOk, OnOk, OnErr, drop, insert, length, nat_lt, slice_index, take, vec_len, vec_capacity};
+ghost use Rattle.std.specs.Prelude.{◌≡◌, ◌+◌, ◌<◌, ◌≤◌, ◌∷◌, [], ◌++◌, true, IsTrue, IfOk, OnOk, OnErr, drop, insert, length, nat_lt, slice_get, slice_index, vec_len, vec_capacity};
 ghost use Rattle.std.specs.List.{Contains};
 ghost use Rattle.lang_lists.specs.Room.{is_made};
 ghost use Rattle.place_order.specs.Labels.{place_in, IsNew};
@@ -139,15 +139,17 @@ impl Places {
         &self.order
     }
 
-    /// The labels of so many of the first places.
-    pub fn first(&self, n: usize) -> &[u64]
-        requires { n ≤ length self.now.labels }
-        ensures { result.now ≡ take n self.now.labels }
+    /// The label at a place; None exactly past the end.
+    pub fn get(&self, place: usize) -> Option<u64>
+        ensures { result ≡ slice_get self.now.labels place }
     {
-        &self.labels[..n]
+        match self.labels.get(place) {
+            None => None,
+            Some(label) => Some(*label),
+        }
     }
 
-    /// The label at a place.
+    /// The label at a place that is there.
     pub fn label_at(&self, place: usize) -> u64
         requires { place < length self.now.labels }
         ensures there { Contains self.now.labels result }
