@@ -1,5 +1,5 @@
 -- A call that did an event of its own kind did it as an event by name.
-use Rattle.std.proofs.Common.{◌≡◌, Bool, true, false, refl, ap}
+use Rattle.std.proofs.Common.{◌≡◌, Bool, true, false, ap}
 use Rattle.lang_base.specs.Memory.{Unless}
 use Rattle.service_events.specs.Event.{telling}
 use Rattle.service_events.specs.State.{Kept, After, after}

@@ -1,5 +1,5 @@
 -- Laws of all events of a service: each is one statement, with a case for each event.
-use Rattle.std.proofs.Common.{◌≡◌, ℕ, List, [], ◌++◌, Option, Some, None, refl, sym, ap, ◌∙◌, take, arith}
+use Rattle.std.proofs.Common.{◌≡◌, ℕ, List, ◌++◌, Option, Some, None, refl, sym, ap, ◌∙◌, take, arith}
 use Rattle.lang_core.specs.declared.ids.Origin.TheVariants.{Outside, Call}
 use Rattle.request_log.specs.Entries.{find_call}
 use Rattle.journal_rows.specs.Words.{last_taken, ordered, fold_step}

@@ -1,5 +1,5 @@
 -- What a call leaves of a service's parts is a service again.
-use Rattle.std.proofs.Common.{◌≡◌, ◌∙◌, sym, ap, subst, ◌<◌, ◌≤◌, ◌^◌, Bool, true, false, Result, arith}
+use Rattle.std.proofs.Common.{◌≡◌, ◌∙◌, sym, ap, subst, Bool, true, false, Result, arith}
 use Rattle.lang_base.specs.Memory.{Unless, lacks}
 use Rattle.service_events.specs.State.{Kept, After, after}
 use Rattle.service_events.specs.Allowed.{IsAllowed}

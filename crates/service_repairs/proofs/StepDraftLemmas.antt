@@ -1,5 +1,5 @@
 -- A repair step of local repair over a book is the service's.
-use Rattle.std.proofs.Common.{◌≡◌, ◌∙◌, sym, ap, refl, subst, ℕ, Bool, List, [], ◌++◌, All, Result, Ok, Err, IfOk, get_or, set, take, map, length}
+use Rattle.std.proofs.Common.{◌≡◌, ◌∙◌, sym, ap, refl, subst, ℕ, Bool, List, ◌++◌, All, Result, Ok, Err, IfOk, get_or, set, take, map, length}
 use Rattle.lang_base.specs.declared.memory.NoMemory.{NoMemory}
 use Rattle.lang_core.specs.declared.cells.Cell.{Cell}
 use Rattle.lang_core.specs.declared.setting.Setting.{Setting}
