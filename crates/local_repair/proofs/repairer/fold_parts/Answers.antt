@@ -5,8 +5,8 @@ use Rattle.local_repair.specs.Current.{writes_of}
 use Rattle.local_repair.specs.Held.{looked}
 use Rattle.local_repair.proofs.repairer.fold_parts.Goals as goal
 
-pub first_texts-texts-requires : goal.first_texts-texts-requires
-first_texts-texts-requires c =
+pub first_texts-requires : goal.first_texts-requires
+first_texts-requires c =
     let n = ap length c.requires.tied in
     let m = length-map c.args.log.now.entries (λ (e : Entry). writes_of e.made) in
     let within = c.requires.within in
