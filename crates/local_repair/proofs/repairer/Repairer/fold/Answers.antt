@@ -1,4 +1,4 @@
-use Rattle.std.proofs.Common.{◌≡◌, ◌≤◌, ◌++◌, length, take, drop, ap, ◌∙◌, arith}
+use Rattle.std.proofs.Common.{◌≤◌, ◌++◌, length, take, drop, ap, ◌∙◌, arith}
 use Rattle.std.specs.List.{filter_map}
 use Rattle.request_log.specs.Entries.{KeptLog}
 use Rattle.request_log.specs.Folded.{folded_as}
