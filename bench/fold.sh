@@ -34,6 +34,17 @@ asks 1 80000 >"$folder/asks"
 (cat "$folder/asks"; echo "fold notes/75000 f1 root") >"$folder/folded"
 echo "a fold of 75,000 of 80,000 requests: $(more_than "$folder/folded" "$folder/asks") s"
 
+# The same where all requests read one row.
+same_row() { # TO
+    awk -v to="$1" 'BEGIN {
+        print "ask notes ann PUT /n/k0 value"
+        for (i = 2; i <= to; i++) print "ask notes ann GET /n/k0"
+    }'
+}
+same_row 80000 >"$folder/same"
+(cat "$folder/same"; echo "fold notes/75000 f1 root") >"$folder/same_folded"
+echo "a fold of 75,000 of 80,000 requests that read one row: $(more_than "$folder/same_folded" "$folder/same") s"
+
 # A service can take as many again behind the fold: without it the 100,001st would be refused.
 if [ -n "$timer" ]; then
     (cat "$folder/folded"; asks 80001 155000) >"$folder/again"
@@ -65,6 +76,27 @@ buys 1 5000 >"$folder/few"
 few=$(more_than "$folder/few_more" "$folder/few" @shops)
 behind=$(more_than "$folder/folded_more" "$folder/folded" @shops)
 echo "8,000 purchases among 5,000: $few s, behind the fold $behind s, ratio $(ratio "$behind" "$few")"
+
+# Twenty folds of 500 requests each, among so many rows: keys come four with each request, whose entries are folded as they come but for the last
+# thousand. Then come requests that read nothing, with and without these folds.
+keys_world >"$folder/keys.json"
+idle() { # FROM FOLD
+    awk -v from="$1" -v fold="$2" 'BEGIN {
+        for (i = from + 1; i <= from + 10000; i++) {
+            print "ask n a GET /z"
+            if (fold && i % fold == 0) printf "fold n/%d g%d r\n", i - 1000, i / fold
+        }
+    }'
+}
+folds_among() { # KEYS
+    local requests=$(($1 / 4))
+    (puts 0 "$1" 10000; idle "$requests" 0) >"$folder/front"
+    (puts 0 "$1" 10000; idle "$requests" 500) >"$folder/folds"
+    more_than "$folder/folds" "$folder/front" "$folder/keys.json"
+}
+few=$(folds_among 40000)
+many=$(folds_among 360000)
+echo "twenty folds of 500 requests: $few s among 40,000 rows, $many s among 360,000, ratio $(ratio "$many" "$few")"
 
 # A script has at most 16 MB, so a million lines have to be short: a service and a user of one letter each.
 cat >"$folder/short.json" <<'END'

@@ -6,20 +6,7 @@ most=${1:-1000000}
 . "$(dirname "${BASH_SOURCE[0]}")/timing.sh"
 needs_valgrind
 
-# A script has at most 16 MB, so lines have to be short: a service and a user of one letter each.
-cat >"$folder/keys.json" <<'END'
-{"services":[{"name":"n","program":"route PUT \"/*\" { put t (\"a\" ++ path(1)) = \"x\"; put t (\"b\" ++ path(1)) = \"x\"; put t (\"c\" ++ path(1)) = \"x\"; put t (\"d\" ++ path(1)) = \"x\"; reply 200 \"\"; } route GET \"/*\" { let n = 0; each k, v in t path(1) { let n = (n + 1); } reply 200 text(n); }","rules":"allow any any any /","secret":"s","console":"c","door":"d","workers":1}]}
-END
-
-# So many new keys in random order, after so many others; where FOLD isn't 0, all entries but the last thousand are folded after each FOLD requests.
-puts() { # FROM TO FOLD
-    awk -v from="$1" -v to="$2" -v fold="$3" 'BEGIN {
-        for (i = from / 4 + 1; i <= to / 4; i++) {
-            printf "ask n a PUT /%x\n", (i * 618031) % 1000003
-            if (fold && i % fold == 0) printf "fold n/%d f%d r\n", i - 1000, i / fold
-        }
-    }'
-}
+keys_world >"$folder/keys.json"
 
 # A hundred keys of one prefix in each of four letters, and a hundred scans of each of these.
 scanned() { for i in {1..100}; do echo "ask n a PUT /zz$i"; done; }

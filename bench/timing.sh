@@ -52,3 +52,22 @@ count() {
     valgrind --tool=callgrind --callgrind-out-file=/dev/null "$program" run "$1" "$2" 2>&1 >"$folder/told" |
         sed -n 's/.*Collected : *//p'
 }
+
+# A world of a service that writes four keys with each PUT, and counts those under a prefix with each GET. A script has at most 16 MB, so that lines of
+# a million keys have to be short: the service and its user have one letter each.
+keys_world() {
+    cat <<'END'
+{"services":[{"name":"n","program":"route PUT \"/*\" { put t (\"a\" ++ path(1)) = \"x\"; put t (\"b\" ++ path(1)) = \"x\"; put t (\"c\" ++ path(1)) = \"x\"; put t (\"d\" ++ path(1)) = \"x\"; reply 200 \"\"; } route GET \"/*\" { let n = 0; each k, v in t path(1) { let n = (n + 1); } reply 200 text(n); }","rules":"allow any any any /","secret":"s","console":"c","door":"d","workers":1}]}
+END
+}
+
+# So many new keys in that world in random order, after so many others; where FOLD isn't 0, all entries but the last thousand are folded after each FOLD
+# requests.
+puts() { # FROM TO FOLD
+    awk -v from="$1" -v to="$2" -v fold="$3" 'BEGIN {
+        for (i = from / 4 + 1; i <= to / 4; i++) {
+            printf "ask n a PUT /%x\n", (i * 618031) % 1000003
+            if (fold && i % fold == 0) printf "fold n/%d f%d r\n", i - 1000, i / fold
+        }
+    }'
+}
