@@ -7,9 +7,11 @@ use Rattle.handler_run.specs.HandedOn.{Origin}
 use Rattle.handler_run.specs.HandedOn.{Inputs}
 use Rattle.handler_run.specs.HandedOn.{Request}
 use Rattle.handler_run.specs.HandedOn.{Response}
+use Rattle.handler_run.specs.HandedOn.{Route}
 use Rattle.handler_run.specs.HandedOn.{Setting}
 use Rattle.handler_run.specs.HandedOn.{CallMade}
 use Rattle.handler_run.specs.HandedOn.{Trace}
+use Rattle.handler_run.specs.HandedOn.{with_program}
 use Rattle.handler_run.specs.Handlers.{run_of}
 use Rattle.handler_run.specs.declared.state.Ran.TheVariants.{Done}
 
@@ -26,9 +28,10 @@ pub record Act : Type 0 where
   -- whether its origin still wants it, and whether an order has struck it
   pub wanted : Bool
   pub struck : Bool
-  -- what it asks, and the clock and random words that it was given
+  -- what it asks, the clock and random words that it was given, and the program that it runs under
   pub request : Request
   pub inputs : Inputs
+  pub program : List Route
   -- the names of its calls, and the answers that these consumed
   pub numbers : List ℕ
   pub answers : List Response
@@ -49,10 +52,10 @@ survives a = a.wanted && not a.struck
 abbrev pub deed_of : Trace → Deed
 deed_of t = record { calls = t.calls; response = t.response }
 
--- the trace of a request: the run on these rows with the answers that its calls consumed, one answer and one name for each call; or nothing where it
--- doesn't survive; and that is what it did
+-- the trace of a request: the run of its program on these rows with the answers that its calls consumed, one answer and one name for each call; or
+-- nothing where it doesn't survive; and that is what it did
 pub record IsPlayed (setting : Setting) (rows : List Cell) (a : Act) (t : Trace) : Type 0 where
-  pub live : survives a ≡ true → run_of setting a.request a.inputs a.answers rows ≡ Done t
+  pub live : survives a ≡ true → run_of (with_program a.program setting) a.request a.inputs a.answers rows ≡ Done t
   pub dead : survives a ≡ false → t ≡ dead_trace
   pub consumed : a.answers ≡ t.answers
   pub answered : length a.answers ≡ length t.calls

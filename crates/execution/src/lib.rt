@@ -6,4 +6,4 @@
 //! What a run of a handler is, which stands below, is handed on to the crate above.
 #![tactic(auto)]
 
-pub use handler_run::{Ran, View, run};
+pub use handler_run::{Ran, View, run, same_handler};

@@ -5,6 +5,7 @@ pub mod IfLemmas
 pub mod OwnLemmas
 pub mod RunLaws
 pub mod RunLists
+pub mod SameHandlers
 pub mod TwoBlocks
 pub mod TwoCalls
 pub mod TwoRuns

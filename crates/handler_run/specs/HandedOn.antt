@@ -10,3 +10,7 @@ pub use Rattle.lang_core.specs.declared.request.Response.{Response}
 pub use Rattle.lang_core.specs.declared.setting.Setting.{Setting}
 pub use Rattle.lang_core.specs.declared.trace.CallMade.{CallMade}
 pub use Rattle.lang_core.specs.declared.trace.Trace.{Trace}
+pub use Rattle.lang_programs.specs.Numbered.{Numbered, block_code}
+pub use Rattle.lang_programs.specs.Settings.{with_program}
+pub use Rattle.lang_tree.specs.declared.program.Route.{Route}
+pub use Rattle.lang_tree.specs.declared.stmt.Block.{Block}

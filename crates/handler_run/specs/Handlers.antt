@@ -1,5 +1,5 @@
 -- What a service answers a request.
-use Rattle.std.specs.Prelude.{ℕ, List, [], ◌++◌, Option, Some, None, length, codes, decimal}
+use Rattle.std.specs.Prelude.{ℕ, List, [], ◌++◌, Option, Some, None, length, codes, decimal, option_map}
 use Rattle.lang_tree.specs.declared.program.Route.{Route}
 use Rattle.lang_tree.specs.declared.stmt.Block.{Block}
 use Rattle.lang_core.specs.declared.cells.Cell.{Cell}
@@ -70,3 +70,7 @@ run_route (Some r) g rows = run_block r.block g rows
 abbrev pub run_of : Setting → Request → Inputs → List Response → List Cell → Ran
 run_of setting request inputs answers rows =
     run_route (route_of setting.program request.method (segments_of request.path)) (given setting request inputs answers) rows
+
+-- the block that a program has for a request: that of the first route which takes it
+abbrev pub handler_of : List Route → Request → Option Block
+handler_of program request = option_map (λ (r : Route). r.block) (route_of program request.method (segments_of request.path))

@@ -7,13 +7,14 @@ ghost use Rattle.handler_run.specs.Laws.{IfDone, IfWants, IsDone, calls_of};
 ghost use Rattle.lang_values.specs.Paths.{route_of};
 ghost use Rattle.handler_run.specs.Reads.{GivesAll};
 ghost use Rattle.handler_run.specs.declared.state.Ran.TheVariants.{Done};
+ghost use Rattle.lang_programs.specs.Settings.{with_program};
 
 use crate::blocks::run_block;
 use crate::state::{Flow, Ran, State};
 use crate::view::View;
 use lang_core::{
-    Answers, Calls, Inputs, NoMemory, Reads, Request, Response, Route, Setting, SharedWrites, Text,
-    Trace, Writes,
+    Answers, Calls, Inputs, NoMemory, Program, Reads, Request, Response, Route, Setting,
+    SharedWrites, Text, Trace, Writes,
 };
 use lang_values::{Fault, Given, Recorded, Variables, route_of, segments_of};
 use std::alloc::Global;
@@ -135,27 +136,28 @@ fn run_route<V: View>(
     finish(alloc, flow, state)
 }
 
-/// Runs a request on the rows of a view, with the answers of its first calls: the first route that takes its method
-/// and its path runs, and without one the answer is 404.
+/// Runs a program's handler of a request on the rows of a view, with the answers of its first calls: the first route that takes
+/// its method and its path runs, and without one the answer is 404. The service's name and peers are the setting's.
 ///
 /// A run that comes to a call for which there is no answer wants it; run again with that answer too, it goes on.
 /// The only error is want of memory.
 pub fn run<V: View>(
     alloc: Global,
     setting: &Setting,
+    program: &Program,
     request: &Request,
     inputs: &Inputs,
     answers: &Answers,
     view: &V,
 ) -> Result<Ran, NoMemory>
-    ensures meaning { IfOk result (λ ran. ran ≡ run_of setting.now request.now inputs.now answers.now (V.rows view.now)) }
+    ensures meaning { IfOk result (λ ran. ran ≡ run_of (with_program program.now setting.now) request.now inputs.now answers.now (V.rows view.now)) }
 
     // What it recorded is what the rows give, and on any rows that give it the run is the same, whatever answers stand
     // behind those that it took.
     ensures reads { IfOk result (λ ran. IfDone ran (λ t. GivesAll (V.rows view.now) t.reads)) }
     ensures same { IfOk result (λ ran. IfDone ran (λ t.
         (others : List Cell) → GivesAll others t.reads → (later : List Response)
-        → run_of setting.now request.now inputs.now (t.answers ++ later) others ≡ Done t)) }
+        → run_of (with_program program.now setting.now) request.now inputs.now (t.answers ++ later) others ≡ Done t)) }
 
     // It took the first of the answers, one for each call.
     ensures takes { IfOk result (λ ran. IfDone ran (λ t. (rest : List Response) × (answers.now ≡ t.answers ++ rest))) }
@@ -166,11 +168,11 @@ pub fn run<V: View>(
     ensures starts { answers.now ≡ [] → IfOk result (λ ran. calls_of ran ≡ []) }
     ensures goes_on { IfOk result (λ ran. IfWants ran (λ slot calls call.
         (slot ≡ length answers.now) × (length calls ≡ length answers.now)
-        × ((x : Response) → calls_of (run_of setting.now request.now inputs.now (answers.now ++ x ∷ []) (V.rows view.now)) ≡ calls ++ call ∷ []))) }
+        × ((x : Response) → calls_of (run_of (with_program program.now setting.now) request.now inputs.now (answers.now ++ x ∷ []) (V.rows view.now)) ≡ calls ++ call ∷ []))) }
     ensures few { IfOk result (λ ran. IfWants ran (λ slot calls call. slot < 16)) }
     ensures alone { setting.now.peers ≡ [] → IfOk result (λ ran. IsDone ran) }
 {
     let segments = segments_of(alloc, &request.path)?;
     let given = Given::of(setting, request, &segments, inputs, answers);
-    run_route(alloc, &given, setting.program.routes(), view)
+    run_route(alloc, &given, program.routes(), view)
 }

@@ -5,6 +5,7 @@ mod blocks;
 mod calls;
 mod handler;
 mod reads;
+mod same;
 mod state;
 mod statements;
 mod steps;
@@ -12,5 +13,6 @@ mod view;
 
 pub use handler::run;
 pub use lang_values::{Fault, MOST_READ_BYTES};
+pub use same::same_handler;
 pub use state::Ran;
 pub use view::{RowsView, View};

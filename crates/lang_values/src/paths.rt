@@ -72,12 +72,44 @@ fn route_matches(method: Method, segments: &[&str], route: &Route) -> bool
         && segments_match(past_slash(route.pattern.as_str()), segments)
 }
 
+// Whether a path is matched that is cut as its pattern is, so that it takes no memory either.
+fn path_matches(pattern: &str, path: &str) -> bool
+    ensures { result ≡ segments_match (slice_split (λ b. b == 47) pattern.now) (slice_split (λ b. b == 47) path.now) }
+{
+    let mut parts = pattern.split('/');
+    for segment in path.split('/') {
+        let Some(part) = parts.next() else {
+            return false;
+        };
+        if !segment_matches(part, segment) {
+            return false;
+        }
+    }
+    parts.next().is_none()
+}
+
 /// The first route that takes the method and the segments; None exactly where none does.
 pub fn route_of<'a>(routes: &'a [Route], method: Method, segments: &[&str]) -> Option<&'a Route>
     ensures { option_copied result ≡ route_of routes.now method (map (λ x. x.now) segments.now) }
 {
     for route in routes {
         if route_matches(method, segments, route) {
+            return Some(route);
+        }
+    }
+    None
+}
+
+/// The first route that takes the method and the path; None exactly where none does. It takes no memory: who has the segments
+/// asks `route_of`.
+pub fn route_at<'a>(routes: &'a [Route], method: Method, path: &Text) -> Option<&'a Route>
+    ensures { option_copied result ≡ route_of routes.now method (segments_of path.now) }
+{
+    let path = past_slash(path.as_str());
+    for route in routes {
+        if same_method(route.method, method)
+            && path_matches(past_slash(route.pattern.as_str()), path)
+        {
             return Some(route);
         }
     }

@@ -1,0 +1,4 @@
+pub mod Numbered
+pub mod Printed
+pub mod Settings
+pub mod Under
