@@ -1,5 +1,5 @@
 // Programs, kept as the text that is printed of them.
-ghost use Rattle.std.specs.Prelude.{◌≡◌, Option, Some, None, true, IfOk, if◌then◌else◌};
+ghost use Rattle.std.specs.Prelude.{◌≡◌, ◌↔◌, Some, None, true, IfOk, IsTrue, if◌then◌else◌};
 ghost use Rattle.lang_tree.specs.Depths.{routes_fit};
 ghost use Rattle.lang_grammar.specs.Printing.{text_of};
 ghost use Rattle.lang_programs.specs.Printed.{IsKept, is_long, kept_program};
@@ -61,7 +61,7 @@ fn tree_beside(alloc: Global, text: &Text, program: &Program) -> Result<Option<P
     }
 }
 
-fn program_of(routes: Routes) -> Program
+fn program_from(routes: Routes) -> Program
     requires { routes_fit routes ≡ true }
     ensures { result ≡ routes }
 {
@@ -78,7 +78,7 @@ fn read_again(alloc: Global, text: &Text) -> Result<Program, NoMemory>
 {
     let found = lex(alloc, text.as_bytes())?;
     match routes(alloc, found.tokens.as_slice()) {
-        Ok(routes) => Ok(program_of(routes)),
+        Ok(routes) => Ok(program_from(routes)),
         Err(ReadFailed::NoMemory) => Err(NoMemory),
         Err(ReadFailed::At(_)) => unreachable!(),
     }
@@ -120,16 +120,18 @@ impl Copied for ProgramText {
     }
 }
 
-// Whether two trees that are kept are the same, as far as both are kept.
-fn same_trees(left: &Option<Program>, right: &Option<Program>) -> bool {
+fn same_tree(left: &Option<Program>, right: &Option<Program>) -> bool
+    ensures { IsTrue result ↔ (left.now ≡ right.now) }
+{
     match (left, right) {
+        (None, None) => true,
         (Some(left), Some(right)) => same_routes(left.routes(), right.routes()),
-        _ => true,
+        _ => false,
     }
 }
 
 impl Same for ProgramText {
     fn is(&self, other: &ProgramText) -> bool {
-        self.text.is(&other.text) && same_trees(&self.tree, &other.tree)
+        self.text.is(&other.text) && same_tree(&self.tree, &other.tree)
     }
 }
