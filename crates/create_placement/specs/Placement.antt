@@ -2,15 +2,14 @@
 use Rattle.std.specs.Prelude.{ℕ, ◌≡◌, ◌+◌, Bool, true, false, if◌then◌else◌, is_some, List, [], ◌∷◌, ◌++◌, length, Option, Some, None, unwrap_or, find, position, insert}
 use Rattle.request_log.specs.Entries.{has_id}
 use Rattle.request_log.specs.Folded.{has_number}
-use Rattle.request_log.specs.HandedOn.{Inputs}
-use Rattle.request_log.specs.HandedOn.{Request}
+use Rattle.request_log.specs.HandedOn.{Inputs, Numbered, Request, both_under}
 use Rattle.request_log.specs.declared.entry.Entry.{Entry}
 use Rattle.request_log.specs.declared.folded.Folded.{Folded}
 use Rattle.request_log.specs.HandedOn.{Outside}
 
--- an entry from outside that never ran
-abbrev pub created : ℕ → Request → Inputs → Entry
-created id request inputs =
+-- an entry from outside, under this program, that never ran
+abbrev pub created : ℕ → Request → Inputs → Numbered → Entry
+created id request inputs program =
     record {
       id = id;
       origin = Outside;
@@ -19,6 +18,7 @@ created id request inputs =
       wanted = true;
       struck = false;
       inputs = inputs;
+      under = both_under program;
       made = None;
       slots = [];
       answer_version = 0;

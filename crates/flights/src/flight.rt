@@ -1,10 +1,12 @@
 // A live request that waits, and what it does next.
-ghost use Rattle.std.specs.Prelude.{◌≡◌};
+ghost use Rattle.std.specs.Prelude.{◌≡◌, IfOk};
+ghost use Rattle.flights.specs.Corrections.{corrected_flight, has_program};
 ghost use Rattle.flights.specs.Numbers.{awaited};
 
 use lang_base::both;
 use lang_core::{CallMade, Copied, Inputs, NoMemory, Origin, Request, Seq, Shared};
 use lang_lists::Numbered;
+use lang_programs::Deployed;
 use repair_messages::copied_pair;
 use std::alloc::Global;
 
@@ -17,6 +19,8 @@ pub struct Flight {
     pub origin: Origin,
     pub request: Shared<Request>,
     pub inputs: Shared<Inputs>,
+    /// The program under which it runs.
+    pub program: Shared<Deployed>,
     /// Its calls so far, in the order of its slots.
     pub calls: Seq<CallMade>,
     /// The numbers of its calls.
@@ -58,17 +62,52 @@ impl Numbered for Flight {
 
 impl Copied for Flight {
     fn copied(&self, alloc: Global) -> Result<Flight, NoMemory> {
-        let asked = both(self.request.copied(alloc), self.inputs.copied(alloc));
-        let (origin, asked) = both(self.origin.copied(alloc), asked)?;
-        let (calls, numbers) = copied_pair(alloc, &self.calls, &self.numbers)?;
-        Ok(Flight {
-            id: self.id,
-            origin,
-            request: asked.0,
-            inputs: asked.1,
-            calls,
-            numbers,
-            changes: self.changes,
-        })
+        under(alloc, self, &self.program)
+    }
+}
+
+// A flight equal to this one, but for its program, which is this one.
+fn under(
+    alloc: Global,
+    flight: &Flight,
+    program: &Shared<Deployed>,
+) -> Result<Flight, NoMemory>
+    ensures { IfOk result (λ copy. copy ≡ record flight.now { program = program.now }) }
+{
+    let asked = both(flight.request.copied(alloc), flight.inputs.copied(alloc));
+    let begun = both(flight.origin.copied(alloc), program.copied(alloc));
+    let (begun, asked) = both(begun, asked)?;
+    let (calls, numbers) = copied_pair(alloc, &flight.calls, &flight.numbers)?;
+    Ok(Flight {
+        id: flight.id,
+        origin: begun.0,
+        request: asked.0,
+        inputs: asked.1,
+        program: begun.1,
+        calls,
+        numbers,
+        changes: flight.changes,
+    })
+}
+
+fn has_program(flight: &Flight, number: u64) -> bool
+    ensures { result ≡ has_program number flight.now }
+{
+    flight.program.get().number() == number
+}
+
+/// A flight equal to this one, but under the other program where its own has the number.
+pub(crate) fn corrected(
+    alloc: Global,
+    flight: &Flight,
+    number: u64,
+    program: &Shared<Deployed>,
+) -> Result<Flight, NoMemory>
+    ensures { IfOk result (λ copy. copy ≡ corrected_flight number program.now flight.now) }
+{
+    if has_program(flight, number) {
+        under(alloc, flight, program)
+    } else {
+        flight.copied(alloc)
     }
 }

@@ -1,12 +1,14 @@
 // Flights of a service, in the order of their numbers.
-ghost use Rattle.std.specs.Prelude.{◌≡◌, ◌+◌, ◌<◌, ◌≤◌, [], length, IsSome, IsOk, OnOk, OnErr, IfOk};
+ghost use Rattle.std.specs.Prelude.{◌≡◌, ◌+◌, ◌<◌, ◌≤◌, [], length, map, IsSome, IsOk, OnOk, OnErr, IfOk};
 ghost use Rattle.std.specs.Option.{option_copied};
 ghost use Rattle.lang_core.specs.Origins.{is_call};
+ghost use Rattle.flights.specs.Corrections.{corrected_flight};
 ghost use Rattle.flights.specs.Numbers.{flight_in, without_flight, with_flight, IsRising, free_from, IsLeastFree, same_call_origin, is_flying};
 
-use crate::flight::Flight;
-use lang_core::{Name, NoMemory, Origin, Same};
+use crate::flight::{Flight, corrected};
+use lang_core::{Name, NoMemory, Origin, Same, Shared};
 use lang_lists::Sorted;
+use lang_programs::Deployed;
 use std::alloc::Global;
 use std::marker::Model;
 
@@ -89,6 +91,37 @@ fn free_number(list: &[Flight]) -> u64
     id
 }
 
+// Puts a flight last, as it is or under the program that stands in place of that of a number.
+fn push_corrected(
+    alloc: Global,
+    list: &mut Sorted<Flight>,
+    flight: &Flight,
+    number: u64,
+    program: &Shared<Deployed>,
+) -> Result<(), NoMemory>
+    ensures { OnOk result (list.new.list ≡ with_flight (corrected_flight number program.now flight.now) list.old.list) }
+{
+    let copy = corrected(alloc, flight, number, program)?;
+    list.put(copy)
+}
+
+// These flights, with a program in place of that of a number.
+fn all_corrected(
+    alloc: Global,
+    flights: &[Flight],
+    number: u64,
+    program: &Shared<Deployed>,
+) -> Result<Sorted<Flight>, NoMemory>
+    requires { IsRising flights.now }
+    ensures { IfOk result (λ list. list.list ≡ map (corrected_flight number program.now) flights.now) }
+{
+    let mut list = Sorted::new(alloc);
+    for flight in flights {
+        push_corrected(alloc, &mut list, flight, number, program)?;
+    }
+    Ok(list)
+}
+
 impl Flights {
     /// No flights.
     pub fn new(alloc: Global) -> Flights
@@ -169,6 +202,21 @@ impl Flights {
         ensures spare { self.old.spare ≤ self.new.spare }
     {
         remove_from(&mut self.list, id)
+    }
+
+    /// Puts a program in place of that of a number, for each flight that has it; nothing is said of the room then. Refused,
+    /// nothing changes. It costs as a copy of the flights does.
+    pub fn correct(
+        &mut self,
+        alloc: Global,
+        number: u64,
+        program: &Shared<Deployed>,
+    ) -> Result<(), NoMemory>
+        ensures ok { OnOk result (self.new.list ≡ map (corrected_flight number program.now) self.old.list) }
+        ensures err { OnErr result (self.new ≡ self.old) }
+    {
+        self.list = all_corrected(alloc, self.list.as_slice(), number, program)?;
+        Ok(())
     }
 
     /// Equal flights; nothing is said of their room.

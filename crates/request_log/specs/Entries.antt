@@ -6,6 +6,8 @@ use Rattle.lang_core.specs.Origins.{is_call}
 use Rattle.lang_core.specs.declared.ids.Origin.{Origin}
 use Rattle.lang_core.specs.declared.ids.Origin.TheVariants.{Outside, Call}
 use Rattle.lang_core.specs.declared.request.Request.{Request}
+use Rattle.lang_programs.specs.Numbered.{Numbered}
+use Rattle.lang_programs.specs.Under.{corrected_under, settled}
 use Rattle.request_log.specs.declared.entry.Entry.{Entry}
 use Rattle.request_log.specs.declared.entry.Made.{Made}
 use Rattle.request_log.specs.declared.folded.Folded.{Folded}
@@ -45,10 +47,10 @@ IsKnown entry entries = IsSomeAnd (find (has_id entry.id) entries) (λ old. old.
 abbrev pub with_entry : Entry → List Entry → List Entry
 with_entry entry entries = slice_set entries (position_or_len (has_id entry.id) entries) entry
 
--- an entry after one more run: its record, its slots, the version of its answer, and how often it ran
+-- an entry after one more run: its record, which is made under the entry's own program, its slots, the version of its answer, and how often it ran
 abbrev pub with_run : Made → List ℕ → ℕ → ℕ → Entry → Entry
 with_run made slots answer_version runs e =
-    record e { made = Some made; slots = slots; answer_version = answer_version; runs = runs }
+    record e { under = settled e.under; made = Some made; slots = slots; answer_version = answer_version; runs = runs }
 
 -- struck, or not any more
 abbrev pub mark : Bool → Entry → Entry
@@ -78,6 +80,18 @@ abbrev pub AreReplaced : ℕ → Request → List Entry → List Entry → Type 
 AreReplaced id q old new = (method : Method) (path body : List ℕ)
     → option_map (with_call method path body) (request_at id old) ≡ Some q
     → new ≡ changed id (replace method path body) old
+
+-- the entry's program has this number
+abbrev pub has_program : ℕ → Entry → Bool
+has_program number e = nat_eq e.under.now.number number
+
+-- the entry with this program; its record stays what it was made under
+abbrev pub with_correction : Numbered → Entry → Entry
+with_correction program e = record e { under = corrected_under program e.under }
+
+-- an entry once this program stands in place of that of a number
+abbrev pub corrected : ℕ → Numbered → Entry → Entry
+corrected number program e = if has_program number e then with_correction program e else e
 
 -- a log: its folded entries in order, and behind them the others
 pub record KeptLog : Type 0 where

@@ -1,6 +1,7 @@
 -- Entries that are folded: nothing of them is repaired any more, and what they read and wrote is gone.
 use Rattle.std.specs.Prelude.{ℕ, Bool, ◌&&◌, not, List, [], ◌++◌, Option, Some, None, nat_eq, map, option_map}
 use Rattle.lang_core.specs.Origins.{is_call}
+use Rattle.lang_programs.specs.Under.{both_under}
 use Rattle.request_log.specs.Records.{Record, record_of}
 use Rattle.request_log.specs.declared.entry.Entry.{Entry}
 use Rattle.request_log.specs.declared.folded.Folded.{Folded}
@@ -16,6 +17,7 @@ folded_with e r =
       wanted = e.wanted;
       struck = e.struck;
       inputs = e.inputs;
+      program = e.under.now;
       calls = r.calls;
       answers = r.answers;
       slots = e.slots;
@@ -36,7 +38,7 @@ has_number id f = nat_eq f.id id
 abbrev pub has_caller : List ℕ → ℕ → Folded → Bool
 has_caller caller number f = is_call caller number f.origin
 
--- a folded entry as an entry: its record is of it as it is, and read and wrote nothing
+-- a folded entry as an entry: its record is of it as it is, under its own program, and read and wrote nothing
 abbrev pub as_entry : Folded → Entry
 as_entry f =
     record {
@@ -47,6 +49,7 @@ as_entry f =
       wanted = f.wanted;
       struck = f.struck;
       inputs = f.inputs;
+      under = both_under f.program;
       made = Some (record {
         alive = f.wanted && not f.struck;
         version = f.version;

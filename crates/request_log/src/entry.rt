@@ -1,12 +1,13 @@
 // Entries of a log, and their records.
 ghost use Rattle.std.specs.Prelude.{◌≡◌, IfOk};
 ghost use Rattle.lang_core.specs.Traces.{dead_trace};
-ghost use Rattle.request_log.specs.Entries.{asking, is_alive, mark, with_run};
+ghost use Rattle.request_log.specs.Entries.{asking, is_alive, mark, with_correction, with_run};
 
 use lang_base::both;
 use lang_core::{
     Copied, Inputs, NoMemory, Origin, Request, Response, Shared, SharedWrites, Text, ThinSeq, Trace,
 };
+use lang_programs::{Deployed, Under};
 use std::alloc::Global;
 use std::marker::Model;
 
@@ -49,6 +50,8 @@ pub struct Entry {
     pub struck: bool,
     /// What its runs draw from outside the rows, which a row of the journal holds too.
     pub inputs: Shared<Inputs>,
+    /// The program under which it runs, and that under which its record was made.
+    pub under: Under,
     /// Its record; None where it never ran.
     pub made: Option<Made>,
     /// The registers of its calls, one for each call of its trace, in order.
@@ -69,6 +72,7 @@ impl Drop for Entry {
             wanted: _,
             struck: _,
             inputs: _,
+            under: _,
             made: _,
             slots: _,
             answer_version: _,
@@ -78,7 +82,7 @@ impl Drop for Entry {
 }
 
 // An entry of a log is never taken out, so what each of them holds is paid for good.
-const _: () = prove!(size_of::<Entry>() == 208);
+const _: () = prove!(size_of::<Entry>() == 224);
 
 /// An entry as a log keeps it, seen as the entry: behind a pointer, so that a log moves few bytes for each when one is put
 /// between others, and one that is put into a log is handed on as it stands.
@@ -124,11 +128,12 @@ impl KeptEntry {
         std::mem::replace(&mut *self.inner, entry)
     }
 
-    /// Notes a run: the record, the slots, the version of the answer, and how often the entry ran.
+    /// Notes a run under the entry's program: the record, the slots, the version of the answer, and how often the entry ran.
     pub(crate) fn note_run(&mut self, made: Made, slots: Numbers, answer_version: u64, runs: u64)
         ensures { self.new ≡ with_run made slots answer_version runs self.old }
     {
         let entry = &mut *self.inner;
+        entry.under.settle();
         entry.made = Some(made);
         entry.slots = slots;
         entry.answer_version = answer_version;
@@ -147,6 +152,13 @@ impl KeptEntry {
         ensures { self.new ≡ asking request self.old }
     {
         self.inner.request = request;
+    }
+
+    /// Gives it another program, under which its record wasn't made.
+    pub(crate) fn correct(&mut self, program: Shared<Deployed>)
+        ensures { self.new ≡ with_correction program self.old }
+    {
+        self.inner.under.correct(program);
     }
 }
 
@@ -172,7 +184,8 @@ impl Copied for Entry {
     fn copied(&self, alloc: Global) -> Result<Entry, NoMemory> {
         let given = both(self.request.copied(alloc), self.inputs.copied(alloc));
         let asked = both(self.origin.copied(alloc), given);
-        let ran = both(Copied::copied(&self.made, alloc), self.slots.copied(alloc));
+        let made = both(self.under.copied(alloc), Copied::copied(&self.made, alloc));
+        let ran = both(made, self.slots.copied(alloc));
         let (asked, ran) = both(asked, ran)?;
         Ok(Entry {
             id: self.id,
@@ -182,7 +195,8 @@ impl Copied for Entry {
             wanted: self.wanted,
             struck: self.struck,
             inputs: asked.1.1,
-            made: ran.0,
+            under: ran.0.0,
+            made: ran.0.1,
             slots: ran.1,
             answer_version: self.answer_version,
             runs: self.runs,

@@ -15,6 +15,7 @@ use lang_core::{
     Answers, Calls, Copied, Inputs, Name, NoMemory, Origin, Request, Response, Shared,
 };
 use lang_lists::{HashIndex, call_key};
+use lang_programs::NumberedText;
 use std::alloc::Global;
 use std::marker::Model;
 
@@ -34,6 +35,8 @@ pub struct Folded {
     pub struck: bool,
     /// What its runs drew from outside the rows.
     pub inputs: Shared<Inputs>,
+    /// The program under which it ran last: its number and text. Its tree isn't kept for it.
+    pub program: Shared<NumberedText>,
     /// The calls of its last run, in order.
     pub calls: Calls,
     /// The answers that these consumed.
@@ -58,6 +61,7 @@ impl Drop for Folded {
             wanted: _,
             struck: _,
             inputs: _,
+            program: _,
             calls: _,
             answers: _,
             slots: _,
@@ -71,18 +75,19 @@ impl Drop for Folded {
 impl Copied for Folded {
     fn copied(&self, alloc: Global) -> Result<Folded, NoMemory> {
         let given = both(self.request.copied(alloc), self.inputs.copied(alloc));
-        let asked = both(self.origin.copied(alloc), given);
+        let asked = both(both(self.origin.copied(alloc), self.program.copied(alloc)), given);
         let called = both(self.calls.copied(alloc), self.answers.copied(alloc));
         let did = both(self.slots.copied(alloc), self.response.copied(alloc));
         let (asked, did) = both(asked, both(called, did))?;
         Ok(Folded {
             id: self.id,
-            origin: asked.0,
+            origin: asked.0.0,
             version: self.version,
             request: asked.1.0,
             wanted: self.wanted,
             struck: self.struck,
             inputs: asked.1.1,
+            program: asked.0.1,
             calls: did.0.0,
             answers: did.0.1,
             slots: did.1.0,
@@ -147,7 +152,8 @@ fn folded_with(alloc: Global, entry: &Entry, made: &Made) -> Result<Folded, NoMe
     ensures { IfOk result (λ folded. folded ≡ folded_with entry.now (record_in made.now)) }
 {
     let given = both(entry.request.copied(alloc), entry.inputs.copied(alloc));
-    let asked = both(entry.origin.copied(alloc), given);
+    let program = entry.under.now().get().text();
+    let asked = both(both(entry.origin.copied(alloc), program.copied(alloc)), given);
     let called = both(
         made.trace.calls.copied(alloc),
         made.trace.answers.copied(alloc),
@@ -156,12 +162,13 @@ fn folded_with(alloc: Global, entry: &Entry, made: &Made) -> Result<Folded, NoMe
     let (asked, did) = both(asked, both(called, did))?;
     Ok(Folded {
         id: entry.id,
-        origin: asked.0,
+        origin: asked.0.0,
         version: entry.version,
         request: asked.1.0,
         wanted: entry.wanted,
         struck: entry.struck,
         inputs: asked.1.1,
+        program: asked.0.1,
         calls: did.0.0,
         answers: did.0.1,
         slots: did.1.0,

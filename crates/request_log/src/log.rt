@@ -1,16 +1,18 @@
 // The log: entries in order.
-ghost use Rattle.std.specs.Prelude.{◌≡◌, ◌↔◌, ◌<◌, ◌≤◌, [], ◌∷◌, ◌++◌, All, drop, filter_map, take, length, find, position, insert, slice_get, slice_set, slice_index_or, OnOk, OnErr, IfOk, IsSome, IsTrue, is_some};
+ghost use Rattle.std.specs.Prelude.{◌≡◌, ◌↔◌, ◌<◌, ◌≤◌, [], ◌∷◌, ◌++◌, All, drop, filter_map, map, take, length, find, position, insert, slice_get, slice_set, slice_index_or, OnOk, OnErr, IfOk, IsSome, IsTrue, is_some};
 ghost use Rattle.std.specs.Option.{option_copied};
-ghost use Rattle.request_log.specs.Entries.{asking, changed, has_id, has_origin, mark, AreReplaced, IsNew, IsKnown, IsLog, with_entry, with_run};
+ghost use Rattle.request_log.specs.Entries.{asking, changed, corrected, has_id, has_origin, mark, AreReplaced, IsNew, IsKnown, IsLog, with_entry, with_run};
 ghost use Rattle.request_log.specs.Folded.{folded_as, has_caller, has_number, whole};
 ghost use Rattle.request_log.specs.declared.entry.Entry.{Entry};
 
+use crate::correcting::{copies_for, put_copies};
 use crate::entry::{Entry, KeptEntry, Made, Numbers};
 use crate::finding::{find_origin, indexes_of, make_room, origin_key, place_of};
 use crate::folded::{Folded, FoldedList};
 use lang_base::{both, copied_items};
 use lang_core::{Copied, Name, NoMemory, Request, Shared};
 use lang_lists::HashIndex;
+use lang_programs::Deployed;
 use std::alloc::{AllocFailed, Global};
 use std::marker::Model;
 
@@ -244,7 +246,7 @@ impl Log {
         self.items[place].replace(entry)
     }
 
-    /// Notes a run of the entry at a place, counted from 0: its record, its slots, the version of its answer, and how
+    /// Notes a run of the entry at a place, counted from 0, under its program: its record, its slots, the version of its answer, and how
     /// often it ran.
     pub fn note_run(
         &mut self,
@@ -292,6 +294,23 @@ impl Log {
                 true
             }
         }
+    }
+
+    /// Puts a program in place of that of a number, for each entry that has it. Refused, nothing changes. It costs with the
+    /// number of entries.
+    pub fn correct(
+        &mut self,
+        alloc: Global,
+        number: u64,
+        program: &Shared<Deployed>,
+    ) -> Result<(), NoMemory>
+        ensures entries { OnOk result (self.new.entries ≡ map (corrected number program.now) self.old.entries) }
+        ensures folded { self.new.folded ≡ self.old.folded }
+        ensures err { OnErr result (self.new ≡ self.old) }
+    {
+        let mut copies = copies_for(alloc, &self.items, number, program)?;
+        put_copies(&mut self.items, &mut copies);
+        Ok(())
     }
 
     /// Folds so many of the first entries, each of which ran: they stand behind those that were folded before, and what they
