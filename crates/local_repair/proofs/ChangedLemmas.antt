@@ -25,7 +25,6 @@ use Rattle.local_repair.specs.declared.remaking.Rerun.{Rerun}
 use Rattle.local_repair.proofs.AgreeLemmas.{alike_but_changes}
 use Rattle.local_repair.proofs.CurrentLemmas.{current_at}
 use Rattle.local_repair.proofs.GivesLemmas.{wrote}
-use Rattle.local_repair.proofs.HandlerLemmas.{IsHandler}
 use Rattle.local_repair.proofs.HeldLemmas.{held_current, kept_amended, kept_grown, kept_stepped}
 use Rattle.local_repair.proofs.StepLemmas.{entry_at, rerun_reads}
 
@@ -104,13 +103,13 @@ pub kept_calls : (base : List Cell) (entries : List Entry) (writes : List (List 
 kept_calls base entries writes m calls now kept called = record { ordered = kept.ordered; tied = kept.tied; looked = kept.looked; held = kept.held; quiet = λ none. kept.quiet (called none) }
 
 -- the first stale entry ran again, and that was noted
-pub kept_run : (setting : Setting) → IsHandler setting → (c : SlotsChange) (base : List Cell) (entries after : List Entry) (writes written : List (List Write)) (m m1 m2 : KeptMarks) (place : ℕ) (again : Rerun) (calls now : Bool)
+pub kept_run : (setting : Setting) (c : SlotsChange) (base : List Cell) (entries after : List Entry) (writes written : List (List Write)) (m m1 m2 : KeptMarks) (place : ℕ) (again : Rerun) (calls now : Bool)
     → IsKept base entries writes m calls → IsFirstStale c.before base entries place → ((d : Entry) → IsAgain setting c (rows_after base (take place entries)) (get_or entries place d) again)
     → ((d : Entry) → IsMarkedBehind place (writes_of (get_or entries place d).made) again.made.trace.writes m m1)
     → ((d : Entry) → after ≡ set entries place (noted again (get_or entries place d)))
     → m2.reads ≡ set m1.reads place (map read_at again.made.trace.reads) → ((q : ℕ) → is_marked q m2.marks ≡ (not (nat_lt q (place + 1)) && is_marked q m1.marks))
     → (now ≡ false → (calls ≡ false) × (again.numbers ≡ [])) → written ≡ all_written after → IsKept base after written m2 now
-kept_run setting h c base entries after writes written m m1 m2 place again calls now kept first a marked put reads cleared called tied =
+kept_run setting c base entries after writes written m m1 m2 place again calls now kept first a marked put reads cleared called tied =
     let x = entry_at entries place first.within in
     let was : Entry = x.0 in
     let at : (d : Entry) → get_or entries place d ≡ was = x.1 in
@@ -121,6 +120,6 @@ kept_run setting h c base entries after writes written m m1 m2 place again calls
     let behind = subst M (at was) (marked was) in
     let ran = subst A (at was) (a was) in
     let held : IsHeld rows (noted again was) =
-    record { alive = ran.rerun.alive; version = ran.rerun.version; request = ran.rerun.request; count = sym ran.settled.count; reads = rerun_reads setting h c.before rows was again.made ran.rerun } in
+    record { alive = ran.rerun.alive; version = ran.rerun.version; request = ran.rerun.request; count = sym ran.settled.count; reads = rerun_reads setting c.before rows was again.made ran.rerun; handler = λ alive. refl } in
     kept_stepped c.before base entries after writes written m m1 m2 place was (noted again was) (changes (wrote was) again.made.trace.writes) calls now
     kept called first at (alike_but_changes (wrote was) again.made.trace.writes behind.old behind.new) behind.marked reads cleared held (subst P (at was) (put was)) tied

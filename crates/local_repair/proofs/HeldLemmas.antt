@@ -45,7 +45,7 @@ rows_alike base entries after n same = sym (of_written base entries n) ∙ ap (�
 held_by : (consumed : Consumed) (rows : List Cell) (e : Entry) (made : Option Made) → IsSomeAnd made (λ m. IsCurrentRecord consumed rows e m) → IsSomeAnd made (λ m. IsHeldRecord rows e m)
 held_by consumed rows e None h = h
 held_by consumed rows e (Some m) h =
-    record { alive = h.alive; version = h.version; request = h.request; count = ap length h.answers ∙ length-map e.slots consumed; reads = h.reads }
+    record { alive = h.alive; version = h.version; request = h.request; count = ap length h.answers ∙ length-map e.slots consumed; reads = h.reads; handler = h.handler }
 
 -- what is current is held
 pub held_current : (consumed : Consumed) (rows : List Cell) (e : Entry) → IsCurrent consumed rows e → IsHeld rows e
@@ -54,7 +54,7 @@ held_current consumed rows e h = held_by consumed rows e e.made h
 moved_by : (before after : List Cell) (e : Entry) (made : Option Made) → (GivesAll before (reads_of made) → GivesAll after (reads_of made))
     → IsSomeAnd made (λ m. IsHeldRecord before e m) → IsSomeAnd made (λ m. IsHeldRecord after e m)
 moved_by before after e None give h = h
-moved_by before after e (Some m) give h = record { alive = h.alive; version = h.version; request = h.request; count = h.count; reads = give h.reads }
+moved_by before after e (Some m) give h = record { alive = h.alive; version = h.version; request = h.request; count = h.count; reads = give h.reads; handler = h.handler }
 
 -- an entry stays held on rows that give what it read
 moved : (before after : List Cell) (e : Entry) → (GivesAll before (reads_of e.made) → GivesAll after (reads_of e.made)) → IsHeld before e → IsHeld after e

@@ -26,7 +26,7 @@ kept_by : (consumed : Consumed) (rows : List Cell) (e : Entry) (o : Option Made)
 kept_by consumed rows e None is h = absurd h
 kept_by consumed rows e (Some m) is h =
     let A : List Response → Option Deed → Act =
-    λ xs did. record { id = e.id; origin = e.origin; wanted = e.wanted; struck = e.struck; request = e.request; inputs = e.inputs; numbers = e.slots; answers = xs; did = did } in
+    λ xs did. record { id = e.id; origin = e.origin; wanted = e.wanted; struck = e.struck; request = e.request; inputs = e.inputs; program = e.under.now.program; numbers = e.slots; answers = xs; did = did } in
     ap (λ xs. A xs (Some (deed_in (record_in m)))) h.answers ∙ ap (λ o. A (map consumed e.slots) (option_map deed_in (option_map record_in o))) (sym is)
 
 -- where none is stale, each did what is kept of it once it is folded, with the answers that are kept

@@ -20,7 +20,7 @@ use Rattle.local_repair.proofs.StepLemmas.{entry_at}
 current_by : (consumed : Consumed) (rows : List Cell) (e : Entry) (made : Option Made) → IsSomeAnd made (λ m. IsHeldRecord rows e m) → IsSomeAnd made (λ m. m.trace.answers ≡ map consumed e.slots)
     → IsSomeAnd made (λ m. IsCurrentRecord consumed rows e m)
 current_by consumed rows e None h a = h
-current_by consumed rows e (Some m) h a = record { alive = h.alive; version = h.version; request = h.request; reads = h.reads; answers = a }
+current_by consumed rows e (Some m) h a = record { alive = h.alive; version = h.version; request = h.request; reads = h.reads; answers = a; handler = h.handler }
 
 none_of : (xs : List Response) → length xs ≡ 0 → xs ≡ []
 none_of [] h = refl

@@ -17,6 +17,7 @@ use Rattle.request_log.specs.Entries.{is_alive, with_run}
 use Rattle.request_log.specs.declared.entry.Entry.{Entry}
 use Rattle.request_log.specs.declared.entry.Made.{Made}
 use Rattle.local_repair.specs.Current.{Consumed, after_entry, rows_after, IsCurrentRecord, IsCurrent, AllCurrent, IsFirstStale, IsRun, AllRuns}
+use Rattle.local_repair.specs.Programs.{setting_of, setting_ran}
 use Rattle.local_repair.specs.Registers.{SlotsChange}
 use Rattle.local_repair.specs.Settling.{HasItsSlots, CanSettle, IsAgain, noted, Leaves}
 use Rattle.local_repair.specs.Steps.{answers_for, calls_of_made, raised, raised_if, IsRerun, IsRemade, IsFreshOr, StandOnce, AreApart, RanFirst, StepsTo}
@@ -25,22 +26,23 @@ use Rattle.local_repair.specs.declared.remaking.Rerun.{Rerun}
 use Rattle.local_repair.specs.declared.stepped.Stepped.{Stepped}
 use Rattle.local_repair.specs.declared.stepped.Stepped.TheVariants.{Idle, Ran}
 use Rattle.local_repair.proofs.CurrentLemmas.{AllCurrent-more, next_later}
-use Rattle.local_repair.proofs.HandlerLemmas.{IsHandler}
+use Rattle.local_repair.proofs.HandlerLemmas.{handler}
 use Rattle.local_repair.proofs.TestLemmas.{step_with_none, step_with_at}
 
--- a new record is what a run gave
-rerun_is : (setting : Setting) → IsHandler setting → (consumed : Consumed) (rows : List Cell) (e : Entry) (m : Made) → IsRerun setting consumed rows e m → IsRun setting e.inputs m
-rerun_is setting h consumed rows e m r = record {
+-- a new record is what a run under the entry's program gave
+rerun_is : (setting : Setting) (consumed : Consumed) (rows : List Cell) (e : Entry) (m : Made) → IsRerun setting consumed rows e m → IsRun (setting_of setting e) e.inputs m
+rerun_is setting consumed rows e m r = record {
   live = λ alive other gives.
-      let again : run_of setting e.request e.inputs (m.trace.answers ++ []) other ≡ Done m.trace = h.same e.request e.inputs m.trace.answers [] rows other m.trace (r.live (sym r.alive ∙ alive)) gives in
-      ap (λ (q : Request). run_of setting q e.inputs m.trace.answers other) r.request ∙ ap (λ xs. run_of setting e.request e.inputs xs other) (sym (append-nil m.trace.answers)) ∙ again;
+      let own : Setting = setting_of setting e in
+      let again : run_of own e.request e.inputs (m.trace.answers ++ []) other ≡ Done m.trace = (handler own).same e.request e.inputs m.trace.answers [] rows other m.trace (r.live (sym r.alive ∙ alive)) gives in
+      ap (λ (q : Request). run_of own q e.inputs m.trace.answers other) r.request ∙ ap (λ xs. run_of own e.request e.inputs xs other) (sym (append-nil m.trace.answers)) ∙ again;
   dead = λ dead. r.dead (sym r.alive ∙ dead);
 }
 
 -- its reads are what the rows give
-pub rerun_reads : (setting : Setting) → IsHandler setting → (consumed : Consumed) (rows : List Cell) (e : Entry) (m : Made) → IsRerun setting consumed rows e m → GivesAll rows m.trace.reads
-rerun_reads setting h consumed rows e m r = elim (cases_Bool (is_alive e)) [
-  | inl alive ↦ h.reads e.request e.inputs m.trace.answers rows m.trace (r.live alive)
+pub rerun_reads : (setting : Setting) (consumed : Consumed) (rows : List Cell) (e : Entry) (m : Made) → IsRerun setting consumed rows e m → GivesAll rows m.trace.reads
+rerun_reads setting consumed rows e m r = elim (cases_Bool (is_alive e)) [
+  | inl alive ↦ (handler (setting_of setting e)).reads e.request e.inputs m.trace.answers rows m.trace (r.live alive)
   | inr dead ↦ (let P : Trace → Type 0 = λ t. GivesAll rows t.reads in subst P (sym (r.dead dead)) (All-nil (Gives rows)))
 ]
 
@@ -69,7 +71,7 @@ map_same f g (n ∷ ns) same =
 same_current : (f g : Consumed) (rows : List Cell) (e : Entry) (made : Option Made) → map g e.slots ≡ map f e.slots
     → IsSomeAnd made (λ m. IsCurrentRecord f rows e m) → IsSomeAnd made (λ m. IsCurrentRecord g rows e m)
 same_current f g rows e None same h = h
-same_current f g rows e (Some m) same h = record { alive = h.alive; version = h.version; request = h.request; reads = h.reads; answers = h.answers ∙ sym same }
+same_current f g rows e (Some m) same h = record { alive = h.alive; version = h.version; request = h.request; reads = h.reads; answers = h.answers ∙ sym same; handler = h.handler }
 
 all_same_current : (f g : Consumed) (es : List Entry) (rows : List Cell) → ((e : Entry) → Contains es e → map g e.slots ≡ map f e.slots) → AllCurrent f rows es → AllCurrent g rows es
 all_same_current f g [] rows same h = tt
@@ -131,21 +133,21 @@ apart_after last last' entries place x y apart l at fresh once higher = record {
     old_is j d e = sym (at d) ∙ ap (λ k. get_or entries k d) (sym e)
 
 -- what a step leaves where the first stale entry ran again
-step_leaves : (setting : Setting) → IsHandler setting → (c : SlotsChange) (base : List Cell) (entries : List Entry) (place : ℕ) (was : Entry) (again : Rerun)
+step_leaves : (setting : Setting) (c : SlotsChange) (base : List Cell) (entries : List Entry) (place : ℕ) (was : Entry) (again : Rerun)
     → IsFirstStale c.before base entries place → ((d : Entry) → get_or entries place d ≡ was) → IsAgain setting c (rows_after base (take place entries)) was again
     → AllRuns setting entries → AreApart c.last entries → All HasItsSlots entries → Leaves setting c base place (set entries place (noted again was))
-step_leaves setting h c base entries place was again first at a runs apart own =
+step_leaves setting c base entries place was again first at a runs apart own =
     let rows = rows_after base (take place entries) in
     let z : Entry = noted again was in
     let m : Made = again.made in
     let l = first.within in
-    let current : c.timely → IsCurrent c.after rows z = λ ok. record { alive = a.rerun.alive; version = a.rerun.version; request = a.rerun.request; reads = rerun_reads setting h c.before rows was m a.rerun; answers = sym (a.settled.consumes ok) } in
+    let current : c.timely → IsCurrent c.after rows z = λ ok. record { alive = a.rerun.alive; version = a.rerun.version; request = a.rerun.request; reads = rerun_reads setting c.before rows was m a.rerun; answers = sym (a.settled.consumes ok); handler = λ alive. refl } in
     let before : AllCurrent c.after base (take place entries) = all_same_current c.before c.after (take place entries) base (λ e k. map_same c.before c.after e.slots (λ n there.
     let o = others_apart c.last entries place was apart l e k n there in
     a.settled.others n o.0 (λ mine. o.1 (let E : Entry → Type 0 = λ v. Contains v.slots n in subst E (sym (at was)) mine)))) first.before in
     let many : length again.numbers ≡ length m.trace.calls = a.settled.count ∙ ap length a.rerun.answers ∙ length-answers_for c.before (calls_of_made was.made) was.slots m.trace.calls in
     record {
-      runs = All-set (λ e. IfSome e.made (IsRun setting e.inputs)) entries place z (rerun_is setting h c.before rows was m a.rerun) runs;
+      runs = All-set (λ e. IfSome e.made (IsRun (setting_ran setting e) e.inputs)) entries place z (rerun_is setting c.before rows was m a.rerun) runs;
       apart = apart_after c.last c.later entries place was z apart l at a.settled.fresh a.settled.once a.settled.higher;
       own = All-set HasItsSlots entries place z many own;
       before = (rw length-set (omega (arith, l)), rw (take-set entries place z) before);
@@ -153,13 +155,13 @@ step_leaves setting h c base entries place was again first at a runs apart own =
     }
 
 -- the same, as a step
-ran_first : (setting : Setting) → IsHandler setting → (c : SlotsChange) (base : List Cell) (entries after : List Entry) (place : ℕ) (was : Entry) (again : Rerun)
+ran_first : (setting : Setting) (c : SlotsChange) (base : List Cell) (entries after : List Entry) (place : ℕ) (was : Entry) (again : Rerun)
     → IsFirstStale c.before base entries place → ((d : Entry) → get_or entries place d ≡ was) → IsAgain setting c (rows_after base (take place entries)) was again
     → AllRuns setting entries → AreApart c.last entries → All HasItsSlots entries → after ≡ set entries place (noted again was)
     → Leaves setting c base place after × RanFirst setting c base entries was.id again.answered after
-ran_first setting h c base entries after place was again first at a runs apart own e =
+ran_first setting c base entries after place was again first at a runs apart own e =
     let left : Leaves setting c base place after =
-    (let P : List Entry → Type 0 = λ xs. Leaves setting c base place xs in subst P (sym e) (step_leaves setting h c base entries place was again first at a runs apart own)) in (
+    (let P : List Entry → Type 0 = λ xs. Leaves setting c base place xs in subst P (sym e) (step_leaves setting c base entries place was again first at a runs apart own)) in (
       left,
       record {
         place = place;
@@ -191,12 +193,12 @@ entry_at (x ∷ xs) zero l = (x, λ d. refl)
 entry_at (x ∷ xs) (suc place) l = entry_at xs place (omega (arith, l))
 
 -- what a step answers and leaves, from what was run again and noted
-pub stepped : (setting : Setting) → IsHandler setting → (c : SlotsChange) (base : List Cell) (entries after : List Entry) (place : ℕ) (again : Rerun) (answer : Stepped) → IsFirstStale c.before base entries place
+pub stepped : (setting : Setting) (c : SlotsChange) (base : List Cell) (entries after : List Entry) (place : ℕ) (again : Rerun) (answer : Stepped) → IsFirstStale c.before base entries place
     → ((d : Entry) → IsAgain setting c (rows_after base (take place entries)) (get_or entries place d) again)
     → ((d : Entry) → answer ≡ Ran (get_or entries place d).id again.answered) → ((d : Entry) → after ≡ set entries place (noted again (get_or entries place d)))
     → AllRuns setting entries → AreApart c.last entries → All HasItsSlots entries
     → Leaves setting c base place after × StepsTo setting c base entries answer after
-stepped setting h c base entries after place again answer first a told put runs apart own =
+stepped setting c base entries after place again answer first a told put runs apart own =
     let x = entry_at entries place first.within in
     let was : Entry = x.0 in
     let at : (d : Entry) → get_or entries place d ≡ was = x.1 in
@@ -204,7 +206,7 @@ stepped setting h c base entries after place again answer first a told put runs 
     let P : Entry → Type 0 = λ e. after ≡ set entries place (noted again e) in
     let T : Entry → Type 0 = λ e. answer ≡ Ran e.id again.answered in
     let S : Stepped → Type 0 = λ s. StepsTo setting c base entries s after in
-    let r = ran_first setting h c base entries after place was again first at (subst A (at was) (a was)) runs apart own (subst P (at was) (put was)) in
+    let r = ran_first setting c base entries after place was again first at (subst A (at was) (a was)) runs apart own (subst P (at was) (put was)) in
     (r.0, subst S (sym (subst T (at was) (told was))) r.1)
 
 -- a step is a function of the log where an entry made anew is a function of the rows and the entry

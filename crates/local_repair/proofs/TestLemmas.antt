@@ -1,5 +1,5 @@
 -- The tests say what the facts say: which entry is current, which is the first that is stale, and what a step makes of a log.
-use Rattle.std.proofs.Common.{◌≡◌, ℕ, zero, suc, ◌<◌, true, false, ◌&&◌, List, [], ◌∷◌, Option, Some, None, IsSomeAnd, map, length, get_or, set, take, refl, sym, ap, inl, inr, arith, nat_eq, option_map, eqb-true, eq-eqb}
+use Rattle.std.proofs.Common.{◌≡◌, ℕ, zero, suc, ◌<◌, Bool, true, false, not, ◌&&◌, ◌||◌, List, [], ◌∷◌, Option, Some, None, IsSomeAnd, map, length, get_or, set, take, refl, sym, ap, inl, inr, arith, nat_eq, option_map, eqb-true, eq-eqb}
 use Rattle.std.specs.Coded.{coded_ℕ, coded_bool, coded_list, coded_option}
 use Rattle.std.specs.List.{list_all}
 use Rattle.std.proofs.lemmas.Bool.{and_parts, and_from, cases_Bool}
@@ -15,13 +15,15 @@ use Rattle.lang_core.specs.contracts.request.Response as response
 use Rattle.lang_core.specs.declared.cells.Cell.{Cell}
 use Rattle.lang_core.specs.declared.trace.Read.{Read}
 use Rattle.lang_core.specs.declared.trace.Read.TheVariants.{Key, Scan}
-use Rattle.execution.specs.HandedOn.{Gives, GivesAll}
+use Rattle.lang_programs.specs.Numbered.{block_code}
+use Rattle.execution.specs.HandedOn.{Gives, GivesAll, handler_of}
 use Rattle.request_log.specs.Entries.{is_alive}
 use Rattle.request_log.specs.declared.entry.Entry.{Entry}
 use Rattle.request_log.specs.declared.entry.Made.{Made}
 use Rattle.local_repair.specs.Current.{Consumed, after_entry, rows_after, IsCurrentRecord, IsCurrent, AllCurrent, IsFirstStale}
 use Rattle.local_repair.specs.Repairs.{IsStaleId, stale_id}
-use Rattle.local_repair.specs.Tests.{gives, is_current_record, has_current, is_current, first_stale, step_with}
+use Rattle.local_repair.specs.Programs.{HasItsHandler}
+use Rattle.local_repair.specs.Tests.{gives, has_its_handler, is_current_record, has_current, is_current, first_stale, step_with}
 
 pub gives-true : (rows : List Cell) (r : Read) → gives rows r ≡ true → Gives rows r
 gives-true rows (Key t k found) h = equal-true (coded_option (coded_list coded_ℕ)) (get rows t k) found h
@@ -39,6 +41,27 @@ reads-from : (rows : List Cell) (reads : List Read) → GivesAll rows reads → 
 reads-from rows reads h =
     list_all-from_AllPass (gives rows) reads (All-weaker (Gives rows) (λ r. gives rows r ≡ true) (λ r. gives-from rows r) reads h)
 
+alive_false : (b c : Bool) → (not b || c) ≡ true → b ≡ true → c ≡ true
+alive_false true c h alive = h
+alive_false false c h alive = cc
+
+alive_or : (b c : Bool) → (b ≡ true → c ≡ true) → (not b || c) ≡ true
+alive_or true c h = h refl
+alive_or false c h = refl
+
+-- whether the handler is the same
+abbrev leads_alike : Entry → Bool
+leads_alike e = equal (coded_option block_code) (handler_of e.under.ran.program e.request) (handler_of e.under.now.program e.request)
+
+pub handler_true : (e : Entry) → has_its_handler e ≡ true → HasItsHandler e
+handler_true e h = λ alive.
+    equal-true (coded_option block_code) (handler_of e.under.ran.program e.request) (handler_of e.under.now.program e.request) (alive_false (is_alive e) (leads_alike e) h alive)
+
+pub handler_from : (e : Entry) → HasItsHandler e → has_its_handler e ≡ true
+handler_from e h =
+    alive_or (is_alive e) (leads_alike e)
+    (λ alive. equal-same (coded_option block_code) (handler_of e.under.ran.program e.request) (handler_of e.under.now.program e.request) (h alive))
+
 record_true : (consumed : Consumed) (rows : List Cell) (e : Entry) (m : Made) → is_current_record consumed rows e m ≡ true → IsCurrentRecord consumed rows e m
 record_true consumed rows e m h =
     let a = equal coded_bool m.alive (is_alive e) in
@@ -46,7 +69,8 @@ record_true consumed rows e m h =
     let q = equal request.the_row.coded m.request e.request in
     let r = list_all (gives rows) m.trace.reads in
     let s = equal (coded_list response.the_row.coded) m.trace.answers (map consumed e.slots) in
-    let p4 = and_parts (a && v && q && r) s h in
+    let p5 = and_parts (a && v && q && r && s) (has_its_handler e) h in
+    let p4 = and_parts (a && v && q && r) s p5.0 in
     let p3 = and_parts (a && v && q) r p4.0 in
     let p2 = and_parts (a && v) q p3.0 in
     let p1 = and_parts a v p2.0 in
@@ -56,6 +80,7 @@ record_true consumed rows e m h =
       request = equal-true request.the_row.coded m.request e.request p2.1;
       reads = reads-true rows m.trace.reads p3.1;
       answers = equal-true (coded_list response.the_row.coded) m.trace.answers (map consumed e.slots) p4.1;
+      handler = handler_true e p5.1;
     }
 
 record_from : (consumed : Consumed) (rows : List Cell) (e : Entry) (m : Made) → IsCurrentRecord consumed rows e m → is_current_record consumed rows e m ≡ true
@@ -65,13 +90,15 @@ record_from consumed rows e m h =
     let q = equal request.the_row.coded m.request e.request in
     let r = list_all (gives rows) m.trace.reads in
     let s = equal (coded_list response.the_row.coded) m.trace.answers (map consumed e.slots) in
-    and_from (a && v && q && r) s
+    and_from (a && v && q && r && s) (has_its_handler e)
+    (and_from (a && v && q && r) s
     (and_from (a && v && q) r
     (and_from (a && v) q
     (and_from a v (equal-same coded_bool m.alive (is_alive e) h.alive) (eq-eqb m.version e.version h.version))
     (equal-same request.the_row.coded m.request e.request h.request))
     (reads-from rows m.trace.reads h.reads))
-    (equal-same (coded_list response.the_row.coded) m.trace.answers (map consumed e.slots) h.answers)
+    (equal-same (coded_list response.the_row.coded) m.trace.answers (map consumed e.slots) h.answers))
+    (handler_from e h.handler)
 
 has_true : (consumed : Consumed) (rows : List Cell) (e : Entry) (made : Option Made) → has_current consumed rows e made ≡ true
     → IsSomeAnd made (λ m. IsCurrentRecord consumed rows e m)

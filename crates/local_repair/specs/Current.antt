@@ -15,6 +15,7 @@ use Rattle.request_log.specs.Entries.{is_alive}
 use Rattle.request_log.specs.declared.entry.Entry.{Entry}
 use Rattle.request_log.specs.declared.entry.Made.{Made}
 use Rattle.std.specs.Prelude.{true, false}
+use Rattle.local_repair.specs.Programs.{setting_ran, HasItsHandler}
 
 -- the writes of a record, if there is one
 abbrev pub writes_of : Option Made → List Write
@@ -33,13 +34,14 @@ rows_after rows entries = fold after_entry rows entries
 abbrev pub Consumed : Type 0
 Consumed = ℕ → Response
 
--- a record is of the entry as it is now, and it read and consumed what there is now
+-- a record is of the entry as it is now, made by the handler that is the entry's now, and it read and consumed what there is now
 pub record IsCurrentRecord (consumed : Consumed) (rows : List Cell) (e : Entry) (m : Made) : Type 0 where
   pub alive : m.alive ≡ is_alive e
   pub version : m.version ≡ e.version
   pub request : m.request ≡ e.request
   pub reads : GivesAll rows m.trace.reads
   pub answers : m.trace.answers ≡ map consumed e.slots
+  pub handler : HasItsHandler e
 
 -- an entry that isn't stale, where these are the rows before it
 abbrev pub IsCurrent : Consumed → List Cell → Entry → Type 0
@@ -67,6 +69,6 @@ pub record IsRun (setting : Setting) (inputs : Inputs) (m : Made) : Type 0 where
       → run_of setting m.request inputs m.trace.answers rows ≡ Done m.trace
   pub dead : m.alive ≡ false → m.trace ≡ dead_trace
 
--- each record is what a run gave
+-- each record is what a run gave, under the program of which it was made
 abbrev pub AllRuns : Setting → List Entry → Type 0
-AllRuns setting entries = All (λ e. IfSome e.made (IsRun setting e.inputs)) entries
+AllRuns setting entries = All (λ e. IfSome e.made (IsRun (setting_ran setting e) e.inputs)) entries

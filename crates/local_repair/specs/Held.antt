@@ -14,15 +14,17 @@ use Rattle.log_index.specs.HandedOn.{read_at}
 use Rattle.log_index.specs.HandedOn.{ReadAt}
 use Rattle.log_index.specs.Marks.{KeptMarks, changes, is_marked, sees}
 use Rattle.local_repair.specs.Current.{Consumed, IsCurrent, rows_after}
+use Rattle.local_repair.specs.Programs.{HasItsHandler}
 use Rattle.local_repair.specs.Written.{all_written}
 
--- a record is of the entry as it is now, and read what there is now; it consumed an answer for each slot, whatever these consume now
+-- a record is of the entry as it is now, made by the handler that is the entry's now, and read what there is now; it consumed an answer for each slot, whatever these consume now
 pub record IsHeldRecord (rows : List Cell) (e : Entry) (m : Made) : Type 0 where
   pub alive : m.alive ≡ is_alive e
   pub version : m.version ≡ e.version
   pub request : m.request ≡ e.request
   pub count : length m.trace.answers ≡ length e.slots
   pub reads : GivesAll rows m.trace.reads
+  pub handler : HasItsHandler e
 
 -- an entry that can be stale by an answer alone, where these are the rows before it
 abbrev pub IsHeld : List Cell → Entry → Type 0

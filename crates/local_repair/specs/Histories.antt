@@ -15,7 +15,7 @@ use Rattle.local_repair.specs.Current.{Consumed, rows_after}
 abbrev pub deed_in : Record → Deed
 deed_in r = record { calls = r.calls; response = r.response }
 
--- an entry as a request of a history, with these answers
+-- an entry as a request of a history, under its program, with these answers
 abbrev pub act_with : List Response → Entry → Act
 act_with answers e =
     record {
@@ -25,6 +25,7 @@ act_with answers e =
       struck = e.struck;
       request = e.request;
       inputs = e.inputs;
+      program = e.under.now.program;
       numbers = e.slots;
       answers = answers;
       did = option_map deed_in (record_of e);

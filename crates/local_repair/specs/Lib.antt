@@ -1,8 +1,10 @@
 pub mod Alone
+pub mod Corrections
 pub mod Current
 pub mod Held
 pub mod Histories
 pub mod Parts
+pub mod Programs
 pub mod Registers
 pub mod Repairs
 pub mod Settling

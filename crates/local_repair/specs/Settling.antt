@@ -10,6 +10,7 @@ use Rattle.execution.specs.HandedOn.{Done}
 use Rattle.request_log.specs.Entries.{with_run}
 use Rattle.request_log.specs.declared.entry.Entry.{Entry}
 use Rattle.local_repair.specs.Current.{AllCurrent, AllRuns}
+use Rattle.local_repair.specs.Programs.{setting_of}
 use Rattle.local_repair.specs.Registers.{SlotsChange}
 use Rattle.local_repair.specs.Steps.{calls_of_made, is_new_answer, raised, raised_if, IsRerun, IsFreshOr, StandOnce, AreApart}
 use Rattle.local_repair.specs.declared.remaking.Rerun.{Rerun}
@@ -22,9 +23,9 @@ HasItsSlots e = length e.slots ≡ length (calls_of_made e.made)
 abbrev pub HasSlotsOnce : Entry → Type 0
 HasSlotsOnce e = StandOnce e.slots
 
--- whatever a run of the entry comes to can be settled
+-- whatever a run of the entry under its program comes to can be settled
 pub record CanSettle (can : Entry → Trace → Type 0) (setting : Setting) (e : Entry) : Type 0 where
-  pub live : (rows : List Cell) (t : Trace) → run_of setting e.request e.inputs t.answers rows ≡ Done t → can e t
+  pub live : (rows : List Cell) (t : Trace) → run_of (setting_of setting e) e.request e.inputs t.answers rows ≡ Done t → can e t
   pub dead : can e dead_trace
 
 -- a trace without calls

@@ -13,10 +13,12 @@ use Rattle.execution.specs.HandedOn.{run_of}
 use Rattle.execution.specs.HandedOn.{Ran as Outcome}
 use Rattle.execution.specs.HandedOn.{Done, Wants}
 use Rattle.request_log.specs.Entries.{is_alive}
+use Rattle.request_log.specs.HandedOn.{settled}
 use Rattle.request_log.specs.Records.{record_in, recorded_calls}
 use Rattle.request_log.specs.declared.entry.Entry.{Entry}
 use Rattle.request_log.specs.declared.entry.Made.{Made}
 use Rattle.local_repair.specs.Current.{Consumed, AllCurrent, IsFirstStale, rows_after}
+use Rattle.local_repair.specs.Programs.{setting_of}
 use Rattle.local_repair.specs.Registers.{SlotsChange}
 use Rattle.local_repair.specs.declared.stepped.Stepped.{Stepped}
 use Rattle.local_repair.specs.declared.stepped.Stepped.TheVariants.{Idle, Ran}
@@ -66,19 +68,19 @@ trace_through zero run answer xs = dead_trace
 trace_through (suc turns) run answer xs =
     ended_or (run xs) (λ call. trace_through turns run answer (xs ++ answer (length xs) call ∷ []))
 
--- the trace of an entry that runs again on these rows from its start, its calls answered as their slots consume; a run has 16 calls at most
+-- the trace of an entry that runs again under its program on these rows from its start, its calls answered as their slots consume; a run has 16 calls at most
 abbrev pub trace_again : Setting → Consumed → List Cell → Entry → Trace
 trace_again setting consumed rows e =
     if is_alive e
-    then trace_through 17 (λ xs. run_of setting e.request e.inputs xs rows) (answer_at consumed (calls_of_made e.made) e.slots) []
+    then trace_through 17 (λ xs. run_of (setting_of setting e) e.request e.inputs xs rows) (answer_at consumed (calls_of_made e.made) e.slots) []
     else dead_trace
 
--- a new record of an entry on these rows: its run, whose calls get the old answers where they are the old calls, or the dead trace
+-- a new record of an entry on these rows: its run under its program, whose calls get the old answers where they are the old calls, or the dead trace
 pub record IsRerun (setting : Setting) (consumed : Consumed) (rows : List Cell) (e : Entry) (m : Made) : Type 0 where
   pub alive : m.alive ≡ is_alive e
   pub version : m.version ≡ e.version
   pub request : m.request ≡ e.request
-  pub live : is_alive e ≡ true → run_of setting e.request e.inputs m.trace.answers rows ≡ Done m.trace
+  pub live : is_alive e ≡ true → run_of (setting_of setting e) e.request e.inputs m.trace.answers rows ≡ Done m.trace
   pub dead : is_alive e ≡ false → m.trace ≡ dead_trace
   pub answers : m.trace.answers ≡ answers_for consumed (calls_of_made e.made) e.slots m.trace.calls
   pub trace : m.trace ≡ trace_again setting consumed rows e
@@ -96,10 +98,10 @@ raised n = min (n + 1) 18446744073709551615
 abbrev pub raised_if : Bool → ℕ → ℕ
 raised_if b n = if b then raised n else n
 
--- the entry with a new record and its slots, run once more
+-- the entry with a new record, made under its program, and its slots, run once more
 abbrev pub remade : Entry → Made → List ℕ → Entry
 remade e m slots =
-    record e { made = Some m; slots = slots; answer_version = raised_if (is_new_answer e.made m) e.answer_version; runs = raised e.runs }
+    record e { under = settled e.under; made = Some m; slots = slots; answer_version = raised_if (is_new_answer e.made m) e.answer_version; runs = raised e.runs }
 
 -- an entry made anew on these rows, with slots that the registers settled; where they were timely, the slots consume what its run consumed
 pub record IsRemade (setting : Setting) (c : SlotsChange) (rows : List Cell) (e e' : Entry) : Type 0 where

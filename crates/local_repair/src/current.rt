@@ -11,6 +11,7 @@ ghost use Rattle.local_repair.specs.Written.{all_written};
 ghost use Rattle.local_repair.specs.Parts.{IsOf};
 ghost use Rattle.local_repair.specs.Steps.{answer_or_tentative, tentative};
 
+use crate::programs::has_its_handler;
 use crate::slots::Slots;
 use lang_core::{Read, Response, Same, Text};
 use log_index::{EntryMarks, EntryRows};
@@ -100,7 +101,9 @@ fn is_current_record<S: Slots>(
 ) -> bool
     ensures { IsTrue result ↔ IsCurrentRecord (S.consumed_of slots.now) (rows_before place rows.now) entry.now made.now }
 {
-    is_of(entry, made, slots) && reads_hold(rows, place, made.trace.reads.as_slice())
+    is_of(entry, made, slots)
+        && reads_hold(rows, place, made.trace.reads.as_slice())
+        && has_its_handler(entry)
 }
 
 fn is_current<S: Slots>(rows: &EntryRows, place: usize, entry: &Entry, slots: &S) -> bool
@@ -125,7 +128,9 @@ fn is_of_now(entry: &Entry, made: &Made) -> bool
 fn is_held_record(rows: &EntryRows, place: usize, entry: &Entry, made: &Made) -> bool
     ensures { IsTrue result ↔ IsHeldRecord (rows_before place rows.now) entry.now made.now }
 {
-    is_of_now(entry, made) && reads_hold(rows, place, made.trace.reads.as_slice())
+    is_of_now(entry, made)
+        && reads_hold(rows, place, made.trace.reads.as_slice())
+        && has_its_handler(entry)
 }
 
 /// Whether an entry that stands or is to stand at a place can be stale by an answer alone.

@@ -2,7 +2,9 @@
 //! them, of which nothing is repaired any more.
 #![tactic(auto)]
 
+mod correcting;
 mod current;
+mod programs;
 mod remaking;
 mod repairer;
 mod rerun;

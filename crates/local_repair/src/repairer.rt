@@ -1,10 +1,11 @@
 // A log, and its repair.
 ghost use Rattle.std.specs.Prelude.{ℕ, ◌≡◌, ◌↔◌, ◌+◌, ◌<◌, ◌≤◌, ◌&&◌, not, nat_lt, [], ◌∷◌, ◌++◌, All, Err, Ok, IfOk, IsSome, OnOk, OnErr, MatchOption, drop, filter_map, insert, length, map, take, slice_set, slice_index_or, find, is_some};
-ghost use Rattle.request_log.specs.Entries.{asking, changed, has_id, mark, AreReplaced, IsNew, IsKnown, with_entry};
+ghost use Rattle.request_log.specs.Entries.{asking, changed, corrected, has_id, mark, AreReplaced, IsNew, IsKnown, with_entry};
 ghost use Rattle.request_log.specs.Folded.{folded_as, whole};
 ghost use Rattle.log_index.specs.HandedOn.{read_at};
 ghost use Rattle.log_index.specs.Marks.{is_marked, IsReadyToSet as IsReadyToMark};
 ghost use Rattle.log_index.specs.Rows.{rows_before, IsReadyToSet};
+ghost use Rattle.local_repair.specs.Corrections.{AreStaleAfter};
 ghost use Rattle.local_repair.specs.Current.{AllCurrent, AreChecked, AllRuns, rows_after, writes_of};
 ghost use Rattle.local_repair.specs.Held.{all_looked, IsIdMarked, IsKept, IsMarkedBehind, IsMarkedFrom};
 ghost use Rattle.local_repair.specs.Written.{all_written, rows_seen};
@@ -13,6 +14,7 @@ ghost use Rattle.local_repair.specs.Repairs.{IsAmended, IsFolded, IsStaleId, sta
 ghost use Rattle.local_repair.specs.Settling.{HasItsSlots, HasSlotsOnce, CanSettle, IsAgain, noted};
 ghost use Rattle.local_repair.specs.Steps.{AreApart, StepsTo, raised_if};
 
+use crate::correcting::correct_parts;
 use crate::current::place_of_stale;
 use crate::remaking::{Rerun, remake};
 use crate::slots::Slots;
@@ -22,7 +24,7 @@ use crate::written::{insert_entry, may_call};
 use lang_base::both;
 use lang_core::{Cells, Copied, NoMemory, Request, Setting, Shared};
 use log_index::{EntryMarks, EntryRows};
-use request_log::{Entry, KeptEntry, Log, LogFull};
+use request_log::{Deployed, Entry, KeptEntry, Log, LogFull};
 use std::alloc::Global;
 use std::marker::Model;
 
@@ -341,6 +343,25 @@ impl Repairer {
     {
         mark_id(&self.log, &mut self.marks, id);
         self.log.rewrite(id, request)
+    }
+
+    /// Puts a program in place of that of a number, for each entry that has it. Exactly those entries are stale then whose
+    /// record's handler isn't theirs now, and those that another cause makes stale, as it did before. Nothing runs. Refused,
+    /// nothing changes. It costs with the number of entries.
+    pub fn correct(
+        &mut self,
+        alloc: Global,
+        number: u64,
+        program: &Shared<Deployed>,
+    ) -> Result<(), NoMemory>
+        ensures entries { OnOk result (self.new.entries ≡ map (corrected number program.now) self.old.entries) }
+        ensures folded { self.new.folded ≡ self.old.folded }
+        ensures base { self.new.base ≡ self.old.base }
+        ensures stale { OnOk result (AreStaleAfter number program.now self.old.base self.old.entries self.new.entries) }
+        ensures err { OnErr result (self.new ≡ self.old) }
+    {
+        correct_parts(alloc, &mut self.log, &mut self.marks, number, program)?;
+        Ok(())
     }
 
     /// The number of the first stale entry, where so many of the first entries are known to be current; None exactly where no

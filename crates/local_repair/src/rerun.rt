@@ -6,7 +6,9 @@ ghost use Rattle.lang_core.specs.Traces.{dead_trace};
 ghost use Rattle.request_log.specs.Entries.{is_alive};
 ghost use Rattle.local_repair.specs.Steps.{tentative, answer_at, answers_for, calls_of_made, same_call, is_new_answer, trace_through, trace_again, IsRerun};
 ghost use Rattle.local_repair.specs.Parts.{same_response};
+ghost use Rattle.local_repair.specs.Programs.{setting_of};
 
+use crate::programs::program_of;
 use crate::slots::Slots;
 use execution::{Ran, View, run};
 use lang_core::{
@@ -69,7 +71,7 @@ fn old_calls(entry: &Entry) -> &[CallMade]
     }
 }
 
-// One run of an entry, with these answers.
+// One run of an entry under its program, with these answers.
 fn run_entry<V: View>(
     alloc: Global,
     setting: &Setting,
@@ -77,14 +79,15 @@ fn run_entry<V: View>(
     entry: &Entry,
     answers: &Answers,
 ) -> Result<Ran, NoMemory>
-    ensures { IfOk result (λ ran. ran ≡ run_of setting.now entry.now.request entry.now.inputs answers.now (V.rows view.now)) }
+    ensures { IfOk result (λ ran. ran ≡ run_of (setting_of setting.now entry.now) entry.now.request entry.now.inputs answers.now (V.rows view.now)) }
 {
+    let program = program_of(entry);
     let request = entry.request.get();
     let inputs = entry.inputs.get();
-    run(alloc, setting, request, inputs, answers, view)
+    run(alloc, setting, program, request, inputs, answers, view)
 }
 
-// Runs an entry from its start, with the answers of its old calls.
+// Runs an entry under its program from its start, with the answers of its old calls.
 fn live_trace<S: Slots, V: View>(
     alloc: Global,
     setting: &Setting,
@@ -93,9 +96,9 @@ fn live_trace<S: Slots, V: View>(
     old: &[CallMade],
     slots: &S,
 ) -> Result<Trace, NoMemory>
-    ensures run { IfOk result (λ t. run_of setting.now entry.now.request entry.now.inputs t.answers (V.rows view.now) ≡ Ran.Done t) }
+    ensures run { IfOk result (λ t. run_of (setting_of setting.now entry.now) entry.now.request entry.now.inputs t.answers (V.rows view.now) ≡ Ran.Done t) }
     ensures answers { IfOk result (λ t. t.answers ≡ answers_for (S.consumed_of slots.now) old.now entry.now.slots t.calls) }
-    ensures again { IfOk result (λ t. t ≡ trace_through 17 (λ xs. run_of setting.now entry.now.request entry.now.inputs xs (V.rows view.now))
+    ensures again { IfOk result (λ t. t ≡ trace_through 17 (λ xs. run_of (setting_of setting.now entry.now) entry.now.request entry.now.inputs xs (V.rows view.now))
         (answer_at (S.consumed_of slots.now) old.now entry.now.slots) []) }
 {
     let mut answers: Answers = ThinSeq::new(alloc);
@@ -124,7 +127,7 @@ fn new_trace<S: Slots, V: View>(
     entry: &Entry,
     slots: &S,
 ) -> Result<Trace, NoMemory>
-    ensures live { is_alive entry.now ≡ true → IfOk result (λ t. run_of setting.now entry.now.request entry.now.inputs t.answers (V.rows view.now) ≡ Ran.Done t) }
+    ensures live { is_alive entry.now ≡ true → IfOk result (λ t. run_of (setting_of setting.now entry.now) entry.now.request entry.now.inputs t.answers (V.rows view.now) ≡ Ran.Done t) }
     ensures dead { is_alive entry.now ≡ false → IfOk result (λ t. t ≡ dead_trace) }
     ensures answers { IfOk result (λ t. t.answers ≡ answers_for (S.consumed_of slots.now) (calls_of_made entry.now.made) entry.now.slots t.calls) }
     ensures again { IfOk result (λ t. t ≡ trace_again setting.now (S.consumed_of slots.now) (V.rows view.now) entry.now) }
@@ -136,7 +139,7 @@ fn new_trace<S: Slots, V: View>(
     }
 }
 
-/// A new record of an entry on the rows before it: its run, whose calls get the old answers where they are the old
+/// A new record of an entry on the rows before it: its run under its program, whose calls get the old answers where they are the old
 /// calls, or the trace of a dead entry.
 pub(crate) fn run_again<S: Slots, V: View>(
     alloc: Global,

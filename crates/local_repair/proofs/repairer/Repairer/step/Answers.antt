@@ -11,7 +11,6 @@ use Rattle.local_repair.specs.Steps.{StepsTo}
 use Rattle.local_repair.specs.Written.{all_written}
 use Rattle.local_repair.specs.declared.stepped.Stepped.TheVariants.{Ran}
 use Rattle.local_repair.proofs.ChangedLemmas.{kept_idle, kept_run}
-use Rattle.local_repair.proofs.HandlerLemmas.{handler}
 use Rattle.local_repair.proofs.StepLemmas.{entry_at, stepped, not_idle}
 use Rattle.local_repair.proofs.TestLemmas.{none_first}
 use Rattle.local_repair.proofs.repairer.Repairer.step.Given.{Over}
@@ -76,7 +75,7 @@ left g c =
     let A1 : List Cell → Type 0 = λ base. A base c.as_slice-entries.result.now in
     let T : List Entry → Type 0 = λ xs. (d : Entry) → c.note.result ≡ Ran (get_or xs place d).id again.answered in
     let P : List Entry → Type 0 = λ xs. (d : Entry) → c.note.new.log.entries ≡ set xs place (noted again (get_or xs place d)) in
-    stepped c.args.setting.now (handler c.args.setting.now) (change g c) c.args.self.now.base c.args.self.now.entries c.note.new.log.entries place again c.note.result
+    stepped c.args.setting.now (change g c) c.args.self.now.base c.args.self.now.entries c.note.new.log.entries place again c.note.result
     (subst (F c.args.self.now.base) (c.as_slice-entries.ensures.entries ∙ seen) (subst F1 based c.in-Some.ensures))
     (subst (A c.args.self.now.base) (c.as_slice-entries.ensures.entries ∙ seen) (subst A1 based c.in_ok-again-in-Some.ensures.ok))
     (subst T seen c.note.ensures.stepped) (subst P seen c.note.ensures.entries)
@@ -96,7 +95,7 @@ invariant_of-self-in-Some g c =
     let based : c.note.new.rows.base ≡ inside.rows.base = c.note.ensures.base ∙ c.remake_at.ensures.base in
     let K : List Cell → Type 0 = λ base. IsKept base c.note.new.log.entries c.note.new.rows.writes c.note.new.marks c.may_call-self-inside.result in
     subst K (sym based)
-    (kept_run c.args.setting.now (handler c.args.setting.now) (change g c) inside.rows.base inside.log.entries c.note.new.log.entries inside.rows.writes c.note.new.rows.writes inside.marks c.remake_at.new.marks c.note.new.marks
+    (kept_run c.args.setting.now (change g c) inside.rows.base inside.log.entries c.note.new.log.entries inside.rows.writes c.note.new.rows.writes inside.marks c.remake_at.new.marks c.note.new.marks
     place again inside.calls c.may_call-self-inside.result c.self.invariant (subst F seen c.in-Some.ensures) (subst A seen c.in_ok-again-in-Some.ensures.ok) (subst M seen c.in_ok-again-in-Some.ensures.marked)
     c.note.ensures.entries c.note.ensures.reads c.note.ensures.marks c.may_call-self-inside.ensures c.note.ensures.tied)
 
